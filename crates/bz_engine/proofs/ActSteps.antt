@@ -1,7 +1,6 @@
 -- What an action leaves in the files of a run.
 use Rattle.std.proofs.Common.{◌≡◌, ◌∙◌, ◌++◌, ◌||◌, inl, inr, ℕ, zero, suc, List, [], ◌∷◌, Bool, true, false, Option, Some, None, Ok, Err, refl, sym, ap, subst, true≢false}
-use Rattle.std.specs.Prelude.{map, slice_get, IsSome}
-use Rattle.std.specs.Option.{option_map_or}
+use Rattle.std.specs.Prelude.{map, slice_get, is_some, unwrap_or, IsSome}
 use Rattle.std.proofs.lemmas.List.{append-nil}
 use Rattle.bz_items.specs.Characters.{Bytes}
 use Rattle.bz_value.specs.declared.refusal.Refusal.{Refusal}
@@ -12,7 +11,6 @@ use Rattle.bz_ports.specs.Outputs.{Tells}
 use Rattle.bz_workspace.specs.Packages.{Opened, Used, file_at, with_opened}
 use Rattle.bz_workspace.specs.Shown.{used_in}
 use Rattle.bz_workspace.specs.declared.used.Used as d
-use Rattle.bz_engine.specs.Keeping.{is_left_at}
 use Rattle.bz_engine.specs.Run.{Progress, answered, told_of}
 use Rattle.bz_engine.specs.Told.{refusal_line}
 
@@ -25,6 +23,15 @@ put_there (suc place) (one ∷ more) file new there = put_there place more file 
 pub file_put : (place : ℕ) (used after : List Used) (file new : Opened) → file_at place used ≡ Some file → after ≡ with_opened place (Some new) used
     → file_at place after ≡ Some new
 file_put place used after file new there put = ap (file_at place) put ∙ put_there place used file new there
+
+-- it is open still
+pub still_open : (place : ℕ) (used after : List Used) (file new : Opened) → file_at place used ≡ Some file → after ≡ with_opened place (Some new) used
+    → IsSome (file_at place after)
+still_open place used after file new there put = ap is_some (file_put place used after file new there put)
+
+-- the name of the file that is there
+pub named_by : (one other : Opened) (name : Bytes) → name ≡ one.name → ◌≡◌ {A = Option Opened} (Some one) (Some other) → name ≡ other.name
+named_by one other name is same = is ∙ ap (λ (found : Option Opened). (unwrap_or found one).name) same
 
 -- a refusal for another cause than memory is what an action leads to
 pub led_to : (h after : History) (action : Action) (note : Bytes) (refusal : Refusal) → Acts action note h (Err refusal) after → (refusal ≡ Memory → ⊥)
@@ -110,14 +117,3 @@ pub none_at : (items : List d.Used) (used : List Used) (place : ℕ) (file : Ope
     → file_at place used ≡ Some file → ⊥
 none_at items used place file shown is there =
     let e : None ≡ Some file = ap file_of is ∙ (sym (file_shown items place) ∙ (ap (file_at place) shown ∙ there)) in cc
-
--- whether the open file of a package is left alone
-abbrev left_in : Option Opened → Bool
-left_in found = option_map_or (λ (file : Opened). file.left) found false
-
-pub left_some : (items : List d.Used) (used : List Used) (place : ℕ) (one : d.Used) → map used_in items ≡ used → Some one ≡ slice_get items place
-    → left_in (used_in one).file ≡ is_left_at place used
-left_some items used place one shown is = ap left_in (ap file_of is ∙ (sym (file_shown items place) ∙ ap (file_at place) shown))
-
-pub left_none : (items : List d.Used) (used : List Used) (place : ℕ) → map used_in items ≡ used → None ≡ slice_get items place → false ≡ is_left_at place used
-left_none items used place shown is = ap left_in (ap file_of is ∙ (sym (file_shown items place) ∙ ap (file_at place) shown))

@@ -30,6 +30,11 @@ whole_behind c.Read later is = absurd (cc is)
 whole_behind c.Write later is = absurd (cc is)
 whole_behind c.Files later is = absurd (cc is)
 
+-- where standard output was not given all
+pub never_whole : (later : Cut) (P Q R : Type 0) → ((later ≡ c.Memory) × P) ⊎ ((later ≡ c.Write) × Q × R) → later ≡ c.Whole → ⊥
+never_whole later P Q R (inl memory) is = absurd (cc (sym memory.0 ∙ is))
+never_whole later P Q R (inr write) is = absurd (cc (sym write.0 ∙ is))
+
 pub files_cut : (cut later : Cut) (f g h : ℕ) → CutsFiles cut f g → CutsFiles later g h → Counts f g → Counts g h → CutsFiles (first_cut cut later) f h
 files_cut cut later f g h (inl whole) more counts counts' = rw (whole.0) (subst (λ (n : ℕ). CutsFiles later n h) whole.1 more)
 files_cut cut later f g h (inr (inl memory)) more counts counts' = rw (memory) (inr (inl refl))

@@ -1,12 +1,13 @@
 -- What keeping a file and its journal does to the count of faults.
 use Rattle.std.proofs.Common.{◌≡◌, ◌⊎◌, ◌∙◌, ◌++◌, inl, inr, ℕ, List, Bool, true, Some, Result, Ok, Err, sym, ap, subst}
+use Rattle.std.specs.Prelude.{IsSome}
 use Rattle.std.proofs.lemmas.Bool.Decides.{eqb_tells}
 use Rattle.bz_items.specs.Characters.{Bytes}
 use Rattle.bz_journal.specs.declared.keeping.KeepFault.{KeepFault}
 use Rattle.bz_journal.specs.declared.keeping.KeepFault.TheVariants.{Pair}
 use Rattle.bz_keep.specs.Resuming.{Holds}
 use Rattle.bz_workspace.specs.Keeps.{KeepsAt, KeepsFile, after_keeping}
-use Rattle.bz_workspace.specs.Packages.{Opened, Used, with_opened}
+use Rattle.bz_workspace.specs.Packages.{Opened, Used, file_at, with_opened}
 use Rattle.bz_workspace.specs.Sessions.{Action, Reply, History, Answer, present}
 use Rattle.bz_keep.specs.declared.fault.PairFault.{PairFault}
 use Rattle.bz_keep.specs.declared.fault.PairFault.TheVariants as f
@@ -18,6 +19,7 @@ use Rattle.bz_ports.proofs.Outputs.{counts_more}
 use Rattle.bz_engine.specs.Calls.{WorksOn}
 use Rattle.bz_engine.specs.Keeping.{FolderBehind, state_behind}
 use Rattle.bz_engine.specs.Run.{Progress, printed_in}
+use Rattle.bz_engine.proofs.ActSteps.{still_open}
 use Rattle.bz_engine.proofs.CutSteps.{files_cut}
 use Rattle.bz_engine.proofs.DoSteps.{or_false}
 use Rattle.bz_engine.proofs.StandSteps.{Follows}
@@ -87,3 +89,9 @@ works_more files cut later old mid new first then = record {
 pub kept_by : {F : Type 0} (files : FilesOf F) (place : ℕ) (action : Action) (note : Bytes) (before : List Used) (answer : Result Reply KeepFault) (mid after : List Used)
     (old new : F) → after ≡ mid → KeepsAt files place action note before answer mid old new → KeepsAt files place action note before answer after old new
 kept_by files place action note before answer mid after old new same = subst (λ (used : List Used). KeepsAt files place action note before answer used old new) (sym same)
+
+-- a file that was kept, or not, is open still
+pub kept_open : {F : Type 0} (files : FilesOf F) (place : ℕ) (action : Action) (note : Bytes) (before : List Used) (answer : Result Reply KeepFault) (after : List Used)
+    (old new : F) → KeepsAt files place action note before answer after old new → IsSome (file_at place after)
+kept_open files place action note before answer after old new done =
+    still_open place before after done.file (after_keeping answer done.history done.file) done.there done.kept

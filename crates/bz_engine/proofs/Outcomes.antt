@@ -33,15 +33,15 @@ told_once f g old new line told = (g, new, told, (refl, refl))
 -- What was told stands for what was asked.
 pub usage_told : (found : Option Usage) (file : Bytes) (f g : ℕ) (old new : Option Bytes) → IsSome found
     → IfSome found (λ usage. (line : Bytes) × IsUsageLine file usage line × AppendsUnlessFailed f g old new line)
-    → (◌≡◌ {A = ℕ} 1 1) × (usage : Usage) × (line : Bytes) × (found ≡ Some usage) × IsUsageLine file usage line × Tells f g old new (line ∷ [])
+    → (usage : Usage) × (line : Bytes) × (found ≡ Some usage) × IsUsageLine file usage line × Tells f g old new (line ∷ [])
 usage_told None file f g old new is holds = absurd (true≢false (sym is))
-usage_told (Some usage) file f g old new is holds = (refl, usage, holds.0, refl, holds.1, told_once f g old new holds.0 holds.2)
+usage_told (Some usage) file f g old new is holds = (usage, holds.0, refl, holds.1, told_once f g old new holds.0 holds.2)
 
 pub line_usage_told : (found : Option LineUsage) (f g : ℕ) (old new : Option Bytes) → IsSome found
     → IfSome found (λ usage. (line : Bytes) × IsLineUsageLine usage line × AppendsUnlessFailed f g old new line)
-    → (◌≡◌ {A = ℕ} 1 1) × (usage : LineUsage) × (line : Bytes) × (found ≡ Some usage) × IsLineUsageLine usage line × Tells f g old new (line ∷ [])
+    → (usage : LineUsage) × (line : Bytes) × (found ≡ Some usage) × IsLineUsageLine usage line × Tells f g old new (line ∷ [])
 line_usage_told None f g old new is holds = absurd (true≢false (sym is))
-line_usage_told (Some usage) f g old new is holds = (refl, usage, holds.0, refl, holds.1, told_once f g old new holds.0 holds.2)
+line_usage_told (Some usage) f g old new is holds = (usage, holds.0, refl, holds.1, told_once f g old new holds.0 holds.2)
 
 pub at_some : {A : Type 0} (P : A → Type 0) (found : Option A) (x : A) → found ≡ Some x → IfSome found P → P x
 at_some P found x is holds = subst (λ it. IfSome it P) is holds
@@ -50,12 +50,6 @@ at_some P found x is holds = subst (λ it. IfSome it P) is holds
 pub stands_unused : (folder folder' : Folder) (line : Bytes) (status : ℕ) (out : Option Bytes) (f g : ℕ) (old new : Option Bytes) → folder' ≡ folder
     → status ≡ 1 → Tells f g old new (line ∷ []) → LeftStands (unused folder line) status folder' out out f g old new
 stands_unused folder folder' line status out f g old new same exit told = record { exit = exit; files = same; output = appends_nothing out; lines = told }
-
--- What was told before is none.
-pub stands_from : (left : Left) (status : ℕ) (folder : Folder) (out out' : Option Bytes) (f f' g : ℕ) (old old' new : Option Bytes) → f' ≡ f → old' ≡ old
-    → LeftStands left status folder out out' f' g old' new → LeftStands left status folder out out' f g old new
-stands_from left status folder out out' f f' g old old' new count held stands =
-    subst (λ (n : ℕ). LeftStands left status folder out out' n g old new) count (subst (λ (b : Option Bytes). LeftStands left status folder out out' f' g b new) held stands)
 
 -- ---- the bytes of standard input
 
@@ -135,23 +129,6 @@ names_given texts asked lines is same (other, found, named) =
     ok_same : (a b : Asked) → ◌≡◌ {A = Result Asked Usage} (Ok a) (Ok b) → a ≡ b
     ok_same a b e = cc
 
--- ---- lines
-
-pub lines_refused : (options : Options) (of_input names : Bool) (lines : List Asked) (world : World) (status : ℕ) (out : Option Bytes) (f g : ℕ)
-    (old new : Option Bytes) → of_input ≡ true → names ≡ true → names ≡ names_input lines → status ≡ 1 → AppendsUnlessFailed f g old new input_line
-    → (left : Left) × LinesOutcome options of_input lines world left × LeftStands left status world.folder out out f g old new
-lines_refused options of_input names lines world status out f g old new here named is exit told = (
-  unused world.folder input_line,
-  inl (ap (λ (it : Bool). it && names_input lines) here ∙ sym is ∙ named, refl),
-  stands_unused world.folder world.folder input_line status out f g old new refl exit (told_once f g old new input_line told),
-)
-
-pub lines_done : (options : Options) (of_input : Bool) (lines : List Asked) (folder : Folder) (known left_over : Option Bytes) (left : Left)
-    → of_input && names_input lines ≡ false → (of_input ≡ false → known ≡ left_over)
-    → LinesLeave options lines (record { folder = folder; known = left_over }) left
-    → LinesOutcome options of_input lines (record { folder = folder; known = known }) left
-lines_done options of_input lines folder known left_over left neither same leave = inr (neither, (left_over, λ is. sym (same is), leave))
-
 -- ---- rules of standard input, which has no journal
 
 not_both : (a b : Bool) → a && b ≡ false → b ≡ true → a ≡ false
@@ -192,23 +169,39 @@ text_refused options name text text' told world found usage line status out f g 
       stands_unused world.folder world.folder line status out f g old new refl exit tells,
     )
 
-pub text_done : (options : Options) (name text text' : Bytes) (world : World) (of_input : Bool) (lines lines' : List Asked) (left : Left) → text' ≡ text
-    → IsUtf8 text → script_of text' ≡ Ok lines → lines' ≡ lines → of_input ≡ bytes_eq name input_package → LinesOutcome options of_input lines' world left
-    → TextOutcome options name (Some text) world left
-text_done options name text text' world of_input lines lines' left same utf8 is these here done =
-    let script : script_of text ≡ Ok lines = subst (λ (it : Bytes). script_of it ≡ Ok lines) same is in
-    let outcome : LinesOutcome options (bytes_eq name input_package) lines world left =
-    subst (λ (it : Bool). LinesOutcome options it lines world left) here (subst (λ (it : List Asked). LinesOutcome options of_input it world left) these done) in
-    inr (inr (utf8, (lines, script, outcome)))
+-- its lines mean rules of standard input, where they stand there
+pub text_refuses : (options : Options) (name text text' : Bytes) (world : World) (lines lines' : List Asked) (status : ℕ) (out : Option Bytes) (f g : ℕ)
+    (old new : Option Bytes) → text' ≡ text → IsUtf8 text → script_of text' ≡ Ok lines → lines' ≡ lines → bytes_eq name input_package && names_input lines' ≡ true
+    → status ≡ 1 → AppendsUnlessFailed f g old new input_line
+    → (left : Left) × TextOutcome options name (Some text) world left × LeftStands left status world.folder out out f g old new
+text_refuses options name text text' world lines lines' status out f g old new same utf8 is these both exit told = (
+  unused world.folder input_line,
+  inr (inr (utf8, (lines, ap script_of (sym same) ∙ is, inl (ap (λ (l : List Asked). bytes_eq name input_package && names_input l) (sym these) ∙ both, refl)))),
+  stands_unused world.folder world.folder input_line status out f g old new refl exit (told_once f g old new input_line told),
+)
+
+pub text_done : (options : Options) (name text text' : Bytes) (folder : Folder) (known left_over : Option Bytes) (lines lines' : List Asked) (left : Left)
+    → text' ≡ text → IsUtf8 text → script_of text' ≡ Ok lines → lines' ≡ lines → bytes_eq name input_package && names_input lines' ≡ false
+    → (name ≢ input_package → known ≡ left_over) → LinesLeave options lines' (record { folder = folder; known = left_over }) left
+    → TextOutcome options name (Some text) (record { folder = folder; known = known }) left
+text_done options name text text' folder known left_over lines lines' left same utf8 is these neither unread leave =
+    let world : World = record { folder = folder; known = known } in
+    let outcome : LinesOutcome options (bytes_eq name input_package) lines' world left =
+    inr (neither, (left_over, λ other. sym (unread (apart name other)), leave)) in
+    inr (inr (utf8, (lines, ap script_of (sym same) ∙ is, subst (λ (it : List Asked). LinesOutcome options (bytes_eq name input_package) it world left) these outcome)))
 
 -- ---- a file of lines
 
-pub script_unread : (options : Options) (name : Bytes) (world : World) (folder' : Folder) (status : ℕ) (out : Option Bytes) (f g : ℕ) (old new : Option Bytes)
-    → folder' ≡ world.folder → IsScript world name None → status ≡ 1 → Tells f g old new (named_line (told_name name) (codes "cannot open") ∷ [])
+pub script_unread : (options : Options) (name told : Bytes) (world : World) (folder' : Folder) (status : ℕ) (out : Option Bytes) (f g : ℕ) (old new : Option Bytes)
+    → folder' ≡ world.folder → IsScript world name None → told ≡ told_name name → status ≡ 1
+    → AppendsUnlessFailed f g old new (named_line told (codes "cannot open"))
     → (left : Left) × ScriptOutcome options name world left × LeftStands left status folder' out out f g old new
-script_unread options name world folder' status out f g old new same is exit tells =
-    let line : Bytes = named_line (told_name name) (codes "cannot open") in
-    (unused world.folder line, (None, is, refl), stands_unused world.folder folder' line status out f g old new same exit tells)
+script_unread options name told world folder' status out f g old new same is called exit appends =
+    let line : Bytes = named_line told (codes "cannot open") in (
+      unused world.folder line,
+      (None, is, ap (λ (it : Bytes). unused world.folder (named_line it (codes "cannot open"))) called),
+      stands_unused world.folder folder' line status out f g old new same exit (told_once f g old new line appends),
+    )
 
 pub script_done : (options : Options) (name text text' : Bytes) (folder folder' : Folder) (known : Option Bytes) (left : Left) → text' ≡ text
     → folder' ≡ folder → IsScript (record { folder = folder; known = known }) name (Some text)

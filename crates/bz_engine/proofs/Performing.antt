@@ -1,5 +1,5 @@
 -- What is left where steps and their ending are put together.
-use Rattle.std.proofs.Common.{◌≡◌, ◌⊎◌, inl, inr, ℕ, List, [], ◌++◌, Option, Bool, true, false, true≢false, refl, sym, ap, subst, ◌∙◌}
+use Rattle.std.proofs.Common.{◌≡◌, ◌⊎◌, ◌&&◌, inl, inr, ℕ, List, [], ◌++◌, Option, Bool, true, false, true≢false, refl, sym, ap, subst, ◌∙◌}
 use Rattle.std.specs.Io.KnownBytes.{Appends}
 use Rattle.bz_items.specs.Characters.{Bytes}
 use Rattle.bz_files.specs.Folder.{Folder}
@@ -14,9 +14,9 @@ use Rattle.bz_ports.specs.declared.exit.Cut.TheVariants.{Write}
 use Rattle.bz_engine.specs.Cuts.{AreCutBy}
 use Rattle.bz_engine.specs.Ending.{Left, Performs, LeftStands, Writing, WritesFiles, all_fixed, all_kept, all_writings, fixed_lines, texts_out, status_of}
 use Rattle.bz_engine.specs.Keeping.{PerformsBeside, RunsBeside}
-use Rattle.bz_engine.specs.Outcome.{AreOfInput, StepsLeave}
+use Rattle.bz_engine.specs.Outcome.{AreOfInput, LinesLeave}
 use Rattle.bz_engine.specs.Run.{World, Progress, nothing_done, RunsSteps}
-use Rattle.bz_engine.specs.Steps.{RunStep, all_steps, shows_input}
+use Rattle.bz_engine.specs.Steps.{RunStep, all_steps, names_input, shows_input}
 use Rattle.bz_engine.proofs.InputSteps.{nothing_written}
 
 -- what is left, by the state after the steps, the lines that they told and the folder after all
@@ -71,16 +71,16 @@ fixed_beside : (journals to_stdout : Bool) (used : List Used) → journals ≡ t
 fixed_beside journals to_stdout used kept = ap (λ (kept : Bool). all_fixed kept to_stdout used) kept
 
 -- The run is whole.
-pub performed : (options : Options) (steps : List RunStep) (world : World) (start : Progress) (told : List Bytes) (state : Progress) (shown : Bool) (status : ℕ)
+pub performed : (options : Options) (lines : List Asked) (world : World) (start : Progress) (told : List Bytes) (state : Progress) (shown : Bool) (status : ℕ)
     (before after : Folder) (out out' : Option Bytes) (f g h : ℕ) (old mid new : Option Bytes)
-    → options.journal ≡ false → start ≡ nothing_done → RunsSteps world options.keep_going steps start told state → shown ≡ shows_input steps → status ≡ status_of state
+    → options.journal && names_input lines ≡ false → options.journal ≡ false → start ≡ nothing_done → RunsSteps world options.keep_going (all_steps lines) start told state → shown ≡ shows_input (all_steps lines) → status ≡ status_of state
     → before ≡ world.folder → WritesFiles (all_writings options.to_stdout state.used) before after
     → Appends out out' (state.printed ++ texts_out shown options.to_stdout state.used)
     → Tells f g old mid told → Tells g h mid new (fixed_lines options.quiet (all_fixed options.journal options.to_stdout state.used))
-    → (left : Left) × StepsLeave options steps world left × LeftStands left status after out out' f h old new
-performed options steps world start told state shown status before after out out' f g h old mid new plain begins runs shows exit same writes appends first last = (
-  left_by options steps told state after,
-  inl (plain, performs options steps world start told state before after begins runs same writes),
+    → (left : Left) × LinesLeave options lines world left × LeftStands left status after out out' f h old new
+performed options lines world start told state shown status before after out out' f g h old mid new neither plain begins runs shows exit same writes appends first last = (
+  left_by options (all_steps lines) told state after,
+  inr (neither, inl (plain, performs options (all_steps lines) world start told state before after begins runs same writes)),
   record {
     exit = exit;
     files = refl;
@@ -91,15 +91,15 @@ performed options steps world start told state shown status before after out out
 )
 
 -- The run is whole, with journals.
-pub performed_beside : (options : Options) (steps : List RunStep) (world : World) (start : Progress) (told : List Bytes) (state : Progress) (shown : Bool) (status : ℕ)
+pub performed_beside : (options : Options) (lines : List Asked) (world : World) (start : Progress) (told : List Bytes) (state : Progress) (shown : Bool) (status : ℕ)
     (between after : Folder) (out out' : Option Bytes) (f g h : ℕ) (old mid new : Option Bytes)
-    → options.journal ≡ true → start ≡ nothing_done → RunsBeside options.keep_going steps world.folder start told between state → shown ≡ shows_input steps
+    → options.journal && names_input lines ≡ false → options.journal ≡ true → start ≡ nothing_done → RunsBeside options.keep_going (all_steps lines) world.folder start told between state → shown ≡ shows_input (all_steps lines)
     → status ≡ status_of state → after ≡ between → Appends out out' (state.printed ++ texts_out shown options.to_stdout state.used)
     → Tells f g old mid told → Tells g h mid new (fixed_lines options.quiet (all_fixed options.journal options.to_stdout state.used))
-    → (left : Left) × StepsLeave options steps world left × LeftStands left status after out out' f h old new
-performed_beside options steps world start told state shown status between after out out' f g h old mid new kept begins runs shows exit still appends first last = (
-  left_beside options steps told state after,
-  inr (kept, performs_beside options steps world start told state between after begins runs still),
+    → (left : Left) × LinesLeave options lines world left × LeftStands left status after out out' f h old new
+performed_beside options lines world start told state shown status between after out out' f g h old mid new neither kept begins runs shows exit still appends first last = (
+  left_beside options (all_steps lines) told state after,
+  inr (neither, inr (kept, performs_beside options (all_steps lines) world start told state between after begins runs still)),
   record {
     exit = exit;
     files = refl;
@@ -110,26 +110,28 @@ performed_beside options steps world start told state shown status between after
 )
 
 -- Standard output failed, and files are as a whole run leaves them.
-pub broken_off : (options : Options) (steps : List RunStep) (world : World) (start : Progress) (told : List Bytes) (state : Progress) (shown : Bool)
-    (before after : Folder) (out out' : Option Bytes) → options.journal ≡ false → start ≡ nothing_done → RunsSteps world options.keep_going steps start told state
-    → shown ≡ shows_input steps → before ≡ world.folder → WritesFiles (all_writings options.to_stdout state.used) before after
+pub broken_off : (options : Options) (lines : List Asked) (world : World) (start : Progress) (told : List Bytes) (state : Progress) (shown : Bool)
+    (before after : Folder) (out out' : Option Bytes)
+    → options.journal && names_input lines ≡ false → options.journal ≡ false → start ≡ nothing_done → RunsSteps world options.keep_going (all_steps lines) start told state
+    → shown ≡ shows_input (all_steps lines) → before ≡ world.folder → WritesFiles (all_writings options.to_stdout state.used) before after
     → AppendsSome out out' (state.printed ++ texts_out shown options.to_stdout state.used)
-    → (left : Left) × StepsLeave options steps world left × AppendsSome out out' left.output × (after ≡ left.folder)
-broken_off options steps world start told state shown before after out out' plain begins runs shows same writes appends = (
-  left_by options steps told state after,
-  inl (plain, performs options steps world start told state before after begins runs same writes),
+    → (left : Left) × LinesLeave options lines world left × AppendsSome out out' left.output × (after ≡ left.folder)
+broken_off options lines world start told state shown before after out out' neither plain begins runs shows same writes appends = (
+  left_by options (all_steps lines) told state after,
+  inr (neither, inl (plain, performs options (all_steps lines) world start told state before after begins runs same writes)),
   subst (λ (show : Bool). AppendsSome out out' (state.printed ++ texts_out show options.to_stdout state.used)) shows appends,
   refl,
 )
 
-pub broken_beside : (options : Options) (steps : List RunStep) (world : World) (start : Progress) (told : List Bytes) (state : Progress) (shown : Bool)
-    (between after : Folder) (out out' : Option Bytes) → options.journal ≡ true → start ≡ nothing_done
-    → RunsBeside options.keep_going steps world.folder start told between state → shown ≡ shows_input steps → after ≡ between
+pub broken_beside : (options : Options) (lines : List Asked) (world : World) (start : Progress) (told : List Bytes) (state : Progress) (shown : Bool)
+    (between after : Folder) (out out' : Option Bytes)
+    → options.journal && names_input lines ≡ false → options.journal ≡ true → start ≡ nothing_done
+    → RunsBeside options.keep_going (all_steps lines) world.folder start told between state → shown ≡ shows_input (all_steps lines) → after ≡ between
     → AppendsSome out out' (state.printed ++ texts_out shown options.to_stdout state.used)
-    → (left : Left) × StepsLeave options steps world left × AppendsSome out out' left.output × (after ≡ left.folder)
-broken_beside options steps world start told state shown between after out out' kept begins runs shows still appends = (
-  left_beside options steps told state after,
-  inr (kept, performs_beside options steps world start told state between after begins runs still),
+    → (left : Left) × LinesLeave options lines world left × AppendsSome out out' left.output × (after ≡ left.folder)
+broken_beside options lines world start told state shown between after out out' neither kept begins runs shows still appends = (
+  left_beside options (all_steps lines) told state after,
+  inr (neither, inr (kept, performs_beside options (all_steps lines) world start told state between after begins runs still)),
   subst (λ (show : Bool). AppendsSome out out' (state.printed ++ texts_out show options.to_stdout state.used)) shows appends,
   refl,
 )

@@ -1,5 +1,5 @@
 -- What a run of status 1 tells, by what was read of the words and of the lines.
-use Rattle.std.proofs.Common.{◌≡◌, ◌&&◌, inl, inr, ℕ, List, [], ◌∷◌, Option, Some, IfSome, Result, Ok, Err, Bool, true, refl, sym, ap, subst, ◌∙◌, bytes_eq}
+use Rattle.std.proofs.Common.{◌≡◌, ◌&&◌, inl, inr, ℕ, List, [], ◌∷◌, codes, Option, Some, None, IfSome, Result, Ok, Err, Bool, true, refl, sym, ap, subst, ◌∙◌, bytes_eq}
 use Rattle.std.specs.Str.{IsUtf8, IsValidUpTo}
 use Rattle.bz_lex.specs.declared.fault.ReadFault.TheVariants.{NotUtf8}
 use Rattle.bz_items.specs.Characters.{Bytes}
@@ -10,7 +10,7 @@ use Rattle.bz_line.specs.Script.{script_of}
 use Rattle.bz_line.specs.declared.line.Options.{Options}
 use Rattle.bz_ports.specs.Faults.{AppendsUnlessFailed}
 use Rattle.bz_ports.specs.Outputs.{Tells}
-use Rattle.bz_ports.specs.Told.{fault_line}
+use Rattle.bz_ports.specs.Told.{named_line, fault_line}
 use Rattle.bz_engine.specs.Outcome.{IsScript, told_name}
 use Rattle.bz_engine.specs.Run.{World}
 use Rattle.bz_engine.specs.Steps.{input_package, names_input}
@@ -36,13 +36,6 @@ pub operands_named : (options : Options) (texts : List Bytes) (asked : Asked) (l
 operands_named options texts asked lines f g old new is same journal named tells =
     (no_journal_line, inr (asked, is, (journal, ap names_input (sym same) ∙ named, refl)), tells)
 
--- ---- lines
-
-pub lines_told : (options : Options) (of_input names : Bool) (lines : List Asked) (f g : ℕ) (old new : Option Bytes) → of_input ≡ true → names ≡ true
-    → names ≡ names_input lines → AppendsUnlessFailed f g old new input_line → TellsOne (LinesTell options of_input lines) f g old new
-lines_told options of_input names lines f g old new here named is told =
-    (input_line, inl (ap (λ (it : Bool). it && names_input lines) here ∙ sym is ∙ named, refl), told_once f g old new input_line told)
-
 -- ---- the text of a file of lines
 
 pub text_told : (options : Options) (name text told : Bytes) (at at' : ℕ) (f g : ℕ) (old new : Option Bytes) → IsValidUpTo text at → at' ≡ at
@@ -61,14 +54,22 @@ script_told options name text text' told found usage line f g old new same utf8 
     let as_told : IsUsageLine (told_name name) usage line = subst (λ (it : Bytes). IsUsageLine it usage line) called says in
     (line, inr (inl (utf8, (usage, why, as_told))), tells)
 
-pub script_lines_told : (options : Options) (name text text' : Bytes) (of_input : Bool) (lines lines' : List Asked) (f g : ℕ) (old new : Option Bytes)
-    → text' ≡ text → IsUtf8 text → script_of text' ≡ Ok lines → lines' ≡ lines → of_input ≡ bytes_eq name input_package
-    → TellsOne (LinesTell options of_input lines') f g old new → TellsOne (TextTells options name (Some text)) f g old new
-script_lines_told options name text text' of_input lines lines' f g old new same utf8 is these here told =
-    let script : script_of text ≡ Ok lines = subst (λ (it : Bytes). script_of it ≡ Ok lines) same is in
-    let tells : LinesTell options (bytes_eq name input_package) lines told.0 =
-    subst (λ (it : Bool). LinesTell options it lines told.0) here (subst (λ (it : List Asked). LinesTell options of_input it told.0) these told.1) in
-    (told.0, inr (inr (utf8, (lines, script, tells))), told.2)
+pub script_lines_told : (options : Options) (name text text' : Bytes) (lines lines' : List Asked) (f g : ℕ) (old new : Option Bytes)
+    → text' ≡ text → IsUtf8 text → script_of text' ≡ Ok lines → lines' ≡ lines
+    → TellsOne (LinesTell options (bytes_eq name input_package) lines') f g old new → TellsOne (TextTells options name (Some text)) f g old new
+script_lines_told options name text text' lines lines' f g old new same utf8 is these told =
+    let tells = subst (λ (it : List Asked). LinesTell options (bytes_eq name input_package) it told.0) these told.1 in
+    (told.0, inr (inr (utf8, (lines, ap script_of (sym same) ∙ is, tells))), told.2)
+
+-- There is no file of lines.
+pub script_missing : (honest : Bool) (world : World) (options : Options) (name told : Bytes) (f g : ℕ) (old new : Option Bytes)
+    → (honest ≡ true → IsScript world name None) → told ≡ told_name name → AppendsUnlessFailed f g old new (named_line told (codes "cannot open"))
+    → TellsOne (GivenTells honest world options (script name)) f g old new
+script_missing honest world options name told f g old new is called appends = (
+  named_line told (codes "cannot open"),
+  (None, is, ap (λ (it : Bytes). named_line it (codes "cannot open")) called),
+  told_once f g old new (named_line told (codes "cannot open")) appends,
+)
 
 -- The text was read of the file of lines.
 pub read_told : (honest : Bool) (world : World) (options : Options) (name text text' : Bytes) (f g : ℕ) (old new : Option Bytes) → text' ≡ text
@@ -76,11 +77,6 @@ pub read_told : (honest : Bool) (world : World) (options : Options) (name text t
     → TellsOne (GivenTells honest world options (script name)) f g old new
 read_told honest world options name text text' f g old new same is told =
     (told.0, (Some text, is, subst (λ (it : Bytes). TextTells options name (Some it) told.0) same told.1), told.2)
-
--- Nothing was told before.
-pub told_from : (P : Bytes → Type 0) (f f' g : ℕ) (old old' new : Option Bytes) → f' ≡ f → old' ≡ old → TellsOne P f' g old' new → TellsOne P f g old new
-told_from P f f' g old old' new count held told =
-    subst (λ (n : ℕ). TellsOne P n g old new) count (subst (λ (b : Option Bytes). TellsOne P f' g b new) held told)
 
 -- ---- words
 

@@ -1,12 +1,12 @@
 //! One step.
-ghost use Rattle.std.specs.Prelude.{◌≡◌, ◌≢◌, ◌⊎◌, ◌&&◌, ◌++◌, [], ◌∷◌, ℕ, List, Option, Some, None, Ok, Err, true, false, IsSome, IfOk, OnOk, OnErr};
-ghost use Rattle.std.specs.Option.{option_map_or};
+ghost use Rattle.std.specs.Prelude.{◌≡◌, ◌≢◌, ◌⊎◌, ◌&&◌, ◌++◌, [], ◌∷◌, ℕ, List, Option, Some, None, Ok, Err, true, false, IsSome, OnOk, OnErr};
 ghost use Rattle.bz_workspace.specs.Sessions.{action_in, History, Answer, Leads, listing};
 ghost use Rattle.bz_workspace.specs.Sessions as Reply;
 ghost use Rattle.bz_line.specs.Paths.{HasPath};
 ghost use Rattle.bz_line.specs.Shown.{asking_in};
-ghost use Rattle.bz_workspace.specs.Packages.{Opened, file_at};
-ghost use Rattle.bz_workspace.specs.Shown.{used_in};
+ghost use Rattle.bz_workspace.specs.Packages as p;
+ghost use Rattle.bz_workspace.specs.Packages.{file_at};
+ghost use Rattle.bz_workspace.specs.Shown.{opened_in, used_in};
 ghost use Rattle.bz_engine.specs.Calls.{KeepsSome, KeepsStep, TellsLines, WorksOn, spot, Proceeds};
 ghost use Rattle.bz_engine.specs.Keeping.{AllAreKept, AnswersBeside, DoesBeside, FolderBehind, is_left_at, state_behind};
 ghost use Rattle.bz_engine.specs.Run.{Answers, Does, printed_in, answered, told_of};
@@ -18,53 +18,33 @@ use crate::run::Run;
 use crate::step::{action_of, package_of};
 use crate::told::tell_refusal;
 use bz_files::Files;
-use bz_items::{Text, at};
+use bz_items::at;
 use bz_keep::PairFault;
 use bz_label::Target;
 use bz_line::Asking;
 use bz_ports::{Cut, Sink, Source, first_cut, tell_named};
 use bz_value::Refusal;
-use bz_workspace::{Action, KeepFault, Reply, Used, Workspace};
+use bz_workspace::{Action, KeepFault, Opened, Reply, Used, Workspace};
 use std::alloc::{AllocError, Global};
 
-// The name of the file of a package, where it is open.
-fn name_of(used: &Used) -> &str
-    ensures { (file : Opened) → (used_in used.now).file ≡ Some file → result.now ≡ file.name }
-{
-    match &used.file {
-        Some(file) => file.name.as_str(),
-        None => "",
-    }
-}
-
-// The name of the open file of the package with this number.
-fn name_at(workspace: &Workspace, place: usize) -> &str
-    ensures { (file : Opened) → file_at place workspace.now ≡ Some file → result.now ≡ file.name }
-{
-    match at(workspace.used(), place) {
-        Some(used) => name_of(used),
-        None => "",
-    }
-}
-
-// The listing of the texts of an open file. The error: memory was refused.
-fn listing_in(alloc: Global, used: &Used) -> Result<Text, AllocError>
+// The file of a package, which is open.
+fn file_of(used: &Used) -> &Opened
     requires { IsSome (used_in used.now).file }
-    ensures { IfOk result (λ text. (file : Opened) → (used_in used.now).file ≡ Some file → text ≡ listing file.history) }
+    ensures { (used_in used.now).file ≡ Some (opened_in result.now) }
 {
     match &used.file {
-        Some(file) => file.editor.listing(alloc),
+        Some(file) => file,
         None => unreachable!(),
     }
 }
 
-// The listing of the texts of the open file of the package with this number. The error: memory was refused.
-fn listing_at(alloc: Global, workspace: &Workspace, place: usize) -> Result<Text, AllocError>
+// The open file of the package with this number.
+fn open_file(workspace: &Workspace, place: usize) -> &Opened
     requires { IsSome (file_at place workspace.now) }
-    ensures { IfOk result (λ text. (file : Opened) → file_at place workspace.now ≡ Some file → text ≡ listing file.history) }
+    ensures { file_at place workspace.now ≡ Some (opened_in result.now) }
 {
     match at(workspace.used(), place) {
-        Some(used) => listing_in(alloc, used),
+        Some(used) => file_of(used),
         None => unreachable!(),
     }
 }
@@ -82,14 +62,16 @@ fn put_printed(reply: &Reply, printed: &mut Vec<u8>) -> Result<(), AllocError>
 
 // A command is refused, which is told by its file.
 fn refuse<E: Sink>(run: &mut Run, place: usize, command: &str, refusal: Refusal, err: &mut E) -> Cut
+    requires { IsSome (file_at place run.old.workspace) }
     ensures kinds { (result ≡ Cut.Whole) ⊎ (result ≡ Cut.Memory) }
     ensures whole { result ≡ Cut.Whole → (refusal ≢ Refusal.Memory) }
     ensures state { progress_in run.new ≡ record (progress_in run.old) { failed = true } }
-    ensures told { (file : Opened) → file_at place run.old.workspace ≡ Some file
+    ensures told { (file : p.Opened) → file_at place run.old.workspace ≡ Some file
         → TellsLines E.Sink err.old err.new (told_of file.name command.now (Err refusal)) }
 {
     run.failed = true;
-    tell_refusal(err, name_at(&run.workspace, place), command, refusal);
+    let name = open_file(&run.workspace, place).name.as_str();
+    tell_refusal(err, name, command, refusal);
     match refusal {
         Refusal::Memory => Cut::Memory,
         _ => Cut::Whole,
@@ -106,7 +88,7 @@ fn act_at<E: Sink>(
 ) -> Cut
     requires { IsSome (file_at place run.old.workspace) }
     ensures kinds { (result ≡ Cut.Whole) ⊎ (result ≡ Cut.Memory) }
-    ensures whole { result ≡ Cut.Whole → (file : Opened) × (answer : Answer) × (history : History) × (file_at place run.old.workspace ≡ Some file)
+    ensures whole { result ≡ Cut.Whole → (file : p.Opened) × (answer : Answer) × (history : History) × (file_at place run.old.workspace ≡ Some file)
         × Leads (action_in action.now) command.now file.history answer history × (progress_in run.new ≡ answered place file answer history (progress_in run.old))
         × TellsLines E.Sink err.old err.new (told_of file.name command.now answer) }
 {
@@ -123,12 +105,12 @@ fn act_at<E: Sink>(
 fn list_at<E: Sink>(alloc: Global, run: &mut Run, place: usize, command: &str, err: &mut E) -> Cut
     requires { IsSome (file_at place run.old.workspace) }
     ensures kinds { (result ≡ Cut.Whole) ⊎ (result ≡ Cut.Memory) }
-    ensures whole { result ≡ Cut.Whole → (file : Opened) × (file_at place run.old.workspace ≡ Some file)
+    ensures whole { result ≡ Cut.Whole → (file : p.Opened) × (file_at place run.old.workspace ≡ Some file)
         × (progress_in run.new ≡ answered place file (Ok (Reply.Printed (listing file.history))) file.history (progress_in run.old))
         × TellsLines E.Sink err.old err.new [] }
     ensures same { run.new.workspace ≡ run.old.workspace }
 {
-    let Ok(text) = listing_at(alloc, &run.workspace, place) else {
+    let Ok(text) = open_file(&run.workspace, place).editor.listing(alloc) else {
         return refuse(run, place, command, Refusal::Memory, err);
     };
     match put_printed(&Reply::Printed(text), &mut run.printed) {
@@ -137,37 +119,24 @@ fn list_at<E: Sink>(alloc: Global, run: &mut Run, place: usize, command: &str, e
     }
 }
 
-// Whether a file is left alone, since its journal and it could not both be written in this run.
-fn is_left(used: &Used) -> bool
-    ensures { result ≡ option_map_or (λ (file : Opened). file.left) (used_in used.now).file false }
-{
-    match &used.file {
-        Some(file) => file.left,
-        None => false,
-    }
-}
-
-// Whether journals are kept, and the file of the package with this number is left alone.
+// Whether journals are kept, and the file of the package with this number is left alone, since its journal and it could not both be
+// written in this run.
 fn is_left_at(journals: bool, workspace: &Workspace, place: usize) -> bool
+    requires { IsSome (file_at place workspace.now) }
     ensures { result ≡ (journals && is_left_at place workspace.now) }
 {
-    if !journals {
-        return false;
-    }
-    match at(workspace.used(), place) {
-        Some(used) => is_left(used),
-        None => false,
-    }
+    journals && open_file(workspace, place).left
 }
 
 // The journal and the file of a package were not both replaced, which is told.
 fn leave<E: Sink>(run: &mut Run, place: usize, fault: PairFault, err: &mut E) -> Cut
+    requires { IsSome (file_at place run.old.workspace) }
     ensures state { progress_in run.new ≡ record (progress_in run.old) { failed = true } }
     ensures cut { ((result ≡ Cut.Whole) × (fault ≡ PairFault.Changed)) ⊎ ((result ≡ Cut.Memory) × (fault ≡ PairFault.Memory))
         ⊎ ((result ≡ Cut.Files) × ((fault ≡ PairFault.Write) ⊎ (fault ≡ PairFault.Open))) }
 {
     run.failed = true;
-    let name = name_at(&run.workspace, place);
+    let name = open_file(&run.workspace, place).name.as_str();
     match fault {
         PairFault::Memory => {
             tell_named(err, name, "Memory");
@@ -195,7 +164,7 @@ fn keep_at<F: Files, E: Sink>(
 ) -> Cut
     requires { IsSome (file_at place run.old.workspace) }
     ensures whole { F.honest files.old ≡ true → AllAreKept (F.folder files.old) run.old.workspace → result ≡ Cut.Whole
-        → (file : Opened) × (answer : Answer) × (history : History) × (file_at place run.old.workspace ≡ Some file)
+        → (file : p.Opened) × (answer : Answer) × (history : History) × (file_at place run.old.workspace ≡ Some file)
         × Leads (action_in action.now) command.now file.history answer history
         × FolderBehind answer file history (F.folder files.old) (F.folder files.new)
         × (progress_in run.new ≡ state_behind place file answer history (progress_in run.old))
@@ -274,15 +243,8 @@ pub(crate) fn do_step<R: Source, F: Files, E: Sink>(
         (spot R.Source F.Files E.Sink run.old input.old files.old err.old) (spot R.Source F.Files E.Sink run.new input.new files.new err.new) }
 {
     let package = package_of(target);
-    let opening = open_package(
-        alloc,
-        journals,
-        &mut run.workspace,
-        package,
-        input,
-        files,
-        err,
-    );
+    let workspace = &mut run.workspace;
+    let opening = open_package(alloc, journals, workspace, package, input, files, err);
     match opening.place {
         Some(place) => first_cut(
             opening.cut,

@@ -12,15 +12,17 @@ ghost use Rattle.bz_engine.specs.Told.{fixed_line};
 
 use crate::run::Run;
 use crate::script::INPUT;
-use crate::told::tell_fixed;
 use bz_files::Files;
 use bz_items::Memory;
 use bz_line::Options;
-use bz_ports::{Cut, Exit, Sink, first_cut, tell_named, write_whole};
+use bz_ports::{Cut, Exit, Sink, first_cut, tell, tell_named, write_whole};
 use bz_workspace::{Opened, Used};
 use std::alloc::Global;
 
 const CHANGED: u8 = 0;
+
+/// The status of words that ask for nothing.
+pub(crate) const USAGE: u8 = 1;
 
 /// The status of a run of which a step or a port failed.
 pub(crate) const FAILED: u8 = 2;
@@ -47,35 +49,21 @@ fn goes_out(of_input: bool, shown: bool, to_stdout: bool, changed: bool) -> bool
     }
 }
 
-// Appends the text of a file at the end, where it goes to standard output. Whether it is another one than was read.
-fn put_file(
-    file: &Opened,
-    of_input: bool,
-    shown: bool,
-    to_stdout: bool,
-    output: &mut Vec<u8>,
-) -> Result<bool, Memory>
-    ensures { IfOk result (λ changed. (changed ≡ differs (opened_in file.now))
-        × (output.new.items ≡ output.old.items ++ opened_out of_input shown to_stdout (Some (opened_in file.now)))) }
-{
-    let start = output.len();
-    file.editor.text_into(output)?;
-    let changed = &output[start..] != file.read.as_slice();
-    if !goes_out(of_input, shown, to_stdout, changed) {
-        output.truncate(start);
-    }
-    Ok(changed)
-}
-
 // Appends what a package gives to standard output. Whether its text is another one than was read.
 fn put_text(used: &Used, shown: bool, to_stdout: bool, output: &mut Vec<u8>) -> Result<bool, Memory>
     ensures { IfOk result (λ changed. (changed ≡ has_changed (used_in used.now))
         × (output.new.items ≡ output.old.items ++ text_out shown to_stdout (used_in used.now))) }
 {
-    match &used.file {
-        Some(file) => put_file(file, is_input(used), shown, to_stdout, output),
-        None => Ok(false),
+    let Some(file) = &used.file else {
+        return Ok(false);
+    };
+    let start = output.len();
+    file.editor.text_into(output)?;
+    let changed = &output[start..] != file.read.as_slice();
+    if !goes_out(is_input(used), shown, to_stdout, changed) {
+        output.truncate(start);
     }
+    Ok(changed)
 }
 
 // Appends what the packages give to standard output, in order. Whether some text is another one than was read.
@@ -148,45 +136,7 @@ fn tell_written<E: Sink>(quiet: bool, name: &str, err: &mut E)
     ensures { TellsLines E.Sink err.old err.new (if quiet then [] else fixed_line name.now ∷ []) }
 {
     if !quiet {
-        tell_fixed(err, name);
-    }
-}
-
-// Gives a file that still holds what was read of it its text at the end, which is told.
-fn replace<F: Files, E: Sink>(
-    quiet: bool,
-    name: &str,
-    read: &[u8],
-    text: &[u8],
-    files: &mut F,
-    err: &mut E,
-) -> Cut
-    ensures told { result ≡ Cut.Whole → TellsLines E.Sink err.old err.new
-        (fixed_lines quiet (record { name = name.now; held = read.now; bytes = text.now } ∷ [])) }
-    ensures writes { F.honest files.old ≡ true → result ≡ Cut.Whole
-        → WritesFiles (record { name = name.now; held = read.now; bytes = text.now } ∷ []) (F.folder files.old) (F.folder files.new) }
-    ensures cut { ((result ≡ Cut.Whole) × (F.faults files.new ≡ F.faults files.old)) ⊎ ((result ≡ Cut.Files) × Rises (F.faults files.old) (F.faults files.new)) }
-    ensures counts { Counts (F.faults files.old) (F.faults files.new) }
-    ensures honest { F.honest files.new ≡ F.honest files.old }
-{
-    match files.rewrite(name, read, text) {
-        Ok(()) => {
-            tell_written(quiet, name, err);
-            Cut::Whole
-        }
-        Err(_) => {
-            tell_named(err, name, "cannot write");
-            Cut::Files
-        }
-    }
-}
-
-// Tells that a file was written with its journal, where it was.
-fn tell_kept<E: Sink>(quiet: bool, file: &Opened, err: &mut E)
-    ensures { TellsLines E.Sink err.old err.new (fixed_lines quiet (file_kept (Some (opened_in file.now)))) }
-{
-    if file.written {
-        tell_written(quiet, file.name.as_str(), err);
+        tell(err, &["fixed ", name, "\n"]);
     }
 }
 
@@ -208,25 +158,30 @@ fn write_file<F: Files, E: Sink>(
     let Some(file) = &used.file else {
         return Cut::Whole;
     };
+    let name = file.name.as_str();
     if options.journal {
-        tell_kept(options.quiet, file, err);
+        if file.written {
+            tell_written(options.quiet, name, err);
+        }
         return Cut::Whole;
     }
     if options.to_stdout || is_input(used) {
         return Cut::Whole;
     }
     match new_text(alloc, file) {
-        Ok(Some(text)) => replace(
-            options.quiet,
-            file.name.as_str(),
-            file.read.as_slice(),
-            &text,
-            files,
-            err,
-        ),
+        Ok(Some(text)) => match files.rewrite(name, file.read.as_slice(), &text) {
+            Ok(()) => {
+                tell_written(options.quiet, name, err);
+                Cut::Whole
+            }
+            Err(_) => {
+                tell_named(err, name, "cannot write");
+                Cut::Files
+            }
+        },
         Ok(None) => Cut::Whole,
         Err(_) => {
-            tell_named(err, file.name.as_str(), "Memory");
+            tell_named(err, name, "Memory");
             Cut::Memory
         }
     }
@@ -271,47 +226,6 @@ fn ended(failed: bool, changed: bool, cut: Cut) -> Exit
     Exit { status, cut }
 }
 
-// What packages leave at the end, after what was printed, of a run that this failure cut, if one did.
-fn leave<W: Sink, F: Files, E: Sink>(
-    alloc: Global,
-    options: Options,
-    shown: bool,
-    packages: &[Used],
-    printed: Vec<u8>,
-    failed: bool,
-    cut: Cut,
-    out: &mut W,
-    files: &mut F,
-    err: &mut E,
-) -> Exit
-    ensures whole { result.cut ≡ Cut.Whole → (cut ≡ Cut.Whole)
-        × (result.status ≡ status_of (record { used = map used_in packages.now; printed = printed.items; failed = failed }))
-        × PrintsAll W.Sink out.old out.new (printed.items ++ texts_out shown options.to_stdout (map used_in packages.now))
-        × (W.faults out.new ≡ W.faults out.old) × (F.faults files.new ≡ F.faults files.old)
-        × TellsLines E.Sink err.old err.new (fixed_lines options.quiet (all_fixed options.journal options.to_stdout (map used_in packages.now))) }
-    ensures writes { options.journal ≡ false → (F.honest files.old ≡ true) ⊎ (all_writings options.to_stdout (map used_in packages.now) ≡ [])
-        → cut ≡ Cut.Whole → (result.cut ≡ Cut.Whole) ⊎ (result.cut ≡ Cut.Write)
-        → WritesFiles (all_writings options.to_stdout (map used_in packages.now)) (F.folder files.old) (F.folder files.new) }
-    ensures kept { options.journal ≡ true → files.new ≡ files.old }
-    ensures status { result.cut ≢ Cut.Whole → result.status ≡ 2 }
-    ensures used { result.status ≢ 1 }
-    ensures write { result.cut ≡ Cut.Write → cut ≢ Cut.Write → (cut ≡ Cut.Whole)
-        × PrintsSome W.Sink out.old out.new (printed.items ++ texts_out shown options.to_stdout (map used_in packages.now))
-        × Rises (W.faults out.old) (W.faults out.new) }
-    ensures output { PrintsSome W.Sink out.old out.new (printed.items ++ texts_out shown options.to_stdout (map used_in packages.now)) }
-    ensures cause { (result.cut ≡ cut) ⊎ ((cut ≡ Cut.Whole) × ((result.cut ≡ Cut.Memory) ⊎ (result.cut ≡ Cut.Write)
-        ⊎ ((result.cut ≡ Cut.Files) × Rises (F.faults files.old) (F.faults files.new)))) }
-    ensures counts { Counts (F.faults files.old) (F.faults files.new) }
-    ensures honest { F.honest files.new ≡ F.honest files.old }
-{
-    let output = print_all(packages, shown, options.to_stdout, printed, out, err);
-    let written = write_files(alloc, options, packages, files, err);
-    match output {
-        Ok(changed) => ended(failed, changed, first_cut(cut, written)),
-        Err(later) => ended(failed, true, first_cut(cut, first_cut(written, later))),
-    }
-}
-
 /// Ends a run that this failure cut, if one did: standard output is given what was printed and the texts after it, and
 /// the files that changed are written, each where it still holds what was read of it; with their journals they were written before, which is
 /// told. A failure is told, and what is left is done all the same. Of two failures it is that of the files which cuts the run.
@@ -349,16 +263,11 @@ pub(crate) fn finish<W: Sink, F: Files, E: Sink>(
         printed,
         failed,
     } = run;
-    leave(
-        alloc,
-        options,
-        shown,
-        workspace.used(),
-        printed,
-        failed,
-        cut,
-        out,
-        files,
-        err,
-    )
+    let packages = workspace.used();
+    let output = print_all(packages, shown, options.to_stdout, printed, out, err);
+    let written = write_files(alloc, options, packages, files, err);
+    match output {
+        Ok(changed) => ended(failed, changed, first_cut(cut, written)),
+        Err(later) => ended(failed, true, first_cut(cut, first_cut(written, later))),
+    }
 }

@@ -1,5 +1,5 @@
 //! The program buildozer over any reader, writers and files.
-ghost use Rattle.std.specs.Prelude.{◌≡◌, ◌≢◌, ◌⊎◌, ◌&&◌, ◌∷◌, [], List, ℕ, Option, true, false, map, Some, Ok, IfOk};
+ghost use Rattle.std.specs.Prelude.{bytes_eq, ◌≡◌, ◌≢◌, ◌⊎◌, ◌&&◌, ◌∷◌, [], List, ℕ, Option, true, false, map, Some, Ok, IfOk};
 ghost use Rattle.std.specs.List.{All};
 ghost use Rattle.bz_files.specs.Folder.{Folder};
 ghost use Rattle.bz_line.specs.Asked.{Usage};
@@ -18,107 +18,19 @@ ghost use Rattle.bz_engine.specs.Steps.{all_steps, input_package, names_input};
 ghost use Rattle.bz_engine.specs.Told.{IsUsageLine, IsLineUsageLine, no_journal_line};
 ghost use Rattle.bz_engine.specs.Usage.{OperandsTell, LinesTell, TextTells, GivenTells, LineTells};
 
-use crate::ending::{FAILED, finish};
+use crate::ending::finish;
 use crate::run::begun;
 use crate::running::run_lines;
-use crate::script::{INPUT, USAGE, read_bytes, told_name};
+use crate::script::{INPUT, read_bytes, told_name};
 use crate::step::{names_input, shows_input};
-use crate::told::{tell_input, tell_line_usage, tell_no_journal, tell_usage};
+use crate::told::{UNUSED, tell_input, tell_line_usage, tell_no_journal, tell_unread, tell_usage};
 use bz_files::Files;
-use bz_line::{Asked, Given, LineFault, Options, UsageFault, read_group, read_line, read_script};
-use bz_ports::{Cut, Exit, Sink, Source, tell, tell_fault};
+use bz_line::{Asked, Given, Options, read_group, read_line, read_script};
+use bz_ports::{Cut, Exit, Sink, Source, tell_fault};
 use bz_tree::ReadFault;
 use std::alloc::Global;
 use std::convert::AsStr;
 use std::slice::from_ref;
-
-// The words, or the lines of a file, ask for nothing, which was told.
-const UNUSED: Exit = Exit {
-    status: USAGE,
-    cut: Cut::Whole,
-};
-
-// Memory was refused before anything was done, which is told.
-fn wanting<E: Sink>(err: &mut E) -> Exit
-    ensures { result ≡ record { status = 2; cut = Cut.Memory } }
-{
-    tell(err, &["buildozer: Memory\n"]);
-    Exit {
-        status: FAILED,
-        cut: Cut::Memory,
-    }
-}
-
-// Operands, or a file of lines of this name, ask for nothing, which is told.
-fn unasked<E: Sink>(alloc: Global, err: &mut E, file: &str, fault: &UsageFault<'_>) -> Exit
-    ensures whole { result.cut ≡ Cut.Whole → (result.status ≡ 1) × (usage : Usage) × (line : List ℕ) × (usage_in fault.now ≡ Some usage)
-        × IsUsageLine file.now usage line × TellsLines E.Sink err.old err.new (line ∷ []) }
-    ensures told { result.status ≡ 1 → (usage : Usage) × (line : List ℕ) × (usage_in fault.now ≡ Some usage)
-        × IsUsageLine file.now usage line × TellsLines E.Sink err.old err.new (line ∷ []) }
-    ensures cut { result.cut ≢ Cut.Whole → result ≡ record { status = 2; cut = Cut.Memory } }
-{
-    match tell_usage(alloc, err, file, fault) {
-        Ok(()) => UNUSED,
-        Err(_) => wanting(err),
-    }
-}
-
-// The words are no line of the program's, which is told.
-fn unlined<E: Sink>(alloc: Global, err: &mut E, fault: &LineFault) -> Exit
-    ensures whole { result.cut ≡ Cut.Whole → (result.status ≡ 1) × (usage : LineUsage) × (line : List ℕ) × (line_usage_in fault.now ≡ Some usage)
-        × IsLineUsageLine usage line × TellsLines E.Sink err.old err.new (line ∷ []) }
-    ensures told { result.status ≡ 1 → (usage : LineUsage) × (line : List ℕ) × (line_usage_in fault.now ≡ Some usage)
-        × IsLineUsageLine usage line × TellsLines E.Sink err.old err.new (line ∷ []) }
-    ensures cut { result.cut ≢ Cut.Whole → result ≡ record { status = 2; cut = Cut.Memory } }
-{
-    match tell_line_usage(alloc, err, fault) {
-        Ok(()) => UNUSED,
-        Err(_) => wanting(err),
-    }
-}
-
-// Does what lines ask for, on files alone or with their journals, and ends the run.
-fn perform<R: Source, W: Sink, E: Sink, F: Files>(
-    alloc: Global,
-    options: Options,
-    lines: &[Asked<'_>],
-    input: &mut R,
-    out: &mut W,
-    err: &mut E,
-    files: &mut F,
-) -> Exit
-    requires { All (λ asked. All HasPath asked.targets.items) lines.now }
-    ensures whole { (F.honest files.old ≡ true) ⊎ ((options.journal ≡ false) × AreOfInput (map asked_in lines.now))
-        → result.cut ≡ Cut.Whole → (left : Left)
-        × StepsLeave options (all_steps (map asked_in lines.now)) (world_of R.Source F.Files input.old files.old) left
-        × LeavesBehind W.Sink E.Sink F.Files left result.status out.old out.new err.old err.new files.new }
-    ensures write { (F.honest files.old ≡ true) ⊎ ((options.journal ≡ false) × AreOfInput (map asked_in lines.now))
-        → result.cut ≡ Cut.Write → (left : Left)
-        × StepsLeave options (all_steps (map asked_in lines.now)) (world_of R.Source F.Files input.old files.old) left
-        × PrintsSome W.Sink out.old out.new left.output × (F.folder files.new ≡ left.folder) }
-    ensures reads_nothing { options.journal ≡ true → ReadsNothing R.Source result.cut input.old input.new }
-    ensures read { AreOfInput (map asked_in lines.now) → result.cut ≡ Cut.Read → PrintsAll W.Sink out.old out.new [] }
-    ensures moments { options.journal ≡ true → F.honest files.old ≡ true
-        → PassesBy F.Files (IsMomentOfSteps (F.folder files.old) (all_steps (map asked_in lines.now)) []) files.old files.new }
-    ensures sound { R.sound input.old ≡ true → result.cut ≢ Cut.Read }
-    ensures status { result.cut ≢ Cut.Whole → result.status ≡ 2 }
-    ensures used { result.status ≢ 1 }
-    ensures ended { IsEndedOver R.Source W.Sink F.Files result.cut input.old input.new out.old out.new files.old files.new }
-    ensures honest { F.honest files.new ≡ F.honest files.old }
-{
-    let mut run = begun(alloc);
-    let cut = run_lines(alloc, options, lines, &mut run, input, files, err);
-    finish(
-        alloc,
-        options,
-        shows_input(lines),
-        run,
-        cut,
-        out,
-        files,
-        err,
-    )
-}
 
 // Whether rules of standard input are meant where journals are kept: it has none.
 fn lacks_journal(options: Options, lines: &[Asked<'_>]) -> bool
@@ -127,8 +39,8 @@ fn lacks_journal(options: Options, lines: &[Asked<'_>]) -> bool
     options.journal && names_input(lines)
 }
 
-// Does what lines ask for, unless that needs a journal of standard input.
-fn perform_lines<R: Source, W: Sink, E: Sink, F: Files>(
+// Does what lines ask for, on files alone or with their journals, and ends the run; unless that needs a journal of standard input.
+fn perform<R: Source, W: Sink, E: Sink, F: Files>(
     alloc: Global,
     options: Options,
     lines: &[Asked<'_>],
@@ -163,7 +75,10 @@ fn perform_lines<R: Source, W: Sink, E: Sink, F: Files>(
         tell_no_journal(err);
         return UNUSED;
     }
-    perform(alloc, options, lines, input, out, err, files)
+    let mut run = begun(alloc);
+    let cut = run_lines(alloc, options, lines, &mut run, input, files, err);
+    let shown = shows_input(lines);
+    finish(alloc, options, shown, run, cut, out, files, err)
 }
 
 // Operands among the words.
@@ -198,47 +113,16 @@ fn run_operands<R: Source, W: Sink, E: Sink, F: Files>(
     ensures honest { F.honest files.new ≡ F.honest files.old }
 {
     match read_group(alloc, operands) {
-        Ok(asked) => perform_lines(alloc, options, from_ref(&asked), input, out, err, files),
-        Err(fault) => unasked(alloc, err, "", &fault),
+        Ok(asked) => perform(alloc, options, from_ref(&asked), input, out, err, files),
+        Err(fault) => tell_usage(alloc, err, "", &fault),
     }
 }
 
-// What the lines of a file ask for.
-fn run_lines_of<R: Source, W: Sink, E: Sink, F: Files>(
-    alloc: Global,
-    options: Options,
-    of_input: bool,
-    lines: &[Asked<'_>],
-    input: &mut R,
-    out: &mut W,
-    err: &mut E,
-    files: &mut F,
-) -> Exit
-    requires { All (λ asked. All HasPath asked.targets.items) lines.now }
-    ensures whole { F.honest files.old ≡ true → result.cut ≡ Cut.Whole
-        → (known : Option (List ℕ)) → (of_input ≡ false → known ≡ R.remaining input.old) → (left : Left)
-        × LinesOutcome options of_input (map asked_in lines.now) (world_with F.Files files.old known) left
-        × LeavesBehind W.Sink E.Sink F.Files left result.status out.old out.new err.old err.new files.new }
-    ensures write { F.honest files.old ≡ true → result.cut ≡ Cut.Write
-        → (known : Option (List ℕ)) → (of_input ≡ false → known ≡ R.remaining input.old) → (left : Left)
-        × LinesOutcome options of_input (map asked_in lines.now) (world_with F.Files files.old known) left
-        × PrintsSome W.Sink out.old out.new left.output × (F.folder files.new ≡ left.folder) }
-    ensures unused { result.status ≡ 1 → (input.new ≡ input.old) × (out.new ≡ out.old) × (files.new ≡ files.old) }
-    ensures usage { result.status ≡ 1 → (line : List ℕ) × LinesTell options of_input (map asked_in lines.now) line
-        × TellsLines E.Sink err.old err.new (line ∷ []) }
-    ensures unread_kept { options.journal ≡ true → IsStill R.Source input.old input.new }
-    ensures moments { options.journal ≡ true → F.honest files.old ≡ true
-        → PassesBy F.Files (IsMomentOfSteps (F.folder files.old) (all_steps (map asked_in lines.now)) []) files.old files.new }
-    ensures sound { R.sound input.old ≡ true → result.cut ≢ Cut.Read }
-    ensures status { result.cut ≢ Cut.Whole → result.status ≡ 2 }
-    ensures ended { IsEndedOver R.Source W.Sink F.Files result.cut input.old input.new out.old out.new files.old files.new }
-    ensures honest { F.honest files.new ≡ F.honest files.old }
+// Whether rules of standard input are meant where the lines are read from there.
+fn edits_input(name: &str, lines: &[Asked<'_>]) -> bool
+    ensures { result ≡ (bytes_eq name.now input_package && names_input (map asked_in lines.now)) }
 {
-    if of_input && names_input(lines) {
-        tell_input(err);
-        return UNUSED;
-    }
-    perform_lines(alloc, options, lines, input, out, err, files)
+    name == INPUT && names_input(lines)
 }
 
 // What a text of lines by this name asks for.
@@ -279,19 +163,16 @@ fn run_text<R: Source, W: Sink, E: Sink, F: Files>(
             return UNUSED;
         }
     };
-    match read_script(alloc, text) {
-        Ok(lines) => run_lines_of(
-            alloc,
-            options,
-            name == INPUT,
-            &lines,
-            input,
-            out,
-            err,
-            files,
-        ),
-        Err(fault) => unasked(alloc, err, told_name(name), &fault),
+    let lines = match read_script(alloc, text) {
+        Ok(lines) => lines,
+        Err(fault) => return tell_usage(alloc, err, told_name(name), &fault),
+    };
+    let lines = lines.as_slice();
+    if edits_input(name, lines) {
+        tell_input(err);
+        return UNUSED;
     }
+    perform(alloc, options, lines, input, out, err, files)
 }
 
 // A file of lines.
@@ -325,11 +206,10 @@ fn run_script<R: Source, W: Sink, E: Sink, F: Files>(
     ensures ended { IsEndedOver R.Source W.Sink F.Files result.cut input.old input.new out.old out.new files.old files.new }
     ensures honest { F.honest files.new ≡ F.honest files.old }
 {
-    let bytes = match read_bytes(alloc, name, input, files, err) {
-        Ok(bytes) => bytes,
-        Err(exit) => return exit,
-    };
-    run_text(alloc, options, name, &bytes, input, out, err, files)
+    match read_bytes(alloc, name, input, files) {
+        Ok(bytes) => run_text(alloc, options, name, &bytes, input, out, err, files),
+        Err(cut) => tell_unread(err, told_name(name), cut),
+    }
 }
 
 /// Reads the words of a line, and does what they or a file of lines ask for, up to the first step that fails; with `-k`
@@ -399,7 +279,7 @@ pub fn buildozer<S: AsStr, R: Source, W: Sink, E: Sink, F: Files>(
 {
     let line = match read_line(alloc, words) {
         Ok(line) => line,
-        Err(fault) => return unlined(alloc, err, &fault),
+        Err(fault) => return tell_line_usage(alloc, err, &fault),
     };
     match &line.given {
         Given::Operands(operands) => {

@@ -34,21 +34,13 @@ fn run_target<R: Source, F: Files, E: Sink>(
         (RunsBeside options.keep_going (map (step_of target.now) (map asking_in commands.now))) result
         (spot R.Source F.Files E.Sink run.old input.old files.old err.old) (spot R.Source F.Files E.Sink run.new input.new files.new err.new) }
 {
+    let journals = options.journal;
     let mut cut = Cut::Whole;
     for asking in commands {
         if run.failed && !options.keep_going {
             return cut;
         }
-        let later = do_step(
-            alloc,
-            options.journal,
-            run,
-            target,
-            asking,
-            input,
-            files,
-            err,
-        );
+        let later = do_step(alloc, journals, run, target, asking, input, files, err);
         cut = first_cut(cut, later);
     }
     cut
@@ -70,18 +62,10 @@ pub(crate) fn run_line<R: Source, F: Files, E: Sink>(
         (RunsBeside options.keep_going (steps_asked (asked_in line.now))) result
         (spot R.Source F.Files E.Sink run.old input.old files.old err.old) (spot R.Source F.Files E.Sink run.new input.new files.new err.new) }
 {
+    let commands = line.commands.as_slice();
     let mut cut = Cut::Whole;
     for target in &line.targets {
-        let later = run_target(
-            alloc,
-            options,
-            target,
-            &line.commands,
-            run,
-            input,
-            files,
-            err,
-        );
+        let later = run_target(alloc, options, target, commands, run, input, files, err);
         cut = first_cut(cut, later);
     }
     cut

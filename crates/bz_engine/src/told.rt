@@ -1,15 +1,23 @@
 //! The lines on standard error that speak of commands, operands and usage. Its faults are passed over.
-ghost use Rattle.std.specs.Prelude.{◌≡◌, ◌++◌, codes, List, ℕ, IfSome, IsSome, OnOk, OnErr};
+ghost use Rattle.std.specs.Prelude.{◌≡◌, ◌≢◌, ◌⊎◌, ◌++◌, codes, List, ℕ, IfSome, IsSome};
 ghost use Rattle.bz_line.specs.Hints.{hint_for};
 ghost use Rattle.bz_line.specs.Shown.{refused_in, usage_in, line_usage_in, hint_text};
+ghost use Rattle.bz_ports.specs.Told.{named_line};
 ghost use Rattle.bz_engine.specs.Calls.{TellsLine};
-ghost use Rattle.bz_engine.specs.Told.{numbered, refusal_line, operand_line, fixed_line, input_line, no_journal_line, nul_line, IsUsageLine, IsLineUsageLine};
+ghost use Rattle.bz_engine.specs.Told.{numbered, refusal_line, operand_line, input_line, no_journal_line, nul_line, IsUsageLine, IsLineUsageLine};
 
+use crate::ending::{FAILED, USAGE};
 use bz_line::{Hint, LineFault, Refused, UsageFault, hint_for};
-use bz_ports::{Sink, tell, tell_clap, tell_named};
+use bz_ports::{Cut, Exit, Sink, tell, tell_clap, tell_named};
 use bz_value::Refusal;
 use itoa::Buffer;
-use std::alloc::{AllocError, Global};
+use std::alloc::Global;
+
+/// The words, or the lines of a file, ask for nothing, which was told.
+pub(crate) const UNUSED: Exit = Exit {
+    status: USAGE,
+    cut: Cut::Whole,
+};
 
 // Tells what is refused after these two pieces and what is between them and it.
 fn tell_numbered_in<'a, E: Sink>(
@@ -38,15 +46,8 @@ fn tell_numbered_in<'a, E: Sink>(
 pub(crate) fn tell_refusal<E: Sink>(err: &mut E, file: &str, command: &str, refusal: Refusal)
     ensures { TellsLine E.Sink err.old err.new (refusal_line file.now command.now refusal) }
 {
-    tell_numbered_in(
-        err,
-        "buildozer: ",
-        file,
-        ": ",
-        command,
-        refusal.name(),
-        refusal.number(),
-    );
+    let (name, number) = (refusal.name(), refusal.number());
+    tell_numbered_in(err, "buildozer: ", file, ": ", command, name, number);
 }
 
 // Tells what is refused after this piece, and the three pieces of a hint after its line.
@@ -91,13 +92,6 @@ fn tell_operand<E: Sink>(err: &mut E, refused: &Refused<'_>, hint: Hint)
     );
 }
 
-/// Tells that a file was written.
-pub(crate) fn tell_fixed<E: Sink>(err: &mut E, name: &str)
-    ensures { TellsLine E.Sink err.old err.new (fixed_line name.now) }
-{
-    tell(err, &["fixed ", name, "\n"]);
-}
-
 /// Tells that rules of standard input are meant where the lines stand there.
 pub(crate) fn tell_input<E: Sink>(err: &mut E)
     ensures { TellsLine E.Sink err.old err.new input_line }
@@ -124,48 +118,84 @@ fn tell_nul<E: Sink>(err: &mut E, file: &str, line: usize)
     tell(err, &[file, ":", line, ": NUL\n"]);
 }
 
-/// Tells why operands, or a file of lines of this name, ask for nothing. The error: memory was refused; nothing is told.
+// Memory was refused before anything was done, which is told.
+fn wanting<E: Sink>(err: &mut E) -> Exit
+    ensures { result ≡ record { status = 2; cut = Cut.Memory } }
+{
+    tell(err, &["buildozer: Memory\n"]);
+    Exit {
+        status: FAILED,
+        cut: Cut::Memory,
+    }
+}
+
+/// Tells why operands, or a file of lines of this name, ask for nothing, or that memory was refused. Returned: how the run ends.
 pub(crate) fn tell_usage<E: Sink>(
     alloc: Global,
     err: &mut E,
     file: &str,
     fault: &UsageFault<'_>,
-) -> Result<(), AllocError>
-    ensures some { OnOk result (IsSome (usage_in fault.now)) }
-    ensures ok { OnOk result (IfSome (usage_in fault.now) (λ usage. (line : List ℕ) × IsUsageLine file.now usage line
-        × TellsLine E.Sink err.old err.new line)) }
-    ensures err { OnErr result (err.new ≡ err.old) }
+) -> Exit
+    ensures some { result.status ≡ 1 → IsSome (usage_in fault.now) }
+    ensures told { result.status ≡ 1 → IfSome (usage_in fault.now) (λ usage. (line : List ℕ) × IsUsageLine file.now usage line
+        × TellsLine E.Sink err.old err.new line) }
+    ensures whole { result.cut ≡ Cut.Whole → result.status ≡ 1 }
+    ensures cut { result.cut ≢ Cut.Whole → result ≡ record { status = 2; cut = Cut.Memory } }
 {
     match fault {
         UsageFault::Operand(refused) => {
-            let hint = hint_for(alloc, refused)?;
+            let Ok(hint) = hint_for(alloc, refused) else {
+                return wanting(err);
+            };
             tell_operand(err, refused, hint);
         }
         UsageFault::NoCommand => tell(err, &["buildozer: no command\n"]),
         UsageFault::NoTarget => tell(err, &["buildozer: no target\n"]),
         UsageFault::NoLine => tell_named(err, file, "no operands"),
         UsageFault::Nul(line) => tell_nul(err, file, *line),
-        UsageFault::Memory => return Err(AllocError),
+        UsageFault::Memory => return wanting(err),
     }
-    Ok(())
+    UNUSED
 }
 
-/// Tells why words are no line of the program's. The error: memory was refused; nothing is told.
-pub(crate) fn tell_line_usage<E: Sink>(
-    alloc: Global,
-    err: &mut E,
-    fault: &LineFault,
-) -> Result<(), AllocError>
-    ensures some { OnOk result (IsSome (line_usage_in fault.now)) }
-    ensures ok { OnOk result (IfSome (line_usage_in fault.now) (λ usage. (line : List ℕ) × IsLineUsageLine usage line
-        × TellsLine E.Sink err.old err.new line)) }
-    ensures err { OnErr result (err.new ≡ err.old) }
+/// Tells why words are no line of the program's, or that memory was refused. Returned: how the run ends.
+pub(crate) fn tell_line_usage<E: Sink>(alloc: Global, err: &mut E, fault: &LineFault) -> Exit
+    ensures some { result.status ≡ 1 → IsSome (line_usage_in fault.now) }
+    ensures told { result.status ≡ 1 → IfSome (line_usage_in fault.now) (λ usage. (line : List ℕ) × IsLineUsageLine usage line
+        × TellsLine E.Sink err.old err.new line) }
+    ensures whole { result.cut ≡ Cut.Whole → result.status ≡ 1 }
+    ensures cut { result.cut ≢ Cut.Whole → result ≡ record { status = 2; cut = Cut.Memory } }
 {
     match fault {
-        LineFault::Clap(error) => return tell_clap(alloc, err, error),
+        LineFault::Clap(error) => {
+            let Ok(()) = tell_clap(alloc, err, error) else {
+                return wanting(err);
+            };
+        }
         LineFault::BesideScript => tell(err, &["buildozer: operands beside -f\n"]),
         LineFault::BesideStdout => tell(err, &["buildozer: --stdout beside --journal\n"]),
-        LineFault::Memory => return Err(AllocError),
+        LineFault::Memory => return wanting(err),
     }
-    Ok(())
+    UNUSED
+}
+
+/// Tells that a file of lines by this name can't be read, and why. Returned: how the run ends.
+pub(crate) fn tell_unread<E: Sink>(err: &mut E, name: &str, cut: Cut) -> Exit
+    ensures cut { result.cut ≡ cut }
+    ensures status { (result.status ≡ 1) ⊎ (result.status ≡ 2) }
+    ensures whole { cut ≡ Cut.Whole → (result.status ≡ 1) × TellsLine E.Sink err.old err.new (named_line name.now (codes "cannot open")) }
+{
+    match cut {
+        Cut::Memory => {
+            tell_named(err, name, "Memory");
+            Exit {
+                status: FAILED,
+                cut,
+            }
+        }
+        _ => {
+            tell_named(err, name, "cannot open");
+            Exit { status: USAGE, cut }
+        }
+    }
 }

@@ -1,9 +1,9 @@
-use Rattle.std.proofs.Common.{Err}
+use Rattle.std.proofs.Common.{Ok, Err}
 use Rattle.bz_workspace.specs.Sessions.{action_in}
 use Rattle.bz_workspace.specs.Opens.{ActsAt}
 use Rattle.bz_workspace.specs.Packages.{Opened}
 use Rattle.bz_engine.specs.Shown.{progress_in}
-use Rattle.bz_engine.proofs.ActSteps.{file_put, led_to, was_refused}
+use Rattle.bz_engine.proofs.ActSteps.{file_put, led_to, still_open, was_refused}
 use Rattle.bz_engine.proofs.acting.act_at.Goals as goal
 
 pub returns-clause-whole : goal.returns-clause-whole
@@ -21,3 +21,13 @@ returns-clause-whole g c = λ whole.
       c.refuse-in-Err.ensures.told new
           (file_put c.args.place c.args.run.now.workspace c.act.new.self done.file new done.there done.kept),
     )
+
+pub refuse-requires : goal.refuse-requires
+refuse-requires g c =
+    let done : ActsAt c.args.place (action_in c.args.action.now) c.args.command.now c.args.run.now.workspace (Ok c.in-Ok.reply) c.act.new.self = c.in-Ok.ensures in
+    still_open c.args.place c.args.run.now.workspace c.act.new.self done.file (record done.file { history = done.history }) done.there done.kept
+
+pub refuse-requires-in-Err : goal.refuse-requires-in-Err
+refuse-requires-in-Err g c =
+    let done : ActsAt c.args.place (action_in c.args.action.now) c.args.command.now c.args.run.now.workspace (Err c.in-Err.refusal) c.act.new.self = c.in-Err.ensures in
+    still_open c.args.place c.args.run.now.workspace c.act.new.self done.file (record done.file { history = done.history }) done.there done.kept

@@ -7,7 +7,7 @@ use Rattle.bz_workspace.specs.Sessions.{action_in}
 use Rattle.bz_engine.specs.Shown.{progress_in}
 use Rattle.bz_engine.proofs.ActSteps.{file_put, led_on, led_to, was_refused}
 use Rattle.bz_engine.specs.Run.{Progress}
-use Rattle.bz_engine.proofs.KeepSteps.{changed_of, kept_behind, kept_by, not_changed, was_kept}
+use Rattle.bz_engine.proofs.KeepSteps.{changed_of, kept_behind, kept_by, kept_open, not_changed, was_kept}
 use Rattle.bz_engine.proofs.StandSteps.{follows, package_at}
 use Rattle.bz_engine.proofs.acting.keep_at.Goals as goal
 
@@ -81,3 +81,15 @@ returns-clause-keeps g c = (
   kept_by g.F.Files c.args.place (action_in c.args.action.now) c.args.command.now c.args.run.now.workspace _ c.keep.new.self c.leave.new.run.workspace
       c.args.files.now c.keep.new.files (ap (λ (p : Progress). p.used) c.leave.ensures.state) c.in-Err-Pair.ensures.keeps,
 )
+
+pub refuse-requires : goal.refuse-requires
+refuse-requires g c = kept_open g.F.Files c.args.place (action_in c.args.action.now) c.args.command.now c.args.run.now.workspace _ c.keep.new.self c.args.files.now
+    c.keep.new.files c.in-Ok.ensures.keeps
+
+pub refuse-requires-in-Err-Refused : goal.refuse-requires-in-Err-Refused
+refuse-requires-in-Err-Refused g c = kept_open g.F.Files c.args.place (action_in c.args.action.now) c.args.command.now c.args.run.now.workspace _ c.keep.new.self c.args.files.now
+    c.keep.new.files c.in-Err-Refused.ensures.keeps
+
+pub leave-requires : goal.leave-requires
+leave-requires g c = kept_open g.F.Files c.args.place (action_in c.args.action.now) c.args.command.now c.args.run.now.workspace _ c.keep.new.self c.args.files.now
+    c.keep.new.files c.in-Err-Pair.ensures.keeps

@@ -5,7 +5,7 @@ use Rattle.bz_line.specs.Shown.{given_in, line_in, line_usage_in}
 use Rattle.bz_ports.proofs.Outputs.{appends_nothing}
 use Rattle.bz_engine.specs.Outcome.{GivesNothing, LineGivesNothing}
 use Rattle.bz_engine.specs.Run.{World}
-use Rattle.bz_engine.proofs.Outcomes.{words_refused, words_done, words_kept, words_premise, words_of_input, script_premise}
+use Rattle.bz_engine.proofs.Outcomes.{line_usage_told, words_refused, words_done, words_kept, words_premise, words_of_input, script_premise}
 use Rattle.bz_engine.proofs.MomentSteps.{by_words, each_of, no_words}
 use Rattle.bz_engine.proofs.UnusedSteps.{no_time, lines_apart, lines_of_input}
 use Rattle.bz_engine.proofs.UsageSteps.{words_told, given_told}
@@ -13,11 +13,13 @@ use Rattle.bz_engine.proofs.engine.buildozer.Goals as goal
 
 pub returns-in-Err-clause-whole : goal.returns-in-Err-clause-whole
 returns-in-Err-clause-whole g c premise is_whole =
-    let told = c.unlined.ensures.whole is_whole in
+    let exit = c.tell_line_usage.ensures.whole is_whole in
+    let told = line_usage_told (line_usage_in c.in-Err.fault) (g.E.Sink.faults c.args.err.now) (g.E.Sink.faults c.tell_line_usage.new.err)
+    (g.E.Sink.contents c.args.err.now) (g.E.Sink.contents c.tell_line_usage.new.err) (c.tell_line_usage.ensures.some exit) (c.tell_line_usage.ensures.told exit) in
     let world : World = record { folder = g.F.Files.folder c.args.files.now; known = g.R.Source.remaining c.args.input.now } in
-    words_refused (map g.S.AsStr.text c.args.words.now) world (line_usage_in c.in-Err.fault) told.1 told.2 c.unlined.result.status
-    (g.W.Sink.contents c.args.out.now) (g.E.Sink.faults c.args.err.now) (g.E.Sink.faults c.unlined.new.err) (g.E.Sink.contents c.args.err.now)
-    (g.E.Sink.contents c.unlined.new.err) c.in-Err.ensures.err told.3 told.4 told.0 told.5
+    words_refused (map g.S.AsStr.text c.args.words.now) world (line_usage_in c.in-Err.fault) told.0 told.1 c.tell_line_usage.result.status
+    (g.W.Sink.contents c.args.out.now) (g.E.Sink.faults c.args.err.now) (g.E.Sink.faults c.tell_line_usage.new.err) (g.E.Sink.contents c.args.err.now)
+    (g.E.Sink.contents c.tell_line_usage.new.err) c.in-Err.ensures.err told.2 told.3 exit told.4
 
 pub returns-in-Operands-clause-whole : goal.returns-in-Operands-clause-whole
 returns-in-Operands-clause-whole g c premise is_whole =
@@ -80,10 +82,11 @@ returns-clause-unread g c nothing =
 
 pub returns-in-Err-clause-usage : goal.returns-in-Err-clause-usage
 returns-in-Err-clause-usage g c is is_whole =
-    let told = c.unlined.ensures.told is in
+    let told = line_usage_told (line_usage_in c.in-Err.fault) (g.E.Sink.faults c.args.err.now) (g.E.Sink.faults c.tell_line_usage.new.err)
+    (g.E.Sink.contents c.args.err.now) (g.E.Sink.contents c.tell_line_usage.new.err) (c.tell_line_usage.ensures.some is) (c.tell_line_usage.ensures.told is) in
     let world : World = record { folder = g.F.Files.folder c.args.files.now; known = g.R.Source.remaining c.args.input.now } in
     words_told (g.F.Files.honest c.args.files.now) world (map g.S.AsStr.text c.args.words.now) (line_usage_in c.in-Err.fault) told.0 told.1
-    (g.E.Sink.faults c.args.err.now) (g.E.Sink.faults c.unlined.new.err) (g.E.Sink.contents c.args.err.now) (g.E.Sink.contents c.unlined.new.err)
+    (g.E.Sink.faults c.args.err.now) (g.E.Sink.faults c.tell_line_usage.new.err) (g.E.Sink.contents c.args.err.now) (g.E.Sink.contents c.tell_line_usage.new.err)
     c.in-Err.ensures.err told.2 told.3 told.4
 
 pub returns-in-Operands-clause-usage : goal.returns-in-Operands-clause-usage

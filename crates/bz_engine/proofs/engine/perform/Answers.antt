@@ -1,20 +1,53 @@
-use Rattle.std.proofs.Common.{[], inl, inr, refl, map, ap, subst, sym}
+use Rattle.std.proofs.Common.{[], ◌∙◌, true≢false, inl, inr, refl, map, ap, subst, sym}
 use Rattle.bz_line.specs.Shown.{asked_in}
 use Rattle.bz_engine.specs.Calls.{PassesBy}
 use Rattle.bz_engine.specs.Keeping.{AllAreKept}
 use Rattle.bz_engine.specs.Moments.{AllAreSafe, IsMeanwhile, IsMomentOfSteps}
-use Rattle.bz_engine.specs.Outcome.{AreOfInput}
+use Rattle.bz_engine.specs.Outcome.{AreOfInput, unused}
 use Rattle.bz_engine.specs.Run.{World, Progress}
 use Rattle.bz_engine.specs.Shown.{progress_in}
-use Rattle.bz_engine.specs.Steps.{all_steps}
+use Rattle.bz_engine.specs.Steps.{all_steps, names_input}
 use Rattle.bz_engine.proofs.Performing.{performed, performed_beside, broken_off, broken_beside, honest_still, uncut, told_apart, plain_premise, kept_premise}
+use Rattle.bz_engine.specs.Told.{no_journal_line}
+use Rattle.bz_engine.proofs.Outcomes.{both_true, lines_premise, stands_unused, told_once}
 use Rattle.bz_engine.proofs.MomentSteps.{unused_yet}
-use Rattle.bz_engine.proofs.UnusedSteps.{no_more_time}
+use Rattle.bz_engine.proofs.UnusedSteps.{no_more_time, no_time}
 use Rattle.bz_engine.proofs.ReadSteps.{nothing_left, read_before}
 use Rattle.bz_engine.proofs.engine.perform.Goals as goal
 
+pub returns-then-lacks_journal-clause-whole : goal.returns-then-lacks_journal-clause-whole
+returns-then-lacks_journal-clause-whole g c premise is_whole =
+    let folder = g.F.Files.folder c.args.files.now in (
+      unused folder no_journal_line,
+      inl (sym c.lacks_journal.ensures ∙ c.if-lacks_journal.true, refl),
+      stands_unused folder folder no_journal_line 1 (g.W.Sink.contents c.args.out.now) (g.E.Sink.faults c.args.err.now)
+          (g.E.Sink.faults c.tell_no_journal.new.err) (g.E.Sink.contents c.args.err.now) (g.E.Sink.contents c.tell_no_journal.new.err) refl refl
+          (told_once (g.E.Sink.faults c.args.err.now) (g.E.Sink.faults c.tell_no_journal.new.err) (g.E.Sink.contents c.args.err.now)
+          (g.E.Sink.contents c.tell_no_journal.new.err) no_journal_line c.tell_no_journal.ensures),
+    )
+
+pub returns-then-lacks_journal-clause-usage : goal.returns-then-lacks_journal-clause-usage
+returns-then-lacks_journal-clause-usage g c is =
+    let both = both_true c.args.options.journal (names_input (map asked_in c.args.lines.now)) (sym c.lacks_journal.ensures ∙ c.if-lacks_journal.true) in (
+      both.0,
+      both.1,
+      told_once (g.E.Sink.faults c.args.err.now) (g.E.Sink.faults c.tell_no_journal.new.err) (g.E.Sink.contents c.args.err.now)
+          (g.E.Sink.contents c.tell_no_journal.new.err) no_journal_line c.tell_no_journal.ensures,
+    )
+
+pub returns-then-lacks_journal-clause-moments : goal.returns-then-lacks_journal-clause-moments
+returns-then-lacks_journal-clause-moments g c kept honest = no_time g.F.Files.moment g.F.Files.since c.args.files.now c.args.files.now
+    (IsMomentOfSteps (g.F.Files.folder c.args.files.now) (all_steps (map asked_in c.args.lines.now)) []) refl
+
+pub returns-clause-unread : goal.returns-clause-unread
+returns-clause-unread g c kept named =
+    let neither = sym c.lacks_journal.ensures ∙ c.if-lacks_journal.false in
+    absurd (true≢false (sym (rw (kept, named) refl) ∙ neither))
+
 pub returns-clause-whole : goal.returns-clause-whole
-returns-clause-whole g c premise is_whole =
+returns-clause-whole g c given is_whole =
+    let neither = sym c.lacks_journal.ensures ∙ c.if-lacks_journal.false in
+    let premise = lines_premise (g.F.Files.honest c.args.files.now) c.args.options.journal (map asked_in c.args.lines.now) neither given in
     let ended = c.finish.ensures.whole is_whole in
     let ran = c.run_lines-cut in
     let lines = map asked_in c.args.lines.now in
@@ -31,24 +64,26 @@ returns-clause-whole g c premise is_whole =
           let done = ran.ensures.does plain can ended.0 known (λ _. refl) in
           let still = honest_still (g.F.Files.honest c.args.files.now) (g.F.Files.honest ran.new.files) options.to_stdout world
           options.keep_going lines start done.0 state ran.ensures.honest begun_is done.1 can in
-          performed options (all_steps lines) world start done.0 state c.shows_input.result c.finish.result.status
+          performed options lines world start done.0 state c.shows_input-shown.result c.finish.result.status
           (folder ran.new.files) (folder c.finish.new.files) (g.W.Sink.contents c.args.out.now) (g.W.Sink.contents c.finish.new.out)
           (g.E.Sink.faults c.args.err.now) (g.E.Sink.faults ran.new.err) (g.E.Sink.faults c.finish.new.err)
           (g.E.Sink.contents c.args.err.now) (g.E.Sink.contents ran.new.err) (g.E.Sink.contents c.finish.new.err)
-          plain begun_is done.1 c.shows_input.ensures ended.1 (ran.ensures.folder plain can) (c.finish.ensures.writes plain still ended.0 (inl is_whole))
+          neither plain begun_is done.1 c.shows_input-shown.ensures ended.1 (ran.ensures.folder plain can) (c.finish.ensures.writes plain still ended.0 (inl is_whole))
           ended.2 done.3 ended.5
       | inr kept ↦
           let honest = kept_premise (g.F.Files.honest c.args.files.now) options.journal (AreOfInput lines) kept premise in
           let done = ran.ensures.keeps kept honest ended.0 (subst (λ (from : Progress). AllAreKept (folder c.args.files.now) from.used) (sym begun_is) tt) in
-          performed_beside options (all_steps lines) world start done.0 state c.shows_input.result c.finish.result.status
+          performed_beside options lines world start done.0 state c.shows_input-shown.result c.finish.result.status
           (folder ran.new.files) (folder c.finish.new.files) (g.W.Sink.contents c.args.out.now) (g.W.Sink.contents c.finish.new.out)
           (g.E.Sink.faults c.args.err.now) (g.E.Sink.faults ran.new.err) (g.E.Sink.faults c.finish.new.err)
           (g.E.Sink.contents c.args.err.now) (g.E.Sink.contents ran.new.err) (g.E.Sink.contents c.finish.new.err)
-          kept begun_is done.1 c.shows_input.ensures ended.1 (ap folder (c.finish.ensures.kept kept)) ended.2 done.2 ended.5
+          neither kept begun_is done.1 c.shows_input-shown.ensures ended.1 (ap folder (c.finish.ensures.kept kept)) ended.2 done.2 ended.5
     ]
 
 pub returns-clause-write : goal.returns-clause-write
-returns-clause-write g c premise is_write =
+returns-clause-write g c given is_write =
+    let neither = sym c.lacks_journal.ensures ∙ c.if-lacks_journal.false in
+    let premise = lines_premise (g.F.Files.honest c.args.files.now) c.args.options.journal (map asked_in c.args.lines.now) neither given in
     let ran = c.run_lines-cut in
     let lines = map asked_in c.args.lines.now in
     let folder = g.F.Files.folder in
@@ -66,14 +101,14 @@ returns-clause-write g c premise is_write =
           let done = ran.ensures.does plain can ended.0 known (λ _. refl) in
           let still = honest_still (g.F.Files.honest c.args.files.now) (g.F.Files.honest ran.new.files) options.to_stdout world
           options.keep_going lines start done.0 state ran.ensures.honest begun_is done.1 can in
-          broken_off options (all_steps lines) world start done.0 state c.shows_input.result (folder ran.new.files) (folder c.finish.new.files)
-          (g.W.Sink.contents c.args.out.now) (g.W.Sink.contents c.finish.new.out) plain begun_is done.1 c.shows_input.ensures
+          broken_off options lines world start done.0 state c.shows_input-shown.result (folder ran.new.files) (folder c.finish.new.files)
+          (g.W.Sink.contents c.args.out.now) (g.W.Sink.contents c.finish.new.out) neither plain begun_is done.1 c.shows_input-shown.ensures
           (ran.ensures.folder plain can) (c.finish.ensures.writes plain still ended.0 (inr is_write)) ended.1
       | inr kept ↦
           let honest = kept_premise (g.F.Files.honest c.args.files.now) options.journal (AreOfInput lines) kept premise in
           let done = ran.ensures.keeps kept honest ended.0 (subst (λ (from : Progress). AllAreKept (folder c.args.files.now) from.used) (sym begun_is) tt) in
-          broken_beside options (all_steps lines) world start done.0 state c.shows_input.result (folder ran.new.files) (folder c.finish.new.files)
-          (g.W.Sink.contents c.args.out.now) (g.W.Sink.contents c.finish.new.out) kept begun_is done.1 c.shows_input.ensures
+          broken_beside options lines world start done.0 state c.shows_input-shown.result (folder ran.new.files) (folder c.finish.new.files)
+          (g.W.Sink.contents c.args.out.now) (g.W.Sink.contents c.finish.new.out) neither kept begun_is done.1 c.shows_input-shown.ensures
           (ap folder (c.finish.ensures.kept kept)) ended.1
     ]
 
@@ -87,7 +122,7 @@ returns-clause-read g c of_input is_read =
     let before = read_before c.finish.result.cut c.run_lines-cut.result _ c.finish.ensures.cause is_read in
     elim (told_apart c.args.options.journal) [
       | inl plain ↦
-          nothing_left (progress_in c.begun-run.result) (progress_in c.run_lines-cut.new.run) c.run_lines-cut.result c.shows_input.result c.args.options.to_stdout
+          nothing_left (progress_in c.begun-run.result) (progress_in c.run_lines-cut.new.run) c.run_lines-cut.result c.shows_input-shown.result c.args.options.to_stdout
           (g.W.Sink.contents c.args.out.now) (g.W.Sink.contents c.finish.new.out) c.begun-run.ensures (c.run_lines-cut.ensures.input plain of_input)
           before c.finish.ensures.output
       | inr kept ↦ absurd ((c.run_lines-cut.ensures.unread kept).2 before)

@@ -11,12 +11,12 @@ use Rattle.bz_engine.specs.Moments.{IsMomentOfRun}
 use Rattle.bz_engine.specs.Run.{World}
 use Rattle.bz_engine.proofs.MomentSteps.{by_operands}
 use Rattle.bz_engine.proofs.UnusedSteps.{no_time}
-use Rattle.bz_engine.proofs.Outcomes.{names_given, operands_of_input, operands_refused, operands_done, operands_premise}
+use Rattle.bz_engine.proofs.Outcomes.{usage_told, names_given, operands_of_input, operands_refused, operands_done, operands_premise}
 use Rattle.bz_engine.proofs.UsageSteps.{operands_told, operands_named}
 use Rattle.bz_engine.proofs.engine.run_operands.Goals as goal
 
-pub perform_lines-requires : goal.perform_lines-requires
-perform_lines-requires g c =
+pub perform-requires : goal.perform-requires
+perform-requires g c =
     let paths : All (λ (asked : Asked). All HasPath asked.targets.items) (c.in-Ok.asked ∷ []) =
     All-push (λ (asked : Asked). All HasPath asked.targets.items) [] c.in-Ok.asked (λ k d less. absurd (omega arith)) c.in-Ok.ensures.paths in
     subst (λ (lines : List Asked). All (λ (asked : Asked). All HasPath asked.targets.items) lines) (sym c.from_ref.ensures.value) paths
@@ -28,7 +28,7 @@ returns-in-Ok-clause-whole g c premise is_whole =
     let lines = map asked_in c.from_ref.result.now in
     let same : lines ≡ asked ∷ [] = ap (map asked_in) c.from_ref.ensures.value in
     let world : World = record { folder = g.F.Files.folder c.args.files.now; known = g.R.Source.remaining c.args.input.now } in
-    let done = c.perform_lines.ensures.whole (operands_premise (g.F.Files.honest c.args.files.now) texts asked lines c.in-Ok.ensures.ok same premise) is_whole in
+    let done = c.perform.ensures.whole (operands_premise (g.F.Files.honest c.args.files.now) texts asked lines c.in-Ok.ensures.ok same premise) is_whole in
     (done.0, operands_done c.args.options texts world asked lines done.0 c.in-Ok.ensures.ok same done.1, done.2)
 
 pub returns-in-Ok-clause-write : goal.returns-in-Ok-clause-write
@@ -38,16 +38,18 @@ returns-in-Ok-clause-write g c premise is_write =
     let lines = map asked_in c.from_ref.result.now in
     let same : lines ≡ asked ∷ [] = ap (map asked_in) c.from_ref.ensures.value in
     let world : World = record { folder = g.F.Files.folder c.args.files.now; known = g.R.Source.remaining c.args.input.now } in
-    let done = c.perform_lines.ensures.write (operands_premise (g.F.Files.honest c.args.files.now) texts asked lines c.in-Ok.ensures.ok same premise) is_write in
+    let done = c.perform.ensures.write (operands_premise (g.F.Files.honest c.args.files.now) texts asked lines c.in-Ok.ensures.ok same premise) is_write in
     (done.0, operands_done c.args.options texts world asked lines done.0 c.in-Ok.ensures.ok same done.1, done.2, done.3)
 
 pub returns-in-Err-clause-whole : goal.returns-in-Err-clause-whole
 returns-in-Err-clause-whole g c premise is_whole =
-    let told = c.unasked.ensures.whole is_whole in
+    let exit = c.tell_usage.ensures.whole is_whole in
+    let told = usage_told (usage_in c.in-Err.fault) [] (g.E.Sink.faults c.args.err.now) (g.E.Sink.faults c.tell_usage.new.err)
+    (g.E.Sink.contents c.args.err.now) (g.E.Sink.contents c.tell_usage.new.err) (c.tell_usage.ensures.some exit) (c.tell_usage.ensures.told exit) in
     let world : World = record { folder = g.F.Files.folder c.args.files.now; known = g.R.Source.remaining c.args.input.now } in
-    operands_refused c.args.options (map (λ (s : Bor (List ℕ)). s.now) c.args.operands.now) world (usage_in c.in-Err.fault) told.1 told.2 c.unasked.result.status
-    (g.W.Sink.contents c.args.out.now) (g.E.Sink.faults c.args.err.now) (g.E.Sink.faults c.unasked.new.err) (g.E.Sink.contents c.args.err.now)
-    (g.E.Sink.contents c.unasked.new.err) c.in-Err.ensures.err told.3 told.4 told.0 told.5
+    operands_refused c.args.options (map (λ (s : Bor (List ℕ)). s.now) c.args.operands.now) world (usage_in c.in-Err.fault) told.0 told.1 c.tell_usage.result.status
+    (g.W.Sink.contents c.args.out.now) (g.E.Sink.faults c.args.err.now) (g.E.Sink.faults c.tell_usage.new.err) (g.E.Sink.contents c.args.err.now)
+    (g.E.Sink.contents c.tell_usage.new.err) c.in-Err.ensures.err told.2 told.3 exit told.4
 
 pub returns-in-Ok-clause-unread : goal.returns-in-Ok-clause-unread
 returns-in-Ok-clause-unread g c nothing = elim nothing [
@@ -55,25 +57,26 @@ returns-in-Ok-clause-unread g c nothing = elim nothing [
   | inr named ↦
       let lines = map asked_in c.from_ref.result.now in
       let same : lines ≡ asked_in c.in-Ok.asked ∷ [] = ap (map asked_in) c.from_ref.ensures.value in
-      c.perform_lines.ensures.unread named.0 (names_given (map (λ (s : Bor (List ℕ)). s.now) c.args.operands.now) (asked_in c.in-Ok.asked) lines c.in-Ok.ensures.ok same named.1)
+      c.perform.ensures.unread named.0 (names_given (map (λ (s : Bor (List ℕ)). s.now) c.args.operands.now) (asked_in c.in-Ok.asked) lines c.in-Ok.ensures.ok same named.1)
 ]
 
 pub returns-in-Err-clause-usage : goal.returns-in-Err-clause-usage
 returns-in-Err-clause-usage g c is =
-    let told = c.unasked.ensures.told is in
+    let told = usage_told (usage_in c.in-Err.fault) [] (g.E.Sink.faults c.args.err.now) (g.E.Sink.faults c.tell_usage.new.err)
+    (g.E.Sink.contents c.args.err.now) (g.E.Sink.contents c.tell_usage.new.err) (c.tell_usage.ensures.some is) (c.tell_usage.ensures.told is) in
     operands_told c.args.options (map (λ (s : Bor (List ℕ)). s.now) c.args.operands.now) (usage_in c.in-Err.fault) told.0 told.1
-    (g.E.Sink.faults c.args.err.now) (g.E.Sink.faults c.unasked.new.err) (g.E.Sink.contents c.args.err.now) (g.E.Sink.contents c.unasked.new.err)
+    (g.E.Sink.faults c.args.err.now) (g.E.Sink.faults c.tell_usage.new.err) (g.E.Sink.contents c.args.err.now) (g.E.Sink.contents c.tell_usage.new.err)
     c.in-Err.ensures.err told.2 told.3 told.4
 
 pub returns-in-Ok-clause-usage : goal.returns-in-Ok-clause-usage
 returns-in-Ok-clause-usage g c is =
-    let told = c.perform_lines.ensures.usage is in
+    let told = c.perform.ensures.usage is in
     operands_named c.args.options (map (λ (s : Bor (List ℕ)). s.now) c.args.operands.now) (asked_in c.in-Ok.asked) (map asked_in c.from_ref.result.now)
-    (g.E.Sink.faults c.args.err.now) (g.E.Sink.faults c.perform_lines.new.err) (g.E.Sink.contents c.args.err.now) (g.E.Sink.contents c.perform_lines.new.err)
+    (g.E.Sink.faults c.args.err.now) (g.E.Sink.faults c.perform.new.err) (g.E.Sink.contents c.args.err.now) (g.E.Sink.contents c.perform.new.err)
     c.in-Ok.ensures.ok (ap (map asked_in) c.from_ref.ensures.value) told.0 told.1 told.2
 
 pub returns-in-Ok-clause-read : goal.returns-in-Ok-clause-read
-returns-in-Ok-clause-read g c of_input read = c.perform_lines.ensures.read
+returns-in-Ok-clause-read g c of_input read = c.perform.ensures.read
     (operands_of_input (map (λ (s : Bor (List ℕ)). s.now) c.args.operands.now) (asked_in c.in-Ok.asked) (map asked_in c.from_ref.result.now)
     c.in-Ok.ensures.ok (ap (map asked_in) c.from_ref.ensures.value) of_input) read
 
@@ -81,13 +84,13 @@ pub returns-in-Err-clause-read : goal.returns-in-Err-clause-read
 returns-in-Err-clause-read g c of_input read = appends_nothing (g.W.Sink.contents c.args.out.now)
 
 pub returns-in-Ok-clause-unread_kept : goal.returns-in-Ok-clause-unread_kept
-returns-in-Ok-clause-unread_kept g c kept = let still = c.perform_lines.ensures.reads_nothing kept in (still.0, still.1)
+returns-in-Ok-clause-unread_kept g c kept = let still = c.perform.ensures.reads_nothing kept in (still.0, still.1)
 
 pub returns-in-Ok-clause-moments : goal.returns-in-Ok-clause-moments
 returns-in-Ok-clause-moments g c kept honest =
-    by_operands g.F.Files c.args.files.now c.perform_lines.new.files (g.R.Source.remaining c.args.input.now) (map (λ (s : Bor (List ℕ)). s.now) c.args.operands.now)
+    by_operands g.F.Files c.args.files.now c.perform.new.files (g.R.Source.remaining c.args.input.now) (map (λ (s : Bor (List ℕ)). s.now) c.args.operands.now)
     (asked_in c.in-Ok.asked) (map asked_in c.from_ref.result.now) c.in-Ok.ensures.ok (ap (map asked_in) c.from_ref.ensures.value)
-    (c.perform_lines.ensures.moments kept honest)
+    (c.perform.ensures.moments kept honest)
 
 pub returns-in-Err-clause-moments : goal.returns-in-Err-clause-moments
 returns-in-Err-clause-moments g c kept honest = no_time g.F.Files.moment g.F.Files.since c.args.files.now c.args.files.now

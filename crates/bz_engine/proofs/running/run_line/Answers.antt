@@ -33,7 +33,7 @@ loop-target-preserved g c =
     let mid = spot g.R.Source g.F.Files g.E.Sink l.run l.input l.files l.err in
     let new = spot g.R.Source g.F.Files g.E.Sink e.new.run e.new.input e.new.files e.new.err in
     let done : Done c.args.options.journal (IsOfInput target) c.args.options.keep_going (on_target commands target) e.result mid new = record {
-      does = λ plain honest whole. subst (λ (all : List Asking). Goes mid.folder c.args.options.keep_going (on_target all target) mid new) c.deref.ensures.value
+      does = λ plain honest whole. subst (λ (all : List Asking). Goes mid.folder c.args.options.keep_going (on_target all target) mid new) c.as_slice-commands.ensures.value
           (e.ensures.does plain honest whole);
       folder = e.ensures.folder;
       cut = e.ensures.cut;
@@ -42,9 +42,9 @@ loop-target-preserved g c =
       honest = e.ensures.honest;
       input = e.ensures.input;
       keeps = λ kept honest whole.
-          subst (λ (all : List Asking). KeepsBetween (RunsBeside c.args.options.keep_going (on_target all target)) mid new) c.deref.ensures.value
+          subst (λ (all : List Asking). KeepsBetween (RunsBeside c.args.options.keep_going (on_target all target)) mid new) c.as_slice-commands.ensures.value
           (e.ensures.keeps kept honest whole);
-      safely = λ kept honest. subst (λ (all : List Asking). PassesSafely (on_target all target) mid new) c.deref.ensures.value (e.ensures.safely kept honest);
+      safely = λ kept honest. subst (λ (all : List Asking). PassesSafely (on_target all target) mid new) c.as_slice-commands.ensures.value (e.ensures.safely kept honest);
       unread = e.ensures.unread;
       works = e.ensures.works;
       sound = e.ensures.sound;
