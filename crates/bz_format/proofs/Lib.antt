@@ -1,3 +1,4 @@
+pub mod Chunking
 pub mod Fixed
 pub mod PastLimits
 pub mod Unread

@@ -19,7 +19,7 @@ use Rattle.bz_formatter.specs.declared.formatter.FormatFault.TheVariants as f
 use Rattle.bz_format.specs.Formatted.{FormatsBzlTo, Says}
 
 -- what a text says is proper, levelled too
-level_proper : BzlViewIsProper → LevelKeepsLayout → (text : Bytes) (tree : Node) → ReadsBzl text tree → IsProperBzl (level (bzl_view_of tree))
+pub level_proper : BzlViewIsProper → LevelKeepsLayout → (text : Bytes) (tree : Node) → ReadsBzl text tree → IsProperBzl (level (bzl_view_of tree))
 level_proper proper keeps text tree reads = (keeps (bzl_view_of tree)).1 (proper tree reads.0)
 
 module _ (A : Type 0) (proper : BzlViewIsProper) (keeps : LevelKeepsLayout) (text : Bytes) where

@@ -2,6 +2,7 @@
 ghost use Rattle.std.specs.Prelude.{◌≡◌, ◌≢◌, ◌⊎◌, IfOk, IfErr, Ok, Err};
 ghost use Rattle.bz_format.specs.Formatted.{FormatsBzlTo, IsFormattedBzl, Says};
 
+use crate::chunks::chunks_formatted;
 use crate::laws::formatted_bzl_once;
 use bz_formatter::FormatFault;
 use bz_indent::{level, level_keeps_layout, level_stays, set_bzl};
@@ -76,6 +77,9 @@ pub fn format_bzl(alloc: Global, text: &[u8]) -> Result<Text, FormatFault>
     ensures fixed { IfOk result (λ formatted. IsFormattedBzl text.now formatted) }
 {
     formatted_bzl_once();
+    if let Some(formatted) = chunks_formatted(alloc, text) {
+        return Ok(formatted);
+    }
     match formatted(alloc, text) {
         Ok(new) => Ok(new),
         Err(fault) => Err(fault),

@@ -1,6 +1,7 @@
 //! The formatted text of a .bzl file.
 #![tactic(auto)]
 
+mod chunks;
 mod formatting;
 mod laws;
 

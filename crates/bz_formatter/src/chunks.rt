@@ -3,22 +3,16 @@ ghost use Rattle.std.specs.Prelude.{◌≡◌, ◌≤◌, ◌<◌, ◌++◌, Non
 ghost use Rattle.bz_formatter.specs.Chunks.{IsAppended, ReadsAs};
 ghost use Rattle.bz_formatter.specs.Meaning.{gives, Formats};
 
-use crate::cut::chunk_end;
+use crate::cut::{CHUNK, TRIES, Unseen, chunk_end, why_unseen};
 use crate::writing::value_of;
 use bz_items::Text;
 use bz_parse::parse;
 use bz_tidy::{begins_with_load, tidied_apart, tidy};
-use bz_tree::{LENGTH_LIMIT, ReadFault};
+use bz_tree::LENGTH_LIMIT;
 use bz_value::{File, Item};
 use bz_view::{ends_with_line, views_join};
 use bz_write::{append_file, layouts_join};
 use std::alloc::Global;
-
-/// This many bytes a chunk has at least. Its tree and value take some 34 bytes a byte.
-const CHUNK: usize = 32_768;
-
-/// How often a chunk that ends within a statement is tried again, at twice the length.
-const TRIES: usize = 12;
 
 /// What the beginning of a text says.
 #[derive(Drop)]
@@ -30,38 +24,13 @@ struct Chunk {
     ends: bool,
 }
 
-/// Why a chunk is not seen.
-enum Unseen {
-    /// It may be read where more of the text is taken.
-    Short,
-    /// It is not read, or memory was refused.
-    Never,
-}
-
-/// Whether a text that is not read may be read with more after it: a string is open, or the end is not expected.
-fn is_short(fault: &ReadFault, text: &[u8]) -> bool {
-    match fault {
-        ReadFault::OpenString { .. } => true,
-        ReadFault::Unexpected { line, .. } => {
-            *line as usize > text.iter().filter(|byte| **byte == b'\n').count()
-        }
-        _ => false,
-    }
-}
-
 /// What a text says. One that does not end with a line is taken at the end alone.
 fn seen(alloc: Global, text: &[u8], is_last: bool) -> Result<(File, bool), Unseen>
     ensures { IfOk result (λ seen. ReadsAs text.now seen.0 seen.1) }
 {
     let tree = match parse(alloc, text) {
         Ok(tree) => tree,
-        Err(fault) => {
-            return Err(if is_short(&fault, text) {
-                Unseen::Short
-            } else {
-                Unseen::Never
-            });
-        }
+        Err(fault) => return Err(why_unseen(&fault, text)),
     };
     let ends = ends_with_line(&tree);
     if !ends && !is_last {
@@ -81,7 +50,7 @@ fn first_chunk(alloc: Global, text: &[u8]) -> Option<Chunk>
 {
     let mut size = CHUNK;
     for _ in 0..TRIES {
-        let len = chunk_end(text, size);
+        let len = chunk_end(text, size, false);
         match seen(alloc, &text[..len], len == text.len()) {
             Ok((file, ends)) => return Some(Chunk { file, len, ends }),
             Err(Unseen::Never) => return None,

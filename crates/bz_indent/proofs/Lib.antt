@@ -17,6 +17,7 @@ pub mod HeaderSpots
 pub mod HeaderTokens
 pub mod Headings
 pub mod Indented
+pub mod JoinedLayouts
 pub mod Keeping
 pub mod Lengths
 pub mod LevelLayout

@@ -1,5 +1,6 @@
 pub mod Depths
 pub mod Drawn
+pub mod Joined
 pub mod Laws
 pub mod Layout
 pub mod Level

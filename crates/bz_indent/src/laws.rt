@@ -1,4 +1,5 @@
 //! Facts about the definitions, for readers and for the proofs of other crates: the functions do nothing.
+ghost use Rattle.bz_indent.specs.Joined.{BzlDepthsJoin, BzlLayoutsJoin};
 ghost use Rattle.bz_indent.specs.Laws.{BuildFilesAreLaidOutTheSame, BuildItemsAreDrawnTheSame, BuildItemsAreLaidOutTheSame, BuildItemsAreLevelledTheSame, BzlLayoutIsAccepted, BzlLayoutIsTooDeep, BzlLayoutReadsBack, LevelKeepsComments, LevelKeepsLayout, LevelStays};
 ghost use Rattle.bz_indent.specs.Syntax.{BuildItemsAreTheSameProgram, LevelKeepsProgram};
 ghost use Rattle.bz_indent.specs.Worked.{WorkedBzlLayouts};
@@ -45,6 +46,13 @@ pub fn bzl_layout_is_too_deep()
 /// What the tree of the layout of a proper value says is the value, levelled.
 pub fn bzl_layout_reads_back()
     ensures { BzlLayoutReadsBack }
+{}
+
+/// The layout of items below others is their own, after that of the others and what is between the last of these and them; its tree is
+/// as deep as the deeper one.
+pub fn bzl_layouts_join()
+    ensures text { BzlLayoutsJoin }
+    ensures depth { BzlDepthsJoin }
 {}
 
 /// The items of a BUILD file, as those of a .bzl file, have the layout of the BUILD file: its text and its tree.

@@ -1,22 +1,43 @@
 //! What a .bzl file says, as a text again.
-ghost use Rattle.std.specs.Prelude.{◌≡◌, ◌<◌, ◌≤◌, IfOk, IfSome, length};
+ghost use Rattle.std.specs.Prelude.{◌≡◌, ◌<◌, ◌≤◌, ◌++◌, IfOk, IfSome, length};
 ghost use Rattle.bz_tree.specs.Legal.{ReadsBzl, NoBzlTree};
 ghost use Rattle.bz_tree.specs.Spell.{depth_of, limit, depth_limit};
 ghost use Rattle.bz_suite.specs.Proper.{IsProperBzl};
 ghost use Rattle.bz_suite.specs.View.{bzl_view_of};
 ghost use Rattle.bz_indent.specs.Drawn.{bzl_drawn};
+ghost use Rattle.bz_indent.specs.Joined.{bzl_gap_below};
 ghost use Rattle.bz_indent.specs.Layout.{bzl_layout};
 ghost use Rattle.bz_indent.specs.Level.{level};
 
 use crate::depth::are_bzl_items_within;
 use crate::laws::{bzl_layout_is_accepted, bzl_layout_is_too_deep, bzl_layout_reads_back};
 use crate::measure::is_layout_within;
-use crate::writing::layout_text;
+use crate::writing::{layout_text, push_below, push_items};
 use bz_items::Text;
-use bz_suite::BzlFile;
+use bz_suite::{BzlFile, BzlItem};
 use bz_tree::{DEPTH_LIMIT, LENGTH_LIMIT};
 use bz_write::SetFault;
 use std::alloc::Global;
+
+/// Appends the layout of what a .bzl file says to a text, below an item where one is given. None: a growth was refused, or the text or
+/// the tree of the layout would be past a limit; what was appended by then is not told.
+#[tactic(auto, using(crate::proofs::Depths::bzl_drawn_depth))]
+pub fn append_bzl(out: &mut Vec<u8>, above: &Option<BzlItem>, file: &BzlFile) -> Option<()>
+    ensures text { IfSome result (λ _. out.new.items ≡ out.old.items ++ (bzl_gap_below above.now file.now.items ++ bzl_layout file.now.items)) }
+    ensures short { IfSome result (λ _. length out.new.items ≤ limit) }
+    ensures shallow { IfSome result (λ _. depth_of (bzl_drawn file.now.items) ≤ depth_limit) }
+{
+    let items = file.items.as_slice();
+    if !are_bzl_items_within(items, DEPTH_LIMIT as usize - 1) {
+        return None;
+    }
+    push_below(out, above, items).ok()?;
+    push_items(out, items).ok()?;
+    if out.len() > LENGTH_LIMIT {
+        return None;
+    }
+    Some(())
+}
 
 /// The layout as text, where it and its tree are within the limits; none where one is not, or a growth was refused. The depth is
 /// looked at first, since the walk that writes goes as deep as the file.

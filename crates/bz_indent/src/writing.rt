@@ -1,6 +1,7 @@
 //! The layout of what a .bzl file says, as text.
 ghost use Rattle.std.specs.Prelude.{◌≡◌, ◌++◌, OnOk, IfOk, replicate};
 ghost use Rattle.bz_items.specs.Characters.{space};
+ghost use Rattle.bz_indent.specs.Joined.{bzl_gap_below};
 ghost use Rattle.bz_indent.specs.Layout as layout;
 ghost use Rattle.bz_indent.specs.Layout.{bzl_layout};
 
@@ -142,8 +143,22 @@ fn push_between(out: &mut Vec<u8>, item: &BzlItem, others: &[BzlItem]) -> Result
     Ok(())
 }
 
-/// Appends the items.
-fn push_items(out: &mut Vec<u8>, items: &[BzlItem]) -> Result<(), Memory>
+/// Appends what is between an item, where there is one, and those below. The error: a growth was refused.
+pub fn push_below(
+    out: &mut Vec<u8>,
+    above: &Option<BzlItem>,
+    items: &[BzlItem],
+) -> Result<(), Memory>
+    ensures { OnOk result (out.new.items ≡ out.old.items ++ bzl_gap_below above.now items.now) }
+{
+    match above {
+        None => Ok(()),
+        Some(item) => push_between(out, item, items),
+    }
+}
+
+/// Appends the items. The error: a growth was refused, or the text is past its limit.
+pub fn push_items(out: &mut Vec<u8>, items: &[BzlItem]) -> Result<(), Memory>
     ensures { OnOk result (out.new.items ≡ out.old.items ++ bzl_layout items.now) }
 {
     for (i, item) in items.iter().enumerate() {

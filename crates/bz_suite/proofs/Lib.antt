@@ -1,3 +1,4 @@
+pub mod BlankLines
 pub mod Branches
 pub mod BuildFiles
 pub mod BuildItems
@@ -5,6 +6,7 @@ pub mod Colons
 pub mod Ends
 pub mod Groups
 pub mod HeadParts
+pub mod JoinedFiles
 pub mod KeptBzl
 pub mod KeptBranches
 pub mod KeptGaps

@@ -1,4 +1,5 @@
 pub mod BuildValues
+pub mod Joined
 pub mod Kept
 pub mod Laws
 pub mod Proper

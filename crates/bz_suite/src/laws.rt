@@ -1,8 +1,11 @@
 //! Facts about the definitions, for readers and for the proofs of other crates: the functions do nothing.
 
+ghost use Rattle.bz_suite.specs.Joined.{BzlViewsJoin};
 ghost use Rattle.bz_suite.specs.Kept.{BzlCommentsKept};
 ghost use Rattle.bz_suite.specs.Laws.{BuildFilesSayTheSame, BuildItemsAreProper, BuildItemsHaveTheSameComments, BzlViewIsProper};
 ghost use Rattle.bz_suite.specs.Worked.{WorkedBzlViews};
+
+use bz_tree::laws::lines_join;
 
 /// Each comment of the legal tree of a .bzl file is in what the file says as often as in the tree's gaps: none is lost or doubled.
 pub fn bzl_comments_kept()
@@ -13,6 +16,13 @@ pub fn bzl_comments_kept()
 pub fn bzl_view_is_proper()
     ensures { BzlViewIsProper }
 {}
+
+/// What a text says that begins without comments, after a text that ends with a statement, is its own after that of the other one.
+pub fn bzl_views_join()
+    ensures { BzlViewsJoin }
+{
+    lines_join();
+}
 
 /// What the legal tree of a BUILD file says as a .bzl file is, item by item, what it says as a BUILD file: each Block is the same
 /// Block, and each statement is a simple statement of the same expression, with the same comments.

@@ -2,14 +2,16 @@
 #![tactic(auto)]
 
 mod headers;
+mod joined;
 mod laws;
 mod rest;
 mod value;
 mod viewing;
 
+pub use joined::{begins_bare, view_bzl_front};
 pub use laws::{
     build_files_say_the_same, build_items_are_bzl_items, bzl_comments_kept, bzl_view_is_proper,
-    worked_bzl_views,
+    bzl_views_join, worked_bzl_views,
 };
 pub use value::{Branch, BzlFile, BzlItem, Statement};
 pub use viewing::view_bzl;

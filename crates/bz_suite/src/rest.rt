@@ -48,6 +48,13 @@ fn says_nothing(gap: &[u8]) -> bool
     first_indented_line(gap).is_none()
 }
 
+/// Whether no line is left.
+pub fn is_spent(rest: Rest<'_>) -> bool
+    ensures { IsTrue result → indented rest.entry.left.now ++ indented rest.entry.gap.now ≡ [] }
+{
+    says_nothing(rest.left) && says_nothing(rest.gap)
+}
+
 /// Appends the end comments of a suite with an indent of this length among the lines of a gap; gives what is after them.
 fn take_end_of<'a>(
     alloc: Global,

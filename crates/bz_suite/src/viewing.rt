@@ -1,14 +1,15 @@
 //! What the tree of a .bzl file says.
-ghost use Rattle.std.specs.Prelude.{◌≡◌, ◌++◌, ◌<◌, [], ◌∷◌, List, map, drop, length, IfOk, OnOk};
+ghost use Rattle.std.specs.Prelude.{◌≡◌, ◌++◌, ◌<◌, [], ◌∷◌, List, map, drop, length, IfOk, IsTrue, OnOk};
 ghost use Rattle.bz_lex.specs.Gaps.{indent};
 ghost use Rattle.bz_value.specs.Indented.{indented};
 ghost use Rattle.bz_tree.specs.declared.tree.Part.{Part};
 ghost use Rattle.bz_view.specs.View.{seen};
+ghost use Rattle.bz_suite.specs.Joined.{lines_after, lines_at_end};
 ghost use Rattle.bz_suite.specs.View.{bzl_items, bzl_view_of, block_items, branches, bzl_item, compound_read, line_read, indented_lines_before, margin_of, simple_statements, stated, statement_read, suite_in, walked};
 ghost use Rattle.bz_value.specs.Gaps.{groups_of, all_but_last, last_group};
 
 use crate::headers::{behind_first, colon_from, head, is_compound, is_kind, suffix_before};
-use crate::rest::{Rest, behind_first_line, comments, only, take_end};
+use crate::rest::{Rest, behind_first_line, comments, is_spent, only, take_end};
 use crate::value::{Branch, BzlFile, BzlItem, Statement};
 use bz_items::{Items, Memory, Text};
 use bz_tree::{BzlTree, Kind, Node, Part};
@@ -320,18 +321,20 @@ fn push_items(statements: Items<Statement>, items: &mut Items<BzlItem>) -> Resul
 pub fn view_bzl(alloc: Global, tree: &BzlTree) -> Result<BzlFile, Memory>
     ensures { IfOk result (λ file. file.items ≡ bzl_view_of tree.now) }
 {
-    Ok(BzlFile {
-        items: items_of(alloc, tree.root.parts.as_slice())?,
-    })
+    let (items, _) = items_of(alloc, tree.root.parts.as_slice())?;
+    Ok(BzlFile { items })
 }
 
-/// The items of the statements of a file and of its end.
-fn items_of(alloc: Global, parts: &[Part]) -> Result<Items<BzlItem>, Memory>
-    ensures { IfOk result (λ items. items ≡ bzl_items (indented_lines_before (map stated parts.now) []) parts.now) }
+/// The items of the statements of a file and of its end, and whether no line is left before the end. The error: memory was refused.
+pub fn items_of(alloc: Global, parts: &[Part]) -> Result<(Items<BzlItem>, bool), Memory>
+    ensures items { IfOk result (λ seen. seen.0 ≡ bzl_items (indented_lines_before (map stated parts.now) []) parts.now) }
+    ensures left { IfOk result (λ seen. IsTrue seen.1 → lines_at_end (indented_lines_before (map stated parts.now) []) parts.now ≡ []) }
 {
     let mut items = Items::new(alloc);
     let mut rest = only(gap_at(parts, 0));
+    let mut spent = true;
     for at in 0..parts.len() {
+        spent = is_spent(rest);
         rest = push_part(
             alloc,
             rest,
@@ -340,7 +343,7 @@ fn items_of(alloc: Global, parts: &[Part]) -> Result<Items<BzlItem>, Memory>
             &mut items,
         )?;
     }
-    Ok(items)
+    Ok((items, spent))
 }
 
 /// Appends the items of a statement of a file, or those of its end, where these lines stand before it; gives the lines that are
@@ -352,7 +355,8 @@ fn push_part<'a>(
     after: &'a [u8],
     items: &mut Items<BzlItem>,
 ) -> Result<Rest<'a>, Memory>
-    ensures { IfOk result (λ left. (xs : List Part) → indented after.now ≡ indented_lines_before (map stated xs) []
+    ensures left { IfOk result (λ left. indented left.left.now ++ indented left.gap.now ≡ lines_after (indented rest.entry.left.now ++ indented rest.entry.gap.now) part.now (indented after.now)) }
+    ensures items { IfOk result (λ left. (xs : List Part) → indented after.now ≡ indented_lines_before (map stated xs) []
         → items.new ++ bzl_items (indented left.left.now ++ indented left.gap.now) xs ≡ items.old ++ bzl_items (indented rest.entry.left.now ++ indented rest.entry.gap.now) (part.now ∷ xs)) }
 {
     match part {
