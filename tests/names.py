@@ -15,6 +15,9 @@ import re
 import sys
 
 TOP = pathlib.Path(__file__).resolve().parent.parent
+sys.path.insert(0, str(TOP / "tools"))
+
+import trusted
 ACCEPTED = pathlib.Path(__file__).with_suffix(".txt")
 # names that one habit gives to many
 HABIT = {"new", "copy", "equals", "number", "of", "read", "len", "get", "push", "as_slice", "open", "name", "is_empty", "mod"}
@@ -23,6 +26,8 @@ ASIDE = {"sheets", "cases", "runs", "rows", "buildozer", "buildifier"}
 # words that the field has others for (CONTRIBUTING.md, 'Words'), and code within a line
 OLD_WORDS = re.compile(r"\b(?:[Bb]ehind|[Ss]o many|[Ll]et go)\b")
 CODE_SPAN = re.compile(r"`[^`]*`")
+# how many lines of definitions the contracts of the surface may reach
+MOST_LINES = 6_500
 # the file of worked rows
 ROWS = "Worked.antt"
 DEFINITION = re.compile(r"^(?:abbrev |unfoldable )*pub (?:record |data |abbrev )?([A-Za-z_]\w*)\s*[:(]|^(?:abbrev|unfoldable) pub ([A-Za-z_]\w*) *:")
@@ -67,7 +72,13 @@ def words_are_those_of_the_field():
     return [f"{file.relative_to(TOP)} says '{word}'" for file, word in found]
 
 
-FUNCTIONS = [each_public_name_has_one_home, words_are_those_of_the_field]
+def what_is_trusted_is_in_its_place():
+    """specs/ has what contracts of public calls reach, specs/private/ what none does, and the surface reaches few lines of it."""
+    lines = trusted.counts()["all"][2]
+    return trusted.misplaced() + [f"the surface reaches {lines:,} lines of definitions, {MOST_LINES:,} at most are wanted"] * (lines > MOST_LINES)
+
+
+FUNCTIONS = [each_public_name_has_one_home, words_are_those_of_the_field, what_is_trusted_is_in_its_place]
 SCENES = {scene.__name__.replace("_", " "): scene for scene in FUNCTIONS}
 
 

@@ -50,7 +50,7 @@ def table(header, rows):
 
 
 def sizes():
-    header = ["Crate", "Lines", "Public calls", "Both engines"]
+    header = ["Crate", "Lines", "Public calls", "Surface", "Both engines"]
     return table(header, [[page_of(crate) if crate in CRATES else crate, *(f"{number:,}" for number in row)] for crate, row in counts().items()])
 
 

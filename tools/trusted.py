@@ -1,11 +1,14 @@
 #!/usr/bin/env python3
 """Which definitions a reader has to trust: those that the contracts of public calls name, and what these are made of.
 
-    tools/trusted.py            for each crate, in the order of crates.txt: the lines of its specs/, how many of them contracts of its public
-                                calls, of those of crates above, or definitions that these name, stand on, and how many those of the two
-                                engines alone
+    tools/trusted.py            for each crate, in the order of crates.txt: the lines of its specs/; how many of them the contracts of the public
+                                calls of all crates reach, those of the surface, and those of the two engines alone
     tools/trusted.py --names    beside it the names, file by file
     tools/trusted.py --programs the same, of the two engines alone
+
+The surface is what the program surface uses: the calls and types that are promised to who writes over these crates. A contract reaches the
+definitions that it names, and those that they name. What the contracts of private functions alone reach is in specs/private/ where a whole
+file is of that kind.
 
 Lines are those of definitions and of the comments right above them; lines of imports and empty ones count in no number.
 """
@@ -17,13 +20,15 @@ import sys
 
 TOP = pathlib.Path(__file__).resolve().parent.parent
 CRATES = [line.partition(":")[0] for line in (TOP / "crates.txt").read_text().splitlines() if ":" in line and not line.startswith("#")]
-ENGINES = {("bz_engine", "buildozer"), ("bz_tools", "buildifier")}
+ENGINES = frozenset({("bz_engine", "buildozer"), ("bz_tools", "buildifier")})
 START = re.compile(r"^(?:(?:abbrev|unfoldable|pub|record|data) )*([^\s:({]+) *[:({]")
 USE = re.compile(r"^\s*(?:ghost |pub )?use Rattle\.([\w.«»+-]+?)(?:\.\{([^}]*)\}| as (\S+?));?$")
 WORD = re.compile(r"[^\s(){}\[\],;]+")
 EXPORT = re.compile(r"(?m)^pub use (?:crate::|self::)?(\w+)::(?:\{([^}]*)\}|(\w+));")
 # a block of methods, of a trait, of a type, or of a trait for a type; a public call, and one among the methods of each
 BLOCK = re.compile(r"^(?:pub (trait)|impl) *([\w:]+)(?: for (\w+))?")
+# what a file brings in from a crate, by itself or several names at once, with the module where it is not the crate's root
+BROUGHT = re.compile(r"(?m)^(?:pub )?use (bz_\w+)::((?:\w+::)*)(?:\{([^}]*)\}|(\w+));")
 CALL, OF_TYPE, OF_TRAIT = re.compile(r"^pub fn (\w+)"), re.compile(r"^    pub fn (\w+)"), re.compile(r"^    fn (\w+)")
 
 
@@ -98,8 +103,8 @@ def block_of(line):
 
 
 def contracts(crate, file):
-    """The texts of the contracts of public calls and of public types in a file of code, each with the name of the call. Public is what
-    the crate's root passes on, and each method of a type or a trait that is."""
+    """The texts of the contracts of public calls and of public types in a file of code, each with the name of the call, or of the type
+    whose method it is. Public is what the crate's root passes on, and each method of a type or a trait that is."""
     own = exported(crate).get(file.stem, set())
     types = {name for names in exported(crate).values() if names for name in names}
     found, lines, at, owner, begins = [], file.read_text().split("\n"), 0, None, CALL
@@ -113,9 +118,9 @@ def contracts(crate, file):
                 body.append(lines[at])
                 at += 1
             if owner in types if owner else own is None or call[1] in own:
-                found.append((call[1], "\n".join([*body, *lines[at : at + 1]])))
+                found.append((owner or call[1], "\n".join([*body, *lines[at : at + 1]])))
         elif re.match(r"^\s*ghost (?!use)", lines[at]) and owner in types:
-            found.append(("", lines[at]))
+            found.append((owner, lines[at]))
         at += 1
     return found
 
@@ -193,30 +198,79 @@ def sources():
     return ((crate, file) for crate in CRATES for file in sorted((TOP / "crates" / crate / "src").rglob("*.rt")))
 
 
+def brought(text):
+    """What a text brings in from crates: for each name the crate, and the module there."""
+    return [(name.strip(), crate, module) for crate, module, many, one in BROUGHT.findall(text) for name in (many or one).split(",") if name.strip()]
+
+
+def home(crate, module, name):
+    """The crate that has a call or a type which a crate passes on."""
+    text = (TOP / "crates" / crate / "src" / "lib.rt").read_text()
+    for given, below, _ in brought("\n".join(re.findall(r"(?ms)^pub use bz_.*?;$", text))):
+        if given == (module.split("::")[0] or name):
+            return home(below, module, name)
+    own = re.search(rf"(?m)^pub use (?!bz_).*\b(\w+) as {name}\b", text)
+    return crate, own[1] if own else name
+
+
 @functools.cache
-def trusted(engines=False):
-    """The definitions that contracts of public calls stand on, or those of the two engines alone."""
+def surface():
+    """The calls and types that the program surface uses, each with the crate that it is of."""
+    files = sorted((TOP / "crates" / "surface" / "src").glob("*.rt"))
+    return {home(crate, module, name) for file in files for name, crate, module in brought(file.read_text())}
+
+
+@functools.cache
+def trusted(of=None):
+    """The definitions that the contracts of public calls reach: of all, or of these calls and types alone."""
     start = []
     for crate, file in sources():
         single, modules = imports(file.read_text().split("\n"))
         for call, text in contracts(crate, file):
-            if not engines or (crate, call) in ENGINES:
+            if of is None or (crate, call) in of:
                 start += definitions().named(text, single, modules, {})
     return definitions().below(start)
 
 
 def counts():
-    """For each crate that has definitions: its lines, those that public calls stand on, and those that the engines stand on."""
+    """For each crate that has definitions: its lines, those that public calls reach, those that the surface reaches, and those that the
+    engines do."""
     sizes, rows = definitions().sizes, {}
     for crate in CRATES:
         own = [key for key in definitions().texts if key[0].split(".")[0] == crate]
         if own:
-            rows[crate] = [sum(sizes[key] for key in own if key in kept) for kept in (own, trusted(), trusted(True))]
+            reached = (own, trusted(), trusted(frozenset(surface())), trusted(ENGINES))
+            rows[crate] = [sum(sizes[key] for key in own if key in kept) for kept in reached]
     return {**rows, "all": [sum(column) for column in zip(*rows.values())]}
 
 
+def misplaced():
+    """What is wrong with the places of definitions: one of specs/ that names what is in proofs/, or a contract of the surface that does;
+    a file of specs/private/ that a public contract reaches, and one outside of it that none reaches."""
+    wrong, files = [], {}
+    for crate, file in sources():
+        single, modules = imports(file.read_text().split("\n"))
+        of_proofs = {name for name, (module, _) in single.items() if ".proofs." in module}
+        texts = [text for call, text in contracts(crate, file) if (crate, call) in surface()]
+        wrong += [f"{crate}/{file.name} cites {name} of proofs/" for name in of_proofs if any(name in WORD.findall(text) for text in texts)]
+    for key, file in definitions().files.items():
+        files.setdefault(file, []).append(key)
+    for file, keys in files.items():
+        name = file.relative_to(TOP / "crates")
+        is_reached = any(key in trusted() for key in keys)
+        if "formers" in file.parts:
+            continue
+        if file.parent.name == "private" and is_reached:
+            wrong.append(f"{name}: a public contract reaches it")
+        elif file.parent.name != "private" and not is_reached:
+            wrong.append(f"{name}: no public contract reaches it")
+        elif file.parent.name != "private" and re.search(r"(?m)^use Rattle\.bz_\w+\.proofs", file.read_text()):
+            wrong.append(f"{name} cites proofs/")
+    return wrong
+
+
 def main():
-    seen = trusted("--programs" in sys.argv)
+    seen = trusted(ENGINES if "--programs" in sys.argv else None)
     for crate, numbers in counts().items():
         print(f"{crate:14}" + "".join(f" {number:6}" for number in numbers))
         if "--names" in sys.argv:
