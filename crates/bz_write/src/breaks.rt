@@ -62,10 +62,11 @@ fn is_long(kind: Kind, items: &[Expr]) -> bool
 fn is_broken_of(kind: Kind, split: bool, items: &[Expr], end_: &[Text]) -> bool
     ensures { result ≡ layout.is_broken kind split items.now end_.now }
 {
-    if has_comments(items) || !end_.is_empty() || is_long(kind, items) {
+    // The flag first: where it is settled, no item need be looked at.
+    if split && !items.is_empty() {
         return true;
     }
-    split && !items.is_empty()
+    has_comments(items) || !end_.is_empty() || is_long(kind, items)
 }
 
 /// Whether the items of the form's sequence stand on lines of their own.

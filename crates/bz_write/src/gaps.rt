@@ -26,9 +26,8 @@ pub fn push_line(out: &mut Vec<u8>, margin: usize, limit: usize) -> Result<(), M
         return Err(AllocError);
     }
     out.push(b'\n')?;
-    for _column in 0..margin {
-        out.push(b' ')?;
-    }
+    let end = out.len().checked_add(margin).ok_or(AllocError)?;
+    out.resize(end, b' ')?;
     Ok(())
 }
 

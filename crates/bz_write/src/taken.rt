@@ -19,7 +19,8 @@ use std::slice;
 
 /// The tree that `set` makes, of a file value that is given up: each item is dropped when the next one is laid out, so that the whole
 /// value does not stand beside the whole tree. Errors: `TooLarge` exactly where the layout is past the limit of a text, else
-/// `TooDeep` exactly where the tree is past the limit of depth; `Memory`: a growth was refused.
+/// `TooDeep` exactly where the tree is past the limit of depth; `Memory`: a growth was refused. Of
+/// the value nothing is left either way.
 pub fn set_from(alloc: Global, file: File) -> Result<Tree, SetFault>
     ensures drawn { IfOk result (λ tree. tree ≡ drawn file) }
     ensures text { IfOk result (λ tree. spell_node tree ≡ layout file) }
