@@ -1,5 +1,5 @@
 //! What each command on whole attributes makes of the arguments of a rule.
-ghost use Rattle.std.specs.Prelude.{◌≡◌, ◌⊎◌, Ok, Err, OnOk, IfErr, IfOk};
+ghost use Rattle.std.specs.Prelude.{◌≡◌, ◌⊎◌, Ok, Err, OnOk, IfErr};
 ghost use Rattle.std.specs.Option.{option_copied};
 ghost use Rattle.bz_change.specs.Changes.{attributes_changed};
 
@@ -10,8 +10,10 @@ use bz_value::{Expr, Refusal};
 use bz_words::AttributeOperation;
 use std::alloc::Global;
 
-// Changes the arguments in place; after a refusal part of them may be lost.
-fn change_in_place(
+/// What an operation on whole attributes makes of the arguments of a rule. `current` is the path of the file's package, `found` the
+/// value that is copied. Errors: the refusal of the operation; `Memory`: a growth was refused. After an error part of the arguments
+/// may be lost.
+pub fn change_attributes(
     alloc: Global,
     operation: &AttributeOperation,
     current: &[u8],
@@ -47,21 +49,4 @@ fn change_in_place(
             copy(alloc, attribute.as_slice(), found, arguments)
         }
     }
-}
-
-/// What an operation on whole attributes makes of the arguments of a rule, which are given up where it is refused. `current` is the
-/// path of the file's package, `found` the value that is copied. Errors: the refusal of the operation; `Memory`: a growth was
-/// refused.
-pub fn change_attributes(
-    alloc: Global,
-    operation: &AttributeOperation,
-    current: &[u8],
-    found: Option<&Expr>,
-    mut arguments: Items<Expr>,
-) -> Result<Items<Expr>, Refusal>
-    ensures ok { IfOk result (λ new. attributes_changed operation.now current.now (option_copied found.entry) arguments ≡ Ok new) }
-    ensures err { IfErr result (λ refusal. (attributes_changed operation.now current.now (option_copied found.entry) arguments ≡ Err refusal) ⊎ (refusal ≡ Refusal.Memory)) }
-{
-    change_in_place(alloc, operation, current, found, &mut arguments)?;
-    Ok(arguments)
 }

@@ -1,5 +1,5 @@
 //! What a command makes of one rule.
-ghost use Rattle.std.specs.Prelude.{◌≡◌, ◌⊎◌, [], ◌∷◌, Ok, Err, OnOk, IfErr, IfOk};
+ghost use Rattle.std.specs.Prelude.{◌≡◌, ◌⊎◌, [], ◌∷◌, Ok, Err, OnOk, IfErr};
 ghost use Rattle.std.specs.Option.{option_copied};
 ghost use Rattle.bz_rule.specs.Rules.{rule_of};
 ghost use Rattle.bz_tree.specs.declared.kind.Kind.TheVariants as k;
@@ -115,16 +115,20 @@ fn exchange(alloc: Global, part: CallPart, list: &mut Items<Expr>, item: &mut It
 }
 
 /// What an operation makes of the arguments of a rule that it is meant for.
-fn change(work: Work<'_>, arguments: Items<Expr>) -> Result<Items<Expr>, Refusal>
-    ensures ok { IfOk result (λ new. arguments_by work.entry arguments ≡ Ok new) }
-    ensures err { IfErr result (λ refusal. (arguments_by work.entry arguments ≡ Err refusal) ⊎ (refusal ≡ Refusal.Memory)) }
+fn change(work: Work<'_>, arguments: &mut Items<Expr>) -> Result<(), Refusal>
+    ensures ok { OnOk result (arguments_by work.entry arguments.old ≡ Ok arguments.new) }
+    ensures err { IfErr result (λ refusal. (arguments_by work.entry arguments.old ≡ Err refusal) ⊎ (refusal ≡ Refusal.Memory)) }
 {
     let (alloc, current) = (work.alloc, work.current);
     match work.operation {
         Operation::Attribute(operation) => {
             change_attributes(alloc, operation, current, work.found, arguments)
         }
-        Operation::Value(operation) => change_values(alloc, operation, current, arguments),
+        Operation::Value(operation) => {
+            let given = mem::replace(arguments, Items::new(alloc));
+            *arguments = change_values(alloc, operation, current, given)?;
+            Ok(())
+        }
         Operation::Dict(operation) => change_dicts(alloc, operation, current, arguments),
         Operation::Comment(CommentOperation::Add { host, text }) => {
             let change = Change::Add(text.as_slice());
@@ -136,7 +140,7 @@ fn change(work: Work<'_>, arguments: Items<Expr>) -> Result<Items<Expr>, Refusal
         Operation::Comment(CommentOperation::Print { .. })
         | Operation::Rule(_)
         | Operation::Load(_)
-        | Operation::Print { .. } => Ok(arguments),
+        | Operation::Print { .. } => Ok(()),
     }
 }
 
@@ -151,8 +155,8 @@ fn change_rule(work: Work<'_>, item: &mut Item) -> Result<(), Refusal>
     let alloc = work.alloc;
     let mut arguments = Items::new(alloc);
     exchange(alloc, CallPart::Arguments, &mut arguments, item);
-    let mut changed = change(work, arguments)?;
-    exchange(alloc, CallPart::Arguments, &mut changed, item);
+    change(work, &mut arguments)?;
+    exchange(alloc, CallPart::Arguments, &mut arguments, item);
     Ok(())
 }
 

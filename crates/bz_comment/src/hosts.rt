@@ -1,5 +1,5 @@
 //! The comments of hosts among the arguments of a rule, changed.
-ghost use Rattle.std.specs.Prelude.{◌≡◌, ◌⊎◌, Ok, Err, OnOk, IsOk, IfErr, IfOk};
+ghost use Rattle.std.specs.Prelude.{◌≡◌, ◌⊎◌, Ok, Err, OnOk, IsOk, IfErr};
 ghost use Rattle.bz_items.specs.Characters.{Bytes};
 ghost use Rattle.bz_tree.specs.declared.kind.Kind.TheVariants as kinds;
 ghost use Rattle.bz_rule.specs.Rules.{attribute as value_there};
@@ -125,8 +125,10 @@ fn change_item(
     Ok(())
 }
 
-// Changes the arguments in place; where memory was refused they are of no use.
-fn change_in_place(
+/// Changes the comments of a host among the arguments of a rule; the rule itself is no part of them. The errors: the attribute isn't
+/// there, or no item of it is the value (`NoAttribute`); its value is no list, and no sum with one (`NotAList`); memory was refused, and
+/// part of the arguments may be lost.
+pub fn change_comments(
     alloc: Global,
     current: &[u8],
     host: &Host,
@@ -148,23 +150,6 @@ fn change_in_place(
             change_item(alloc, sought, change, arguments)
         }
     }
-}
-
-/// Changes the comments of a host among the arguments of a rule, which are given up where that is refused; the rule itself is no part
-/// of them. The errors: the attribute isn't there, or no item of it is the value (`NoAttribute`); its value is no list, and no sum with
-/// one (`NotAList`); memory was refused.
-pub fn change_comments(
-    alloc: Global,
-    current: &[u8],
-    host: &Host,
-    change: Change<'_>,
-    mut arguments: Items<Expr>,
-) -> Result<Items<Expr>, Refusal>
-    ensures ok { IfOk result (λ new. changed_comments change.entry current.now host.now arguments ≡ Ok new) }
-    ensures err { IfErr result (λ refusal. (changed_comments change.entry current.now host.now arguments ≡ Err refusal) ⊎ (refusal ≡ Refusal.Memory)) }
-{
-    change_in_place(alloc, current, host, change, &mut arguments)?;
-    Ok(arguments)
 }
 
 /// Whether a comment can be put on a host among the arguments of a rule. The errors: those of putting one there, but for memory.

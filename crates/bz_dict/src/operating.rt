@@ -1,5 +1,5 @@
 //! What each command on dicts makes of the arguments of a rule.
-ghost use Rattle.std.specs.Prelude.{◌≡◌, ◌⊎◌, Ok, Err, OnOk, IfErr, IfOk};
+ghost use Rattle.std.specs.Prelude.{◌≡◌, ◌⊎◌, Ok, Err, OnOk, IfErr};
 ghost use Rattle.bz_dict.specs.Dicts.{dicts_changed};
 
 use crate::changing::change_dict;
@@ -11,8 +11,9 @@ use bz_value::{Expr, Refusal};
 use bz_words::DictOperation;
 use std::alloc::Global;
 
-// Changes the arguments in place; after a refusal part of them may be lost.
-fn change_in_place(
+/// What an operation on dicts makes of the arguments of a rule. `current` is the path of the file's package. Errors: `NotADict`: the
+/// attribute's value is no dict; `Memory`: a growth was refused. After an error part of the arguments may be lost.
+pub fn change_dicts(
     alloc: Global,
     operation: &DictOperation,
     current: &[u8],
@@ -34,19 +35,4 @@ fn change_in_place(
             dict_remove(alloc, attribute.as_slice(), keys.as_slice(), arguments)
         }
     }
-}
-
-/// What an operation on dicts makes of the arguments of a rule, which are given up where it is refused. `current` is the path of the
-/// file's package. Errors: `NotADict`: the attribute's value is no dict; `Memory`: a growth was refused.
-pub fn change_dicts(
-    alloc: Global,
-    operation: &DictOperation,
-    current: &[u8],
-    mut arguments: Items<Expr>,
-) -> Result<Items<Expr>, Refusal>
-    ensures ok { IfOk result (λ new. dicts_changed operation.now current.now arguments ≡ Ok new) }
-    ensures err { IfErr result (λ refusal. (dicts_changed operation.now current.now arguments ≡ Err refusal) ⊎ (refusal ≡ Refusal.Memory)) }
-{
-    change_in_place(alloc, operation, current, &mut arguments)?;
-    Ok(arguments)
 }
