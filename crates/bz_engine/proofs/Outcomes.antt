@@ -18,11 +18,11 @@ use Rattle.bz_ports.specs.Faults.{AppendsUnlessFailed}
 use Rattle.bz_ports.specs.Outputs.{Tells}
 use Rattle.bz_ports.specs.Told.{named_line, fault_line}
 use Rattle.bz_ports.proofs.Outputs.{appends_nothing}
-use Rattle.bz_engine.specs.Ending.{Left, Performs, LeftStands}
+use Rattle.bz_engine.specs.Ending.{Left, LeftStands}
 use Rattle.bz_engine.specs.Outcome.{unused, LinesLeave, AreOfInput, AreOfInputAndSome, IsOfInput, NamesNoFile, KeepsJournals, IsScript, told_name, OperandsOutcome, LinesOutcome, TextOutcome, ScriptOutcome, GivenOutcome, LineOutcome, WordsOutcome}
 use Rattle.bz_engine.specs.Run.{World}
 use Rattle.bz_ports.specs.Ports.{IsInput}
-use Rattle.bz_engine.specs.Steps.{all_steps, is_of_input, names_input, input_package}
+use Rattle.bz_engine.specs.Steps.{is_of_input, names_input, input_package}
 use Rattle.bz_engine.specs.Told.{IsUsageLine, IsLineUsageLine, input_line}
 
 -- ---- lines on standard error

@@ -14,7 +14,7 @@ use Rattle.bz_ports.specs.Told.{named_line, fault_line}
 use Rattle.bz_engine.specs.Outcome.{IsScript, told_name}
 use Rattle.bz_engine.specs.Run.{World}
 use Rattle.bz_engine.specs.Steps.{input_package, names_input}
-use Rattle.bz_engine.specs.Told.{IsUsageLine, IsLineUsageLine, input_line, no_journal_line}
+use Rattle.bz_engine.specs.Told.{IsUsageLine, IsLineUsageLine, no_journal_line}
 use Rattle.bz_engine.specs.Usage.{OperandsTell, LinesTell, TextTells, GivenTells, LineTells}
 use Rattle.bz_engine.proofs.Outcomes.{told_once, at_some}
 

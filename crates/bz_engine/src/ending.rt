@@ -1,12 +1,12 @@
 //! What a run leaves after its steps.
-ghost use Rattle.std.specs.Prelude.{◌≡◌, ◌≢◌, ◌⊎◌, ◌++◌, [], ◌∷◌, ℕ, List, Some, None, true, false, map, option_map, if◌then◌else◌, IfOk, IfErr};
+ghost use Rattle.std.specs.Prelude.{◌≡◌, ◌≢◌, ◌⊎◌, ◌++◌, [], ◌∷◌, ℕ, Some, None, true, false, map, option_map, if◌then◌else◌, IfOk, IfErr};
 ghost use Rattle.std.specs.List.{list_any};
 ghost use Rattle.bz_workspace.specs.Sessions.{present};
 ghost use Rattle.bz_ports.specs.Faults.{Rises};
 ghost use Rattle.bz_ports.specs.Outputs.{Counts};
 ghost use Rattle.bz_workspace.specs.Shown.{opened_in, used_in};
 ghost use Rattle.bz_engine.specs.Calls.{TellsLines, PrintsAll, PrintsSome, WorksOn};
-ghost use Rattle.bz_engine.specs.Ending.{differs, has_changed, is_input, goes_out, opened_out, text_out, texts_out, is_written, writing_of, all_writings, WritesFiles, file_kept, fixed_of, all_fixed, fixed_lines, status_of};
+ghost use Rattle.bz_engine.specs.Ending.{differs, has_changed, is_input, goes_out, text_out, texts_out, writing_of, all_writings, WritesFiles, fixed_of, all_fixed, fixed_lines, status_of};
 ghost use Rattle.bz_engine.specs.Shown.{progress_in};
 ghost use Rattle.bz_engine.specs.Told.{fixed_line};
 

@@ -1,22 +1,21 @@
 //! The program buildozer over any reader, writers and files.
-ghost use Rattle.std.specs.Prelude.{bytes_eq, ◌≡◌, ◌≢◌, ◌⊎◌, ◌&&◌, ◌∷◌, [], List, ℕ, Option, true, false, map, Some, Ok, IfOk};
+ghost use Rattle.std.specs.Prelude.{bytes_eq, ◌≡◌, ◌≢◌, ◌⊎◌, ◌&&◌, ◌∷◌, [], List, ℕ, Option, true, map, Some, Ok, IfOk};
 ghost use Rattle.std.specs.List.{All};
 ghost use Rattle.bz_files.specs.Folder.{Folder};
-ghost use Rattle.bz_line.specs.Asked.{Usage};
 ghost use Rattle.bz_line.specs.Asked as a;
-ghost use Rattle.bz_line.specs.Line.{LineUsage, command_line_of};
+ghost use Rattle.bz_line.specs.Line.{command_line_of};
 ghost use Rattle.bz_line.specs.Line.{operands as words_given, script};
 ghost use Rattle.bz_line.specs.Paths.{HasPath};
 ghost use Rattle.bz_line.specs.Script.{script_of};
-ghost use Rattle.bz_line.specs.Shown.{asked_in, usage_in, line_usage_in};
+ghost use Rattle.bz_line.specs.Shown.{asked_in};
 ghost use Rattle.bz_workspace.specs.Keeps.{KeepsFolder};
 ghost use Rattle.bz_engine.specs.Calls.{TellsLines, PrintsAll, PrintsSome, IsStill, ReadsNothing, world_with, world_of, PassesBy, IsEndedOver, LeavesBehind};
 ghost use Rattle.bz_engine.specs.Ending.{Left};
 ghost use Rattle.bz_engine.specs.Moments.{IsMomentOfRun, IsMomentOfSteps};
-ghost use Rattle.bz_engine.specs.Outcome.{StepsLeave, LinesLeave, WordsOutcome, OperandsOutcome, LinesOutcome, TextOutcome, ScriptOutcome, AreOfInput, AreOfInputAndSome, IsOfInput, GivesNothing, KeepsJournals, LineGivesNothing, NamesNoFile, TakesNoFile, TakesNoInput, TakesScript};
+ghost use Rattle.bz_engine.specs.Outcome.{LinesLeave, WordsOutcome, OperandsOutcome, TextOutcome, ScriptOutcome, AreOfInput, AreOfInputAndSome, IsOfInput, GivesNothing, KeepsJournals, LineGivesNothing, NamesNoFile, TakesNoFile, TakesNoInput, TakesScript};
 ghost use Rattle.bz_engine.specs.Steps.{all_steps, input_package, names_input};
-ghost use Rattle.bz_engine.specs.Told.{IsUsageLine, IsLineUsageLine, no_journal_line};
-ghost use Rattle.bz_engine.specs.Usage.{OperandsTell, LinesTell, TextTells, GivenTells, LineTells};
+ghost use Rattle.bz_engine.specs.Told.{no_journal_line};
+ghost use Rattle.bz_engine.specs.Usage.{OperandsTell, TextTells, GivenTells, LineTells};
 
 use crate::ending::finish;
 use crate::run::begun;

@@ -1,12 +1,9 @@
 //! Files of lines.
 ghost use Rattle.std.specs.Prelude.{◌≡◌, ◌≢◌, ℕ, Some, None, true, IfOk, IfErr};
-ghost use Rattle.std.specs.FinMap.{get};
 ghost use Rattle.bz_ports.specs.Outputs.{Counts};
 ghost use Rattle.bz_engine.specs.Calls.{world_of, AreCutOver};
 ghost use Rattle.bz_workspace.specs.Keeps.{KeepsFolder};
-ghost use Rattle.bz_engine.specs.Cuts.{AreCutBy};
 ghost use Rattle.bz_engine.specs.Outcome.{IsScript, told_name};
-ghost use Rattle.bz_ports.specs.Ports.{IsInput};
 ghost use Rattle.bz_engine.specs.Steps.{input_package};
 
 use bz_files::{FileFault, Files};

@@ -45,7 +45,7 @@ pub refused : (A : Type 0) (slice text : List ℕ) (fault : ReadFault) → slice
 refused A slice text fault same none large coding =
     subst (λ (t : List ℕ). Refused t fault) same (refused_text A slice fault (memory_or fault) none large coding)
 
-pub refused_takes : (current name text : List ℕ) (fault : ReadFault) (memory : Bool) → Refused text fault → (fault ≡ f.Memory → memory ≡ true) → memory ≡ false
+pub refused_takes : (current name text : List ℕ) (fault : ReadFault) → Refused text fault → (fault ≡ f.Memory → ⊥)
     → Takes current name text None (fault_line name fault ∷ [])
-refused_takes current name text fault memory (inl is) told other = absurd (true≢false (sym (told is) ∙ other))
-refused_takes current name text fault memory (inr of_text) told other = inr (of_text.0, (fault, of_text.1, refl, refl))
+refused_takes current name text fault (inl is) other = absurd (other is)
+refused_takes current name text fault (inr of_text) other = inr (of_text.0, (fault, of_text.1, refl, refl))

@@ -201,18 +201,21 @@ all_read told bytes most less is =
     let short : length (take most bytes) < most = subst (λ (it : Bytes). length it < most) is less in
     is ∙ take_all most bytes (omega (arith, short, length-take most bytes))
 
-pub read_beside : (folder : Folder) (current name journal told bytes text : Bytes) (given : Result History ResumeFault) (most : ℕ) → journal ≡ journal_name name
-    → get folder journal ≡ Some bytes → length told < most → told ≡ take most bytes → JournalGives current told text given
-    → TakesBeside (journal_beside true folder name) current name text (file_of_journal name text given) (lines_of_journal name given)
-read_beside folder current name journal told bytes text given most called held less is gives =
-    let there : get folder (journal_name name) ≡ Some told = ap (get folder) (sym called) ∙ held ∙ ap Some (sym (all_read told bytes most less is)) in
+pub read_beside : (journals : Bool) (folder : Folder) (current name journal told bytes text : Bytes) (given : Result History ResumeFault) (most : ℕ) → journals ≡ true
+    → journal ≡ journal_name name → get folder journal ≡ Some bytes → length told < most → told ≡ take most bytes → JournalGives current told text given
+    → TakesBeside (journal_beside journals folder name) current name text (file_of_journal name text given) (lines_of_journal name given)
+read_beside journals folder current name journal told bytes text given most kept called held less is gives =
+    let there : journal_beside journals folder name ≡ Some told =
+    ap (λ (b : Bool). journal_beside b folder name) kept ∙ ap (get folder) (sym called) ∙ held ∙ ap Some (sym (all_read told bytes most less is)) in
     subst (λ (beside : Option Bytes). TakesBeside beside current name text (file_of_journal name text given) (lines_of_journal name given)) (sym there)
     (given, gives, refl, refl)
 
-pub none_beside : (folder : Folder) (current name journal text : Bytes) (file : Option Opened) (lines : List Bytes) → journal ≡ journal_name name
-    → get folder journal ≡ None → Takes current name text file lines → TakesBeside (journal_beside true folder name) current name text file lines
-none_beside folder current name journal text file lines called held takes =
-    subst (λ (beside : Option Bytes). TakesBeside beside current name text file lines) (sym (ap (get folder) (sym called) ∙ held)) takes
+pub none_beside : (journals : Bool) (folder : Folder) (current name journal text : Bytes) (file : Option Opened) (lines : List Bytes) → journals ≡ true
+    → journal ≡ journal_name name → get folder journal ≡ None → Takes current name text file lines
+    → TakesBeside (journal_beside journals folder name) current name text file lines
+none_beside journals folder current name journal text file lines kept called held takes =
+    let there : journal_beside journals folder name ≡ None = ap (λ (b : Bool). journal_beside b folder name) kept ∙ ap (get folder) (sym called) ∙ held in
+    subst (λ (beside : Option Bytes). TakesBeside beside current name text file lines) (sym there) takes
 
 pub plain_beside : (journals : Bool) (folder : Folder) (current name text : Bytes) (file : Option Opened) (lines : List Bytes) → journals ≡ false
     → Takes current name text file lines → TakesBeside (journal_beside journals folder name) current name text file lines

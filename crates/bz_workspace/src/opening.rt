@@ -145,17 +145,6 @@ fn cut_of(fault: &ResumeFault) -> Cut
     }
 }
 
-/// Whether memory was refused.
-pub(crate) fn is_memory(fault: &ReadFault) -> bool
-    ensures yes { result ≡ true → fault.now ≡ ReadFault.Memory }
-    ensures other { fault.now ≡ ReadFault.Memory → result ≡ true }
-{
-    match fault {
-        ReadFault::Memory => true,
-        _ => false,
-    }
-}
-
 // Tells what may be done where a journal stands nowhere for the text of its file.
 fn tell_hint<E: Sink>(err: &mut E, journal: &str, fault: &ResumeFault)
     ensures { Tells (E.faults err.old) (E.faults err.new) (E.contents err.old) (E.contents err.new) (hints_of_journal journal.now fault.now) }

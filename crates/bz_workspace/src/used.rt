@@ -113,40 +113,6 @@ pub struct Used {
     pub file: Option<Opened>,
 }
 
-impl Used {
-    /// Does an action with a note in the file, which is open. Errors: those of `Editor::act_noted`.
-    fn act(&mut self, action: &Action<'_>, note: &str) -> Result<Reply, Refusal>
-        requires { IsSome self.old.file }
-        ensures { (file : p.Opened) × (history : History) × ((used_in self.old).file ≡ Some file)
-            × Acts (action_in action.now) note.now file.history result history
-            × (used_in self.new ≡ record (used_in self.old) { file = Some (record file { history = history }) }) }
-    {
-        match &mut self.file {
-            Some(opened) => opened.editor.act_noted(action, note),
-            None => unreachable!(),
-        }
-    }
-
-    /// The same, and its journal and it are kept. Errors: those of `Editor::keep_noted`.
-    fn keep<F: Files>(
-        &mut self,
-        action: &Action<'_>,
-        note: &str,
-        files: &mut F,
-    ) -> Result<Reply, KeepFault>
-        requires { IsSome self.old.file }
-        ensures { (file : p.Opened) × (history : History) × ((used_in self.old).file ≡ Some file)
-            × Keeps (action_in action.now) note.now file.history result history
-            × (used_in self.new ≡ record (used_in self.old) { file = Some (after_keeping result history file) })
-            × KeepsFile F.Files file.name file.history history result files.old files.new }
-    {
-        match &mut self.file {
-            Some(opened) => opened.keep(action, note, files),
-            None => unreachable!(),
-        }
-    }
-}
-
 /// The package with this number has this file from now on.
 pub(crate) fn put_file(used: &mut Vec<Used>, place: usize, file: Option<Opened>)
     requires { place < length used.old.items }
@@ -176,7 +142,10 @@ pub(crate) fn act_at(
     requires there { IsSome (file_at place (map used_in used.old.items)) }
     ensures { ActsAt place (action_in action.now) note.now (map used_in used.old.items) result (map used_in used.new.items) }
 {
-    used[place].act(action, note)
+    match &mut used[place].file {
+        Some(opened) => opened.editor.act_noted(action, note),
+        None => unreachable!(),
+    }
 }
 
 /// The same, and its journal and it are kept.
@@ -191,5 +160,8 @@ pub(crate) fn keep_at<F: Files>(
     requires there { IsSome (file_at place (map used_in used.old.items)) }
     ensures { KeepsAt F.Files place (action_in action.now) note.now (map used_in used.old.items) result (map used_in used.new.items) files.old files.new }
 {
-    used[place].keep(action, note, files)
+    match &mut used[place].file {
+        Some(opened) => opened.keep(action, note, files),
+        None => unreachable!(),
+    }
 }

@@ -16,15 +16,14 @@ ghost use Rattle.bz_workspace.specs.Packages as p;
 ghost use Rattle.bz_workspace.specs.Packages.{file_at, package_number, with_opened};
 ghost use Rattle.bz_workspace.specs.Shown.{opened_in, used_in};
 
-use crate::opening::{
-    bytes_of, fail, is_memory, name_in, opened, resumed, unnamed, unresumed, without_file,
-};
+use crate::opening::{bytes_of, fail, name_in, opened, resumed, unnamed, unresumed, without_file};
 use crate::used::{act_at, keep_at, place_of_open, put_file};
 use crate::{Opened, Opening, Used};
 use bz_files::{FileFault, Files};
 use bz_items::{Memory, Text, at};
 use bz_journal::{Action, KeepFault, Reply};
 use bz_keep::journal_name;
+use bz_lex::ReadFault;
 use bz_ports::{Cut, MOST, Sink, tell_fault, tell_named};
 use bz_value::Refusal;
 use indexmap::IndexSet;
@@ -166,57 +165,17 @@ impl Workspace {
             Err(fault) => fault,
         };
         tell_fault(err, name, &fault);
-        if is_memory(&fault) {
-            return without_file(Cut::Memory);
-        }
-        put_file(&mut self.used, place, None);
-        without_file(Cut::Whole)
-    }
-
-    /// Opens the file of a used package with what was read of it: its journal is read, and resumed where it is there. A journal may be
-    /// of any length, so it is read whole.
-    fn open_kept<F: Files, E: Sink>(
-        &mut self,
-        place: usize,
-        package: &str,
-        name: &str,
-        text: Vec<u8>,
-        files: &mut F,
-        err: &mut E,
-    ) -> Opening
-        requires short { length «package».now ≤ 65536 }
-        requires within { place < length self.old }
-        requires closed { file_at place self.old ≡ None }
-        ensures whole { F.honest files.old ≡ true → result.cut ≡ Cut.Whole → (file : Option p.Opened) × (lines : List Bytes)
-            × TakesBeside (journal_beside true (F.folder files.old) name.now) «package».now name.now text.items file lines
-            × (self.new ≡ with_opened place file self.old)
-            × (result.place ≡ option_map (λ _. place) file)
-            × Tells (E.faults err.old) (E.faults err.new) (E.contents err.old) (E.contents err.new) lines }
-        ensures puts { Puts place (λ file. F.honest files.old ≡ true → TakesBeside (journal_beside true (F.folder files.old) name.now) «package».now name.now text.items (Some file) []) result.place self.old self.new }
-        ensures folder { F.honest files.old ≡ true → F.folder files.new ≡ F.folder files.old }
-        ensures time { F.honest files.old ≡ true → KeepsFolder F.Files files.old files.new }
-        ensures cut { (result.cut ≡ Cut.Whole) ⊎ (result.cut ≡ Cut.Memory) ⊎ ((result.cut ≡ Cut.Files) × Rises (F.faults files.old) (F.faults files.new)) }
-        ensures steady { result.cut ≡ Cut.Whole → F.faults files.new ≡ F.faults files.old }
-        ensures counts { Counts (F.faults files.old) (F.faults files.new) }
-        ensures honest { F.honest files.new ≡ F.honest files.old }
-    {
-        let alloc = *self.used.allocator();
-        let Ok(journal) = journal_name(alloc, name) else {
-            return fail(err, name, "Memory", Cut::Memory);
-        };
-        let journal = journal.as_str();
-        match bytes_of(alloc, files, journal, usize::MAX) {
-            Ok(bytes) => match resumed(alloc, package, name, bytes.as_slice(), text) {
-                Ok(file) => self.put(place, file),
-                Err(fault) => unresumed(err, journal, &fault),
-            },
-            Err(FileFault::Absent) => self.open_text(place, package, name, text, err),
-            Err(FileFault::Memory) => fail(err, journal, "Memory", Cut::Memory),
-            Err(_) => fail(err, journal, "cannot open", Cut::Files),
+        match fault {
+            ReadFault::Memory => without_file(Cut::Memory),
+            _ => {
+                put_file(&mut self.used, place, None);
+                without_file(Cut::Whole)
+            }
         }
     }
 
-    /// Opens the file of a used package with what was read of it, and resumes its journal where journals are kept.
+    /// Opens the file of a used package with what was read of it, and resumes its journal where journals are kept and it is there. A journal
+    /// may be of any length, so it is read whole.
     fn open_found<F: Files, E: Sink>(
         &mut self,
         place: usize,
@@ -243,10 +202,22 @@ impl Workspace {
         ensures counts { Counts (F.faults files.old) (F.faults files.new) }
         ensures honest { F.honest files.new ≡ F.honest files.old }
     {
-        if journals {
-            self.open_kept(place, package, name, text, files, err)
-        } else {
-            self.open_text(place, package, name, text, err)
+        if !journals {
+            return self.open_text(place, package, name, text, err);
+        }
+        let alloc = *self.used.allocator();
+        let Ok(journal) = journal_name(alloc, name) else {
+            return fail(err, name, "Memory", Cut::Memory);
+        };
+        let journal = journal.as_str();
+        match bytes_of(alloc, files, journal, usize::MAX) {
+            Ok(bytes) => match resumed(alloc, package, name, bytes.as_slice(), text) {
+                Ok(file) => self.put(place, file),
+                Err(fault) => unresumed(err, journal, &fault),
+            },
+            Err(FileFault::Absent) => self.open_text(place, package, name, text, err),
+            Err(FileFault::Memory) => fail(err, journal, "Memory", Cut::Memory),
+            Err(_) => fail(err, journal, "cannot open", Cut::Files),
         }
     }
 

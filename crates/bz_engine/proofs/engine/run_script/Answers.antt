@@ -1,6 +1,5 @@
 use Rattle.std.proofs.Common.{◌≡◌, ap, sym, ◌∙◌}
 use Rattle.bz_files.specs.Folder.{Folder}
-use Rattle.bz_line.specs.Line.{script}
 use Rattle.bz_engine.specs.Run.{World}
 use Rattle.bz_engine.proofs.Outcomes.{script_unread, script_done}
 use Rattle.bz_engine.proofs.MomentSteps.{by_no_script, by_script}

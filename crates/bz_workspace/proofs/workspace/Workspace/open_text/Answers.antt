@@ -12,14 +12,14 @@ pub invariant_of-self : goal.invariant_of-self
 invariant_of-self g c = kept_by (texts_of_keys c.self.inside.names.keys) c.args.place None
     (map used_in c.self.inside.used.items) (map used_in c.put_file.new.used.items) c.self.invariant c.put_file.ensures
 
-pub returns-clause-whole : goal.returns-clause-whole
-returns-clause-whole g c = λ _.
+pub returns-in_default-clause-whole : goal.returns-in_default-clause-whole
+returns-in_default-clause-whole g c = λ _.
     let name = c.args.name.now in
     let fault = c.in-Err.fault in (
       None,
       fault_line name fault ∷ [],
-      refused_takes c.args.package.now name c.args.text.items fault c.is_memory.result c.in-Err.ensures.err c.is_memory.ensures.other c.if-is_memory.false,
+      refused_takes c.args.package.now name c.args.text.items fault c.in-Err.ensures.err c.in_default.not-Memory,
       c.put_file.ensures ∙ ap (with_opened c.args.place None) c.self.view_is,
-      ap (λ (o : Opening). o.place) c.without_file-2.ensures,
+      ap (λ (o : Opening). o.place) c.without_file-in_default.ensures,
       (g.E.Sink.faults c.tell_fault.new.err, g.E.Sink.contents c.tell_fault.new.err, c.tell_fault.ensures, (refl, refl)),
     )
