@@ -1,11 +1,12 @@
 -- The fault that is told where a text is no .bzl file.
-use Rattle.std.proofs.Common.{◌≡◌, ◌⊎◌, ◌↔◌, ◌≤◌, ◌<◌, inl, inr, ℕ, List, length, Result, Err, refl, sym, ap, subst}
+use Rattle.std.proofs.Common.{◌≡◌, ◌⊎◌, ◌↔◌, ◌≤◌, ◌<◌, inl, inr, ℕ, List, length, Result, Err, refl, sym, subst}
 use Rattle.std.specs.Str.{IsValidUpTo}
 use Rattle.bz_lex.specs.declared.fault.ReadFault.{ReadFault}
 use Rattle.bz_lex.specs.declared.fault.ReadFault.TheVariants as f
 use Rattle.bz_tree.specs.Faults.{IsOfText}
 use Rattle.bz_tree.specs.Legal.{NoBzlTree}
 use Rattle.bz_tree.specs.Spell.{limit}
+use Rattle.bz_formatter.proofs.Untold.{fault_of_text}
 use Rattle.bz_formatter.specs.declared.formatter.FormatFault.{FormatFault}
 use Rattle.bz_formatter.specs.declared.formatter.FormatFault.TheVariants.{Unread, Memory}
 use Rattle.bz_format.specs.Formatted.{Says}
@@ -21,10 +22,6 @@ pub unread_says : (A : Type 0) (text : List ℕ) (fault : ReadFault) (told : For
     → Says text (Err told)
 unread_says A text fault told (inl of_text) none large coding = subst (λ (t : FormatFault). Says text (Err t)) (sym of_text.0) (
   refused_text text fault none of_text.1,
-  record {
-    too_large = (λ is. large.0 (ap Err is), λ long. let e = large.1 long in cc);
-    not_utf8 = λ at. ((λ is. (coding at).0 (ap Err is)), λ short. let e = (coding at).1 short in cc);
-    other = of_text.1;
-  },
+  fault_of_text A text fault large coding of_text.1,
 )
 unread_says A text fault told (inr memory) none large coding = subst (λ (t : FormatFault). Says text (Err t)) (sym memory) tt

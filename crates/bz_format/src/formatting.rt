@@ -1,27 +1,16 @@
 //! Formatting a text.
-ghost use Rattle.std.specs.Prelude.{◌≡◌, ◌≢◌, ◌⊎◌, IfOk, IfErr, Ok, Err};
+ghost use Rattle.std.specs.Prelude.{◌≡◌, IfOk, IfErr, Ok, Err};
 ghost use Rattle.bz_format.specs.Formatted.{FormatsBzlTo, IsFormattedBzl, Says};
 
 use crate::chunks::chunks_formatted;
 use crate::laws::formatted_bzl_once;
-use bz_formatter::FormatFault;
+use bz_formatter::{FormatFault, unread};
 use bz_indent::{level, level_keeps_layout, level_stays, set_bzl};
 use bz_items::Text;
 use bz_parse::parse_bzl;
 use bz_suite::{BzlFile, bzl_view_is_proper, view_bzl};
-use bz_tree::ReadFault;
 use bz_write::SetFault;
 use std::alloc::Global;
-
-/// What is told of a text that is not read.
-fn unread(fault: ReadFault) -> FormatFault
-    ensures { ((result ≡ FormatFault.Unread fault) × (fault ≢ ReadFault.Memory)) ⊎ (result ≡ FormatFault.Memory) }
-{
-    match fault {
-        ReadFault::Memory => FormatFault::Memory,
-        fault => FormatFault::Unread(fault),
-    }
-}
 
 /// What a text says.
 fn said(alloc: Global, text: &[u8]) -> Result<BzlFile, FormatFault>

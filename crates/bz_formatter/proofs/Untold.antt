@@ -15,7 +15,7 @@ pub refused_text : (text : List ℕ) (fault : ReadFault) → (IsOfText fault →
 refused_text text f.Memory none memory accepted = memory refl
 refused_text text _ none memory accepted = none tt accepted.0 accepted.1
 
-fault_of_text : (A : Type 0) (text : List ℕ) (fault : ReadFault)
+pub fault_of_text : (A : Type 0) (text : List ℕ) (fault : ReadFault)
     → (◌≡◌ {A = Result A ReadFault} (Err fault) (Err f.TooLarge) ↔ (limit < length text))
     → ((at : ℕ) → (◌≡◌ {A = Result A ReadFault} (Err fault) (Err (f.NotUtf8 at)) ↔ ((length text ≤ limit) × IsValidUpTo text at)))
     → (fault ≡ f.Memory → ⊥) → IsFaultOf text fault

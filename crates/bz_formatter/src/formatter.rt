@@ -30,7 +30,8 @@ pub enum FormatFault {
     Memory,
 }
 
-fn unread(fault: ReadFault) -> FormatFault
+/// Why there is no formatted text of a text that is not read.
+pub fn unread(fault: ReadFault) -> FormatFault
     ensures { ((result ≡ FormatFault.Unread fault) × (fault ≢ ReadFault.Memory)) ⊎ (result ≡ FormatFault.Memory) }
 {
     match fault {

@@ -1,10 +1,9 @@
 -- Items of a .bzl file below others.
-use Rattle.std.proofs.Common.{ℕ, zero, suc, max, ◌≤◌, ◌≡◌, List, [], ◌∷◌, ◌++◌, refl, sym, ap, ◌∙◌, append_assoc, append-nil, arith}
+use Rattle.std.proofs.Common.{ℕ, zero, suc, ◌≤◌, ◌≡◌, List, [], ◌∷◌, ◌++◌, sym, ap, ◌∙◌, append_assoc, append-nil, arith}
 use Rattle.bz_items.specs.Characters.{Bytes}
 use Rattle.bz_suite.specs.declared.value.BzlItem.{BzlItem}
 use Rattle.bz_suite.specs.declared.value.BzlItem.TheVariants as b
 use Rattle.bz_indent.specs.Depths.{depth_bzl_items}
-use Rattle.bz_indent.specs.Drawn.{bzl_drawn}
 use Rattle.bz_indent.specs.Joined.{BzlLayoutsJoin, BzlDepthsJoin}
 use Rattle.bz_indent.specs.Layout.{bzl_item_text, before_others, bzl_layout}
 use Rattle.bz_indent.proofs.Depths.{bzl_drawn_depth}

@@ -11,7 +11,6 @@ use Rattle.bz_tree.specs.declared.tree.Part.TheVariants as p
 use Rattle.bz_tree.specs.Spell.{leaves_part}
 use Rattle.bz_tree.proofs.Spells.{leaves_Node}
 use Rattle.bz_tree.specs.Joined.{last_token, AreWholeLines, file_with, BzlLinesJoin}
-use Rattle.bz_value.specs.declared.value.Item.{Item}
 use Rattle.bz_value.specs.Gaps.{before_groups, comments_in, all_in, groups_of, all_but_last, last_group}
 use Rattle.bz_value.specs.Indented.{indented}
 use Rattle.bz_view.specs.View.{blocks, seen, first_seen_gap}
