@@ -20,7 +20,7 @@ struct Chunk {
     file: BzlFile,
     /// Its length.
     len: usize,
-    /// It begins without comments, so that it may stand after another one.
+    /// It begins without comments, so that it may follow another one.
     bare: bool,
     /// It ends with a statement, so that another one may stand after it.
     ends: bool,
