@@ -19,4 +19,4 @@ pub use laws::{commands_are_listed, comments_stay, worked_commands, worked_effec
 pub use lines::{lines_matter, looks_at_lines};
 pub use outcome::{Extent, Outcome, Ran, Spliced};
 pub use proper_laws::effects_stay_proper;
-pub use running::{run, run_in};
+pub use running::{run, run_in, run_named};

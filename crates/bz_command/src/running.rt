@@ -205,12 +205,29 @@ fn change_copy(
     }
 }
 
-/// The effect of a command on the rules that the target means, on a copy of the file where it may change. Where an index of the
-/// names of the file's rules is there a target that is a name is not sought among its items.
+/// The effect of a command on the rules that the target means, on a copy of the file where it may change.
 /// `current` is the path of the file's package, `lines` the lines on which its statements begin, from 1. The outcome holds no
 /// file exactly where the effect is the same value, and what is printed of the rules where the command prints.
 /// Errors: the effect's refusal; `Memory`: a growth was refused.
 pub fn run(
+    alloc: Global,
+    command: &Command,
+    target: &Target,
+    current: &[u8],
+    lines: &[u32],
+    file: &File,
+) -> Result<Outcome, Refusal>
+    ensures ok { IfOk result (λ outcome. effect command.now target.now current.now lines.now file.now ≡ Ok (unwrap_or outcome.file file.now)) }
+    ensures unchanged { IfOk result (λ outcome. (outcome.file ≡ None) ↔ (effect command.now target.now current.now lines.now file.now ≡ Ok file.now)) }
+    ensures printed { IfOk result (λ outcome. printed command.now target.now current.now lines.now file.now ≡ Ok outcome.printed) }
+    ensures err { IfErr result (λ refusal. (effect command.now target.now current.now lines.now file.now ≡ Err refusal) ⊎ (refusal ≡ Refusal.Memory)) }
+{
+    run_named(alloc, command, target, current, lines, None, file)
+}
+
+/// The same of a file of which there may be an index of the names of its rules: with it a target that is a name is not sought among the
+/// items.
+pub fn run_named(
     alloc: Global,
     command: &Command,
     target: &Target,

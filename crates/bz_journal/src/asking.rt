@@ -8,7 +8,7 @@ use crate::action::Reply;
 use crate::beside::Beside;
 use crate::course::{Course, unchanged};
 use crate::meaning::{lines_for, told, value_of};
-use bz_command::{Outcome, looks_at_lines, run};
+use bz_command::{Outcome, looks_at_lines, run_named};
 use bz_formatter::reads_back;
 use bz_items::{Items, Memory};
 use bz_label::{Target, Which};
@@ -60,10 +60,10 @@ fn run_beside(
     let Some(lines) = &lookups.lines else {
         let lines = lines_for(alloc, command, target, tree)?;
         let lines = lines.as_slice();
-        return run(alloc, command, target, current, lines, names, file);
+        return run_named(alloc, command, target, current, lines, names, file);
     };
     let lines = lines.as_slice();
-    run(alloc, command, target, current, lines, names, file)
+    run_named(alloc, command, target, current, lines, names, file)
 }
 
 /// What a command answers of the value of the present text; none where it would change that.
