@@ -1,7 +1,7 @@
 -- The worked text is accepted, and `set size small` means the other text of it, by computation.
 use Rattle.std.specs.Str.{is_utf8, chars}
 use lib.Utf8.{encode}
-use Rattle.std.proofs.Common.{◌≡◌, ◌≤◌, inl, inr, ℕ, List, [], ◌∷◌, length, take, drop, codes, bytes_eq, leb-true, Bool, true, false, IsUtf8, Some, None, refl, ap, true≢false}
+use Rattle.std.proofs.Common.{◌≡◌, inl, inr, ℕ, List, [], ◌∷◌, length, take, drop, codes, bytes_eq, leb-true, Bool, true, false, IsUtf8, Some, None, refl, ap, true≢false}
 use Rattle.std.proofs.lemmas.Str.{IsUtf8-from_is_utf8}
 use Rattle.bz_token.specs.declared.class.Class.{Class}
 use Rattle.bz_token.specs.declared.class.Class.TheVariants as c
@@ -18,7 +18,7 @@ use Rattle.bz_tree.specs.declared.tree.Node.{Node}
 use Rattle.bz_tree.specs.declared.tree.Part.{Part}
 use Rattle.bz_tree.specs.declared.tree.Part.TheVariants as p
 use Rattle.bz_tree.specs.Legal.{Accepted, LegalPart, LegalShapes, Reads}
-use Rattle.bz_tree.specs.Spell.{spell_node, leaves_of, depth_of, depth_limit, limit}
+use Rattle.bz_tree.specs.Spell.{leaves_of, depth_of, depth_limit, limit}
 use Rattle.bz_tree.specs.Spots.{Begins, Within, AtLeaves, AtParts, Stands, AreTokens}
 use Rattle.bz_value.specs.declared.value.Item.{Item}
 use Rattle.bz_items.specs.Characters.{Bytes}
@@ -42,10 +42,6 @@ call = node k.Call (leaf c.Name (codes "f") ∷ leaf c.Mark (codes "(") ∷ argu
 
 abbrev tree : Node
 tree = record { kind = k.File; parts = node k.Line (node k.Bare (call ∷ []) ∷ leaf c.Newline (codes "\n") ∷ []) ∷ leaf c.End [] ∷ [] }
-
-spelled : spell_node tree ≡ text_read
-unfolding Rattle.bz_tree.specs.declared.tree.Part.TheBlock.hidden-the_row-Part-0 denote.Hole.Carrier.hidden
-spelled = refl
 
 shapes : LegalShapes tree
 unfolding Rattle.bz_tree.specs.declared.tree.Part.TheBlock.hidden-the_row-Part-0 denote.Hole.Carrier.hidden
@@ -83,12 +79,13 @@ coded =
     let value : AreCoded (drop 3 (leaves_of tree)) = (coded_leaf (codes "=") refl, (coded_leaf (codes "\"x\"") refl, (coded_leaf (codes ")") refl, (coded_leaf (codes "\n") refl, (coded_leaf [] refl, tt))))) in
     (coded_leaf (codes "f") refl, (coded_leaf (codes "(") refl, (coded_leaf (codes "name") refl, value)))
 
-deep : depth_of tree ≤ depth_limit
-unfolding Rattle.bz_tree.specs.declared.tree.Part.TheBlock.hidden-the_row-Part-0 denote.Hole.Carrier.hidden
-deep = leb-true (depth_of tree) depth_limit refl
-
 reads : Reads text_read tree
-reads = (record { file = record { root = refl; shapes = shapes }; gaps = gaps; tokens = tokens; coded = coded; depth = deep }, spelled, leb-true (length text_read) limit refl)
+unfolding Rattle.bz_tree.specs.declared.tree.Part.TheBlock.hidden-the_row-Part-0 denote.Hole.Carrier.hidden
+reads = (
+  record { file = record { root = refl; shapes = shapes }; gaps = gaps; tokens = tokens; coded = coded; depth = leb-true (depth_of tree) depth_limit refl },
+  refl,
+  leb-true (length text_read) limit refl,
+)
 
 pub accepted : Accepted text_read
 accepted = (tree, reads)
