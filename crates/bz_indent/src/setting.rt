@@ -20,7 +20,7 @@ use bz_write::SetFault;
 use std::alloc::Global;
 
 /// Appends the layout of what a .bzl file says to a text, below an item where one is given. None: a growth was refused, or the text or
-/// the tree of the layout would be past a limit; what was appended by then is not told.
+/// the tree of the layout would be past a limit; what was appended by then is not said.
 #[tactic(auto, using(crate::proofs::Depths::bzl_drawn_depth))]
 pub fn append_bzl(out: &mut Vec<u8>, above: &Option<BzlItem>, file: &BzlFile) -> Option<()>
     ensures text { IfSome result (λ _. out.new.items ≡ out.old.items ++ (bzl_gap_below above.now file.now.items ++ bzl_layout file.now.items)) }
