@@ -50,9 +50,6 @@ module _ {A B : Type 0} (f : A → B) where
   pub all_first : (count : ℕ) (ds : List B) (xs : List A) → ds ≡ map f (take (length ds) xs) → length ds ≡ count → count ≡ length xs → ds ≡ map f xs
   all_first count ds xs known here there = known ∙ ap (map f) (take_all (length ds) xs (omega (arith, here, there)))
 
-  pub first_of_all : (ds : List B) (xs : List A) → ds ≡ map f xs → ds ≡ map f (take (length ds) xs)
-  first_of_all ds xs known = known ∙ ap (map f) (sym (take_all (length ds) xs (omega (arith, ap length known, length-map xs f))))
-
 -- the digest of the next text
 pub learn_next : (number : ℕ) (first made texts : List Bytes) (text digest : Bytes) → first ≡ map sha256 (take (length first) texts) → length first ≡ number → number < length texts
     → slice_index_or texts number [] ≡ text → digest ≡ sha256 text → made ≡ first ++ digest ∷ [] → made ≡ map sha256 (take (length made) texts)
@@ -82,8 +79,3 @@ first_cut answer h after n digests made went is at known cut =
 
 pub first_stay : (answer : Answer) (h after : History) (digests : List Bytes) → Goes answer h after → (answer ≡ Ok Changed → ⊥) → AreFirstDigests digests h.texts → AreFirstDigests digests after.texts
 first_stay answer h after digests went other known = subst (λ (ts : List Bytes). AreFirstDigests digests ts) (sym (went.old other)) known
-
--- those of all texts are there yet
-pub all_still : (digests made texts : List Bytes) → digests ≡ map sha256 texts → AreFirstDigests made texts → length digests ≤ length made → made ≡ map sha256 texts
-all_still digests made texts known first more =
-    first ∙ ap (map sha256) (take_all (length made) texts (omega (arith, more, ap length known, length-map texts sha256)))

@@ -1,5 +1,5 @@
 -- What keeping an action leaves, by its ways out.
-use Rattle.std.proofs.Common.{◌≡◌, ◌≢◌, ◌⊎◌, ◌≤◌, ◌∙◌, inl, inr, List, true, Some, Ok, Err, refl, sym, ap, subst, arith}
+use Rattle.std.proofs.Common.{◌≡◌, ◌≢◌, ◌⊎◌, ◌≤◌, ◌∙◌, inl, inr, ℕ, List, true, Option, Result, Some, Ok, Err, refl, sym, ap, subst, arith}
 use Rattle.std.specs.Prelude.{IsErrOf}
 use Rattle.std.specs.FinMap.{get}
 use Rattle.bz_edit.specs.declared.edit.Edit.{Edit}
@@ -18,7 +18,8 @@ use Rattle.bz_journal.specs.declared.action.Reply.{Reply}
 use Rattle.bz_journal.specs.declared.keeping.KeepFault.{KeepFault}
 use Rattle.bz_journal.specs.declared.keeping.KeepFault.TheVariants.{Pair, Refused}
 use Rattle.bz_journal.specs.History.{Answer, History, present}
-use Rattle.bz_journal.specs.Keeping.{HasActed, KeepsPair}
+use Rattle.bz_journal.specs.declared.keeping.Written.{Written}
+use Rattle.bz_journal.specs.Keeping.{HasActed, IsWrittenOf, IsWrittenSince, KeepsPair}
 use Rattle.bz_journal.specs.Lasting.{IsSavedSession, saved}
 use Rattle.bz_journal.specs.Shown.{session_history}
 use Rattle.bz_journal.specs.State.{SessionState}
@@ -49,6 +50,15 @@ pub acted_as : (action : Action) (note : Bytes) (s : SessionState) (answer other
     → HasActed action note s answer t → HasActed action note s other u
 acted_as action note s answer other t u same stays acted =
     subst (λ (v : SessionState). HasActed action note s other v) (sym stays) (subst (λ (a : Answer). HasActed action note s a t) same acted)
+
+-- what is written, by what was made
+module _ {E : Type 0} (t : SessionState) (from : ℕ) (made : Result (Option Written) E) (since : IsWrittenSince t from made) where
+  pub since_some : (some : Option Written) (w : Written) → made ≡ Ok some → some ≡ Some w → (t.cursor ≢ from) × IsWrittenOf t w
+  since_some some w is there =
+      subst (λ (o : Option Written). IsWrittenSince {E = E} t from (Ok o)) there (subst (λ (r : Result (Option Written) E). IsWrittenSince t from r) is since)
+
+  pub since_err : (e : E) → made ≡ Err e → t.cursor ≢ from
+  since_err e is = subst (λ (r : Result (Option Written) E). IsWrittenSince t from r) is since
 
 not_memory : p.Memory ≡ p.Changed → ⊥
 not_memory is = absurd (cc)

@@ -12,10 +12,10 @@ pub use Rattle.bz_journal.specs.Actions.{MakesText, action_in}
 pub use Rattle.bz_journal.specs.Doing.{EndsAt, HasMade}
 pub use Rattle.bz_journal.specs.Editing.{AreFirstDigests, IsBeside, WrittenIsDrawn}
 pub use Rattle.bz_journal.specs.History.{Acts, Answer, History, IsFormat, IsKept, MakesOrWants, Runs, after_meaning, after_text, changed, most_steps, note_limit, opened, present, unchanged}
-pub use Rattle.bz_journal.specs.Keeping.{HasActed, IsRefused, IsWriteOrOpen, Keeps, KeepsPair}
+pub use Rattle.bz_journal.specs.Keeping.{HasActed, IsRefused, IsWriteOrOpen, IsWrittenSince, Keeps, KeepsPair}
 pub use Rattle.bz_journal.specs.Lasting.{AlikeActs, AlikeGoesOn, GoesOn, IsAgain, IsKnownSession, IsResumedSession, IsSavedSession, saved}
 pub use Rattle.bz_journal.specs.Lines.{AreIn, AreLinesOf, tree_with}
-pub use Rattle.bz_journal.specs.Listing.{listing, noted, text_line, text_lines_from}
+pub use Rattle.bz_journal.specs.Listing.{lines_of_texts, listing, noted, text_line, text_lines_from}
 pub use Rattle.bz_journal.specs.Lookups.{AreLookupsOf}
 pub use Rattle.bz_journal.specs.Meaning.{Means, OverfullIsRefused, gives, refuses, told, written}
 pub use Rattle.bz_journal.specs.Shown.{IsOverEven, session_history}

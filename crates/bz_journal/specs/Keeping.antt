@@ -1,5 +1,5 @@
 -- What keeping an action leaves: an answer, and a file with its journal.
-use Rattle.std.specs.Prelude.{◌≡◌, ◌≢◌, ◌≤◌, ◌<◌, ◌⊎◌, true, length, Some, Result, Ok, Err, IfErr, IsErrOf, IsOk, OnErr, OnOk}
+use Rattle.std.specs.Prelude.{◌≡◌, ◌≢◌, ◌≤◌, ◌<◌, ◌⊎◌, true, ℕ, length, Option, None, Some, Result, Ok, Err, IfErr, IsErrOf, IsOk, OnErr, OnOk}
 use Rattle.std.specs.FinMap.{get}
 use Rattle.bz_files.specs.Faults.{Rises}
 use Rattle.bz_files.specs.Folder.{Elapses, Folder}
@@ -15,7 +15,8 @@ use Rattle.bz_journal.specs.declared.action.Reply.{Reply}
 use Rattle.bz_journal.specs.declared.keeping.KeepFault.{KeepFault}
 use Rattle.bz_journal.specs.declared.keeping.KeepFault.TheVariants.{Refused, Pair}
 use Rattle.bz_journal.specs.History.{Answer, History, Acts, IsFormat, note_limit, present}
-use Rattle.bz_journal.specs.Lasting.{saved}
+use Rattle.bz_journal.specs.declared.keeping.Written.{Written}
+use Rattle.bz_journal.specs.Lasting.{IsSavedSession, saved}
 use Rattle.bz_journal.specs.Shown.{session_history, IsOverEven}
 use Rattle.bz_journal.specs.State.{SessionState, session_trail}
 
@@ -44,6 +45,18 @@ pub record HasActed (action : Action) (note : Bytes) (s : SessionState) (answer 
   pub unmoved : OnErr answer (t ≡ s)
   pub even : length note ≤ note_limit → IsOverEven action (session_trail s) → IsOk answer
   pub small : IsSmall (session_trail s) → IsSmall (session_trail t)
+
+-- what is written of a session: its journal, which is one, and its present text
+pub record IsWrittenOf (t : SessionState) (w : Written) : Type 0 where
+  pub told : w.journal.items ≡ saved t
+  pub own : IsSavedSession t
+  pub text : w.text.items ≡ present (session_history t)
+
+-- It is written where the cursor is another one than this; or memory was refused for it.
+abbrev pub IsWrittenSince : {E : Type 0} → SessionState → ℕ → Result (Option Written) E → Type 0
+IsWrittenSince t from (Ok None) = t.cursor ≡ from
+IsWrittenSince t from (Ok (Some w)) = (t.cursor ≢ from) × IsWrittenOf t w
+IsWrittenSince t from (Err e) = t.cursor ≢ from
 
 -- What doing an action in a session and keeping it does to the session, to its file and to the journal.
 pub record KeepsPair {F : Type 0} (files : FilesOf F) (action : Action) (note file : Bytes) (s : SessionState) (answer : Result Reply KeepFault) (t : SessionState) (old new : F) : Type 0 where

@@ -27,20 +27,20 @@ pub(crate) const MOST_NOTE: usize = 65_536;
 /// The texts of a BUILD file of a package, one after another, and the place in them: the tree of the present text, and
 /// between neighbours the step that leads from the one tree to the other. Contracts speak of its history.
 #[derive(Drop)]
-pub struct Course {
+pub(crate) struct Course {
     /// The tree of the present text.
-    pub tree: Tree,
+    pub(crate) tree: Tree,
     /// The steps between the texts, in the order in which these came: those before the present text lead back, the others
     /// forward.
-    pub steps: Vec<Step>,
+    pub(crate) steps: Vec<Step>,
     /// The note of each step.
-    pub notes: Vec<Text>,
+    pub(crate) notes: Vec<Text>,
     /// The path of the file's package.
-    pub package: String,
+    pub(crate) package: String,
     /// The number of the present text, from 0.
-    pub cursor: u32,
+    pub(crate) cursor: u32,
     /// The number of the one that was present before it.
-    pub before: u32,
+    pub(crate) before: u32,
 }
 
 impl Model for Course {
@@ -87,6 +87,15 @@ pub(crate) fn begin(alloc: Global, package: &str, text: &[u8]) -> Result<Course,
     }
 }
 
+/// The text of a tree. The error: a growth was refused.
+pub(crate) fn text_of(tree: &Tree) -> Result<Vec<u8>, Memory>
+    ensures { IfOk result (λ text. text.items ≡ spell_node tree.now) }
+{
+    let mut text = Vec::new(tree.root.parts.alloc());
+    tree.spell_into(&mut text)?;
+    Ok(text)
+}
+
 impl Course {
     pub(crate) fn alloc(&self) -> Global {
         *self.steps.allocator()
@@ -122,17 +131,6 @@ impl Course {
         ensures { result.now ≡ (session_history self.now).«package» }
     {
         self.package.as_str()
-    }
-
-    /// The present text. The error: a growth was refused.
-    pub(crate) fn own_text(&self) -> Result<Vec<u8>, Memory>
-        ensures text { IfOk result (λ text. text.items ≡ present (session_history self.now)) }
-        ensures within { (session_history self.now).cursor < length (session_history self.now).texts }
-    {
-        let tree = self.present();
-        let mut text = Vec::new(tree.root.parts.alloc());
-        tree.spell_into(&mut text)?;
-        Ok(text)
     }
 
     /// How many steps there are between the present text and the last.

@@ -2,14 +2,14 @@
 ghost use Rattle.std.specs.Prelude.{◌≡◌, ◌≢◌, ◌≤◌, ◌<◌, ◌++◌, ◌↔◌, ◌⊎◌, ℕ, length, true, Err, IfErr, IfOk, IfSome, IsErrOf, IsOk, Ok, OnErr, OnOk, Some};
 ghost use Rattle.std.specs.FinMap.{get};
 ghost use Rattle.std.specs.Str.{IsValidUpTo};
-ghost use Rattle.bz_journal.specs.Clauses.{Accepted, Acts, AreFirstDigests, Elapses, Folder, Holds, IsFormat, IsFormatted, IsOfText, IsOverEven, IsRefused, IsSmall, IsWriteOrOpen, Keeps, KeepsPair, OthersStay, PairFault, Refusal, Reply, Resumes, Rises, Survives, action_in, journal_name, limit, listing, note_limit, opened, present, saved, session_history, session_trail};
+ghost use Rattle.bz_journal.specs.Clauses.{Accepted, Acts, AreFirstDigests, Elapses, Folder, Holds, IsFormat, IsFormatted, IsOfText, IsOverEven, IsRefused, IsSavedSession, IsSmall, IsWriteOrOpen, IsWrittenSince, Keeps, KeepsPair, OthersStay, PairFault, Refusal, Reply, Resumes, Rises, Survives, action_in, journal_name, limit, listing, note_limit, opened, present, saved, session_history, session_trail};
 
 use crate::action::{Action, Reply};
 use crate::asking::Lookups;
 use crate::beside::{Beside, act};
-use crate::course::{Course, begin};
-use crate::digests::{cut_off, known};
-use crate::keeping::{KeepFault, learned_text, persist};
+use crate::course::{Course, begin, text_of};
+use crate::digests::{cut_off, known, learn};
+use crate::keeping::{KeepFault, Written, persist};
 use crate::session::Session;
 use bz_files::Files;
 use bz_items::{Memory, Text};
@@ -25,6 +25,9 @@ const FEWEST: usize = 500;
 /// After how many commands any value is kept, so that further ones cost the same in a short file as in a long one.
 const OFTEN: u32 = 64;
 
+/// The fewest bytes of a text that is kept once it was written, and so isn't spelled again for the next action.
+const LONG: usize = 1 << 16;
+
 /// The course of a file, and what is kept beside it. Of a text that was opened no digest is taken until something reads it:
 /// `keep_noted` or `listing`. Contracts see the session.
 #[derive(Drop)]
@@ -35,11 +38,15 @@ pub struct Editor {
     beside: Beside,
     /// How many commands were done, up to `OFTEN`.
     done: u32,
+    /// The present text, where it was written and is long.
+    text: Option<Vec<u8>>,
 }
 
 impl Model for Editor {
+    ghost use Rattle.std.specs.Prelude.{◌≡◌, IfSome};
     ghost use Rattle.bz_tree.specs.contracts.tree.Tree as t;
     ghost use Rattle.bz_edit.specs.contracts.step.Step as s;
+    ghost use Rattle.bz_journal.specs.History.{present};
     ghost use Rattle.bz_journal.specs.State.{SessionState, state_code};
     ghost use Rattle.bz_journal.specs.Editing.{AreFirstDigests, IsBeside};
     ghost use Rattle.bz_journal.specs.Shown.{session_history};
@@ -50,7 +57,8 @@ impl Model for Editor {
 
     ghost view = { λ editor. editor.course };
 
-    ghost invariant = { λ editor. IsBeside editor.course.tree editor.beside × AreFirstDigests editor.digests.items (session_history editor.course).texts };
+    ghost invariant = { λ editor. IsBeside editor.course.tree editor.beside × AreFirstDigests editor.digests.items (session_history editor.course).texts
+        × IfSome editor.text (λ text. text.items ≡ present (session_history editor.course)) };
 }
 
 /// An editor of a course of whose first texts these are the digests. Nothing is kept beside it yet.
@@ -63,6 +71,31 @@ fn editor_of(course: Course, digests: Vec<[u8; 32]>) -> Editor
         digests,
         beside: Beside::none(),
         done: 0,
+        text: None,
+    }
+}
+
+/// The present text of a course: the one that is kept, or one that is spelled. The error: a growth was refused.
+fn kept_text(kept: Option<Vec<u8>>, course: &Course) -> Result<Vec<u8>, Memory>
+    requires { IfSome kept (λ text. text.items ≡ present (session_history course.now)) }
+    ensures { IfOk result (λ text. text.items ≡ present (session_history course.now)) }
+{
+    match kept {
+        Some(text) => Ok(text),
+        None => text_of(course.present()),
+    }
+}
+
+/// The journal of a course at this text, by the digests that are there. The error: a growth was refused.
+fn journal_by(course: &Course, digests: &[[u8; 32]], text: &[u8]) -> Result<Vec<u8>, Memory>
+    requires first { AreFirstDigests digests.now (session_history course.now).texts }
+    requires text { text.now ≡ present (session_history course.now) }
+    ensures told { IfOk result (λ told. told.items ≡ saved course.now) }
+    ensures journal { OnOk result (IsSavedSession course.now) }
+{
+    match known(digests, course) {
+        Some(digests) => course.journal(digests, text),
+        None => course.journal(course.hashed()?.as_slice(), text),
     }
 }
 
@@ -87,7 +120,7 @@ impl Editor {
     pub fn new(session: Session) -> Editor
         ensures { result ≡ session }
     {
-        let Session { course, digests } = session;
+        let (course, digests) = session.apart();
         editor_of(course, digests)
     }
 
@@ -127,6 +160,7 @@ impl Editor {
         ensures even { length note.now ≤ note_limit → IsOverEven (action_in action.now) (session_trail self.old) → IsOk result }
         ensures small { IsSmall (session_trail self.old) → IsSmall (session_trail self.new) }
     {
+        self.text = None;
         let answer = act(&mut self.course, &mut self.beside, action, note);
         cut_off(&mut self.digests, &self.course, &answer);
         self.let_go();
@@ -204,10 +238,51 @@ impl Editor {
     ) -> Result<Reply, KeepFault>
         ensures { KeepsPair F.Files (action_in action.now) note.now file.now self.old result self.new files.old files.new }
     {
-        let standing = learned_text(&self.course, &mut self.digests);
+        let standing = self.take_text();
         let from = self.cursor();
         let answer = self.act_noted(action, note);
-        let (course, digests) = (&self.course, &mut self.digests);
-        persist(course, digests, answer, from, standing, file, files)
+        let written = self.written_since(from);
+        let kept = persist(self.course.alloc(), answer, standing, &written, file, files);
+        self.keep_text(written);
+        kept
+    }
+
+    /// The present text, whose digest is then known where those of the texts before it are. The error: a growth was refused.
+    fn take_text(&mut self) -> Result<Vec<u8>, Memory>
+        ensures text { IfOk result (λ text. text.items ≡ present (session_history self.old)) }
+        ensures within { (session_history self.old).cursor < length (session_history self.old).texts }
+        ensures stays { self.new ≡ self.old }
+    {
+        let _here = self.course.present();
+        let text = kept_text(self.text.take(), &self.course)?;
+        learn(&mut self.digests, &self.course, text.as_slice());
+        Ok(text)
+    }
+
+    /// What is written of the session, where its cursor is another one than this. The error: a growth was refused.
+    fn written_since(&mut self, from: u32) -> Result<Option<Written>, Memory>
+        ensures written { IsWrittenSince self.new from result }
+        ensures stays { self.new ≡ self.old }
+    {
+        if self.cursor() == from {
+            return Ok(None);
+        }
+        let text = self.take_text()?;
+        let journal = journal_by(&self.course, self.digests.as_slice(), text.as_slice())?;
+        Ok(Some(Written { journal, text }))
+    }
+
+    /// Keeps a long text that was written, which the file is to hold at the next action.
+    fn keep_text(&mut self, written: Result<Option<Written>, Memory>)
+        requires { (from : ℕ) × IsWrittenSince self.old from written }
+        ensures { self.new ≡ self.old }
+    {
+        let Ok(Some(written)) = written else {
+            return;
+        };
+        let Written { journal: _, text } = written;
+        if text.len() >= LONG {
+            self.text = Some(text);
+        }
     }
 }

@@ -1,14 +1,15 @@
 //! Sessions that outlive the run: their journal, and what is resumed of one.
 ghost use Rattle.std.specs.Prelude.{◌≡◌, ◌++◌, ◌↔◌, ℕ, List, Err, IfOk, IfErr, OnOk, OnErr, IsUtf8, map, option_map, slice_get, string_bytes};
-ghost use Rattle.bz_journal.specs.Clauses.{AreSmall, Edit, GoesOn, History, IsAgain, IsKnownSession, IsOtherVersion, IsResumedSession, IsSavedSession, IsSmall, IsStale, Journal, NoJournal, StandsFor, saved, session_history, session_trail, sha256};
+ghost use Rattle.bz_journal.specs.Clauses.{AreSmall, Edit, GoesOn, History, IsAgain, IsKnownSession, IsOtherVersion, IsResumedSession, IsSavedSession, IsSmall, IsStale, Journal, NoJournal, StandsFor, listing, present, saved, session_history, session_trail, sha256};
 ghost use Rattle.bz_resume.specs.declared.fault.ResumeFault.TheVariants as f;
 ghost use Rattle.bz_resume.specs.Resumed.{IsResumed as WasResumed};
 
-use crate::course::Course;
+use crate::course::{Course, text_of};
+use crate::listing::listed;
 use crate::session::Session;
 use bz_items::{Memory, Text};
 use bz_resume::laws::reopened;
-use bz_resume::{ResumeFault, Resumed, Saved, resume};
+use bz_resume::{Content, ResumeFault, Resumed, Saved, resume, save_into};
 use bz_trail::laws::texts_kept;
 use bz_tree::laws::one_reading;
 use std::alloc::Global;
@@ -22,27 +23,39 @@ fn path_of(alloc: Global, package: &Text) -> Result<String, Memory>
 }
 
 impl Course {
-    /// Appends the journal of the session, whose texts have these digests, in version 2. The error: a growth was refused; `out` is
-    /// then as before.
-    pub(crate) fn save_by(&self, digests: &[[u8; 32]], out: &mut Vec<u8>) -> Result<(), Memory>
+    /// The listing of texts that have these digests. The error: a growth was refused.
+    pub(crate) fn listed(&self, alloc: Global, digests: &[[u8; 32]]) -> Result<Text, Memory>
         requires { digests.now ≡ map sha256 (session_history self.now).texts }
-        ensures ok { OnOk result (out.new.items ≡ out.old.items ++ saved self.now) }
-        ensures err { OnErr result (out.new.items ≡ out.old.items) }
-        ensures journal { IsSavedSession self.now }
-        ensures small { IsSmall (session_trail self.now) → AreSmall (session_history self.now) self.now.steps }
+        ensures { IfOk result (λ text. text ≡ listing (session_history self.now)) }
     {
-        one_reading();
         texts_kept();
+        listed(alloc, self.cursor as usize, self.notes.as_slice(), digests)
+    }
+
+    /// The journal of the session with this present text, whose texts have these digests, in version 2. The error: a growth was refused.
+    pub(crate) fn journal(&self, digests: &[[u8; 32]], text: &[u8]) -> Result<Vec<u8>, Memory>
+        requires digests { digests.now ≡ map sha256 (session_history self.now).texts }
+        requires text { text.now ≡ present (session_history self.now) }
+        ensures told { IfOk result (λ told. told.items ≡ saved self.now) }
+        ensures journal { IsSavedSession self.now }
+    {
+        texts_kept();
+        let _here = self.present();
         let saved = Saved {
-            package: self.package.as_bytes(),
             tree: &self.tree,
-            steps: self.steps.as_slice(),
-            digests,
-            notes: self.notes.as_slice(),
-            cursor: self.cursor,
-            before: self.before,
+            content: Content {
+                package: self.package.as_bytes(),
+                text,
+                cursor: self.cursor,
+                before: self.before,
+                digests,
+                notes: self.notes.as_slice(),
+                steps: self.steps.as_slice(),
+            },
         };
-        bz_resume::save_into(&saved, out)
+        let mut told = Vec::new(*self.steps.allocator());
+        save_into(&saved, &mut told)?;
+        Ok(told)
     }
 }
 
@@ -51,7 +64,7 @@ impl Session {
     pub fn note(&self, i: u32) -> Option<&str>
         ensures { option_map (λ note. note.now) result ≡ slice_get (session_history self.now).notes i }
     {
-        match bz_items::at(self.course.notes.as_slice(), i as usize) {
+        match bz_items::at(self.notes.as_slice(), i as usize) {
             Some(note) => Some(str::from_utf8(note.as_slice()).unwrap()),
             None => None,
         }
@@ -66,7 +79,46 @@ impl Session {
         ensures journal { IsSavedSession self.now }
         ensures small { IsSmall (session_trail self.now) → AreSmall (session_history self.now) self.now.steps }
     {
-        self.course.save_by(self.digests(), out)
+        self.saves();
+        let text = text_of(self.present())?;
+        let journal = self.journal(text.as_slice())?;
+        out.extend_from_slice(journal.as_slice())?;
+        Ok(())
+    }
+
+    /// What is saved of a session is a journal, of small steps where its own are. Nothing is done.
+    fn saves(&self)
+        ensures journal { IsSavedSession self.now }
+        ensures small { IsSmall (session_trail self.now) → AreSmall (session_history self.now) self.now.steps }
+    {
+        one_reading();
+        texts_kept();
+        let _tree = &self.tree;
+    }
+
+    /// The journal of the session with this present text, in version 2. The error: a growth was refused.
+    pub(crate) fn journal(&self, text: &[u8]) -> Result<Vec<u8>, Memory>
+        requires { text.now ≡ present (session_history self.now) }
+        ensures told { IfOk result (λ told. told.items ≡ saved self.now) }
+        ensures journal { IsSavedSession self.now }
+    {
+        texts_kept();
+        let _here = self.present();
+        let saved = Saved {
+            tree: &self.tree,
+            content: Content {
+                package: self.package.as_bytes(),
+                text,
+                cursor: self.cursor,
+                before: self.before,
+                digests: self.digests.as_slice(),
+                notes: self.notes.as_slice(),
+                steps: self.steps.as_slice(),
+            },
+        };
+        let mut told = Vec::new(*self.steps.allocator());
+        save_into(&saved, &mut told)?;
+        Ok(told)
     }
 
     /// The session that a journal says, at the text that the file has now: at the cursor where that is the text there, else at
@@ -101,17 +153,14 @@ impl Session {
             cursor,
         } = resumed;
         let package = path_of(alloc, &package)?;
-        let course = Course {
+        Ok(Session {
             tree,
             steps: steps.into_vec(),
+            digests: digests.into_vec(),
             notes: notes.into_vec(),
             package,
             cursor: cursor as u32,
             before: cursor as u32,
-        };
-        Ok(Session {
-            course,
-            digests: digests.into_vec(),
         })
     }
 

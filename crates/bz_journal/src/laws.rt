@@ -32,7 +32,8 @@ pub fn stopped_is_resumed()
 pub fn history_kept(session: &Session)
     ensures { ∥ IsKept (session_history session.now) ∥₁ }
 {
-    course_holds(&session.course);
+    texts_kept();
+    let _tree = &session.tree;
 }
 
 /// What a session holds: each step leads between the trees of two texts that follow one another and differ; those of a small
@@ -42,7 +43,9 @@ pub fn session_holds(session: &Session)
     ensures between { IsSmall (session_trail session.now) → StepsAreBetween (session_trail session.now) }
     ensures least { IsSmall (session_trail session.now) → HasLeast (session_trail session.now) }
 {
-    course_holds(&session.course);
+    steps_lead();
+    small_steps();
+    let _tree = &session.tree;
 }
 
 /// The same of an editor: what its history keeps, and what it holds.

@@ -18,7 +18,6 @@ mod session;
 
 pub use action::{Action, Reply};
 pub use bz_resume::ResumeFault;
-pub use course::Course;
 pub use editor::Editor;
 pub use keeping::KeepFault;
 pub use laws::{

@@ -1,11 +1,9 @@
 //! The texts of a session, listed.
-ghost use Rattle.std.specs.Prelude.{◌≡◌, ◌++◌, IfOk, OnOk, length, map};
-ghost use Rattle.bz_journal.specs.Clauses.{listing, noted, session_history, sha256, text_line, text_lines_from};
+ghost use Rattle.std.specs.Prelude.{◌≡◌, ◌+◌, ◌++◌, IfOk, OnOk, length};
+ghost use Rattle.bz_journal.specs.Clauses.{lines_of_texts, noted, text_line, text_lines_from};
 
-use crate::course::Course;
 use bz_exact::{hex_digits, push_number};
 use bz_items::{Memory, Text};
-use bz_trail::laws::texts_kept;
 use std::alloc::Global;
 
 /// Appends a note after a space, where there is one, its newlines as `\n`. The error: a growth was refused.
@@ -67,20 +65,21 @@ fn put_lines(
     Ok(())
 }
 
-impl Course {
-    /// The listing of texts that have these digests. The error: a growth was refused.
-    pub(crate) fn listed(&self, alloc: Global, digests: &[[u8; 32]]) -> Result<Text, Memory>
-        requires { digests.now ≡ map sha256 (session_history self.now).texts }
-        ensures { IfOk result (λ text. text ≡ listing (session_history self.now)) }
-    {
-        texts_kept();
-        let mut out = Vec::new(alloc);
-        let cursor = self.cursor as usize;
-        let Some((first, digests)) = digests.split_first() else {
-            return Ok(Text::from_vec(out));
-        };
-        put_line(&mut out, cursor == 0, 0, first, b"")?;
-        put_lines(&mut out, cursor, self.notes.as_slice(), digests)?;
-        Ok(Text::from_vec(out))
-    }
+/// The listing of the texts that have these digests, with the notes of the steps between them. The error: a growth was refused.
+pub(crate) fn listed(
+    alloc: Global,
+    cursor: usize,
+    notes: &[Text],
+    digests: &[[u8; 32]],
+) -> Result<Text, Memory>
+    requires { length digests.now ≡ length notes.now + 1 }
+    ensures { IfOk result (λ text. text ≡ lines_of_texts cursor notes.now digests.now) }
+{
+    let mut out = Vec::new(alloc);
+    let Some((first, digests)) = digests.split_first() else {
+        return Ok(Text::from_vec(out));
+    };
+    put_line(&mut out, cursor == 0, 0, first, b"")?;
+    put_lines(&mut out, cursor, notes, digests)?;
+    Ok(Text::from_vec(out))
 }

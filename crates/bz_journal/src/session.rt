@@ -1,48 +1,89 @@
 //! A session: the history of one file, with the SHA-256 of each text.
 ghost use Rattle.std.specs.Prelude.{◌≡◌, ◌≤◌, ◌<◌, ◌+◌, ◌++◌, ◌↔◌, List, map, slice_get, option_map, vec_len, vec_capacity, Err, ℕ, IfOk, IfErr, OnOk, OnErr, IsOk, [], length, Result};
 ghost use Rattle.std.specs.Str.{IsValidUpTo};
-ghost use Rattle.bz_journal.specs.Clauses.{Accepted, Acts, IsFormat, IsFormatted, IsOfText, IsOverEven, IsSmall, KeepsPair, MakesText, Refusal, Reply, Runs, action_in, limit, listing, note_limit, opened, present, session_history, session_trail, sha256};
+ghost use Rattle.bz_journal.specs.Clauses.{Accepted, Acts, HasActed, IsFormat, IsFormatted, IsOfText, IsOverEven, IsSmall, IsWrittenSince, KeepsPair, MakesText, Refusal, Reply, Runs, action_in, limit, listing, note_limit, opened, present, session_history, session_trail, sha256, spell_node};
 ghost use Rattle.bz_edit.specs.Steps.{weight as weight_held};
 
 use crate::action::{Action, Reply, is_changed};
 use crate::beside::{Beside, act};
-use crate::course::{Course, MOST_NOTE, begin};
+use crate::course::{Course, MOST_NOTE, begin, text_of};
 use crate::digest::digest_of;
 use crate::digests::{one_digest, put_after};
-use crate::keeping::{KeepFault, persist};
-use bz_edit::weight;
+use crate::keeping::{KeepFault, Written, persist};
+use crate::listing::listed;
+use bz_edit::{Step, weight};
 use bz_files::Files;
 use bz_items::{Memory, Text};
-use bz_tree::ReadFault;
+use bz_trail::laws::texts_kept;
+use bz_tree::{ReadFault, Tree};
 use bz_value::Refusal;
+use core::mem::replace_with;
 use sha2::{Digest, Sha256};
 use std::alloc::Global;
 use std::marker::Model;
 
-/// The texts of a BUILD file of a package, one after another, the place in them, and the SHA-256 of each. Contracts speak of its
-/// history.
+/// The texts of a BUILD file of a package, one after another, and the place in them: the tree of the present text, between
+/// neighbours the step that leads from the one tree to the other, and the SHA-256 of each text. Contracts speak of its history.
 #[derive(Drop)]
 pub struct Session {
-    pub course: Course,
+    /// The tree of the present text.
+    pub tree: Tree,
+    /// The steps between the texts, in the order in which these came: those before the present text lead back, the others
+    /// forward.
+    pub steps: Vec<Step>,
     /// The SHA-256 of each text.
     pub digests: Vec<[u8; 32]>,
+    /// The note of each step.
+    pub notes: Vec<Text>,
+    /// The path of the file's package.
+    pub package: String,
+    /// The number of the present text, from 0.
+    pub cursor: u32,
+    /// The number of the one that was present before it.
+    pub before: u32,
 }
 
 impl Model for Session {
-    ghost use Rattle.std.specs.Prelude.{◌≡◌, map};
+    ghost use Rattle.std.specs.Prelude.{◌≡◌, map, string_bytes};
     ghost use Rattle.sha2.specs.Sha256.{sha256};
     ghost use Rattle.bz_tree.specs.contracts.tree.Tree as t;
     ghost use Rattle.bz_edit.specs.contracts.step.Step as s;
     ghost use Rattle.bz_trail.specs.Shown.{texts_of};
-    ghost use Rattle.bz_journal.specs.State.{SessionState, session_trail, state_code};
+    ghost use Rattle.bz_trail.specs.Trails.{trail_at};
+    ghost use Rattle.bz_journal.specs.State.{SessionState, IsSession, state_code};
 
     ghost Value = { SessionState };
 
     ghost coded = { state_code t.the_row.coded s.the_row.coded };
 
-    ghost view = { λ session. session.course };
+    ghost view = { λ s. record { tree = s.tree; steps = s.steps.items; notes = s.notes.items; «package» = string_bytes s.«package»; cursor = s.cursor; before = s.before } };
 
-    ghost invariant = { λ session. session.digests.items ≡ map sha256 (texts_of (session_trail session.course)) };
+    ghost invariant = { λ s. IsSession (record { tree = s.tree; steps = s.steps.items; notes = s.notes.items; «package» = string_bytes s.«package»; cursor = s.cursor; before = s.before })
+        × (s.digests.items ≡ map sha256 (texts_of (trail_at s.tree s.steps.items s.cursor))) };
+}
+
+/// A session of a course, of whose texts these are the digests.
+fn session_of(course: Course, digests: Vec<[u8; 32]>) -> Session
+    requires { digests.items ≡ map sha256 (session_history course).texts }
+    ensures { result ≡ course }
+{
+    let Course {
+        tree,
+        steps,
+        notes,
+        package,
+        cursor,
+        before,
+    } = course;
+    Session {
+        tree,
+        steps,
+        digests,
+        notes,
+        package,
+        cursor,
+        before,
+    }
 }
 
 impl Session {
@@ -63,7 +104,7 @@ impl Session {
             Err(fault) => return Err(fault),
         };
         match one_digest(alloc, Sha256::digest(text)) {
-            Ok(digests) => Ok(Session { course, digests }),
+            Ok(digests) => Ok(session_of(course, digests)),
             Err(_) => Err(ReadFault::Memory),
         }
     }
@@ -72,7 +113,7 @@ impl Session {
     pub fn package(&self) -> &str
         ensures { result.now ≡ (session_history self.now).«package» }
     {
-        self.course.own_package()
+        self.package.as_str()
     }
 
     /// The SHA-256 of each text, in the order in which these came.
@@ -96,24 +137,35 @@ impl Session {
     pub fn cursor(&self) -> u32
         ensures { result ≡ (session_history self.now).cursor }
     {
-        self.course.cursor()
+        self.cursor
     }
 
     /// How many steps there are between the first text and the last.
     pub fn steps(&self) -> u32
         ensures { result + 1 ≡ length (session_history self.now).texts }
     {
-        self.course.steps()
+        texts_kept();
+        self.steps.len() as u32
     }
 
     /// The bytes of all gaps and tokens that the step between texts i and i + 1 holds; `None` past the last step.
     pub fn weight(&self, i: u32) -> Option<u64>
         ensures { result ≡ option_map weight_held (slice_get self.now.steps i) }
     {
-        match bz_items::at(self.course.steps.as_slice(), i as usize) {
+        match bz_items::at(self.steps.as_slice(), i as usize) {
             Some(step) => Some(weight(step)),
             None => None,
         }
+    }
+
+    /// The tree of the present text.
+    pub(crate) fn present(&self) -> &Tree
+        ensures tree { result.now ≡ self.now.tree }
+        ensures text { spell_node result.now ≡ present (session_history self.now) }
+        ensures within { (session_history self.now).cursor < length (session_history self.now).texts }
+    {
+        texts_kept();
+        &self.tree
     }
 
     /// Appends the present text to `out`. The error: a growth was refused; `out` is then as before.
@@ -121,7 +173,7 @@ impl Session {
         ensures ok { OnOk result (out.new.items ≡ out.old.items ++ present (session_history self.now)) }
         ensures err { OnErr result (out.new.items ≡ out.old.items) }
     {
-        self.course.present().spell_into(out)
+        self.present().spell_into(out)
     }
 
     /// The texts, one line each: `*` at the present one or a space, a space, its number from 0, a space, its SHA-256 in 64
@@ -130,7 +182,13 @@ impl Session {
     pub fn listing(&self, alloc: Global) -> Result<Text, Memory>
         ensures { IfOk result (λ text. text ≡ listing (session_history self.now)) }
     {
-        self.course.listed(alloc, self.digests())
+        texts_kept();
+        listed(
+            alloc,
+            self.cursor as usize,
+            self.notes.as_slice(),
+            self.digests(),
+        )
     }
 
     /// Does an action with an empty note, as `act_noted` does.
@@ -159,18 +217,7 @@ impl Session {
         ensures even { length note.now ≤ note_limit → IsOverEven (action_in action.now) (session_trail self.old) → IsOk result }
         ensures small { IsSmall (session_trail self.old) → IsSmall (session_trail self.new) }
     {
-        if note.len() > MOST_NOTE {
-            return Err(Refusal::NoteTooLong);
-        }
-        make_room(&mut self.digests, action)?;
-        let mut beside = Beside::none();
-        let answer = act(&mut self.course, &mut beside, action, note);
-        if !is_changed(&answer) {
-            return answer;
-        }
-        let cursor = self.course.cursor() as usize;
-        put_after(&mut self.digests, cursor, digest_of(self.course.present()));
-        answer
+        replace_with(self, (action, note), acted)
     }
 
     /// Does actions in order, and appends a reply for each to `replies`; a refused action doesn't stop the run.
@@ -221,12 +268,85 @@ impl Session {
     ) -> Result<Reply, KeepFault>
         ensures { KeepsPair F.Files (action_in action.now) note.now file.now self.old result self.new files.old files.new }
     {
-        let standing = self.course.own_text();
+        let standing = text_of(self.present());
         let from = self.cursor();
         let answer = self.act_noted(action, note);
-        let (course, digests) = (&self.course, &mut self.digests);
-        persist(course, digests, answer, from, standing, file, files)
+        let written = self.written_since(from);
+        let alloc = *self.steps.allocator();
+        persist(alloc, answer, standing, &written, file, files)
     }
+
+    /// What is written of the session, where its cursor is another one than this. The error: a growth was refused.
+    fn written_since(&self, from: u32) -> Result<Option<Written>, Memory>
+        ensures { IsWrittenSince self.now from result }
+    {
+        if self.cursor() == from {
+            return Ok(None);
+        }
+        let text = text_of(self.present())?;
+        let journal = self.journal(text.as_slice())?;
+        Ok(Some(Written { journal, text }))
+    }
+
+    /// The course of a session, and the digests of its texts.
+    pub(crate) fn apart(self) -> (Course, Vec<[u8; 32]>)
+        ensures course { result.0 ≡ self }
+        ensures digests { result.1.items ≡ map sha256 (session_history self).texts }
+    {
+        let Session {
+            tree,
+            steps,
+            digests,
+            notes,
+            package,
+            cursor,
+            before,
+        } = self;
+        let course = Course {
+            tree,
+            steps,
+            notes,
+            package,
+            cursor,
+            before,
+        };
+        (course, digests)
+    }
+}
+
+/// Does an action with a note in a session, and gives that back.
+fn acted(session: Session, request: (&Action<'_>, &str)) -> (Session, Result<Reply, Refusal>)
+    ensures { HasActed (action_in request.entry.0.now) request.entry.1.now session result.1 result.0 }
+{
+    let (action, note) = request;
+    let (mut course, mut digests) = session.apart();
+    let answer = act_hashed(&mut course, &mut digests, action, note);
+    (session_of(course, digests), answer)
+}
+
+/// Does an action with a note in a course, of whose texts these are the digests: that of a new text is taken.
+fn act_hashed(
+    course: &mut Course,
+    digests: &mut Vec<[u8; 32]>,
+    action: &Action<'_>,
+    note: &str,
+) -> Result<Reply, Refusal>
+    requires { digests.old.items ≡ map sha256 (session_history course.old).texts }
+    ensures acted { HasActed (action_in action.now) note.now course.old result course.new }
+    ensures digests { digests.new.items ≡ map sha256 (session_history course.new).texts }
+{
+    let _before = course.present();
+    if note.len() > MOST_NOTE {
+        return Err(Refusal::NoteTooLong);
+    }
+    make_room(digests, action)?;
+    let answer = act(course, &mut Beside::none(), action, note);
+    if !is_changed(&answer) {
+        return answer;
+    }
+    let cursor = course.cursor() as usize;
+    put_after(digests, cursor, digest_of(course.present()));
+    answer
 }
 
 /// Takes room for the digest of the text that an action may make. The error: it was refused.

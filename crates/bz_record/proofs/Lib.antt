@@ -4,6 +4,7 @@ pub mod Marks
 pub mod Held
 pub mod Whole
 pub mod Appends
+pub mod Paired
 pub mod Finds
 pub mod Versions
 pub mod Own

@@ -1,4 +1,4 @@
-use bz_edit::Edit;
+use bz_edit::{Edit, Step};
 use bz_items::{Items, Text};
 
 /// How a record is written.
@@ -32,4 +32,22 @@ pub struct Record {
     /// The SHA-256 digest of each text: one more than steps.
     pub digests: Items<[u8; 32]>,
     pub steps: Items<Entry>,
+}
+
+/// What a journal is to say, lent to be written.
+#[derive(Clone, Copy)]
+pub struct Content<'a> {
+    /// The path of the file's package.
+    pub package: &'a [u8],
+    /// The text at the cursor.
+    pub text: &'a [u8],
+    /// How many steps stand before the present text.
+    pub cursor: u32,
+    /// The cursor before the last action that moved it.
+    pub before: u32,
+    /// The SHA-256 digest of each text: one more than steps.
+    pub digests: &'a [[u8; 32]],
+    /// The note of each step.
+    pub notes: &'a [Text],
+    pub steps: &'a [Step],
 }

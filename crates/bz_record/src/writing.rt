@@ -4,13 +4,14 @@ ghost use Rattle.std.specs.Prelude.{◌≡◌, ◌∷◌, ◌++◌, ◌<◌, ◌
 ghost use Rattle.std.specs.List.{flat_map};
 ghost use Rattle.hex.specs.Hex.{encode_lower};
 ghost use Rattle.bz_exact.specs.Spellings.{counted_text, numeral};
+ghost use Rattle.bz_record.specs.Contents.{entries_of, entry_of, record_in};
 ghost use Rattle.bz_record.specs.Texts.{counts_text, digest_text, edit_text, end_line, entry_text, last_number, leaf_text, lines_text, note_line, part_text, record_text, spaced_number, texts_text};
 
-use crate::content::{Entry, Record, Version};
+use crate::content::{Content, Version};
 use crate::fields::version_line;
-use bz_edit::Edit;
+use bz_edit::{Edit, Step};
 use bz_exact::{hex_digits, push_counted, push_number};
-use bz_items::Memory;
+use bz_items::{Memory, Text};
 use bz_tree::{Leaf, Part};
 use sha2::{Digest, Sha256};
 
@@ -89,13 +90,18 @@ fn push_note(out: &mut Vec<u8>, version: Version, note: &[u8]) -> Result<(), Mem
     }
 }
 
-fn push_entry(out: &mut Vec<u8>, version: Version, entry: &Entry) -> Result<(), Memory>
-    ensures { OnOk result (out.new.items ≡ out.old.items ++ entry_text version entry.now) }
+fn push_entry(
+    out: &mut Vec<u8>,
+    version: Version,
+    note: &[u8],
+    edits: &[Edit],
+) -> Result<(), Memory>
+    ensures { OnOk result (out.new.items ≡ out.old.items ++ entry_text version (entry_of note.now edits.now)) }
 {
     out.extend_from_slice(b"step ")?;
-    push_number(out, entry.edits.len(), b'\n')?;
-    push_note(out, version, entry.note.as_slice())?;
-    'edits: for edit in entry.edits.as_slice() {
+    push_number(out, edits.len(), b'\n')?;
+    push_note(out, version, note)?;
+    'edits: for edit in edits {
         push_edit(out, edit)?;
     }
     Ok(())
@@ -119,34 +125,50 @@ fn push_digests(out: &mut Vec<u8>, digests: &[[u8; 32]]) -> Result<(), Memory>
     Ok(())
 }
 
-fn push_entries(out: &mut Vec<u8>, version: Version, entries: &[Entry]) -> Result<(), Memory>
-    ensures { OnOk result (out.new.items ≡ out.old.items ++ flat_map (entry_text version) entries.now) }
+fn push_entries(
+    out: &mut Vec<u8>,
+    version: Version,
+    notes: &[Text],
+    steps: &[Step],
+) -> Result<(), Memory>
+    requires { length notes.now ≡ length steps.now }
+    ensures { OnOk result (out.new.items ≡ out.old.items ++ flat_map (entry_text version) (entries_of notes.now steps.now)) }
 {
-    'entries: for entry in entries {
-        push_entry(out, version, entry)?;
+    for i in 0..steps.len() {
+        let step = &steps[i];
+        push_entry(out, version, notes[i].as_slice(), step.edits.as_slice())?;
     }
     Ok(())
 }
 
 /// The version, the package and the text.
-fn push_texts(out: &mut Vec<u8>, version: Version, content: &Record) -> Result<(), Memory>
-    ensures { OnOk result (out.new.items ≡ out.old.items ++ texts_text version content.now) }
+fn push_texts(out: &mut Vec<u8>, version: Version, content: &Content) -> Result<(), Memory>
+    ensures { OnOk result (out.new.items ≡ out.old.items ++ texts_text version (record_in content.now)) }
 {
     out.extend_from_slice(version_line(version))?;
     out.extend_from_slice(b"package ")?;
-    push_counted(out, content.package.as_slice(), b' ')?;
+    push_counted(out, content.package, b' ')?;
     out.extend_from_slice(b"\ntext ")?;
-    push_counted(out, content.text.as_slice(), b'\n')?;
+    push_counted(out, content.text, b'\n')?;
     out.push(b'\n')?;
     Ok(())
 }
 
+/// How many steps there are, each with its note.
+fn count_of(content: &Content) -> usize
+    requires { length content.now.notes.now ≡ length content.now.steps.now }
+    ensures { result ≡ length (record_in content.now).steps }
+{
+    content.steps.len()
+}
+
 /// The number of steps and the cursors.
-fn push_counts(out: &mut Vec<u8>, content: &Record) -> Result<(), Memory>
-    ensures { OnOk result (out.new.items ≡ out.old.items ++ counts_text content.now) }
+fn push_counts(out: &mut Vec<u8>, content: &Content) -> Result<(), Memory>
+    requires { length content.now.notes.now ≡ length content.now.steps.now }
+    ensures { OnOk result (out.new.items ≡ out.old.items ++ counts_text (record_in content.now)) }
 {
     out.extend_from_slice(b"steps ")?;
-    push_number(out, content.steps.len(), b' ')?;
+    push_number(out, count_of(content), b' ')?;
     out.extend_from_slice(b"now ")?;
     push_number(out, content.cursor as usize, b' ')?;
     out.extend_from_slice(b"before ")?;
@@ -156,20 +178,22 @@ fn push_counts(out: &mut Vec<u8>, content: &Record) -> Result<(), Memory>
 
 /// All lines but the last.
 #[tactic(auto, using(crate::proofs::Appends::four_pushed))]
-fn push_lines(out: &mut Vec<u8>, version: Version, content: &Record) -> Result<(), Memory>
-    ensures { OnOk result (out.new.items ≡ out.old.items ++ lines_text version content.now) }
+fn push_lines(out: &mut Vec<u8>, version: Version, content: &Content) -> Result<(), Memory>
+    requires { length content.now.notes.now ≡ length content.now.steps.now }
+    ensures { OnOk result (out.new.items ≡ out.old.items ++ lines_text version (record_in content.now)) }
 {
     push_texts(out, version, content)?;
     push_counts(out, content)?;
-    push_digests(out, content.digests.as_slice())?;
-    push_entries(out, version, content.steps.as_slice())
+    push_digests(out, content.digests)?;
+    push_entries(out, version, content.notes, content.steps)
 }
 
-/// Appends the bytes of a record. Whether the record is one that can be read again is no question here. The error: a growth was
-/// refused; `out` is then as before.
+/// Appends the bytes of a record. Whether it is one that can be read again is no question here. The error: a growth was refused; `out`
+/// is then as before.
 #[tactic(auto, using(crate::proofs::Appends::end_pushed))]
-pub fn write_record(version: Version, content: &Record, out: &mut Vec<u8>) -> Result<(), Memory>
-    ensures ok { OnOk result (out.new.items ≡ out.old.items ++ record_text version content.now) }
+pub fn write_record(version: Version, content: &Content, out: &mut Vec<u8>) -> Result<(), Memory>
+    requires { length content.now.notes.now ≡ length content.now.steps.now }
+    ensures ok { OnOk result (out.new.items ≡ out.old.items ++ record_text version (record_in content.now)) }
     ensures err { OnErr result (out.new.items ≡ out.old.items) }
 {
     let mut lines = Vec::new(*out.allocator());

@@ -22,7 +22,8 @@ use Rattle.bz_record.specs.Texts.{record_text, short_limit, IsNotedStep, IsNote,
 use Rattle.bz_record.proofs.Whole.{one_record}
 use Rattle.bz_record.proofs.Own.{own_version}
 use Rattle.bz_resume.specs.declared.resumed.Resumed.{Resumed}
-use Rattle.bz_resume.specs.Journals.{History, Journal, NoJournal, AreSmall, entries_of, record_of, stands, text_at}
+use Rattle.bz_resume.specs.Journals.{History, Journal, NoJournal, AreSmall, record_of, stands, text_at}
+use Rattle.bz_record.specs.Contents.{entries_of}
 use Rattle.bz_resume.specs.Told.{IsCounted, IsOpened, IsToldOf, NoneTold, edits_of, notes_of, standing_place, told_trail}
 use Rattle.bz_resume.specs.Resumed.{IsResumed, IsStale, StandsFor, trail_of}
 use Rattle.bz_resume.proofs.Entries.{entries_back, entries_edits, entries_notes}

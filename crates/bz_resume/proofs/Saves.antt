@@ -17,8 +17,9 @@ use Rattle.bz_record.specs.declared.content.Version.TheVariants.{Two}
 use Rattle.bz_exact.specs.Spellings.{number_limit, IsDigest}
 use Rattle.bz_record.specs.Texts.{IsEdit, IsNotedStep, IsNote, IsRecord}
 use Rattle.bz_record.proofs.Digests.{digest_fits}
-use Rattle.bz_resume.specs.Journals.{History, Journal, MaySave, entries_of, journal_text, record_of, text_at}
-use Rattle.bz_resume.proofs.Entries.{entries_length}
+use Rattle.bz_resume.specs.Journals.{History, Journal, MaySave, journal_text, record_of, text_at}
+use Rattle.bz_record.specs.Contents.{entries_of}
+use Rattle.bz_record.proofs.Paired.{entries_length}
 use Rattle.bz_resume.proofs.Paths.{all_joined, all_reversed}
 use Rattle.bz_resume.proofs.Sized.{step_fits}
 use Rattle.bz_resume.proofs.Slots.{few_edits}
@@ -77,10 +78,8 @@ module _ (h : History) (es : List (List Edit)) (n : Node) (trail : IsTrail (trai
 
 -- ---- what is written
 
-pub record_made : (h : History) (es : List (List Edit)) (p t : Text) (ds : List Text) (fs : List Entry) → p ≡ h.package → t ≡ text_at h h.cursor → ds ≡ map sha256 h.texts → fs ≡ entries_of h.notes es
-    → (let r : Record = record { «package» = p; text = t; cursor = h.cursor; before = h.before; digests = ds; steps = fs } in r) ≡ record_of h es
-record_made h es p t ds fs a e g f =
-    ap (λ z. let r : Record = record { «package» = z; text = t; cursor = h.cursor; before = h.before; digests = ds; steps = fs } in r) a
-    ∙ ap (λ z. let r : Record = record { «package» = h.package; text = z; cursor = h.cursor; before = h.before; digests = ds; steps = fs } in r) e
-    ∙ ap (λ z. let r : Record = record { «package» = h.package; text = text_at h h.cursor; cursor = h.cursor; before = h.before; digests = z; steps = fs } in r) g
-    ∙ ap (λ z. let r : Record = record { «package» = h.package; text = text_at h h.cursor; cursor = h.cursor; before = h.before; digests = map sha256 h.texts; steps = z } in r) f
+pub record_made : (h : History) (es : List (List Edit)) (t : Text) (ds : List Text) → t ≡ text_at h h.cursor → ds ≡ map sha256 h.texts
+    → (let r : Record = record { «package» = h.package; text = t; cursor = h.cursor; before = h.before; digests = ds; steps = entries_of h.notes es } in r) ≡ record_of h es
+record_made h es t ds e g =
+    ap (λ z. let r : Record = record { «package» = h.package; text = z; cursor = h.cursor; before = h.before; digests = ds; steps = entries_of h.notes es } in r) e
+    ∙ ap (λ z. let r : Record = record { «package» = h.package; text = text_at h h.cursor; cursor = h.cursor; before = h.before; digests = z; steps = entries_of h.notes es } in r) g

@@ -8,7 +8,7 @@ use Rattle.bz_tree.specs.Spell.{depth_limit}
 use Rattle.bz_edit.specs.declared.edit.Edit.{Edit}
 use Rattle.bz_trail.specs.Trails.{IsTrail, IsSmall, trail_at}
 use Rattle.bz_trail.specs.Shown.{Text, texts_of}
-use Rattle.bz_record.specs.declared.content.Entry.{Entry}
+use Rattle.bz_record.specs.Contents.{entries_of}
 use Rattle.bz_record.specs.declared.content.Record.{Record}
 use Rattle.bz_record.specs.declared.content.Version.{Version}
 use Rattle.bz_record.specs.declared.content.Version.TheVariants.{Two}
@@ -25,12 +25,6 @@ pub record History : Type 0 where
 
 abbrev pub text_at : History → ℕ → Text
 text_at h i = slice_index_or h.texts i []
-
--- each note with the edits of its step
-abbrev pub entries_of : List Text → List (List Edit) → List Entry
-entries_of [] es = []
-entries_of (n ∷ ns) [] = []
-entries_of (n ∷ ns) (e ∷ es) = record { note = n; edits = e } ∷ entries_of ns es
 
 -- what a journal says of a history and the steps between its texts
 abbrev pub record_of : History → List (List Edit) → Record

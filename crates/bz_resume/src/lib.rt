@@ -15,6 +15,7 @@ mod standing;
 mod telling;
 mod touching;
 
+pub use bz_record::Content;
 pub use fault::ResumeFault;
 pub use resumed::Resumed;
 pub use resuming::resume;

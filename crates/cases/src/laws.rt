@@ -151,6 +151,7 @@ fn call_histories() {
     bz_trail::laws::small_steps();
     bz_journal::worked_histories();
     bz_journal::alike_goes_on();
+    bz_journal::stopped_is_resumed();
     bz_formatter::formatted_once();
     bz_formatter::comments_fill();
     bz_formatter::views_keep_programs();

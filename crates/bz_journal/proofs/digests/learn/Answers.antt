@@ -5,8 +5,8 @@ use Rattle.bz_journal.specs.Shown.{session_history}
 use Rattle.bz_journal.proofs.Digested.{learn_next}
 use Rattle.bz_journal.proofs.digests.learn.Goals as goal
 
-pub returns-then-is_ok-clause-first : goal.returns-then-is_ok-clause-first
-returns-then-is_ok-clause-first c =
+pub returns-then-is_ok : goal.returns-then-is_ok
+returns-then-is_ok c =
     let first = c.args.digests.now.items in
     let texts : List Bytes = (session_history c.args.course.now).texts in
     let here : length first ≡ c.cursor-cursor.result = search rules in

@@ -4,4 +4,4 @@ use Rattle.bz_record.specs.Texts.{edit_text}
 use Rattle.bz_record.proofs.writing.push_entry.Given as goal
 
 abbrev pub invariant-edits : goal.invariant-edits
-invariant-edits l = l.out.items ≡ l.initial.out.items ++ flat_map edit_text (take l.edit-index l.edit-items)
+invariant-edits l = l.out.items ≡ l.initial.out.items ++ flat_map edit_text (take l.edit-index l.edits)

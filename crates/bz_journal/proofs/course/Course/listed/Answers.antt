@@ -6,14 +6,12 @@ use Rattle.bz_journal.specs.State.{SessionState, IsSession, session_trail}
 use Rattle.bz_journal.proofs.Kept.{session_counted}
 use Rattle.bz_journal.proofs.course.Course.listed.Goals as goal
 
-pub put_lines-requires : goal.put_lines-requires
-put_lines-requires c =
-    let i = c.self.inside in
+pub listed-requires : goal.listed-requires
+listed-requires c =
     let s : SessionState = c.args.self.now in
     let own : IsSession s = subst (λ (t : SessionState). IsSession t) c.self.view_is c.self.invariant in
     omega (
       arith,
-      c.in-Some.ensures.cases.1,
       ap length c.requires,
       length-map (texts_of (session_trail s)) sha256,
       session_counted c.texts_kept.ensures s own,

@@ -1,26 +1,33 @@
-use Rattle.std.proofs.Common.{◌∙◌, ◌≡◌, ◌<◌, ◌≤◌, length, ap, IfOk, IsOk, OnOk, OnErr, refl, subst, sym}
+use Rattle.std.proofs.Common.{◌∙◌, ◌≡◌, ◌<◌, ℕ, length, ap, refl, subst, sym}
 use Rattle.bz_journal.specs.Actions.{Action, action_in}
-use Rattle.bz_formatter.specs.Fixed.{IsFormatted}
-use Rattle.bz_trail.specs.Trails.{IsSmall}
-use Rattle.bz_journal.specs.History.{Acts, IsFormat, note_limit, present}
-use Rattle.bz_journal.specs.Keeping.{HasActed}
-use Rattle.bz_journal.specs.Shown.{session_history, IsOverEven}
-use Rattle.bz_journal.specs.State.{SessionState, session_trail}
+use Rattle.bz_journal.specs.Keeping.{HasActed, IsWrittenSince, KeepsPair}
+use Rattle.bz_journal.specs.Shown.{session_history}
+use Rattle.bz_journal.specs.State.{SessionState}
 use Rattle.bz_journal.proofs.Persisting.{acted_as}
 use Rattle.bz_journal.proofs.editor.Editor.keep_beside.Goals as goal
+
+pub keep_text-requires : goal.keep_text-requires
+keep_text-requires g c = (c.cursor-from.result, c.written_since-written.ensures.written)
 
 pub returns : goal.returns
 returns g c =
     let action : Action = action_in c.args.action.now in
     let s : SessionState = c.args.self.now in
-    let acted : HasActed action c.args.note.now s c.act_noted-answer.result c.act_noted-answer.new.self = record {
-      within = subst (λ (t : SessionState). t.cursor < length (session_history t).texts) c.self.view_is c.learned_text-standing.ensures.within;
-      acts = subst (λ (t : SessionState). Acts action c.args.note.now (session_history t) c.act_noted-answer.result (session_history c.act_noted-answer.new.self)) c.self.view_is c.act_noted-answer.ensures.acts;
-      formatted = subst (λ (t : SessionState). OnOk c.act_noted-answer.result (IsFormat action → IsFormatted (present (session_history t)) (present (session_history c.act_noted-answer.new.self)))) c.self.view_is c.act_noted-answer.ensures.formatted;
-      unmoved = subst (λ (t : SessionState). OnErr c.act_noted-answer.result (c.act_noted-answer.new.self ≡ t)) c.self.view_is c.act_noted-answer.ensures.unmoved;
-      even = subst (λ (t : SessionState). length c.args.note.now ≤ note_limit → IsOverEven action (session_trail t) → IsOk c.act_noted-answer.result) c.self.view_is c.act_noted-answer.ensures.even;
-      small = subst (λ (t : SessionState). IsSmall (session_trail t) → IsSmall (session_trail c.act_noted-answer.new.self)) c.self.view_is c.act_noted-answer.ensures.small;
+    let u : SessionState = c.take_text-standing.new.self in
+    let t : SessionState = c.act_noted-answer.new.self in
+    let v : SessionState = c.written_since-written.new.self in
+    let stays : u ≡ s = c.take_text-standing.ensures.stays in
+    let from_u : HasActed action c.args.note.now u c.act_noted-answer.result t = record {
+      within = subst (λ (x : SessionState). x.cursor < length (session_history x).texts) (sym stays) c.take_text-standing.ensures.within;
+      acts = c.act_noted-answer.ensures.acts;
+      formatted = c.act_noted-answer.ensures.formatted;
+      unmoved = c.act_noted-answer.ensures.unmoved;
+      even = c.act_noted-answer.ensures.even;
+      small = c.act_noted-answer.ensures.small;
     } in
-    c.persist.ensures.kept s action c.args.note.now (c.cursor-from.ensures ∙ ap (λ (t : SessionState). t.cursor) c.self.view_is)
-    (subst (λ (t : SessionState). IfOk c.learned_text-standing.result (λ text. text.items ≡ present (session_history t))) c.self.view_is c.learned_text-standing.ensures.text)
-    (acted_as action c.args.note.now s c.act_noted-answer.result c.act_noted-answer.result c.act_noted-answer.new.self c.self-2.inside.course refl c.self-2.view_is acted)
+    let acted : HasActed action c.args.note.now s c.act_noted-answer.result t = subst (λ (x : SessionState). HasActed action c.args.note.now x c.act_noted-answer.result t) stays from_u in
+    let written : IsWrittenSince v s.cursor c.written_since-written.result =
+    subst (λ (k : ℕ). IsWrittenSince v k c.written_since-written.result) (c.cursor-from.ensures ∙ ap (λ (x : SessionState). x.cursor) stays) c.written_since-written.ensures.written in
+    subst (λ (x : SessionState). KeepsPair g.F.Files action c.args.note.now c.args.file.now s c.persist-kept.result x c.args.files.now c.persist-kept.new.files) (sym c.keep_text.ensures)
+    (c.persist-kept.ensures s v action c.args.note.now c.take_text-standing.ensures.text written
+    (acted_as action c.args.note.now s c.act_noted-answer.result c.act_noted-answer.result t v refl c.written_since-written.ensures.stays acted))

@@ -6,15 +6,12 @@ use Rattle.bz_journal.specs.State.{SessionState, IsSession}
 use Rattle.bz_journal.proofs.Resuming.{knows, lasts, same_state}
 use Rattle.bz_journal.proofs.session.Session.of_resumed.Goals as goal
 
-pub invariant_of-course : goal.invariant_of-course
-invariant_of-course c =
-    let r = c.args.resumed in
-    let current = string_bytes c.in_ok-package.package in
-    let same = same_state r.tree c.into_vec.result.items r.steps c.into_vec-2.result.items r.notes current current r.cursor r.cursor
-    c.into_vec.ensures c.into_vec-2.ensures refl in
-    subst (λ (s : SessionState). IsSession s) (sym same) (lasts c.texts_kept.ensures c.requires.0 c.requires.1 current r c.requires.2 c.in_ok-package.ensures)
-
 pub invariant_of-result : goal.invariant_of-result
 invariant_of-result c =
     let r = c.args.resumed in
-    c.into_vec-3.ensures ∙ knows c.requires.0 c.requires.1 r c.requires.2 ∙ ap (λ steps. map sha256 (texts_of (trail_at r.tree steps r.cursor))) (sym c.into_vec.ensures)
+    let current = string_bytes c.in_ok-package.package in
+    let same = same_state r.tree c.into_vec.result.items r.steps c.into_vec-3.result.items r.notes current current r.cursor r.cursor
+    c.into_vec.ensures c.into_vec-3.ensures refl in (
+      subst (λ (s : SessionState). IsSession s) (sym same) (lasts c.texts_kept.ensures c.requires.0 c.requires.1 current r c.requires.2 c.in_ok-package.ensures),
+      c.into_vec-2.ensures ∙ knows c.requires.0 c.requires.1 r c.requires.2 ∙ ap (λ steps. map sha256 (texts_of (trail_at r.tree steps r.cursor))) (sym c.into_vec.ensures),
+    )

@@ -1,27 +1,26 @@
-use Rattle.std.proofs.Common.{◌≡◌, ◌∙◌, ◌++◌, ◌∷◌, [], List, ap, map, rules, sym, take}
+use Rattle.std.proofs.Common.{◌≡◌, ◌∙◌, ap, map, sym}
 use Rattle.std.proofs.lemmas.Bool.{false≢true}
 use Rattle.sha2.specs.Sha256.{sha256}
 use Rattle.bz_tree.specs.Spell.{spell_node}
-use Rattle.bz_items.specs.Characters.{Bytes}
 use Rattle.bz_journal.specs.Actions.{action_in}
 use Rattle.bz_journal.specs.History.{History}
 use Rattle.bz_journal.specs.Shown.{session_history}
 use Rattle.bz_journal.proofs.Digested.{digest_put}
 use Rattle.bz_journal.proofs.Following.{Goes, goes}
-use Rattle.bz_journal.proofs.session.Session.act_noted.Goals as goal
+use Rattle.bz_journal.proofs.session.act_hashed.Goals as goal
 
-pub invariant_of-self-then-not-is_changed : goal.invariant_of-self-then-not-is_changed
-invariant_of-self-then-not-is_changed c =
-    let h : History = session_history c.self.inside.course in
+pub returns-then-not-is_changed-clause-digests : goal.returns-then-not-is_changed-clause-digests
+returns-then-not-is_changed-clause-digests c =
+    let h : History = session_history c.args.course.now in
     let after : History = session_history c.act-answer.new.course in
     let went : Goes c.act-answer.result h after = goes (action_in c.args.action.now) c.args.note.now h after c.act-answer.result c.act-answer.ensures.acted.within c.act-answer.ensures.acted.acts in
-    c.make_room.ensures.kept ∙ c.self.invariant
+    c.make_room.ensures.kept ∙ c.requires
     ∙ ap (map sha256) (sym (went.old (λ is. false≢true (sym c.if-not-is_changed.true ∙ c.is_changed.ensures.no is))))
 
-pub invariant_of-self-2 : goal.invariant_of-self-2
-invariant_of-self-2 c =
-    let h : History = session_history c.self.inside.course in
+pub returns-clause-digests : goal.returns-clause-digests
+returns-clause-digests c =
+    let h : History = session_history c.args.course.now in
     let after : History = session_history c.act-answer.new.course in
     let went : Goes c.act-answer.result h after = goes (action_in c.args.action.now) c.args.note.now h after c.act-answer.result c.act-answer.ensures.acted.within c.act-answer.ensures.acted.acts in
     digest_put c.act-answer.result h after c.cursor-cursor.result c.make_room.new.digests.items c.put_after.new.items.items (spell_node c.present.result.now) c.digest_of.result went
-    (c.is_changed.ensures.yes c.if-not-is_changed.false) c.cursor-cursor.ensures (c.make_room.ensures.kept ∙ c.self.invariant) c.present.ensures.text c.digest_of.ensures c.put_after.ensures
+    (c.is_changed.ensures.yes c.if-not-is_changed.false) c.cursor-cursor.ensures (c.make_room.ensures.kept ∙ c.requires) c.present.ensures.text c.digest_of.ensures c.put_after.ensures

@@ -1,0 +1,18 @@
+use Rattle.std.proofs.Common.{◌≢◌, ◌∙◌, ap, refl, subst, sym}
+use Rattle.bz_journal.specs.History.{present}
+use Rattle.bz_journal.specs.Lasting.{IsSavedSession, saved}
+use Rattle.bz_journal.specs.Shown.{session_history}
+use Rattle.bz_journal.specs.State.{SessionState}
+use Rattle.bz_journal.proofs.Following.{has_moved}
+use Rattle.bz_journal.proofs.editor.Editor.written_since.Goals as goal
+
+pub returns-clause-written : goal.returns-clause-written
+returns-clause-written c = (
+  subst (λ (x : SessionState). x.cursor ≢ c.args.from) (sym c.take_text.ensures.stays)
+      (has_moved c.cursor.result c.args.from _ c.args.from c.if-cursor-from.false c.cursor.ensures refl),
+  record {
+    told = c.in_ok-journal.ensures.told ∙ ap saved c.self.view_is;
+    own = subst (λ (x : SessionState). IsSavedSession x) c.self.view_is c.in_ok-journal.ensures.journal;
+    text = c.in_ok-text.ensures.text ∙ ap (λ (x : SessionState). present (session_history x)) (sym c.take_text.ensures.stays);
+  },
+)
