@@ -1,8 +1,13 @@
 -- A file whose journal tells its history, and what a stop leaves of the two.
-use Rattle.std.specs.Prelude.{◌≡◌, ◌≢◌, ◌⊎◌, ℕ, List, [], ◌∷◌, Some, None}
+use Rattle.std.specs.Prelude.{◌≡◌, ◌≢◌, ◌⊎◌, ◌≤◌, ℕ, true, List, [], ◌∷◌, Some, None, Result, IfErr, OnOk, IsOk, IsErrOf}
 use Rattle.std.specs.FinMap.{get}
 use Rattle.bz_edit.specs.declared.edit.Edit.{Edit}
-use Rattle.bz_files.specs.Folder.{Folder, Text, new_name}
+use Rattle.bz_files.specs.Folder.{Elapses, Folder, SameBut, Text, new_name}
+use Rattle.bz_files.specs.Faults.{Rises}
+use Rattle.bz_files.specs.Pair.{IsChecking, IsKeeping, IsNew, with_both}
+use Rattle.bz_files.specs.declared.files.Files.{Ghosts as FilesOf}
+use Rattle.bz_keep.specs.declared.fault.PairFault.{PairFault}
+use Rattle.bz_keep.specs.declared.fault.PairFault.TheVariants as f
 use Rattle.bz_resume.specs.Journals.{History, Journal, stands, text_at}
 use Rattle.bz_keep.specs.Pair.{journal_name}
 
@@ -50,3 +55,28 @@ pub record Survives (file : Text) (h after : History) (old now : Folder) : Type 
   pub holds : Holds now file h.package (present h) h.texts
       ⊎ (Holds now file h.package (present h) after.texts ⊎ Holds now file h.package (present after) after.texts)
   pub others : OthersStay file old now
+
+-- A journal and then its file are given these bytes, where the file still holds the text at which that was begun. (The file's name, that
+-- text, the bytes of both, what came of it, and the files before and after.)
+pub record Replaces {F : Type 0} (files : FilesOf F) (file standing told text : Text) (answer : Result (Unit {0}) PairFault) (old new : F) : Type 0 where
+  pub each : files.honest old ≡ true → (now : Folder) → files.since new (files.moment old) now
+      → IsKeeping (journal_name file) told file text (files.folder old) now
+  pub time : files.honest old ≡ true → Elapses (files.moment old) (files.moment new) (files.since old) (files.since new)
+      (IsChecking standing (journal_name file) told file text (files.folder old))
+  pub replaced : files.honest old ≡ true → OnOk answer
+      (SameBut (IsNew (journal_name file) file) (with_both (journal_name file) told file text (files.folder old)) (files.folder new))
+  -- Only where the file holds the text is anything replaced, and only where it doesn't is that said.
+  pub checked : files.honest old ≡ true → (IsOk answer) ⊎ (IsErrOf answer f.Write)
+      → get (files.folder old) file ≡ Some standing
+  pub changed : files.honest old ≡ true → IsErrOf answer f.Changed → get (files.folder old) file ≢ Some standing
+  pub apart : files.honest old ≡ true → (get (files.folder old) file ≡ Some standing)
+      ⊎ ((now : Folder) → files.since new (files.moment old) now → now ≡ files.folder old)
+  pub kinds : files.honest old ≡ true → get (files.folder old) file ≢ Some standing
+      → (IsErrOf answer f.Changed) ⊎ ((IsErrOf answer f.Open) ⊎ (IsErrOf answer f.Memory))
+  pub untouched : files.honest old ≡ true → IfErr answer (λ fault. fault ≢ f.Write
+      → (now : Folder) → files.since new (files.moment old) now → now ≡ files.folder old)
+  -- A Write and an Open are counted, and nothing else.
+  pub cause : (IsErrOf answer f.Write) ⊎ (IsErrOf answer f.Open) → Rises (files.faults old) (files.faults new)
+  pub kept : (IsErrOf answer f.Write → ⊥) → (IsErrOf answer f.Open → ⊥) → files.faults new ≡ files.faults old
+  pub count : files.faults old ≤ files.faults new
+  pub honest : files.honest new ≡ files.honest old

@@ -7,7 +7,7 @@ ghost use Rattle.bz_files.specs.Pair.{IsNew, IsKeeping, IsChecking, with_both};
 ghost use Rattle.bz_edit.specs.declared.edit.Edit.{Edit};
 ghost use Rattle.bz_resume.specs.Journals.{History};
 ghost use Rattle.bz_keep.specs.Pair.{journal_name};
-ghost use Rattle.bz_keep.specs.Resuming.{MayResume, Survives, Resumes, Holds, OthersStay, present};
+ghost use Rattle.bz_keep.specs.Resuming.{MayResume, Replaces, Survives, Resumes, Holds, OthersStay, present};
 
 use crate::PairFault;
 use bz_files::{FileFault, Files};
@@ -97,29 +97,7 @@ fn replace_pair<F: Files>(
     told: &[u8],
     text: &[u8],
 ) -> Result<(), PairFault>
-    ensures each { F.honest files.old ≡ true → (now : Folder) → F.since files.new (F.moment files.old) now
-        → IsKeeping (journal_name file.now) told.now file.now text.now (F.folder files.old) now }
-    ensures time { F.honest files.old ≡ true → Elapses (F.moment files.old) (F.moment files.new) (F.since files.old) (F.since files.new)
-        (IsChecking standing.now (journal_name file.now) told.now file.now text.now (F.folder files.old)) }
-    ensures replaced { F.honest files.old ≡ true → OnOk result
-        (SameBut (IsNew (journal_name file.now) file.now) (with_both (journal_name file.now) told.now file.now text.now (F.folder files.old)) (F.folder files.new)) }
-
-    // Only where the file holds the text is anything replaced, and only where it doesn't is that said.
-    ensures checked { F.honest files.old ≡ true → (IsOk result) ⊎ (IsErrOf result PairFault.Write)
-        → get (F.folder files.old) file.now ≡ Some standing.now }
-    ensures changed { F.honest files.old ≡ true → IsErrOf result PairFault.Changed → get (F.folder files.old) file.now ≢ Some standing.now }
-    ensures apart { F.honest files.old ≡ true → (get (F.folder files.old) file.now ≡ Some standing.now)
-        ⊎ ((now : Folder) → F.since files.new (F.moment files.old) now → now ≡ F.folder files.old) }
-    ensures kinds { F.honest files.old ≡ true → get (F.folder files.old) file.now ≢ Some standing.now
-        → (IsErrOf result PairFault.Changed) ⊎ ((IsErrOf result PairFault.Open) ⊎ (IsErrOf result PairFault.Memory)) }
-    ensures untouched { F.honest files.old ≡ true → IfErr result (λ fault. fault ≢ PairFault.Write
-        → (now : Folder) → F.since files.new (F.moment files.old) now → now ≡ F.folder files.old) }
-
-    // A Write and an Open are counted, and nothing else.
-    ensures cause { (IsErrOf result PairFault.Write) ⊎ (IsErrOf result PairFault.Open) → Rises (F.faults files.old) (F.faults files.new) }
-    ensures kept { (IsErrOf result PairFault.Write → ⊥) → (IsErrOf result PairFault.Open → ⊥) → F.faults files.new ≡ F.faults files.old }
-    ensures count { F.faults files.old ≤ F.faults files.new }
-    ensures honest { F.honest files.new ≡ F.honest files.old }
+    ensures { Replaces F.Files file.now standing.now told.now text.now result files.old files.new }
 {
     match check_file(alloc, files, file, standing) {
         Ok(()) => write_pair(alloc, files, file, standing, told, text),
