@@ -1,4 +1,4 @@
--- What is lent to be written, as a record.
+-- What is borrowed to be written, as a record.
 use Rattle.std.specs.Prelude.{ℕ, List, [], ◌∷◌}
 use Rattle.bz_edit.specs.declared.edit.Edit.{Edit}
 use Rattle.bz_record.specs.declared.content.Content.{Content}

@@ -34,7 +34,7 @@ pub struct Record {
     pub steps: Items<Entry>,
 }
 
-/// What a journal is to say, lent to be written.
+/// What a journal is to say, borrowed to be written.
 #[derive(Clone, Copy)]
 pub struct Content<'a> {
     /// The path of the file's package.
