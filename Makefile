@@ -14,7 +14,7 @@
 
 PROGRAMS = bin/buildozer bin/buildifier
 
-# where they are installed, and the folder that stands for the root while a package is made
+# where they are installed, and the folder that takes the place of the root while a package is made
 PREFIX ?= /usr/local
 DESTDIR ?=
 
@@ -33,7 +33,7 @@ rt:
 	@command -v rt > /dev/null || { \
 	    echo "rt was not found: install a Rattle kit (rattle-kit-13b or later) and put its bin folder on the PATH." >&2; exit 1; }
 
-# One call makes both, so that what both stand on is proved once, several crates at a time.
+# One call makes both, so that what both depend on is proved once, several crates at a time.
 $(PROGRAMS) &: $(SOURCES) | rt
 	@tools/build.py $(notdir $(PROGRAMS))
 

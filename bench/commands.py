@@ -1,14 +1,14 @@
 #!/usr/bin/env python3
 """What many commands in one run cost: the processor's time of the program, the least of several runs, and the most memory that
 it takes, for commands on made rules that are laid out as the program lays them out, 144 bytes each. The text is standard input,
-and the commands stand in a file of lines, each with its target. Each row has a run of one command beside it, so that what each
+and the commands are in a file of lines, each with its target. Each row has a run of one command beside it, so that what each
 further one costs can be seen.
 
     bench/commands.py [--long] [--journal] [PROGRAM..]
 
 Build the program first (make), or name others, which are run in turn, row by row, so that what else the machine does meets each
 of them. With --long come the rows that take more than a minute too. BEST_OF sets the runs of each (3). A memory of less than what
-this script takes itself, which stands in the last line, shows as that.
+this script takes itself, which is in the last line, shows as that.
 """
 import os
 import pathlib

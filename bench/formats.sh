@@ -1,6 +1,6 @@
 #!/bin/sh
 # Formats each BUILD, WORKSPACE and MODULE.bazel file below a folder: bench/formats.sh FOLDER. Prints the names of those that
-# were refused, whose formatted text is formatted to another one, or in which a comment stands more or less
+# were refused, whose formatted text is formatted to another one, or in which a comment occurs more or less
 # often (blanks at its end aside), and how many there were of each; the status is 1 where any was. Names and sizes are those
 # that bench/corpus.sh takes. Build the program first (make).
 set -eu

@@ -2,12 +2,12 @@
 """What keeping a journal costs: the processor's time of the program, the least of several runs, and the most memory that it takes,
 for commands in one run with --journal, each of which is kept as soon as it is done, on made rules that are laid out as the program
 lays them out, 144 bytes each; and for a further run that resumes the journal which this one leaves, and lists its texts. Beside each
-stands the same run without --journal. The program writes into a folder in memory, where that can be, so the disk's time is not in it.
+is the same run without --journal. The program writes into a folder in memory, where that can be, so the disk's time is not in it.
 
     bench/journals.py [PROGRAM [RULES COMMANDS]..]
 
 Build the program first (make), or name another one, and other numbers of rules and of commands on them. BEST_OF sets the runs of
-each (3). A memory of less than what this script takes itself, which stands in the last line, shows as that.
+each (3). A memory of less than what this script takes itself, which is in the last line, shows as that.
 """
 import os
 import pathlib

@@ -2,7 +2,7 @@
 """How long one run over many packages takes, and how much memory it takes at most: for 5,000 packages, each with a BUILD
 file of 10 rules, and a file of 20,000 lines that goes round all of them four times, so that each file stays open up to the
 end; and for half and a quarter of both. Each is run with --stdout, which leaves the files, and then without it. The second
-run has each file flushed to the disk, so its time is also the disk's: the processor's time is told too. The goal: twice of
+run has each file flushed to the disk, so its time is also the disk's: the processor's time is printed too. The goal: twice of
 both take at most 2.2 times the processor's time and the memory. Build the program first (make), or name another one, and
 another number of packages, of which a quarter is one at least:
 
@@ -21,7 +21,7 @@ RULES = 10
 # A rule without the layout, about a hundred bytes.
 RULE = 'cc_library( name="r%d",\n  srcs=["r%d.c","r%d_more.c"], hdrs = [ "r%d.h" ],\n  deps=[":base"])\n\n'
 
-# What the lines ask for, one command in each round; the package has this number.
+# What the lines request, one command in each round; the package has this number.
 ROUNDS = [
     "add deps //lib:a //lib:b|//p%d:r3",
     "set testonly True|//p%d:r7",

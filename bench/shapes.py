@@ -15,7 +15,7 @@ SIZE = 2_000_000
 ROUNDS = 9
 DEEP = 490
 
-# a shape is what stands in front, what is repeated, and what stands behind
+# a shape is what is in front, what is repeated, and what is after
 SHAPES = {
     "one long name": ("", "a", " = 1\n"),
     "one long string": ('x = "', "a", '"\n'),

@@ -1,15 +1,15 @@
 #!/usr/bin/env python3
-"""Asks each question of the sheet of cases while memory is refused, and looks at the answers.
+"""Puts each question of the sheet of cases while memory is refused, and looks at the answers.
 
 The program cases links the libraries and calls them itself: for each question a call, and for those about sessions, their weights
-and their journals a list of actions. Of each question's cases each one is asked by itself, and the k-th request for memory of
+and their journals a list of actions. Of each question's cases each one is put by itself, and the k-th request for memory of
 that run is refused (refused.c): that one alone, or that one and each one after it. Whatever k is, the run may not end by a signal,
 and what it leaves must be one of these:
 
 - the answer that ample memory gives;
-- no answer at all, with status 1: the program was told that memory was refused, which a question passes on;
+- no answer at all, with status 1: the program was given that memory was refused, which a question passes on;
 - of the question on laws, that a value of which some law speaks is not there; of that on copies, that one is not there; of that on journals, that
-  the pair was not written, since the files stand in memory too;
+  the pair was not written, since the files are in memory too;
 - of a question about actions, replies of which some are `8 Memory`. Then all else that it shows (the other replies, the place in the
   history, the present text, weights, the journal) must be what the same case shows without these actions, with ample memory: so
   a call that answers Memory has changed nothing.
@@ -35,7 +35,7 @@ SHEET = pathlib.Path(__file__).resolve().parent.parent / "crates" / "cases" / "s
 # the questions about actions, and the reply to one that was refused memory
 OF_ACTIONS = (b"session", b"weights", b"journal")
 REFUSED = b"= 8 Memory\n"
-# what may stand at an answer's end instead, since a question tells so that memory was refused to what it looks at
+# what may be at an answer's end instead, since a question says so that memory was refused to what it looks at
 INSTEAD = {
     b"laws": b"= not called, since a value that a law speaks of is not there\n",
     b"copies": b"= another copy\n",
@@ -47,11 +47,11 @@ NEVER = 10**15
 IDLE = b"undo 0\n"
 # no answer: the program ends with this status
 NONE = Left(1)
-# how many cases are asked where only some are, and how many requests of each are refused; where all are asked, up to which one each request is
+# how many cases are put where only some are, and how many requests of each are refused; where all are put, up to which one each request is
 # refused by itself, since a text at the limit of length makes a million of them
 SOME_CASES, SOME_REQUESTS, MOST_REQUESTS = 60, 8, 400
 
-# What is asked at once: a question, the texts that stand below it for each of its cases, and the texts of the case. A text is its lines,
+# What is put at once: a question, the texts that are below it for each of its cases, and the texts of the case. A text is its lines,
 # without the mark of the first one.
 Asked = collections.namedtuple("Asked", "question shared texts")
 # A run of the program, as memory.py has them.
@@ -70,7 +70,7 @@ def texts_of(lines):
 
 
 def cases():
-    """What the sheet asks, case by case."""
+    """The questions of the sheet, case by case."""
     found, question, lines = [], None, []
 
     def close():
@@ -94,7 +94,7 @@ def line_of(mark, text):
 
 
 def sheet_of(asked):
-    """The sheet that asks this alone."""
+    """The sheet that has this alone."""
     marks = [b"&"] * len(asked.shared) + [b">"] + [b"&"] * len(asked.texts)
     return asked.question + b"".join(map(line_of, marks, asked.shared + asked.texts))
 
@@ -104,7 +104,7 @@ def run_of(asked):
 
 
 def actions_of(asked):
-    """The actions of a case; its text stands behind them, or below the question."""
+    """The actions of a case; its text is after them, or below the question."""
     return asked.texts if asked.shared else asked.texts[:-1]
 
 

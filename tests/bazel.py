@@ -26,7 +26,7 @@ from files import report
 
 TOP = pathlib.Path(__file__).resolve().parent.parent
 MADE = sorted(folder for folder in (TOP / "tests/bazel").iterdir() if folder.is_dir())
-# What stands in a folder of tests/bazel beside the files of the package.
+# What is in a folder of tests/bazel beside the files of the package.
 OURS = shutil.ignore_patterns("text", "commands", "expected.json")
 # The first version of Bazel that reads such a workspace only with a network.
 WITHOUT_WORKSPACE = 7
@@ -42,7 +42,7 @@ SORTED = frozenset("compatible_with data deps exports hdrs implementation_deps r
 # What follows from the other attributes of a rule.
 DERIVED = ("rule-input", "rule-output", "made by")
 
-# What begins a rule in an answer as BUILD text: the folder of its file stands before the place.
+# What begins a rule in an answer as BUILD text: the folder of its file is before the place.
 PLACE = re.compile(r"^# (/.*)/BUILD:\d+:\d+\n", re.MULTILINE)
 # How a test ended, and the line on a file that is not formatted.
 RESULT = re.compile(r"^(//\S+) +((?:\(cached\) )?PASSED|FAILED)", re.MULTILINE)
@@ -63,7 +63,7 @@ kinduzar_programs(
     buildozer = {buildozer},
 )
 """
-# A repository that Bazel fetches for each test, also where nothing asks for coverage.
+# A repository that Bazel fetches for each test, also where nothing requests coverage.
 COVERAGE = 'filegroup(name = "coverage_report_generator", visibility = ["//visibility:public"])\n'
 
 LISTED = """load("@kinduzar//:defs.bzl", "buildifier_test")
@@ -148,7 +148,7 @@ class Workspace:
             shutil.copyfile(made / "text", package / "BUILD")
 
     def read_all(self):
-        """Keeps what Bazel reads before and after formatting, and after the commands, with what the programs told of it."""
+        """Keeps what Bazel reads before and after formatting, and after the commands, with what the programs reported of it."""
         self.put()
         self.before = self.read()
         files = [self.path / "read" / made.name / "BUILD" for made in MADE]
@@ -170,7 +170,7 @@ def held(element):
 
 
 def attributes_of(target):
-    """The kind of a target and its attributes, but for places; names that stand there without a value are kept as sets."""
+    """The kind of a target and its attributes, but for places; names that are there without a value are kept as sets."""
     found = {"kind": target.get("class", target.tag), "made by": target.get("generating-rule")}
     for part in target:
         name = part.get("name")
@@ -221,7 +221,7 @@ def of_package(targets, made, kept):
 
 
 def expected(made):
-    """The attributes of a package whose lists stand under `keep sorted`, and what its commands change."""
+    """The attributes of a package whose lists are under `keep sorted`, and what its commands change."""
     file = made / "expected.json"
     return json.loads(file.read_text()) if file.exists() else {}
 

@@ -88,7 +88,7 @@ LINES = [
     ("buildifier BUI", "", ["BUILD"]),
 ]
 
-# How a shell is begun, and what it is told first: where the completions are, and a key by which it adds the line to a file and
+# How a shell is begun, and what it is given first: where the completions are, and a key by which it adds the line to a file and
 # forgets it.
 BASH = """. "$SHARE/buildozer"; . "$SHARE/buildifier"
 tell() { printf '%s\\n' "$READLINE_LINE" >> "$LINE"; READLINE_LINE=; }; bind -x '"\\C-g": tell'
@@ -148,7 +148,7 @@ class Terminal:
         self.ready = self.wait(1)
 
     def read(self):
-        """Reads what the shell writes, so that it goes on, and answers what it asks of the terminal."""
+        """Reads what the shell writes, so that it goes on, and answers what it requests of the terminal."""
         try:
             while written := os.read(self.end, 65536):
                 if b"\x1b[c" in written or b"\x1b[0c" in written:
@@ -163,14 +163,14 @@ class Terminal:
         return self.line.read_text().splitlines() if self.line.exists() else []
 
     def wait(self, count):
-        """Waits until the shell has told that many lines, and gives whether it has."""
+        """Waits until the shell has written that many lines, and gives whether it has."""
         until = time.monotonic() + SECONDS
         while len(self.lines()) < count and time.monotonic() < until:
             time.sleep(0.02)
         return len(self.lines()) >= count
 
     def completed(self, typed):
-        """What becomes of a line, if the shell tells it."""
+        """What becomes of a line, if the shell writes it."""
         told = len(self.lines()) + 1
         self.type(typed + TAB + TELL)
         return self.lines()[told - 1] if self.wait(told) else None
@@ -198,7 +198,7 @@ def what_bash_replies(place):
     run = subprocess.run(["bash", "--norc", "--noprofile", "-c", REPLY], input=lines, **how)
     replies = [[text for text in line.split("\t") if text] for line in run.stdout.splitlines()]
     wrong = [f"{line}: {is_}, and not {want}" for (line, want), is_ in zip(REPLIES, replies) if is_ != want]
-    return wrong + ["a line has no reply"] * (len(replies) != len(REPLIES)) + [f"told: {run.stderr}"] * bool(run.stderr)
+    return wrong + ["a line has no reply"] * (len(replies) != len(REPLIES)) + [f"reported: {run.stderr}"] * bool(run.stderr)
 
 
 def words_of(shell, line, place):
@@ -217,7 +217,7 @@ def typed_in(shell):
         for typed, closing, words in LINES if terminal.ready else []:
             line = terminal.completed(typed)
             if line is None:
-                faults.append(f"{typed}: nothing is told")
+                faults.append(f"{typed}: nothing is written")
                 break
             found = words_of(shell, line + closing, place)
             if found != words:

@@ -2,7 +2,7 @@
 """Tries what contrib/ has for git, pre-commit, CI and editors, with the built programs, and looks whether the pictures are up to date.
 
 The hooks and the script of CI run in real repositories in a folder of their own; Vim, Emacs and Kakoune run without a screen. Each
-is told as not run where the tool isn't there, and is then not counted as failed.
+is reported as not run where the tool isn't there, and is then not counted as failed.
 
     tests/contrib.py BUILDOZER BUILDIFIER
 """
@@ -82,7 +82,7 @@ class Repository:
 
 
 def git_hook(programs, folder):
-    """The hook looks at what is to be committed, whatever stands in the folder, and changes nothing."""
+    """The hook looks at what is to be committed, whatever is in the folder, and changes nothing."""
     here = Repository(programs, folder)
     shutil.copy(CONTRIB / "git" / "pre-commit", here.path / ".git" / "hooks")
     here.add("other", ODD)
@@ -225,7 +225,7 @@ def on_save(chosen, *commands):
     return wrong
 
 
-# what stands for VS Code: it keeps what formats and what is told, and hands a text to it
+# a stub of VS Code: it keeps what formats and what is reported, and hands a text to it
 VSCODE = """
 const module_ = require("module"), load = module_._load, told = [];
 const providers = {};
@@ -243,7 +243,7 @@ providers[process.argv[3]].provideDocumentFormattingEdits(document_).then((edits
 
 
 def extension(programs, folder):
-    """The extension for VS Code is described in JSON, and gives the formatted text, or tells why not."""
+    """The extension for VS Code is described in JSON, and gives the formatted text, or says why not."""
     described = json.loads((CONTRIB / "vscode" / "package.json").read_text())
     main = str(CONTRIB / "vscode" / described["main"])
     faults = []
@@ -307,7 +307,7 @@ NEEDS = {
 
 
 def where_there(name, tool, scene):
-    """The scene, or where the tool isn't there one that tells so and finds nothing wrong."""
+    """The scene, or where the tool isn't there one that says so and finds nothing wrong."""
 
     def wrong(programs, folder):
         if shutil.which(tool):

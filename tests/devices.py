@@ -2,13 +2,13 @@
 """Runs the built programs where the system refuses them something, and looks at what they leave.
 
 Outputs that are full, closed, or no longer read; inputs that are closed, or a folder; packages without an end; a disk that is full;
-folders in which nobody may write; names that are no file's; links that go round, lead nowhere or elsewhere; and what stands in the
+folders in which nobody may write; names that are no file's; links that go round, lead nowhere or elsewhere; and what is in the
 way of the new file. Each run is compared with what the pages say must come: its status, its lines, and the bytes of all files after it.
 Where the script runs as root the programs run as nobody, since rights are nothing to root.
 
-Both programs pass over the signal of a pipe that nobody reads, and tell it as an output that cannot be written. That of a file past
-the limit of its size they leave to the system, which ends them by it: then the file stands as it was. Where it is passed over, by
-whoever starts them, it is told as any other failure.
+Both programs pass over the signal of a pipe that nobody reads, and report it as an output that cannot be written. That of a file past
+the limit of its size they leave to the system, which ends them by it: then the file is as it was. Where it is passed over, by
+whoever starts them, it is reported as any other failure.
 
     tests/devices.py BUILDOZER BUILDIFIER
 """
@@ -36,9 +36,9 @@ EDIT = ["set k 1", "//:x"]
 FIXED = b"fixed BUILD\n"
 UNREAD = b"<stdin>: cannot open\n"
 UNSHOWN = b"<stdout>: cannot write\n"
-# the addresses that are enough to tell of any input that it is too long
+# the addresses that are enough to report of any input that it is too long
 ENOUGH = 256 << 20
-# the file that each program rewrites, and what it is told where that can't be
+# the file that each program rewrites, and what it reports where that can't be
 FORMAT = ("buildifier", ["f"], {"f": ODD}, {"f": EVEN})
 CHANGE = ("buildozer", EDIT, {"BUILD": RULE}, {"BUILD": SET})
 FAILED = {"buildifier": 3, "buildozer": 2}
@@ -101,7 +101,7 @@ def in_place(scene):
 
 
 def a_full_output(p):
-    """It is told, and files are written all the same."""
+    """It is reported, and files are written all the same."""
     put(p.folder, {"BUILD": RULE})
     for redirect in (">/dev/full", ">&-"):
         p.leaves("buildifier", [], (3, b"", UNSHOWN), redirect=redirect, text=ODD)
@@ -127,7 +127,7 @@ def an_input_that_cannot_be_read(p):
 
 
 def closed_errors(p):
-    """What can't be told changes nothing: not the status, and no file that takes the number of the closed stream."""
+    """What can't be reported changes nothing: not the status, and no file that takes the number of the closed stream."""
     for redirect in ("2>&-", "2>/dev/full", "<&- 2>&-", "<&- >&- 2>&-", ">&- 2>&-"):
         put(p.folder, {"BUILD": RULE, "f": ODD, "g": b"x(\n"})
         p.leaves("buildifier", ["g", "f", "none"], (3, b"", b""), {"f": EVEN}, redirect=redirect)
@@ -150,7 +150,7 @@ def a_reader_that_goes(p):
 
 
 def packages_of_any_length(p):
-    """No more is read of one than one byte past the limit of a text: it is told as too large, and memory is not refused."""
+    """No more is read of one than one byte past the limit of a text: it is reported as too large, and memory is not refused."""
     (p.folder / "BUILD").touch()
     os.truncate(p.folder / "BUILD", 1 << 40)
     for words in (EDIT, ["--stdout", *EDIT], ["--journal", *EDIT]):
@@ -172,7 +172,7 @@ def limited(count):
 
 
 def a_limit_of_files(p):
-    """Where its signal is passed over it is told; where it isn't the program ends by it. The file stays either way."""
+    """Where its signal is passed over it is reported; where it isn't the program ends by it. The file stays either way."""
     for program, words, before, after in (FORMAT, CHANGE):
         (name,) = before
         for count in range(0, len(after[name])):
@@ -223,7 +223,7 @@ def a_folder_that_nobody_may_write(p):
 
 
 def names_that_are_no_files(p):
-    """Each is told once, in the order of the words, and the file beside them is written."""
+    """Each is reported once, in the order of the words, and the file beside them is written."""
     put(p.folder, {"f": ODD, "d/g": ODD})
     (p.folder / "itself").symlink_to("itself")
     (p.folder / "one").symlink_to("other")
@@ -245,7 +245,7 @@ def held_to(count):
 
 def a_file_without_an_end(p):
     """By its name it is not opened, and the file beside it is written; of standard input no more is read than a text may have and one
-    byte by which that is told."""
+    byte by which that is known."""
     (p.folder / "endless").symlink_to("/dev/zero")
     put(p.folder, {"f": ODD})
     lines = b"endless: cannot open\n/dev/zero: cannot open\n"
@@ -263,7 +263,7 @@ def packages_that_are_no_files(p):
     (p.folder / "m").symlink_to("m")
     lines = b"d/BUILD.bazel: cannot open\ne/BUILD: cannot open\nl/BUILD.bazel: cannot open\nl/BUILD: cannot open\n"
     ended = p.ended("buildozer", ["-k", "set k 1", "//d:x", "//e:x", "//l:x", "//:x"])
-    # a missing BUILD behind a link that goes round may be told too, or not: the link was
+    # a missing BUILD behind a link that goes round may be reported too, or not: the link was
     told_lines = ended[2].replace(b"l/BUILD: cannot open\n", b"")
     wanted = lines.replace(b"l/BUILD: cannot open\n", b"") + b"fixed d/BUILD\n" + FIXED
     p.expect("packages that are no files", (ended[0], ended[1], told_lines), (2, b"", wanted))
@@ -274,7 +274,7 @@ def packages_that_are_no_files(p):
 
 
 def what_stands_in_the_way(p):
-    """A new file's name that is a folder's is told; one that is a link goes, and what the link names stays."""
+    """A new file's name that is a folder's is reported; one that is a link goes, and what the link names stays."""
     for program, words, before, after in (FORMAT, CHANGE):
         (name,) = before
         new = p.folder / f"{name}.bznew"

@@ -37,7 +37,7 @@ from crates import TOP, copy_sources, libraries_of, take_library
 EDITS = TOP / "edits"
 # how long one check may take, in seconds: the search for a proof that isn't there can be without an end
 LONGEST = 900
-# what a check of some functions ends with: how many were asked for, and how many were proved
+# what a check of some functions ends with: how many were requested, and how many were proved
 ENDED = re.compile(r"^only=(\d+) proved=(\d+)", re.MULTILINE)
 # where the prover stops, and what it says there
 ERROR = re.compile(r"^(?:note: )?(\S+:\d+:\d+: .*error.*|\S+\.(?:rt|antt):\d+:\d+: .*)", re.MULTILINE)
@@ -86,7 +86,7 @@ def apply(edit, folder):
 
 
 def function_at(file, text, place):
-    """The path, below its crate, of the function that stands around a place of a file of src/; '' where none does."""
+    """The path, below its crate, of the function that is around a place of a file of src/; '' where none does."""
     module = [part for part in pathlib.PurePath(file).with_suffix("").parts[1:] if part not in ("lib", "main", "mod")]
     owner, function, is_inside = "", "", False
     for line in text[:place].split("\n") + [text[place:].split("\n")[0]]:
@@ -116,7 +116,7 @@ def run(command, folder):
                 RUNNING.discard(started)
 
 
-# the commands that run now, which an end that is asked for ends too, and whether it was asked for
+# the commands that run now, which an end that is requested ends too, and whether it was requested
 RUNNING, RUNNING_LOCK, ENDS = set(), threading.Lock(), threading.Event()
 
 
@@ -230,7 +230,7 @@ def try_all(chosen, count):
 
 
 def main():
-    # An end that is asked for is an end as any other, so that the copies are removed.
+    # An end that is requested is an end as any other, so that the copies are removed.
     signal.signal(signal.SIGTERM, lambda *_: sys.exit(143))
     chosen = sys.argv[1:] or [name for name in libraries_of() if edits_of(name)]
     unknown = [name for name in chosen if name not in libraries_of() or not edits_of(name)]

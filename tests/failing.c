@@ -4,7 +4,7 @@
  * say which call of which kind does what: `7` is the seventh alone, `7-` the seventh and each one after it. A number as HOW is that
  * of the error with which it fails; `short` is a read or write of one byte, `none` of no byte; `kill` ends the program before the call; `change` and
  * `remove` are another program's work right before the call, which gives FAILING_FILE the bytes of FAILING_BYTES, or removes it;
- * `stop` has the program wait before the call until it is told to go on.
+ * `stop` has the program wait before the call until it is ordered to go on.
  * Where that comes to pass, a line is written to the open file whose number is FAILING_TOLD: what was called, and on which file.
  */
 #define _GNU_SOURCE
@@ -57,7 +57,7 @@ static int is_meant(const char *call, int file, const char *name)
     if (++calls < first || (calls > first && !is_each))
         return 0;
     int length = name ? snprintf(line, sizeof line, "%s %s\n", call, name) : snprintf(line, sizeof line, "%s %d\n", call, file);
-    /* who runs the program waits for a line, and a run that cannot tell must not pass for one in which nothing failed */
+    /* who runs the program waits for a line, and a run that cannot report must not pass for one in which nothing failed */
     if (length >= (int)sizeof line || syscall(SYS_write, told, line, length) != length)
         _exit(125);
     if (strcmp(how, "kill") == 0)
@@ -144,7 +144,7 @@ int openat(int folder, const char *name, int flags, ...)
 
 int close(int file)
 {
-    /* a file is closed whatever is told of it */
+    /* a file is closed whatever is reported of it */
     int is_failed = fails("close", file, NULL), why = errno;
     int closed = syscall(SYS_close, file);
     if (is_failed)

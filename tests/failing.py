@@ -1,7 +1,7 @@
 #!/usr/bin/env python3
 """Runs the built programs with each of their calls to the system failing in turn, and looks at what they leave.
 
-A small library of C (failing.c), which stands between a program and the C library, lets the k-th open, read, write, flush, rename
+A small library of C (failing.c), which is between a program and the C library, lets the k-th open, read, write, flush, rename
 or the like fail, by several errors, or be short, or ends the program right before it, or has another program change or remove a
 file there; for k = 1, 2, .. until a run meets no such call; over each of the worked rows. Whatever fails, no run may end by a
 signal of its own, and each file must be whole, as it was or as the run without a failure leaves it, but for those whose names end
@@ -105,7 +105,7 @@ def is_cut_from(told_lines, lines):
 
 
 def is_within(part, whole):
-    """Whether the lines of a text stand in another one, in their order; the last one may be cut."""
+    """Whether the lines of a text occur in another one, in their order; the last one may be cut."""
     rest = iter(whole.splitlines(keepends=True))
     return all(any(other.startswith(line) for other in rest) for line in part.splitlines(keepends=True))
 
@@ -141,13 +141,13 @@ class Allowed:
         return self.files_wrong(left) + self.told_wrong(left, failed)
 
     def told_wrong(self, left, failed):
-        """Where something is not as without a failure that must be told, and the status with it."""
+        """Where something is not as without a failure that must be reported, and the status with it."""
         lines = left.err.splitlines()
         known = {line for run in self.all for line in run.err.splitlines()}
         faults = [found for found in map(FAULT.fullmatch, lines) if found]
         new = [found for found in faults if found[0] not in self.ample.err.splitlines()]
         cuts = "write 2" in failed
-        wrong = [] if new or cuts else [f"nothing is told: {left}"]
+        wrong = [] if new or cuts else [f"nothing is reported: {left}"]
         # lines of operands that can't be read are a fault of usage
         usage = {1} if self.row.program == "buildozer" and "-f" in self.row.words else set()
         if left.status not in {FAILED[self.row.program]} | usage:
@@ -155,7 +155,7 @@ class Allowed:
         if not cuts:
             wrong += [f"the line {line}" for line in lines if line not in known and not FAULT.fullmatch(line) and not BEHIND.fullmatch(line)]
         unwritten = {found[1].decode() for found in faults if found[2] == b"write"}
-        wrong += [f"{name} is written, and told as not" for name in unwritten & set(self.row.files) if left.files.get(name) != self.row.files[name]]
+        wrong += [f"{name} is written, and reported as not written" for name in unwritten & set(self.row.files) if left.files.get(name) != self.row.files[name]]
         if not any(is_within(left.out, run.out) for run in self.all):
             wrong.append(f"standard output {left.out!r}")
         return wrong
@@ -203,7 +203,7 @@ EDITS = {
 
 def another_program(program, way):
     """It changes or removes the file right before a call: what it left stays, but where it comes in between the last read of the file
-    and the rename, when nobody can tell; the new file is there before that read."""
+    and the rename, when nobody can know; the new file is there before that read."""
     row = EDITS[program]
     (name, before), *_ = row.files.items()
     line = f"{name}: cannot write\n".encode()
@@ -221,7 +221,7 @@ def another_program(program, way):
                     # the file is read again behind that
                     is_right = text == (CHANGED if way == "change" else None) and is_told
                 elif way == "change":
-                    # read as a whole before or after the change, or told
+                    # read as a whole before or after the change, or reported
                     is_right = text == CHANGED and (is_told or left.err in unharmed or b": cannot" in left.err or b"(41)" in left.err) or text == after
                 else:
                     is_right = text is None or text == after

@@ -94,7 +94,7 @@ def printed(folder):
 
 
 def all_are_tried(folder):
-    """A missing file, a folder and a text that is refused are told, and the others are formatted."""
+    """A missing file, a folder and a text that is refused are reported, and the others are formatted."""
     file = folder.file("f", ODD)
     folder.file("d/BUILD", EVEN)
     folder.file("g", b"x(\n")
@@ -124,7 +124,7 @@ def link(folder):
 
 
 def closed_folder(folder):
-    """Where no file may be made, that is told, and the file stays."""
+    """Where no file may be made, that is reported, and the file stays."""
     file = folder.file("p/f", ODD)
     if os.geteuid() == 0:
         return True  # who may do all is refused nothing

@@ -1,8 +1,8 @@
-"""The form of a journal, written from what it says: so the scripts on journals know the bytes that must come without asking the
+"""The form of a journal, written from what it says: so the scripts on journals know the bytes that must come without a call of the
 program, and forge others under a right closing digest.
 
-A journal is a list of pieces, each a line up to where its numbers end, and what stands behind these as it is; so a number can be
-written in another way wherever it stands.
+A journal is a list of pieces, each a line up to where its numbers end, and what is after these as it is; so a number can be
+written in another way wherever it is.
 """
 
 import collections
@@ -72,7 +72,7 @@ def spelled(journal):
 
 
 def numbers_in(some):
-    """Where numbers stand in pieces behind the first line: the piece, and from where to where in its line."""
+    """Where numbers are in pieces after the first line: the piece, and from where to where in its line."""
     return [(place, *found.span()) for place, piece in list(enumerate(some))[1:] for found in NUMBER.finditer(piece.head)]
 
 

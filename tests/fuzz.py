@@ -4,7 +4,7 @@
 That is a run that ends by a signal or takes more than ten seconds of a processor; a status that the pages do not have; and a
 difference between two ways to one end: a text formatted once and twice, checked and formatted, formatted as standard input and as a
 file; the text of --stdout and the file that is written; commands of one run, and of a run each; a rule that is added and taken
-back, and the bytes as they were; a file that is told as refused, and its bytes after that.
+back, and the bytes as they were; a file that is reported as refused, and its bytes after that.
 
 Each case is made from its number alone. A case that shows something is printed with its number, its words, its standard input and
 its files, and the run ends with status 1; the number repeats it.
@@ -111,7 +111,7 @@ class Chance(random.Random):
 
 
 class Runs:
-    """The runs of one case in a folder of its own, each of which is kept, to tell it."""
+    """The runs of one case in a folder of its own, each of which is kept, to report it."""
 
     def __init__(self, programs, folder):
         self.programs = programs

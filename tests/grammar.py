@@ -12,7 +12,7 @@ STRINGS = ['"a"', "'b'", '""', "''", '"//a/b:b"', '":x"', "'# no comment'", '"it
 BINARY = [["or"], ["and"], ["==", "!=", "<", ">", "<=", ">=", "in", "not in"], ["|"], ["^"], ["&"], ["<<", ">>"], ["+", "-"], ["*", "/", "//", "%"]]
 ASSIGN = ["=", "+=", "-=", "*=", "/=", "//=", "%=", "&=", "|=", "^=", "<<=", ">>="]
 COMMENTS = ["# c", "#", "# keep sorted", "# do not sort", "# buildifier: leave-alone", "#\u00e9 ", "# \\", "## '\"", "#\tt\t"]
-# between two of these characters a gap may be empty, whatever stands on the other side
+# between two of these characters a gap may be empty, whatever is on the other side
 ALONE = set("()[]{},")
 
 

@@ -42,7 +42,7 @@ def put(folder, files):
 
 
 def files_in(folder):
-    """What stands in each file below a folder, by its name."""
+    """What is in each file below a folder, by its name."""
     top = pathlib.Path(folder)
     return {str(file.relative_to(top)): file.read_bytes() for file in top.rglob("*") if file.is_file()}
 

@@ -102,7 +102,7 @@ def installed(copy):
 
 
 def installed_elsewhere(copy):
-    """Below another folder, of which make or its environment is told."""
+    """Below another folder, which is given to make or to its environment."""
     wrong = different("install", copy.make("install", "PREFIX=/opt/a folder"), (0, ""))
     wrong += different("files", copy.installed(""), {f"opt/a folder/{file}": mode for file, mode in FILES.items()})
     variables = [f"DESTDIR={copy.root}", "PREFIX=/other"]
@@ -124,7 +124,7 @@ def not_built(copy):
     """Nothing is installed where one of the programs was not built."""
     (copy.top / "bin/buildifier").unlink()
     status, told = copy.make("install")
-    wrong = different("told", told.splitlines()[0], "bin/buildifier was not found: run make first.")
+    wrong = different("printed", told.splitlines()[0], "bin/buildifier was not found: run make first.")
     return wrong + ["it ends well"] * (status == 0) + different("files", copy.installed(), {})
 
 

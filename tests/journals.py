@@ -31,12 +31,12 @@ SAMPLE = 150
 # how many one run takes
 BATCH = 500
 # what a run may take of memory while it reads a journal that promises much, beside what a small one takes, in KiB; and all that it
-# may ask for, in bytes
+# may request, in bytes
 ROOM = 64 * 1024
 ADDRESSES = 500_000_000
 # the longest note and package, in bytes
 LONGEST = 65_536
-# levels of a tree, and how many of them stand above the value of an assignment
+# levels of a tree, and how many of them are above the value of an assignment
 LEVELS, ABOVE = 500, 3
 
 # ---- worked by hand: the texts
@@ -113,7 +113,7 @@ SAVED_ADD = Journal(b"p", [ODD, EVEN], 1, 0, [Step(TO_ODD, ADD)])
 SAVED_BACK = Journal(b"p", [ODD, EVEN], 0, 1, [Step(TO_EVEN, ADD)])
 SAVED_ADD_1 = SAVED_ADD._replace(version=1)
 
-# A file of one number, which was another one before: what is forged. Its value stands at the third part of its statement.
+# A file of one number, which was another one before: what is forged. Its value is at the third part of its statement.
 ONE, TWO = b"x = 1\n", b"x = 2\n"
 VALUE = ([0, 0], 2, 1)
 
@@ -256,7 +256,7 @@ CHANGES = {
     "a closing digest of nothing": lambda lines: lines + b"end " + digest(b"") + b"\n",
 }
 
-# First lines, and what is told of the journals that begin with them.
+# First lines, and what is reported of the journals that begin with them.
 VERSIONS = {
     b"bzjournal 0\n": 72, b"bzjournal 3\n": 72, b"bzjournal 9\n": 72, b"bzjournal 10\n": 72, b"bzjournal 22\n": 72, b"bzjournal 4294967298\n": 72,
     b"bzjournal 18446744073709551618\n": 72, b"bzjournal " + b"7" * 1000 + b"\n": 72, b"bzjournal 9\n\xff": 72,
@@ -305,7 +305,7 @@ OPENED = {
 
 # ---- many journals in one run, each in a package of its own
 
-# A case: what it is, the text of the file, the journal by the package's name, and the number that is told.
+# A case: what it is, the text of the file, the journal by the package's name, and the number that is reported.
 Case = collections.namedtuple("Case", "name text journal number", defaults=[71])
 
 
@@ -342,7 +342,7 @@ def see_refused(w, cases, names):
     if (status, out, lines) != (2, b"", [line for first, rest in zip(wanted, hints) for line in [first, *rest]]):
         w.wrong += [f"status {status}, output {out[:200]}"] if (status, out) != (2, b"") else []
         others = [f"{case.name}: not {line}" for case, line in zip(cases, wanted) if line not in lines]
-        w.wrong += others[:5] + [f"of {len(cases)} are told otherwise: {len(others)}", f"errors {err[:300]}"]
+        w.wrong += others[:5] + [f"of {len(cases)} are reported otherwise: {len(others)}", f"errors {err[:300]}"]
     changed = [name for name, text in w.left().items() if files.get(name) != text]
     w.wrong += [f"changed: {changed[:5]}"] if changed else []
 
@@ -556,8 +556,8 @@ RUNS = {
         (["--", "new cc_library a", "undo", "journal", "-:__pkg__"], 3, told(listing([b"", NEW], 0, [b"new cc_library a"]))),
     ),
     "listing alone gives no text of standard input": runs({}, (["--", "journal", "-:all"], 3, told(b"* 0 " + digest(b"") + b"\n"))),
-    "--quiet tells no file that was written": runs(FILE, (["--quiet", *ADDING], 0, told(after=ADDED)), (["--quiet", *UNDOING], 0, told(after=BACK))),
-    "--quiet tells what is refused": runs({P: ODD, KEPT: b""}, (["--quiet", *ADDING], 2, told(err=DAMAGED))),
+    "--quiet prints no file that was written": runs(FILE, (["--quiet", *ADDING], 0, told(after=ADDED)), (["--quiet", *UNDOING], 0, told(after=BACK))),
+    "--quiet prints what is refused": runs({P: ODD, KEPT: b""}, (["--quiet", *ADDING], 2, told(err=DAMAGED))),
     "BUILD.bazel has a journal of its own": runs(
         {"p/BUILD.bazel": ODD, P: TWO, KEPT: b"none"},
         (ADDING, 0, told(err=fixed("p/BUILD.bazel"), after={"p/BUILD.bazel": EVEN, "p/BUILD.bazel.journal": spelled(SAVED_ADD)})),
@@ -578,7 +578,7 @@ RUNS = {
         {P: EVEN, KEPT: spelled(SAVED_ADD_1)}, (LISTING, 3, told(listing([ODD, EVEN], 1, [b""]))),
         (UNDOING, 0, told(err=fixed(P), after={P: ODD, KEPT: spelled(SAVED_BACK._replace(steps=[Step(TO_EVEN)]))})),
     ),
-    "another version is told": runs({P: ODD, KEPT: b"bzjournal 9\n"}, (ADDING, 2, told(err=b"p/BUILD.journal: Version (72)\n"))),
+    "another version is reported": runs({P: ODD, KEPT: b"bzjournal 9\n"}, (ADDING, 2, told(err=b"p/BUILD.journal: Version (72)\n"))),
     # journals that don't fit
     "the journal of another package": runs(
         {P: EVEN, KEPT: spelled(SAVED_ADD._replace(package=b"q"))}, (UNDOING, 2, told(err=DAMAGED)), (LISTING, 2, told(err=DAMAGED))
@@ -653,7 +653,7 @@ def a_new_journal_has_the_bits_of_its_file(w):
 
 
 def unopened(w, *files):
-    """A journal that can't be read is told, nothing is run on its file, and with -k the run goes on with the next one."""
+    """A journal that can't be read is reported, nothing is run on its file, and with -k the run goes on with the next one."""
     put(w.path, {**dict(files), P: ODD, "q/BUILD": ODD})
     err = b"p/BUILD.journal: cannot open\n"
     first = w.leaves(["--journal", "print name", "//p:a", "//q:a"], 2, err=err)
@@ -672,7 +672,7 @@ def a_journal_that_nobody_may_read_is_told(w):
 
 
 def unwritten(w, **after):
-    """The first command that can't be kept is told, and with -k too nothing more is run on this file and its journal; other files are edited."""
+    """The first command that can't be kept is reported, and with -k too nothing more is run on this file and its journal; other files are edited."""
     put(w.path, {"q/BUILD": EVEN.replace(b":x", b":y")})
     words = ["-k", "--journal", "add deps //p:x", "print deps", "undo", "journal", "delete", "//p:a", "//p:all", "//q:none"]
     missing = b"".join(b"buildozer: q/BUILD: %s: NoTarget (41)\n" % command for command in (b"add deps //p:x", b"print deps"))

@@ -2,8 +2,8 @@
 """Kills the built program buildozer at moments by chance while it edits a file with --journal, and looks at what the next run finds.
 
 The program runs some hundred commands from a file of lines, each of which it keeps as soon as it is done, and is killed in the midst
-of them. What must be there is known from a small model of the commands: the texts that stood one behind the other, and at each moment
-the history, and where it stood. So after each kill
+of them. What must be there is known from a small model of the commands: the texts that came one after the other, and at each moment
+the history, and where its cursor was. So after each kill
 
 - the file holds a text of that model, whole, and the next run lists a history of it, with the mark at this very text;
 - run by run, undo gives each earlier text back byte for byte, down to the first one, and then there is none.
@@ -29,7 +29,7 @@ from forging import listing
 from hostile import PATIENCE, WHOLE, new_folder, put
 
 MOMENTS = 100 if WHOLE else 20
-# how many commands a run is asked for, and how many texts its history may have at most, so that it is soon undone
+# how many commands are requested of a run, and how many texts its history may have at most, so that it is soon undone
 COMMANDS = 120
 MOST = 6
 RULES = 2
@@ -111,7 +111,7 @@ class Killed:
         return subprocess.Popen(words, cwd=self.folder, stdin=subprocess.DEVNULL, stdout=subprocess.DEVNULL, stderr=subprocess.PIPE)
 
     def kill(self, seconds):
-        """Kills the run so many seconds behind its start, and gives how it ended and what it told."""
+        """Kills the run this many seconds after its start, and gives how it ended and what it reported."""
         with self.start() as run:
             time.sleep(seconds)
             run.send_signal(signal.SIGKILL)

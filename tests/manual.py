@@ -1,6 +1,6 @@
 #!/usr/bin/env python3
 """Makes the pages buildozer.1 and buildifier.1, and looks in them for all that the code has: each command, option, mode, status and
-refusal must stand there as an entry. Where `man` or `mandoc` is there, it must read the pages without a warning.
+refusal must be there as an entry. Where `man` or `mandoc` is there, it must read the pages without a warning.
 
     tests/manual.py
 """
@@ -14,10 +14,10 @@ import tempfile
 from files import report
 from readme import CRATES, TOP, refusals_of_code, texts_in
 
-# the crates in which a program's statuses stand, and the file with its options
+# the crates in which a program's statuses are, and the file with its options
 STATUSES = {"buildozer": ("buildozer", "bz_engine"), "buildifier": ("buildifier", "bz_tools")}
 OPTIONS = {"buildozer": "bz_line/specs/App.antt", "buildifier": "bz_tools/specs/Modes.antt"}
-# refusals of a text; buildifier tells them all, and of the others those of a formatted text
+# refusals of a text; buildifier reports them all, and of the others those of a formatted text
 OF_TEXTS, OF_FORMATTED = range(1, 9), (21, 22)
 READERS = {
     "man": ["man", "--warnings=w", "-E", "UTF-8", "-l"],

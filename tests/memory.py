@@ -1,13 +1,13 @@
 #!/usr/bin/env python3
 """Runs the built programs with memory refused at each request in turn, and looks at what they leave.
 
-A small library of C (refused.c), which stands between a program and the C library, refuses the k-th request for memory: that one
+A small library of C (refused.c), which is between a program and the C library, refuses the k-th request for memory: that one
 alone, and that one and each one after it; for k = 1, 2, .. until a run meets no refusal. Whatever k is, no run may end by a
 signal, and each must leave what ample memory gives, or what its row allows beside that: the answer in which a command was
 refused memory, which changes nothing. So the rows show of the programs what is proved of the session: an undo or redo over a step
 whose edits hold as many parts as they cover takes no memory, whatever else is refused, since no such answer is allowed there.
 
-Beside them stand the rows that both programs were worked out by (worked.py). What each of these may leave is found by runs with
+Beside them are the rows that both programs were worked out by (worked.py). What each of these may leave is found by runs with
 ample memory: of all its commands, and of some of them only, since one that is refused memory changes nothing. Of some rows some
 requests are refused; with HOSTILE=whole in the environment, each request of each row.
 
@@ -68,7 +68,7 @@ ACTIONS = "> set deps :y -:a\n& undo 1\n& redo 1\n& undo 1\n"
 
 
 def lines_of(text, mark):
-    """A text as it stands on the sheet."""
+    """A text as it is on the sheet."""
     return mark + " " + text.decode().replace("\n", "\n| ").removesuffix("| ") + "|\n"
 
 
@@ -159,7 +159,7 @@ class Refusing:
         return Left(run.returncode, run.stdout, run.stderr), was_refused
 
     def over_files(self, row, refused):
-        """The same of a row with files, and what stands in these behind it, but for those whose names end in .bznew."""
+        """The same of a row with files, and what is in these after it, but for those whose names end in .bznew."""
         with new_folder() as folder:
             put(folder, row.files)
             left, was_refused = self.ended(row, refused, folder)
@@ -240,14 +240,14 @@ class Allowed:
         self.files = {name: [row.files.get(name), *(after.get(name) for _, after in runs)] for name in names}
 
     def wrong(self, left, files):
-        """What is wrong with what a run left; where memory was refused that must be told, with the status of it."""
+        """What is wrong with what a run left; where memory was refused that must be reported, with the status of it."""
         if (left, files) == (self.ample, self.after):
             return []
         found = [f"the file {name}: {files.get(name)!r}" for name in {*files, *self.files} if files.get(name) not in self.files.get(name, [])]
         lines = left.err.splitlines()
         told = [line for line in lines if MEMORY.fullmatch(line) and line not in self.ample.err.splitlines()]
         if left.status != FAILED[self.row.program] or not told:
-            found.append(f"status {left.status}, and told is {left.err!r}")
+            found.append(f"status {left.status}, and reported is {left.err!r}")
         found += [f"the line {line}" for line in lines if line not in self.known and not MEMORY.fullmatch(line) and not BEHIND.fullmatch(line)]
         return found + ([] if left.out in self.outs else [f"standard output {left.out!r}"])
 

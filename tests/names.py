@@ -6,7 +6,7 @@
     tests/names.py --write writes that list anew
 
 Read are the definitions of specs/ and the public types, calls and constants of src/. Left out are names that Rust and these crates give
-to many (new, copy, len), those of programs and of what tests stand on, which no contract cites, and the terms that worked rows are made of,
+to many (new, copy, len), those of programs and of what tests depend on, which no contract cites, and the terms that worked rows are made of,
 which other worked rows alone cite.
 """
 import collections
@@ -23,8 +23,10 @@ ACCEPTED = pathlib.Path(__file__).with_suffix(".txt")
 HABIT = {"new", "copy", "equals", "number", "of", "read", "len", "get", "push", "as_slice", "open", "name", "is_empty", "mod"}
 # crates whose names no contract cites
 ASIDE = {"sheets", "cases", "runs", "rows", "buildozer", "buildifier"}
-# words that the field has others for (CONTRIBUTING.md, 'Words'), and code within a line
-OLD_WORDS = re.compile(r"\b(?:[Bb]ehind|[Ss]o many|[Ll]et go)\b")
+# words that the field has others for (CONTRIBUTING.md, 'Words'), and code within a line; Told, Asked, Drawn and Standing are names of files
+OLD_WORDS = re.compile(
+    r"\b(?:[Bb]ehind|[Ss]o many|[Ll]et go|told|[Tt]ells?|[Tt]elling|asked(?!\.py)|[Aa]sks?|[Ss]tands?|[Ss]tood|standing|[Ll]ent|[Ww]anting|drawn|[Dd]raws?)\b"
+)
 CODE_SPAN = re.compile(r"`[^`]*`")
 # how many lines of definitions the contracts of the surface may reach
 MOST_LINES = 6_500

@@ -2,10 +2,10 @@
 """Runs the built programs beside one another, beside an editor, and over what others have put in their way.
 
 Many runs of buildozer edit one file at once, with and without --journal; a second run, or an editor that saves, comes at each call of
-a first one, which waits there (failing.c); a run is killed at each call; links, pipes, devices and folders stand where a file is to be;
+a first one, which waits there (failing.c); a run is killed at each call; links, pipes, devices and folders are where a file is to be;
 and a file has owners, groups and bits of many kinds. What must be there:
 
-- a run that ends with 0 has its edit in the file, and one that tells `cannot write` hasn't;
+- a run that ends with 0 has its edit in the file, and one that reports `cannot write` hasn't;
 - whoever reads the file meanwhile sees a text that some run wrote, and an editor's text is not lost;
 - the journal goes on, and nothing is left of a new file, or the next run takes it away;
 - nothing is written through what was there under the new file's name.
@@ -82,7 +82,7 @@ class Place:
         return outcome(self.start(words, program, **how))
 
     def failing(self, words, call, number, way, **further):
-        """A run that is stopped or killed at a call, or at which a file is changed, and the file of the line that tells so."""
+        """A run that is stopped or killed at a call, or at which a file is changed, and the file of the line that says so."""
         ours, its = os.pipe()
         how = {"FAILING_TOLD": str(its), "FAILING_CALL": call, "FAILING_NUMBER": str(number), "FAILING_HOW": way, **further}
         environment = {**os.environ, "ASAN_OPTIONS": "verify_asan_link_order=0", "LD_PRELOAD": self.library, **how}
@@ -186,7 +186,7 @@ def calls(p, words, way):
                     outcome(run)
                     break
                 if way == "stop":
-                    # it tells before it waits
+                    # it reports before it waits
                     os.waitid(os.P_PID, run.pid, os.WSTOPPED)
                 yield f"{call} {number} ({line.strip()})", run
 
@@ -213,7 +213,7 @@ LATE = re.compile(r"rename \d \(rename BUILD\.bznew\)")
 
 
 def editor_saves(p, journal):
-    """It saves at each call of a run, by a rename: its text stays, and the run tells so, or has edited just that; at one call it is
+    """It saves at each call of a run, by a rename: its text stays, and the run says so, or has edited just that; at one call it is
     lost, since no system has a rename that looks first."""
     lost = []
     for what, run in calls(p, [*journal, *add(":first")], "stop"):
@@ -234,7 +234,7 @@ def editor_saves(p, journal):
 
 def between_two_commands(p, journal):
     """Another program writes the file, or removes it, when a run opens a second package, between two commands on the first one: what
-    it did stays, and is told."""
+    it did stays, and is reported."""
     lines = b"add deps :first|//:x\nprint name|//c:x\nadd deps :second|//:x\n"
     for way, text in (("change", SAVED), ("remove", None)):
         for number in range(1, MOST):
@@ -249,7 +249,7 @@ def between_two_commands(p, journal):
                     continue
             found = p.text() if (p.folder / FILE).exists() else None
             p.expect(f"{way} between two commands", (found, end[:2]), (text, (2, b"x\n")))
-            p.expect(f"what is told of {way}", end[2] in (UNWRITTEN[2], UNWRITTEN[2] + FIXED[2]), True)
+            p.expect(f"what is reported of {way}", end[2] in (UNWRITTEN[2], UNWRITTEN[2] + FIXED[2]), True)
             break
         else:
             p.wrong.append("the second package was not opened")
@@ -263,7 +263,7 @@ def killed_at_each_call(p, journal):
         p.goes_on(f"one killed at {what}", journal)
 
 
-# ---- what stands in the way
+# ---- what is in the way
 
 
 def each_program(p, act):
@@ -292,7 +292,7 @@ def failed(program):
 
 
 def planted_links(p):
-    """A link goes, and nothing is written through it; nor through a pipe or a device; a folder is told."""
+    """A link goes, and nothing is written through it; nor through a pipe or a device; a folder is reported."""
     put(p.folder, {"precious": b"precious"})
     makers = [
         lambda new: new.symlink_to("precious"), lambda new: new.symlink_to("none"), lambda new: new.symlink_to(new.name),
@@ -365,7 +365,7 @@ def bits_of(file):
 
 
 def bits(p):
-    """They stay, but for those that lend rights; a journal has no more than its file, also where it had."""
+    """They stay, but for those that give rights to who runs it; a journal has no more than its file, also where it had."""
     for mode in (0o600, 0o640, 0o444, 0o755, 0o664, 0o4755, 0o2755, 0o1644):
         put(p.folder, {"f": ODD})
         (p.folder / "f").chmod(mode)
@@ -396,7 +396,7 @@ def owners(p):
     """Owner and group stay where the system lets; where the group can't, it loses its bits, and others what it didn't have."""
     p.folder.chmod(0o777)
     in_turn(p, "root", 0, [], (OTHER, OTHER), 0o640, (OTHER, OTHER, 0o640))
-    in_turn(p, "root, lent rights", 0, [], (OTHER, OTHER), 0o6755, (OTHER, OTHER, 0o755))
+    in_turn(p, "root, setuid and setgid", 0, [], (OTHER, OTHER), 0o6755, (OTHER, OTHER, 0o755))
     in_turn(p, "a member of the group", NOBODY, [OTHER], (NOBODY, OTHER), 0o640, (NOBODY, OTHER, 0o640))
     in_turn(p, "no member", NOBODY, [], (NOBODY, OTHER), 0o640, (NOBODY, NOBODY, 0o600))
     in_turn(p, "no member, and others may", NOBODY, [], (NOBODY, OTHER), 0o664, (NOBODY, NOBODY, 0o604))
@@ -405,7 +405,7 @@ def owners(p):
 
 
 def sticky_folders(p):
-    """What another user has planted there can't be removed: that is told, and nothing is written through it."""
+    """What another user has planted there can't be removed: that is reported, and nothing is written through it."""
     put(p.folder, {"precious": b"precious", "f": ODD})
     for file in (FILE, "precious", "f"):
         os.chown(p.folder / file, NOBODY, NOBODY)

@@ -5,7 +5,7 @@ crate; links lead somewhere, and files, crates and names of the sources that pag
 
 The pages are README.md, those beside it, those of docs/, of contrib/ and of each crate. A block of code in which lines begin with `$` is an example: its commands
 run one after the other, in a folder of the block's own that is empty at first, with both programs on the PATH. What a command leaves
-on its two outputs must be what stands below it, byte for byte, up to the next command. A block that calls git is told as not run
+on its two outputs must be what is below it, byte for byte, up to the next command. A block that calls git is reported as not run
 where there is no git. The commands in the tables need only be such as the program takes.
 
     tests/readme.py BUILDOZER BUILDIFIER
@@ -132,7 +132,7 @@ def texts_in(file, name):
 
 
 def forms_of_code():
-    """The forms of commands, as hints tell them."""
+    """The forms of commands, as hints print them."""
     tables = definition("bz_words/specs/Commands.antt", "command_forms") + definition("bz_line/specs/Hints.antt", "verb_forms")
     return sorted(re.findall(r"'([^']+)'", tables))
 
@@ -143,7 +143,7 @@ def refusals_of_code():
 
 
 def attributes_of_code():
-    """The tables of attributes; beside the sorted ones stand the kind and the attribute that are left out."""
+    """The tables of attributes; beside the sorted ones are the kind and the attribute that are left out."""
     tables = "bz_label/specs/Tables.antt"
     ordered, further = texts_in(tables, "sorted_attributes"), texts_in(tables, "further_lists")
     others = texts_in(tables, "is_label_attribute attribute")
@@ -165,7 +165,7 @@ def an_example(name, block):
             print(f"tests/readme.py: {name} was not run: there is no git", flush=True)
             return []
         front, *pieces = COMMAND.split(block)
-        faults = [f"{front!r} stands before the first command"] if front else []
+        faults = [f"{front!r} is before the first command"] if front else []
         for command, wanted in zip(pieces[::2], pieces[1::2]):
             left = programs.run(command, folder)[1]
             if left != wanted:
@@ -186,7 +186,7 @@ def refusals(programs, folder):
 
 
 def attributes(programs, folder):
-    """Each row has the names of the code's table, in its order; in the first cell stand those that are left out."""
+    """Each row has the names of the code's table, in its order; in the first cell are those that are left out."""
     rows = {row[0].split()[0].rstrip(":"): row for row in rows_of("Attributes")}
     faults = different("tables of attributes", sorted(rows), sorted(attributes_of_code()))
     for name, (table, left_out) in attributes_of_code().items():
@@ -217,14 +217,14 @@ def examples_of_commands(programs, folder):
 
 
 def layers(programs, folder):
-    """Each crate stands once in the picture of the layers, and what it stands on stands in lines below its own."""
+    """Each crate is once in the picture of the layers, and what it depends on is in lines below its own."""
     rows = [line.partition("#")[0].partition(":") for line in (TOP / "crates.txt").read_text().splitlines()]
     uses = {name.strip(): below.split() for name, _, below in rows if name.strip()}
     picture = BLOCK.search((TOP / "docs" / "ARCHITECTURE.md").read_text())[0]
     found = [(word, at) for at, line in enumerate(picture.splitlines()) for word in re.findall(r"\w+", line) if word in uses]
     line_of = dict(found)
     pairs = [(crate, below) for crate, names in uses.items() for below in names if below in uses]
-    wrong = [f"{crate} stands on {below}" for crate, below in pairs if line_of.get(below, -1) <= line_of.get(crate, -1)]
+    wrong = [f"{crate} depends on {below}" for crate, below in pairs if line_of.get(below, -1) <= line_of.get(crate, -1)]
     return different("crates", sorted(word for word, _ in found), sorted(uses)) + wrong
 
 
@@ -322,7 +322,7 @@ def made_of_definitions(programs, folder):
 
 
 def index_has_what_is_cited(programs, folder):
-    """Each definition that a contract cites by its name stands in docs/DEFINITIONS.md, whatever the tool finds."""
+    """Each definition that a contract cites by its name is in docs/DEFINITIONS.md, whatever the tool finds."""
     texts = [file.read_text() for file in CRATES.glob("bz_*/src/*.rt")]
     uses = [use[1] for text in texts for use in CITED.findall(text) if not re.search(r"(?:^|\.)(?:declared|formers|contracts)\.", use[0])]
     cited = {name.strip().partition(" as ")[0] for use in uses for name in use.split(",")}

@@ -1,5 +1,5 @@
 /*
- * Refuses requests for memory. Loaded in front of a program by LD_PRELOAD, it counts what the program asks for from its own
+ * Refuses requests for memory. Loaded in front of a program by LD_PRELOAD, it counts what the program requests from its own
  * beginning on, and hands it on to the C library (glibc, by the names that this keeps for it). The word REFUSED in the
  * environment says what is refused: `7` is the seventh request alone, `7-` the seventh and each one after it. Where something is,
  * a byte is written to the open file whose number is REFUSED_TOLD, so that who runs the program knows.
@@ -34,7 +34,7 @@ static int is_refused(void)
 {
     if (first == 0 || ++requests < first || (requests > first && !is_each))
         return 0;
-    /* who runs the program waits for one byte, and a run that cannot tell must not pass for one that refused nothing */
+    /* who runs the program waits for one byte, and a run that cannot report must not pass for one that refused nothing */
     if (requests == first && write(told, "!", 1) != 1)
         _exit(125);
     return 1;

@@ -5,7 +5,7 @@ A session keeps one tree and the steps between its texts, and makes each text fr
 does the same work: the text that a command makes comes from a run of that one command over the whole text then present, and is
 appended behind the cursor, where it differs; `undo` and `redo` move the cursor. Both must leave the same text, printed lines,
 lines on standard error and status. So what one run shows is that of the runs of its commands one by one, and what undo gives
-back are the very bytes that stood there.
+back are the very bytes that were there.
 
 The lists are those of tests/buildozer, of the program's own files and of the pages' examples, as far as they are about standard
 input; fixed ones, in which each command of the tables of docs/buildozer.md is; and many that are made by chance, always the same, over
@@ -38,7 +38,7 @@ GOES = 0.25
 
 # Commands that print, and leave the text.
 PRINTS = ["print", "print_comment", "journal"]
-# Options that change nothing of what stands on the outputs where only standard input is edited, but for -k.
+# Options that change nothing of what is on the outputs where only standard input is edited, but for -k.
 OPTIONS = ["-k", "--quiet", "--stdout"]
 
 # commands that each target gets, in order, of one run over a text
@@ -266,7 +266,7 @@ FIXED = [
     ("a rule that is left alone", "marks that steer", "-:y", "print rule|add deps :c|undo|print rule|redo|set kind f|undo 2"),
     ("rules of a long file come and go", "many rules", "-:r250 -:r4 -:r519",
      "delete|print|undo|print name|redo|undo 2|new f z before r5|new f y after r519|set size small|delete|undo|redo|undo 3"),
-    ("a long file is asked many things", "many rules", "-:r7 -:r300",
+    ("a long file gets many commands", "many rules", "-:r7 -:r300",
      "print name|print name deps|print kind startline|set size small|print size|print name size|delete|print name|undo|print name|redo|print name"),
     ("loads of a long file come", "many rules", "-:__pkg__",
      "new_load //:b.bzl b|new_load //:a.bzl a|new_load //:a.bzl a2|new_load //:c.bzl c|undo 2|new_load :d.bzl d|redo|undo 4|new cc_library s before r0|new_load //:a.bzl a|undo 2|redo"),
@@ -305,7 +305,7 @@ class Program:
 
 
 class Plain:
-    """Texts, the commands that led to those after the first one, and a cursor; beside them what was printed and told, and whether a
+    """Texts, the commands that led to those after the first one, and a cursor; beside them what was printed and reported, and whether a
     command failed."""
 
     def __init__(self, program, text):
@@ -361,7 +361,7 @@ def of_plain_list(program, work):
     """What a run must leave: its status, standard output and standard error."""
     status, _, fault = program.alone("print", "-:all", work.text)
     if status == 2:
-        # the text is refused, which is told once, and no command has a file
+        # the text is refused, which is reported once, and no command has a file
         return 2, b"", fault
     plain = Plain(program, work.text)
     for target in work.targets:
@@ -406,7 +406,7 @@ def compared(works):
 
 
 def work_of(words, text):
-    """What the words ask of standard input; None where they ask for something else, or are a fault."""
+    """What the words request of standard input; None where they request something else, or are a fault."""
     if "--" not in words:
         return None
     options, operands = words[: words.index("--")], words[words.index("--") + 1 :]

@@ -7,7 +7,7 @@ made by the grammar, of which all are. Whatever a text is, both programs must ag
 leave it as it is; or both accept it, and then
 
 - formatting the formatted text changes nothing, and --mode=check says so;
-- each comment stands in the formatted text as often (what a comment is, is found by a few lines of this script);
+- each comment occurs in the formatted text as often (what a comment is, is found by a few lines of this script);
 - buildozer, which adds a rule to it and takes that back, leaves it byte for byte.
 
 The program cases copies what such texts say: tree, value, each expression, and the step to the tree before; each copy is there and equal.
@@ -40,7 +40,7 @@ LEVELS = 500
 
 PIECES = ["a", "load", '"x"', "1.", "(", ")", "[", "]", ",", "=", "+", ".", " ", "\n", "# c\n", "\\\n"]
 
-# what may be told of a text that is refused
+# what may be reported of a text that is refused
 REFUSED = re.compile(rb"p(\d+)/BUILD:(?: (?:NotUtf8 at \d+|TooLarge)|\d+:\d+: (?:BadCharacter|OpenString|Indented|Unexpected|TooDeep))\n")
 PLACE = re.compile(rb"p\d+/BUILD")
 # a string between three marks, or one; or a comment
@@ -66,7 +66,7 @@ def lines_of(count):
 
 
 def comments(text):
-    """How often each comment stands in a text."""
+    """How often each comment occurs in a text."""
     return collections.Counter(found[3].rstrip(b" \t\r") for found in QUOTED.finditer(text) if found[3])
 
 
@@ -144,7 +144,7 @@ def torn_texts_of(texts):
     return lambda *programs: tried(programs, sample(torn(texts), SAMPLE))[0]
 
 
-# ---- deep texts: what stands before and behind what is nested in it, how many levels that is, and how many there are at least in
+# ---- deep texts: what is before and after what is nested in it, how many levels that is, and how many there are at least in
 # the middle, where a part beside what is nested is as deep
 
 NESTS = {

@@ -1,8 +1,8 @@
 """The rows that both programs were worked out by, as data: words, standard input, files and the status that must come.
 
-What a row leaves on its outputs is shown by the sheet of cases and by the folders of tests/PROGRAM; here stand the texts and the
+What a row leaves on its outputs is shown by the sheet of cases and by the folders of tests/PROGRAM; here are the texts and the
 words alone, for the scripts that tear the texts, refuse memory, or let a device fail under the programs. Each row that is run by
-one of them with nothing against it must end with its status, so that no row stands here for another one.
+one of them with nothing against it must end with its status, so that no row is here in place of another one.
 """
 
 import collections
@@ -90,7 +90,7 @@ FORMATTED = [
     ("two assignments", b"a = b = c", 1),
     ("a keyword of other files", b"lambda: 1", 1),
     ("a carriage return at the end", b"x = 1\r", 0),
-    ("a sign that none may stand", b"x = 1$", 1),
+    ("a sign that no token has", b"x = 1$", 1),
     ("a comment behind an operator", b"x = (a + # why\nb)", 0),
     ("a comprehension on lines of its own", b"x = [\na for a in b]", 0),
     ("a comment behind the last argument", b"f(a, # c\n)", 0),
@@ -132,7 +132,7 @@ EDITED = [
     ("a value for another", ["--", "replace * :b :d", "-:a"], LISTED, 0),
     ("no source of a copy", ["--", "copy deps q", "-:a"], LISTED, 2),
     ("a rule of that name", ["--", "new t a", "-:a"], LISTED, 2),
-    ("no rule to stand before", ["--", "new t z before q", "-:a"], LISTED, 2),
+    ("no rule to be put before", ["--", "new t z before q", "-:a"], LISTED, 2),
     ("a number", ["--", "set timeout 5", "-:a"], BARE, 0),
     ("a kind", ["--", "set kind u", "-:a"], BARE, 0),
     ("a list of one", ["--", "set copts -O2", "-:a"], BARE, 0),

@@ -65,7 +65,7 @@ class Workspace:
             file.write_bytes(content)
 
     def left(self):
-        """What stands in each file, by its name."""
+        """What is in each file, by its name."""
         files = [file for file in self.path.rglob("*") if not file.is_dir()]
         return {str(file.relative_to(self.path)): bytes_of(file) for file in files}
 
@@ -101,8 +101,8 @@ RUNS = [
     ("each package has its own file", ["delete", *ALL_X], 0, {"err": fixed(*FOUND), "after": dict.fromkeys(FOUND, NO_X)}),
     ("files are written in order of first use", ["delete", "//a/b:x", "//:y", "//a/b:y"], 0,
      {"err": fixed("a/b/BUILD", "BUILD.bazel"), "after": {"a/b/BUILD": b"", "BUILD.bazel": NO_Y}}),
-    ("--quiet tells no file that was written", ["--quiet", "delete", *ALL_X], 0, {"after": dict.fromkeys(FOUND, NO_X)}),
-    ("--quiet tells what is refused", ["--quiet", "delete", "//:x", "//:none"], 2, {"err": REFUSED, "after": {"BUILD.bazel": NO_X}}),
+    ("--quiet prints no file that was written", ["--quiet", "delete", *ALL_X], 0, {"after": dict.fromkeys(FOUND, NO_X)}),
+    ("--quiet prints what is refused", ["--quiet", "delete", "//:x", "//:none"], 2, {"err": REFUSED, "after": {"BUILD.bazel": NO_X}}),
     ("--stdout gives texts in order of first use", ["--stdout", "delete", "//a/b:x", "//:y"], 0, {"out": NO_X + NO_Y}),
     ("--stdout leaves out what no command changed", ["--stdout", "set kind f", "//a:x", "//:y"], 0,
      {"out": NO_Y + b'\nf(name = "y")\n'}),
@@ -114,7 +114,7 @@ RUNS = [
      {"err": REFUSED + fixed("BUILD.bazel", "a/BUILD.bazel"), "after": {"BUILD.bazel": NO_X, "a/BUILD.bazel": NO_X}}),
     ("a missing package ends a run", ["delete", "//a:x", "//none:x", "//:x"], 2,
      {"err": MISSING + fixed("a/BUILD.bazel"), "after": {"a/BUILD.bazel": NO_X}}),
-    ("-k passes over a missing package, which is told once", ["-k", "print name", "delete", "//none:x", "//a:x"], 2,
+    ("-k passes over a missing package, which is reported once", ["-k", "print name", "delete", "//none:x", "//a:x"], 2,
      {"out": b"x\n", "err": MISSING + fixed("a/BUILD.bazel"), "after": {"a/BUILD.bazel": NO_X}}),
     ("two targets of one file are one session, written once", ["delete", "//a:x", "a:y"], 0,
      {"err": fixed("a/BUILD.bazel"), "after": {"a/BUILD.bazel": b""}}),
@@ -143,7 +143,7 @@ LINES = [
      {"err": REFUSED + fixed("BUILD.bazel"), "after": {"BUILD.bazel": NO_X}}),
 ]
 
-# Usage faults: the words, what is told, and the lines of standard input. Of clap's own text only the beginning is compared.
+# Usage faults: the words, what is printed, and the lines of standard input. Of clap's own text only the beginning is compared.
 FAULTS = [
     ([], b"buildozer: no command\n", b""),
     (["//a:x"], b"buildozer: no command\n", b""),
@@ -180,7 +180,7 @@ FAULTS = [
 
 
 def a_hundred_lines(w):
-    """Lines over all packages, in a file and in standard input; what they make stands in the order of the lines."""
+    """Lines over all packages, in a file and in standard input; what they make is in the order of the lines."""
     kinds = ["//:x", "a:x", "//a/b:all"]
     lines = ["# a comment|//none:x", ""]
     for i in range(100):
@@ -229,7 +229,7 @@ def an_unreadable_file_is_told(w):
 
 
 def a_folder_for_the_first_name_is_told(w):
-    """The run goes on with the second name and with the targets behind, and its status tells of it."""
+    """The run goes on with the second name and with the targets behind, and its status says so."""
     (w.path / "a/b/BUILD.bazel").mkdir()
     err = b"a/b/BUILD.bazel: cannot open\n" + fixed("a/b/BUILD", "BUILD.bazel")
     return w.leaves(["delete", "//a/b:x", "//:x"], 2, err=err, after={"a/b/BUILD": NO_X, "BUILD.bazel": NO_X})
@@ -259,13 +259,13 @@ def a_left_file_is_written_over(w):
 
 
 def a_file_by_a_second_path_keeps_the_first_edit(w):
-    """It is opened by each path, and what was written by the first one is not what was read by the second, which is told."""
+    """It is opened by each path, and what was written by the first one is not what was read by the second, which is reported."""
     (w.path / "BUILD.bazel").rename(w.path / "BUILD")
     return w.leaves(["add deps :q", "//:x", "//.:y"], 2, err=fixed("BUILD") + b"./BUILD: cannot write\n", after={"BUILD": DEPS_X})
 
 
 def a_refused_text_is_told(w):
-    """Its place is told, it stays, and with -k the others are edited."""
+    """Its place is reported, it stays, and with -k the others are edited."""
     (w.path / "a/b/BUILD").write_bytes(b'f(name="x")\ng(\n')
     err = b"a/b/BUILD:3:1: Unexpected\n" + fixed("a/BUILD.bazel")
     return w.leaves(["-k", "delete", "//a/b:x", "//a:x"], 2, err=err, after={"a/BUILD.bazel": NO_X})

@@ -22,7 +22,7 @@ def name(word):
 
 
 def entry(archive, front, file, day):
-    """A file of the archive, of which neither its owner nor its time tell by whom and when it was made."""
+    """A file of the archive, of which neither its owner nor its time say by whom and when it was made."""
     row = archive.gettarinfo(TOP / file, f"{front}/{file}")
     row.mode = 0o755 if row.mode & 0o100 else 0o644
     row.mtime = int(datetime.datetime.fromisoformat(f"{day}T00:00:00+00:00").timestamp())

@@ -1,13 +1,13 @@
 #!/usr/bin/env python3
-"""Proves what programs stand on, several crates at a time, builds the programs, and puts them into bin/.
+"""Proves what programs depend on, several crates at a time, builds the programs, and puts them into bin/.
 
     tools/build.py PROGRAM..
 
-A line tells of each crate that is done, with how many of all are done and the minutes since the start. Crates that are proved are
+A line is printed for each crate that is done, with how many of all are done and the minutes since the start. Crates that are proved are
 kept in their folders out/, so a run that was interrupted goes on behind these, and one over unchanged sources proves nothing.
 The first proof that fails ends the run, and the last line names its crate.
 
-A crate is proved when all that it stands on is, by rt lib in a copy of the crates (tools/crates.py), of which there is one for
+A crate is proved when all that it depends on is, by rt lib in a copy of the crates (tools/crates.py), of which there is one for
 each crate that is proved at a time; what came of it is put into the crate's own folder. Where several can be proved, the one
 with the most work above it comes first, and it gets the processors that the others leave. A program is built in the same way,
 by rt run, which also runs it on its own files (args, stdin): it must write what its file stdout has.
@@ -52,7 +52,7 @@ ADOPTS = 36
 
 
 class NotDone(Exception):
-    """A crate that was not proved or built, with what was told of it."""
+    """A crate that was not proved or built, with what was reported of it."""
 
     def __init__(self, crate, why, said):
         super().__init__(f"{crate} {why}")
@@ -90,7 +90,7 @@ def is_program(crate):
 
 
 def sum_of_libraries(crate, libraries, top):
-    """A sum of the libraries that a crate stands on, as they were built: the file format of each holds one of its files."""
+    """A sum of the libraries that a crate depends on, as they were built: the file format of each holds one of its files."""
     made = hashlib.sha256()
     for library in below(crate, libraries):
         made.update(content(top / "crates" / library / "out" / "rlib" / f"{library}.rlib" / "format"))
@@ -179,7 +179,7 @@ def install(program):
 
 
 class Plan:
-    """Which crates are left, and how much work stands above each."""
+    """Which crates are left, and how much work is above each."""
 
     def __init__(self, programs):
         self.libraries = libraries_of()
@@ -252,7 +252,7 @@ def prove_all(plan, at_once, progress):
 
 
 def main():
-    # An end that is asked for ends what was started too.
+    # An end that is requested ends what was started too.
     signal.signal(signal.SIGTERM, lambda *_: sys.exit(143))
     ctypes.CDLL(None).prctl(ADOPTS, 1)
     plan, at_once = Plan(sys.argv[1:]), processors()

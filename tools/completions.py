@@ -22,7 +22,7 @@ KNOWN = {"ATTR": "ATTR", "KIND": "KIND", "RULE": "RULE", "FIELD": "FIELD", "VALU
 OF_COMMAND = {("rename", "OLD"): "ATTR", ("move", "FROM"): "ATTR", ("move", "TO"): "ATTR",
               ("replace", "OLD"): "LABEL", ("replace", "NEW"): "LABEL"}  # fmt: skip
 UNKNOWN = "-"
-# what asks for a text alone, and what that text is
+# what requests a text alone, and what that text is
 ASKED = {"--help": "prints the options and examples", "--version": "prints the version"}
 
 
@@ -30,7 +30,7 @@ ASKED = {"--help": "prints the options and examples", "--version": "prints the v
 
 
 def sequences(tokens):
-    """All rows of words that a form allows; what stands in brackets may be left out."""
+    """All rows of words that a form allows; what is in brackets may be left out."""
     if not tokens:
         return [[]]
     if tokens[0] != "[":
@@ -49,7 +49,7 @@ def is_literal(word):
 
 
 def what_stands(command, words, at):
-    """What candidates.sh is told of the word at this place: what it is, and, behind a word that stands as it is, which one."""
+    """What candidates.sh is given of the word at this place: what it is, and, after a word that is written as it is, which one."""
     word = words[at].removesuffix("..")
     what = word if is_literal(word) else OF_COMMAND.get((command, word), KNOWN.get(word, UNKNOWN))
     before = words[at - 1] if at else ""
@@ -57,7 +57,7 @@ def what_stands(command, words, at):
 
 
 def place(command, rows, at):
-    """What may stand at a place: each thing with a `+` where a further word is needed behind it."""
+    """What may be at a place: each thing with a `+` where a further word is needed after it."""
     there = {}
     for words in rows:
         if len(words) > at:
@@ -102,13 +102,13 @@ def fields(blocks):
 
 
 def which(blocks):
-    """What may stand behind the colon of a target as it is, such as `all`."""
+    """What may be after the colon of a target as it is, such as `all`."""
     forms = [form for row in tables_of(blocks, "Target") for form in CODE.findall(row[0])]
     return [word for form in forms for word in re.findall(r":(\w+)$", form) if word == word.lower() and form.startswith("//pkg")]
 
 
 def options(blocks):
-    """The options: each with the word that stands behind it, or none, and what it does, in a few words."""
+    """The options: each with the word that is after it, or none, and what it does, in a few words."""
     rows = [(CODE.findall(row[0])[0].split(" "), row[1]) for row in tables_of(blocks, "Option")]
     short = [(*words, "")[:2] + (re.split(r"[;,]", CODE.sub(r"\1", told))[0],) for words, told in rows]
     return [*short, *((option, "", told) for option, told in ASKED.items())]

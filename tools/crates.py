@@ -2,7 +2,7 @@
 
 An rt locks the crate that it works on and all below it, so two of them that have a library in common come one after the other.
 In a copy of the crates' sources there is nothing to wait for. What was proved of a library is taken over from where it was
-proved: rt accepts it wherever it stands, as long as the sources there are the same.
+proved: rt accepts it wherever it is, as long as the sources there are the same.
 """
 import os
 import pathlib
@@ -19,7 +19,7 @@ def libraries_of():
 
 
 def below(crate, libraries):
-    """The libraries that a crate stands on, each after those that it stands on itself."""
+    """The libraries that a crate depends on, each after those that it depends on itself."""
     found = {}
     for library in libraries[crate]:
         found.update(dict.fromkeys([*below(library, libraries), library]))

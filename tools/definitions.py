@@ -6,7 +6,7 @@ contracts cite; on the page of each crate, in a line of its own, which files of 
     tools/definitions.py NAME..     prints the definitions of a crate, or those of a name: each with its file and the comment above it
 
 A definition is cited where a line `ghost use` of crates/*/src brings it in from specs/. What a reader has to trust is what the contracts of
-public calls stand on (tools/trusted.py); what else is cited says what private functions compute.
+public calls depend on (tools/trusted.py); what else is cited says what private functions compute.
 """
 import functools
 import re
@@ -16,7 +16,7 @@ from trusted import CRATES, TOP, USE, counts, definitions, sources, trusted
 
 PAGE = TOP / "docs" / "DEFINITIONS.md"
 CRATES_PAGE = "crates/{}/README.md"
-# which files of specs/ no contract of a public call stands on, as the page of a crate says it; and what comes after it there
+# which files of specs/ no contract of a public call depends on, as the page of a crate says it; and what comes after it there
 PRIVATE = re.compile(r"(?m)^For private functions alone: .*\n\n")
 PROVED = "## Proved\n"
 NAME = re.compile(r"[^\W\d][\w']*")
@@ -67,11 +67,11 @@ def index():
     """A row for each crate: the definitions that a reader trusts, and those that only private functions are compared with."""
     seen = trusted()
     rows = [[page_of(crate), names_by_file(crate, seen.__contains__), names_by_file(crate, lambda key: key not in seen)] for crate in CRATES]
-    return table(["Crate", "What contracts of public calls stand on", "Cited by private functions alone"], [row for row in rows if any(row[1:])])
+    return table(["Crate", "What contracts of public calls depend on", "Cited by private functions alone"], [row for row in rows if any(row[1:])])
 
 
 def private_files(crate):
-    """The files of specs/ of a crate on which no contract of a public call stands."""
+    """The files of specs/ of a crate on which no contract of a public call depends."""
     files = {}
     for key, file in definitions().files.items():
         if key[0].split(".")[0] == crate and not MADE.search(f"{key[0]}."):
@@ -90,7 +90,7 @@ PARTS = {"sizes": sizes, "index": index}
 
 
 def renewed(page):
-    """The text of a page with each part made anew. Between the marks stands what the part gives, and nothing else."""
+    """The text of a page with each part made anew. Between the marks is what the part gives, and nothing else."""
     for name, part in PARTS.items():
         first, last = f"<!-- tools/definitions.py: {name} -->\n", f"<!-- end of {name} -->"
         before, begin, rest = page.partition(first)

@@ -4,7 +4,7 @@ the section of COMING.md on what differs. What a page says is in these alone; he
 
 The paragraphs become the description, the examples the examples, each table a section of its own. An example stays in the
 description where the paragraph above it ends with a colon. Of the tables of refusals and of other lines the page of a program
-leaves out what only the other one tells.
+leaves out what only the other one says.
 
     tools/manual.py FOLDER        puts both pages into FOLDER/man/man1; a page that is there and would not change stays
 """
@@ -21,9 +21,9 @@ WIDTH = 78
 # the section of a page for each table, by the first word of its header, in the order of the pages
 TABLES = {"Mode": "OPTIONS", "Type": "OPTIONS", "Option": "OPTIONS", "Command": "COMMANDS", "Target": "TARGETS", "Attributes": "ATTRIBUTES",
           "Status": "EXIT STATUS", "Number": "REFUSALS", "Line": "DIAGNOSTICS"}  # fmt: skip
-# what stands before each row's name
+# what is before each row's name
 FRONTS = {"Mode": "--mode=", "Type": "--type="}
-# the column behind the name is told without its header where that says only what the table is for
+# the column after the name is printed without its header where that says only what the table is for
 UNTOLD = ("What", "Their", "Means", "When")
 REFUSALS, DIFFERENCES = "Refusals and other lines on standard error", "What differs from bazelbuild's tools"
 LIMITS = "Limits"
@@ -43,7 +43,7 @@ CODE_SIGNS = {**SIGNS, "-": r"\-", "'": r"\(aq", '"': r"\(dq"}
 
 
 def written(text, signs):
-    """A text whose signs stand for themselves."""
+    """A text whose signs mean themselves."""
     return "".join(signs.get(sign, sign if sign.isascii() else rf"\[u{ord(sign):04X}]") for sign in text)
 
 
@@ -58,7 +58,7 @@ def form(code):
 
 
 def inline(text, code=bold):
-    """A text in which some stands between marks of code."""
+    """A text in which some is between marks of code."""
     pieces = CODE.split(text.replace("**", ""))
     return "".join(code(piece) if at % 2 else written(piece, SIGNS) for at, piece in enumerate(pieces))
 
@@ -74,7 +74,7 @@ def filled(text):
 
 
 def sentence(text):
-    """A text that stands alone, with a capital letter and a full stop; code, and the name of a program, stay as they are."""
+    """A text that is alone, with a capital letter and a full stop; code, and the name of a program, stay as they are."""
     if CODE.fullmatch(text):
         return text
     begun = text if text.startswith(("`", *PROGRAMS)) else text[:1].upper() + text[1:]

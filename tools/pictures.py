@@ -1,13 +1,13 @@
 #!/usr/bin/env python3
-"""Draws docs/layers.svg, the crates with the libraries that they stand on, from crates.txt; and docs/history.svg, a history of texts.
+"""Draws docs/layers.svg, the crates with the libraries that they depend on, from crates.txt; and docs/history.svg, a history of texts.
 
     tools/pictures.py [--check]
 
 With --check nothing is written: the status is 1 where a picture is not the one that would be drawn, and a line names it.
 
-In the first picture each crate stands above all that it stands on. A line goes to a library only where no other line leads there
+In the first picture each crate is above all that it depends on. A line goes to a library only where no other line leads there
 through a library in between. A line that passes by rows has a bend in each of them, and bends and crates are brought into an order in
-which few lines cross. Below a crate's name stand the crates of others that it names.
+which few lines cross. Below a crate's name are the crates of others that it names.
 """
 import sys
 from html import escape
@@ -26,7 +26,7 @@ ROUNDS = 40
 
 
 def shape(tag, **attributes):
-    """An element; a name's underscore stands for a dash."""
+    """An element; a name's underscore means a dash."""
     return f"<{tag} " + " ".join(f'{name.replace("_", "-")}="{value}"' for name, value in attributes.items()) + "/>"
 
 
@@ -52,13 +52,13 @@ def picture(width, height, title, elements):
 
 
 def direct(libraries):
-    """For each crate the libraries that no other one of its libraries stands on."""
+    """For each crate the libraries that no other one of its libraries depends on."""
     under = {name: set(below(name, libraries)) for name in libraries}
     return {name: [use for use in uses if not any(use in under[other] for other in uses)] for name, uses in libraries.items()}
 
 
 def rows_of(uses):
-    """The row of each crate, from 0 at the bottom: as low as what it stands on lets it be; where more stand on it than it stands
+    """The row of each crate, from 0 at the bottom: as low as what it depends on lets it be; where more depend on it than it depends
     on, right below the lowest of these."""
     row = {}
     for name in uses:
@@ -77,7 +77,7 @@ def chains(uses, row):
 
 
 def middle(one, beside, place):
-    """Where the neighbours of one stand in the mean, or itself where it has none."""
+    """Where the neighbours of one are in the mean, or itself where it has none."""
     there = [place[other] for other in beside.get(one, [])]
     return sum(there) / len(there) if there else place[one]
 
@@ -198,13 +198,13 @@ def layers():
     for name in uses:
         drawn += crate(name, across[name], height_of(name), others[name], name not in used)
     width = round(max(across[one] + width_of(one) / 2 for one in across) + MARGIN)
-    return picture(width, len(levels) * (HIGH + DOWN) - DOWN + 2 * MARGIN, "The crates and what they stand on", drawn)
+    return picture(width, len(levels) * (HIGH + DOWN) - DOWN + 2 * MARGIN, "The crates and what they depend on", drawn)
 
 
 # ---- the history
 
 
-# how far apart the texts of a history stand
+# how far apart the texts of a history are
 STRIDE = 186
 
 
@@ -244,7 +244,7 @@ HISTORIES = [
         "After three commands, each of which changed the text",
         [
             "The session keeps one tree, that of the text at the cursor. A step holds the parts in which its two texts differ:",
-            "those of the earlier text where it stands before the cursor, those of the later one where it stands after it.",
+            "those of the earlier text where it is before the cursor, those of the later one where it is after it.",
         ],
         (4, 3, None),
     ),

@@ -48,7 +48,7 @@ def imports(lines):
 
 def chunks(lines):
     """The definitions of a file: the names that each begins, how many lines it has with the comments above, and its text. Those of a
-    module with parameters stand at its margin."""
+    module with parameters are at its margin."""
     at, found, comments = 0, [], 0
     while at < len(lines):
         line = lines[at].strip()
@@ -126,7 +126,7 @@ def contracts(crate, file):
 
 
 class Definitions:
-    """All definitions of specs/, each by the module in which it stands and its first name."""
+    """All definitions of specs/, each by the module in which it is and its first name."""
 
     def __init__(self):
         self.texts, self.sizes, self.files = {}, collections.Counter(), {}
@@ -163,7 +163,7 @@ class Definitions:
         return self.owners.get(home)
 
     def named(self, text, single, modules, local):
-        """The definitions that a text names, by what is imported where it stands."""
+        """The definitions that a text names, by what is imported where it is."""
         for word in WORD.findall(text):
             # an operator between what it takes is written without the places of these
             word = next((name for name in (f"◌{word}◌",) if name in local or name in single), word)

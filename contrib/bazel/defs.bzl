@@ -23,7 +23,7 @@ exit $status
 _RUN = """{program} --mode=check -- {files} || status=$?"""
 
 _FORMAT = """#!/bin/sh
-# Formats the named files, which stand below the folder of the call, else all BUILD files of the workspace.
+# Formats the named files, which are below the folder of the call, else all BUILD files of the workspace.
 program="$PWD/"{program}
 mode=--mode={mode}
 : "${{BUILD_WORKSPACE_DIRECTORY:?is not set, which bazel run does}}"

@@ -26,7 +26,7 @@ programs = module_extension(
                 "buildifier": attr.string(doc = "The absolute path of buildifier; without it the one on the PATH is taken."),
                 "buildozer": attr.string(doc = "The absolute path of buildozer; without it the one on the PATH is taken."),
             },
-            doc = "Where the programs stand on this machine.",
+            doc = "Where the programs are on this machine.",
         ),
     },
 )

@@ -1,4 +1,4 @@
-"""What stands for a program that was not found."""
+"""What takes the place of a program that was not found."""
 
 def _missing_program(ctx):
     fail("there is no {name} on the PATH: name one by {name} = \"/absolute/path\" where the programs are taken, or by --@kinduzar//:{name}_program=LABEL".format(
@@ -7,5 +7,5 @@ def _missing_program(ctx):
 
 missing_program = rule(
     implementation = _missing_program,
-    doc = "Fails where it is asked for, so that a workspace that never asks for the program builds without it.",
+    doc = "Fails where it is needed, so that a workspace that never needs the program builds without it.",
 )

@@ -10,7 +10,7 @@ function formatted(text, type) {
     const child = execFile("buildifier", [`--type=${type}`], { maxBuffer: 1 << 26 }, (fault, output, refusal) =>
       fault ? reject(new Error(refusal.trim() || fault.message)) : resolve(output)
     );
-    child.stdin.on("error", () => {}); // what becomes of the program is told above
+    child.stdin.on("error", () => {}); // what becomes of the program is reported above
     child.stdin.end(text);
   });
 }

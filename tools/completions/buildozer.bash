@@ -6,8 +6,8 @@ _buildozer_candidates() {
 END
 }
 
-# Cuts the text of a line into words: the last one to word, without its quotation marks, and as it stands to raw; the mark that is
-# open there to quote, and what stands before it in that word to front; the other words to before.
+# Cuts the text of a line into words: the last one to word, without its quotation marks, and as it is to raw; the mark that is
+# open there to quote, and what is before it in that word to front; the other words to before.
 _buildozer_cut() {
     local rest=$1 sign
     word='' raw='' quote='' front='' before=()
@@ -32,7 +32,7 @@ _buildozer_cut() {
     done
 }
 
-# The text by which readline replaces what it completes: inside quotation marks what stands behind the open one, else what stands
+# The text by which readline replaces what it completes: inside quotation marks what is after the open one, else what is
 # behind the last sign that parts words.
 _buildozer_reply() {
     local text=$1 kept=''
@@ -64,7 +64,7 @@ _buildozer() {
         mapfile -t COMPREPLY < <(compgen -W '@OPTIONS@' -- "$word")
         return
     fi
-    # beside -f there are no operands, and what stands behind closed quotation marks is no longer completed
+    # beside -f there are no operands, and what is after closed quotation marks is no longer completed
     [[ $options && " ${before[*]} " == *' -f '* || ! $quote && $raw == *[\'\"]* ]] && return
     while IFS=$'\t' read -r text _; do
         _buildozer_reply "$text"

@@ -5,15 +5,15 @@ set -f
 program=$1 operand=$2
 newline='
 '
-# each command: its name, what may stand at each place behind it, and how docs/buildozer.md writes it. A '+' stands where a further word
-# is needed, a word and '>' where something may stand behind that word alone.
+# each command: its name, what may be at each place after it, and how docs/buildozer.md writes it. A '+' is where a further word
+# is needed, a word and '>' where something may be after that word alone.
 commands='@COMMANDS@'
 attributes='@ATTRIBUTES@'
 label_attributes='@LABEL_ATTRIBUTES@'
 fields='@FIELDS@'
 which='@WHICH@'
 
-# offer TEXT [WHAT IT IS]: a text that begins with what stands there; a target has no space
+# offer TEXT [WHAT IT IS]: a text that begins with what is there; a target has no space
 offer() {
     case $operand/$1 in
     *' '*/*) ;;
@@ -43,7 +43,7 @@ offer_lines() {
     done
 }
 
-# folders FRONT PATH: packages in the folder where the path stands, and folders with folders below them
+# folders FRONT PATH: packages in the folder where the path is, and folders with folders below them
 folders() {
     case $2 in
     */*) folder=${2%/*}/ ;;
@@ -87,7 +87,7 @@ label() {
     esac
 }
 
-# target: the targets that the operand may become: rules, kinds, and what stands for several rules
+# target: the targets that the operand may become: rules, kinds, and what means several rules
 target() {
     label '' "$operand"
     case $operand in
@@ -115,7 +115,7 @@ name() {
     offer //
 }
 
-# word FRONT TEXT PLACE ATTRIBUTE WORD: what may stand at a place of a command, behind what stands before it, which ends with a word
+# word FRONT TEXT PLACE ATTRIBUTE WORD: what may be at a place of a command, after what is before it, which ends with a word
 word() {
     for kind in $(printf '%s' "$3" | tr '|' ' '); do
         case $kind in
@@ -142,7 +142,7 @@ word() {
     done
 }
 
-# place_of NAME COUNT: what may stand behind that many words of a command
+# place_of NAME COUNT: what may be after that many words of a command
 place_of() {
     printf '%s\n' "$commands" | while IFS=';' read -r command places form; do
         [ "${command%+}" = "$1" ] || continue
@@ -156,7 +156,7 @@ place_of() {
     done
 }
 
-# words: what the last word of the operand may become, where a command and a space stand before it
+# words: what the last word of the operand may become, where a command and a space are before it
 words() {
     front='' word='' count=0 command='' attribute='' before='' rest=$operand
     while :; do

@@ -14,7 +14,7 @@ const USAGE: u8 = 1;
 
 const FAILED: u8 = 2;
 
-// Tells why nothing is done, and passes the status on.
+// Prints why nothing is done, and passes the status on.
 fn unused(rt: &HostRuntime, line: &str, status: u8) -> u8 {
     let mut err = Device::new(rt.stderr());
     tell(&mut err, &[line]);

@@ -11,7 +11,7 @@ use Rattle.bz_attribute.proofs.MakingForms.{listed, item_row, part_list, item_li
 abbrev in_form : Form → List Expr → List Expr → Expr
 in_form f parts items = e.Form (record { kind = f.kind; parts = parts; seq = record { items = items; end_ = f.seq.end_; split = f.seq.split }; open_ = f.open_; comments = f.comments })
 
--- a test that is asked twice
+-- a test that is made twice
 once : (b : Bool) (x y z : Expr) → (if b then (if b then x else y) else z) ≡ (if b then x else z)
 once true x y z = refl
 once false x y z = refl

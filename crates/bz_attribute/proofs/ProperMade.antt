@@ -177,7 +177,7 @@ made_rule kind word h u =
 
 -- ---- sums
 
--- what may stand in a sum
+-- what may be in a sum
 abbrev IsOperand : Expr → Type 0
 IsOperand x = (ProperExpr Within x × (comments_of x ≡ no_comments) × (has_break x ≡ false)) × IsSort (s.level 2) (root x)
 

@@ -63,7 +63,7 @@ pub fn items_of(x: &Expr) -> &[Expr]
     }
 }
 
-/// The expressions among which the lists of a value stand: the operands of a sum, or the value alone.
+/// The expressions among which the lists of a value are: the operands of a sum, or the value alone.
 #[tactic(auto, using(crate::proofs::ListsThere::in_sum, crate::proofs::ListsThere::in_value))]
 pub fn operands_of(value: &Expr) -> &[Expr]
     ensures { flat_map listed result.now ≡ items_in value.now }

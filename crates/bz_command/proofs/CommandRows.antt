@@ -24,7 +24,7 @@ use Rattle.bz_words.specs.declared.command.CommentOperation.TheVariants as wc
 use Rattle.bz_words.specs.declared.fault.CommandFault.TheVariants.{Arguments}
 use Rattle.bz_command.specs.Table.{CommandRow, command_rows, IsAsListed, ReadsAsListed, CommandsAreListed}
 
--- ---- a command, where its words have the form that it asks for
+-- ---- a command, where its words have the form that it takes
 
 given_listed : (row : CommandRow) (holds : Bool) (operation : Operation) → IsAsListed row operation → ReadsAsListed row (c.given holds operation)
 given_listed row true operation h = h

@@ -185,7 +185,7 @@ module _ (number : Bytes → ℕ) where
       (in_row (parts_of x) rule new (sym (ap rule_in (only_told x ∙ if_true (has_kind k.Bare x) (only (parts_of x)) None is)) ∙ e) h))
       (λ n. itself (whole x))
 
-  -- the arguments that are put in stand in the item then
+  -- the arguments that are put in are in the item then
   parts_hold : (ys : List Expr) (x : Expr) → has_kind k.Bare x ≡ true → total whole ys ≤ whole (with_parts ys x)
   parts_hold ys (Token t) h = absurd (true≢false (sym h))
   parts_hold ys (Form' own s parts s' items end_ split open_ comments) h =

@@ -161,7 +161,7 @@ quotient_past count size some h =
     let more : (limit / size + 1) * size ≤ count * size = mul-le-mul_right size (omega arith) in
     omega arith
 
--- ---- what is told of a command
+-- ---- what is answered of a command
 
 -- `words` and `all` are the text and the items as they are handed on
 pub over_told : EffectsStayProper → (operation : Operation) (host : Host) (text words current : Bytes) (target : Target) (lines : List ℕ) (items all : List Item) (result : Result Bool Refusal)

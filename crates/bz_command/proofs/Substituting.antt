@@ -8,7 +8,7 @@ use Rattle.bz_list.specs.Changes.{substituted_item, with_body}
 use Rattle.bz_command.specs.SmallValues.{Made, leaves, literal, string}
 use Rattle.bz_command.specs.WorkedSubstitutes.{WorkedSubstitutes, deps, other_values, size, small}
 
--- what is left of a size that stands alone, by what the pattern makes of its body
+-- what is left of a size on its own, by what the pattern makes of its body
 abbrev left : Bytes → Bytes → Bytes → Expr → Bytes → Made
 left pattern template body value text =
     leaves (size (on_lists (map (substituted_item (codes "p") (codes "size") pattern template)) (with_body (codes "p") (codes "size") body text value)) ∷ [])

@@ -134,7 +134,7 @@ abbrev pub on_statement : (Expr → Expr) → Item → Item
 on_statement change (i.Block lines) = i.Block lines
 on_statement change (i.Stmt x) = i.Stmt (change x)
 
--- The comments of the rule itself are those of its statement; those of any other host stand among its arguments.
+-- The comments of the rule itself are those of its statement; those of any other host are among its arguments.
 abbrev pub on_host_of_item : Host → (Expr → Expr) → NewItem → Item → NewItem
 on_host_of_item Rule change others item = Ok (on_statement change item)
 on_host_of_item _ change others item = others

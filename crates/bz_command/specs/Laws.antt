@@ -41,7 +41,7 @@ keeps_comments (w.Comment (wc.Print host)) = true
 keeps_comments (w.Print fields) = true
 keeps_comments _ = false
 
--- They leave each comment at least as often as it stood there.
+-- They leave each comment at least as often as it occurred there.
 abbrev pub CommentsStay : Type 0
 CommentsStay =
     (operation : Operation) (target : Target) (current : Bytes) (lines : List ℕ) (items new : List Item)

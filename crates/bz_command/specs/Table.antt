@@ -1,5 +1,5 @@
 -- The commands in one table, by their names: what each works on, whether it prints, whether it looks at the rules that its target means, and
--- whether it leaves each comment at least as often as it stood there.
+-- whether it leaves each comment at least as often as it occurred there.
 use Rattle.std.specs.Prelude.{◌≡◌, ℕ, ◌==◌, Bool, true, false, List, [], ◌∷◌, Ok, Err, codes}
 use Rattle.std.specs.List.{list_any}
 use Rattle.bz_items.specs.Characters.{Bytes}

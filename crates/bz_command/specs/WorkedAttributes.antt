@@ -99,7 +99,7 @@ abbrev CopiedIfAbsent : Type 0
 CopiedIfAbsent =
     (made (codes "copy_no_overwrite size y") (Name (codes "x")) (y (large ∷ []) ∷ rule [] ∷ []) ≡ gives (y (large ∷ []) ∷ rule (large ∷ []) ∷ []))
     × (made (codes "copy_no_overwrite size y") (Name (codes "x")) (y (large ∷ []) ∷ rule (small ∷ []) ∷ []) ≡ gives (y (large ∷ []) ∷ rule (small ∷ []) ∷ []))
-    -- Where the attribute is there nothing is asked of the other rule.
+    -- Where the attribute is there nothing is required of the other rule.
     × (done (codes "copy_no_overwrite size z") (small ∷ []) ≡ leaves (small ∷ []))
     × (done (codes "copy_no_overwrite size z") (shards ∷ []) ≡ refuses NoSource)
     × (made (codes "copy_no_overwrite size y") (Name (codes "z")) (y (large ∷ []) ∷ []) ≡ refuses NoTarget)

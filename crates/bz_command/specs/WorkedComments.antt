@@ -33,7 +33,7 @@ deps items = argument (codes "deps") (list items)
 abbrev Added : Type 0
 Added =
     let b : Expr = string (codes ":b") in
-    -- A comment is above the rule, right above it where others stand there; the one at the end of the line stays.
+    -- A comment is above the rule, right above it where others are there; the one at the end of the line stays.
     (made (codes "comment why\\ not") (Name (codes "x")) (x no_comments [] ∷ []) ≡ gives (x (comments_above (codes "# why not" ∷ [])) [] ∷ []))
     × (made (codes "comment d") (Name (codes "x")) (x both [] ∷ []) ≡ gives (x (record { before = codes "# c" ∷ codes "# d" ∷ []; suffix = Some (codes "#  s") }) [] ∷ []))
     -- Of spaces alone the bare sign is left.

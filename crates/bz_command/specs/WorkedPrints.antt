@@ -22,7 +22,7 @@ Fields =
     let size : Expr = argument (codes "size") (literal (codes "'small'")) in
     let shards : Expr = argument (codes "shard_count") (number (codes "5")) in
     let choice : Expr = argument (codes "srcs") (call (name (codes "select")) (name (codes "C") ∷ [])) in
-    -- Fields stand on one line in the order in which they are named. A string has no quotation marks, a list of strings has brackets.
+    -- Fields are on one line in the order in which they are named. A string has no quotation marks, a list of strings has brackets.
     (shown (codes "print name kind deps") (Name (codes "x")) (rule (deps ∷ []) ∷ []) ≡ shows_text (codes "x f [:a :b]\n"))
     × (shown (codes "print size name size") (Name (codes "x")) (rule (size ∷ []) ∷ []) ≡ shows_text (codes "small x small\n"))
     -- Any other value is as it is laid out.
@@ -38,7 +38,7 @@ Fields =
 abbrev Lines : Type 0
 Lines =
     let plain : Item = statement (string (codes "x")) in
-    -- Statements begin on lines 1, 2 and 3 here; a comment that stands by itself counts as none of them, a plain string as one.
+    -- Statements begin on lines 1, 2 and 3 here; a comment on its own counts as none of them, a plain string as one.
     (shown (codes "print startline name") All (x ∷ block ∷ y ∷ []) ≡ shows_text (codes "1 x\n2 y\n"))
     × (shown (codes "print startline name") All (plain ∷ block ∷ x ∷ plain ∷ []) ≡ shows_text (codes "2 x\n"))
     -- Of a fourth one no line is known.

@@ -21,7 +21,7 @@ NewRules =
     -- Or right before or after the first rule of a name, of which there are two here.
     × (made (codes "new g y before x") All (block ∷ x ∷ x ∷ []) ≡ gives (block ∷ y ∷ x ∷ x ∷ []))
     × (made (codes "new g y after x") All (block ∷ x ∷ x ∷ []) ≡ gives (block ∷ x ∷ y ∷ x ∷ []))
-    -- There is no rule of that name, which is told before a name that is taken.
+    -- There is no rule of that name, which is reported before a name that is taken.
     × (made (codes "new g y before z") All (x ∷ []) ≡ refuses NoTarget)
     × (made (codes "new g x after z") All (x ∷ []) ≡ refuses NoTarget)
     -- A rule has the name, whatever its kind is.

@@ -22,7 +22,7 @@ other_values = literal (codes "r\":l\"") ∷ name (codes "l") ∷ []
 
 abbrev Strings : Type 0
 Strings =
-    -- A string that stands alone, and the plain strings of a list.
+    -- A string on its own, and the plain strings of a list.
     ((substituted (codes "l+") (codes "n") (codes "small") ≡ codes "sman") → done (codes "substitute size l+ n") (small ∷ []) ≡ leaves (size (string (codes "sman")) ∷ []))
     × ((substituted (codes "l") (codes "n") (codes ":l") ≡ codes ":n") → done (codes "substitute deps l n") (small ∷ deps (string (codes ":l") ∷ other_values) ∷ [])
     ≡ leaves (small ∷ deps (string (codes ":n") ∷ other_values) ∷ []))

@@ -72,7 +72,7 @@ Replaced =
     -- Each item that means the old value becomes the new one, in its short form.
     (done (codes "replace deps :a :b") (deps (codes ":a" ∷ codes ":c" ∷ codes "a" ∷ []) ∷ []) ≡ leaves (deps (codes ":b" ∷ codes ":c" ∷ codes ":b" ∷ []) ∷ []))
     × (done (codes "replace deps //p:a //p:b") (deps (codes ":a" ∷ []) ∷ []) ≡ leaves (deps (codes ":b" ∷ []) ∷ []))
-    -- A string that stands alone does too.
+    -- A string on its own does too.
     × (done (codes "replace size small large") (small ∷ []) ≡ leaves (argument (codes "size") (string (codes "large")) ∷ []))
     -- In all attributes but the name, which is the old value here.
     × (done (codes "replace * x y") (argument (codes "size") (string (codes "x")) ∷ tags (codes "x" ∷ codes "z" ∷ []) ∷ [])
@@ -94,7 +94,7 @@ Moved =
     ≡ leaves (deps (codes ":b" ∷ []) ∷ argument (codes "runtime_deps") (list (noted ∷ [])) ∷ []))
     -- From an attribute to itself: to the end.
     × (done (codes "move deps deps :a") (deps (codes ":a" ∷ codes ":b" ∷ []) ∷ []) ≡ leaves (deps (codes ":b" ∷ codes ":a" ∷ []) ∷ []))
-    -- The value is not there, and nothing is asked of the other attribute.
+    -- The value is not there, and nothing is required of the other attribute.
     × (done (codes "move deps size :c") (deps (codes ":a" ∷ []) ∷ small ∷ []) ≡ leaves (deps (codes ":a" ∷ []) ∷ small ∷ []))
     -- The first attribute is absent; it is no list; the other one is no list.
     × (done (codes "move deps runtime_deps :a") (later (codes ":a" ∷ []) ∷ []) ≡ refuses NoAttribute)

@@ -59,7 +59,7 @@ fn count_to_first(marks: &[bool]) -> usize
     marks.len()
 }
 
-/// How many items stand up to the last one that is marked; none where no mark is set.
+/// How many items there are up to the last one that is marked; none where no mark is set.
 fn count_to_last(marks: &[bool]) -> usize
     ensures within { result ≤ length marks.now }
     ensures unset { (k : ℕ) → result ≤ k → k < length marks.now → get_or marks.now k false ≡ false }

@@ -1,4 +1,4 @@
-//! Whether what a command makes is past the limit of a text by the comments alone that it puts in, told before it is made.
+//! Whether what a command makes is past the limit of a text by the comments alone that it puts in, known before it is made.
 ghost use Rattle.std.specs.Prelude.{◌≡◌, ◌⊎◌, ◌<◌, ◌*◌, Err, IfErr, IfOk, IsOk, IsTrue, None, length, true};
 ghost use Rattle.std.specs.List.{list_any};
 ghost use Rattle.bz_tree.specs.Spell.{limit};
@@ -109,7 +109,7 @@ fn comment_overfills(
 }
 
 /// Whether what a command makes of a file is past the limit of a text by the comments alone that it puts in: then it need not be
-/// made. `false` tells nothing. `current` is the path of the file's package, `lines` the lines on which its statements begin, from 1.
+/// made. `false` says nothing. `current` is the path of the file's package, `lines` the lines on which its statements begin, from 1.
 /// Errors: the effect's refusal; `Memory`: a growth was refused.
 pub fn overfills(
     alloc: Global,

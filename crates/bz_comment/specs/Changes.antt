@@ -37,7 +37,7 @@ changed_comments Remove current host arguments = remove_comment current host arg
 abbrev pub is_sought : Sought → Expr → Bool
 is_sought sought = is_item sought.current.now sought.attribute.now sought.value.now
 
--- the arguments with an attribute's comments changed, which ask for no current package, and with those of an item
+-- the arguments with an attribute's comments changed, which need no current package, and with those of an item
 abbrev pub changed_attribute : Bytes → Change → List Expr → Arguments
 changed_attribute name change arguments = on_host [] (h.Attribute name) (changed_by change) arguments
 

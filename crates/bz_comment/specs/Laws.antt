@@ -19,7 +19,7 @@ CommentTakenAway =
 abbrev pub OwnCommentTakenAway : Type 0
 OwnCommentTakenAway = (text : Bytes) (x : Expr) → comments_of x ≡ no_comments → without_comments (with_comment text x) ≡ x
 
--- `comment` leaves each comment at least as often as it stood in the arguments, and in the statement.
+-- `comment` leaves each comment at least as often as it occurred in the arguments, and in the statement.
 abbrev pub CommentLosesNone : Type 0
 CommentLosesNone =
     (current : Bytes) (host : Host) (text : Bytes) (arguments new : List Expr)

@@ -76,7 +76,7 @@ fn texts_of(alloc: Global, keys: &[Text]) -> Result<BTreeSet<Vec<u8>>, Memory>
     Ok(texts)
 }
 
-/// The set of these keys, to be asked for entries.
+/// The set of these keys, in which those of entries are looked up.
 pub(crate) fn chosen_of(alloc: Global, keys: &[Text]) -> Result<BTreeSet<Vec<u8>>, Memory>
     ensures { IfOk result (λ chosen. has_chosen chosen ≡ has_some_key keys.now) }
 {

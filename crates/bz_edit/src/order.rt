@@ -55,7 +55,7 @@ fn is_uncovered(even: bool, path: &[u32], at: u32, count: u32, other: &[u32], ot
     }
 }
 
-/// Whether an edit may stand before another in a step.
+/// Whether an edit may be before another in a step.
 fn may_follow(edit: &Edit, next: &Edit) -> bool
     ensures { result ≡ follows edit.now next.now }
 {

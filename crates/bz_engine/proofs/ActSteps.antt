@@ -90,7 +90,7 @@ was_listed place file before after text listing printed there is put same =
     ∙ (ap (λ (u : List Used). state u (before.printed ++ listing) before.failed) (sym (put_again place before.used file there))
     ∙ ap (state (with_opened place (Some file) before.used) (before.printed ++ listing)) (or_false before.failed)))
 
--- a refusal is told by the name of the file
+-- a refusal is reported by the name of the file
 pub told_by : (f f' : ℕ) (old new : Option Bytes) (name other command : Bytes) (refusal : Refusal) → name ≡ other
     → AppendsUnlessFailed f f' old new (refusal_line name command refusal) → Tells f f' old new (told_of other command (Err refusal))
 told_by f f' old new name other command refusal is told =

@@ -1,4 +1,4 @@
--- Steps with journals do one thing, and tell the same lines but for what is left open.
+-- Steps with journals do one thing, and print the same lines but for what is left open.
 use Rattle.std.proofs.Common.{◌≡◌, ◌≢◌, ◌⊎◌, inl, inr, ◌∙◌, ◌++◌, ℕ, zero, suc, List, [], ◌∷◌, Option, Some, None, Bool, true, false, true≢false, Result, Ok, Err, refl, sym, ap, subst, codes, bytes_eq}
 use Rattle.std.specs.FinMap.{get}
 use Rattle.std.specs.List.{list_any}

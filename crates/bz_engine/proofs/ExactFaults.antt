@@ -14,7 +14,7 @@ both_joined (Ok a) (Ok b) asked is = (a, b, refl, refl)
 both_joined (Ok a) (Err refused) asked is = absurd (cc is)
 both_joined (Err refused) more asked is = absurd (cc is)
 
--- The first operand that is refused is told.
+-- The first operand that is refused is reported.
 first_refused : (front rest : List Bytes) (operand : Bytes) (refused : Refused) (asked : Asked) → asked_of front ≡ Ok asked
     → asked_by operand ≡ Err refused → asked_of (front ++ operand ∷ rest) ≡ Err refused
 first_refused [] rest operand refused asked before is = ap (λ (it : Result Asked Refused). joined_operands it (asked_of rest)) is
@@ -23,7 +23,7 @@ first_refused (first ∷ front) rest operand refused asked before is =
     ap (λ (it : Result Asked Refused). joined_operands it (asked_of (front ++ operand ∷ rest))) parts.2
     ∙ ap (λ (it : Result Asked Refused). joined_operands (Ok parts.0) it) (first_refused front rest operand refused parts.1 parts.3 is)
 
--- a usage that tells a pattern of these operands
+-- a usage that reports a pattern of these operands
 abbrev pub TellsOperand : List Bytes → Usage → Type 0
 TellsOperand texts usage = (refused : Refused) × (usage ≡ of_operand refused) × IsFirstRefused texts refused × IsPatternFault refused.operand refused.fault
 
@@ -61,7 +61,7 @@ some_line : (front rest : List Bytes) (line : Bytes) → some_groups (front ++ l
 some_line [] rest line = refl
 some_line (first ∷ front) rest line = refl
 
--- a usage that tells a pattern of these lines
+-- a usage that reports a pattern of these lines
 abbrev pub TellsLine : List Bytes → Usage → Type 0
 TellsLine lines usage = (refused : Refused) × (usage ≡ of_operand refused) × IsFirstFault lines (of_operand refused) × IsPatternFault refused.operand refused.fault
 

@@ -37,7 +37,7 @@ same_left words world left other is = record {
   folder = λ name open_is. ap (λ (l : Left). get l.folder name) (sym is);
 }
 
--- one line is told
+-- one line is printed
 abbrev Refuses : Bytes → Usage → World → Left → Type 0
 Refuses file usage world left = (line : Bytes) × IsUsageLine file usage line × (left ≡ unused world.folder line)
 
@@ -52,9 +52,9 @@ told_pattern file usage refused world left line is told none =
     let here : line ≡ operand_line refused = subst (λ (it : Usage). IsUsageLine file it line) is told in
     none ∙ ap (unused world.folder) here
 
--- ---- by what is asked for
+-- ---- by what is requested
 
--- A usage is told, or what is asked for is done.
+-- A usage is reported, or what is requested is done.
 abbrev Decided : {A : Type 0} → Bytes → (A → World → Left → Type 0) → Result A Usage → World → Left → Type 0
 Decided file Done (Ok asked) world left = Done asked world left
 Decided file Done (Err usage) world left = Refuses file usage world left
@@ -125,7 +125,7 @@ done_at options true lines world known left none same leave = lines_unread optio
 done_at options false lines world known left none same leave =
     subst (λ (k : Option Bytes). LinesLeave options lines (record world { known = k }) left) (same refl) leave
 
--- where the words ask for journals, what these hold is left open
+-- where the words request journals, what these hold is left open
 abbrev OpensJournals : List Bytes → Options → Type 0
 OpensJournals words options = options.journal ≡ true → (file : Bytes) → IsLeftOpen words (journal_name file)
 
@@ -161,7 +161,7 @@ abbrev TextExact : Options → Bytes → Bytes → World → Left → Type 0
 TextExact options name text world left =
     ((at : ℕ) × IsValidUpTo text at × (left ≡ unused world.folder (fault_line (told_name name) (NotUtf8 at)))) ⊎ (IsUtf8 text × TextDecided options name text world left)
 
--- a pattern of a line of this text is told
+-- a pattern of a line of this text is reported
 abbrev TextTells : Bytes → World → Left → Type 0
 TextTells text world left = (refused : Refused) × IsFirstFault (lines_in text) (of_operand refused) × IsToldPattern refused world left
 
@@ -201,7 +201,7 @@ one_script world bytes name text text' known (inr (other, here)) (inr (other', h
 
 -- ---- what is given
 
--- Two ways of the same words are the same, unless one of them tells a pattern.
+-- Two ways of the same words are the same, unless one of them reports a pattern.
 abbrev Exactly : List Bytes → Given → World → Left → Left → Type 0
 Exactly words given world left other = GivenTellsPattern given world left ⊎ GivenTellsPattern given world other ⊎ SameLeft words world left other
 
@@ -243,7 +243,7 @@ exactly_given one words bytes options (script name) world left other known plain
 
 -- ---- whole lines
 
--- What clap tells is its own.
+-- What clap prints is its own.
 same_usage : (words : List Bytes) (usage : LineUsage) (world : World) (line line' : Bytes) (left other : Left) → command_line_of words ≡ Err usage
     → IsLineUsageLine usage line → IsLineUsageLine usage line' → left ≡ unused world.folder line
     → other ≡ unused world.folder line' → SameLeft words world left other

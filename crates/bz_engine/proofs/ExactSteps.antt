@@ -1,4 +1,4 @@
--- Steps of a run do one thing, and tell the same lines but for what is left open.
+-- Steps of a run do one thing, and print the same lines but for what is left open.
 use Rattle.std.proofs.Common.{◌≡◌, inl, inr, ℕ, List, [], ◌∷◌, ◌++◌, Option, Some, None, Bool, true≢false, refl, sym, ap, subst, ◌∙◌}
 use Rattle.bz_tree.specs.Laws.{OneReading}
 use Rattle.bz_items.specs.Characters.{Bytes}

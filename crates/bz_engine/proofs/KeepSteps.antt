@@ -85,7 +85,7 @@ works_more files cut later old mid new first then = record {
   honest = then.honest ∙ first.honest;
 }
 
--- what is told after it changes no package
+-- what is printed after it changes no package
 pub kept_by : {F : Type 0} (files : FilesOf F) (place : ℕ) (action : Action) (note : Bytes) (before : List Used) (answer : Result Reply KeepFault) (mid after : List Used)
     (old new : F) → after ≡ mid → KeepsAt files place action note before answer mid old new → KeepsAt files place action note before answer after old new
 kept_by files place action note before answer mid after old new same = subst (λ (used : List Used). KeepsAt files place action note before answer used old new) (sym same)

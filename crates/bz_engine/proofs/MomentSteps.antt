@@ -1,4 +1,4 @@
--- The moments of a whole run, by what its words ask for.
+-- The moments of a whole run, by what its words request.
 use Rattle.std.proofs.Common.{◌≡◌, ◌∙◌, inl, inr, ℕ, List, [], ◌∷◌, Option, Some, Result, Ok, Err, true, refl, sym, subst}
 use Rattle.std.specs.Prelude.{IfOk}
 use Rattle.bz_items.specs.Characters.{Bytes}
@@ -19,7 +19,7 @@ use Rattle.bz_engine.specs.Steps.{all_steps}
 pub unused_yet : (folder : Folder) → IsMeanwhile folder [] [] folder
 unused_yet folder = record { files = λ place file then here there. absurd (let e = here in cc); others = λ name unlike aside. refl }
 
--- a folder at a moment of what a text of lines asks for, in a run that began with one
+-- a folder at a moment of what a text of lines requests, in a run that began with one
 abbrev pub IsMomentOfText : Folder → Bytes → Folder → Type 0
 IsMomentOfText folder text now = (lines : List Asked) × (script_of text ≡ Ok lines) × IsMomentOfSteps folder (all_steps lines) [] now
 

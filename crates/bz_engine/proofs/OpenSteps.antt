@@ -19,7 +19,7 @@ use Rattle.bz_engine.specs.Run.{Answers, Progress, Uses, World}
 use Rattle.bz_ports.specs.Ports.{IsInput}
 use Rattle.bz_engine.specs.Steps.{RunStep, input_package}
 
--- ---- the first bytes of standard input, one more than a text may have, tell what becomes of it
+-- ---- the first bytes of standard input, one more than a text may have, decide what becomes of it
 
 pub input_takes : (known : Option Bytes) (current name front : Bytes) (file : Option Opened) (lines : List Bytes)
     → IfSome known (λ all. front ≡ take (limit + 1) all) → Takes current name front file lines

@@ -30,7 +30,7 @@ use Rattle.bz_engine.specs.Told.{IsUsageLine, IsLineUsageLine, input_line}
 pub told_once : (f g : ℕ) (old new : Option Bytes) (line : Bytes) → AppendsUnlessFailed f g old new line → Tells f g old new (line ∷ [])
 told_once f g old new line told = (g, new, told, (refl, refl))
 
--- What was told stands for what was asked.
+-- What was reported holds for what was requested.
 pub usage_told : (found : Option Usage) (file : Bytes) (f g : ℕ) (old new : Option Bytes) → IsSome found
     → IfSome found (λ usage. (line : Bytes) × IsUsageLine file usage line × AppendsUnlessFailed f g old new line)
     → (usage : Usage) × (line : Bytes) × (found ≡ Some usage) × IsUsageLine file usage line × Tells f g old new (line ∷ [])
@@ -46,7 +46,7 @@ line_usage_told (Some usage) f g old new is holds = (usage, holds.0, refl, holds
 pub at_some : {A : Type 0} (P : A → Type 0) (found : Option A) (x : A) → found ≡ Some x → IfSome found P → P x
 at_some P found x is holds = subst (λ it. IfSome it P) is holds
 
--- Nothing was done, and one line told.
+-- Nothing was done, and one line printed.
 pub stands_unused : (folder folder' : Folder) (line : Bytes) (status : ℕ) (out : Option Bytes) (f g : ℕ) (old new : Option Bytes) → folder' ≡ folder
     → status ≡ 1 → Tells f g old new (line ∷ []) → LeftStands (unused folder line) status folder' out out f g old new
 stands_unused folder folder' line status out f g old new same exit told = record { exit = exit; files = same; output = appends_nothing out; lines = told }
@@ -84,7 +84,7 @@ pub operands_of_input : (texts : List Bytes) (asked : Asked) (lines : List Asked
 operands_of_input texts asked lines is same are =
     subst AreOfInput (sym same) (subst (λ (it : Result Asked Usage). IfOk it (λ asked. AreOfInput (asked ∷ []))) is are)
 
--- Operands that ask for something have a target.
+-- Operands that request something have a target.
 has_target : (commands : List Asking) (targets : List Target) (asked : Asked) → complete commands targets ≡ Ok asked
     → (target : Target) × (more : List Target) × (asked.targets ≡ target ∷ more)
 has_target [] targets asked is = absurd (let e = is in cc)
@@ -169,7 +169,7 @@ text_refused options name text text' told world found usage line status out f g 
       stands_unused world.folder world.folder line status out f g old new refl exit tells,
     )
 
--- its lines mean rules of standard input, where they stand there
+-- its lines mean rules of standard input, where they are there
 pub text_refuses : (options : Options) (name text text' : Bytes) (world : World) (lines lines' : List Asked) (status : ℕ) (out : Option Bytes) (f g : ℕ)
     (old new : Option Bytes) → text' ≡ text → IsUtf8 text → script_of text' ≡ Ok lines → lines' ≡ lines → bytes_eq name input_package && names_input lines' ≡ true
     → status ≡ 1 → AppendsUnlessFailed f g old new input_line

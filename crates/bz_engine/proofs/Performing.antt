@@ -19,7 +19,7 @@ use Rattle.bz_engine.specs.Run.{World, Progress, nothing_done, RunsSteps}
 use Rattle.bz_engine.specs.Steps.{RunStep, all_steps, names_input, shows_input}
 use Rattle.bz_engine.proofs.InputSteps.{nothing_written}
 
--- what is left, by the state after the steps, the lines that they told and the folder after all
+-- what is left, by the state after the steps, the lines that they printed and the folder after all
 abbrev pub left_by : Options → List RunStep → List Bytes → Progress → Folder → Left
 left_by options steps told state folder = record {
   output = state.printed ++ texts_out (shows_input steps) options.to_stdout state.used;
@@ -140,7 +140,7 @@ pub told_apart : (b : Bool) → (b ≡ false) ⊎ (b ≡ true)
 told_apart false = inl refl
 told_apart true = inr refl
 
--- what is asked for where journals are not kept, and where they are
+-- what is required where journals are not kept, and where they are
 pub plain_premise : (honest journals : Bool) (Premise : Type 0) → (honest ≡ true) ⊎ ((journals ≡ false) × Premise) → (honest ≡ true) ⊎ Premise
 plain_premise honest journals Premise (inl is) = inl is
 plain_premise honest journals Premise (inr holds) = inr holds.1
@@ -149,7 +149,7 @@ pub kept_premise : (honest journals : Bool) (Premise : Type 0) → journals ≡ 
 kept_premise honest journals Premise kept (inl is) = is
 kept_premise honest journals Premise kept (inr holds) = absurd (true≢false (sym kept ∙ holds.0))
 
--- Files that are not honest are only asked for where none is written.
+-- Where files are not honest none is written.
 pub honest_still : (honest honest' to_stdout : Bool) (world : World) (keep_going : Bool) (lines : List Asked) (start : Progress) (told : List Bytes) (state : Progress)
     → honest' ≡ honest → start ≡ nothing_done → RunsSteps world keep_going (all_steps lines) start told state → (honest ≡ true) ⊎ AreOfInput lines
     → (honest' ≡ true) ⊎ (all_writings to_stdout state.used ≡ [])

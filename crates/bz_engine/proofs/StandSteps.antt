@@ -129,7 +129,7 @@ follows_by (Some action) note h after answer leads = follows action note h after
 
 -- ---- a file that holds its present text
 
--- what tells the texts of a file stays where its journal does
+-- what records the texts of a file stays where its journal does
 pub told_still : (old now : Folder) (name current text : Bytes) (texts : List Bytes) → get now (journal_name name) ≡ get old (journal_name name)
     → IsToldBy old name current text texts → IsToldBy now name current text texts
 told_still old now name current text texts same (inl (none, alone)) = inl (same ∙ none, alone)
@@ -183,7 +183,7 @@ others_behind (Err refusal) file history folder folder' still = λ name a b c d.
 
 -- ---- the files of other packages
 
--- A file of another package stands as it did.
+-- A file of another package is as it was.
 other_stands : (folder folder' : Folder) (current other name : Bytes) (file : Opened) → IsNameOf current name → other ≢ current → OthersStay name folder folder'
     → IsKeptIn folder other file → IsKeptIn folder' other file
 other_stands folder folder' current other name file named differs stay stands =

@@ -19,7 +19,7 @@ pub no_more_time : {A : Type 0} (moment : A → ℕ) (since : A → ℕ → Fold
 no_more_time moment since before mid after P same time =
     subst (λ files. Elapses (moment before) (moment files) (since before) (since files) P) (sym same) time
 
--- ---- lines that stand in a file, or in standard input
+-- ---- lines that are in a file, or in standard input
 
 pub lines_apart : (words : List Bytes) (line : CommandLine) (name : Bytes) → command_line_of words ≡ Ok line → line.given ≡ script name → TakesNoInput words
     → name ≢ input_package

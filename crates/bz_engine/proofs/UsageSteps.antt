@@ -1,4 +1,4 @@
--- What a run of status 1 tells, by what was read of the words and of the lines.
+-- What a run of status 1 prints, by what was read of the words and of the lines.
 use Rattle.std.proofs.Common.{◌≡◌, ◌&&◌, inl, inr, ℕ, List, [], ◌∷◌, codes, Option, Some, None, IfSome, Result, Ok, Err, Bool, true, refl, sym, ap, subst, ◌∙◌, bytes_eq}
 use Rattle.std.specs.Str.{IsUtf8, IsValidUpTo}
 use Rattle.bz_lex.specs.declared.fault.ReadFault.TheVariants.{NotUtf8}
@@ -18,7 +18,7 @@ use Rattle.bz_engine.specs.Told.{IsUsageLine, IsLineUsageLine, no_journal_line}
 use Rattle.bz_engine.specs.Usage.{OperandsTell, LinesTell, TextTells, GivenTells, LineTells}
 use Rattle.bz_engine.proofs.Outcomes.{told_once, at_some}
 
--- one line that passes was told
+-- one line that passes was printed
 abbrev pub TellsOne : (Bytes → Type 0) → ℕ → ℕ → Option Bytes → Option Bytes → Type 0
 TellsOne P f g old new = (line : Bytes) × P line × Tells f g old new (line ∷ [])
 

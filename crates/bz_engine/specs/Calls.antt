@@ -28,11 +28,11 @@ use Rattle.bz_engine.specs.declared.run.Run.{Run}
 
 -- ---- standard error
 
--- A line was told, whole unless its writing failed.
+-- A line was printed, whole unless its writing failed.
 abbrev pub TellsLine : {E : Type 0} → SinkOf E → E → E → Bytes → Type 0
 TellsLine sink old new line = AppendsUnlessFailed (sink.faults old) (sink.faults new) (sink.contents old) (sink.contents new) line
 
--- Lines were told one after the other, each whole unless its writing failed.
+-- Lines were printed one after the other, each whole unless its writing failed.
 abbrev pub TellsLines : {E : Type 0} → SinkOf E → E → E → List Bytes → Type 0
 TellsLines sink old new lines = Tells (sink.faults old) (sink.faults new) (sink.contents old) (sink.contents new) lines
 
@@ -56,7 +56,7 @@ world_with files held known = record { folder = files.folder held; known = known
 abbrev pub world_of : {R F : Type 0} → SourceOf R → FilesOf F → R → F → World
 world_of source files input held = world_with files held (source.remaining input)
 
--- Each folder since the beginning of the call, but those that stood there, has P.
+-- Each folder since the beginning of the call, but those that had occurred by then, has P.
 abbrev pub PassesBy : {F : Type 0} → FilesOf F → (Folder → Type 0) → F → F → Type 0
 PassesBy files P old new = Elapses (files.moment old) (files.moment new) (files.since old) (files.since new) P
 
@@ -132,7 +132,7 @@ spot source files errors run input held err = record {
   faults = errors.faults err;
 }
 
--- This is done from one spot to another in a world with this folder, and its lines are told. (Of standard input all is left until package
+-- This is done from one spot to another in a world with this folder; its lines are printed. (Of standard input all is left until package
 -- `-` is used.)
 abbrev pub DoesBetween : Folder → (World → Progress → List Bytes → Progress → Type 0) → RunSpot → RunSpot → Type 0
 DoesBetween folder Does old new = (known : Option Bytes) → IsLeft known old.state.used old.left → (lines : List Bytes)
@@ -144,7 +144,7 @@ DoesBetween folder Does old new = (known : Option Bytes) → IsLeft known old.st
 abbrev pub ReadsNoInput : Cut → RunSpot → RunSpot → Type 0
 ReadsNoInput why old new = (new.left ≡ old.left) × (new.reads ≡ old.reads) × (why ≢ c.Read)
 
--- This is done from one spot to another, and in the folder, where each open file is; and its lines are told.
+-- This is done from one spot to another, and in the folder, where each open file is; and its lines are printed.
 abbrev pub KeepsBetween : (Folder → Progress → List Bytes → Folder → Progress → Type 0) → RunSpot → RunSpot → Type 0
 KeepsBetween Keeps old new = AllAreKept old.folder old.state.used → (lines : List Bytes)
     × Keeps old.folder old.state lines new.folder new.state

@@ -1,5 +1,5 @@
 -- Words, standard input and a folder have at most one outcome, but for what is left open: clap's text, which fault of a text that
--- can't be read is told, names that end in `.bznew`, the bytes of journals, and whether `regex` takes a pattern.
+-- can't be read is reported, names that end in `.bznew`, the bytes of journals, and whether `regex` takes a pattern.
 use Rattle.std.specs.Prelude.{◌≡◌, ◌⊎◌, true, List, [], ◌∷◌, Some, Ok, Err}
 use Rattle.bz_lex.specs.declared.fault.ReadFault.{ReadFault}
 use Rattle.bz_tree.specs.Legal.{Accepted}
@@ -19,7 +19,7 @@ use Rattle.bz_engine.specs.Told.{operand_line}
 
 -- ---- lines
 
--- Two lines tell a fault of one text that is read for a package and isn't accepted. The faults are TooLarge or NotUtf8 exactly where
+-- Two lines report a fault of one text that is read for a package and isn't accepted. The faults are TooLarge or NotUtf8 exactly where
 -- the text is that; what else it is, and its place, may differ.
 pub record TellFaults (world : World) (line other : Bytes) : Type 0 where
   pub current : Bytes
@@ -34,7 +34,7 @@ pub record TellFaults (world : World) (line other : Bytes) : Type 0 where
   pub told : line ≡ fault_line name first
   pub told_other : other ≡ fault_line name second
 
--- clap finds a fault in the words, and tells it in its own text
+-- clap finds a fault in the words, and reports it in its own text
 abbrev pub AreClaps : List Bytes → Type 0
 AreClaps words = command_line_of words ≡ Err of_clap
 
@@ -50,7 +50,7 @@ SameLines words world (line ∷ lines) (other ∷ others) = SameLine words world
 
 -- ---- outcomes
 
--- What a file of this name holds is left open: the name is set aside, or is that of a journal and the words ask for journals.
+-- What a file of this name holds is left open: the name is set aside, or is that of a journal and the words request journals.
 abbrev pub IsLeftOpen : List Bytes → Bytes → Type 0
 IsLeftOpen words name = IsAside name
     ⊎ (((line : CommandLine) × (command_line_of words ≡ Ok line) × (line.options.journal ≡ true)) × ((file : Bytes) × (name ≡ journal_name file)))
@@ -62,7 +62,7 @@ pub record SameLeft (words : List Bytes) (world : World) (left other : Left) : T
   pub lines : SameLines words world left.lines other.lines
   pub folder : SameBut (IsLeftOpen words) left.folder other.folder
 
--- Nothing is done, and the pattern of this operand is told as one that `regex` refuses.
+-- Nothing is done, and the pattern of this operand is reported as one that `regex` refuses.
 abbrev pub IsToldPattern : Refused → World → Left → Type 0
 IsToldPattern refused world left = IsPatternFault refused.operand refused.fault × (left ≡ unused world.folder (operand_line refused))
 

@@ -76,7 +76,7 @@ pub record DoesBeside (step : RunStep) (folder : Folder) (before : Progress) (li
 
 -- ---- whole runs
 
--- Steps one after the other, with the lines that they tell. A step that failed ends them, unless they are to go on.
+-- Steps one after the other, with the lines that they print. A step that failed ends them, unless they are to go on.
 abbrev pub RunsBeside : Bool → List RunStep → Folder → Progress → List Bytes → Folder → Progress → Type 0
 RunsBeside keep_going [] folder before lines folder' after = (lines ≡ []) × (folder' ≡ folder) × (after ≡ before)
 RunsBeside keep_going (step ∷ steps) folder before lines folder' after =
@@ -85,7 +85,7 @@ RunsBeside keep_going (step ∷ steps) folder before lines folder' after =
     × DoesBeside step folder before first between mid × RunsBeside keep_going steps between mid rest folder' after × (lines ≡ first ++ rest)))
 
 -- Steps are run, and files are written after each; then standard output is given what was printed and the texts after it, and the files
--- that were written are told.
+-- that were written are reported.
 pub record PerformsBeside (options : Options) (steps : List RunStep) (world : World) (left : Left) : Type 0 where
   pub told : List Bytes
   pub state : Progress
@@ -94,13 +94,13 @@ pub record PerformsBeside (options : Options) (steps : List RunStep) (world : Wo
   pub lines : left.lines ≡ told ++ fixed_lines options.quiet (all_kept state.used)
   pub status : left.status ≡ status_of state
 
--- ---- files that stand
+-- ---- files that are kept
 
 -- the open file of the package with this number is left alone
 abbrev pub is_left_at : ℕ → List Used → Bool
 is_left_at place used = option_map_or (λ (file : Opened). file.left) (file_at place used) false
 
--- A file of a package is not left alone, and it goes on in the folder: it holds its present text, and its journal tells its history.
+-- A file of a package is not left alone, and it goes on in the folder: it holds its present text, and its journal records its history.
 pub record IsKeptIn (folder : Folder) (current : Bytes) (file : Opened) : Type 0 where
   pub named : IsNameOf current file.name
   pub stays : file.left ≡ false

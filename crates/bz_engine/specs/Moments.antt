@@ -77,12 +77,12 @@ IsMomentOfSteps began (step ∷ steps) used now = (mid : List Used) × (after : 
 
 -- ---- runs
 
--- what is asked for by operands, or by the lines of a file
+-- what is requested by operands, or by the lines of a file
 abbrev pub AsksFor : World → Given → List Asked → Type 0
 AsksFor world (operands texts) lines = (asked : Asked) × (operand_group texts ≡ Ok asked) × (lines ≡ asked ∷ [])
 AsksFor world (script name) lines = (text : Bytes) × IsScript world name (Some text) × (script_of text ≡ Ok lines)
 
--- a folder at a moment of a run: it is as it was, or at a moment of the steps that are asked for
+-- a folder at a moment of a run: it is as it was, or at a moment of the steps that are requested
 abbrev pub IsMomentOfRun : World → Given → Folder → Type 0
 IsMomentOfRun world given now = (now ≡ world.folder)
     ⊎ ((lines : List Asked) × AsksFor world given lines × IsMomentOfSteps world.folder (all_steps lines) [] now)

@@ -19,7 +19,7 @@ use Rattle.bz_ports.specs.Ports.{IsInput}
 use Rattle.bz_engine.specs.Steps.{RunStep, input_package, all_steps, names_input}
 use Rattle.bz_engine.specs.Told.{IsUsageLine, IsLineUsageLine, input_line, no_journal_line}
 
--- A fault of usage is told by one line, and all else is as it was.
+-- A fault of usage is reported by one line, and all else is as it was.
 abbrev pub unused : Folder → Bytes → Left
 unused folder line = record { output = []; lines = line ∷ []; status = 1; folder = folder }
 
@@ -30,7 +30,7 @@ abbrev pub StepsLeave : Options → List RunStep → World → Left → Type 0
 StepsLeave options steps world left =
     ((options.journal ≡ false) × Performs options steps world left) ⊎ ((options.journal ≡ true) × PerformsBeside options steps world left)
 
--- What lines ask for is done, unless that needs a journal of standard input, which has none.
+-- What lines request is done, unless that needs a journal of standard input, which has none.
 abbrev pub LinesLeave : Options → List Asked → World → Left → Type 0
 LinesLeave options lines world left =
     ((options.journal && names_input lines ≡ true) × (left ≡ unused world.folder no_journal_line))
@@ -45,17 +45,17 @@ OperandsOutcome options texts world left =
 
 -- ---- operands in a file of lines
 
--- The lines stand in standard input for `-`, else in a file of the folder.
+-- The lines are in standard input for `-`, else in a file of the folder.
 abbrev pub IsScript : World → Bytes → Option Bytes → Type 0
 IsScript world name text =
     ((name ≡ input_package) × ((bytes : Bytes) × IsInput world.known bytes × (text ≡ Some bytes)))
     ⊎ ((name ≢ input_package) × (text ≡ get world.folder name))
 
--- the name by which the file of lines is told
+-- the name by which the file of lines is reported
 abbrev pub told_name : Bytes → Bytes
 told_name name = if bytes_eq name input_package then stdin else name
 
--- What lines ask for is done; rules of standard input can't be meant where the lines stand there, and then no step reads what is left
+-- What lines request is done; rules of standard input can't be meant where the lines are in it, and then no step reads what is left
 -- of it.
 abbrev pub LinesOutcome : Options → Bool → List Asked → World → Left → Type 0
 LinesOutcome options of_input lines world left =
@@ -63,7 +63,7 @@ LinesOutcome options of_input lines world left =
     ⊎ ((of_input && names_input lines ≡ false) × ((known : Option Bytes) × (of_input ≡ false → known ≡ world.known)
     × LinesLeave options lines (record world { known = known }) left))
 
--- A file of lines is there, is text, and asks for something; else that is told.
+-- A file of lines is there, is text, and requests something; else that is reported.
 abbrev pub TextOutcome : Options → Bytes → Option Bytes → World → Left → Type 0
 TextOutcome options name None world left = left ≡ unused world.folder (named_line (told_name name) (codes "cannot open"))
 TextOutcome options name (Some text) world left =
@@ -92,7 +92,7 @@ WordsOutcome words world left = LineOutcome (command_line_of words) world left
 abbrev pub TakesScript : List Bytes → Type 0
 TakesScript words = (options : Options) × (name : Bytes) × (command_line_of words ≡ Ok (record { options = options; given = script name }))
 
--- The words ask for journals.
+-- The words request journals.
 abbrev pub KeepsJournals : List Bytes → Type 0
 KeepsJournals words = IfOk (command_line_of words) (λ line. line.options.journal ≡ true)
 
@@ -114,7 +114,7 @@ IsOfInput (script name) = ⊥
 abbrev pub NamesNoFile : List Bytes → Type 0
 NamesNoFile words = IfOk (command_line_of words) (λ line. IsOfInput line.given)
 
--- ---- words that ask for nothing
+-- ---- words that request nothing
 
 -- operands that are refused, or lack a command or a target, or mean rules of standard input where journals are kept
 abbrev pub GivesNothing : Options → Given → Type 0
@@ -122,7 +122,7 @@ GivesNothing options (operands texts) = IsErr (operand_group texts)
     ⊎ ((options.journal ≡ true) × ((asked : Asked) × (operand_group texts ≡ Ok asked) × (names_input (asked ∷ []) ≡ true)))
 GivesNothing options (script name) = ⊥
 
--- The lines, if any, don't stand in standard input.
+-- The lines, if any, aren't in standard input.
 abbrev pub StandApart : Given → Type 0
 StandApart (operands texts) = Unit {0}
 StandApart (script name) = name ≢ input_package
@@ -130,7 +130,7 @@ StandApart (script name) = name ≢ input_package
 abbrev pub TakesNoInput : List Bytes → Type 0
 TakesNoInput words = IfOk (command_line_of words) (λ line. StandApart line.given)
 
--- The lines, if any, don't stand in a file.
+-- The lines, if any, aren't in a file.
 abbrev pub StandInNoFile : Given → Type 0
 StandInNoFile (operands texts) = Unit {0}
 StandInNoFile (script name) = name ≡ input_package
@@ -138,7 +138,7 @@ StandInNoFile (script name) = name ≡ input_package
 abbrev pub TakesNoFile : List Bytes → Type 0
 TakesNoFile words = IfOk (command_line_of words) (λ line. StandInNoFile line.given)
 
--- words that are no line, or whose operands ask for nothing
+-- words that are no line, or whose operands request nothing
 abbrev pub LineGivesNothing : Result CommandLine LineUsage → Type 0
 LineGivesNothing (Err usage) = Unit {0}
 LineGivesNothing (Ok line) = GivesNothing line.options line.given

@@ -54,7 +54,7 @@ abbrev pub printed_by : Answer → Bytes
 printed_by (Ok reply) = printed_in reply
 printed_by (Err refusal) = []
 
--- what is told of an answer: a refusal, by its file and its command
+-- what is reported of an answer: a refusal, by its file and its command
 abbrev pub told_of : Bytes → Bytes → Answer → List Bytes
 told_of name command (Ok reply) = []
 told_of name command (Err refusal) = refusal_line name command refusal ∷ []
@@ -96,7 +96,7 @@ pub record Does (world : World) (step : RunStep) (before : Progress) (lines : Li
 abbrev pub ends_run : Bool → Progress → Bool
 ends_run keep_going state = state.failed && not keep_going
 
--- Steps one after the other, with the lines that they tell.
+-- Steps one after the other, with the lines that they print.
 abbrev pub RunsSteps : World → Bool → List RunStep → Progress → List Bytes → Progress → Type 0
 RunsSteps world keep_going [] before lines after = (lines ≡ []) × (after ≡ before)
 RunsSteps world keep_going (step ∷ steps) before lines after =

@@ -1,4 +1,4 @@
--- What a line asks for, step by step.
+-- What a line requests, step by step.
 use Rattle.std.specs.Prelude.{List, map, codes, Bool, not, ◌&&◌, bytes_eq, Option, Some, None}
 use Rattle.std.specs.List.{flat_map, list_any}
 use Rattle.bz_items.specs.Characters.{Bytes}
@@ -25,14 +25,14 @@ steps_asked asked = flat_map (λ target. map (step_of target) asked.commands) as
 abbrev pub all_steps : List Asked → List RunStep
 all_steps lines = flat_map steps_asked lines
 
--- what the session of the target's file is asked to do; to list its texts is no action
+-- what the session of the target's file is to do; to list its texts is no action
 abbrev pub action_of : Target → Verb → Option Action
 action_of target (Do operation) = Some (a.Do operation target)
 action_of target (Undo count) = Some (a.Undo count)
 action_of target (Redo count) = Some (a.Redo count)
 action_of target Journal = None
 
--- the package that stands for standard input
+-- the package that means standard input
 abbrev pub input_package : Bytes
 input_package = codes "-"
 

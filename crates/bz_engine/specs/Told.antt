@@ -30,7 +30,7 @@ fixed_line name = codes "fixed " ++ name ++ codes "\n"
 abbrev pub nul_line : Bytes → ℕ → Bytes
 nul_line file line = file ++ codes ":" ++ decimal line ++ codes ": NUL\n"
 
--- operands, or a file of lines of this name, that ask for nothing
+-- operands, or a file of lines of this name, that request nothing
 abbrev pub IsUsageLine : Bytes → Usage → Bytes → Type 0
 IsUsageLine file (of_operand refused) line = line ≡ operand_line refused
 IsUsageLine file no_command line = line ≡ codes "buildozer: no command\n"

@@ -1,4 +1,4 @@
--- Why a run has status 1, by the one line that it tells.
+-- Why a run has status 1, by the one line that it prints.
 use Rattle.std.specs.Prelude.{◌≡◌, ◌⊎◌, ◌&&◌, ℕ, List, [], ◌∷◌, codes, bytes_eq, Bool, true, Option, Some, None, Result, Ok, Err}
 use Rattle.std.specs.Str.{IsUtf8, IsValidUpTo}
 use Rattle.bz_lex.specs.declared.fault.ReadFault.TheVariants.{NotUtf8}
@@ -18,18 +18,18 @@ use Rattle.bz_engine.specs.Told.{IsUsageLine, IsLineUsageLine, input_line, no_jo
 abbrev pub TellsNoJournal : Options → List Asked → Bytes → Type 0
 TellsNoJournal options lines line = (options.journal ≡ true) × (names_input lines ≡ true) × (line ≡ no_journal_line)
 
--- Operands are refused, and the first one is told, or lack a command or a target.
+-- Operands are refused, and the first one is reported, or lack a command or a target.
 abbrev pub OperandsTell : Options → List Bytes → Bytes → Type 0
 OperandsTell options texts line =
     ((usage : Usage) × IsGroupFault texts usage × IsUsageLine [] usage line)
     ⊎ ((asked : Asked) × (operand_group texts ≡ Ok asked) × TellsNoJournal options (asked ∷ []) line)
 
--- Rules of standard input are meant where the lines stand there.
+-- Rules of standard input are meant where the lines are in it.
 abbrev pub LinesTell : Options → Bool → List Asked → Bytes → Type 0
 LinesTell options of_input lines line =
     ((of_input && names_input lines ≡ true) × (line ≡ input_line)) ⊎ TellsNoJournal options lines line
 
--- A file of lines is not there, is no text, or asks for nothing.
+-- A file of lines is not there, is no text, or requests nothing.
 abbrev pub TextTells : Options → Bytes → Option Bytes → Bytes → Type 0
 TextTells options name None line = line ≡ named_line (told_name name) (codes "cannot open")
 TextTells options name (Some text) line =

@@ -1,4 +1,4 @@
--- Worked rows: how refusals and faults are told.
+-- Worked rows: how refusals and faults are reported.
 use Rattle.std.specs.Prelude.{◌≡◌, codes}
 use Rattle.bz_value.specs.declared.refusal.Refusal.TheVariants.{TooFar}
 use Rattle.bz_lex.specs.declared.fault.ReadFault.TheVariants.{NotUtf8, Unexpected}

@@ -82,11 +82,11 @@ abbrev TextsOut : Type 0
 TextsOut =
     let app_edited : Used = app (edited app_read) in let app_back : Used = app (back (edited app_read)) in
     (differs app_read ≡ false) × (differs (edited app_read) ≡ true) × (differs (back (edited app_read)) ≡ false)
-    -- Without --stdout a file that differs is written and told, and nothing of it goes out.
+    -- Without --stdout a file that differs is written and reported, and nothing of it goes out.
     × (texts_out false false (app_edited ∷ []) ≡ [])
     × (all_writings false (app_edited ∷ []) ≡ record { name = codes "app/BUILD"; held = text_read; bytes = text_made } ∷ [])
     × (fixed_lines false (all_writings false (app_edited ∷ [])) ≡ codes "fixed app/BUILD\n" ∷ [])
-    -- With --quiet it is not told.
+    -- With --quiet it is not reported.
     × (fixed_lines true (all_writings false (app_edited ∷ [])) ≡ [])
     -- With --stdout its text goes out, and it is not written.
     × (texts_out false true (closed ∷ app_edited ∷ []) ≡ text_made) × (all_writings true (app_edited ∷ []) ≡ [])
@@ -99,7 +99,7 @@ TextsOut =
 abbrev Told : Type 0
 Told =
     let name : Bytes = codes "app/BUILD" in
-    -- What is refused is told, by file and command; what is done or printed is not.
+    -- What is refused is reported, by file and command; what is done or printed is not.
     (told_of name (codes "add size a") (Err NotAList) ≡ codes "buildozer: app/BUILD: add size a: NotAList (44)\n" ∷ [])
     × (told_of stdin (codes "redo") (Err TooFar) ≡ codes "buildozer: <stdin>: redo: TooFar (61)\n" ∷ [])
     × (told_of name (codes "set size small") (Ok Changed) ≡ []) × (told_of name (codes "undo") (Ok Moved) ≡ [])

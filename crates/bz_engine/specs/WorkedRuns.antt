@@ -14,7 +14,7 @@ use Rattle.bz_engine.specs.Run.{World}
 use Rattle.bz_engine.specs.Usage.{LineTells}
 use Rattle.bz_engine.specs.WorkedParts.{text_read, text_made}
 
--- ---- usage faults: a run tells its one line, has status 1 and leaves all else as it was
+-- ---- usage faults: a run prints its one line, has status 1 and leaves all else as it was
 
 abbrev Unused : List Bytes → Bytes → World → Type 0
 Unused words line world = WordsOutcome words world (record { output = []; lines = line ∷ []; status = 1; folder = world.folder })
@@ -28,14 +28,14 @@ WorkedUsage =
     -- delete; //:x; no word
     IsUsage (codes "delete" ∷ []) (codes "buildozer: no target\n")
     × IsUsage (codes "//:x" ∷ []) (codes "buildozer: no command\n") × IsUsage [] (codes "buildozer: no command\n")
-    -- 'add deps' grow //:x: the first refused operand is told; delete //a/:x; help //:x
+    -- 'add deps' grow //:x: the first refused operand is reported; delete //a/:x; help //:x
     × IsUsage (codes "add deps" ∷ codes "grow" ∷ codes "//:x" ∷ []) (codes "buildozer: add deps: Arguments (32)\nbuildozer: the form is 'add ATTR VALUE..'\n")
     × IsUsage (codes "delete" ∷ codes "//a/:x" ∷ []) (codes "buildozer: //a/:x: BadTarget (12)\n")
     × IsUsage (codes "help" ∷ codes "//:x" ∷ []) (codes "buildozer: help: Unknown (31)\nbuildozer: see buildozer --help, or man buildozer\n")
     -- delete -f lines; --stdout --journal undo //:x
     × IsUsage (codes "delete" ∷ codes "-f" ∷ codes "lines" ∷ []) (codes "buildozer: operands beside -f\n")
     × IsUsage (codes "--stdout" ∷ codes "--journal" ∷ codes "undo" ∷ codes "//:x" ∷ []) (codes "buildozer: --stdout beside --journal\n")
-    -- -k -k: what is told is clap's own.
+    -- -k -k: what is printed is clap's own.
     × ((line : Bytes) → IsUsage (codes "-k" ∷ codes "-k" ∷ []) line)
     -- -f lines: the file is not there, or has comments only.
     × ((world : World) → get world.folder (codes "lines") ≡ None → Unused (codes "-f" ∷ codes "lines" ∷ []) (codes "lines: cannot open\n") world)
@@ -77,7 +77,7 @@ OverBuild world =
     × BuildWritten (change ∷ codes "undo 2" ∷ rule ∷ []) [] (codes "buildozer: BUILD: undo 2: TooFar (61)\n" ∷ fixed ∷ []) 2 world
     × Still (codes "undo" ∷ rule ∷ []) [] (codes "buildozer: BUILD: undo: TooFar (61)\n" ∷ []) 2 world
 
--- Package `none` has no file: 'set size small' //none:x //:x ends there; with -k it goes on. -k undo redo //none:x tells it once.
+-- Package `none` has no file: 'set size small' //none:x //:x ends there; with -k it goes on. -k undo redo //none:x reports it once.
 abbrev pub BesideNone : World → Type 0
 BesideNone world =
     let none : Bytes = codes "none/BUILD: cannot open\n" in let targets : List Bytes = codes "//none:x" ∷ codes "//:x" ∷ [] in

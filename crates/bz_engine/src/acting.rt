@@ -60,7 +60,7 @@ fn put_printed(reply: &Reply, printed: &mut Vec<u8>) -> Result<(), AllocError>
     Ok(())
 }
 
-// A command is refused, which is told by its file.
+// A command is refused, which is reported by its file.
 fn refuse<E: Sink>(run: &mut Run, place: usize, command: &str, refusal: Refusal, err: &mut E) -> Cut
     requires { IsSome (file_at place run.old.workspace) }
     ensures kinds { (result ≡ Cut.Whole) ⊎ (result ≡ Cut.Memory) }
@@ -78,7 +78,7 @@ fn refuse<E: Sink>(run: &mut Run, place: usize, command: &str, refusal: Refusal,
     }
 }
 
-// Does an action in the open file of the package with this number: what it prints is kept, and a refusal is told.
+// Does an action in the open file of the package with this number: what it prints is kept, and a refusal is reported.
 fn act_at<E: Sink>(
     run: &mut Run,
     place: usize,
@@ -128,7 +128,7 @@ fn is_left_at(journals: bool, workspace: &Workspace, place: usize) -> bool
     journals && open_file(workspace, place).left
 }
 
-// The journal and the file of a package were not both replaced, which is told.
+// The journal and the file of a package were not both replaced, which is reported.
 fn leave<E: Sink>(run: &mut Run, place: usize, fault: PairFault, err: &mut E) -> Cut
     requires { IsSome (file_at place run.old.workspace) }
     ensures state { progress_in run.new ≡ record (progress_in run.old) { failed = true } }

@@ -21,7 +21,7 @@ use std::alloc::Global;
 
 const CHANGED: u8 = 0;
 
-/// The status of words that ask for nothing.
+/// The status of words that request nothing.
 pub(crate) const USAGE: u8 = 1;
 
 /// The status of a run of which a step or a port failed.
@@ -29,7 +29,7 @@ pub(crate) const FAILED: u8 = 2;
 
 const SAME: u8 = 3;
 
-/// The name by which standard output is told.
+/// The name by which standard output is reported.
 const STDOUT: &str = "<stdout>";
 
 fn is_input(used: &Used) -> bool
@@ -86,7 +86,7 @@ fn put_texts(
 }
 
 // Writes what was printed, and the texts after it. Whether some text is another one than was read. The error, which is
-// told: memory was refused, and nothing is written; or standard output failed.
+// reported: memory was refused, and nothing is written; or standard output failed.
 fn print_all<W: Sink, E: Sink>(
     packages: &[Used],
     shown: bool,
@@ -131,7 +131,7 @@ fn new_text(alloc: Global, file: &Opened) -> Result<Option<Vec<u8>>, Memory>
     }
 }
 
-// Tells that a file was written, unless the run is quiet.
+// Reports that a file was written, unless the run is quiet.
 fn tell_written<E: Sink>(quiet: bool, name: &str, err: &mut E)
     ensures { TellsLines E.Sink err.old err.new (if quiet then [] else fixed_line name.now ∷ []) }
 {
@@ -140,7 +140,7 @@ fn tell_written<E: Sink>(quiet: bool, name: &str, err: &mut E)
     }
 }
 
-// Writes the file of a package, where it changed and is to be written. With its journal it was written before, which is told.
+// Writes the file of a package, where it changed and is to be written. With its journal it was written before, which is reported.
 fn write_file<F: Files, E: Sink>(
     alloc: Global,
     options: Options,
@@ -187,7 +187,7 @@ fn write_file<F: Files, E: Sink>(
     }
 }
 
-// Writes the files that changed, in order; each is tried. With journals they were written before, which is told.
+// Writes the files that changed, in order; each is tried. With journals they were written before, which is reported.
 fn write_files<F: Files, E: Sink>(
     alloc: Global,
     options: Options,
@@ -228,7 +228,7 @@ fn ended(failed: bool, changed: bool, cut: Cut) -> Exit
 
 /// Ends a run that this failure cut, if one did: standard output is given what was printed and the texts after it, and
 /// the files that changed are written, each where it still holds what was read of it; with their journals they were written before, which is
-/// told. A failure is told, and what is left is done all the same. Of two failures it is that of the files which cuts the run.
+/// reported. A failure is reported, and what is left is done all the same. Of two failures it is that of the files which cuts the run.
 pub(crate) fn finish<W: Sink, F: Files, E: Sink>(
     alloc: Global,
     options: Options,

@@ -38,7 +38,7 @@ fn lacks_journal(options: Options, lines: &[Asked<'_>]) -> bool
     options.journal && names_input(lines)
 }
 
-// Does what lines ask for, on files alone or with their journals, and ends the run; unless that needs a journal of standard input.
+// Does what lines request, on files alone or with their journals, and ends the run; unless that needs a journal of standard input.
 fn perform<R: Source, W: Sink, E: Sink, F: Files>(
     alloc: Global,
     options: Options,
@@ -124,7 +124,7 @@ fn edits_input(name: &str, lines: &[Asked<'_>]) -> bool
     name == INPUT && names_input(lines)
 }
 
-// What a text of lines by this name asks for.
+// What a text of lines by this name requests.
 fn run_text<R: Source, W: Sink, E: Sink, F: Files>(
     alloc: Global,
     options: Options,
@@ -211,14 +211,14 @@ fn run_script<R: Source, W: Sink, E: Sink, F: Files>(
     }
 }
 
-/// Reads the words of a line, and does what they or a file of lines ask for, up to the first step that fails; with `-k`
+/// Reads the words of a line, and does what they or a file of lines request, up to the first step that fails; with `-k`
 /// all steps. A package's file is read where it is used first. After the last step `out` is given what commands printed,
 /// then the text of standard input, unless each command on it prints, and with `--stdout` the text of each file that
-/// changed; without it those files are written, each where it still holds what was read of it, and told by a line on `err`
+/// changed; without it those files are written, each where it still holds what was read of it, and reported by a line on `err`
 /// unless `--quiet` was given. With `--journal` each action that changes a text replaces FILE.journal and then the file, and what is
-/// told at the end is which files were written. Statuses: 1 where the words or lines ask for nothing, or the file of lines was not read
+/// reported at the end is which files were written. Statuses: 1 where the words or lines request nothing, or the file of lines was not read
 /// (nothing is then done); else 2 where a step or a port failed or memory was refused; else 0 where some text at the end is
-/// another one than was read; else 3. Each fault is told by a line on `err`, whose own faults are passed over.
+/// another one than was read; else 3. Each fault is reported by a line on `err`, whose own faults are passed over.
 pub fn buildozer<S: AsStr, R: Source, W: Sink, E: Sink, F: Files>(
     alloc: Global,
     words: &[S],
@@ -240,16 +240,16 @@ pub fn buildozer<S: AsStr, R: Source, W: Sink, E: Sink, F: Files>(
         × WordsOutcome (map S.text words.now) (world_of R.Source F.Files input.old files.old) left
         × PrintsSome W.Sink out.old out.new left.output × (F.folder files.new ≡ left.folder) }
 
-    // Words that ask for nothing leave the input, the output and the files as they were.
+    // Words that request nothing leave the input, the output and the files as they were.
     ensures unread { LineGivesNothing (command_line_of (map S.text words.now)) → (input.new ≡ input.old) × (out.new ≡ out.old) × (files.new ≡ files.old) }
 
-    // A run of status 1 that no port cut tells by one line why, with journals as without: of operands the first one that is refused.
+    // A run of status 1 that no port cut says in one line why, with journals as without: of operands the first one that is refused.
     ensures usage { result.status ≡ 1 → result.cut ≡ Cut.Whole → (line : List ℕ)
         × LineTells (F.honest files.old) (world_of R.Source F.Files input.old files.old) (command_line_of (map S.text words.now)) line
         × TellsLines E.Sink err.old err.new (line ∷ []) }
 
-    // A run of status 1 leaves the output as it was. So it leaves the input, unless lines stand there, and the files, unless lines
-    // stand in one; then these are no more than read, and a folder of honest ones is the same at each moment.
+    // A run of status 1 leaves the output as it was. So it leaves the input, unless lines are in it, and the files, unless lines
+    // are in one; then these are no more than read, and a folder of honest ones is the same at each moment.
     ensures unused { result.status ≡ 1 → out.new ≡ out.old }
     ensures unused_input { result.status ≡ 1 → TakesNoInput (map S.text words.now) → input.new ≡ input.old }
     ensures unused_files { result.status ≡ 1 → TakesNoFile (map S.text words.now) → files.new ≡ files.old }
@@ -258,7 +258,7 @@ pub fn buildozer<S: AsStr, R: Source, W: Sink, E: Sink, F: Files>(
     // Where standard input can't be read, and no file and no package but it is named, nothing is written to standard output.
     ensures read { NamesNoFile (map S.text words.now) → result.cut ≡ Cut.Read → PrintsAll W.Sink out.old out.new [] }
 
-    // A run with journals reads nothing of standard input, unless lines stand there.
+    // A run with journals reads nothing of standard input, unless lines are in it.
     ensures unread_kept { KeepsJournals (map S.text words.now) → TakesNoInput (map S.text words.now) → IsStill R.Source input.old input.new }
 
     // Whatever cuts or stops a run with journals, each folder since it began is one at a moment of its steps: each file that it has open

@@ -18,7 +18,7 @@ use bz_ports::{Cut, InputFault, MOST, STDIN, Sink, Source, read_most, tell_named
 use bz_workspace::{Opening, Workspace};
 use std::alloc::Global;
 
-// Standard input was not read, which is told.
+// Standard input was not read, which is reported.
 fn unread<E: Sink>(err: &mut E, word: &str, cut: Cut) -> Opening
     ensures { result ≡ record { place = None; cut = cut } }
 {
@@ -55,7 +55,7 @@ fn open_input<R: Source, E: Sink>(
     }
 }
 
-// Whether standard input is to be read: no journals are kept, the package stands for it, and was not used before.
+// Whether standard input is to be read: no journals are kept, the package means it, and was not used before.
 fn wants_input(journals: bool, workspace: &Workspace, package: &str) -> bool
     ensures yes { result ≡ true → (journals ≡ false) × («package».now ≡ input_package) × (package_number input_package workspace.now ≡ None) }
     ensures other { result ≡ false → journals ≡ false → «package».now ≡ input_package → package_number input_package workspace.now ≡ None → ⊥ }
@@ -64,7 +64,7 @@ fn wants_input(journals: bool, workspace: &Workspace, package: &str) -> bool
 }
 
 /// The open file of a package, which is read where it is used first, and its journal with it where journals are kept; standard
-/// input has none, and isn't read then. Where there is no file, that was told at its first use.
+/// input has none, and isn't read then. Where there is no file, that was reported at its first use.
 pub(crate) fn open_package<R: Source, F: Files, E: Sink>(
     alloc: Global,
     journals: bool,

@@ -46,7 +46,7 @@ fn run_target<R: Source, F: Files, E: Sink>(
     cut
 }
 
-/// Does what a line asks for: all commands on each target, in order. A step that failed ends it, unless it is to go on.
+/// Does what a line requests: all commands on each target, in order. A step that failed ends it, unless it is to go on.
 pub(crate) fn run_line<R: Source, F: Files, E: Sink>(
     alloc: Global,
     options: Options,
@@ -71,7 +71,7 @@ pub(crate) fn run_line<R: Source, F: Files, E: Sink>(
     cut
 }
 
-/// Does what the lines of a file ask for, in order, each step on a file, and with its journal where journals are kept.
+/// Does what the lines of a file request, in order, each step on a file, and with its journal where journals are kept.
 pub(crate) fn run_lines<R: Source, F: Files, E: Sink>(
     alloc: Global,
     options: Options,

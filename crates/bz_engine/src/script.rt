@@ -10,10 +10,10 @@ use bz_files::{FileFault, Files};
 use bz_ports::{Cut, InputFault, STDIN, Source, read_most};
 use std::alloc::Global;
 
-/// The name of the file of lines, and the path of the package, that stands for standard input.
+/// The name of the file of lines, and the path of the package, that means standard input.
 pub(crate) const INPUT: &str = "-";
 
-/// The name by which a file of lines is told.
+/// The name by which a file of lines is reported.
 pub(crate) fn told_name(name: &str) -> &str
     ensures { result.now ≡ told_name name.now }
 {

@@ -13,7 +13,7 @@ use bz_label::Target;
 use bz_line::{Asked, Asking, Verb};
 use bz_workspace::Action;
 
-/// What the session of the target's file is asked to do; to list its texts is no action.
+/// What the session of the target's file is to do; to list its texts is no action.
 pub(crate) fn action_of<'a>(verb: &'a Verb, target: &'a Target) -> Option<Action<'a>>
     ensures { option_map action_in result ≡ s.action_of target.entry.now verb.entry.now }
 {

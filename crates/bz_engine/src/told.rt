@@ -13,13 +13,13 @@ use bz_value::Refusal;
 use itoa::Buffer;
 use std::alloc::Global;
 
-/// The words, or the lines of a file, ask for nothing, which was told.
+/// The words, or the lines of a file, request nothing, which was reported.
 pub(crate) const UNUSED: Exit = Exit {
     status: USAGE,
     cut: Cut::Whole,
 };
 
-// Tells what is refused after these two pieces and what is between them and it.
+// Reports what is refused after these two pieces and what is between them and it.
 fn tell_numbered_in<'a, E: Sink>(
     err: &mut E,
     front: &'a str,
@@ -42,7 +42,7 @@ fn tell_numbered_in<'a, E: Sink>(
     );
 }
 
-/// Tells that a command is refused in a file.
+/// Reports that a command is refused in a file.
 pub(crate) fn tell_refusal<E: Sink>(err: &mut E, file: &str, command: &str, refusal: Refusal)
     ensures { TellsLine E.Sink err.old err.new (refusal_line file.now command.now refusal) }
 {
@@ -50,7 +50,7 @@ pub(crate) fn tell_refusal<E: Sink>(err: &mut E, file: &str, command: &str, refu
     tell_numbered_in(err, "buildozer: ", file, ": ", command, name, number);
 }
 
-// Tells what is refused after this piece, and the three pieces of a hint after its line.
+// Reports what is refused after this piece, and the three pieces of a hint after its line.
 fn tell_hinted<'a, E: Sink>(
     err: &mut E,
     front: &'a str,
@@ -74,7 +74,7 @@ fn tell_hinted<'a, E: Sink>(
     );
 }
 
-// Tells that an operand is refused, and the hint of it after that.
+// Reports that an operand is refused, and the hint of it after that.
 fn tell_operand<E: Sink>(err: &mut E, refused: &Refused<'_>, hint: Hint)
     requires { hint_text hint ≡ hint_for (refused_in refused.now) }
     ensures { TellsLine E.Sink err.old err.new (operand_line (refused_in refused.now)) }
@@ -92,7 +92,7 @@ fn tell_operand<E: Sink>(err: &mut E, refused: &Refused<'_>, hint: Hint)
     );
 }
 
-/// Tells that rules of standard input are meant where the lines stand there.
+/// Reports that rules of standard input are meant where the lines are in it.
 pub(crate) fn tell_input<E: Sink>(err: &mut E)
     ensures { TellsLine E.Sink err.old err.new input_line }
 {
@@ -102,14 +102,14 @@ pub(crate) fn tell_input<E: Sink>(err: &mut E)
     );
 }
 
-/// Tells that rules of standard input are meant where journals are kept.
+/// Reports that rules of standard input are meant where journals are kept.
 pub(crate) fn tell_no_journal<E: Sink>(err: &mut E)
     ensures { TellsLine E.Sink err.old err.new no_journal_line }
 {
     tell(err, &["buildozer: package - has no journal\n"]);
 }
 
-// Tells that a line of a file of lines has a NUL byte.
+// Reports that a line of a file of lines has a NUL byte.
 fn tell_nul<E: Sink>(err: &mut E, file: &str, line: usize)
     ensures { TellsLine E.Sink err.old err.new (nul_line file.now line) }
 {
@@ -118,7 +118,7 @@ fn tell_nul<E: Sink>(err: &mut E, file: &str, line: usize)
     tell(err, &[file, ":", line, ": NUL\n"]);
 }
 
-// Memory was refused before anything was done, which is told.
+// Memory was refused before anything was done, which is reported.
 fn wanting<E: Sink>(err: &mut E) -> Exit
     ensures { result ≡ record { status = 2; cut = Cut.Memory } }
 {
@@ -129,7 +129,7 @@ fn wanting<E: Sink>(err: &mut E) -> Exit
     }
 }
 
-/// Tells why operands, or a file of lines of this name, ask for nothing, or that memory was refused. Returned: how the run ends.
+/// Reports why operands, or a file of lines of this name, request nothing, or that memory was refused. Returned: how the run ends.
 pub(crate) fn tell_usage<E: Sink>(
     alloc: Global,
     err: &mut E,
@@ -158,7 +158,7 @@ pub(crate) fn tell_usage<E: Sink>(
     UNUSED
 }
 
-/// Tells why words are no line of the program's, or that memory was refused. Returned: how the run ends.
+/// Reports why words are no line of the program's, or that memory was refused. Returned: how the run ends.
 pub(crate) fn tell_line_usage<E: Sink>(alloc: Global, err: &mut E, fault: &LineFault) -> Exit
     ensures some { result.status ≡ 1 → IsSome (line_usage_in fault.now) }
     ensures told { result.status ≡ 1 → IfSome (line_usage_in fault.now) (λ usage. (line : List ℕ) × IsLineUsageLine usage line
@@ -179,7 +179,7 @@ pub(crate) fn tell_line_usage<E: Sink>(alloc: Global, err: &mut E, fault: &LineF
     UNUSED
 }
 
-/// Tells that a file of lines by this name can't be read, and why. Returned: how the run ends.
+/// Reports that a file of lines by this name can't be read, and why. Returned: how the run ends.
 pub(crate) fn tell_unread<E: Sink>(err: &mut E, name: &str, cut: Cut) -> Exit
     ensures cut { result.cut ≡ cut }
     ensures status { (result.status ≡ 1) ⊎ (result.status ≡ 2) }

@@ -1,4 +1,4 @@
--- What a function that reads gives, told by a reader.
+-- What a function that reads gives, in terms of a reader.
 use Rattle.std.specs.Prelude.{◌≡◌, Option, Some, None, Result, Ok, Err}
 use Rattle.bz_exact.specs.declared.unread.Unread.{Unread}
 use Rattle.bz_exact.specs.declared.unread.Unread.TheVariants as u

@@ -1,4 +1,4 @@
--- Reading from the left: what each reader of the code gives. That they read just what is spelled is told by laws.
+-- Reading from the left: what each reader of the code gives. That they read just what is spelled is said by laws.
 use Rattle.std.specs.Prelude.{ℕ, zero, suc, ◌+◌, ◌-◌, ◌*◌, Bool, List, [], ◌∷◌, ◌&&◌, length, take, drop, Option, Some, None, Result, Ok, Err, if◌then◌else◌, nat_eq, nat_lt, nat_le}
 use Rattle.std.specs.Str.{bytes_eq}
 use Rattle.hex.specs.Hex.{encode_lower, decode_sized}

@@ -8,7 +8,7 @@ use crate::pushing::hex_digits;
 use crate::unread::Unread;
 use hex::FromHex;
 
-/// What is after a mark; `None` where other bytes stand in its place.
+/// What is after a mark; `None` where other bytes are in its place.
 #[tactic(auto, unfolding(crate::specs::Readers::after_mark))]
 pub fn strip_mark<'a>(input: &'a [u8], mark: &[u8]) -> Option<&'a [u8]>
     ensures { MatchOption result (after_mark mark.now input.now ≡ None) (λ rest. after_mark mark.now input.now ≡ Some rest.now) }
@@ -16,7 +16,7 @@ pub fn strip_mark<'a>(input: &'a [u8], mark: &[u8]) -> Option<&'a [u8]>
     input.strip_prefix(mark)
 }
 
-/// What is after a mark. The error is `Damaged`: other bytes stand in its place.
+/// What is after a mark. The error is `Damaged`: other bytes are in its place.
 pub fn read_mark<'a>(input: &'a [u8], mark: &[u8]) -> Result<&'a [u8], Unread>
     ensures { Gives (λ rest. rest.now) result (after_mark mark.now input.now) }
 {
@@ -137,7 +137,7 @@ pub fn read_digest(input: &[u8]) -> Result<([u8; 32], &[u8]), Unread>
         return Err(Unread::Damaged);
     };
     let rest = read_mark(rest, b"\n")?;
-    // Digits of upper case are told by writing the digest again.
+    // Digits of upper case are detected by writing the digest again.
     if hex_digits(&digest).as_slice() != text {
         return Err(Unread::Damaged);
     }

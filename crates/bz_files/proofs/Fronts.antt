@@ -15,7 +15,7 @@ all_added most bytes start items is short =
 pub front_read : (most : ℕ) (bytes start items read : List ℕ) → items ≡ start ++ take most bytes → start ≡ [] → read ≡ items → read ≡ take most bytes
 front_read most bytes start items read is empty same = same ∙ is ∙ ap (λ (s : List ℕ). s ++ take most bytes) empty
 
--- ---- a front of one more than a list has tells whether this is the list
+-- ---- a front one longer than a list shows whether this is the list
 
 pub is_list : (held bytes : List ℕ) → take (length held + 1) bytes ≡ held → bytes ≡ held
 is_list held bytes front =

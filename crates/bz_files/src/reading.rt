@@ -32,7 +32,7 @@ fn fault_of(error: &io::Error) -> FileFault
     }
 }
 
-// Adds the first bytes that a reader has left: all, or `most` of them where it has more. It is asked for no others.
+// Adds the first bytes that a reader has left: all, or `most` of them where it has more. No others are requested of it.
 fn read_into<F: Read + Drop>(file: F, most: usize, into: &mut Vec<u8>) -> Result<(), FileFault>
     ensures found { OnOk result (IfSome (F.remaining file) (λ bytes. into.new.items ≡ into.old.items ++ take most bytes)) }
     ensures ok { OnOk result (StartsWith into.new.items into.old.items) }

@@ -41,7 +41,7 @@ fn is_untouched(before: &Metadata, after: &Metadata) -> bool {
         && before.mtime_nsec() == after.mtime_nsec()
 }
 
-// Sees that a file still holds these bytes and has these rights; of a longer one no more is read than the byte that tells.
+// Sees that a file still holds these bytes and has these rights; of a longer one no more is read than the byte that shows it.
 fn check<R: std::rt::Files<File = File>>(
     alloc: Global,
     system: &R,

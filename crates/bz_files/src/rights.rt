@@ -4,7 +4,7 @@ use std::io::ErrorKind;
 use std::os::unix::fs::{MetadataExt, PermissionsExt, fchown};
 use std::{fs, io};
 
-/// Who owns a file, and what its owner, its group and others may do with it. The bits that lend rights to who runs it are left out.
+/// Who owns a file, and what its owner, its group and others may do with it. The bits that give rights to who runs it are left out.
 #[derive(Clone, Copy, PartialEq, Eq)]
 pub(crate) struct Rights {
     owner: u32,

@@ -1,4 +1,4 @@
--- What is told where the layout of what a text says is past a limit, or memory was refused.
+-- What is reported where the layout of what a text says is past a limit, or memory was refused.
 use Rattle.std.proofs.Common.{◌≡◌, ◌≤◌, ◌<◌, List, length, Result, Ok, Err, refl, sym, subst}
 use Rattle.bz_tree.specs.declared.tree.Node.{Node}
 use Rattle.bz_tree.specs.Legal.{ReadsBzl, NoBzlTree}
@@ -34,7 +34,7 @@ module _ (A : Type 0) (proper : BzlViewIsProper) (keeps : LevelKeepsLayout) (tex
   past_limits tree reads s.TooDeep told a b c large deep unread =
       subst (λ t. FormatsBzlTo text (Err t)) (sym (b refl)) (tree, reads, (deep refl).0, (deep refl).1, unread refl (level_proper proper keeps text tree reads))
 
-  -- told of the value that was read, and of the same levelled
+  -- reported of the value that was read, and of the same levelled
   pub limits_told : (items leveled : List BzlItem) → Says text (Ok items) → leveled ≡ level items → (fault : SetFault) (told : FormatFault)
       → (fault ≡ s.TooLarge → told ≡ f.TooLarge) → (fault ≡ s.TooDeep → told ≡ f.TooDeep) → (fault ≡ s.Memory → told ≡ f.Memory)
       → (◌≡◌ {A = Result A SetFault} (Err fault) (Err s.TooLarge) → limit < length (bzl_layout leveled))

@@ -1,4 +1,4 @@
--- The fault that is told where a text is no .bzl file.
+-- The fault that is reported where a text is no .bzl file.
 use Rattle.std.proofs.Common.{◌≡◌, ◌⊎◌, ◌↔◌, ◌≤◌, ◌<◌, inl, inr, ℕ, List, length, Result, Err, refl, sym, subst}
 use Rattle.std.specs.Str.{IsValidUpTo}
 use Rattle.bz_lex.specs.declared.fault.ReadFault.{ReadFault}

@@ -15,7 +15,7 @@ use Rattle.bz_formatter.specs.declared.formatter.FormatFault.{FormatFault}
 use Rattle.bz_formatter.specs.declared.formatter.FormatFault.TheVariants.{Unread, TooLarge, TooDeep, Memory}
 use Rattle.bz_format.specs.TreePrograms.{bzl_tree_program}
 
--- What a text says where it reads as the tree of a .bzl file; of every other text a fault is told. Memory may be refused at each.
+-- What a text says where it reads as the tree of a .bzl file; of every other text a fault is reported. Memory may be refused at each.
 abbrev pub Says : Bytes → Result (List BzlItem) FormatFault → Type 0
 Says text (Ok items) = (tree : Node) × ReadsBzl text tree × (items ≡ bzl_view_of tree)
 Says text (Err (Unread fault)) = NoBzlTree text × IsFaultOf text fault

@@ -1,4 +1,4 @@
-//! The formatted text of a long .bzl text, made chunk by chunk: its tree and its value never stand in memory as a whole.
+//! The formatted text of a long .bzl text, made chunk by chunk: its tree and its value are never in memory as a whole.
 ghost use Rattle.std.specs.Prelude.{◌≡◌, ◌≤◌, ◌<◌, IfOk, IfSome, Ok, length, take};
 ghost use Rattle.bz_format.specs.Chunks.{IsAppended, ReadsAs};
 ghost use Rattle.bz_format.specs.Formatted.{FormatsBzlTo};
@@ -22,7 +22,7 @@ struct Chunk {
     len: usize,
     /// It begins without comments, so that it may follow another one.
     bare: bool,
-    /// It ends with a statement, so that another one may stand after it.
+    /// It ends with a statement, so that another one may follow it.
     ends: bool,
 }
 

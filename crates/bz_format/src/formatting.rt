@@ -27,7 +27,7 @@ fn said(alloc: Global, text: &[u8]) -> Result<BzlFile, FormatFault>
     }
 }
 
-/// What is told where the layout is past a limit, or memory was refused.
+/// What is reported where the layout is past a limit, or memory was refused.
 fn unset(fault: SetFault) -> FormatFault
     ensures large { (fault ≡ SetFault.TooLarge) → (result ≡ FormatFault.TooLarge) }
     ensures deep { (fault ≡ SetFault.TooDeep) → (result ≡ FormatFault.TooDeep) }

@@ -1,4 +1,4 @@
--- The comments of a proper value stand in its layout, so the copies of one may be past the limit.
+-- The comments of a proper value are in its layout, so the copies of one may be past the limit.
 use Rattle.std.proofs.Common.{◌≡◌, ◌≤◌, ◌<◌, ◌+◌, ◌*◌, ◌∙◌, ℕ, Bool, true, false, not, ◌&&◌, List, [], ◌∷◌, ◌++◌, Option, Some, None, length, length-append, refl, sym, ap, subst, arith, nat_eq}
 use Rattle.std.specs.Prelude.{if◌then◌else◌}
 use Rattle.std.specs.List.{AllByRecursion}
@@ -55,7 +55,7 @@ suffix_holds (Some text) = omega arith
 
 -- ---- the comments of an expression
 
--- where neither comments stand above nor a suffix does
+-- where there are neither comments above nor a suffix
 none_there : (before : List Bytes) (suffix : Option Bytes) → not (is_empty before && is_none suffix) ≡ false → total long before + suffix_amount long suffix ≡ 0
 none_there [] None h = refl
 none_there [] (Some text) h = cc

@@ -91,7 +91,7 @@ open_curly = separating 8 _ refl
 close_curly : Separates s.close_curly
 close_curly = separating 9 _ refl
 
--- ---- where they stand
+-- ---- where they are
 
 -- every second part is one, and so is a last one after pairs of a part and its separator
 abbrev pub Paired : List Part → Type 0

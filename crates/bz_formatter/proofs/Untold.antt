@@ -1,4 +1,4 @@
--- The fault that is told where a text is not formatted.
+-- The fault that is reported where a text is not formatted.
 use Rattle.std.proofs.Common.{◌≡◌, ◌⊎◌, ◌↔◌, ◌≤◌, ◌<◌, inl, inr, ℕ, List, length, Result, Err, refl, ap, subst, sym}
 use Rattle.std.specs.Str.{IsValidUpTo}
 use Rattle.bz_lex.specs.declared.fault.ReadFault.{ReadFault}

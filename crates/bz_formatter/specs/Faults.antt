@@ -8,7 +8,7 @@ use Rattle.bz_formatter.specs.Meaning.{gives, refuses, Formats}
 use Rattle.bz_formatter.specs.declared.formatter.FormatFault.{FormatFault}
 use Rattle.bz_formatter.specs.declared.formatter.FormatFault.TheVariants.{Unread, TooLarge, TooDeep, Memory}
 
--- An accepted text is formatted, or its formatted text is past a limit; of every other text a fault is told. Memory may be
+-- An accepted text is formatted, or its formatted text is past a limit; of every other text a fault is reported. Memory may be
 -- refused at each.
 abbrev pub FormatsTo : Bytes → Result Bytes FormatFault → Type 0
 FormatsTo text (Ok formatted) = Formats text (gives formatted None)

@@ -1,4 +1,4 @@
-//! The formatted text of a long text, made chunk by chunk: its tree and its value never stand in memory as a whole.
+//! The formatted text of a long text, made chunk by chunk: its tree and its value are never in memory as a whole.
 ghost use Rattle.std.specs.Prelude.{◌≡◌, ◌≤◌, ◌<◌, ◌++◌, None, IfOk, IfSome, length, take};
 ghost use Rattle.bz_formatter.specs.Chunks.{IsAppended, ReadsAs};
 ghost use Rattle.bz_formatter.specs.Meaning.{gives, Formats};
@@ -20,7 +20,7 @@ struct Chunk {
     file: File,
     /// Its length.
     len: usize,
-    /// It ends with a line, so that another one may stand after it.
+    /// It ends with a line, so that another one may follow it.
     ends: bool,
 }
 

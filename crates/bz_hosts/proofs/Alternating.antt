@@ -36,7 +36,7 @@ module _ (separators : List Terminal) (n : ℕ) where
       let first : hosts_from separators n (map measured (x ∷ p.Leaf l ∷ xs)) ≡ host n (n + size x) (suc (n + size x)) ∷ ((measured x).inside n ++ hosts_from separators (n + size x + 1) (map measured xs)) = rw (measured_part x, i, h.1, h.0) refl in
       first ∙ ap (λ z. host n (n + size x) (suc (n + size x)) ∷ ((measured x).inside n ++ hosts_from separators z (map measured xs))) e
 
--- ---- regions stand where the parts do
+-- ---- regions are where the parts are
 
 -- the regions in a part that has a leaf
 pub record Regions (x : Part) : Type 0 where

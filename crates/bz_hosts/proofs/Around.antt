@@ -109,7 +109,7 @@ beginning_ahead m b hi l (between open_ behind ∷ rs) rs' h = beginning_ahead m
 
 -- ---- what a gap sees of all regions
 
--- Of all regions a gap sees no more than these, where found is the innermost before them and no place after hi is asked for.
+-- Of all regions a gap sees no more than these, where found is the innermost before them and no place after hi is looked up.
 pub record Sees (all : List Region) (m : ℕ) (found : Option Region) (hi : ℕ) (rs : List Region) : Type 0 where
   pub inner : innermost m None all ≡ innermost m found rs
   pub ends : ending_at m all ≡ ending_at m rs

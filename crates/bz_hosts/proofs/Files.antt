@@ -97,7 +97,7 @@ record FileTexts (all : List Region) (n up : ℕ) (xs : List Part) : Type 0 wher
   outer : (q : CommentPlace) → 0 < key q → (From n up q → ⊥) → texts_at all q (in_parts n xs) ≡ []
   found : (cs : List Comment) (left : List GapLine) → ((q : CommentPlace) → From n up q → texts_at all q cs ≡ texts_at all q (in_parts n xs)) → walked all cs left n xs ≡ flat_map inside_item (file_items left xs)
 
--- the hosts of a line stand inside it
+-- the hosts of a line are inside it
 record LineIn (x : Part) : Type 0 where
   some : 0 < size x
   within : (n : ℕ) → AllInside n (n + size x) (in_line n x)

@@ -50,7 +50,7 @@ all_split : (ls : List GapLine) → comments_in ls ≡ as_list (first_comment ls
 all_split [] = refl
 all_split (line ∷ ls) = refl
 
--- Where the comments in the gap of a leaf stand: one that only blanks stand before, and the others.
+-- Where the comments in the gap of a leaf are: one that only blanks are before, and the others.
 pub record GapPlaces (all : List Region) (n : ℕ) (first rest : CommentPlace) : Type 0 where
   pub on_line : (t : Bytes) → comment_place all (record { leaf = n; on_line = true; text = t }) ≡ first
   pub below : (t : Bytes) → comment_place all (record { leaf = n; on_line = false; text = t }) ≡ rest

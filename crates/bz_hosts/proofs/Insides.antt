@@ -1,4 +1,4 @@
--- The hosts and sequences in an expression, told of lists.
+-- The hosts and sequences in an expression, stated for lists.
 use Rattle.std.proofs.Common.{◌≡◌, Bool, not, ◌&&◌, ◌||◌, List, [], ◌∷◌, ◌++◌, refl, ap, ◌∙◌, map, if◌then◌else◌}
 use Rattle.std.specs.List.{flat_map}
 use mathlib.Core.Former.{Count}

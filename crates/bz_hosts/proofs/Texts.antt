@@ -17,7 +17,7 @@ use Rattle.bz_hosts.proofs.Insides.{insides}
 abbrev pub Inner : ℕ → ℕ → CommentPlace → Type 0
 Inner n up q = (suc (suc (n + n)) ≤ key q) × (key q < up + up)
 
--- Comments inside the host h: those that stand in none of these regions are loose, in order; where all comments have at the
+-- Comments inside the host h: those that are in none of these regions are loose, in order; where all comments have at the
 -- places in these regions no other texts, the regions hold what the view says.
 pub record Texts (all : List Region) (h n up : ℕ) (mine : List Comment) (loose : List Bytes) (rs : List Region) (hs : List Hosted) : Type 0 where
   pub outer : (q : CommentPlace) → (Inner n up q → ⊥) → texts_at all q mine ≡ pick (above h) q loose

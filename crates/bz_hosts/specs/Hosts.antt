@@ -1,6 +1,6 @@
 -- Hosts of comments by their places in the whole text. The leaves of a tree are numbered from 0, in the order of the text.
 -- A host is a statement or an item of a sequence; a sequence is what is between the brackets of a Call, List, Dict,
--- Tuple or Load. Both are told by the numbers of their leaves alone.
+-- Tuple or Load. Both are given by the numbers of their leaves alone.
 use Rattle.std.specs.Prelude.{ℕ, zero, suc, ◌+◌, Bool, true, false, ◌&&◌, List, [], ◌∷◌, ◌++◌, Option, Some, None, length, map, take, drop, nat_eq, nat_lt, nat_le, if◌then◌else◌}
 use Rattle.bz_token.specs.declared.class.Class.{Class}
 use Rattle.bz_token.specs.declared.class.Class.TheVariants as c
@@ -23,7 +23,7 @@ use Rattle.bz_value.specs.Proper.{comments_of}
 
 -- ---- comments
 
--- a comment in the gap of a leaf; on_line: only blanks stand before it in that gap
+-- a comment in the gap of a leaf; on_line: only blanks are before it in that gap
 pub record Comment : Type 0 where
   pub leaf : ℕ
   pub on_line : Bool
@@ -136,7 +136,7 @@ abbrev pub holds_gap : ℕ → Region → Bool
 holds_gap leaf (host first behind next) = nat_lt first leaf && nat_lt leaf behind
 holds_gap leaf (between open_ behind) = nat_lt open_ leaf && nat_lt leaf behind
 
--- Regions stand in one another or apart, in the order in which they begin: the innermost around a gap is the last that
+-- Regions are inside one another or apart, in the order in which they begin: the innermost around a gap is the last that
 -- holds it.
 abbrev pub innermost : ℕ → Option Region → List Region → Option Region
 innermost leaf found [] = found
@@ -175,7 +175,7 @@ abbrev pub texts_at : List Region → CommentPlace → List Comment → List Byt
 texts_at rs place [] = []
 texts_at rs place (c ∷ cs) = if same_place (comment_place rs c) place then c.text ∷ texts_at rs place cs else texts_at rs place cs
 
--- comment lines that stand by themselves; the comments above a host and its suffix; the end comments of a sequence
+-- comment lines on their own; the comments above a host and its suffix; the end comments of a sequence
 pub data Hosted : Type 0 where
   block : List Bytes → Hosted
   hosted : List Bytes → List Bytes → Hosted
@@ -185,7 +185,7 @@ abbrev pub hosted_at : List Region → List Comment → Region → Hosted
 hosted_at rs cs (host first behind next) = hosted (texts_at rs (above first) cs) (texts_at rs (suffix_of first) cs)
 hosted_at rs cs (between open_ behind) = ended (texts_at rs (end_of open_) cs)
 
--- groups that stand by themselves; an empty one is none
+-- groups on their own; an empty one is none
 abbrev pub hosts_alone : List (List Bytes) → List Hosted
 hosts_alone [] = []
 hosts_alone ([] ∷ groups) = hosts_alone groups
@@ -235,7 +235,7 @@ bare_lines n [] = []
 bare_lines n (line ∷ lines) = unless_comment line.comment n ++ bare_lines (suc n) lines
 
 -- Comment lines that follow each other form a group. A group whose last line is followed by a line without token and
--- comment, or by no token at all, stands by itself; otherwise it is above the next statement.
+-- comment, or by no token at all, is on its own; otherwise it is above the next statement.
 abbrev pub hosted_from : List Region → List Comment → List Leaf → ℕ → List Part → List Hosted
 hosted_from rs cs leaves n [] = []
 hosted_from rs cs leaves n (p.Leaf l ∷ xs) =

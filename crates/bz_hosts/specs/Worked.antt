@@ -91,7 +91,7 @@ Statements =
     × text (two_statements (codes " \\\n# k")) (codes "x;y \\\n# k\n") (hosted [] [] ∷ hosted [] [] ∷ block (codes "# k" ∷ []) ∷ [])
 
 -- Comment lines that follow each other form a group, wherever the newline that ends the line before them is: right above
--- a statement they stand above it, and above a line without comment they are a Block.
+-- a statement they are above it, and above a line without comment they are a Block.
 abbrev two_lines : Bytes → Bytes → Node
 two_lines gap next = record {
   kind = k.File;

@@ -42,7 +42,7 @@ abbrev is_done : Shape → Bool
 is_done s.done = true
 is_done _ = false
 
--- a colon may stand at the end of the shape alone
+-- a colon may be at the end of the shape alone
 abbrev pub plain_front : Shape → Bool
 plain_front s.none = false
 plain_front s.done = true

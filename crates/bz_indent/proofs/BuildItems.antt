@@ -1,4 +1,4 @@
--- The items of a BUILD file are laid out, drawn and levelled in a .bzl file as in a BUILD file, and are the same program.
+-- The items of a BUILD file have the same layout, tree and levelled form in a .bzl file as in a BUILD file, and are the same program.
 use Rattle.std.proofs.Common.{◌≡◌, List, [], ◌∷◌, ◌++◌, refl, ap, ◌∙◌, map, append_assoc, append-nil}
 use Rattle.bz_items.specs.Characters.{Bytes, line_feed}
 use Rattle.bz_tree.specs.declared.kind.Kind.TheVariants as k

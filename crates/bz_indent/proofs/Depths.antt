@@ -1,4 +1,4 @@
--- The tree of the layout is as deep as what the file says tells, and the steps of the loops that compare it.
+-- The tree of the layout is as deep as is computed from what the file says, and the steps of the loops that compare it.
 use Rattle.std.proofs.Common.{ℕ, suc, max, Bool, true, false, ◌≡◌, ◌<◌, List, [], ◌∷◌, ◌++◌, ◌+◌, if◌then◌else◌, length, get_or, drop, map, refl, sym, ap, ◌∙◌, arith}
 use Rattle.std.specs.Prelude.{nat_eq, ◌&&◌}
 use Rattle.std.proofs.lemmas.List.{drop_more}

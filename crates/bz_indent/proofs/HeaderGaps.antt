@@ -1,4 +1,4 @@
--- The tokens of a header stand where they may.
+-- The tokens of a header are where they may be.
 use Rattle.std.proofs.Common.{◌≡◌, ℕ, Bool, true, false, List, [], ◌∷◌, ◌++◌, ◌&&◌, ◌||◌, if◌then◌else◌, map, refl, sym, ap, ◌∙◌, subst, arith}
 use Rattle.std.specs.Prelude.{length, nat_eq}
 use Rattle.std.specs.List.{AllByRecursion}

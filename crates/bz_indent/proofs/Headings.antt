@@ -22,7 +22,7 @@ use Rattle.bz_write.proofs.Neighbours.{passes, neighbours, finals}
 use Rattle.bz_write.proofs.PlainRows.{plain_first}
 use Rattle.bz_suite.specs.Proper.{IsHeader, AreAlternatives, AreHeaders}
 
--- A header of some kind: its shape begins with a keyword, and only that of a function has brackets. After the keyword stand
+-- A header of some kind: its shape begins with a keyword, and only that of a function has brackets. After the keyword come
 -- no elif, no else and no suite. Its neighbours may touch, or are set apart. But for that of a function, it opens no brackets.
 pub record Heading (f : Form) : Type 0 where
   pub kind : Kind

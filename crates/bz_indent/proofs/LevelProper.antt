@@ -80,7 +80,7 @@ headers_level (f ∷ fs) (inl h) = inl (header_level k.Def def_header f h.0, non
 headers_level (f ∷ fs) (inr (inl h)) = inr (inl (header_level k.ForStmt for_header f h.0, none_more fs h.1))
 headers_level (f ∷ fs) (inr (inr h)) = inr (inr (header_level k.IfStmt (test_header (one_keyword (codes "if"))) f h.0, alternatives_level fs h.1))
 
--- ---- statements and headers with their suites, told of lists
+-- ---- statements and headers with their suites, stated for lists
 
 -- a statement in the list
 abbrev SomeList : List Statement → Type 0

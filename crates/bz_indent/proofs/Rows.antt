@@ -1,4 +1,4 @@
--- What the layout and the pass make of statements with suites, told of lists.
+-- What the layout and the pass make of statements with suites, stated for lists.
 use Rattle.std.proofs.Common.{ℕ, ◌≡◌, List, ◌∷◌, ◌++◌, ◌+◌, map, refl, sym, ap, ◌∙◌}
 use mathlib.Core.Former.{Count}
 use Rattle.bz_suite.specs.declared.value.Statement.{Statement, Simple, Compound', Row_of-Branch, end_of-Branch, more_of-Branch, Row_of-Statement, end_of-Statement, more_of-Statement, items-the_row-Branch, items-the_row-Statement, items_hidden-the_row-Branch-1, items_shown-the_row-Statement-0}

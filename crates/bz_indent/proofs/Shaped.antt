@@ -1,4 +1,4 @@
--- What the layout draws of headers, statements and the file has the shapes of their kinds.
+-- What the layout makes of headers, statements and the file has the shapes of their kinds.
 use Rattle.std.proofs.Common.{◌≡◌, ℕ, Bool, true, false, List, [], ◌∷◌, ◌++◌, ◌+◌, ◌&&◌, inl, inr, if◌then◌else◌, map, refl, sym, ap, subst, append_assoc}
 use Rattle.std.specs.Prelude.{Option, None, codes, nat_eq, length}
 use Rattle.std.specs.List.{AllByRecursion}

@@ -1,4 +1,4 @@
--- The tokens of statements stand where they may, and are texts of characters.
+-- The tokens of statements are where they may be, and are texts of characters.
 use Rattle.std.proofs.Common.{◌≡◌, ℕ, Bool, true, false, List, [], ◌∷◌, ◌++◌, ◌+◌, inl, inr, if◌then◌else◌, refl, sym, ap, subst, arith}
 use Rattle.std.specs.Prelude.{replicate, Option}
 use Rattle.std.specs.List.{AllByRecursion, flat_map}
@@ -33,7 +33,7 @@ use Rattle.bz_indent.proofs.HeaderGaps.{Leads, header_leads}
 
 -- ---- what holds of each leaf
 
--- a leaf stands where it may, and is of texts of characters
+-- a leaf is where it may be, and is of texts of characters
 pub record IsPut (here : Spot) (leaf : Leaf) : Type 0 where
   pub stands : BzlStands here leaf
   pub coded : IsCodedLeaf leaf
@@ -168,7 +168,7 @@ lines_put (b.Statement x ∷ xs) h lines g =
       subst (λ z. AtParts IsPut Begins z (bzl_lines next xs)) (sym (line_begins x h.0 Begins 0 lines)) (lines_put xs h.1 next (inner_append (left_behind 0 x) (before_others (b.Statement x) xs) (left_fits x h.0 0) (others_fit (b.Statement x) xs))),
     )
 
--- The tokens of the tree of the layout of a proper value stand where they may,
+-- The tokens of the tree of the layout of a proper value are where they may be,
 pub bzl_gaps : (items : List BzlItem) → IsProperBzl items → AtParts BzlStands Begins Begins (bzl_drawn items).parts
 bzl_gaps items h = at_parts IsPut BzlStands (λ here l q. q.stands) Begins Begins (bzl_drawn items).parts (lines_put items (recursion_from_All IsProperBzlItem items h) [] inner_nothing)
 

@@ -1,4 +1,4 @@
--- How deep the tree of the layout of a .bzl file is, told of what the file says.
+-- How deep the tree of the layout of a .bzl file is, computed from what the file says.
 use Rattle.std.specs.Prelude.{ℕ, suc, max, List, [], ◌∷◌, if◌then◌else◌}
 use Rattle.bz_value.specs.declared.value.Form.{Form}
 use Rattle.bz_write.specs.Depths.{depth_expr, deepest_of}

@@ -30,12 +30,12 @@ newline_part suffix = p.Leaf (record { class = c.Newline; gap = suffix_text suff
 
 -- ---- headers
 
--- the parts of a header up to its colon, and that, after a gap: of a Def its parameters stand in brackets
+-- the parts of a header up to its colon, and that, after a gap: of a Def its parameters are in brackets
 abbrev pub header_parts : ℕ → Bytes → Form → List Part
 header_parts m gap f =
     map piece_part (rowed f.kind f.open_ m gap m (drawings f.parts)) ++ ((if is_def f then mark_leaf 40 ∷ map piece_part (drawn_body f m 41) else []) ++ mark_leaf 58 ∷ [])
 
--- ---- the lines that are left after a statement: the end comments of its last suites, which stand in the gap of what follows
+-- ---- the lines that are left after a statement: the end comments of its last suites, which are in the gap of what follows
 
 abbrev mutual
   pub left_behind : ℕ → Statement → Bytes
@@ -80,7 +80,7 @@ abbrev mutual
 
 -- ---- the file
 
--- the items, the first after these lines: a Block's lines stand in the gap of what follows
+-- the items, the first after these lines: a Block's lines are in the gap of what follows
 abbrev pub bzl_lines : Bytes → List BzlItem → List Part
 bzl_lines lines [] = p.Leaf (record { class = c.End; gap = lines; token = [] }) ∷ []
 bzl_lines lines (b.Block texts ∷ items) = bzl_lines ((lines ++ indented_lines 0 texts) ++ before_others (b.Block texts) items) items

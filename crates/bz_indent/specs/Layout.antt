@@ -32,7 +32,7 @@ indented_lines m (text ∷ texts) = indented_line m text ++ indented_lines m tex
 abbrev pub is_def : Form → Bool
 is_def f = is_kind f.kind k.Def
 
--- A header up to its colon. Of a Def the parameters stand between brackets, laid out as the items of a sequence.
+-- A header up to its colon. Of a Def the parameters are between brackets, laid out as the items of a sequence.
 abbrev pub text_of_head : ℕ → Form → Bytes
 text_of_head m f = row_text f.kind f.open_ m m f.parts ++ (if is_def f then codes "(" ++ body_text f m 41 else [])
 
@@ -77,7 +77,7 @@ abbrev pub bzl_item_text : BzlItem → Bytes
 bzl_item_text (b.Block texts) = indented_lines 0 texts
 bzl_item_text (b.Statement x) = statement_text 0 x
 
--- One blank line between two items, but for simple statements that stand close together as in a BUILD file.
+-- One blank line between two items, but for simple statements that are close together as in a BUILD file.
 abbrev pub between_items : BzlItem → BzlItem → Bytes
 between_items (b.Statement (Simple x)) (b.Statement (Simple y)) = gap_between (i.Stmt x) (i.Stmt y)
 between_items _ _ = line_feed ∷ []

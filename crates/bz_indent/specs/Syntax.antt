@@ -31,7 +31,7 @@ abbrev mutual
   statements_syntax end_of-Statement = []
   statements_syntax (more_of-Statement x rest) = statement_syntax x ∷ statements_syntax rest
 
--- The program of a .bzl file: its statements. Comment lines that stand by themselves are none.
+-- The program of a .bzl file: its statements. Comment lines on their own are none.
 abbrev pub bzl_program : List BzlItem → List Statement
 bzl_program [] = []
 bzl_program (b.Block texts ∷ items) = bzl_program items

@@ -69,7 +69,7 @@ Parameters =
 abbrev Margins : Type 0
 Margins = Row (nested false) (codes "def f():\n    x = [\n        a,\n        b,\n    ]\n    if g(\n        a = 1,\n        b = 2,\n    ):\n        return\n")
 
--- lambdas without parameters and with some; two assignments stand close together, as in a BUILD file
+-- lambdas without parameters and with some; two assignments are close together, as in a BUILD file
 abbrev Lambdas : Type 0
 Lambdas =
     Row (b.Statement (assigned (bare_row k.Lambda (worded (codes "lambda") ∷ marked (codes ":") ∷ named (codes "e") ∷ [])))

@@ -73,7 +73,7 @@ fn fault_of(alloc: Global, file: &BzlFile) -> SetFault
 }
 
 /// The text of the layout of what a .bzl file says. Where that is proper, the text reads as the tree of the layout, which says the
-/// value levelled. It is measured only where no text came of it, to tell the fault. Errors: `TooLarge` exactly where the text
+/// value levelled. It is measured only where no text came of it, to know the fault. Errors: `TooLarge` exactly where the text
 /// would be longer than `LENGTH_LIMIT`, else `TooDeep` exactly where its tree would be deeper than `DEPTH_LIMIT`, and then no tree
 /// is read of it where it is proper; `Memory`: a growth was refused.
 #[tactic(auto, using(crate::proofs::Depths::bzl_drawn_depth))]

@@ -57,7 +57,7 @@ means_on operation target current text m tree value lines reads seen counted mea
     subst (λ (xs : List Item). EffectMeans (effect operation target current lines xs) (told operation (printed operation target current lines xs)) xs text m) seen means in
     (tree, reads, subst (λ (ls : List ℕ). EffectMeans (effect operation target current ls (view_of tree)) (told operation (printed operation target current ls (view_of tree))) (view_of tree) text m) counted on_view)
 
--- what is told of what was printed
+-- what is answered of what was printed
 pub told_of : (operation : Operation) (made : Result Bytes Refusal) (out : Bytes) (answer : Option Bytes) → made ≡ Ok out → answer ≡ told operation (Ok out) → answer ≡ told operation made
 told_of operation made out answer printed_is answer_is = answer_is ∙ sym (ap (told operation) printed_is)
 

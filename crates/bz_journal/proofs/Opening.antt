@@ -1,4 +1,4 @@
--- What is told of a text's coding, whatever is answered of it then.
+-- What is said of a text's coding, whatever is answered of it then.
 use Rattle.std.proofs.Common.{◌≡◌, ◌≤◌, ◌↔◌, ℕ, List, length, Result, Ok, Err}
 use Rattle.std.specs.Str.{IsValidUpTo}
 use Rattle.bz_lex.specs.declared.fault.ReadFault.{ReadFault}

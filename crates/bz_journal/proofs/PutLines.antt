@@ -1,4 +1,4 @@
--- Lines put in places of parts: whether they are those that stand there.
+-- Lines put in places of parts: whether they are those that are there.
 use Rattle.std.proofs.Common.{◌≡◌, ◌↔◌, ◌<◌, ◌+◌, ◌∙◌, ℕ, zero, suc, List, [], ◌∷◌, ◌++◌, ◌≤◌, drop, length, slice_range, take, get_or, slice_set, refl, sym, ap, subst, arith, append_assoc, length-set}
 use Rattle.std.proofs.lemmas.List.{append_cancel_left, append_cancel_right, get_or-set_same, get_or-set_other, set-get_or, take-append-drop}
 use Rattle.std.proofs.lemmas.List.Folds.{drop_split}
@@ -38,7 +38,7 @@ line_put from end (place ∷ places) (line ∷ lines) parts zero none d e h all 
 line_put from end (place ∷ places) (line ∷ lines) parts (suc k) none d e h all count within =
     line_put (suc place) end places lines (slice_set parts place line) k none d e h.2 (all ∙ sym (length-set parts place line)) (omega (arith, count)) (omega (arith, within))
 
--- where all lines stand in their places already, each is the part there
+-- where all lines are in their places already, each is the part there
 pub lines_there : (places : List ℕ) (lines parts : List Part) (k none : ℕ) (d e : Part) → Ascend 0 (length parts) places → length places ≡ length lines → k < length places
     → put_all places lines parts ≡ parts → get_or parts (get_or places k none) d ≡ get_or lines k e
 lines_there places lines parts k none d e h count within same =
@@ -59,7 +59,7 @@ line_passed k places lines parts none d e within count same =
     let next : suc k ≡ k + 1 = omega arith in
     passed k places lines parts none d e within count same ∙ ap (λ (n : ℕ). put_all (drop n places) (drop n lines) parts) next
 
--- ---- lines in the place of others that stand together
+-- ---- lines in the place of others that are adjacent
 
 -- Put in the place of the parts there, lines leave the parts as they are exactly where they are those.
 pub across_stands : (at gone : ℕ) (lines parts : List Part) → at + gone ≤ length parts

@@ -28,7 +28,7 @@ by_tests true back h text at now before e = ap (text_at h) (sym (some_same h.cur
 by_tests false true h text at now before e = ap (text_at h) (sym (some_same h.before at e)) ∙ sym (before refl)
 by_tests false false h text at now before e = absurd (none_some at e)
 
--- where a history stands for a text it has that text
+-- where a history matches a text it has that text
 there : (h : History) (text : Bytes) (at : ℕ) → stands h text ≡ Some at → text_at h at ≡ text
 there h text at e =
     by_tests (bytes_eq text (text_at h h.cursor)) (bytes_eq text (text_at h h.before)) h text at (bytes_eq-Decides text (text_at h h.cursor)).0 (bytes_eq-Decides text (text_at h h.before)).0 e

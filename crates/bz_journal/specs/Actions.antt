@@ -1,4 +1,4 @@
--- What a session is asked to do.
+-- What is requested of a session.
 use Rattle.std.specs.Prelude.{ℕ}
 use Rattle.bz_label.specs.declared.target.Target.{Target}
 use Rattle.bz_words.specs.declared.command.Operation.{Operation}

@@ -19,7 +19,7 @@ abbrev pub IsSavedSession : SessionState → Type 0
 IsSavedSession s = Journal (saved s) (session_history s) s.steps
 
 -- What is resumed of a history and its steps at the text of a file: the same path, texts and notes, at the number where the history
--- stands for that text, which is also the one before. Where the steps are those between the trees of the texts they stay so.
+-- matches that text, which is also the one before. Where the steps are those between the trees of the texts they stay so.
 pub record GoesOn (h : History) (es : List (List Edit)) (text : Bytes) (s : SessionState) : Type 0 where
   pub at : ℕ
   pub stands_there : stands h text ≡ Some at
@@ -30,7 +30,7 @@ pub record GoesOn (h : History) (es : List (List Edit)) (text : Bytes) (s : Sess
 abbrev pub IsResumedSession : Bytes → Bytes → SessionState → Type 0
 IsResumedSession bytes text s = (h : History) × (es : List (List Edit)) × Journal bytes h es × GoesOn h es text s
 
--- Of the journal of a history and its steps: the session that is resumed is theirs, or they stand nowhere for the text, or memory
+-- Of the journal of a history and its steps: the session that is resumed is theirs, or they match the text nowhere, or memory
 -- was refused.
 abbrev pub IsKnownSession : History → List (List Edit) → Bytes → Result SessionState ResumeFault → Type 0
 IsKnownSession h es text (Ok s) = GoesOn h es text s

@@ -1,4 +1,4 @@
--- Lines that stand in the place of others of a tree.
+-- Lines in the place of others of a tree.
 use Rattle.std.specs.Prelude.{◌≡◌, ◌≤◌, ◌+◌, List, [], length}
 use Rattle.bz_tree.specs.declared.tree.Node.{Node}
 use Rattle.bz_tree.specs.Places.{Ascend}

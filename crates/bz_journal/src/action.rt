@@ -1,4 +1,4 @@
-//! What a session is asked to do, and what it answers.
+//! What is requested of a session, and what it answers.
 ghost use Rattle.std.specs.Prelude.{◌≡◌, Ok, true};
 
 use bz_items::Text;
@@ -6,7 +6,7 @@ use bz_label::Target;
 use bz_value::Refusal;
 use bz_words::Command;
 
-/// What a session is asked to do. It borrows its command and target, so that one command serves all targets with no copy.
+/// What is requested of a session. It borrows its command and target, so that one command serves all targets with no copy.
 #[derive(Clone, Copy, Debug)]
 pub enum Action<'a> {
     /// The command, on the rules of the present text that the target means.

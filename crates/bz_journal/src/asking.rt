@@ -18,7 +18,7 @@ use bz_value::{File, Refusal};
 use bz_words::Command;
 use std::alloc::Global;
 
-/// What is looked up in a text that stays, each made when a command asks for it.
+/// What is looked up in a text that stays, each made when a command needs it.
 #[derive(Drop)]
 pub(crate) struct Lookups {
     /// The index of the names of its rules.
@@ -28,7 +28,7 @@ pub(crate) struct Lookups {
 }
 
 impl Lookups {
-    /// Nothing was asked for yet.
+    /// Nothing was needed yet.
     pub(crate) fn none() -> Lookups
         ensures { (tree : Node) → AreLookupsOf result tree }
     {

@@ -1,5 +1,5 @@
 //! What is kept beside a course from one command to the next: the value of the present text, so that a command need not make it anew.
-//! Where that text is the layout of a tidy value only what changes is tidied and drawn.
+//! Where that text is the layout of a tidy value only what changes is tidied and laid out.
 ghost use Rattle.std.specs.Prelude.{◌≡◌, ◌≤◌, ◌⊎◌, true, Err, IfOk, IfSome, IsOk, IsSome, None, Ok, OnErr, OnOk, length};
 ghost use Rattle.bz_journal.specs.Clauses.{AreLinesOf, AreLookupsOf, EndsAt, HasActed, HasMade, IsBeside, IsFormat, IsFormatted, IsOfExtent, IsOverEven, IsSmall, IsWritten, MakesOrWants, Node, Refusal, action_in, after_meaning, layout, limit, note_limit, present, session_history, session_trail, spell_node, tidied, view_of, written};
 ghost use Rattle.bz_journal.specs.Actions as a;

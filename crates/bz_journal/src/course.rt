@@ -151,7 +151,7 @@ impl Course {
         next.equals(here)
     }
 
-    /// Takes up a new tree with a note: what it spells is the text after the present one; where it is the same one, tells what is
+    /// Takes up a new tree with a note: what it spells is the text after the present one; where it is the same one, returns what is
     /// printed.
     pub(crate) fn take_up(
         &mut self,
@@ -300,7 +300,7 @@ impl Course {
         stand_in(lines, here)
     }
 
-    /// Takes up, with a note, the present tree with these lines, as `take_up` does a new one; where that is the same one, tells what
+    /// Takes up, with a note, the present tree with these lines, as `take_up` does a new one; where that is the same one, returns what
     /// is printed. None where the step to it isn't known: it is to be taken up whole then. Errors: `Full`; `Memory`: a growth was
     /// refused.
     pub(crate) fn take_up_with(

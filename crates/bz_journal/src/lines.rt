@@ -1,4 +1,4 @@
-//! Lines that stand in the place of others of a tree.
+//! Lines in the place of others of a tree.
 ghost use Rattle.std.specs.Prelude.{◌≡◌, ◌≤◌, ◌+◌, ◌++◌, ◌↔◌, false, drop, length, take, IfOk, IsTrue, OnErr};
 ghost use Rattle.bz_journal.specs.Clauses.{AreIn, Ascend, IsTrail, IsTree, TakesUp, put_all, spell_node, trail_at, tree_with};
 
@@ -8,16 +8,16 @@ use bz_redraw::{Redrawn, Respliced};
 use bz_trail::{take_up_across, take_up_at};
 use bz_tree::{Part, Tree};
 
-/// Lines that are laid out anew, and where they stand in a tree.
+/// Lines that are laid out anew, and where they are in a tree.
 #[derive(Drop)]
 pub(crate) enum Lines {
     /// Each in the place of one.
     Exchanged(Redrawn),
-    /// All in the place of some that stand together.
+    /// All in the place of some adjacent ones.
     Spliced(Respliced),
 }
 
-/// Whether these lines are the parts that stand in these places.
+/// Whether these lines are the parts in these places.
 fn stand_there(places: &[usize], lines: &[Part], parts: &[Part]) -> bool
     requires as_many { length places.now ≡ length lines.now }
     requires ascend { Ascend 0 (length parts.now) places.now }

@@ -12,7 +12,7 @@ chosen true was here there is = (here, refl)
 chosen false true here there is = (there, refl)
 chosen false false here there is = absurd (true≢false (sym is))
 
--- a history stands for its text before
+-- a history matches its text before
 pub stands_before : (h : History) (text : Text) → text_at h h.before ≡ text → (place : ℕ) × (stands h text ≡ Some place)
 stands_before h text is =
     chosen (bytes_eq text (present h)) (bytes_eq text (text_at h h.before)) h.cursor h.before ((bytes_eq-Decides text (text_at h h.before)).1 (sym is))

@@ -19,7 +19,7 @@ on_ok_too (Ok x) f p = f refl p
 on_ok_too (Err e) f p = tt
 
 module _ (file : Text) where
-  -- what is told stays where the journal does
+  -- what is recorded stays where the journal does
   moved_over : (old now : Folder) (current text : Text) (texts : List Text) → get now (journal_name file) ≡ get old (journal_name file)
       → IsToldBy old file current text texts → IsToldBy now file current text texts
   moved_over old now current text texts same (inl (none, alone)) = inl (same ∙ none, alone)

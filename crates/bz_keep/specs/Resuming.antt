@@ -1,4 +1,4 @@
--- A file whose journal tells its history, and what a stop leaves of the two.
+-- A file whose journal records its history, and what a stop leaves of the two.
 use Rattle.std.specs.Prelude.{◌≡◌, ◌≢◌, ◌⊎◌, ◌≤◌, ℕ, true, List, [], ◌∷◌, Some, None, Result, IfErr, OnOk, IsOk, IsErrOf}
 use Rattle.std.specs.FinMap.{get}
 use Rattle.bz_edit.specs.declared.edit.Edit.{Edit}
@@ -15,8 +15,8 @@ use Rattle.bz_keep.specs.Pair.{journal_name}
 abbrev pub present : History → Text
 present h = text_at h h.cursor
 
--- what tells the texts of a file that holds `text`: it has no journal, and these are that text alone; or its journal tells a
--- history of this package and these texts, which stands for that text
+-- what records the texts of a file that holds `text`: it has no journal, and these are that text alone; or its journal records a
+-- history of this package and these texts, which matches that text
 abbrev pub IsToldBy : Folder → Text → Text → Text → List Text → Type 0
 IsToldBy folder file current text texts = ((get folder (journal_name file) ≡ None) × (texts ≡ text ∷ []))
     ⊎ ((bytes : Text) × (h : History) × (es : List (List Edit)) × (place : ℕ) × (get folder (journal_name file) ≡ Some bytes)

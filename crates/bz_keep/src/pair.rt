@@ -22,7 +22,7 @@ pub fn journal_name(alloc: Global, file: &str) -> Result<String, Memory>
     format!(in alloc; "{file}.journal")
 }
 
-// Reads a file, which is to hold this text: of a longer one no more than the byte that tells. Errors: `Changed`: it holds another or
+// Reads a file, which is to hold this text: of a longer one no more than the byte that shows it. Errors: `Changed`: it holds another or
 // isn't there; `Open`: it could not be read; `Memory`: a growth was refused.
 fn check_file<F: Files>(
     alloc: Global,

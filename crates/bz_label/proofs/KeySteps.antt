@@ -1,4 +1,4 @@
--- The order of keys, told by one walk over both.
+-- The order of keys, computed by one walk over both.
 use Rattle.std.proofs.Common.{ℕ, Bool, true, List, [], ◌∷◌, ◌≡◌, refl, sym, ap, ◌∙◌, inl, inr}
 use Rattle.std.proofs.lemmas.Bool.{cases_Bool}
 use Rattle.std.specs.Ordering.{ordering_then, nat_cmp, is_ne}

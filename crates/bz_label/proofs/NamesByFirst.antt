@@ -1,4 +1,4 @@
--- The tables of names, asked by the first character.
+-- The tables of names, looked up by the first character.
 use Rattle.std.proofs.Common.{◌≡◌, ℕ, Bool, true, false, ◌||◌, if◌then◌else◌, nat_eq, [], ◌∷◌, ◌<◌, codes, get_or, refl, sym, ap, ◌∙◌, subst, arith}
 use Rattle.std.specs.List.{position}
 use Rattle.std.specs.Str.{bytes_eq}

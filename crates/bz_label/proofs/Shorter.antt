@@ -26,7 +26,7 @@ back_of text kept name byte e =
 pub whole_kept : (text : Bytes) (label : Label) → IsWhole text label → text ≡ (label.repository ++ codes "//" ++ label.package) ++ 58 ∷ label.name
 whole_kept text label h = h.spelled ∙ append_assoc (label.repository ++ codes "//" ++ label.package) (codes ":") label.name
 
--- only the whole label that the text is can be a repeat, or stand in the current package
+-- only the whole label that the text is can be a repeat, or be in the current package
 pub no_repeat : (text : Bytes) (label : Label) → IsWhole text label → (last_piece label.package ≡ label.name → ⊥) → (another : Label) → IsRepeat text another → ⊥
 no_repeat text label h differs another r =
     let one : another ≡ label = whole_once text another label r.written h in

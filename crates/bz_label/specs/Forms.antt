@@ -10,7 +10,7 @@ use Rattle.bz_label.specs.Labels.{is_path, is_repository_name}
 abbrev pub label_of : Parts → Label
 label_of parts = record { repository = parts.repository.now; «package» = parts.package.now; name = parts.name.now }
 
--- whether a text may stand before //: the condition is `IsRepository`, of which a lemma shows that it is this
+-- whether a text may be before //: the condition is `IsRepository`, of which a lemma shows that it is this
 abbrev pub is_repository : Bytes → Bool
 is_repository [] = true
 is_repository (first ∷ name) = is_at first && (is_empty name || is_repository_name name)

@@ -20,7 +20,7 @@ is_path text = is_joined text && is_plain text
 abbrev pub is_repository_name : Bytes → Bool
 is_repository_name text = is_present text && not (has_slash text) && is_plain text
 
--- what may stand before //: nothing, @, @@, @REPO or @@REPO
+-- what may be before //: nothing, @, @@, @REPO or @@REPO
 pub data IsRepository (text : Bytes) : Type 0 where
   absent : text ≡ [] → IsRepository text
   main : text ≡ codes "@" → IsRepository text

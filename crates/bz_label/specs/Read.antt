@@ -19,7 +19,7 @@ absolute_label front rest =
     if has_colon rest then kept_if (are_whole front (before_colon rest) (behind_colon rest)) front (before_colon rest) (behind_colon rest)
     else kept_if (are_alone front rest) front rest (last_piece rest)
 
--- whether two slashes stand in a text
+-- whether two slashes occur in a text
 abbrev pub has_slashes : Bytes → Bool
 has_slashes [] = false
 has_slashes (c ∷ []) = false

@@ -31,7 +31,7 @@ further_lists = codes "copts" ∷ codes "defines" ∷ codes "features"
 abbrev pub is_list_attribute : Bytes → Bool
 is_list_attribute attribute = is_in sorted_attributes attribute || is_in further_lists attribute
 
--- the arguments of a rule that stand first, in this order, and those that stand last
+-- the arguments of a rule that come first, in this order, and those that come last
 abbrev pub first_arguments : List Bytes
 first_arguments = codes "name" ∷ codes "size" ∷ codes "timeout" ∷ codes "testonly"
     ∷ codes "src" ∷ codes "srcs" ∷ codes "out" ∷ codes "outs" ∷ codes "hdrs" ∷ []

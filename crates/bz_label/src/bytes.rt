@@ -114,7 +114,7 @@ fn is_cut(byte: u8) -> bool
     byte == b'.' || byte == b':'
 }
 
-/// How two bytes at one place order the pieces that they stand in.
+/// How two bytes at one place order the pieces that they are in.
 fn byte_cmp(x: u8, y: u8) -> Ordering
     ensures { result ≡ slice_cmp bytes_order (key_pieces (x ∷ [])) (key_pieces (y ∷ [])) }
 {
@@ -172,7 +172,7 @@ fn is_any(attribute: &[u8], names: &[&str]) -> bool
     names.iter().any(|name| attribute == name.as_bytes())
 }
 
-/// The first byte of a text; 0 of an empty one. The tables are asked by it, since a text is then compared with two names or three.
+/// The first byte of a text; 0 of an empty one. The tables are looked up by it, since a text is then compared with two names or three.
 fn first_of(text: &[u8]) -> u8
     ensures { result ≡ get_or text.now 0 0 }
 {

@@ -7,7 +7,7 @@ ghost use Rattle.bz_label.specs.Forms.{label_of, is_repository, are_whole, are_a
 
 use crate::piece::{after, cut, holds, joined, last};
 
-/// The three parts of a label, as slices of the texts that they stand in.
+/// The three parts of a label, as slices of the texts that they are in.
 #[derive(Clone, Copy)]
 pub struct Parts<'a> {
     pub repository: &'a [u8],
@@ -40,7 +40,7 @@ fn repository_name(text: &[u8]) -> bool
     !text.is_empty() && !holds(text, b'/') && plain(text)
 }
 
-/// Whether the text may stand before `//`.
+/// Whether the text may be before `//`.
 #[tactic(auto, using(crate::proofs::Empty::empty_by_length))]
 fn repository(text: &[u8]) -> bool
     ensures { result ≡ is_repository text.now }

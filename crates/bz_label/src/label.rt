@@ -65,7 +65,7 @@ fn copied(alloc: Global, parts: Parts) -> Result<Label, Memory>
 }
 
 impl Label {
-    /// The label that the text is, read in the current package, which `:NAME` and `NAME` stand in. `BadLabel` exactly
+    /// The label that the text is, read in the current package, which `:NAME` and `NAME` are in. `BadLabel` exactly
     /// where it is none; `Memory` where room for the three parts was refused.
     pub fn read(alloc: Global, current: &str, text: &str) -> Result<Label, LabelFault>
         ensures ok { IfOk result (IsLabel current.now text.now) }

@@ -1,6 +1,6 @@
 //! Labels, the tables and the order of attributes and keys, and the targets of commands.
 //!
-//! What a call makes is a `Text` of `bz_items`; the calls that take no memory stand in `bytes`. A package is named by its path, and
+//! What a call makes is a `Text` of `bz_items`; the calls that take no memory are in `bytes`. A package is named by its path, and
 //! the root package by the empty text.
 #![tactic(auto)]
 

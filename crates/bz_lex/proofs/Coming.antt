@@ -77,7 +77,7 @@ abbrev pub has_end : List Leaf → Bool
 has_end [] = false
 has_end (l ∷ ls) = is_end l.class || has_end ls
 
--- the leaves stand there and spell the text
+-- the leaves are there and spell the text
 abbrev All : Place → List ℕ → List Leaf → Type 0
 All p s ls = Stand (May IsToken) p ls × (spell_leaves ls ≡ s)
 

@@ -87,7 +87,7 @@ no_token p gap s g only none = no_leaf p gap.state gap.length s g.taken g.stops 
 starts : (t : List ℕ) (s : List ℕ) (n c : ℕ) → drop n s ≡ c ∷ drop (suc n) s → t ≡ drop n s → t ≡ [] → ⊥
 starts t s n c e f g = let h : c ∷ drop (suc n) s ≡ [] = sym e ∙ sym f ∙ g in cc
 
--- what the token after the gap tells, place by place
+-- what the token after the gap says, place by place
 pub inside_token : (d : ℕ) (gap : GapFront) (s : List ℕ) (c : ℕ) (r : Option Front) → IsGapFront true gap s → slice_get s gap.length ≡ Some c → TellsToken gap.length s r → TellsFront (Inside d) s r
 inside_token d gap s c (Some front) g b t =
     leaf_of (Inside d) gap front s g t.0 (token_within gap.length front s g.within t.0 t.1)

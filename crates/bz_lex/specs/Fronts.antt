@@ -20,7 +20,7 @@ pub record IsGapFront (newlines : Bool) (gap : GapFront) (text : List ℕ) : Typ
   pub stops : Stops newlines gap.state (drop gap.length text)
   pub ends : is_end true gap.state ≡ true
 
--- the leaf that a class and two lengths tell: its token, itself, and the text after it
+-- the leaf that a class and two lengths describe: its token, itself, and the text after it
 abbrev pub front_token : Front → List ℕ → List ℕ
 front_token front text = take front.token (drop front.gap text)
 

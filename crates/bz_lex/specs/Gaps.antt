@@ -1,4 +1,4 @@
--- Gaps: what may stand before a token.
+-- Gaps: what may be before a token.
 use Rattle.std.specs.Prelude.{◌≡◌, ◌≢◌, ℕ, Bool, true, false, List, [], ◌∷◌, ◌++◌, ◌||◌, ◌&&◌, nat_eq, if◌then◌else◌}
 use Rattle.bz_items.specs.Characters.{backslash, carriage_return, line_feed, number_sign, space, tab}
 use Rattle.bz_token.specs.Bytes.{is_blank}
@@ -11,7 +11,7 @@ IsOneLine (byte ∷ rest) = (byte ≢ line_feed) × IsOneLine rest
 -- Starlark's gaps between tokens: a gap is a sequence of spaces, tabs, newlines, carriage returns, backslashes right
 -- before a newline or before CR LF (an escaped newline), and comments. A comment runs from # to the next newline or the
 -- end of the text.
--- newlines: whether unescaped newlines may stand in the gap, and with them comments that have their newline in the gap.
+-- newlines: whether unescaped newlines may be in the gap, and with them comments that have their newline in the gap.
 -- unclosed: whether the last piece may be a comment whose newline, if it has one, is after the gap.
 pub data IsGap (newlines unclosed : Bool) : List ℕ → Type 0 where
   nothing : {text : List ℕ} → text ≡ [] → IsGap newlines unclosed text

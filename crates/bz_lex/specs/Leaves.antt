@@ -1,4 +1,4 @@
--- The leaves of a text: gaps and tokens that cover it, each standing where it may.
+-- The leaves of a text: gaps and tokens that cover it, each where it may be.
 use Rattle.std.specs.Prelude.{◌≡◌, ℕ, List, [], ◌∷◌, ◌++◌, IsUtf8}
 use Rattle.std.specs.List.{AllByRecursion}
 use Rattle.bz_token.specs.Tokens.{IsToken}
@@ -10,7 +10,7 @@ abbrev pub spell_leaves : List Leaf → List ℕ
 spell_leaves [] = []
 spell_leaves (leaf ∷ leaves) = leaf.gap ++ (leaf.token ++ spell_leaves leaves)
 
--- Each leaf stands as it may, by what may says of its place, itself and the text after it, up to the end.
+-- Each leaf is where it may be, by what may says of its place, itself and the text after it, up to the end.
 abbrev pub Stand : (Place → Leaf → List ℕ → Type 0) → Place → List Leaf → Type 0
 Stand may place [] = place ≡ Over
 Stand may place (leaf ∷ leaves) = may place leaf (spell_leaves leaves) × Stand may (next place leaf) leaves

@@ -1,4 +1,4 @@
--- Where leaves stand, and which leaf may stand where.
+-- Where leaves are, and which leaf may be where.
 use Rattle.std.specs.Prelude.{ℕ, suc, Bool, true, false, List, [], ◌∷◌, ◌||◌, nat_eq, if◌then◌else◌}
 use Rattle.bz_token.specs.declared.class.Class.{Class}
 use Rattle.bz_token.specs.declared.class.Class.TheVariants.{Mark, Newline, End}
@@ -54,12 +54,12 @@ after_token _ token place = same_depth place
 abbrev pub next : Place → Leaf → Place
 next place leaf = after_token leaf.class leaf.token place
 
--- whether unescaped newlines may stand in the gap of a leaf
+-- whether unescaped newlines may be in the gap of a leaf
 abbrev pub newlines_at : Place → Bool
 newlines_at Behind = false
 newlines_at _ = true
 
--- Which leaf may stand at a place, before a text; IsToken says of a class, a token and the text after it that the
+-- Which leaf may be at a place, before a text; IsToken says of a class, a token and the text after it that the
 -- token, which is neither a newline nor the end, is the longest lexeme there.
 -- An unescaped newline is in a gap only inside brackets, before the first token of a line, or before the end; a
 -- comment is there too and in the gap of a newline, and its newline is in the same gap, but for the last

@@ -40,7 +40,7 @@ impl ReadFault {
     ghost use Rattle.std.specs.Prelude.{◌≡◌};
     ghost use Rattle.bz_lex.specs.Faults.{fault_number};
 
-    /// The number of the refusal, as the tools tell it.
+    /// The number of the refusal, as the tools report it.
     pub fn number(&self) -> u8
         ensures { result ≡ fault_number self.now }
     {

@@ -81,7 +81,7 @@ fn is_past(byte: u8) -> bool
     byte > b'#' && byte != b'\\' || byte == b'"'
 }
 
-/// Reads as much as a gap can go on with; `newlines` says whether unescaped newlines may stand in it. Most gaps are empty or one space.
+/// Reads as much as a gap can go on with; `newlines` says whether unescaped newlines may be in it. Most gaps are empty or one space.
 #[inline(always)]
 pub fn gap_front(text: &[u8], newlines: bool) -> GapFront
     ensures within { result.length ≤ length text.now }

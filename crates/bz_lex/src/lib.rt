@@ -1,4 +1,4 @@
-//! Leaves: a gap and the token after it, and where each may stand; reading a text as leaves.
+//! Leaves: a gap and the token after it, and where each may be; reading a text as leaves.
 #![tactic(auto)]
 
 mod fault;

@@ -54,7 +54,7 @@ impl Place {
         }
     }
 
-    /// Whether unescaped newlines may stand in the gap of a leaf here.
+    /// Whether unescaped newlines may be in the gap of a leaf here.
     pub fn newlines(self) -> bool
         ensures { result ≡ newlines_at self }
     {

@@ -2,7 +2,7 @@ ghost use Rattle.std.specs.Prelude.{◌≡◌, ◌≤◌, ◌-◌, ◌+◌, ◌^
 ghost use Rattle.bz_lex.specs.Positions.{is_continuation, is_newline, line_at, column_of};
 
 /// The line and the column, both from 1, at which the byte at `offset` is; columns count characters.
-/// A number past `u32::MAX` is told as `u32::MAX`.
+/// A number past `u32::MAX` is reported as `u32::MAX`.
 pub fn line_and_column(text: &[u8], offset: usize) -> (u32, u32)
     requires { offset ≤ length text.now }
     ensures line { result.0 ≡ min (line_at text.now offset) u32.MAX }
@@ -16,7 +16,7 @@ pub fn line_and_column(text: &[u8], offset: usize) -> (u32, u32)
     )
 }
 
-/// How many characters stand after the last newline.
+/// How many characters are after the last newline.
 fn characters_behind_newline(text: &[u8]) -> usize
     ensures { result ≡ count_by (λ byte. not (is_continuation byte)) (take_while (λ byte. not (is_newline byte)) (reverse text.now)) }
 {

@@ -10,7 +10,7 @@ use bz_items::Items;
 use std::alloc::Global;
 
 /// The tokens of a source in order, each the longest lexeme that begins at its place, as slices of the source. Between
-/// them stand gaps. The errors, at the first such place: `OpenString` where a string begins that is not closed, from its
+/// them are gaps. The errors, at the first such place: `OpenString` where a string begins that is not closed, from its
 /// prefix on, `BadCharacter` where nothing begins; `Memory`.
 pub fn lex(alloc: Global, source: &str) -> Result<Vec<&str>, ReadFault>
     ensures told { MatchResult result (λ tokens. AreLexemes (map (λ token. token.now) tokens.items) source.now) (λ fault. (fault ≡ ReadFault.Memory) ⊎ NoLexemes source.now) }

@@ -8,7 +8,7 @@ use Rattle.bz_items.specs.Characters.{letter_f, letter_k}
 abbrev pub keep_going_rule : Rule
 keep_going_rule = record (new_rule (codes "keep_going")) { short = Some letter_k; action = Some SetTrue }
 
--- `-f FILE`: the operands stand in a file of lines
+-- `-f FILE`: the operands are in a file of lines
 abbrev pub file_rule : Rule
 file_rule = record (new_rule (codes "file")) { short = Some letter_f; value_names = 1 }
 
@@ -16,7 +16,7 @@ file_rule = record (new_rule (codes "file")) { short = Some letter_f; value_name
 abbrev pub stdout_rule : Rule
 stdout_rule = record (new_rule (codes "stdout")) { long = Some (codes "stdout"); action = Some SetTrue }
 
--- `--quiet`: nothing is told of what was done
+-- `--quiet`: nothing is printed of what was done
 abbrev pub quiet_rule : Rule
 quiet_rule = record (new_rule (codes "quiet")) { long = Some (codes "quiet"); action = Some SetTrue }
 

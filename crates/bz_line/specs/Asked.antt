@@ -1,4 +1,4 @@
--- What the operands of one line ask for: commands, in order, and targets, in order.
+-- What the operands of one line request: commands, in order, and targets, in order.
 use Rattle.std.specs.Prelude.{ℕ, List, [], ◌∷◌, ◌++◌, if◌then◌else◌, Result, Ok, Err}
 use Rattle.bz_items.specs.Characters.{Bytes}
 use Rattle.bz_label.specs.declared.target.Target.{Target}
@@ -34,11 +34,11 @@ abbrev pub aimed : Bytes → Result Target OperandFault → Result Asked Refused
 aimed operand (Ok target) = Ok (record { commands = []; targets = target ∷ [] })
 aimed operand (Err fault) = Err (record { operand = operand; fault = fault })
 
--- what one operand asks for
+-- what one operand requests
 abbrev pub asked_by : Bytes → Result Asked Refused
 asked_by operand = if is_target operand then aimed operand (operand_target operand) else wanted operand (verb_of operand)
 
--- The first refused operand, in order, is told.
+-- The first refused operand, in order, is reported.
 abbrev pub joined_operands : Result Asked Refused → Result Asked Refused → Result Asked Refused
 joined_operands (Ok first) (Ok more) = Ok (both first more)
 joined_operands (Ok first) (Err refused) = Err refused

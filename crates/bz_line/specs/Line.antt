@@ -5,7 +5,7 @@ use Rattle.clap.specs.Words.{Row, Text, all_of, first_of, fault_of, matches_of}
 use Rattle.bz_line.specs.App.{buildozer_app}
 use Rattle.bz_line.specs.declared.line.Options.{Options}
 
--- where commands and targets stand: among the words, or in a file of lines
+-- where commands and targets are: among the words, or in a file of lines
 pub data Given : Type 0 where
   operands : List Text → Given
   script : Text → Given
@@ -41,7 +41,7 @@ given_by (Some file) (text ∷ texts) = Err beside_script
 abbrev pub given_of : List Row → Result Given LineUsage
 given_of rows = given_by (first_of (codes "file") rows) (unwrap_or (all_of (codes "operand") rows) [])
 
--- Operands beside `-f` are told first.
+-- Operands beside `-f` are reported first.
 abbrev pub with_options : Options → Result Given LineUsage → Result CommandLine LineUsage
 with_options options (Ok given) = if options.journal && options.to_stdout then Err beside_stdout else Ok (record { options = options; given = given })
 with_options options (Err usage) = Err usage

@@ -71,7 +71,7 @@ abbrev pub by_command : Result Operation CommandFault → Result Verb OperandFau
 by_command (Ok operation) = Ok (Do operation)
 by_command (Err fault) = Err (of_command fault)
 
--- what the words of a text ask for: `undo`, `redo` or `journal`, else a command on the rules of a target; the flag: the text is not too long
+-- what the words of a text request: `undo`, `redo` or `journal`, else a command on the rules of a target; the flag: the text is not too long
 abbrev pub verb_in : Bool → List Bytes → Result Verb OperandFault
 verb_in fits words =
     option_map_or (λ verb. if fits then verb else Err (Command c.Arguments)) (history_verb_in words) (by_command (command_in fits words))

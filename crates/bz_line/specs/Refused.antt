@@ -1,4 +1,4 @@
--- Why operands and lines are refused. Whether `regex` takes a pattern is told here alone: a command's pattern is its source.
+-- Why operands and lines are refused. Whether `regex` takes a pattern is said here alone: a command's pattern is its source.
 use Rattle.std.specs.Prelude.{◌≡◌, ◌⊎◌, List, ◌∷◌, ◌++◌, None, Ok, Err}
 use Rattle.bz_items.specs.Characters.{Bytes}
 use Rattle.bz_words.specs.Commands.{command_of}
@@ -13,7 +13,7 @@ use Rattle.bz_line.specs.declared.verb.OperandFault.TheVariants.{Command}
 abbrev pub IsPatternFault : Bytes → OperandFault → Type 0
 IsPatternFault operand fault = (fault ≡ Command BadPattern) × HasBadPattern (command_of operand)
 
--- memory aside: what the operand asks for, or a pattern that is refused where nothing else is wrong
+-- memory aside: what the operand requests, or a pattern that is refused where nothing else is wrong
 abbrev pub IsOperandFault : Bytes → OperandFault → Type 0
 IsOperandFault operand fault = (asked_by operand ≡ Err (record { operand = operand; fault = fault })) ⊎ IsPatternFault operand fault
 
@@ -26,7 +26,7 @@ pub record IsFirstRefused (operands : List Bytes) (refused : Refused) : Type 0 w
   pub before : asked_of front ≡ Ok asked
   pub fault : IsOperandFault refused.operand refused.fault
 
--- why the operands of one line ask for nothing
+-- why the operands of one line request nothing
 abbrev pub IsGroupFault : List Bytes → Usage → Type 0
 IsGroupFault operands (of_operand refused) = IsFirstRefused operands refused
 IsGroupFault operands no_command = operand_group operands ≡ Err no_command
@@ -34,7 +34,7 @@ IsGroupFault operands no_target = operand_group operands ≡ Err no_target
 IsGroupFault operands no_line = ⊥
 IsGroupFault operands (nul line) = ⊥
 
--- The first line that asks for nothing: those in front of it ask for something.
+-- The first line that requests nothing: those in front of it request something.
 pub record IsFirstFault (lines : List Bytes) (usage : Usage) : Type 0 where
   pub front : List Bytes
   pub line : Bytes
@@ -44,6 +44,6 @@ pub record IsFirstFault (lines : List Bytes) (usage : Usage) : Type 0 where
   pub before : operand_groups front ≡ Ok groups
   pub fault : IsGroupFault (operands_in line) usage
 
--- why the lines of a file ask for nothing; where none has a NUL byte, the first fault may be a pattern
+-- why the lines of a file request nothing; where none has a NUL byte, the first fault may be a pattern
 abbrev pub IsScriptFault : Bytes → Usage → Type 0
 IsScriptFault text usage = (script_of text ≡ Err usage) ⊎ ((line_with_nul (lines_of text) ≡ None) × IsFirstFault (lines_in text) usage)

@@ -1,4 +1,4 @@
--- What a file of lines asks for. Its lines end at newlines, each with or without one carriage return before it, and the operands of a
+-- What a file of lines requests. Its lines end at newlines, each with or without one carriage return before it, and the operands of a
 -- line are separated by `|`.
 use Rattle.std.specs.Prelude.{ℕ, ◌+◌, ◌==◌, Bool, false, not, List, [], ◌∷◌, drop, filter, position, option_map, if◌then◌else◌, Option, Some, None, Result, Ok, Err}
 use Rattle.std.specs.List.{list_any, slice_split}
@@ -36,13 +36,13 @@ lines_in text = filter is_read (lines_of text)
 abbrev pub operands_in : Bytes → List Bytes
 operands_in line = slice_split (λ byte. byte == vertical_bar) line
 
--- The first fault, in order, is told.
+-- The first fault, in order, is reported.
 abbrev pub in_front : Result Asked Usage → Result (List Asked) Usage → Result (List Asked) Usage
 in_front (Ok group) (Ok groups) = Ok (group ∷ groups)
 in_front (Ok group) (Err usage) = Err usage
 in_front (Err usage) groups = Err usage
 
--- what each of these lines asks for
+-- what each of these lines requests
 abbrev pub operand_groups : List Bytes → Result (List Asked) Usage
 operand_groups [] = Ok []
 operand_groups (line ∷ lines) = in_front (operand_group (operands_in line)) (operand_groups lines)
@@ -52,11 +52,11 @@ abbrev pub some_groups : List Bytes → Result (List Asked) Usage
 some_groups [] = Err no_line
 some_groups (line ∷ lines) = operand_groups (line ∷ lines)
 
--- A NUL byte is told before all else.
+-- A NUL byte is reported before all else.
 abbrev pub without_nul : Option ℕ → List Bytes → Result (List Asked) Usage
 without_nul (Some line) lines = Err (nul line)
 without_nul None lines = some_groups lines
 
--- what the lines of a file ask for
+-- what the lines of a file request
 abbrev pub script_of : Bytes → Result (List Asked) Usage
 script_of text = without_nul (line_with_nul (lines_of text)) (lines_in text)

@@ -38,7 +38,7 @@ asked_in asked = record { commands = map asking_in asked.commands.items; targets
 abbrev pub refused_in : Refused → a.Refused
 refused_in refused = record { operand = refused.operand.now; fault = refused.fault }
 
--- why operands or lines ask for nothing, where memory is not the cause
+-- why operands or lines request nothing, where memory is not the cause
 abbrev pub usage_in : UsageFault → Option a.Usage
 usage_in (u.Operand refused) = Some (a.of_operand (refused_in refused))
 usage_in u.NoCommand = Some a.no_command

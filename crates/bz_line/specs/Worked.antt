@@ -46,7 +46,7 @@ Scripts = (command_line_of (codes "-f" ∷ codes "lines" ∷ []) ≡ Ok (with_pl
     × (command_line_of (codes "delete" ∷ codes "-:x" ∷ []) ≡ Err of_clap)
 
 -- a journal beside the other options and after an operand; beside standard output, in both orders; beside operands and a file, which
--- are told first; a repeated one
+-- are reported first; a repeated one
 abbrev Journals : Type 0
 Journals = (command_line_of (codes "-k" ∷ codes "--quiet" ∷ codes "--journal" ∷ codes "-f" ∷ codes "lines" ∷ [])
     ≡ Ok (record { options = record plain { keep_going = true; quiet = true; journal = true }; given = script (codes "lines") }))

@@ -1,4 +1,4 @@
-//! What the operands of a line ask for.
+//! What the operands of a line request.
 ghost use Rattle.std.specs.Prelude.{◌≡◌, ◌⊎◌, Ok, Err, IfOk, IfErr, OnOk, map};
 ghost use Rattle.std.specs.List.{All};
 ghost use Rattle.bz_line.specs.Asked as a;
@@ -80,7 +80,7 @@ fn add<'a>(alloc: Global, asked: &mut Asked<'a>, operand: &'a str) -> Result<(),
     }
 }
 
-/// What the operands ask for. The error is the first operand that is refused, in order, or memory.
+/// What the operands request. The error is the first operand that is refused, in order, or memory.
 pub(crate) fn read_asked<'a>(alloc: Global, operands: &[&'a str]) -> Result<Asked<'a>, Refused<'a>>
     ensures ok { IfOk result (λ asked. a.asked_of (map (λ s. s.now) operands.now) ≡ Ok (asked_in asked)) }
     ensures err { IfErr result (λ refused. IsFirstRefused (map (λ s. s.now) operands.now) (refused_in refused)

@@ -10,7 +10,7 @@ use crate::asked::{Asked, Refused, read_asked};
 use crate::verb::OperandFault;
 use std::alloc::{AllocError, Global};
 
-/// Why operands, or the lines of a file, ask for nothing.
+/// Why operands, or the lines of a file, request nothing.
 #[derive(Debug, Drop)]
 pub enum UsageFault<'a> {
     /// The first operand that is refused.
@@ -48,7 +48,7 @@ fn usage_fault(refused: Refused<'_>) -> UsageFault<'_>
     }
 }
 
-/// What the operands of one line ask for: commands and targets, at least one of each, in order. The package of each target
+/// What the operands of one line request: commands and targets, at least one of each, in order. The package of each target
 /// is text in UTF-8, of at most 65,536 bytes. Errors, in this order: `Operand` where one is refused, which is the first
 /// such; `NoCommand`; `NoTarget`; and `Memory` where a growth was refused.
 pub fn read_group<'a>(alloc: Global, operands: &[&'a str]) -> Result<Asked<'a>, UsageFault<'a>>

@@ -1,4 +1,4 @@
-//! What a line of buildozer asks for: options, commands and targets, among the words or in a file of lines.
+//! What a line of buildozer requests: options, commands and targets, among the words or in a file of lines.
 #![tactic(auto)]
 
 mod asked;

@@ -1,4 +1,4 @@
-//! The words of a command line: options, and where commands and targets stand.
+//! The words of a command line: options, and where commands and targets are.
 ghost use Rattle.std.specs.Prelude.{◌≡◌, [], false, Some, Ok, Err, IfOk, IfErr, IfSome, map};
 ghost use Rattle.clap.specs.Words.{app_of, new_rule, rule_of, found_of, fault_of, matches_of, rows_of};
 ghost use Rattle.clap.specs.declared.builder.action.ArgAction.TheVariants.{SetTrue};
@@ -19,18 +19,18 @@ pub struct Options {
     pub keep_going: bool,
     /// `--stdout`: what a file becomes is written to standard output.
     pub to_stdout: bool,
-    /// `--quiet`: nothing is told of what was done.
+    /// `--quiet`: nothing is printed of what was done.
     pub quiet: bool,
     /// `--journal`: FILE.journal is kept beside each file, so that a later run can undo.
     pub journal: bool,
 }
 
-/// Where commands and targets stand.
+/// Where commands and targets are.
 #[derive(Debug, Drop)]
 pub enum Given<'a> {
     /// Among the words: these are all of them that are no option's.
     Operands(Vec<&'a str>),
-    /// In a file of lines, of this name: `-f FILE`. `-` stands for standard input.
+    /// In a file of lines, of this name: `-f FILE`. `-` means standard input.
     Script(&'a str),
 }
 
@@ -203,7 +203,7 @@ fn given_of<'a>(alloc: Global, matches: &ArgMatches<'a>) -> Result<Given<'a>, Li
 }
 
 /// What the words after the program's name say. Errors: `Clap` where clap finds a fault in them, repeated options among
-/// these; `BesideScript` where operands stand beside `-f`, else `BesideStdout` where `--journal` is beside `--stdout`;
+/// these; `BesideScript` where operands are beside `-f`, else `BesideStdout` where `--journal` is beside `--stdout`;
 /// `Memory`: a growth was refused.
 pub fn read_line<'a, S: AsStr>(alloc: Global, words: &'a [S]) -> Result<CommandLine<'a>, LineFault>
     ensures ok { IfOk result (λ line. command_line_of (map S.text words.entry.now) ≡ Ok (line_in line)) }

@@ -107,11 +107,11 @@ fn read_groups<'a>(alloc: Global, lines: &[&'a str]) -> Result<Vec<Asked<'a>>, U
     Ok(groups)
 }
 
-/// What the lines of a file ask for, in order. Its lines end at newlines alone, and one carriage return right before a
+/// What the lines of a file request, in order. Its lines end at newlines alone, and one carriage return right before a
 /// newline goes with it; a byte order mark at the beginning is passed over. Lines that are empty or begin with `#` are
 /// passed over; `|` separates the operands of a line. Packages are as `read_group` gives them. Errors, in this order: `Nul`
 /// where some line has a NUL byte, `NoLine` where there is no line of operands, and the first line's that is refused, as
-/// `read_group` tells it; `Memory` where a growth was refused.
+/// `read_group` reports it; `Memory` where a growth was refused.
 pub fn read_script<'a>(alloc: Global, script: &'a str) -> Result<Vec<Asked<'a>>, UsageFault<'a>>
     ensures ok { IfOk result (λ groups. script_of script.entry.now ≡ Ok (map asked_in groups.items)) }
     ensures err { IfErr result (λ fault. IfSome (usage_in fault) (IsScriptFault script.entry.now)) }

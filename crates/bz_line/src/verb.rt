@@ -1,4 +1,4 @@
-//! What a command's text asks for.
+//! What a command's text requests.
 ghost use Rattle.std.specs.Prelude.{◌≡◌, ◌⊎◌, Ok, Err, IfOk, IfErr};
 ghost use Rattle.bz_words.specs.Commands.{command_in};
 ghost use Rattle.bz_words.specs.Proper.{AreUtf8};
@@ -11,7 +11,7 @@ use bz_items::Text;
 use bz_words::{Command, CommandFault, TEXT_LIMIT, read_words};
 use std::alloc::Global;
 
-/// What a command asks for.
+/// What a command requests.
 #[derive(Debug, Drop)]
 pub enum Verb {
     /// The command, on the rules that the target means.
@@ -50,7 +50,7 @@ pub enum OperandFault {
 }
 
 impl OperandFault {
-    /// The name by which the fault is told.
+    /// The name by which the fault is reported.
     pub fn name(&self) -> &'static str
         ensures { result.now ≡ fault_name self.now }
     {
@@ -61,7 +61,7 @@ impl OperandFault {
         }
     }
 
-    /// The number by which the fault is told.
+    /// The number by which the fault is reported.
     pub fn number(&self) -> u8
         ensures { result ≡ fault_number self.now }
     {
@@ -105,7 +105,7 @@ fn read_count(word: &[u8]) -> Option<u32>
     if count > 0 { Some(count) } else { None }
 }
 
-// How many steps are asked for.
+// How many steps are requested.
 fn read_steps(arguments: &[Text]) -> Result<u32, OperandFault>
     ensures { result ≡ steps_of arguments.now }
 {
@@ -148,7 +148,7 @@ fn read_command(words: Vec<Text>, fits: bool) -> Result<Verb, OperandFault>
     Ok(Verb::Do(Command::of_words(words, fits)?))
 }
 
-// What these words ask for; `fits` says that their text is not too long.
+// What these words request; `fits` says that their text is not too long.
 fn verb_in(words: Vec<Text>, fits: bool) -> Result<Verb, OperandFault>
     requires { AreUtf8 words.items }
     ensures ok { IfOk result (λ verb. verb_in fits words.items ≡ Ok verb) }
@@ -162,7 +162,7 @@ fn verb_in(words: Vec<Text>, fits: bool) -> Result<Verb, OperandFault>
     }
 }
 
-/// What the command of this text asks for. Errors: `Command`: there is no command of that name, its arguments are wrong,
+/// What the command of this text requests. Errors: `Command`: there is no command of that name, its arguments are wrong,
 /// it is too long, or `regex` refuses its pattern; `Memory`: a growth was refused.
 pub(crate) fn read_verb(alloc: Global, text: &str) -> Result<Verb, OperandFault>
     ensures ok { IfOk result (λ verb. verb_of text.now ≡ Ok verb) }

@@ -139,7 +139,7 @@ pub lists_known : (xs : List Expr) (known : Membership) → with_known_items (fl
 lists_known [] known = refl
 lists_known (x ∷ xs) known = more_items (listed x) (flat_map listed xs) known ∙ lists_known xs (with_known_items (listed x) known)
 
--- ---- the words as they are asked
+-- ---- the words as they are looked up
 
 -- what words make of what is known
 words_known : (words : List Bytes) (known : Membership) → with_words words known
@@ -155,7 +155,7 @@ any_alike is_label current other (word ∷ words) =
     ap (λ z. z || list_any (mean_the_same is_label current other) words) (alike_both is_label current other word)
     ∙ ap (λ z. mean_the_same is_label current word other || z) (any_alike is_label current other words)
 
--- an item is one of the words, asked of the body of a plain string
+-- an item is one of the words, looked up by the body of a plain string
 by_body : (current attribute : Bytes) (words : List Bytes) (found : Option Bytes)
     → option_map_or (λ other. list_any (λ word. are_one current attribute word other) words) found false ≡ list_any (λ word. option_map_or (are_one current attribute word) found false) words
 by_body current attribute words None = sym (none_any words)

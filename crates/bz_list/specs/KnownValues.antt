@@ -29,7 +29,7 @@ abbrev pub is_among : List Label → List Bytes → Bytes → Option Label → B
 is_among labels texts word (Some label) = list_any (is_equal label) labels
 is_among labels texts word None = list_any (bytes_eq word) texts
 
--- and as they are asked: whether a word means one of them
+-- and as they are looked up: whether a word means one of them
 pub record Membership : Type 0 where
   pub current : Bytes
   pub is_label : Bool

@@ -1,4 +1,4 @@
-//! Values of an attribute, to be asked whether a word means one of them.
+//! Values of an attribute, to check whether a word means one of them.
 ghost use Rattle.std.specs.Prelude.{◌≡◌, ◌||◌, List, ℕ, IfOk, OnOk};
 ghost use Rattle.std.specs.List.{list_any, flat_map, filter};
 ghost use Rattle.std.specs.Option.{option_map};

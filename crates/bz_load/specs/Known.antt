@@ -1,4 +1,4 @@
--- What the code keeps in sets: the symbols that are loaded already, and the names that are used, each as what is asked of it.
+-- What the code keeps in sets: the symbols that are loaded already, and the names that are used, each as what is looked up in it.
 use Rattle.std.specs.Prelude.{Bool, ◌||◌, List, [], ◌∷◌, Option, None, bytes_eq, option_map, if◌then◌else◌}
 use Rattle.std.specs.List.{list_any}
 use Rattle.std.specs.Option.{option_map_or}

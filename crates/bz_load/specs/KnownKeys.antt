@@ -1,4 +1,4 @@
--- The keys of the set of the code, as the symbols that they stand for.
+-- The keys of the set of the code, as the symbols that they represent.
 use Rattle.std.specs.Prelude.{List, map}
 use Rattle.bz_words.specs.declared.command.Symbol.{Symbol}
 use Rattle.bz_load.specs.declared.readings.Loaded.{Loaded}

@@ -29,7 +29,7 @@ abbrev pub all_of : List (List Bytes) → List Bytes
 all_of [] = []
 all_of (xs ∷ rest) = xs ++ all_of rest
 
--- the names that stand as operands
+-- the names that are operands
 abbrev mutual
   pub operands : Expr → List Bytes
   operands (e.Token t) = if is_class t.class c.Name then t.text ∷ [] else []

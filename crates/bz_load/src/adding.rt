@@ -22,7 +22,7 @@ use std::alloc::Global;
 #[derive(Drop)]
 pub struct WithLoad {
     pub items: Items<Item>,
-    /// Whether they are the items that there were: no symbol was new to a load that stood there.
+    /// Whether they are the items that there were: no symbol was new to a load that was there.
     pub same: bool,
     /// After how many items the load is.
     pub at: usize,

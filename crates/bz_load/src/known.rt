@@ -1,4 +1,4 @@
-//! The symbols that are loaded from a path, to be asked whether a symbol is one of them.
+//! The symbols that are loaded from a path, to check whether a symbol is one of them.
 ghost use Rattle.std.specs.Prelude.{◌≡◌, List, ◌∷◌, ◌++◌, not, map, IfOk, OnOk};
 ghost use Rattle.bz_words.specs.declared.command.Symbol.{Symbol};
 ghost use Rattle.bz_load.specs.Known.{and_each, and_load, and_loaded, and_loads, and_symbol, knows, unknown};

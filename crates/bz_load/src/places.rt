@@ -11,7 +11,7 @@ use crate::readings::is_load;
 use bz_items::Memory;
 use bz_value::Item;
 
-/// How many items stand up to the last load; without a load none.
+/// How many items there are up to the last load; without a load none.
 pub(crate) fn count_to_last_load(items: &[Item]) -> usize
     ensures within { result ≤ length items.now }
     ensures some { list_any is_any_load items.now ≡ nat_lt 0 result }

@@ -24,7 +24,7 @@ fn has_comments(comments: &Comments) -> bool
     !(comments.before().is_empty() && comments.suffix().is_none())
 }
 
-/// Whether comments stand below the last item of the sequence.
+/// Whether there are comments below the last item of the sequence.
 fn has_end(x: &Expr) -> bool
     ensures { result ≡ not (is_empty (end_of x.now)) }
 {

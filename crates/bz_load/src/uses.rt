@@ -22,7 +22,7 @@ fn insert_name(alloc: Global, name: &[u8], names: &mut Names) -> Result<(), Memo
     Ok(())
 }
 
-/// The names that stand as operands in an expression are used from now on. The error: memory was refused.
+/// The names that are operands in an expression are used from now on. The error: memory was refused.
 #[cycle(uses)]
 #[tactic(auto, using(crate::proofs::UsesSteps::form_names))]
 fn insert_operands(alloc: Global, x: &Expr, names: &mut Names) -> Result<(), Memory>

@@ -7,7 +7,7 @@ use Rattle.bz_items.specs.Characters.{Bytes}
 use Rattle.bz_rule.specs.Rules.{rule_of, name_of}
 use Rattle.bz_names.specs.Index.{places_of}
 
--- the name of an item, where it is a rule that has one: `has_name` asks whether it is this one
+-- the name of an item, where it is a rule that has one: `has_name` checks whether it is this one
 abbrev pub held_name : Item → Option Bytes
 held_name item = option_and_then name_of (rule_of item)
 

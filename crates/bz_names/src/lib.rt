@@ -1,4 +1,4 @@
-//! An index of the names of the rules of a file, which answers where the rules of a name stand without a look at the others.
+//! An index of the names of the rules of a file, which answers where the rules of a name are without a look at the others.
 #![tactic(auto)]
 
 mod names;

@@ -56,7 +56,7 @@ module _ (d : ℕ) (header : Header) (i : List ℕ) (ts : List Leaf) where
   unfolding owner_at header_at suite_at
   no_suite xs new e f = rw (e, f) refl
 
--- ---- what a call left, told of what called it
+-- ---- what a call left, as its caller sees it
 
 pub one_carried : {X : Type 0} (result : Result X ParseHalt) (o o' : Option (Part × List Leaf)) (front all : List Part) (new : List Leaf) → o ≡ o' → OnOk result (PutsOne o' front all new) → OnOk result (PutsOne o front all new)
 one_carried (Ok x) o o' front all new e w = (w.0, e ∙ w.1, w.2)

@@ -78,7 +78,7 @@ by_plan d front (one terminals p) ts = ap (λ o. wrap_found (with_found front o)
 by_plan d front (piece q p) ts = put_plan front (reading d q ts) (follow (reading d) p)
 by_plan d front (choose left right) ts = by_either (starts_with (first_of left) ts) (λ o. wrap_found (with_found front o)) (follow (reading d) left ts) (follow (reading d) right ts)
 
--- the move that is asked for reads what is left to read
+-- the move that is required reads what is left to read
 pub meets : (d : ℕ) (front : List Part) (a : AskedMove) (action : Move) (ts : List Leaf) → Meets a action → stepped d front a ts ≡ read_by_move d front action ts
 unfolding found_from
 meets d front (whole kind) (m.Finish kind') ts h = ap (λ (z : Kind). Some (node_part z front, ts)) (sym h)

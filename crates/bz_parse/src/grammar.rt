@@ -25,7 +25,7 @@ fn comes(token: TokenSet, leaves: &Leaves) -> bool
     leaves.next_is(token)
 }
 
-/// What is left to read in a state of a node whose parts stand on the stack from a place on. Tells how deep the node is.
+/// What is left to read in a state of a node whose parts are on the stack from a place on. Returns how deep the node is.
 #[cycle(parser)]
 fn follow(
     from: usize,
@@ -188,7 +188,7 @@ fn go_on(
     follow(from, deep, state, depth, stack, leaves)
 }
 
-/// A part of this sort that is at most so deep. Tells how deep it is.
+/// A part of this sort that is at most this deep. Returns how deep it is.
 #[cycle(parser)]
 pub(crate) fn part(
     sort: PartSort,

@@ -50,7 +50,7 @@ pub fn parse(alloc: Global, text: &[u8]) -> Result<Tree, ReadFault>
     build_tree_of(alloc, text)
 }
 
-/// Reads the text of a `.bzl` file as the legal tree that spells it. The errors are those of `parse`; `Indented` tells the first
+/// Reads the text of a `.bzl` file as the legal tree that spells it. The errors are those of `parse`; `Indented` reports the first
 /// token of a line at an indent where no statement may begin: no deeper than the header right before it, or that of no open suite.
 pub fn parse_bzl(alloc: Global, text: &[u8]) -> Result<BzlTree, ReadFault>
     ensures ok { IfOk result (λ tree. ReadsBzl text.now tree) }
@@ -185,7 +185,7 @@ fn first_newer(alloc: Global, text: &[u8], until: usize) -> Option<usize>
 }
 
 /// The byte at which the first node begins that is too deep, by a reading with room for twice the depth: what is after a
-/// node may put it deeper. Where the text is no file further on, the lines in front of that place tell. The error, `Memory`
+/// node may put it deeper. Where the text is no file further on, the lines in front of that place decide. The error, `Memory`
 /// alone: a growth was refused.
 fn first_too_deep(alloc: Global, text: &[u8]) -> Result<Option<usize>, ParseHalt>
     requires { length text.now ≤ limit }

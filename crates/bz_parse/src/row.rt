@@ -1,4 +1,4 @@
-//! The parts that stand in no node yet.
+//! The parts that are in no node yet.
 ghost use Rattle.std.specs.Prelude.{◌≡◌, ◌∷◌, ◌++◌, ◌≤◌, ◌<◌, [], false, length, take, drop, max, Ok, Some, OnOk, IfOk, IsTrue, slice_get};
 ghost use Rattle.std.specs.List.{AllByRecursion};
 ghost use Rattle.std.specs.Option.{option_copied};
@@ -17,7 +17,7 @@ use bz_tree::{Kind, Node, Part, have_newer};
 use std::alloc::Global;
 use std::marker::Model;
 
-/// The parts that were read and stand in no node yet, in the order of the text: those of the outermost open node first.
+/// The parts that were read and are in no node yet, in the order of the text: those of the outermost open node first.
 /// One list serves all open nodes; a node takes its own off the end, in a list of just their number.
 #[derive(Drop)]
 pub(crate) struct Stack {
@@ -126,7 +126,7 @@ impl Stack {
         Ok(())
     }
 
-    /// The next leaf, where it is this token. Tells how deep it is: not at all.
+    /// The next leaf, where it is this token. Returns how deep it is: not at all.
     pub fn take(&mut self, token: TokenSet, leaves: &mut Leaves) -> Result<u32, ParseHalt>
         ensures ok { IfOk result (λ deep. Pushes (token_at (terminals_of token) leaves.old) self.old self.new leaves.new deep) }
         ensures err { Fails result (token_at (terminals_of token) leaves.old) }

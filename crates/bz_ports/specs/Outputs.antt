@@ -10,7 +10,7 @@ abbrev pub Writes : Bool → ℕ → ℕ → Option Bytes → Option Bytes → B
 Writes false faults faults' old new out = (faults' ≡ faults) × Appends old new out
 Writes true faults faults' old new out = Rises faults faults' × AppendsSome old new out
 
--- Lines were told one after the other, each whole unless its writing failed.
+-- Lines were printed one after the other, each whole unless its writing failed.
 abbrev pub Tells : ℕ → ℕ → Option Bytes → Option Bytes → List Bytes → Type 0
 Tells faults faults' old new [] = (faults' ≡ faults) × (new ≡ old)
 Tells faults faults' old new (line ∷ lines) =

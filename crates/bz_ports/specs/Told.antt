@@ -4,7 +4,7 @@ use Rattle.bz_items.specs.Characters.{Bytes}
 use Rattle.bz_lex.specs.declared.fault.ReadFault.{ReadFault}
 use Rattle.bz_lex.specs.declared.fault.ReadFault.TheVariants as f
 
--- the name by which standard input is told
+-- the name by which standard input is reported
 abbrev pub stdin : Bytes
 stdin = codes "<stdin>"
 

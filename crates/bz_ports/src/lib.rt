@@ -1,4 +1,4 @@
-//! What both programs share: readers and writers that count their faults, the lines that are told on them, what clap finds
+//! What both programs share: readers and writers that count their faults, the lines that are printed on them, what clap finds
 //! among the words of a line, and how runs end.
 #![tactic(auto)]
 

@@ -42,7 +42,7 @@ pub enum InputFault {
     Read,
 }
 
-/// The length of the longest text in bytes, and one byte more, by which a longer one is told.
+/// The length of the longest text in bytes, and one byte more, by which a longer one is known.
 pub const MOST: usize = LENGTH_LIMIT + 1;
 
 const CHUNK: usize = 16_384;

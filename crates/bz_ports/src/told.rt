@@ -9,7 +9,7 @@ use bz_lex::ReadFault;
 use itoa::Buffer;
 use std::alloc::{AllocError, Global};
 
-/// The name by which standard input is told.
+/// The name by which standard input is reported.
 pub const STDIN: &str = "<stdin>";
 
 /// Writes these pieces to `err`, one after the other, up to its first fault: a beginning of them then is there, and
@@ -26,7 +26,7 @@ pub fn tell<E: Sink>(err: &mut E, pieces: &[&str])
     }
 }
 
-// Tells where a file is not accepted, and why.
+// Reports where a file is not accepted, and why.
 fn tell_place<'a, E: Sink>(err: &mut E, file: &'a str, line: u32, column: u32, name: &'a str)
     ensures { AppendsUnlessFailed (E.faults err.old) (E.faults err.new) (E.contents err.old) (E.contents err.new)
         (place_line file.entry.now line column name.entry.now) }
@@ -47,7 +47,7 @@ fn tell_not_utf8<E: Sink>(err: &mut E, file: &str, at: usize)
     tell(err, &[file, ": NotUtf8 at ", at, "\n"]);
 }
 
-/// Tells a word on a file: writes `FILE: WORD` and a newline to `err`, up to its first fault. It takes no memory itself.
+/// Reports a word on a file: writes `FILE: WORD` and a newline to `err`, up to its first fault. It takes no memory itself.
 pub fn tell_named<'a, E: Sink>(err: &mut E, file: &'a str, word: &'a str)
     ensures { AppendsUnlessFailed (E.faults err.old) (E.faults err.new) (E.contents err.old) (E.contents err.new)
         (named_line file.entry.now word.entry.now) }
@@ -55,7 +55,7 @@ pub fn tell_named<'a, E: Sink>(err: &mut E, file: &'a str, word: &'a str)
     tell(err, &[file, ": ", word, "\n"]);
 }
 
-/// Tells why a file is not accepted: writes `FILE:LINE:COLUMN: NAME` to `err`, `FILE: NotUtf8 at BYTE` or, where the
+/// Reports why a file is not accepted: writes `FILE:LINE:COLUMN: NAME` to `err`, `FILE: NotUtf8 at BYTE` or, where the
 /// fault has no place, `FILE: NAME`, and a newline, up to its first fault. It takes no memory itself.
 pub fn tell_fault<E: Sink>(err: &mut E, file: &str, fault: &ReadFault)
     ensures { AppendsUnlessFailed (E.faults err.old) (E.faults err.new) (E.contents err.old) (E.contents err.new)
@@ -91,8 +91,8 @@ pub fn tell_fault<E: Sink>(err: &mut E, file: &str, fault: &ReadFault)
     }
 }
 
-/// Tells a fault that clap finds in words, by clap's own text, up to the first fault of `err`. The error: there was no
-/// memory for that text; nothing is then told.
+/// Reports a fault that clap finds in words, by clap's own text, up to the first fault of `err`. The error: there was no
+/// memory for that text; nothing is then printed.
 pub fn tell_clap<E: Sink>(alloc: Global, err: &mut E, error: &clap::Error) -> Result<(), AllocError>
     ensures ok { OnOk result ((line : List ℕ) × AppendsUnlessFailed (E.faults err.old) (E.faults err.new)
         (E.contents err.old) (E.contents err.new) line) }

@@ -11,7 +11,7 @@ use bz_rule::text_in;
 use bz_tree::{Class, Kind};
 use bz_value::Expr;
 
-/// Appends the name that the expression is, and tells whether it is one.
+/// Appends the name that the expression is, and returns whether it is one.
 fn push_name(out: &mut Vec<u8>, expr: &Expr) -> Result<bool, Memory>
     ensures named { IfOk result (λ named. named ≡ is_some (r.text_in c.Name expr.now)) }
     ensures text { OnOk result (out.new.items ≡ out.old.items ++ text_or_nothing (r.text_in c.Name expr.now)) }
@@ -34,7 +34,7 @@ fn push_last(out: &mut Vec<u8>, name: &[u8]) -> Result<(), Memory>
     Ok(())
 }
 
-/// Appends the text of a name, or of names joined by dots, and tells whether the expression is one; else it appends nothing.
+/// Appends the text of a name, or of names joined by dots, and returns whether the expression is one; else it appends nothing.
 /// The error: a growth was refused.
 #[cycle(dotted)]
 #[tactic(auto, using(crate::proofs::Dots::dotted_Form))]
@@ -49,7 +49,7 @@ pub fn push_dotted(out: &mut Vec<u8>, expr: &Expr) -> Result<bool, Memory>
     }
 }
 
-/// Appends the text of names joined by dots that has these parts, and tells whether they are such parts.
+/// Appends the text of names joined by dots that has these parts, and returns whether they are such parts.
 #[cycle(dotted)]
 fn push_joined(out: &mut Vec<u8>, parts: &[Expr]) -> Result<bool, Memory>
     ensures named { IfOk result (λ named. named ≡ is_some (r.joined (each_named parts.now))) }

@@ -16,7 +16,7 @@ use bz_write::item_text;
 use itoa::Buffer;
 use std::alloc::Global;
 
-/// What stands where a field has no value.
+/// What is printed where a field has no value.
 const MISSING: &[u8] = b"(missing)";
 
 /// A rule that is printed: the line on which it begins, where it is on one, and its item.

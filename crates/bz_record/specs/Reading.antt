@@ -67,12 +67,12 @@ node_at inner s = do
   parts ← listed_at line_feed inner kind.1
   Some (record { kind = kind.0; parts = parts.0 }, parts.1)
 
--- what follows `node `, where at most this many nodes stand inside each other
+-- what follows `node `, where at most this many nodes are inside each other
 unfoldable pub nodes_at : ℕ → Reader Node
 nodes_at zero s = None
 nodes_at (suc d) s = node_at (choice (nodes_at d)) s
 
--- a part of which at most this many nodes stand inside each other
+-- a part of which at most this many nodes are inside each other
 abbrev pub held_at : ℕ → Reader Part
 held_at d = choice (nodes_at d)
 

@@ -111,7 +111,7 @@ abbrev mutual
   AreSmallParts end_of-Part = Unit {0}
   AreSmallParts (more_of-Part x rest) = IsSmallPart x × AreSmallParts rest
 
--- held nodes stand inside each other at most so often
+-- held nodes are inside each other to at most this depth
 abbrev pub IsHeld : ℕ → Part → Type 0
 IsHeld depth x = (depth_part x ≤ depth) × IsSmallPart x
 

@@ -25,7 +25,7 @@ pub struct Record {
     pub package: Text,
     /// The text at the cursor.
     pub text: Text,
-    /// How many steps stand before the present text.
+    /// How many steps are before the present text.
     pub cursor: u32,
     /// The cursor before the last action that moved it.
     pub before: u32,
@@ -41,7 +41,7 @@ pub struct Content<'a> {
     pub package: &'a [u8],
     /// The text at the cursor.
     pub text: &'a [u8],
-    /// How many steps stand before the present text.
+    /// How many steps are before the present text.
     pub cursor: u32,
     /// The cursor before the last action that moved it.
     pub before: u32,

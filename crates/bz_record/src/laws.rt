@@ -17,7 +17,7 @@ pub fn own_version()
     ensures { (v : Version) (r : Record) → IsOtherVersion (record_text v r) → ⊥ }
 {}
 
-/// The digest of a text may stand in a record.
+/// The digest of a text may be in a record.
 pub fn digests_fit()
     ensures { (m : List ℕ) → IsDigest (sha256 m) }
 {}

@@ -10,7 +10,7 @@ use bz_items::Items;
 use bz_tree::{Node, Part};
 use std::alloc::Global;
 
-/// A part of which at most this many nodes stand inside each other.
+/// A part of which at most this many nodes are inside each other.
 #[cycle(held)]
 #[tactic(auto, unfolding(crate::specs::Reading::choice))]
 fn read_part(alloc: Global, depth: u32, input: &[u8]) -> Result<(Part, &[u8]), Unread>

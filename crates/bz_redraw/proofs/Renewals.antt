@@ -43,7 +43,7 @@ where_length (mark ∷ marks) (item ∷ items) = ap suc (where_length marks item
 
 -- ---- lines that are laid out anew
 
--- Lines that make the drawing of the items of that of others make it of the tree that was written, if there is room for them.
+-- Lines that make the layout of the items of that of others make it of the tree that was written, if there is room for them.
 pub renewed : (law : RedrawnHasLength) (redrawn : Redrawn) (most : ℕ) (tree : Node) (before items : List Item) → IsWritten before tree → IsProper items
     → put_all redrawn.places redrawn.lines (drawn before).parts ≡ (drawn items).parts → Ascend 0 (length (drawn items).parts) redrawn.places
     → length redrawn.places ≡ length redrawn.lines → (length (spell_node tree) + length (flat_map spell_part redrawn.lines) ≤ most) × (most ≤ limit)

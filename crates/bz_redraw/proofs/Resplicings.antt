@@ -25,7 +25,7 @@ size_append xs ys = ap length (flat_map-append spell_part xs ys) ∙ length-appe
 size_cut : (n : ℕ) (xs : List Part) → size xs ≡ size (take n xs) + size (drop n xs)
 size_cut n xs = ap size (sym (take-append-drop n xs)) ∙ size_append (take n xs) (drop n xs)
 
--- lines in the place of parts that stand together
+-- lines in the place of adjacent parts
 size_respliced : (at gone : ℕ) (lines xs : List Part) → size (take at xs ++ lines ++ drop (at + gone) xs) ≤ size xs + size lines
 size_respliced at gone lines xs =
     let all : size (take at xs ++ lines ++ drop (at + gone) xs) ≡ size (take at xs ++ lines) + size (drop (at + gone) xs) = size_append (take at xs ++ lines) (drop (at + gone) xs) in
@@ -35,7 +35,7 @@ size_respliced at gone lines xs =
     let behind : size (drop gone (drop at xs)) ≡ size (drop (at + gone) xs) = ap size (drop-drop gone at xs) in
     omega (arith, all, front, one, two, behind)
 
--- Lines that make the drawing of the items of that of others make it of the tree that was written, if there is room for them.
+-- Lines that make the layout of the items of that of others make it of the tree that was written, if there is room for them.
 pub respliced : (lines : Respliced) (most : ℕ) (tree : Node) (before items : List Item) → IsWritten before tree → IsProper items
     → (take lines.at (drawn before).parts ++ lines.lines ++ drop (lines.at + lines.gone) (drawn before).parts ≡ (drawn items).parts) × (lines.at + lines.gone ≤ length tree.parts)
     → (length (spell_node tree) + length (flat_map spell_part lines.lines) ≤ most) × (most ≤ limit) → depth_of (drawn items) ≤ depth_limit

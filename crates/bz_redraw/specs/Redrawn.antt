@@ -30,7 +30,7 @@ pub record IsRedrawn (redrawn : Redrawn) (tree : Node) (items : List Item) : Typ
 abbrev pub IsRenewed : Renewed → Node → List Item → Type 0
 IsRenewed renewed tree items = IsRedrawn renewed.redrawn tree items × (length (layout items) ≤ renewed.most)
 
--- With these lines in the place of parts that stand together the tree is the layout of the items, and within the limits.
+-- With these lines in the place of adjacent parts the tree is the layout of the items, and within the limits.
 pub record IsRespliced (respliced : Respliced) (tree : Node) (items : List Item) : Type 0 where
   pub put : take respliced.at tree.parts ++ respliced.lines ++ drop (respliced.at + respliced.gone) tree.parts ≡ (drawn items).parts
   pub there : respliced.at + respliced.gone ≤ length tree.parts

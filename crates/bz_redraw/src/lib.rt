@@ -1,5 +1,5 @@
-//! A tree that was written, renewed where statements of its file were exchanged, or items that stand together came in the place of
-//! others: only these are tidied and drawn.
+//! A tree that was written, renewed where statements of its file were exchanged, or adjacent items came in the place of
+//! others: only these are tidied and laid out.
 #![tactic(auto)]
 
 mod renewing;

@@ -1,4 +1,4 @@
-//! Statements that were exchanged, tidied and drawn by themselves.
+//! Statements that were exchanged, tidied and laid out by themselves.
 ghost use Rattle.std.specs.Prelude.{◌≡◌, ◌≤◌, List, length, IfOk, IfSome, OnOk};
 ghost use Rattle.bz_tree.specs.Spell.{spell_node};
 ghost use Rattle.bz_value.specs.declared.value.Item.{Item};

@@ -49,7 +49,7 @@ fn most_with(parts: &[Part], long: usize) -> Option<usize>
     Some(LENGTH_LIMIT - left)
 }
 
-/// How many bytes a tree has at most when the lines stand in it, whatever they stand in the place of; none where that may be past
+/// How many bytes a tree has at most when the lines are in it, whatever they are in the place of; none where that may be past
 /// the limit of a text. Its bytes, of which there are at most `long`, are counted only where that is too many.
 pub(crate) fn most_of(lines: &Items<Part>, tree: &Tree, long: usize) -> Option<usize>
     requires { length (spell_node tree.now) ≤ long }

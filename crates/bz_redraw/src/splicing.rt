@@ -1,4 +1,4 @@
-//! Items that came in the place of others, tidied and drawn by themselves.
+//! Items that came in the place of others, tidied and laid out by themselves.
 ghost use Rattle.std.specs.Prelude.{ℕ, ◌≡◌, ◌≤◌, ◌+◌, List, length, IfOk, IfSome, OnOk};
 ghost use Rattle.bz_tree.specs.Spell.{spell_node};
 ghost use Rattle.bz_value.specs.declared.value.Item.{Item};
@@ -51,7 +51,7 @@ fn window_drawn(
 }
 
 /// Renews a file where this many of its items, after the first `from` ones, came in the place of others since its tree was written:
-/// tidies them, with the loads that they stand among, so that the file is tidy again, and gives their lines and their place in the
+/// tidies them, with the loads that they are among, so that the file is tidy again, and gives their lines and their place in the
 /// tree, which has at most `long` bytes. None where a limit may be passed so: the file is tidy then too, and its tree is to be laid out
 /// whole. The error: memory was refused; the file has no items then, or those that are tidy.
 pub fn renew_spliced(

@@ -32,7 +32,7 @@ same_read (Err e) tree text outline reads h n is outline_is = h
 pub no_tree : (n : Node) (text : List ℕ) → ((m : Node) → Reads text m → ⊥) → text ≡ spell_node n → IsTree n → ⊥
 no_tree n text none is tree = none n (tree.0, sym is, subst (λ (s : List ℕ). length s ≤ limit) (sym is) tree.1)
 
--- after i steps: the tree and its text, and what is left tells of all
+-- after i steps: the tree and its text, and all steps are known just where those that are left are
 pub record IsGoing (n : Node) (es : List (List Edit)) (ds : List (List ℕ)) (i : ℕ) (m : Node) (text : List ℕ) : Type 0 where
   pub tree : IsTree m
   pub text_is : text ≡ spell_node m
@@ -77,6 +77,6 @@ pub ends : (n m : Node) (es : List (List Edit)) (ds : List (List ℕ)) (i : ℕ)
 ends n m es ds i text same past going =
     going.back (subst (λ l. AreTold m l (drop i ds)) (sym (drop_all i es past)) (subst (λ l. AreTold m [] l) (sym (drop_all i ds (subst (λ k. k ≤ i) same past))) tt))
 
--- what is told of the tree that was read of a text is told of each that the text reads as
+-- what is said of the tree that was read of a text is said of each that the text reads as
 pub told_of : (P : Node → Type 0) (text : List ℕ) (tree : Node) (t : Bool) → Reads text tree → (IsTrue t ↔ P tree) → (n : Node) → Reads text n → IsTrue t ↔ P n
 told_of P text tree t own told n reads = subst (λ (z : Node). IsTrue t ↔ P z) (one_tree tree n own.0 reads.0 (own.1 ∙ sym reads.1)) told

@@ -86,7 +86,7 @@ no_journal j none h es journal = none (record_of h es) (journal.version, journal
 pub not_other : (j : Text) (h : History) (es : List (List Edit)) → IsOtherVersion j → Journal j h es → ⊥
 not_other j h es other journal = own_version journal.version (record_of h es) (subst IsOtherVersion journal.spelled other)
 
--- ---- what the trees tell
+-- ---- what the trees say
 
 pub none_read : (r : Record) → NoTree r.text → NoneTold r
 none_read r none n reads told = none n reads

@@ -1,4 +1,4 @@
--- Where a trail stands for a text, as the code looks.
+-- Where a trail matches a text, as the code looks.
 use Rattle.std.proofs.Common.{ℕ, ◌≡◌, Bool, true, false, List, [], ◌++◌, length, take, drop, Some, None, refl, sym, ap, ◌∙◌, arith}
 use Rattle.std.proofs.lemmas.List.{take_at}
 use Rattle.std.specs.Prelude.{slice_index_or}

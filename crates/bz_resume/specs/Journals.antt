@@ -47,7 +47,7 @@ pub record Journal (bytes : Text) (h : History) (es : List (List Edit)) : Type 0
 abbrev pub NoJournal : Text → Type 0
 NoJournal bytes = (h : History) (es : List (List Edit)) → Journal bytes h es → ⊥
 
--- where a history stands for the text of a file: at its cursor where that is the text there, else at the cursor before, where it
+-- where a history matches the text of a file: at its cursor where that is the text there, else at the cursor before, where it
 -- is that one, else nowhere
 abbrev pub stands : History → Text → Option ℕ
 stands h text = if bytes_eq text (text_at h h.cursor) then Some h.cursor else (if bytes_eq text (text_at h h.before) then Some h.before else None)

@@ -18,7 +18,7 @@ abbrev pub history_of : Resumed → History
 history_of s = record { «package» = s.package; texts = texts_of (trail_of s); notes = s.notes; cursor = s.cursor; before = s.cursor }
 
 -- What is resumed of a history and its steps, at the text of a file: the same path, texts and notes, at the cursor where the history
--- stands for that text. It can be saved again, and where the steps are those between the trees of the texts they stay so.
+-- matches that text. It can be saved again, and where the steps are those between the trees of the texts they stay so.
 pub record StandsFor (h : History) (es : List (List Edit)) (text : Text) (s : Resumed) : Type 0 where
   pub package_is : s.package ≡ h.package
   pub texts : texts_of (trail_of s) ≡ h.texts
@@ -33,11 +33,11 @@ pub record StandsFor (h : History) (es : List (List Edit)) (text : Text) (s : Re
 abbrev pub IsResumed : Text → Text → Resumed → Type 0
 IsResumed bytes text s = (h : History) × (es : List (List Edit)) × Journal bytes h es × StandsFor h es text s
 
--- the bytes are a journal that stands nowhere for the text
+-- the bytes are a journal that matches the text nowhere
 abbrev pub IsStale : Text → Text → Type 0
 IsStale bytes text = (h : History) × (es : List (List Edit)) × Journal bytes h es × (stands h text ≡ None)
 
--- Of the journal of a history and its steps: what is resumed is theirs, or they stand nowhere for the text, or memory was refused.
+-- Of the journal of a history and its steps: what is resumed is theirs, or they match the text nowhere, or memory was refused.
 abbrev pub IsKnown : History → List (List Edit) → Text → Result Resumed ResumeFault → Type 0
 IsKnown h es text (Ok s) = StandsFor h es text s
 IsKnown h es text (Err f.Stale) = stands h text ≡ None

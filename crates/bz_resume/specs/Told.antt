@@ -70,12 +70,12 @@ pub record IsOpened (r : Record) (s : Resumed) : Type 0 where
   pub reads : Reads r.text s.tree
   pub told : IsToldOf r s.tree
 
--- where texts stand for another one: at the cursor, else at the cursor before, else nowhere
+-- where texts match another one: at the cursor, else at the cursor before, else nowhere
 abbrev pub standing_place : List Text → ℕ → ℕ → Text → Option ℕ
 standing_place texts cursor before text =
     if bytes_eq text (slice_index_or texts cursor []) then Some cursor else (if bytes_eq text (slice_index_or texts before []) then Some before else None)
 
--- a trail stands where its texts stand for a text, or they stand nowhere
+-- a trail is where its texts match a text, or they match it nowhere
 abbrev pub HasStood : Trail → ℕ → Text → Node → List (List Edit) → Option ℕ → Type 0
 HasStood t before text tree steps (Some cursor) = (standing_place (texts_of t) t.cursor before text ≡ Some cursor) × Moves t (trail_at tree steps cursor)
 HasStood t before text tree steps None = standing_place (texts_of t) t.cursor before text ≡ None

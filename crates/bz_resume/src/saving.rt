@@ -8,7 +8,7 @@ use bz_record::{Content, Version, write_record};
 use bz_trail::laws::texts_kept;
 use bz_tree::Tree;
 
-/// What a session lends to be saved.
+/// What is borrowed of a session to save it.
 #[derive(Clone, Copy)]
 pub struct Saved<'a> {
     /// The tree of the present text.

@@ -1,4 +1,4 @@
-//! Where a trail stands for the text of a file.
+//! Where a trail matches the text of a file.
 ghost use Rattle.std.specs.Prelude.{◌≡◌, ◌≤◌, IfOk, OnOk, length};
 ghost use Rattle.std.specs.Str.{bytes_eq};
 ghost use Rattle.bz_tree.specs.Spell.{spell_node};
@@ -34,7 +34,7 @@ fn go_to(tree: &mut Tree, steps: &mut [Step], cursor: usize, to: usize) -> Resul
     }
 }
 
-/// Goes where the trail stands for a text, and gives the number of that one; `None` where it stands nowhere. The error: a growth
+/// Goes where the trail matches a text, and gives the number of that one; `None` where it matches it nowhere. The error: a growth
 /// was refused.
 pub(crate) fn stand(
     tree: &mut Tree,

@@ -1,4 +1,4 @@
--- Changes of rows, of items and of lists, each by what may stand in an expression's place.
+-- Changes of rows, of items and of lists, each by what may be in an expression's place.
 use Rattle.std.proofs.Common.{Bool, true, false, ◌≡◌, List, [], ◌∷◌, refl, sym, map, true≢false}
 use Rattle.std.specs.Prelude.{if◌then◌else◌}
 use Rattle.std.specs.Str.{IsUtf8}

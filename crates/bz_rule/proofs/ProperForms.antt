@@ -1,4 +1,4 @@
--- What may stand in an expression's place: changed expressions keep rows, heads and items proper, and so the form around them.
+-- What may be in an expression's place: changed expressions keep rows, heads and items proper, and so the form around them.
 use Rattle.std.proofs.Common.{Bool, true, false, not, ◌&&◌, ◌≡◌, List, [], ◌∷◌, refl, sym, ap, ◌∙◌, subst, map}
 use Rattle.std.specs.Prelude.{All}
 use Rattle.bz_tree.specs.declared.kind.Kind.{Kind}
@@ -47,7 +47,7 @@ none_list : (m : _) (r : Row_of-Expr m) → IsEmptyRow r → IsNone (items-the_r
 none_list m end_of-Expr h = tt
 none_list m (more_of-Expr x rest) h = absurd h
 
--- What the definition asks of a form, by its kind, its parts and its items.
+-- What the definition requires of a form, by its kind, its parts and its items.
 abbrev pub AsForm : Spot → Kind → List Expr → List Expr → List Bytes → Bool → Bool → Type 0
 AsForm here kind ps xs end_ split open_ =
     Fits IsSort (shape kind) (row_in (frame kind) (map root ps) (map root xs))
@@ -76,7 +76,7 @@ with_lists ps xs (Form' kind s parts s' items end_ split open_ comments) = e.For
 
 -- ---- in an expression's place
 
--- What may stand wherever an expression is: it is proper where that is, the table of shapes sees no difference, and
+-- What may be wherever an expression is: it is proper where that is, the table of shapes sees no difference, and
 -- its comments, its break and what comes after it are the same.
 pub record InPlace (x y : Expr) : Type 0 where
   pub proper : (here : Spot) → ProperExpr here x → ProperExpr here y
@@ -160,6 +160,6 @@ lists_proper here ps xs (Form' kind s parts s' items end_ split open_ comments) 
       h.1,
 )
 
--- A form whose parts and items are replaced, each by what may stand in its place, may stand in the form's place.
+-- A form whose parts and items are replaced, each by what may be in its place, may be in the form's place.
 pub lists_in_place : (ps xs : List Expr) (x : Expr) → EachInPlace (parts_of x) ps → EachInPlace (items_of x) xs → InPlace x (with_lists ps xs x)
 lists_in_place ps xs x v w = form_in_place ps xs x (λ here h. lists_proper here ps xs x v w h)

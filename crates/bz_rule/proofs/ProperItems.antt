@@ -1,4 +1,4 @@
--- What may stand in the place of an item, which is within brackets, and what values of attributes are.
+-- What may be in the place of an item, which is within brackets, and what values of attributes are.
 use Rattle.std.proofs.Common.{Bool, true, false, ◌≡◌, List, [], ◌∷◌, ◌++◌, refl, sym, ◌∙◌, subst, map}
 use Rattle.std.specs.Prelude.{if◌then◌else◌}
 use Rattle.std.specs.List.{AllByRecursion, filter}
@@ -19,7 +19,7 @@ use Rattle.bz_rule.proofs.ProperSequences.{IsItem}
 
 -- ---- within brackets
 
--- What may stand wherever an expression is within brackets: as `InPlace`, at that spot alone.
+-- What may be wherever an expression is within brackets: as `InPlace`, at that spot alone.
 pub record WithinPlace (x y : Expr) : Type 0 where
   pub proper : ProperExpr Within x → ProperExpr Within y
   pub sort : (q : Sort) → has_sort q (root x) ≡ has_sort q (root y)

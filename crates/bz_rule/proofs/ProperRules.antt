@@ -1,4 +1,4 @@
--- A rule with other arguments, and with another function, may stand where the rule does.
+-- A rule with other arguments, and with another function, may be where the rule is.
 use Rattle.std.proofs.Common.{◌≡◌, Bool, true, List, [], ◌∷◌, subst}
 use Rattle.std.specs.Prelude.{Option, Some, None, IfSome, option_map}
 use Rattle.std.specs.Option.{option_and_then}

@@ -17,7 +17,7 @@ abbrev pub begins_thrice : Bytes → Bool
 begins_thrice (a ∷ b ∷ c ∷ s) = nat_eq a b && nat_eq b c
 begins_thrice _ = false
 
--- how many quote marks stand at each end of a string without prefix
+-- how many quote marks are at each end of a string without prefix
 abbrev pub marks_of : Bytes → ℕ
 marks_of text = if begins_thrice text && nat_le 6 (length text) then 3 else 1
 

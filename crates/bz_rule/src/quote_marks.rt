@@ -15,7 +15,7 @@ fn begins_thrice(text: &[u8]) -> bool
     }
 }
 
-/// How many quote marks stand at each end of a string without prefix.
+/// How many quote marks are at each end of a string without prefix.
 pub fn marks_of(text: &[u8]) -> usize
     ensures value { result ≡ marks_of text.now }
     ensures small { result ≤ 3 }

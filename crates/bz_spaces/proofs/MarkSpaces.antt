@@ -1,4 +1,4 @@
--- The space after a mark, as the code tells it: a comma and a spaced colon have one, and of the others those that are not tight.
+-- The space after a mark, as the code computes it: a comma and a spaced colon have one, and of the others those that are not tight.
 use Rattle.std.proofs.Common.{◌≡◌, Bool, true, false, not, ◌&&◌, ◌||◌, refl, sym, ap, ◌∙◌}
 use Rattle.std.specs.Prelude.{codes, bytes_eq}
 use Rattle.bz_items.specs.Characters.{Bytes}

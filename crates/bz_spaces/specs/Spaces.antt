@@ -1,4 +1,4 @@
--- The single spaces of the layout, told by a part and the one after it: their kinds, or their tokens.
+-- The single spaces of the layout, given by a part and the one after it: their kinds, or their tokens.
 use Rattle.std.specs.Prelude.{ℕ, Bool, true, false, not, ◌&&◌, ◌||◌, List, [], ◌∷◌, codes, bytes_eq}
 use Rattle.bz_token.specs.declared.class.Class.{Class}
 use Rattle.bz_token.specs.declared.class.Class.TheVariants as c
@@ -26,7 +26,7 @@ lone t = from_table brackets_and_separators t
 abbrev pub is_dot_terminal : Terminal → Bool
 is_dot_terminal t = from_table (codes "." ∷ []) t
 
--- the marks that stand right before their operand: `-x`, `*x`; of a parameter `*x` and `**x`
+-- the marks that are right before their operand: `-x`, `*x`; of a parameter `*x` and `**x`
 abbrev pub is_prefix_mark : Kind → List ℕ → Bool
 is_prefix_mark k.Unary t = true
 is_prefix_mark k.Star t = true

@@ -15,7 +15,7 @@ use Rattle.bz_states.specs.declared.symbol.Symbol.TheVariants as y
 use Rattle.bz_states.specs.Symbols.{example, symbol_of_token, TellsFirst}
 use Rattle.bz_states.proofs.Told.{symbol_told, nothing}
 
--- no terminal asks for a gap
+-- no terminal requires a gap
 pub same_token : (terminals : List Terminal) (l : Leaf) → is_one_of terminals l ≡ is_one_of terminals (bare l.class l.token)
 same_token [] l = refl
 same_token (any class ∷ terminals) l = ap (λ (b : Bool). is_class l.class class || b) (same_token terminals l)

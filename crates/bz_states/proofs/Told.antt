@@ -1,4 +1,4 @@
--- What a symbol tells of a token is so.
+-- What a symbol says of a token is so.
 use Rattle.std.proofs.Common.{◌≡◌, ℕ, Bool, true, false, not, List, [], ◌∷◌, ◌||◌, ◌&&◌, inl, inr, bytes_eq, codes, refl, sym, ap, ◌∙◌, cond}
 use Rattle.std.proofs.lemmas.Bool.{cases_Bool, and_parts, and_from, not-true, both_ways}
 use Rattle.std.proofs.lemmas.Slice.Eq.{bytes_eq-Decides}
@@ -12,7 +12,7 @@ use Rattle.bz_tree.specs.Shapes.{Terminal, any, this, is_class, is_one_of}
 use Rattle.bz_states.specs.Tokens.{bare, terminals_of}
 use Rattle.bz_states.specs.Symbols.{SymbolEntry, example, known, keyword_table, mark_table, symbol_of_token}
 
--- the grammar tells a token of a class from no token of the symbol
+-- the grammar distinguishes a token of a class from no token of the symbol
 abbrev pub Same : Class → List ℕ → Symbol → Type 0
 Same class token symbol = (t : TokenSet) → is_one_of (terminals_of t) (example symbol) ≡ is_one_of (terminals_of t) (bare class token)
 
@@ -35,7 +35,7 @@ by_table class other token (x ∷ xs) all h t =
       | inr e ↦ ap (λ (b : Bool). is_one_of (terminals_of t) (example (cond b x.symbol (known xs other token)))) e ∙ by_table class other token xs all.1 (λ d. h (and_from (not (bytes_eq token x.text)) (differs token xs) (ap not e) d)) t
     ]
 
--- ---- texts that no rule asks for
+-- ---- texts that no rule requires
 
 abbrev in_texts : List ℕ → List SymbolEntry → Bool
 in_texts text [] = false

@@ -1,4 +1,4 @@
--- The parser's states: what is left to read in each, and the move that this asks for.
+-- The parser's states: what is left to read in each, and the move that this requires.
 use Rattle.std.specs.Prelude.{◌≡◌, ℕ, zero, suc, ◌+◌, ◌≤◌, Bool, true, false, List, codes}
 use Rattle.bz_lex.specs.declared.leaf.Leaf.{Leaf}
 use Rattle.bz_tree.specs.declared.kind.Kind.{Kind}
@@ -309,7 +309,7 @@ plan_at s.NotIn = finish k.Compare (right compare_tail)
 plan_at s.Condition = finish k.Cond (after_first (bzl_shape k.Cond))
 plan_at s.BehindIf = finish k.Cond cond_tail
 
--- ---- the move that a plan asks for
+-- ---- the move that a plan requires
 
 -- after a part of a list
 abbrev pub again : Sort → List Terminal → Bool → Shape → Shape
@@ -342,7 +342,7 @@ asked_move (one terminals plan) = one_token terminals plan
 asked_move (piece q plan) = one_part q plan
 asked_move (choose plan plan') = either (first_of plan) plan plan'
 
--- the move is the one that is asked for
+-- the move is the one that is required
 abbrev pub Meets : AskedMove → Move → Type 0
 Meets (whole kind) (m.Finish kind') = kind' ≡ kind
 Meets (one_token terminals plan) (m.Take token state) = (terminals_of token ≡ terminals) × (plan_at state ≡ plan)

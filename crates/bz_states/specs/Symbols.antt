@@ -16,7 +16,7 @@ mark token = bare c.Mark token
 abbrev keyword : List ℕ → Leaf
 keyword token = bare c.Keyword token
 
--- A token of each symbol. No rule of the grammar tells it from another of the same symbol; no rule asks for the empty ones.
+-- A token of each symbol. No rule of the grammar distinguishes it from another of the same symbol; no rule requires the empty ones.
 abbrev pub example : Symbol → Leaf
 example y.Nothing = keyword []
 example y.Name = bare c.Name []
@@ -64,11 +64,11 @@ example y.Ampersand = mark (codes "&")
 example y.Caret = mark (codes "^")
 example y.Shift = mark (codes "<<")
 
--- the symbol tells of each set of tokens whether the first of these leaves is one of them
+-- the symbol says of each set of tokens whether the first of these leaves is one of them
 abbrev pub TellsFirst : Symbol → List Leaf → Type 0
 TellsFirst symbol leaves = (token : TokenSet) → is_one_of (terminals_of token) (example symbol) ≡ starts_with (terminals_of token) leaves
 
--- a text that the grammar asks for, and what it is
+-- a text that the grammar requires, and what it is
 pub record SymbolEntry : Type 0 where
   pub text : List ℕ
   pub symbol : Symbol

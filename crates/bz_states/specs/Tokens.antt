@@ -1,4 +1,4 @@
--- The tokens that the grammar asks for, and what is told of one that is taken.
+-- The tokens that the grammar requires, and what is said of one that is taken.
 use Rattle.std.specs.Prelude.{◌≡◌, ℕ, List, [], ◌++◌, Option, None, Result, Ok, Err, codes}
 use Rattle.bz_token.specs.declared.class.Class.{Class}
 use Rattle.bz_lex.specs.declared.leaf.Leaf.{Leaf}
@@ -60,7 +60,7 @@ terminals_of t.Not = one_keyword (codes "not")
 terminals_of t.In = one_keyword (codes "in")
 terminals_of t.For = one_keyword (codes "for")
 
--- a token without its gap, which no terminal asks for
+-- a token without its gap, which no terminal requires
 abbrev pub bare : Class → List ℕ → Leaf
 bare class token = record { class = class; gap = []; token = token }
 

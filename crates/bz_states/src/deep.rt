@@ -1,4 +1,4 @@
-//! Where a text nests too deep. It is told with the fault; no clause speaks of the place.
+//! Where a text nests too deep. It is reported with the fault; no clause speaks of the place.
 ghost use Rattle.std.specs.Prelude.{◌≡◌};
 
 use crate::state::{LAMBDA, NOT, PartSort, Rung, UNARY, rung_at};

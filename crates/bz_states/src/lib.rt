@@ -1,4 +1,4 @@
-//! What the grammar asks for: its tokens, the leaves of a text of which the next one is told, and the states in which a node is read.
+//! What the grammar requires: its tokens, the leaves of a text of which the next one is known, and the states in which a node is read.
 #![tactic(auto)]
 
 mod deep;

@@ -274,7 +274,7 @@ pub enum BracketsAt {
     Behind,
 }
 
-/// What may stand after a primary.
+/// What may be after a primary.
 #[derive(Clone, Copy)]
 pub enum SuffixAt {
     Begin,
@@ -315,7 +315,7 @@ pub enum Move {
 }
 
 impl NodeState {
-    /// The next move: the one that what is left to read of the node asks for. It is compiled into the loops that make it, where no move has to be built in memory: a twentieth of the
+    /// The next move: the one that what is left to read of the node requires. It is compiled into the loops that make it, where no move has to be built in memory: a twentieth of the
     /// instructions of a reading, for an eighth of a KiB of stack a level of the parser.
     #[inline(always)]
     pub fn next_move(self) -> Move

@@ -1,4 +1,4 @@
-//! What a token is to the grammar, told once when it is cut off the text.
+//! What a token is to the grammar, decided once when it is cut off the text.
 ghost use Rattle.std.specs.Prelude.{◌≡◌};
 ghost use Rattle.bz_states.specs.Symbols.{known, keyword_table, later_keywords, mark_table, symbol_of_token};
 

@@ -1,4 +1,4 @@
-//! The tokens that the grammar asks for, and the leaves of a text, of which the next one is told.
+//! The tokens that the grammar requires, and the leaves of a text, of which the next one is known.
 ghost use Rattle.std.specs.Prelude.{◌≡◌, ◌↔◌, ◌≤◌, ◌<◌, ◌&&◌, ◌∷◌, [], ℕ, nat_le, false, Some, None, length, drop, MatchOption, IfOk, IsTrue};
 ghost use Rattle.bz_tree.specs.Shapes.{is_one_of};
 ghost use Rattle.bz_tree.specs.Reading.{starts_with};
@@ -52,7 +52,7 @@ impl<T: Drop> From<AllocFailed<T>> for ParseHalt {
     }
 }
 
-/// The tokens that the grammar asks for, one or several.
+/// The tokens that the grammar requires, one or several.
 #[derive(Clone, Copy)]
 pub enum TokenSet {
     Name,
@@ -249,7 +249,7 @@ pub struct Leaves<'a> {
     /// How many bytes of the text are not left.
     offset: usize,
     too_deep: Option<TooDeep>,
-    /// How many bytes were not left when the next leaf stood at an indent at which a statement may begin.
+    /// How many bytes were not left when the next leaf was at an indent at which a statement may begin.
     at_indent: Option<usize>,
 }
 
@@ -291,7 +291,7 @@ impl<'a> Leaves<'a> {
         }
     }
 
-    /// Whether no leaf comes: all of them were taken, or none stands where the last one ends.
+    /// Whether no leaf comes: all of them were taken, or none is where the last one ends.
     pub fn is_empty(&self) -> bool
         ensures { IsTrue result ↔ (self.now ≡ []) }
     {

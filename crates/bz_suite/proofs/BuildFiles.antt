@@ -64,7 +64,7 @@ line_same lines ss more items e =
     ∙ (sym (append_assoc (map bzl_item front) (map bzl_item own) (map bzl_item items))
     ∙ (ap (λ xs. xs ++ map bzl_item items) (sym (map-append bzl_item front own)) ∙ sym (map-append bzl_item (front ++ own) items))))
 
--- lines and the end of a file, where these lines stand before the first of them
+-- lines and the end of a file, where these lines are before the first of them
 items_same : (left : List GapLine) (lines : Lines) (xs : List Part) → plain_lines lines ≡ left ++ first_lines xs → Several (IsSort s.line) (Fits IsSort (tok s.end done)) xs → bzl_items lines xs ≡ map bzl_item (file_items left xs)
 items_same left lines [] e h = refl
 items_same left lines (p.Leaf l ∷ []) e (inl h) = ap (λ ls. map bzl_item (blocks (groups_of ls)) ++ []) e ∙ sym (map-append bzl_item (blocks (groups_of (left ++ lines_of l.gap))) [])

@@ -1,4 +1,4 @@
--- The groups of lines that stand before the end of a file.
+-- The groups of lines that are before the end of a file.
 use Rattle.std.proofs.Common.{◌≡◌, List, [], ◌∷◌, ◌++◌, Option, Some, None, refl, sym, ap, ◌∙◌, map}
 use Rattle.std.proofs.lemmas.List.{map-append}
 use Rattle.bz_value.specs.declared.value.Item.TheVariants as i

@@ -1,4 +1,4 @@
--- Where headers stand among the parts of a statement: parts up to a colon, the colon, a suite, and what follows that.
+-- Where headers are among the parts of a statement: parts up to a colon, the colon, a suite, and what follows that.
 use Rattle.std.proofs.Common.{◌≡◌, Bool, true, false, List, [], ◌∷◌, ◌++◌, inl, inr, refl, sym, ap, ◌∙◌, subst, codes}
 use Rattle.std.specs.List.{AllByRecursion}
 use Rattle.bz_tree.specs.declared.kind.Kind.{Kind}

@@ -31,7 +31,7 @@ module _ (number : Bytes → ℕ) where
   all_read [] h = tt
   all_read (x ∷ xs) h = ((part_read number x h.0).0, all_read xs h.1)
 
-  -- statements and the end, where these lines stand before the first of them
+  -- statements and the end, where these lines are before the first of them
   file_kept : (lines : List IndentedGapLine) (xs : List Part) → Several (IsSort s.stmt) (Fits IsSort (tok s.end done)) xs → AllByRecursion (AsStatement number) xs → AtParts BzlStands Begins Begins xs →
       before_amount number xs [] + total (bzl_item_amount number) (bzl_items lines xs) ≡ lines_amount number lines + total (part_amount number) xs
   file_kept lines [] h w at_ = absurd h

@@ -69,7 +69,7 @@ module _ (number : Bytes → ℕ) where
   items_amount (i.Block texts ∷ xs) = ap (λ a. total number texts + a) (items_amount xs)
   items_amount (i.Stmt x ∷ xs) = ap (λ a. amount number x + a) (items_amount xs)
 
-  -- comment lines that stand by themselves
+  -- comment lines on their own
   pub block_amount : (groups : List (List Bytes)) → total (bzl_item_amount number) (block_items groups) ≡ total (item_amount number) (blocks groups)
   block_amount groups = items_amount (blocks groups)
 

@@ -98,7 +98,7 @@ one_branch kind shape P xs mark own back n c w o g b above left after a l f =
     ((w above (stated own).suffix a o.0, behind.0), (((suite.0, All-from_recursion IsComment read.0.1 suite.1.0), behind.1.0), behind.1.1)) in
     subst (Branched (HeadThen kind shape P)) (sym (header_ends kind above left xs mark own back after n c)) all
 
--- where the parts of a header stand
+-- where the parts of a header are
 headed_branch : (kind : Kind) (shape : Shape) (P : List Form → Type 0) (F : List Part → Type 0) (word : Part) (back xs : List Part) (h : Headed F back xs) → InHeader word → AllKnown (word ∷ xs) → AtParts BzlStands Begins Begins (word ∷ xs)
     → (HeadKnown (word ∷ h.front) → HeadProper kind shape (word ∷ h.front)) → Branches P kind back → Branches (HeadThen kind shape P) kind (word ∷ xs)
 headed_branch kind shape P F word back xs h n g at_ w b =

@@ -39,7 +39,7 @@ use Rattle.bz_suite.proofs.ProperValues.{AreSome, blocks_proper, statements_prop
 abbrev AreProperItems : List BzlItem → Type 0
 AreProperItems items = AllByRecursion IsProperBzlItem items
 
--- statements and the end, where these lines stand before the first of them
+-- statements and the end, where these lines are before the first of them
 items_proper : (lines : Lines) (xs : List Part) → AreFineLines lines → Several (IsSort s.stmt) (Fits IsSort (tok s.end done)) xs → AllKnown xs → AtParts BzlStands Begins Begins xs → AreProperItems (bzl_items lines xs)
 items_proper lines [] f h g at_ = tt
 items_proper lines (p.Leaf l ∷ []) f (inl h) g at_ =

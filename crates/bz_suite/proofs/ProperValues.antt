@@ -60,7 +60,7 @@ compound_proper xs h i =
 
 -- ---- items of a file
 
--- comment lines that stand by themselves
+-- comment lines on their own
 pub blocks_proper : (groups : List (List Bytes)) → Groups groups → AllByRecursion IsProperBzlItem (block_items groups)
 blocks_proper [] h = tt
 blocks_proper ([] ∷ groups) h = blocks_proper groups h.1

@@ -6,7 +6,7 @@ use Rattle.bz_value.specs.declared.value.Expr.{Expr, Token, Form', Row_of-Expr, 
 use Rattle.bz_value.specs.declared.value.Item.{Item}
 use Rattle.bz_value.specs.declared.value.Item.TheVariants as i
 
--- Such an expression may stand in a BUILD file: none of its forms is of a kind from Def on.
+-- Such an expression may be in a BUILD file: none of its forms is of a kind from Def on.
 abbrev mutual
   pub IsBuildExpr : Expr → Type 0
   IsBuildExpr (Token t) = Unit {0}

@@ -65,7 +65,7 @@ pub record Stated : Type 0 where
   pub statement : List Bytes → List IndentedGapLine → Read (List Statement)
   pub suite : List IndentedGapLine → SuiteRead
 
--- the lines right before the first of these parts; where there is none, those that stand after all
+-- the lines right before the first of these parts; where there is none, those that are after all
 abbrev pub indented_lines_before : List Stated → List IndentedGapLine → List IndentedGapLine
 indented_lines_before [] after = after
 indented_lines_before (x ∷ xs) after = indented x.part.gap
@@ -199,7 +199,7 @@ abbrev pub bzl_item : Item → BzlItem
 bzl_item (i.Block texts) = b.Block texts
 bzl_item (i.Stmt x) = b.Statement (s.Simple x)
 
--- comment lines that stand by themselves
+-- comment lines on their own
 abbrev pub block_items : List (List Bytes) → List BzlItem
 block_items groups = map bzl_item (blocks groups)
 

@@ -220,7 +220,7 @@ Parameters =
     ∷ line (node k.Flow (word (codes " ") (codes "pass") ∷ []) ∷ []) [] ∷ []) ∷ []) [])
     (parameters true)
 
--- inside a suite no comment stands by itself: an empty line is nothing there, and no end of a group
+-- inside a suite no comment is on its own: an empty line is nothing there, and no end of a group
 abbrev pub EmptyLines : Type 0
 EmptyLines =
     Row

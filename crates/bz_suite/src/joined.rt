@@ -63,7 +63,7 @@ fn ends_with_statement(is_spent: bool, parts: &[Part]) -> bool
 }
 
 /// What the tree of a .bzl file says, and whether its text ends with the newline of a statement that leaves no line to what
-/// follows: a text that `begins_bare` may stand after it. The error: memory was refused.
+/// follows: a text that `begins_bare` may follow it. The error: memory was refused.
 pub fn view_bzl_front(alloc: Global, tree: &BzlTree) -> Result<(BzlFile, bool), Memory>
     ensures file { IfOk result (λ seen. seen.0.items ≡ bzl_view_of tree.now) }
     ensures ends { IfOk result (λ seen. IsTrue seen.1 → EndsWithStatement tree.now) }

@@ -1,4 +1,4 @@
-//! Lines of a text that stand before a part of a tree: those of two gaps that follow each other.
+//! Lines of a text that are before a part of a tree: those of two gaps that follow each other.
 ghost use Rattle.std.specs.Prelude.{◌≡◌, ◌↔◌, ◌++◌, [], IfOk, OnOk, IsTrue};
 ghost use Rattle.bz_value.specs.Indented.{indented};
 ghost use Rattle.bz_suite.specs.View.{behind_end, after_first_line, indented_comments, end_comments};

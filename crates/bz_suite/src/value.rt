@@ -21,7 +21,7 @@ pub struct Branch {
     pub end_: Items<Text>,
 }
 
-/// An item of a .bzl file: comment lines that stand by themselves, or a statement.
+/// An item of a .bzl file: comment lines on their own, or a statement.
 #[derive(Drop)]
 pub enum BzlItem {
     Block(Items<Text>),

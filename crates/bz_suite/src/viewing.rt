@@ -17,7 +17,7 @@ use bz_value::Item;
 use bz_view::{gap_at, gap_before, gap_of_last, push_groups, push_statements};
 use std::alloc::Global;
 
-/// How many spaces and tabs stand at the end of a gap.
+/// How many spaces and tabs are at the end of a gap.
 fn indent_len(gap: &[u8]) -> usize
     ensures { result ≡ length (indent gap.now) }
 {
@@ -32,7 +32,7 @@ fn indent_len(gap: &[u8]) -> usize
     gap.len()
 }
 
-/// How many spaces and tabs stand right before the first token of the first part.
+/// How many spaces and tabs are right before the first token of the first part.
 fn margin_of(parts: &[Part]) -> usize
     ensures { result ≡ margin_of (map stated parts.now) }
 {
@@ -49,7 +49,7 @@ fn gap_behind<'a>(parts: &'a [Part], at: usize, after: &'a [u8]) -> &'a [u8]
     }
 }
 
-/// Appends simple statements that stand as items.
+/// Appends simple statements that are items.
 fn push_simple(items: Items<Item>, out: &mut Items<Statement>) -> Result<(), Memory>
     ensures { OnOk result (out.new ≡ out.old ++ simple_statements items) }
 {
@@ -287,7 +287,7 @@ fn push_blocks(
     Ok(last)
 }
 
-/// Appends comment lines that stand by themselves, if there are any.
+/// Appends comment lines on their own, if there are any.
 fn push_last(lines: Items<Text>, items: &mut Items<BzlItem>) -> Result<(), Memory>
     ensures { OnOk result (items.new ≡ items.old ++ block_items (lines ∷ [])) }
 {
@@ -346,7 +346,7 @@ pub fn items_of(alloc: Global, parts: &[Part]) -> Result<(Items<BzlItem>, bool),
     Ok((items, spent))
 }
 
-/// Appends the items of a statement of a file, or those of its end, where these lines stand before it; gives the lines that are
+/// Appends the items of a statement of a file, or those of its end, where these lines are before it; gives the lines that are
 /// left of the gap after it.
 fn push_part<'a>(
     alloc: Global,

@@ -92,7 +92,7 @@ pub under_quoted : (lines : List Bytes) (x : Expr) → quoted (with_above lines 
 under_quoted lines (Token t) = refl
 under_quoted lines (Form' own s parts s' items end_ split open_ comments) = refl
 
--- ---- the two places where expressions stand in an expression
+-- ---- the two places where expressions are in an expression
 
 -- a place: how it is read and filled, and what is not seen of that
 pub record Place : Type 0 where
@@ -199,7 +199,7 @@ the_items = record {
   quotes_put = quoted_items;
 }
 
--- other items stand after the same parts
+-- other items are after the same parts
 pub parts_with_items : (xs : List Expr) (x : Expr) → parts_of (with_items xs x) ≡ parts_of x
 parts_with_items xs (Token t) = refl
 parts_with_items xs (Form' own s parts s' items end_ split open_ comments) = items_hidden-the_row-Expr-0 (items-the_row-Expr _ parts)

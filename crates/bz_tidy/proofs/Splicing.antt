@@ -172,7 +172,7 @@ spliced_still from gone come before items h =
       held = omega (arith, put_length from come items new h.held many, h.held);
     }
 
--- the same told of a wider window
+-- the same for a wider window
 pub spliced_wider : (from gone come start wide : ℕ) (before items : List Item) → IsSpliced from gone come before items → start ≤ from → from + come ≤ start + wide → start + wide ≤ length items
     → IsSpliced start (gone + (wide - come)) wide before items
 spliced_wider from gone come start wide before items h a b d =

@@ -38,7 +38,7 @@ TidyingKeepsComments = (text : Bytes) (items : List Item) → times text (tidied
 abbrev pub ProperStays : Type 0
 ProperStays = (items : List Item) → IsProper items → IsProper (tidied items)
 
--- What is sorted is the one list in order, those that tie as they stood: the items of a list by the texts between their quote
+-- What is sorted is the one list in order, with ties in their old order: the items of a list by the texts between their quote
 -- marks, and the symbols of a load by their local names. Of the arguments of a rule each longest run of named ones is, by
 -- priority and then name, and of the items of a file each longest run of loads without comments above, by path; all that
 -- is between the runs stays.

@@ -43,7 +43,7 @@ without_repeats earlier (x ∷ xs) =
     if has_no_comment x && list_any (bytes_eq (text_of x)) earlier then without_repeats earlier xs
     else (x ∷ without_repeats (text_of x ∷ earlier) xs)
 
--- In order, those that tie as they stood (the one such list: law `sorting_is_the_one`), and then without repeats.
+-- In order, with ties in their old order (the one such list: law `sorting_is_the_one`), and then without repeats.
 abbrev pub in_order : List Expr → List Expr
 in_order xs = without_repeats [] (sort_by precedes xs)
 

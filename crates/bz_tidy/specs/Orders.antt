@@ -1,5 +1,5 @@
 -- Stable sorting: the one definition that lists, arguments, symbols and loads are sorted by. By the law
--- `sorting_is_the_one` it gives the one list that Sorting.antt tells of, so how it goes about it need not be read.
+-- `sorting_is_the_one` it gives the one list that Sorting.antt describes, so how it goes about it need not be read.
 use Rattle.std.specs.Prelude.{Bool, List, [], ◌∷◌, if◌then◌else◌}
 
 module _ {X : Type 0} where

@@ -100,7 +100,7 @@ pub record HaveOtherLists (items new : List Item) : Type 0 where
   pub each : (outside : List Bytes) (by_table : Bool) (old : List Expr) → IsSameList (is_taken outside by_table old) old (change outside by_table old)
   pub same : new ≡ on_taken (on_list_values change) items
 
--- ---- arguments, symbols and loads: others of them stand first
+-- ---- arguments, symbols and loads: others of them come first
 
 -- Runs of named arguments of a rule are sorted: every other argument stays, and no named one passes it.
 abbrev pub HaveOtherArguments : List Item → List Item → Type 0

@@ -35,7 +35,7 @@ abbrev pub tied_places : List Expr → Expr → List ℕ → List ℕ
 tied_places xs x places = if ties_last xs x then places else []
 
 -- `kept` and what is to be kept of `rest` is what is to be kept of all, and `places` are those in `kept` where the
--- different tokens of the last tie stand: whether a token of the rest is earlier is seen there.
+-- different tokens of the last tie are: whether a token of the rest is earlier is seen there.
 pub record AreKept (all kept : List Expr) (places : List ℕ) (rest : List Expr) : Type 0 where
   pub earlier : List Bytes
   pub goes : kept ++ without_repeats earlier rest ≡ without_repeats [] all

@@ -1,4 +1,4 @@
--- What it is to sort: to find the one list that has the same items in order, those that tie as they stood.
+-- What it is to sort: to find the one list that has the same items in order, with ties in their old order.
 use Rattle.std.specs.Prelude.{◌≡◌, ◌↔◌, Bool, true, false, List, ◌∷◌, ◌++◌}
 use Rattle.std.specs.List.{AllByRecursion}
 use Rattle.std.specs.List.Sorted.{IsPermutation, IsStableBy}
@@ -8,7 +8,7 @@ module _ {X : Type 0} where
   -- The items of xs, sorted, are ys.
   -- same: ys holds the items of xs, each as often.
   -- ordered: no item of ys precedes one before it.
-  -- stable: items of which neither precedes the other stand in ys in the order that they have in xs.
+  -- stable: items of which neither precedes the other are in ys in the order that they have in xs.
   pub record IsSorting (precedes : X → X → Bool) (xs ys : List X) : Type 0 where
     pub same : IsPermutation xs ys
     pub ordered : Rises precedes ys

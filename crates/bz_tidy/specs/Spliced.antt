@@ -21,6 +21,6 @@ pub record StandsApart (from come : ℕ) (items : List Item) : Type 0 where
   pub behind : begins_with_load (drop (from + come) items) ≡ false
   pub within : from + come ≤ length items
 
--- these items tidied as if they stood alone; the others stay
+-- these items tidied as if they were alone; the others stay
 abbrev pub tidied_within : ℕ → ℕ → List Item → List Item
 tidied_within from come items = take from items ++ tidied (take come (drop from items)) ++ drop (from + come) items

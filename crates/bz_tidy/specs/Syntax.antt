@@ -20,7 +20,7 @@ abbrev mutual
   each_syntax end_of-Expr = []
   each_syntax (more_of-Expr x rest) = syntax_of x ∷ each_syntax rest
 
--- The program of a file: its statements. Comment lines that stand by themselves are none.
+-- The program of a file: its statements. Comment lines on their own are none.
 abbrev pub program : List Item → List Expr
 program [] = []
 program (i.Block lines ∷ items) = program items

@@ -36,7 +36,7 @@ pub fn comments_stay()
     ensures { TidyingKeepsComments }
 {}
 
-/// What is sorted is the one list in order that has the same items, those that tie as they stood; where only some items are
+/// What is sorted is the one list in order that has the same items, with ties in their old order; where only some items are
 /// compared, each longest run of them is.
 pub fn sorting_is_the_one()
     ensures { SortingIsTheOne }

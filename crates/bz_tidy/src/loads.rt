@@ -12,7 +12,7 @@ use bz_value::{Expr, Item};
 use std::alloc::Global;
 use std::cmp::Ordering;
 
-/// Where a path stands by what it begins with: a repository, a package, a file of the same package, anything else.
+/// Where a path comes by what it begins with: a repository, a package, a file of the same package, anything else.
 fn path_group(path: &[u8]) -> usize
     ensures { result ≡ group_of path.now }
 {

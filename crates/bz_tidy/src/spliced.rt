@@ -11,10 +11,10 @@ use bz_value::{File, Item};
 use std::alloc::Global;
 use std::mem;
 
-/// Items of a file that stand after one another.
+/// Items of a file that follow one another.
 #[derive(Clone, Copy)]
 pub struct Window {
-    /// How many items stand before them.
+    /// How many items are before them.
     pub from: usize,
     /// How many they are.
     pub come: usize,
@@ -83,7 +83,7 @@ fn widened(file: &File, from: usize, come: usize) -> Window
     }
 }
 
-/// Tidies the items of a window as if they stood alone. The others are not touched. The error: memory was refused; part of an
+/// Tidies the items of a window as if they were alone. The others are not touched. The error: memory was refused; part of an
 /// item may then be lost.
 fn tidy_between(
     alloc: Global,
@@ -113,7 +113,7 @@ fn tidy_window(alloc: Global, file: &mut File, from: usize, come: usize) -> Resu
 
 /// Tidies a file in which, after the first `from` items of a tidy one, `come` others were put in the place of some: these alone,
 /// and with them the loads that are sorted together and reach up to them or begin after them. What is elsewhere is not touched,
-/// since it is tidy and stays where it is. The result is the window that was tidied: as many items stand in it as before, and all
+/// since it is tidy and stays where it is. The result is the window that was tidied: as many items are in it as before, and all
 /// others are those of the tidy file. The error: memory was refused; the file has no items then.
 pub fn tidy_spliced(
     alloc: Global,

@@ -24,7 +24,7 @@ fn has_character(character: u8, text: &[u8]) -> bool
     text.iter().any(|byte| *byte == character)
 }
 
-/// Whether double quote marks may stand for those of the string: it has no prefix and single marks, and holds neither a
+/// Whether double quote marks may replace those of the string: it has no prefix and single marks, and holds neither a
 /// double mark nor a backslash.
 fn takes_double(text: &[u8]) -> bool
     ensures { result ≡ (begins_single text.now && not (has_character quotation_mark text.now || has_character backslash text.now)) }

@@ -89,7 +89,7 @@ fn settle_all(items: &mut [Item])
     }
 }
 
-/// The passes over items that stand alone. The error: memory was refused; part of an item may then be lost.
+/// The passes over items that are alone. The error: memory was refused; part of an item may then be lost.
 pub(crate) fn tidy_items(alloc: Global, items: &mut [Item]) -> Result<(), Memory>
     ensures { OnOk result (items.new ≡ tidied items.old) }
 {

@@ -195,7 +195,7 @@ fn change_arguments(
     }
 }
 
-/// What stands for the kind of a rule: of all kinds the tables of attributes know genrule alone.
+/// What represents the kind of a rule: of all kinds the tables of attributes know genrule alone.
 fn kind_of(function: &Expr) -> &'static [u8]
     ensures { bytes_eq result.now (codes "genrule") ≡ is_text (codes "genrule") (dotted_name function.now) }
 {

@@ -1,4 +1,4 @@
--- What is told at a glance is the longest front.
+-- What is known at a glance is the longest front.
 use Rattle.std.proofs.Common.{◌≡◌, ℕ, ◌+◌, ◌≤◌, ◌<◌, true, eqb, List, length, take, drop, get_or, inl, inr, Option, Some, None, refl, sym, ap, ◌∙◌, arith}
 use Rattle.std.proofs.lemmas.Bool.{cases_Bool, cases_lt}
 use Rattle.std.proofs.Common.{IfSome, IsUtf8, IsCharBoundary}

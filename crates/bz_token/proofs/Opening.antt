@@ -208,7 +208,7 @@ closed_ends (LongTwo m) h k = absurd (both_ways true k refl)
 closed_ends (LongTaken m) h k = absurd (both_ways true k refl)
 closed_ends _ h k = absurd (both_ways false refl h)
 
--- ---- a prefix and a mark stand in front
+-- ---- a prefix and a mark are in front
 
 -- of what is after the letters r of a prefix
 abbrev Marked : List ℕ → List ℕ → Type 0

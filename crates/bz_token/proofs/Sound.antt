@@ -29,7 +29,7 @@ mark_of b s t e h = rw e h
 mark_from : (b c : ℕ) (s t : List ℕ) → b ≡ c → s ≡ t → is_mark (c ∷ t) ≡ true → is_mark (b ∷ s) ≡ true
 mark_from b c s t i e h = rw (i, e) h
 
--- after a mark that may stand twice
+-- after a mark that may occur twice
 doubled_mark : (k : Class) (c : ℕ) (s : List ℕ) (x : State) → ends x ≡ Some v.Mark → ((b : ℕ) → move x b ≡ doubled_move c b)
     → (is_mark (c ∷ []) ≡ true) × (is_mark (c ∷ 61 ∷ []) ≡ true) × (is_mark (c ∷ c ∷ []) ≡ true) × (is_mark (c ∷ c ∷ 61 ∷ []) ≡ true)
     → reads x s ≡ Some k → (k ≡ v.Mark) × (is_mark (c ∷ s) ≡ true)

@@ -34,7 +34,7 @@ no_newline : (q : Quote) → eqb 10 (quote_byte q) ≡ false
 no_newline Single = refl
 no_newline Double = refl
 
--- what may stand after a backslash and a carriage return, if no newline does
+-- what may be after a backslash and a carriage return, if no newline does
 returned : (q : Quote) (t : List ℕ) → after move (Short q) t ≡ Some Closed → after move (ShortReturn q) t ≡ Some Closed
 returned q [] h = absurd cc
 returned q (b ∷ t) h =
@@ -123,7 +123,7 @@ empty_state q p y = prefixed q p (quote_byte q ∷ []) y ∙ rw (itself q) refl
 two_marks : (p s u : List ℕ) (m b : ℕ) → s ≡ p ++ (m ∷ (u ++ (m ∷ []))) → u ≡ [] → m ≡ b → s ≡ p ++ (b ∷ b ∷ [])
 two_marks p s u m b is e i = rw (is, e, i) refl
 
--- the state after a string tells whether it is empty, with single marks
+-- the state after a string says whether it is empty, with single marks
 pub string_state : (s : List ℕ) → IsString s → (after move Start s ≡ Some Closed) ⊎ ((p : List ℕ) × (q : Quote) × (is_prefix p ≡ true) × (s ≡ p ++ (quote_byte q ∷ quote_byte q ∷ [])))
 string_state s (p, t, is, y, single m u n h) =
     let w = quote_of m n in

@@ -77,7 +77,7 @@ some_token s x k e n i =
       },
     )
 
--- what a third mark tells
+-- what a third mark says
 pub third_parts : (q : State) (s : List ℕ) → before_third q s ≡ true → (m : Quote) × (u : List ℕ) × (q ≡ Empty m) × (s ≡ quote_byte m ∷ u)
 third_parts (Empty m) (b ∷ u) h = (m, u, refl, ap (λ (x : ℕ). x ∷ u) (eqb-true b (quote_byte m) h))
 third_parts _ _ h = absurd (both_ways false refl h)

@@ -1,5 +1,5 @@
 -- Lexemes by their characters. The bytes of a text are a lexeme just where its characters are one, in the words of the same table:
--- each set but the names' is told in the same terms of a list of characters as of a list of bytes.
+-- each set but the names' is said in the same terms of a list of characters as of a list of bytes.
 use Rattle.std.specs.Prelude.{◌≡◌, ◌↔◌, ℕ, Bool, true, false, List, [], ◌∷◌, ◌&&◌, ◌||◌, not, nat_eq, encode_utf8_all}
 use Rattle.bz_token.specs.declared.class.Class.{Class}
 use Rattle.bz_token.specs.declared.class.Class.TheVariants as v

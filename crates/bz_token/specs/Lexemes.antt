@@ -83,7 +83,7 @@ pub data IsShort (m : ℕ) : List ℕ → Type 0 where
   short_line : {s : List ℕ} → IsShort m s → IsShort m (92 ∷ 13 ∷ 10 ∷ s)
 
 -- Pieces between three marks m at each end: those above, a newline, or the mark. The text ends at the first three marks in a row that no backslash takes:
--- so at most two stand right before each other piece, and none at the end. (A backslash and CR LF are the piece of a backslash and CR, and a newline.)
+-- so at most two are right before each other piece, and none at the end. (A backslash and CR LF are the piece of a backslash and CR, and a newline.)
 pub data IsLong (m : ℕ) : List ℕ → Type 0 where
   long_end : IsLong m []
   long_plain : (k b : ℕ) (s : List ℕ) → k < 3 → among b (m ∷ 92 ∷ []) ≡ false → IsLong m s → IsLong m (replicate k m ++ (b ∷ s))
@@ -105,7 +105,7 @@ is_prefix p = in_table p prefixes
 abbrev pub IsString : List ℕ → Type 0
 IsString s = (p q : List ℕ) × (s ≡ p ++ q) × (is_prefix p ≡ true) × IsQuoted q
 
--- the texts of each class; a Newline and an End are told by their place
+-- the texts of each class; a Newline and an End are known by their place
 abbrev pub IsLexeme : Class → List ℕ → Type 0
 IsLexeme v.Name s = IsWord s × (is_keyword s ≡ false)
 IsLexeme v.Keyword s = is_keyword s ≡ true

@@ -56,7 +56,7 @@ fraction_move b = if is_digit b then Some Fraction else (if is_e b then Some Exp
 abbrev pub exponent_move : ℕ → Option State
 exponent_move b = if is_digit b then Some Exponent else (if is_sign b then Some ExponentSign else None)
 
--- after a mark that may stand twice, or before `=`
+-- after a mark that may occur twice, or before `=`
 abbrev pub doubled_move : ℕ → ℕ → Option State
 doubled_move mark b = if nat_eq b mark then Some Operator else (if nat_eq b 61 then Some Ended else None)
 

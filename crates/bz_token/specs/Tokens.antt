@@ -19,7 +19,7 @@ NoToken text = (class : Class) (token rest : List ℕ) → token ++ rest ≡ tex
 abbrev pub TokenAt : Class → ℕ → List ℕ → Type 0
 TokenAt class n text = (n ≤ length text) × IsToken class (take n text) (drop n text)
 
--- A string begins here that is not closed: an optional prefix and a quotation mark stand in front, and the token there is no string.
+-- A string begins here that is not closed: an optional prefix and a quotation mark are in front, and the token there is no string.
 pub record OpensString (text : List ℕ) : Type 0 where
   pub marked : (prefix : List ℕ) × (mark : ℕ) × (back : List ℕ) × (text ≡ prefix ++ (mark ∷ back)) × (is_prefix prefix ≡ true) × (is_quote mark ≡ true)
   pub unclosed : (string rest : List ℕ) → string ++ rest ≡ text → IsToken v.String string rest → ⊥

@@ -32,7 +32,7 @@ pub fn token(text: &[u8]) -> Option<Found>
     Some(Found { class, len })
 }
 
-/// The token that a text begins with, where it is told at a glance: a mark of one byte, a name, or a string
+/// The token that a text begins with, where it is known at a glance: a mark of one byte, a name, or a string
 /// of one line between `"` without backslashes. `None` says nothing.
 #[inline(always)]
 fn glance(text: &[u8]) -> Option<Found>
@@ -53,7 +53,7 @@ fn glance(text: &[u8]) -> Option<Found>
     }
 }
 
-/// The mark of one byte that a text begins with and that may stand before `=`, unless it does.
+/// The mark of one byte that a text begins with and that may be before `=`, unless it does.
 fn operator(text: &[u8]) -> Option<Found>
     requires some { 0 < length text.now }
     requires operator { move State.Start (get_or text.now 0 0) ≡ Some State.Operator }

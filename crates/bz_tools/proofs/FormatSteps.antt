@@ -44,7 +44,7 @@ pub rewrites_quiet : (name text new : List ℕ) (folder after : Folder) (effect 
 rewrites_quiet name text new folder after effect (inl done) = rw (done.0) (record { stays = refl; nothing = refl })
 rewrites_quiet name text new folder after effect (inr failed) = rw (failed.0) (record { stays = refl; nothing = refl })
 
--- ---- the front of an input, one byte longer than a text may be, tells what becomes of it
+-- ---- the front of an input, one byte longer than a text may be, decides what becomes of it
 
 -- what is formatted, or isn't by its formatted text, is no longer than a text may be
 short_ok : (bzl : Bool) (text new : List ℕ) → FormatsAs bzl text (Ok new) → length text ≤ limit
@@ -63,7 +63,7 @@ ok_of_front bzl (Some all) front new read formats = go (cut_at_limit all)
     go (inl whole) = (all, refl, sym (read ∙ whole))
     go (inr long) = absurd (long_front all long (subst (λ (text : List ℕ). length text ≤ limit) read (short_ok bzl front new formats)))
 
--- what is told of the front of a longer text is told of the text
+-- what is reported of the front of a longer text is reported of the text
 longer : (bzl : Bool) (all : List ℕ) → limit < length all → (told : FormatFault) → FormatsAs bzl (take (limit + 1) all) (Err told) → FormatsAs bzl all (Err told)
 longer false all long (f.Unread fault) of_front =
     ((λ accepted. let le = within_limit all accepted in omega (arith, le, long)), fault_of_front all fault long of_front.1)
@@ -99,7 +99,7 @@ pub whole_file : (bzl : Bool) (folder : Folder) (name bytes start items new : Li
 whole_file bzl folder name bytes start items new at is empty formats =
     let all = ok_of_front bzl (Some bytes) items new (front_read bytes start items is empty) formats in at ∙ ap Some (sym all.1 ∙ all.2)
 
--- and what is told of it is told of the file
+-- and what is reported of it is reported of the file
 pub refused_file : (bzl : Bool) (bytes start items : List ℕ) (fault : FormatFault) → items ≡ start ++ take (limit + 1) bytes → start ≡ []
     → FormatsAs bzl items (Err fault) → FormatsAs bzl bytes (Err fault)
 refused_file bzl bytes start items fault is empty formats =

@@ -1,4 +1,4 @@
--- The first bytes of an input, one more than a text may have, tell what becomes of it.
+-- The first bytes of an input, one more than a text may have, decide what becomes of it.
 use Rattle.std.proofs.Common.{◌≡◌, ◌⊎◌, ◌+◌, inl, inr, ℕ, ◌≤◌, ◌<◌, List, length, take, arith, length-take}
 use Rattle.std.proofs.lemmas.List.{take_all}
 use Rattle.std.proofs.lemmas.Bool.{cases_lt}

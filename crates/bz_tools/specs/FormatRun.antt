@@ -22,7 +22,7 @@ use Rattle.bz_tools.specs.Modes.{FormatLine, FormatUsage, clap_fault, no_mode, n
 
 -- ---- what one text does
 
--- what it writes on standard output, what it tells on standard error, its status, and the failure that cuts it, if one
+-- what it writes on standard output, what it prints on standard error, its status, and the failure that cuts it, if one
 -- does; a failure of standard output closes it
 pub record Effect : Type 0 where
   pub out : Bytes
@@ -103,7 +103,7 @@ unread_file name file.Absent = unopened name c.Whole
 unread_file name file.Open = unopened name c.Files
 unread_file name file.Write = unopened name c.Files
 
--- A file that is not read is told, an absent one among them. What is read is formatted, or told. Where the mode rewrites
+-- A file that is not read is reported, an absent one among them. What is read is formatted, or reported. Where the mode rewrites
 -- a file the folder changes; all else leaves the folder.
 pub data FileStep (mode : Mode) (file_type : FileType) (name : Bytes) (closed : Bool) (folder : Folder) (effect : Effect) (after : Folder) : Type 0 where
   unread : (fault : FileFault) → (fault ≡ file.Absent → get folder name ≡ None) → effect ≡ unread_file name fault → after ≡ folder
@@ -190,7 +190,7 @@ FormatOutcomeOf (Err usage) known folder after folder' =
 FormatOutcomeOf (Ok line) known folder after folder' = RunOf line.mode line.file_type line.files known folder after folder'
 
 -- Words, the bytes of standard input where they are known, and the folder before: what the run has done at its end, and
--- the folder after. Memory may be refused before anything is done, which is told.
+-- the folder after. Memory may be refused before anything is done, which is reported.
 abbrev pub FormatOutcome : List Bytes → Option Bytes → Folder → Run → Folder → Type 0
 FormatOutcome words known folder after folder' =
     ((after ≡ record begun { lines = named_line (codes "buildifier") (codes "Memory") ∷ []; status = 3; cut = c.Memory }) × (folder' ≡ folder))

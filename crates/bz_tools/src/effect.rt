@@ -80,7 +80,7 @@ pub(crate) fn grown(progress: Progress, effect: Effect) -> Progress
     }
 }
 
-/// A failure, or a file that is absent, is told.
+/// A failure, or a file that is absent, is reported.
 pub(crate) fn fail<'a, E: Sink>(err: &mut E, name: &'a str, word: &'a str, cut: Cut) -> Effect
     ensures effect { result ≡ record { status = 3; cut = cut; closes = false } }
     ensures told { Tells (E.faults err.old) (E.faults err.new) (E.contents err.old) (E.contents err.new) (named_line name.entry.now word.entry.now ∷ []) }
@@ -93,7 +93,7 @@ pub(crate) fn fail<'a, E: Sink>(err: &mut E, name: &'a str, word: &'a str, cut: 
     }
 }
 
-/// Tells why a file was not read.
+/// Reports why a file was not read.
 pub(crate) fn unread_file<E: Sink>(err: &mut E, name: &str, fault: FileFault) -> Effect
     ensures effect { result ≡ effect_seen (unread_file name.now fault) }
     ensures told { Tells (E.faults err.old) (E.faults err.new) (E.contents err.old) (E.contents err.new) (unread_file name.now fault).lines }
@@ -105,7 +105,7 @@ pub(crate) fn unread_file<E: Sink>(err: &mut E, name: &str, fault: FileFault) ->
     }
 }
 
-/// Tells why a text has no formatted text.
+/// Reports why a text has no formatted text.
 pub(crate) fn refused<E: Sink>(err: &mut E, name: &str, fault: &FormatFault) -> Effect
     ensures effect { result ≡ effect_seen (refused name.now fault.now) }
     ensures told { Tells (E.faults err.old) (E.faults err.new) (E.contents err.old) (E.contents err.new) (refused name.now fault.now).lines }
@@ -184,7 +184,7 @@ pub(crate) fn input_out(alloc: Global, mode: Mode, text: &[u8], new: Text) -> Re
     }
 }
 
-/// Writes a text on standard output, unless that has failed before; a failure is told.
+/// Writes a text on standard output, unless that has failed before; a failure is reported.
 pub(crate) fn print<W: Sink, E: Sink>(
     out: &mut W,
     err: &mut E,

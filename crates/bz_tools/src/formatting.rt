@@ -30,7 +30,7 @@ use std::convert::AsStr;
 // The status of words that are no line of the program's.
 const USAGE: u8 = 2;
 
-// Rewrites a file that still holds the text that was formatted; a failure is told.
+// Rewrites a file that still holds the text that was formatted; a failure is reported.
 fn rewrite<F: Files, E: Sink>(
     files: &mut F,
     err: &mut E,
@@ -74,7 +74,7 @@ fn format_named(
     }
 }
 
-// Reads a file, formats it, and does what the mode wants. Of a text that is too long no more is read than the byte that tells.
+// Reads a file, formats it, and does what the mode wants. Of a text that is too long no more is read than the byte that shows it.
 fn file_effect<F: Files, W: Sink, E: Sink>(
     alloc: Global,
     mode: Mode,
@@ -187,7 +187,7 @@ fn run_files<F: Files, W: Sink, E: Sink>(
     progress
 }
 
-// Tells that an option has no such word, and the one that is near, if one is.
+// Reports that an option has no such word, and the one that is near, if one is.
 fn tell_no_word<'a, E: Sink>(err: &mut E, option: &'a str, name: &'a str, near: Option<&'a str>)
     ensures { AppendsUnlessFailed (E.faults err.old) (E.faults err.new) (E.contents err.old) (E.contents err.new)
         (no_word_line option.entry.now name.entry.now (option_map (λ s. s.now) near.entry)) }
@@ -211,8 +211,8 @@ fn tell_no_word<'a, E: Sink>(err: &mut E, option: &'a str, name: &'a str, near: 
     }
 }
 
-// Tells why the words are no line of the program's. The error: memory was refused, to the words, to the text of a fault
-// that clap finds or to the search for a word that is near; nothing is then told.
+// Reports why the words are no line of the program's. The error: memory was refused, to the words, to the text of a fault
+// that clap finds or to the search for a word that is near; nothing is then printed.
 fn tell_unusable<E: Sink>(
     alloc: Global,
     err: &mut E,
@@ -236,7 +236,7 @@ fn tell_unusable<E: Sink>(
     }
 }
 
-// Memory was refused before anything was done, which is told.
+// Memory was refused before anything was done, which is reported.
 fn wanting<E: Sink>(err: &mut E) -> Exit
     ensures exit { result ≡ record { status = 3; cut = Cut.Memory } }
     ensures told { Tells (E.faults err.old) (E.faults err.new) (E.contents err.old) (E.contents err.new) (named_line (codes "buildifier") (codes "Memory") ∷ []) }
@@ -245,7 +245,7 @@ fn wanting<E: Sink>(err: &mut E) -> Exit
     Exit { status, cut }
 }
 
-// The words are no line of the program's, or memory was refused. Each is told.
+// The words are no line of the program's, or memory was refused. Each is reported.
 fn unusable<E: Sink>(alloc: Global, fault: &FormatUsage<'_>, err: &mut E) -> Exit
     ensures { ((usage : m.FormatUsage) × (line : List ℕ) × (usage_of fault.now ≡ Some usage) × IsFormatUsageLine usage line
         × AppendsUnlessFailed (E.faults err.old) (E.faults err.new) (E.contents err.old) (E.contents err.new) line
@@ -269,7 +269,7 @@ fn unusable<E: Sink>(alloc: Global, fault: &FormatUsage<'_>, err: &mut E) -> Exi
 /// standard input to `out`; `check` writes a line there for a text that differs; `print_if_changed` writes its formatted
 /// text there. Statuses: 2 where the words are no line of the program's (nothing is then read); else 3 where a file could
 /// not be opened, read or written, memory was refused, or a formatted text would be past a limit or would not last; else 1 where a text is
-/// not accepted; else 4 where `check` found a difference; else 0. Each fault is told by one line on `err`, whose faults are
+/// not accepted; else 4 where `check` found a difference; else 0. Each fault is reported by one line on `err`, whose faults are
 /// passed over, and that of an unknown mode or type by one more where one is near; where memory is refused to the words, or to that
 /// search, the line is `buildifier: Memory`. After a fault of `out` nothing more is written there; files still are.
 pub fn buildifier<S: AsStr, R: Source, W: Sink, E: Sink, F: Files>(

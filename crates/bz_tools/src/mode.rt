@@ -11,7 +11,7 @@ use std::alloc::{AllocError, Global};
 pub(crate) enum Mode {
     /// The file is rewritten; the formatted text of standard input goes to standard output.
     Fix,
-    /// Its name is told.
+    /// Its name is printed.
     Check,
     /// The formatted text goes to standard output.
     PrintIfChanged,

@@ -1,4 +1,4 @@
--- A tree between the steps that lead back and those that lead forward: over steps of the one side, they stand on the other.
+-- A tree between the steps that lead back and those that lead forward: over steps of the one side, they are on the other.
 use Rattle.std.proofs.Common.{◌≡◌, List, [], ◌∷◌, ◌++◌, reverse, refl, sym, ap, ◌∙◌, subst, append_assoc}
 use Rattle.std.proofs.lemmas.List.{append-nil, reverse-append, reverse-reverse}
 use Rattle.std.proofs.lemmas.Grind.{reverse_onto}

@@ -7,7 +7,7 @@ use Rattle.bz_edit.specs.declared.edit.Edit.{Edit}
 use Rattle.bz_edit.specs.Steps.{IsStep, all_even, all_there, swap_node, turned_all}
 use Rattle.bz_edit.specs.Between.{Least, step}
 
--- the present tree, the steps in the order of the texts that they stand between, and how many of them lead back
+-- the present tree, the steps in the order of the texts that they are between, and how many of them lead back
 pub record Trail : Type 0 where
   pub tree : Node
   pub steps : List (List Edit)

@@ -1,4 +1,4 @@
--- Kinds that begin alike: their plans ask for what the table of shapes asks for.
+-- Kinds that begin alike: their plans require what the table of shapes requires.
 use Rattle.std.proofs.Common.{◌≡◌, ℕ, suc, true, false, List, [], ◌∷◌, ◌++◌, inl, inr, refl, sym, ap, subst, ◌∙◌}
 use Rattle.std.proofs.lemmas.Bool.{both_ways}
 use Rattle.bz_lex.specs.declared.leaf.Leaf.{Leaf}
@@ -62,7 +62,7 @@ module _ (P : Sort → Part → Type 0) (sort : Sort) (opening closing : List Te
 -- ---- the families
 
 module _ (P : Sort → Part → Type 0) where
-  -- the kind has this sort, and what the plan asks for on the way to it is its shape, both ways
+  -- the kind has this sort, and what the plan requires on the way to it is its shape, both ways
   abbrev pub Agrees : Sort → Plan → Kind → Type 0
   Agrees sort plan kind = (sort_has_kind sort kind ≡ true) × ((ps : List Part) → Fits P (shape_in kind plan) ps → Fits P (bzl_shape kind) ps)
 

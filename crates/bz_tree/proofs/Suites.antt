@@ -52,7 +52,7 @@ is_deeper_at : (i : List ℕ) (c : ℕ) (more : List ℕ) → is_deeper i (i ++ 
 is_deeper_at [] c more = refl
 is_deeper_at (b ∷ i) c more = rw (eq-eqb b b refl) (is_deeper_at i c more)
 
--- ---- what may stand after a suite and after a statement
+-- ---- what may be after a suite and after a statement
 
 -- no statement of a deeper suite follows, and no elif or else of one
 abbrev pub NoDeeper : List ℕ → List Leaf → Type 0

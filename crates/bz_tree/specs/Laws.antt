@@ -24,13 +24,13 @@ OneBzlReading = (text : List ℕ) (tree other : Node) → ReadsBzl text tree →
 abbrev pub OneFile : Type 0
 OneFile = (m n : Node) → IsBzlFile m → IsBzlFile n → AreIndented [] m.parts → AreIndented [] n.parts → leaves_of m ≡ leaves_of n → m ≡ n
 
--- The gaps of a file by its shapes stand where the nodes let them, and its tokens are those of its spelling, exactly where
--- its leaves, in a row, stand as the leaves of a text do.
+-- The gaps of a file by its shapes are where the nodes let them be, and its tokens are those of its spelling, exactly where
+-- its leaves, in a row, are placed as the leaves of a text are.
 abbrev pub GapsByNodes : Type 0
 GapsByNodes = (n : Node) → IsBzlFile n → (AtParts BzlStands Begins Begins n.parts × AreTokens (leaves_of n)) ↔ AreLeaves (leaves_of n)
 
 -- A legal tree of a .bzl file by its leaves: a file by its shapes, within the limit of depth, with its indents, whose
--- leaves, in a row, stand as the leaves of a text do and are texts of characters.
+-- leaves, in a row, are placed as the leaves of a text are, and are texts of characters.
 pub record IsLegalByLeaves (n : Node) : Type 0 where
   pub file : IsBzlFile n
   pub indents : AreIndented [] n.parts

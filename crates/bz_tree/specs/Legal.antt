@@ -37,8 +37,8 @@ pub record IsFile (n : Node) : Type 0 where
   pub root : n.kind ≡ k.File
   pub shapes : LegalShapes n
 
--- A tree is legal where it is a file by its shapes, its gaps stand where they may (said on the nodes: where newlines,
--- comments and indents stand), its tokens are the longest lexemes of its spelling, gaps and tokens are texts of
+-- A tree is legal where it is a file by its shapes, its gaps are where they may be (said on the nodes: where newlines,
+-- comments and indents are), its tokens are the longest lexemes of its spelling, gaps and tokens are texts of
 -- characters, and it is no deeper than the limit of depth.
 pub record Legal (n : Node) : Type 0 where
   pub file : IsFile n
@@ -73,7 +73,7 @@ pub record IsFileOf (leaves_there : List Leaf) (n : Node) : Type 0 where
   pub leaves : leaves_of n ≡ leaves_there
   pub depth : depth_of n ≤ depth_limit
 
--- A tree of a .bzl file is legal where it is a file by its shapes, its gaps stand where they may, its statements have the
+-- A tree of a .bzl file is legal where it is a file by its shapes, its gaps are where they may be, its statements have the
 -- indents of their suites (those of the file have none), its tokens are the longest lexemes of its spelling, gaps and
 -- tokens are texts of characters, and it is no deeper than the limit of depth.
 pub record LegalBzl (n : Node) : Type 0 where
@@ -84,7 +84,7 @@ pub record LegalBzl (n : Node) : Type 0 where
   pub coded : AreCoded (leaves_of n)
   pub depth : depth_of n ≤ depth_limit
 
--- Such a part may stand in a BUILD file: none of its nodes is of a kind from Def on.
+-- Such a part may be in a BUILD file: none of its nodes is of a kind from Def on.
 abbrev mutual
   pub IsBuildPart : Part → Type 0
   IsBuildPart (p.Leaf l) = Unit {0}

@@ -174,7 +174,7 @@ square = bracketed open_square close_square test k.List k.ListComp
 abbrev pub curly : Plan
 curly = bracketed open_curly close_curly entry k.Dict k.DictComp
 
--- what may stand after a primary
+-- what may be after a primary
 abbrev pub suffix_plan : Plan
 suffix_plan =
     choose (finish k.Dot (tok dot (tok name done))) (choose (finish k.Call (tok open_round (items argument close_round)))
@@ -213,7 +213,7 @@ infix_at kind left tail inner next ts =
 abbrev pub prefix_at : Kind → Shape → (Sort → Read Part) → Read Part → Read Part
 prefix_at kind r inner next ts = if starts_with (first r) ts then wrap kind (run inner r ts) else next ts
 
--- whether a part may stand in a node inside that depth
+-- whether a part may be in a node inside that depth
 abbrev pub fits_in : ℕ → Part → Bool
 fits_in d a = nat_le (depth_part a) d
 
@@ -222,7 +222,7 @@ by_shape kind d (tok terminals r) inner next = prefix_at kind (tok terminals r) 
 by_shape kind d (sub q r) inner next = infix_at kind (fits_in d) r inner next
 by_shape kind d _ inner next = next
 
--- what binds tightest, without what may stand after it
+-- what binds tightest, without what may be after it
 abbrev pub atom : (Sort → Read Part) → Read Part
 atom inner ts =
     if starts_with (first_of round) ts then wrap_found (follow inner round ts)

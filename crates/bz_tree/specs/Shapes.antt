@@ -1,4 +1,4 @@
--- The grammar: which parts stand in a node of each kind, from left to right.
+-- The grammar: which parts are in a node of each kind, from left to right.
 use Rattle.std.specs.Prelude.{◌≡◌, ℕ, Bool, true, false, List, [], ◌∷◌, ◌++◌, ◌&&◌, ◌||◌, ◌⊎◌, nat_eq, nat_le, bytes_eq, codes}
 use Rattle.bz_token.specs.declared.class.Class.{Class}
 use Rattle.bz_token.specs.declared.class.Class.TheVariants as c
@@ -116,7 +116,7 @@ products = mark_terminals (codes "*" ∷ codes "/" ∷ codes "//" ∷ codes "%" 
 abbrev pub flows : List Terminal
 flows = keyword_terminals (codes "break" ∷ codes "continue" ∷ codes "pass" ∷ [])
 
--- ---- what may stand at a place
+-- ---- what may be at a place
 
 -- A sort names the alternatives of the grammar that make no node.
 -- level n: an expression of that rank or a lower one; argument = test | Named | Star; entry = Entry; clause = For | If;

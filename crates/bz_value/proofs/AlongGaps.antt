@@ -1,4 +1,4 @@
--- A gap in which no unescaped newline may stand has none.
+-- A gap in which no unescaped newline may be has none.
 use Rattle.std.proofs.Common.{ℕ, eqb, ◌≡◌, Bool, true, false, [], ◌∷◌, refl, ap, arith}
 use Rattle.std.proofs.lemmas.Bool.{both_ways, ne_eqb}
 use Rattle.std.proofs.lemmas.Bool.Decides.{nat_tests}

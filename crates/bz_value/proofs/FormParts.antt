@@ -1,4 +1,4 @@
--- A form is proper where its parts are, told of lists.
+-- A form is proper where its parts are, stated for lists.
 use Rattle.std.proofs.Common.{◌≡◌, Bool, true, false, not, ◌&&◌, List, [], ◌∷◌, map, refl, sym, ap, ◌∙◌, subst}
 use Rattle.std.specs.List.{All}
 use mathlib.Core.Former.{Count}
@@ -85,7 +85,7 @@ module _ (grammar : Kind → Shape) where
   items_of m end_of-Expr h = tt
   items_of m (more_of-Expr x rest) h = (h.0, h.1, h.2, items_of _ rest h.3)
 
-  -- what the definition asks of a form, by its frame
+  -- what the definition requires of a form, by its frame
   abbrev pub AsRowBy : Spot → Form → Type 0
   AsRowBy here f =
       ArePartsBy (is_binary f.kind) here here f.parts × IsNone f.seq.items × (f.seq.end_ ≡ []) × (f.seq.split ≡ false) × (f.open_ ≡ true → is_comprehension f.kind ≡ true)

@@ -1,4 +1,4 @@
--- How many parts stand before the opening bracket of a sequence.
+-- How many parts are before the opening bracket of a sequence.
 use Rattle.std.proofs.Common.{◌≡◌, ℕ, suc, Bool, true, false, not, ◌&&◌, List, [], ◌∷◌, ◌++◌, inl, inr, refl, sym, ap, ◌∙◌, true≢false}
 use Rattle.std.specs.Prelude.{length, codes}
 use Rattle.std.proofs.lemmas.Bool.{and_parts}

@@ -1,4 +1,4 @@
--- Items exchanged for others: one in the place of each, or some in the place of some that stand together.
+-- Items exchanged for others: one in the place of each, or some in the place of some adjacent ones.
 use Rattle.std.specs.Prelude.{◌≡◌, ◌≤◌, ◌+◌, ℕ, Bool, true, false, List, [], ◌∷◌, drop, length, take}
 use Rattle.bz_tree.specs.Shapes.{is_kind}
 use Rattle.bz_tree.specs.declared.kind.Kind.TheVariants as k
@@ -28,8 +28,8 @@ AreExchanged _ _ _ = ⊥
 
 -- ---- items taken out, and others put in their place
 
--- After the first `from` items, this many as `gone` says stand no more, and in their place this many others as `come` says; all
--- others stand as before.
+-- After the first `from` items, this many as `gone` says are there no more, and in their place this many others as `come` says; all
+-- others are as before.
 pub record IsSpliced (from gone come : ℕ) (before after : List Item) : Type 0 where
   pub front : take from after ≡ take from before
   pub behind : drop (from + come) after ≡ drop (from + gone) before

@@ -21,7 +21,7 @@ abbrev pub has_brackets : Frame → Bool
 has_brackets row = false
 has_brackets (sequence opener closer) = true
 
--- how many parts stand before the opening bracket: the function of a call, the word of a load
+-- how many parts are before the opening bracket: the function of a call, the word of a load
 abbrev pub lead : Kind → ℕ
 lead k.Call = 1
 lead k.Load = 1

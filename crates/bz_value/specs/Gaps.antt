@@ -1,4 +1,4 @@
--- What a gap says: its lines, each with a comment or without one. Every reader of gaps stands on this one: the comments,
+-- What a gap says: its lines, each with a comment or without one. Every reader of gaps uses this one: the comments,
 -- the newlines, and the groups of comment lines at file level.
 use Rattle.std.specs.Prelude.{ℕ, Bool, true, false, ◌||◌, List, [], ◌∷◌, ◌++◌, Option, Some, None, if◌then◌else◌, nat_eq}
 use Rattle.bz_token.specs.Bytes.{is_blank}
@@ -54,7 +54,7 @@ abbrev pub comments_in : List GapLine → List Bytes
 comments_in [] = []
 comments_in (line ∷ lines) = as_list line.comment ++ comments_in lines
 
--- the comment of the first line: only blanks stand before it
+-- the comment of the first line: only blanks are before it
 abbrev pub first_comment : List GapLine → Option Bytes
 first_comment [] = None
 first_comment (line ∷ lines) = line.comment

@@ -3,7 +3,7 @@ use Rattle.std.specs.Prelude.{ℕ, suc, false, true, List, [], ◌∷◌, ◌||�
 use Rattle.bz_items.specs.Characters.{Bytes, backslash, line_feed, number_sign, space, tab}
 use Rattle.bz_value.specs.Gaps.{GapLine, trimmed, in_comment}
 
--- a line, and how many spaces and tabs stand right before its comment
+-- a line, and how many spaces and tabs are right before its comment
 pub record IndentedGapLine : Type 0 where
   pub indent : ℕ
   pub line : GapLine

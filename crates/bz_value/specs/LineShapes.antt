@@ -3,7 +3,7 @@ use Rattle.bz_tree.specs.declared.kind.Kind.{Kind}
 use Rattle.bz_tree.specs.declared.kind.Kind.TheVariants as k
 use Rattle.bz_tree.specs.Shapes.{Shape, none, bzl_shape}
 
--- The whole grammar, but that nothing has the shape of a function, a branch, a loop or a suite: these hold lines and stand in
+-- The whole grammar, but that nothing has the shape of a function, a branch, a loop or a suite: these hold lines and are in
 -- none.
 abbrev pub line_shape : Kind → Shape
 line_shape k.Def = none

@@ -20,7 +20,7 @@ abbrev pub each_with_comma : List Part → List Part
 each_with_comma [] = []
 each_with_comma (x ∷ xs) = x ∷ mark_leaf comma ∷ each_with_comma xs
 
--- The row of parts that a form stands for, by their roots: brackets and commas are put back. (A comma may stand after
+-- The row of parts that a form represents, by their roots: brackets and commas are put back. (A comma may be after
 -- the last item of every sequence, and is after that of a tuple of one.)
 abbrev pub row_in : Frame → List Part → List Part → List Part
 row_in row parts items = parts

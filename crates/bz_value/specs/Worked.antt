@@ -27,7 +27,7 @@ Escaped =
 abbrev pub Ends : Type 0
 Ends = (lines_of (codes "# c\\\n# d") ≡ commented (codes "# c\\") true ∷ commented (codes "# d") false ∷ []) × (all_in (codes "# c\\\n# d") ≡ codes "# c\\" ∷ codes "# d" ∷ [])
 
--- a line without comment ends a group, and an empty one stands where no comment does
+-- a line without comment ends a group, and an empty one is where no comment is
 abbrev pub Groups : Type 0
 Groups =
     (groups_of (lines_of (codes "# a\n # b\n\n# c\n")) ≡ (codes "# a" ∷ codes "# b" ∷ []) ∷ (codes "# c" ∷ []) ∷ [])

@@ -15,7 +15,7 @@ pub fn is_sequence(kind: Kind) -> bool
     )
 }
 
-/// How many parts stand before the opening bracket of a sequence.
+/// How many parts are before the opening bracket of a sequence.
 pub fn lead_of(kind: Kind) -> usize
     ensures value { result ≡ lead kind }
     ensures small { result ≤ 1 }

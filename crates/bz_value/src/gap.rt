@@ -1,4 +1,4 @@
-//! What a gap says, line by line. All that reads a gap stands on `first_line`.
+//! What a gap says, line by line. All that reads a gap uses `first_line`.
 ghost use Rattle.std.specs.Prelude.{◌≡◌, ◌+◌, ◌-◌, ◌^◌, ◌||◌, [], ◌∷◌, ◌++◌, ◌<◌, ◌≤◌, suc, nat_eq, nat_lt, if◌then◌else◌, take, drop, length, IfSome, MatchOption, OnOk, IfOk};
 ghost use Rattle.std.specs.Option.{option_copied};
 ghost use Rattle.bz_token.specs.Bytes.{is_blank};
@@ -18,14 +18,14 @@ pub struct Line<'a> {
     pub rest: &'a [u8],
 }
 
-/// A line of a gap, and how many spaces and tabs stand right before its comment.
+/// A line of a gap, and how many spaces and tabs are right before its comment.
 #[derive(Clone, Copy)]
 pub struct IndentedLine<'a> {
     pub indent: usize,
     pub line: Line<'a>,
 }
 
-/// How many spaces and tabs stand after a byte with which no line of a gap begins or ends, where this many stood before it.
+/// How many spaces and tabs are after a byte with which no line of a gap begins or ends, where this many were before it.
 fn indent_behind(indent: usize, byte: u8) -> usize
     requires { indent < 2 ^ 64 - 1 }
     ensures value { result ≡ (if nat_eq byte space || nat_eq byte tab then suc indent else 0) }
@@ -38,7 +38,7 @@ fn indent_behind(indent: usize, byte: u8) -> usize
     }
 }
 
-/// How many bytes stand before the first newline: all of them, where there is none.
+/// How many bytes are before the first newline: all of them, where there is none.
 fn line_len(text: &[u8]) -> usize
     ensures within { result ≤ length text.now }
     ensures words { (in_comment text.now).words ≡ take result text.now }
@@ -121,7 +121,7 @@ pub fn first_line(gap: &[u8]) -> Option<Line<'_>>
     None
 }
 
-/// The first line of a gap, with how many spaces and tabs stand right before its comment; `None` of a gap that says nothing.
+/// The first line of a gap, with how many spaces and tabs are right before its comment; `None` of a gap that says nothing.
 pub fn first_indented_line(gap: &[u8]) -> Option<IndentedLine<'_>>
     ensures line { MatchOption result (indented gap.now ≡ []) (λ first. indented gap.now ≡ record { indent = first.indent; line = record { comment = option_copied first.line.comment; newline = first.line.newline } } ∷ indented first.line.rest.now) }
     ensures shorter { IfSome result (λ first. length first.line.rest.now < length gap.now) }

@@ -37,7 +37,7 @@ pub enum Refusal {
 }
 
 impl Refusal {
-    /// The name by which the refusal is told.
+    /// The name by which the refusal is reported.
     pub fn name(&self) -> &'static str
         ensures { result.now ≡ refusal_name self.now }
     {
@@ -58,7 +58,7 @@ impl Refusal {
         }
     }
 
-    /// The number by which the refusal is told.
+    /// The number by which the refusal is reported.
     pub fn number(&self) -> u8
         ensures { result ≡ refusal_number self.now }
     {

@@ -55,7 +55,7 @@ impl Expr {
 }
 
 /// What is between the brackets of a call, list, dict, tuple or load, without brackets and commas: the items, the
-/// comments below the last one, and whether a newline stood before an item, a comma or the closing bracket.
+/// comments below the last one, and whether a newline was before an item, a comma or the closing bracket.
 #[cycle(expr)]
 #[derive(Drop)]
 pub struct Seq {
@@ -66,7 +66,7 @@ pub struct Seq {
 
 /// A node without gaps. With a sequence: `parts` is what is before its opening bracket (the function of a call, the
 /// word of a load). Without one: `parts` is the whole row of the node, marks too, and `seq` is empty. `open_`: of a
-/// comprehension, that a newline stood right after its bracket.
+/// comprehension, that a newline was right after its bracket.
 #[cycle(expr)]
 #[derive(Drop)]
 pub struct Form {
@@ -77,7 +77,7 @@ pub struct Form {
     pub comments: Comments,
 }
 
-/// An item of a file: comment lines that stand by themselves, or a statement.
+/// An item of a file: comment lines on their own, or a statement.
 #[derive(Drop)]
 pub enum Item {
     Block(Items<Text>),

@@ -203,7 +203,7 @@ pub token_closes : (ts : List Terminal) (x : Part) (outer here : Spot) → all_t
 token_closes ts (p.Leaf l) outer here h i = ap (λ t. behind_token t outer here) (of_terminals closes ts l h i)
 token_closes ts (Node' kind z r) outer here h i = no_such i
 
--- what follows the part stands where the part does, but for the first place of a line
+-- what follows the part is where the part is, but for the first place of a line
 abbrev pub GoesOn : Part → Type 0
 GoesOn x = (outer here : Spot) → behind_part outer here x ≡ onward here
 

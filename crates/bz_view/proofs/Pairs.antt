@@ -1,4 +1,4 @@
--- Where single tokens stand in a legal tree: the opening bracket of a sequence, the commas after its items and its closing
+-- Where single tokens are in a legal tree: the opening bracket of a sequence, the commas after its items and its closing
 -- bracket, the semicolons of a line and its newline.
 use Rattle.std.proofs.Common.{◌≡◌, ℕ, zero, suc, Bool, true, false, List, [], ◌∷◌, inl, inr, refl, drop}
 use Rattle.bz_tree.specs.declared.kind.Kind.{Kind}

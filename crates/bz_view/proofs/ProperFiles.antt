@@ -44,7 +44,7 @@ use Rattle.bz_view.proofs.ProperParts.{IsLexed, Ready, row_ready}
 abbrev pub AreProper : List Item → Type 0
 AreProper items = AllByRecursion IsProperItem items
 
--- ---- comment lines that stand by themselves
+-- ---- comment lines on their own
 
 blocks_proper : (gs : List (List Bytes)) → Groups gs → AreProper (blocks gs)
 blocks_proper [] h = tt

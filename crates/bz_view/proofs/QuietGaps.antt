@@ -1,4 +1,4 @@
--- Between the statements of a line stand no comments.
+-- There are no comments between the statements of a line.
 use Rattle.std.proofs.Common.{◌≡◌, ℕ, eqb, true, false, not, List, [], ◌∷◌, inl, inr, refl, ap, ◌∙◌, subst, arith}
 use Rattle.std.specs.List.{AllByRecursion}
 use Rattle.std.proofs.lemmas.Bool.{both_ways}
@@ -69,7 +69,7 @@ Quiet (x ∷ y ∷ z ∷ u ∷ xs) = (all_in (seen y).gap ≡ []) × (all_in (se
 abbrev pub Statements : List Part → Type 0
 Statements xs = Listed (IsSort s.small) s.semicolon true (Fits IsSort (tok s.newline done)) xs
 
--- where comments stand as S says, none is before the part if it is along a line
+-- where comments are as S says, none is before the part if it is along a line
 module _ (S : Spot → Leaf → Type 0) where
   abbrev pub Silent : Part → Type 0
   Silent x = is_inner x ≡ true → AtLeaves S Along x → all_in (seen x).gap ≡ []

@@ -20,7 +20,7 @@ use Rattle.bz_view.specs.View.{seen, seen_row, plain, first_seen_gap, begins_see
 use Rattle.bz_view.proofs.InnerParts.{GoesOn, binary_goes, binary_begins, sort_unsigned}
 use Rattle.bz_view.proofs.SeenParts.{node_operator, comments_made, break_made, no_break_made, operator_made, behind_made, part_along}
 
--- ---- where parts stand
+-- ---- where parts are
 
 pub on_twice : (here : Spot) → onward (onward here) ≡ onward here
 on_twice Within = refl

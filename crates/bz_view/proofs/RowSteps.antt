@@ -86,7 +86,7 @@ gap_outside (suc at) s old rest n = absurd (omega arith)
 pub part_here : (ps : List Part) (at : ℕ) (y : Part) → at < length ps → y ≡ get_or ps at y → map seen (drop at ps) ≡ seen y ∷ map seen (drop (at + 1) ps)
 part_here ps at y l i = ap (λ qs. map seen qs) (drop_more ps at y l ∙ ap (λ z. z ∷ drop (at + 1) ps) (sym i))
 
--- the parts from an operator's token on, or from an operand on: `before`, whether a newline is before the operator, is not asked for at an operand
+-- the parts from an operator's token on, or from an operand on: `before`, whether a newline is before the operator, is not needed at an operand
 quiet_before : (binary operator before : Bool) (s : Seen) (ss : List Seen) →
     s.make no_comments ((operator && not (begins_seen_operator ss)) && (before || has_newline (first_seen_gap ss))) ∷ row_exprs binary operator before ss
     ≡ s.make no_comments ((operator && not (begins_seen_operator ss)) && ((operator && before) || has_newline (first_seen_gap ss))) ∷ row_exprs binary operator (operator && before) ss

@@ -26,7 +26,7 @@ use Rattle.bz_view.proofs.InnerParts.{GoesOn, token_goes, sort_goes, token_opens
 use Rattle.bz_view.proofs.SeenParts.{Told, AllTold, comments_made, no_break_made, root_made}
 use Rattle.bz_view.proofs.RowParts.{AllFit}
 
--- ---- where the parts of a sequence stand
+-- ---- where the parts of a sequence are
 
 -- item, comma, item, .., closing bracket: neither items nor commas open or close brackets
 abbrev pub Alternate : List Part → Type 0

@@ -16,7 +16,7 @@ use Rattle.bz_value.specs.Gaps.{GapLine, lines_of, after_first_comment, groups_o
 use Rattle.bz_value.specs.Proper.{is_operator}
 
 -- A part that was read: the expression that it is for given comments and break, which only what is around it knows;
--- the gap before its first token; and the comments inside it that stand in no host or sequence inside it.
+-- the gap before its first token; and the comments inside it that are in no host or sequence inside it.
 pub record Seen : Type 0 where
   pub make : HostComments → Bool → Expr
   pub gap : Bytes
@@ -61,7 +61,7 @@ row_exprs binary inside newline (s ∷ ss) =
 -- ---- sequences
 
 -- The items of a sequence and its end comments, after the opening bracket: item, comma, item, .., closing bracket.
--- above: the comments so far that stand above the next item.
+-- above: the comments so far that are above the next item.
 abbrev mutual
   pub items_in : List Bytes → List Seen → List Expr × List Bytes
   items_in above [] = ([], above)
@@ -135,7 +135,7 @@ abbrev mutual
 
 -- ---- the file
 
--- comment lines that stand by themselves; an empty group is none
+-- comment lines on their own; an empty group is none
 abbrev pub blocks : List (List Bytes) → List Item
 blocks [] = []
 blocks ([] ∷ groups) = blocks groups

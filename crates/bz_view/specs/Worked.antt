@@ -96,7 +96,7 @@ Above =
     (calling [] (codes "a") false (argument no_comments (codes "b") (plain c.String (codes "\"x\"")) ∷ [])
     ∷ calling (codes "# keep" ∷ []) (codes "c") false (argument no_comments (codes "d") (plain c.String (codes "\"y\"")) ∷ []) ∷ [])
 
--- A group of comment lines that an empty line follows stands by itself; so does one above an escaped newline; texts end before their blanks.
+-- A group of comment lines that an empty line follows is on its own; so is one above an escaped newline; texts end before their blanks.
 abbrev pub CommentGroups : Type 0
 CommentGroups =
     Row
@@ -107,7 +107,7 @@ CommentGroups =
     ∷ []) [])
     (i.Block (codes "# a" ∷ codes "# b" ∷ []) ∷ calling (codes "# c\\" ∷ []) (codes "f") false [] ∷ i.Block (codes "# d" ∷ []) ∷ calling [] (codes "g") false [] ∷ [])
 
--- comments at the end of the file stand by themselves, the last one also without newline
+-- comments at the end of the file are on their own, the last one also without newline
 abbrev pub AtEnd : Type 0
 AtEnd =
     Row

@@ -13,7 +13,7 @@ use bz_value::{Comments, Expr, suffix_in};
 use std::alloc::{AllocError, Global};
 use std::mem;
 
-/// The expression with these comments above it, and the suffix that a gap after it tells. The error: memory was refused.
+/// The expression with these comments above it, and the suffix that a gap after it gives. The error: memory was refused.
 pub(crate) fn commented(
     alloc: Global,
     expr: Expr,

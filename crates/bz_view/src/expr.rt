@@ -1,4 +1,4 @@
-//! The expression of a part, and the comments inside it that stand in no host or sequence of its own.
+//! The expression of a part, and the comments inside it that are in no host or sequence of its own.
 ghost use Rattle.std.specs.Prelude.{◌≡◌, [], ◌∷◌, ◌++◌, ◌+◌, ◌<◌, ◌≤◌, length, map, take, drop, suc, false, IfOk, OnOk};
 ghost use Rattle.bz_value.specs.Comments.{no_comments};
 ghost use Rattle.bz_value.specs.Frames.{frame};
@@ -204,7 +204,7 @@ fn push_host(
     Ok(())
 }
 
-/// The sequence whose items stand from this index on, after the opening bracket.
+/// The sequence whose items are from this index on, after the opening bracket.
 #[cycle(seen)]
 pub fn seq_of(alloc: Global, parts: &[Part], from: usize) -> Result<Seq, Memory>
     requires { from ≤ 2 }

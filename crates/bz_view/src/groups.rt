@@ -8,7 +8,7 @@ use bz_items::{Items, Memory, Text};
 use bz_value::{Item, first_line};
 use std::alloc::Global;
 
-/// Appends comment lines that stand by themselves, if there are any.
+/// Appends comment lines on their own, if there are any.
 fn push_block(lines: Items<Text>, items: &mut Items<Item>) -> Result<(), Memory>
     ensures { OnOk result (items.new ≡ items.old ++ blocks (lines ∷ [])) }
 {

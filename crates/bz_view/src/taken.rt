@@ -14,7 +14,7 @@ use bz_value::{File, Item};
 use std::alloc::Global;
 
 /// The file value that `view` makes, of a tree that is given up: each line of it is dropped as soon as its items are made, so
-/// that the whole tree does not stand beside the whole value. The error: memory was refused.
+/// that the whole tree is not held beside the whole value. The error: memory was refused.
 pub fn into_view(alloc: Global, tree: Tree) -> Result<File, Memory>
     ensures value { IfOk result (λ file. file ≡ view_of tree) }
     ensures comments { IfOk result (λ file. (text : Bytes) → times text file ≡ occurrences text tree) }
@@ -38,7 +38,7 @@ fn into_items(alloc: Global, lines: Items<Part>) -> Result<Items<Item>, Memory>
 }
 
 /// Appends the items of a line, or of the end, which is dropped then, with the comment lines `left` before it. Returned: the gap
-/// whose lines stand before the next one. The error: memory was refused.
+/// whose lines are before the next one. The error: memory was refused.
 fn push_last(
     alloc: Global,
     left: &[u8],

@@ -42,7 +42,7 @@ unknown name words other = inl (inl (ap (λ found. option_map_or (λ reader. rea
 
 -- ---- a text that is too long
 
--- what is told by whether the name is in the table
+-- what is answered by whether the name is in the table
 abbrev told : Bool → ReadCommand
 told true = Err Arguments
 told false = Err Unknown

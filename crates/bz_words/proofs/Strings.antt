@@ -10,7 +10,7 @@ use Rattle.bz_token.specs.Bytes.{among}
 use Rattle.bz_token.specs.Lexemes.{IsShort, short_end, short_plain, short_taken, single, IsLexeme}
 use Rattle.bz_words.specs.Quoted.{is_escaped, escaped, quoted_of}
 
--- a byte that stands by itself
+-- a byte that is written as it is
 stays : (byte : ℕ) → (byte == line_feed) ≡ false → (byte == quotation_mark || byte == backslash) ≡ false
     → among byte (quotation_mark ∷ line_feed ∷ backslash ∷ []) ≡ false
 stays byte e f = let w = or_parts (byte == quotation_mark) (byte == backslash) f in rw (w.0, e, w.1) refl
@@ -33,7 +33,7 @@ short_text (byte ∷ word) = short_more byte (flat_map escaped word) (short_text
 pub quoted_lexeme : (word : Bytes) → IsLexeme class.String (quoted_of word)
 quoted_lexeme word = ([], quoted_of word, refl, refl, single quotation_mark (flat_map escaped word) refl (short_text word))
 
--- ---- a word of plain characters stands as it is
+-- ---- a word of plain characters is written as it is
 
 plain_text : (word : Bytes) → list_any is_escaped word ≡ false → flat_map escaped word ≡ word
 plain_text [] h = refl

@@ -144,7 +144,7 @@ module _ (config : Config) (utf8 : config.utf8 ≡ true) where
   abbrev v : Bool
   v = is_verbose config
 
-  -- a set that stands for whole characters
+  -- a set that represents whole characters
   record IsTextSet (set : Set) : Type 0 where
     whole : IsTextRe (one_of config set)
 

@@ -34,7 +34,7 @@ use Rattle.bz_words.specs.declared.fault.CommandFault.TheVariants.{Unknown, Argu
 abbrev pub ReadCommand : Type 0
 ReadCommand = Result Operation CommandFault
 
--- the command, where its words have the form that it asks for
+-- the command, where its words have the form that it takes
 abbrev pub given : Bool → Operation → ReadCommand
 given true command = Ok command
 given false command = Err Arguments
@@ -290,7 +290,7 @@ commands =
 abbrev pub command_names : List Bytes
 command_names = map (λ command. command.0) commands
 
--- the forms of the words of each command, as they are told where words have another one
+-- the forms of the words of each command, as they are printed where words have another one
 abbrev pub command_forms : List (Bytes × Bytes)
 command_forms =
     (codes "new", codes "'new KIND NAME [before RULE]' or 'new KIND NAME [after RULE]'")
@@ -325,7 +325,7 @@ row_named (row ∷ rows) name = if bytes_eq name row.0 then Some row.1 else row_
 abbrev pub text_limit : ℕ
 text_limit = 65536
 
--- An unknown name is told first, then a text that is too long, then what is wrong with the words.
+-- An unknown name is reported first, then a text that is too long, then what is wrong with the words.
 abbrev pub command_in : Bool → List Bytes → ReadCommand
 command_in fits [] = Err Unknown
 command_in fits (name ∷ words) = option_map_or (λ reader. if fits then reader words else Err Arguments) (row_named commands name) (Err Unknown)

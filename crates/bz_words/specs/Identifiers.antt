@@ -6,7 +6,7 @@ use Rattle.bz_token.specs.Bytes.{is_digit, is_high, is_letter}
 use Rattle.bz_token.specs.Lexemes.{is_keyword, IsLexeme}
 use Rattle.bz_items.specs.Characters.{Bytes, full_stop}
 
--- a letter, a digit or `_`, told from its byte alone: EF tells nothing
+-- a letter, a digit or `_`, known from its byte alone: EF says nothing
 abbrev pub is_plain_letter : ℕ → Bool
 is_plain_letter byte = (is_letter byte || is_digit byte) && not (byte == 239)
 

@@ -1,4 +1,4 @@
--- What every command that was read is: its kinds are kinds, its attributes identifiers, where values are asked for there is
+-- What every command that was read is: its kinds are kinds, its attributes identifiers, where values are required there is
 -- one, and all its texts are UTF-8.
 use Rattle.std.specs.Prelude.{◌≡◌, true, List, [], ◌∷◌, IsUtf8}
 use Rattle.bz_items.specs.Characters.{Bytes}

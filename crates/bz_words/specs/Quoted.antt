@@ -3,7 +3,7 @@ use Rattle.std.specs.Prelude.{ℕ, ◌==◌, Bool, ◌||◌, [], ◌∷◌, ◌+
 use Rattle.std.specs.List.{flat_map}
 use Rattle.bz_items.specs.Characters.{Bytes, backslash, letter_n, line_feed, quotation_mark}
 
--- a quotation mark, a backslash or a newline, which cannot stand in a string by itself
+-- a quotation mark, a backslash or a newline, which cannot be in a string by itself
 abbrev pub is_escaped : ℕ → Bool
 is_escaped byte = byte == line_feed || (byte == quotation_mark || byte == backslash)
 

@@ -4,7 +4,7 @@ use bz_items::{Items, Text};
 use std::marker::Model;
 
 /// A command as it can be read: the attributes of its operation are identifiers, its kinds are kinds, where values are
-/// asked for there is one, and all its texts are UTF-8.
+/// required there is one, and all its texts are UTF-8.
 #[derive(Debug, Drop)]
 pub struct Command {
     pub operation: Operation,

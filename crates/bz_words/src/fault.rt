@@ -22,7 +22,7 @@ pub enum CommandFault {
 }
 
 impl CommandFault {
-    /// The name by which the fault is told.
+    /// The name by which the fault is reported.
     pub fn name(&self) -> &'static str
         ensures { result.now ≡ fault_name self.now }
     {
@@ -34,7 +34,7 @@ impl CommandFault {
         }
     }
 
-    /// The number by which the fault is told.
+    /// The number by which the fault is reported.
     pub fn number(&self) -> u8
         ensures { result ≡ fault_number self.now }
     {

@@ -27,7 +27,7 @@ pub(crate) fn take_first(words: &mut Vec<Text>) -> Result<Text, CommandFault>
     Ok(words.remove(0))
 }
 
-/// The command, where its words have the form that it asks for. The error: `Arguments`: they haven't.
+/// The command, where its words have the form that it takes. The error: `Arguments`: they haven't.
 pub(crate) fn given(holds: bool, operation: Operation) -> Read
     ensures { result ≡ c.given holds operation }
 {

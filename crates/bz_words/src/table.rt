@@ -118,7 +118,7 @@ fn read_named(name: &str, words: Vec<Text>) -> Read
     commands!(read_by_name name words)
 }
 
-// What is told of a text that is too long: an unknown name first. The further words are not read.
+// What is reported of a text that is too long: an unknown name first. The further words are not read.
 fn too_long(name: &str) -> CommandFault
     ensures { (words : _) → c.command_in false (name.now ∷ words) ≡ Err result }
 {
@@ -129,7 +129,7 @@ fn too_long(name: &str) -> CommandFault
     }
 }
 
-// An unknown name is told first, then a text that is too long, then what is wrong with the words.
+// An unknown name is reported first, then a text that is too long, then what is wrong with the words.
 fn command_in(mut words: Vec<Text>, fits: bool) -> Read
     requires { AreUtf8 words.items }
     ensures { IsReadAs (c.command_in fits words.items) result }

@@ -1,4 +1,4 @@
--- The fault that is told where a text is not opened.
+-- The fault that is reported where a text is not opened.
 use Rattle.std.proofs.Common.{◌≡◌, ◌⊎◌, ◌↔◌, ◌≤◌, ◌<◌, inl, inr, ℕ, List, length, Result, Err, refl, sym, ap, subst, ◌∙◌, Bool, true, false, true≢false, [], ◌∷◌, None}
 use Rattle.std.specs.Str.{IsValidUpTo}
 use Rattle.bz_lex.specs.declared.fault.ReadFault.{ReadFault}

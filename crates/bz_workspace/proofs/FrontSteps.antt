@@ -1,4 +1,4 @@
--- The first bytes of a text, one more than a text may have, tell what becomes of it.
+-- The first bytes of a text, one more than a text may have, decide what becomes of it.
 use Rattle.std.proofs.Common.{◌≡◌, ◌⊎◌, ◌↔◌, ◌≤◌, ◌<◌, ◌+◌, inl, inr, List, length, take, Option, arith, subst, sym, length-take}
 use Rattle.std.proofs.lemmas.List.{take_all}
 use Rattle.std.proofs.lemmas.Bool.{cases_lt}

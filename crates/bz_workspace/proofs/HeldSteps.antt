@@ -16,7 +16,7 @@ use Rattle.bz_workspace.specs.Opens.{opened_fresh}
 use Rattle.bz_workspace.specs.Packages.{Opened, opened_with}
 use Rattle.bz_workspace.proofs.JournalSteps.{one_given}
 
--- where a history stands for a text it has that text
+-- where a history matches a text it has that text
 pub stands_text : (h : History) (text : Bytes) (at : ℕ) → stands h text ≡ Some at → text_at h at ≡ text
 stands_text h text at is = go (bytes_eq text (text_at h h.cursor)) (bytes_eq text (text_at h h.before)) refl refl is
   where

@@ -51,7 +51,7 @@ fault_gives A current bytes text f.Version version damaged stale = inr (version.
 fault_gives A current bytes text f.Stale version damaged stale = inr (stale refl)
 fault_gives A current bytes text f.Damaged version damaged stale = inr (inr ((λ other. let e = version.1 other in absurd (cc)), damaged refl))
 
--- what is told of a journal that is not resumed
+-- what is reported of a journal that is not resumed
 pub told_gives : (current bytes text : Bytes) (fault : ResumeFault) → fault ≢ f.Memory → (fault ≡ f.Memory) ⊎ JournalGives current bytes text (Err fault)
     → JournalGives current bytes text (Err fault)
 told_gives current bytes text fault other (inl is) = absurd (other is)
@@ -154,7 +154,7 @@ differ one other long short = go (bytes_eq one other) refl
     go true is = let same : length one ≡ length other = ap length ((bytes_eq-Decides one other).0 is) in absurd (omega (arith, same))
     go false is = refl
 
--- so it stands for no longer one
+-- so it matches no longer one
 nowhere : (bytes text : Bytes) (h : History) (es : List (List Edit)) → Journal bytes h es → limit < length text → stands h text ≡ None
 nowhere bytes text h es journal long =
     ap (λ b. if b then Some h.cursor else (if bytes_eq text (text_at h h.before) then Some h.before else None)) (differ text (text_at h h.cursor) long (short_at bytes h es h.cursor journal))

@@ -28,7 +28,7 @@ given_some name text (Ok history) file lines is told =
     let same = same_file file (opened_with name text history) is in (ap (λ (f : Opened). f.name) same, ap (λ (f : Opened). f.read) same, told)
 given_some name text (Err fault) file lines is told = absurd (let e = is in cc)
 
--- an open file has the name and the text that were read, and nothing is told
+-- an open file has the name and the text that were read, and nothing is printed
 takes_some : (journal : Option Bytes) (current name text : Bytes) (file : Opened) (lines : List Bytes) → TakesBeside journal current name text (Some file) lines
     → (file.name ≡ name) × (file.read ≡ text) × (lines ≡ [])
 takes_some None current name text file lines (inl (accepted, is, told)) =

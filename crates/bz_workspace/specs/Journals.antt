@@ -19,12 +19,12 @@ use Rattle.bz_workspace.specs.Found.{IsNameOf, PackagesFound}
 use Rattle.bz_workspace.specs.Opens.{Opens, Takes}
 use Rattle.bz_workspace.specs.Packages.{Opened, Used, opened_with, with_opened}
 
--- the bytes are a journal of this history, which stands for the text at this number
+-- the bytes are a journal of this history, which matches the text at this number
 abbrev pub StandsAt : Bytes → Bytes → History → ℕ → Type 0
 StandsAt bytes text h at = ((es : List (List Edit)) × Journal bytes h es) × (stands h text ≡ Some at)
 
 -- What comes of a journal for a file of this package that holds this text: the history that goes on at the number where it is
--- for the text; or why none does: the journal names another version, it stands nowhere for the text, or it is the journal of another
+-- for the text; or why none does: the journal names another version, it matches the text nowhere, or it is the journal of another
 -- package, or none at all.
 abbrev pub JournalGives : Bytes → Bytes → Bytes → Result History ResumeFault → Type 0
 JournalGives current bytes text (Ok history) =
@@ -35,7 +35,7 @@ JournalGives current bytes text (Err f.Damaged) =
     ((h : History) × (at : ℕ) × StandsAt bytes text h at × (h.package ≢ current)) ⊎ ((IsOtherVersion bytes → ⊥) × NoJournal bytes)
 JournalGives current bytes text (Err f.Memory) = ⊥
 
--- the name and the number of a fault, as they are told of a journal
+-- the name and the number of a fault, as they are reported of a journal
 abbrev pub fault_word : ResumeFault → Bytes
 fault_word f.Memory = codes "Memory (8)"
 fault_word f.Damaged = codes "Damaged (71)"
@@ -46,7 +46,7 @@ abbrev pub file_of_journal : Bytes → Bytes → Result History ResumeFault → 
 file_of_journal name text (Ok history) = Some (opened_with name text history)
 file_of_journal name text (Err fault) = None
 
--- what may be done where a file holds no text that its journal stands for
+-- what may be done where a file holds no text that its journal matches
 abbrev pub stale_hint : Bytes → Bytes
 stale_hint journal = codes "buildozer: the file changed since the last run with --journal: restore it, or delete " ++ journal ++ codes " to begin a new history\n"
 
@@ -60,7 +60,7 @@ abbrev pub lines_of_journal : Bytes → Result History ResumeFault → List Byte
 lines_of_journal name (Ok history) = []
 lines_of_journal name (Err fault) = named_line (journal_name name) (fault_word fault) ∷ hints_of_journal (journal_name name) fault
 
--- A file without a journal is opened as its text says. One with a journal goes on with its history, or its fault is told by the
+-- A file without a journal is opened as its text says. One with a journal goes on with its history, or its fault is reported by the
 -- journal's name.
 abbrev pub TakesBeside : Option Bytes → Bytes → Bytes → Bytes → Option Opened → List Bytes → Type 0
 TakesBeside None current name text file lines = Takes current name text file lines

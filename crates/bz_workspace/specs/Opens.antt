@@ -15,18 +15,18 @@ use Rattle.bz_workspace.specs.Found.{PackagesFound, second_name}
 abbrev pub opened_fresh : Bytes → Bytes → Bytes → Opened
 opened_fresh current name text = opened_with name text (opened current text)
 
--- An accepted text is opened; of every other text its fault is told.
+-- An accepted text is opened; of every other text its fault is reported.
 abbrev pub Takes : Bytes → Bytes → Bytes → Option Opened → List Bytes → Type 0
 Takes current name text file lines =
     (Accepted text × (file ≡ Some (opened_fresh current name text)) × (lines ≡ []))
     ⊎ ((Accepted text → ⊥) × ((fault : ReadFault) × IsFaultOf text fault × (file ≡ None) × (lines ≡ fault_line name fault ∷ [])))
 
--- A text and its first bytes, one more than a text may have, are opened or told alike: both are too large, or they are the same.
+-- A text and its first bytes, one more than a text may have, are opened or reported alike: both are too large, or they are the same.
 abbrev pub FrontsAreToldAlike : Type 0
 FrontsAreToldAlike = (current name text : Bytes) (file : Option Opened) (lines : List Bytes)
     → (Takes current name (take (limit + 1) text) file lines ↔ Takes current name text file lines)
 
--- The file that is found for a package is opened; where none is, that is told of `BUILD`.
+-- The file that is found for a package is opened; where none is, that is reported of `BUILD`.
 abbrev pub Opens : Bytes → Option PackagesFound → Option Opened → List Bytes → Type 0
 Opens current (Some found) file lines = Takes current found.0 found.1 file lines
 Opens current None file lines = (file ≡ None) × (lines ≡ named_line (second_name current) (codes "cannot open") ∷ [])

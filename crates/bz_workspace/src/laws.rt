@@ -4,7 +4,7 @@ ghost use Rattle.bz_workspace.specs.Journals.{HeldFilesGoOn, JournalGivesOne};
 ghost use Rattle.bz_workspace.specs.Keeps.{StillIsSame};
 ghost use Rattle.bz_workspace.specs.Opens.{FrontsAreToldAlike};
 
-/// A text and its first bytes, one more than a text may have, are opened or told alike. So of a file no more has to be read.
+/// A text and its first bytes, one more than a text may have, are opened or reported alike. So of a file no more has to be read.
 pub fn fronts_are_told_alike()
     ensures { FrontsAreToldAlike }
 {}

@@ -122,7 +122,7 @@ pub(crate) fn resumed(
     Ok(Opened::new(name, Text::from_vec(text), Editor::new(session)))
 }
 
-/// The name and the number of why a journal is refused, as they are told after its name.
+/// The name and the number of why a journal is refused, as they are printed after its name.
 fn told_fault(fault: &ResumeFault) -> &'static str
     ensures { result.now ≡ fault_word fault.now }
 {
@@ -145,7 +145,7 @@ fn cut_of(fault: &ResumeFault) -> Cut
     }
 }
 
-// Tells what may be done where a journal stands nowhere for the text of its file.
+// Prints what may be done where a journal matches the text of its file nowhere.
 fn tell_hint<E: Sink>(err: &mut E, journal: &str, fault: &ResumeFault)
     ensures { Tells (E.faults err.old) (E.faults err.new) (E.contents err.old) (E.contents err.new) (hints_of_journal journal.now fault.now) }
 {
@@ -168,7 +168,7 @@ fn tell_stale<'a, E: Sink>(err: &mut E, journal: &'a str)
     );
 }
 
-/// Tells a word on a file, and no file is open.
+/// Reports a word on a file, and no file is open.
 pub(crate) fn fail<E: Sink>(err: &mut E, name: &str, word: &str, cut: Cut) -> Opening
     ensures opening { result ≡ record { place = None; cut = cut } }
     ensures told { AppendsUnlessFailed (E.faults err.old) (E.faults err.new) (E.contents err.old) (E.contents err.new)
@@ -178,7 +178,7 @@ pub(crate) fn fail<E: Sink>(err: &mut E, name: &str, word: &str, cut: Cut) -> Op
     without_file(cut)
 }
 
-/// Tells why a journal is refused, and after that what may be done; no file is open.
+/// Reports why a journal is refused, and after that what may be done; no file is open.
 pub(crate) fn unresumed<E: Sink>(err: &mut E, journal: &str, fault: &ResumeFault) -> Opening
     ensures place { result.place ≡ None }
     ensures whole { result.cut ≡ Cut.Whole → fault.now ≢ ResumeFault.Memory }
@@ -191,7 +191,7 @@ pub(crate) fn unresumed<E: Sink>(err: &mut E, journal: &str, fault: &ResumeFault
     opening
 }
 
-/// Tells that memory was refused before a file of the package had its name, and no file is open.
+/// Reports that memory was refused before a file of the package had its name, and no file is open.
 pub(crate) fn unnamed<E: Sink>(err: &mut E, package: &str) -> Opening
     ensures { result ≡ record { place = None; cut = Cut.Memory } }
 {

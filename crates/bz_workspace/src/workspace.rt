@@ -138,9 +138,9 @@ impl Workspace {
         }
     }
 
-    /// Opens the file of a used package with what was read of it, or tells its fault: `NAME:LINE:COLUMN: FAULT`,
+    /// Opens the file of a used package with what was read of it, or reports its fault: `NAME:LINE:COLUMN: FAULT`,
     /// `NAME: NotUtf8 at BYTE` or `NAME: FAULT`. The name and the package are taken as given. It is cut where memory was
-    /// refused, which is told as `NAME: Memory`; all packages are then as before.
+    /// refused, which is reported as `NAME: Memory`; all packages are then as before.
     pub fn open_text<E: Sink>(
         &mut self,
         place: usize,
@@ -306,7 +306,7 @@ impl Workspace {
 
     /// A package: one that was used is not read again; of a new one the file `BUILD.bazel` is read, else `BUILD`, and it is
     /// a used one from then on, whatever comes. Of a file no more is read than one byte past the limit of a text. Where journals are kept, `FILE.journal` is read too, and resumed where it is
-    /// there. A fault is told by one line for each file: those of the text, `NAME: cannot
+    /// there. A fault is reported by one line for each file: those of the text, `NAME: cannot
     /// open` where neither is there or one could not be read, and `NAME: Memory` where memory was refused; of
     /// a journal `NAME.journal: cannot open`, or `NAME.journal: FAULT (NUMBER)`. Cuts: `Memory` and `Files`, the first that
     /// came; the second file may be open after a `Files` of the first.

@@ -1,4 +1,4 @@
--- What a part of a node is, told by its neighbours in the shape: the items of sequences, what is before a bracket, and
+-- What a part of a node is, known by its neighbours in the shape: the items of sequences, what is before a bracket, and
 -- what is in a comprehension.
 use Rattle.std.proofs.Common.{◌≡◌, ℕ, Bool, true, false, not, ◌||◌, List, [], ◌∷◌, ◌++◌, inl, inr, Some, None, refl, sym, subst, codes}
 use Rattle.std.specs.List.{AllByRecursion}
@@ -36,7 +36,7 @@ is_so (S a) x h = h
 abbrev pub any_last : Element → Bool
 any_last a = true
 
--- ---- a part that no element of the shape is, does not stand in it
+-- ---- a part that no element of the shape is, is not in it
 
 abbrev pub other_than : Part → Element → Element → Bool
 other_than m a b = not (is b m)

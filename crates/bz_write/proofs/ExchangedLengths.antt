@@ -13,7 +13,7 @@ marked_length_next marks items k m d g h =
     ap (λ ms. marked_length ms (drop k items)) (drop_more marks k m g) ∙
     ap (λ xs. marked_length (get_or marks k m ∷ drop (k + 1) marks) xs) (drop_more items k d h)
 
--- they stand in the layout
+-- they are in the layout
 pub length_below : (marks : List Bool) (items : List Item) → marked_length marks items ≤ length (layout items)
 length_below [] items = omega arith
 length_below (m ∷ ms) [] = omega arith

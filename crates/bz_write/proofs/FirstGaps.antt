@@ -1,5 +1,5 @@
--- Of what is laid out of an expression only the first leaf may begin a line: where its gap is flush, all leaves stand as they
--- stand in a BUILD file.
+-- Of what is laid out of an expression only the first leaf may begin a line: where its gap is flush, all leaves are placed as they
+-- are in a BUILD file.
 use Rattle.std.proofs.Common.{◌≡◌, true, false, List, [], ◌∷◌, ◌++◌, refl, sym, ◌∙◌}
 use Rattle.bz_token.specs.declared.class.Class.{Class}
 use Rattle.bz_token.specs.declared.class.Class.TheVariants as c

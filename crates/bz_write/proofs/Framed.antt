@@ -1,4 +1,4 @@
--- What the shape of a kind in the lines of a file says of a row of parts: that it has a part, and where its signs stand.
+-- What the shape of a kind in the lines of a file says of a row of parts: that it has a part, and where its signs are.
 use Rattle.std.proofs.Common.{◌≡◌, ℕ, Bool, true, false, ◌&&◌, List, [], ◌∷◌, inl, inr, refl, sym, ap, ◌∙◌, true≢false}
 use Rattle.std.specs.Prelude.{codes}
 use Rattle.std.proofs.lemmas.Bool.{and_parts}

@@ -1,4 +1,4 @@
--- What the layout draws of a proper file value is legal.
+-- What the layout makes of a proper file value is legal.
 use Rattle.std.proofs.Common.{◌≡◌, ◌≤◌, Bool, true, false, List, [], ◌∷◌, ◌++◌, inl, inr, Option, Some, None, if◌then◌else◌, append_assoc, refl, sym, subst, arith}
 use Rattle.std.specs.Prelude.{IsUtf8}
 use Rattle.std.specs.List.{AllByRecursion, flat_map}
@@ -135,7 +135,7 @@ newline_follows b (Some text) t = inl refl
 line_tokens : (x : Part) (newline : Leaf) (rest : List Leaf) → newline.class ≡ c.Newline → newline.token ≡ line_feed ∷ [] → Toks (leaves_part x) (spell_leaves (newline ∷ rest)) → AreTokens rest → AreTokens ((leaves_part x ++ (newline ∷ [])) ++ rest)
 line_tokens x newline rest i t h r = subst AreTokens (sym (append_assoc (leaves_part x) (newline ∷ []) rest)) (tokens_before (leaves_part x) (newline ∷ rest) h (subst (λ z. TokenStands z newline.token rest) (sym i) (inl t), r))
 
--- a line stands where one begins, and its leaves are tokens before others that are
+-- a line is where one begins, and its leaves are tokens before others that are
 record IsLine (x : Part) : Type 0 where
   legal : LegalPart x
   is_line : IsSort s.line x

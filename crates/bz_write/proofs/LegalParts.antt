@@ -1,4 +1,4 @@
--- What the layout draws of a proper expression has legal shapes, is apart where it must, and begins with the gap that it
+-- What the layout makes of a proper expression has legal shapes, is apart where it must, and begins with the gap that it
 -- is given.
 use Rattle.std.proofs.Common.{◌≡◌, ℕ, Bool, true, false, not, ◌&&◌, ◌+◌, List, [], ◌∷◌, ◌++◌, Option, None, if◌then◌else◌, length, refl, sym, ap, subst, map}
 use Rattle.std.specs.Prelude.{nat_eq}

@@ -1,4 +1,4 @@
--- The steps of the loops that draw rows, sequences and lines.
+-- The steps of the loops that lay out rows, sequences and lines.
 use Rattle.std.proofs.Common.{ℕ, suc, Bool, false, ◌&&◌, ◌≡◌, ◌<◌, List, [], ◌∷◌, ◌++◌, ◌+◌, if◌then◌else◌, length, get_or, drop, refl, sym, ap, ◌∙◌, map, append_assoc}
 use Rattle.std.specs.Prelude.{Option, None, Some, nat_eq}
 use Rattle.std.proofs.lemmas.List.{map-append, drop_more}
@@ -20,7 +20,7 @@ use Rattle.bz_value.specs.Empty.{is_empty}
 use Rattle.bz_write.specs.Drawn.{piece_part, part_of, parts_in, drawings, drawn_body, comma_behind, own_lines, left_gap, before_next, lines_from}
 
 module _ {X : Type 0} where
-  -- a broken sequence, where what is to stand after the item before it is written already
+  -- a broken sequence, where what is to come after the item before it is written already
   abbrev pub stacked_behind : ℕ → Bytes → ℕ → List Bytes → List (Expr × X) → List (Piece X)
   stacked_behind m gap closer end_ [] = mark (gap ++ ended m end_) (closer ∷ []) ∷ []
   stacked_behind m gap closer end_ (x ∷ xs) =

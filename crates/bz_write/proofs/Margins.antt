@@ -1,4 +1,4 @@
--- The gaps that the layout makes stand where they may, and are texts of characters.
+-- The gaps that the layout makes are where they may be, and are texts of characters.
 use Rattle.std.proofs.Common.{◌≡◌, ◌≢◌, ◌<◌, ℕ, zero, suc, Bool, true, false, ◌+◌, ◌||◌, List, [], ◌∷◌, ◌++◌, Option, Some, None, if◌then◌else◌, get_or, refl, sym, ap, ◌∙◌, subst, append_assoc, arith}
 use Rattle.std.specs.Prelude.{replicate, IsUtf8}
 use Rattle.std.specs.List.{AllByRecursion}
@@ -20,7 +20,7 @@ use Rattle.bz_value.specs.Empty.{is_empty}
 use Rattle.bz_write.specs.Written.{comment_lines}
 use Rattle.bz_write.proofs.Elements.{in_line_class}
 
--- What may stand before a token of a line: a gap, which is a text of characters. (The same may stand before the first token
+-- What may be before a token of a line: a gap, which is a text of characters. (The same may be before the first token
 -- of a line as inside brackets.)
 abbrev pub FitsAt : Spot → Bytes → Type 0
 FitsAt Begins gap = IsGap true false gap × IsUtf8 gap
@@ -165,7 +165,7 @@ flush_line [] b h = flush_first line_feed b refl h
 flush_line (x ∷ []) b h = flush_first line_feed b refl h
 flush_line (x ∷ y ∷ a) b h = flush_line (y ∷ a) b h
 
--- what may stand before the first token of a line of a BUILD file: no space and no tab is right before the token
+-- what may be before the first token of a line of a BUILD file: no space and no tab is right before the token
 abbrev pub FitsFlush : Bytes → Type 0
 FitsFlush gap = FitsAt Begins gap × (is_flush gap ≡ true)
 

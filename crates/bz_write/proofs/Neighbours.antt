@@ -1,4 +1,4 @@
--- Which parts of a node stand beside each other, by a computed test on its shape.
+-- Which parts of a node are beside each other, by a computed test on its shape.
 use Rattle.std.proofs.Common.{◌≡◌, ℕ, Bool, true, false, not, ◌&&◌, ◌||◌, List, [], ◌∷◌, inl, inr, Option, Some, None, refl, codes}
 use Rattle.std.specs.Prelude.{nat_eq}
 use Rattle.std.proofs.lemmas.Bool.{and_parts, both_ways}

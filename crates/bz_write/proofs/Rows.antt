@@ -1,4 +1,4 @@
--- The spaces that the layout puts in a row, and between brackets, are those that the neighbours ask for.
+-- The spaces that the layout puts in a row, and between brackets, are those that the neighbours require.
 use Rattle.std.proofs.Common.{◌≡◌, ℕ, Bool, true, false, not, ◌&&◌, ◌+◌, List, [], ◌∷◌, ◌++◌, inl, inr, Option, Some, None, if◌then◌else◌, length, refl, sym, ◌∙◌, subst, map}
 use Rattle.std.specs.Prelude.{replicate, nat_eq}
 use Rattle.std.specs.List.{AllByRecursion}
@@ -107,7 +107,7 @@ and_false : (a : Bool) → (a && false) ≡ false
 and_false true = refl
 and_false false = refl
 
--- anything touches a bracket or a comma after it, but a token that asks for a space does not ask for it there
+-- anything touches a bracket or a comma after it, but a token that requires a space does not require it there
 touches_lone : (kind : Kind) (x y : Part) → is_lone y ≡ true → apart kind x y ≡ false
 touches_lone kind x y h = let w = lone_before kind y h in rw (h, w.0, w.1, and_false (is_spaced_after kind x), and_false (is_value x)) refl
 
@@ -235,7 +235,7 @@ apart_in row kind b split open_ gap m parts items end_ h i o v = row_apart kind 
 apart_in (sequence opener closer) kind b split open_ gap m parts items end_ h i o v =
     headed_apart kind closer b.1 opener b.0 b.2 (is_broken kind split (firsts items) end_) (is_tuple kind && nat_eq (length items) 1) gap m end_ parts items o (items_of items i v)
 
--- each two neighbours of what is laid of a form stand apart where they must
+-- each two neighbours of what is laid out of a form are apart where they must be
 pub laid_apart : (kind : Kind) (split open_ : Bool) (gap : Bytes) (m : ℕ) (parts items : List Child) (end_ : List Bytes) → AreBehind parts → AreBehind items →
     in_frame (frame kind) (Unit {0}) (AtMostOne (rooted parts)) → in_frame (frame kind) (Unit {0}) (AreValues (rooted items)) → Apart kind (map piece_part (laid kind split open_ gap m parts items end_))
 laid_apart kind split open_ gap m parts items end_ h i o v = apart_in (frame kind) kind (bracketed kind) split open_ gap m parts items end_ h i o v

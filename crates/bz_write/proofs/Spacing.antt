@@ -1,4 +1,4 @@
--- The spaces of the layout, told by the parts themselves: what the elements of a shape ask for, the parts show.
+-- The spaces of the layout, known by the parts themselves: what the elements of a shape require, the parts show.
 use Rattle.std.proofs.Common.{◌≡◌, ℕ, Bool, true, false, not, ◌&&◌, ◌||◌, List, [], ◌∷◌, inl, inr, refl, sym, ap, ◌∙◌, subst}
 use Rattle.std.proofs.lemmas.Bool.{and_parts, or_cases, both_ways, not-true, and_from, or_left, or_right}
 use Rattle.std.proofs.lemmas.Slice.Eq.{bytes_eq-Decides}
@@ -101,7 +101,7 @@ by_before a b d h = or_right a (b || d) (or_left b d h)
 by_values : (a b d e : Bool) → d ≡ true → e ≡ true → (a || (b || (d && e))) ≡ true
 by_values a b d e h i = or_right a (b || (d && e)) (or_right b (d && e) (and_from d e h i))
 
--- where the elements ask for a space, the parts show that they do
+-- where the elements require a space, the parts show that they do
 pub spaced_apart : (kind : Kind) (a b : Element) (x y : Part) → Is a x → Is b y → spaced kind a b ≡ true → apart kind x y ≡ true
 spaced_apart kind (S a) (S b) x y i j h = by_values _ _ _ _ (value_of a x i) (value_of b y j)
 spaced_apart kind (S a) (T us) x y i j h = by_before _ _ _ (before_of kind us y h j)

@@ -1,4 +1,4 @@
--- What the layout draws of any proper expression stands where it may, whatever its kinds are: one lemma for each way to lay
+-- What the layout makes of any proper expression is where it may be, whatever its kinds are: one lemma for each way to lay
 -- parts.
 use Rattle.std.proofs.Common.{◌≡◌, ℕ, Bool, true, false, not, ◌&&◌, ◌+◌, List, [], ◌∷◌, ◌++◌, None, Option, if◌then◌else◌, length, refl, sym, subst, map, append-nil, arith}
 use Rattle.std.specs.Prelude.{IsUtf8, nat_eq}
@@ -34,7 +34,7 @@ use Rattle.bz_write.proofs.Fitted.{Child, rooted, roots_of_row, Pieces}
 use Rattle.bz_write.proofs.Margins.{FitsAt, gap_stands, gap_coded, coded_byte, inner_nothing, inner_space, item_gap, closer_gap, is_begins, none_fits, behind_fits}
 use Rattle.bz_write.proofs.Spots.{lexeme_in_line, AsRow, AsSequence, goes_on, value_within, RowBreaks, row_breaks}
 
--- a leaf stands where it may, is of texts of characters, and holds a lexeme
+-- a leaf is where it may be, is of texts of characters, and holds a lexeme
 pub record Placed (here : Spot) (leaf : Leaf) : Type 0 where
   pub stands : BzlStands here leaf
   pub coded : IsCodedLeaf leaf
@@ -198,7 +198,7 @@ open_form row kind c parts items h = comprehension kind c parts h
 open_form (sequence opener closer) kind c parts items h = tt
 
 mutual
-  -- what is laid out of a proper expression stands where it may
+  -- what is laid out of a proper expression is where it may be
   pub drawn_stands : (here : Spot) (x : Expr) → ProperBy line_shape here x → (gap : Bytes) (m : ℕ) → FitsAt here gap → AtLeaves Placed here (part_of x gap m)
   drawn_stands here (Token t) h gap m g = placed t.class gap t.text here h.0 h.1 g
   drawn_stands here (Form' kind z parts z' items end_ split open_ comments) h gap m g =

@@ -7,7 +7,7 @@ use Rattle.bz_write.specs.Drawn.{own_lines, left_gap, lines_from}
 use Rattle.bz_write.specs.Taken.{before_item}
 use Rattle.bz_write.proofs.Loops.{lines_first}
 
--- only the first of those that follow tells what is before it
+-- only the first of those that follow says what is before it
 before_first : (above : Option Item) (x : Item) (xs : List Item) → before_item above (x ∷ xs) ≡ before_item above (x ∷ [])
 before_first None x xs = refl
 before_first (Some y) x xs = refl

@@ -1,4 +1,4 @@
--- A tree whose leaves hold lexemes, with a space or a newline where the kinds of its nodes ask for one, holds tokens.
+-- A tree whose leaves hold lexemes, with a space or a newline where the kinds of its nodes require one, holds tokens.
 use Rattle.std.proofs.Common.{◌≡◌, ℕ, ◌≤◌, Bool, true, false, not, ◌&&◌, List, [], ◌∷◌, ◌++◌, ◌⊎◌, inl, inr, None, refl, sym, ap, ◌∙◌, subst, append_assoc, arith}
 use Rattle.std.specs.Prelude.{nat_eq, nat_le}
 use Rattle.std.specs.List.{AllByRecursion, flat_map}

@@ -6,7 +6,7 @@ use Rattle.bz_value.specs.declared.value.Item.{Item}
 use Rattle.bz_value.specs.declared.value.Item.TheVariants as i
 use Rattle.bz_value.specs.Frames.{Frame, row, sequence, frame}
 
--- a row draws no items
+-- a row lays out no items
 abbrev pub depth_in : Frame → ℕ → ℕ
 depth_in row items = 0
 depth_in (sequence opener closer) items = items

@@ -67,7 +67,7 @@ abbrev pub left_gap : Bytes → Item → Bytes
 left_gap gap (i.Block texts) = gap ++ comment_lines texts
 left_gap gap (i.Stmt x) = []
 
--- the lines of the items, the first after this gap: a Block's lines stand in the gap of what follows
+-- the lines of the items, the first after this gap: a Block's lines are in the gap of what follows
 abbrev pub lines_from : Bytes → List Item → List Part
 lines_from gap [] = p.Leaf (record { class = c.End; gap = gap; token = [] }) ∷ []
 lines_from gap (i.Block texts ∷ items) = lines_from ((gap ++ comment_lines texts) ++ before_next (i.Block texts) items) items

@@ -26,7 +26,7 @@ abbrev pub LayoutReadsBack : Type 0
 LayoutReadsBack = (items : List Item) → IsProper items → view_of (drawn items) ≡ flags items
 
 -- Where lines that are laid out anew are put in the places of others, and make the tree of a layout of another, the layout is as much longer as these lines are
--- longer than those that stood there.
+-- longer than those that were there.
 abbrev pub RedrawnHasLength : Type 0
 RedrawnHasLength = (before items : List Item) (places : List ℕ) (lines : List Part) → IsProper before → IsProper items →
     Ascend 0 (length (drawn items).parts) places → length places ≡ length lines → put_all places lines (drawn before).parts ≡ (drawn items).parts →

@@ -72,7 +72,7 @@ is_broken kind split items end_ =
 
 -- ---- rows
 
--- The gap after a part of a row, before the next one. In an open comprehension each part stands on a line of its own at
+-- The gap after a part of a row, before the next one. In an open comprehension each part is on a line of its own at
 -- m + 4, the closing bracket, which is the last part, at m. A break operator is at its line's end, and the operand
 -- after it begins a new line at m + 4. Elsewhere is one space or nothing.
 abbrev pub gap_behind : Kind → Bool → ℕ → Expr → List Expr → Bytes

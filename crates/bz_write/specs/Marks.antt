@@ -6,7 +6,7 @@ use Rattle.bz_value.specs.declared.value.Item.TheVariants as i
 use Rattle.bz_items.specs.Characters.{Bytes}
 use Rattle.bz_write.specs.Drawn.{own_lines, left_gap, before_next}
 
--- the place of an item's own line, where it is to stand at this place
+-- the place of an item's own line, where it is to be at this place
 abbrev pub own_places : ℕ → Item → List ℕ
 own_places place (i.Block texts) = []
 own_places place (i.Stmt x) = place ∷ []

@@ -29,7 +29,7 @@ abbrev pub comment_lines : List Bytes → Bytes
 comment_lines [] = []
 comment_lines (text ∷ texts) = text ++ (line_feed ∷ comment_lines texts)
 
--- A Block is its lines; a statement stands on lines of its own, comments above, its suffix after two spaces, a newline.
+-- A Block is its lines; a statement is on lines of its own, comments above, its suffix after two spaces, a newline.
 abbrev pub item_text : Item → Bytes
 item_text (i.Block lines) = comment_lines lines
 item_text (i.Stmt x) = comment_lines (comments_of x).before ++ (text_of x 0 ++ (suffix_text (comments_of x).suffix ++ line_feed ∷ []))

@@ -58,7 +58,7 @@ fn is_long(kind: Kind, items: &[Expr]) -> bool
     }
 }
 
-/// Whether the items of a sequence stand on lines of their own.
+/// Whether the items of a sequence are on lines of their own.
 fn is_broken_of(kind: Kind, split: bool, items: &[Expr], end_: &[Text]) -> bool
     ensures { result ≡ layout.is_broken kind split items.now end_.now }
 {
@@ -69,7 +69,7 @@ fn is_broken_of(kind: Kind, split: bool, items: &[Expr], end_: &[Text]) -> bool
     has_comments(items) || !end_.is_empty() || is_long(kind, items)
 }
 
-/// Whether the items of the form's sequence stand on lines of their own.
+/// Whether the items of the form's sequence are on lines of their own.
 pub fn is_broken(form: &Form) -> bool
     ensures { result ≡ layout.is_broken form.now.kind form.now.seq.split form.now.seq.items form.now.seq.end_ }
 {

@@ -1,4 +1,4 @@
-//! What the layout draws of an expression.
+//! What the layout makes of an expression.
 ghost use Rattle.std.specs.Prelude.{◌≡◌, ◌++◌, ◌∷◌, [], map, None, OnOk, IfOk};
 ghost use Rattle.bz_value.specs.Empty.{is_empty};
 ghost use Rattle.bz_write.specs.Layout as layout;

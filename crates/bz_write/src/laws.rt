@@ -24,7 +24,7 @@ pub fn layouts_join()
     ensures depth { DepthsJoin }
 {}
 
-/// How long the layout is for which lines were laid out anew, told by the length of the layout before and by those of the lines that
+/// How long the layout is for which lines were laid out anew, given by the length of the layout before and by those of the lines that
 /// were exchanged.
 pub fn redrawn_has_length()
     ensures { RedrawnHasLength }

@@ -70,7 +70,7 @@ pub fn draw_line(alloc: Global, expr: &Expr, gap: Vec<u8>) -> Result<Part, Memor
     let token = Text::from_slice(alloc, b"\n")?;
     let mut gap = gap;
     push_comments(&mut gap, comments.before())?;
-    // The statement comes last: what stands when memory is refused is dropped at each place where that can be.
+    // The statement comes last: what is there when memory is refused is dropped at each place where that can be.
     let statement = draw(alloc, expr, Text::from_vec(gap), 0)?;
     let newline = Part::Leaf(Leaf {
         class: Class::Newline,

@@ -19,7 +19,7 @@ pub struct Redrawn {
     pub lines: Items<Part>,
 }
 
-/// The place of the line after an item, where its own is to stand at this place.
+/// The place of the line after an item, where its own is to be at this place.
 pub fn place_behind(place: usize, item: &Item) -> usize
     requires { place + 1 < 2 ^ 64 }
     ensures { result ≡ marks.place_behind place item.now }
@@ -30,7 +30,7 @@ pub fn place_behind(place: usize, item: &Item) -> usize
     }
 }
 
-/// The gap that an item leaves to what follows, where its line is not drawn.
+/// The gap that an item leaves to what follows, where its line is not laid out.
 pub fn pass_over(item: &Item, gap: Vec<u8>) -> Result<Vec<u8>, Memory>
     ensures { IfOk result (λ left. left.items ≡ left_gap gap.items item.now) }
 {

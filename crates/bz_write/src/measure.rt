@@ -86,7 +86,7 @@ fn less_head<'a>(
     less(left, 1)
 }
 
-/// How many bytes stand between an item on one line and those that follow: a lone item may have a comma.
+/// How many bytes are between an item on one line and those that follow: a lone item may have a comma.
 fn comma_len(others: &[Expr], one: bool) -> usize
     ensures { result ≡ comma_size one others.now }
 {

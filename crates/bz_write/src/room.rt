@@ -15,7 +15,7 @@ use std::alloc::{AllocError, AllocFailed};
 pub enum NoRoom {
     /// A growth was refused.
     Memory,
-    /// What was to stand there is longer.
+    /// What was to be there is longer.
     Longer,
 }
 

@@ -114,7 +114,7 @@ fn push_below(out: &mut Vec<u8>, above: &Option<Item>, items: &[Item]) -> Result
 }
 
 /// Appends the layout of the file value to a text, below an item where one is given. None: a growth was refused, or the text or the
-/// tree of the layout would be past a limit; what was appended by then is not told.
+/// tree of the layout would be past a limit; what was appended by then is not specified.
 pub fn append_file(out: &mut Vec<u8>, above: &Option<Item>, file: &File) -> Option<()>
     ensures text { IfSome result (λ _. out.new.items ≡ out.old.items ++ (gap_below above.now file.now ++ layout file.now)) }
     ensures short { IfSome result (λ _. length out.new.items ≤ limit) }
@@ -136,7 +136,7 @@ fn text_within(alloc: Global, items: &[Item]) -> Option<Text>
     Some(Text::from_vec(out))
 }
 
-/// The layout of the file value, as text, with no tree made for it. It is measured only where no text came of it, to tell the fault.
+/// The layout of the file value, as text, with no tree made for it. It is measured only where no text came of it, to know the fault.
 /// Errors: `TooLarge` exactly where the layout is past the limit of a text, else `TooDeep` exactly where its tree would be past the
 /// limit of depth; `Memory`: a growth was refused.
 pub fn text_of_file(alloc: Global, file: &File) -> Result<Text, SetFault>

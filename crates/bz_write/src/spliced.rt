@@ -1,4 +1,4 @@
-//! The lines of some items that stand together, for a tree in which those of the others are laid out already.
+//! The lines of some adjacent items, for a tree in which those of the others are laid out already.
 ghost use Rattle.std.specs.Prelude.{ℕ, ◌≡◌, ◌++◌, ◌+◌, ◌-◌, ◌≤◌, [], take, drop, length, List, IfOk, OnOk};
 ghost use Rattle.bz_value.specs.Exchanged.{IsSpliced};
 ghost use Rattle.bz_value.specs.declared.value.Item.{Item};
@@ -13,10 +13,10 @@ use bz_tree::Part;
 use bz_value::Item;
 use std::alloc::Global;
 
-/// Lines that are to stand in the place of some parts of a file's tree that stand together.
+/// Lines that are to take the place of some adjacent parts of a file's tree.
 #[derive(Drop)]
 pub struct Respliced {
-    /// How many parts of the tree stand before them.
+    /// How many parts of the tree are before them.
     pub at: usize,
     /// How many parts of the tree they replace.
     pub gone: usize,
@@ -121,10 +121,10 @@ fn draw_window(
     Ok(lines)
 }
 
-/// The lines of the `come` items that stand after the first `from` ones, as the layout of all items has them, and the next line
-/// after them, before which another gap may stand now. Where these items came in the place of any others in a file, the tree of
+/// The lines of the `come` items that are after the first `from` ones, as the layout of all items has them, and the next line
+/// after them, before which another gap may be now. Where these items came in the place of any others in a file, the tree of
 /// whose layout had `count` parts, it is that of the layout of all items once these lines are put there. How many parts they
-/// replace is told by `count` and by the lines that are left after them. The error: a growth was refused.
+/// replace is given by `count` and by the lines that are left after them. The error: a growth was refused.
 pub fn redraw_spliced(
     alloc: Global,
     items: &[Item],

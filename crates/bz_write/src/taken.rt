@@ -18,7 +18,7 @@ use std::alloc::Global;
 use std::slice;
 
 /// The tree that `set` makes, of a file value that is given up: each item is dropped when the next one is laid out, so that the whole
-/// value does not stand beside the whole tree. Errors: `TooLarge` exactly where the layout is past the limit of a text, else
+/// value is not held beside the whole tree. Errors: `TooLarge` exactly where the layout is past the limit of a text, else
 /// `TooDeep` exactly where the tree is past the limit of depth; `Memory`: a growth was refused. Of
 /// the value nothing is left either way.
 pub fn set_from(alloc: Global, file: File) -> Result<Tree, SetFault>
@@ -41,7 +41,7 @@ pub fn set_from(alloc: Global, file: File) -> Result<Tree, SetFault>
     })
 }
 
-/// The lines of a file's items, and its end, as `draw_lines` draws them; each item is dropped when the next one is laid out. The
+/// The lines of a file's items, and its end, as `draw_lines` lays them out; each item is dropped when the next one is laid out. The
 /// error: a growth was refused.
 #[tactic(auto, using(crate::proofs::TakenItems::lines_turn, crate::proofs::TakenItems::lines_end))]
 fn draw_each(alloc: Global, items: Items<Item>) -> Result<Items<Part>, Memory>

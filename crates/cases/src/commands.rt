@@ -4,7 +4,7 @@ use bz_words::{Command, CommandFault, is_identifier, is_kind, quoted, read_words
 use sheets::{Case, CaseFault, Page};
 use std::alloc::{AllocError, Global};
 
-/// What is asked of a text.
+/// A question about a text.
 #[derive(Clone, Copy)]
 pub(crate) enum CommandQuery {
     Command,

@@ -71,7 +71,7 @@ fn is_copied(alloc: Global, last: &Tree, tree: &Tree) -> Option<bool> {
     Some(value? && is_tree_copied(tree)? && is_step_copied(last, tree)?)
 }
 
-/// Tells of each text, a line each, whether it is refused, or all that it says is copied.
+/// Prints of each text, a line each, whether it is refused, or all that it says is copied.
 pub(crate) fn tell_copies(rt: &HostRuntime, bytes: &[u8]) -> Option<()> {
     let alloc = rt.alloc();
     let mut last = parse(alloc, b"").ok()?;

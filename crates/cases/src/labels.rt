@@ -8,7 +8,7 @@ use bz_label::{Label, LabelFault, Target, TargetFault, Which};
 use sheets::{Case, CaseFault, Page};
 use std::alloc::{AllocError, Global};
 
-/// What is asked of a text.
+/// A question about a text.
 #[derive(Clone, Copy)]
 pub(crate) enum LabelQuery {
     Label,
@@ -93,7 +93,7 @@ fn label_of(alloc: Global, current: &str, text: &str, page: &mut Page) -> Result
     page.answer(line.as_slice())
 }
 
-/// Whether two texts mean the same, asked in both orders.
+/// Whether two texts mean the same, compared in both orders.
 fn sameness(current: &[u8], first: &[u8], second: &[u8]) -> &'static [u8] {
     match (same(current, first, second), same(current, second, first)) {
         (true, true) => b"same",
@@ -102,7 +102,7 @@ fn sameness(current: &[u8], first: &[u8], second: &[u8]) -> &'static [u8] {
     }
 }
 
-/// Writes the keys that are not ordered as they stand.
+/// Writes the keys that are not ordered as they are given.
 fn order_of(case: &Case, page: &mut Page) -> Result<(), CaseFault> {
     let mut is_ordered = true;
     for place in 0..case.texts.len() {

@@ -4,11 +4,11 @@
 //! Standard input is a sheet of cases, which is copied to standard output with the answers put in: the file `stdin` beside
 //! `src` holds the cases, and `stdout` the same sheet with the answers that are wanted, worked out by hand, so it can be
 //! read and checked by eye alone. `rt run < stdin | diff - stdout` compares them. The library `sheets` says how a sheet is
-//! written; the runs of the engines are asked for by the sheet of the program `runs`.
+//! written; the runs of the engines are requested by the sheet of the program `runs`.
 //!
-//! The questions, with what they are asked of and what is answered:
+//! The questions, with what they are about and what is answered:
 //!
-//! | Question | Asked of | Answer |
+//! | Question | About | Answer |
 //! |---|---|---|
 //! | `tree` | a text | its tree, or the number and the text of its fault |
 //! | `expression` | a text of one expression | the tree, without the File, Line and Bare around it |
@@ -32,7 +32,7 @@
 //! | `label PACKAGE` | a text | repository, package and name of the label that it is in the package |
 //! | `same PACKAGE` | two texts | whether they mean the same in the package |
 //! | `shorten PACKAGE` | a text | its shorter form in the package, and in a package that isn't known |
-//! | `order` | keys | whether each comes before all that stand after it |
+//! | `order` | keys | whether each comes before all that are after it |
 //! | `target` | a text | package and rules of the target that it is |
 //! | `priority` | an attribute | where it is in a rule |
 //! | `sorted KIND` | an attribute | whether its lists are sorted in a rule of the kind |
@@ -48,7 +48,7 @@
 //! An action is `COMMAND TARGET`, `format`, `undo N` or `redo N`.
 //!
 //! With words after its name the program answers no sheet: it does one piece of work on the text that is standard input, and
-//! tells what that took. The module `measuring` says which.
+//! prints what that took. The module `measuring` says which.
 #![tactic(auto)]
 
 mod commands;

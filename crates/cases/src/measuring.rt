@@ -3,7 +3,7 @@
 //! file value, `set` the layout of that, and `format` the layout of it tidied. `time` prints the nanoseconds of the fastest of
 //! several rounds of `copy`, `lex`, `parse`, `view`, `set` and `format`; `peak WORK` does a work once and prints how many KiB of
 //! memory the process took at most. `spell` writes what the tree spells to standard output, and `layout` what it is laid out
-//! as, or the fault of a text that has none to standard error. `copies` tells of each of several texts whether all that it says is copied.
+//! as, or the fault of a text that has none to standard error. `copies` prints of each of several texts whether all that it says is copied.
 use crate::copying::tell_copies;
 use bz_lex::lex;
 use bz_parse::parse;
@@ -119,7 +119,7 @@ fn timed(rt: &HostRuntime, bytes: &[u8]) -> Option<()> {
     Some(())
 }
 
-/// The KiB of memory that the process has taken at most, as the system tells them.
+/// The KiB of memory that the process has taken at most, as the system reports them.
 fn peak(rt: &HostRuntime) -> Option<u64> {
     let status = fs::read_to_string(rt, "/proc/self/status").ok()?;
     for line in status.as_str().lines() {
@@ -136,7 +136,7 @@ fn spelled(rt: &HostRuntime, tree: &Tree) -> Option<()> {
     rt.stdout().write_all(out.as_slice()).ok()
 }
 
-/// The tree of a text, or the fault that is told of it.
+/// The tree of a text, or the fault that is reported of it.
 fn read(rt: &HostRuntime, bytes: &[u8]) -> Option<Tree> {
     let tree: Result<Tree, ReadFault> = parse(rt.alloc(), bytes);
     match tree {
@@ -148,7 +148,7 @@ fn read(rt: &HostRuntime, bytes: &[u8]) -> Option<Tree> {
     }
 }
 
-/// Does the work that a word names once, and tells what it counts.
+/// Does the work that a word names once, and returns what it counts.
 fn counted(rt: &HostRuntime, word: &str, bytes: &[u8]) -> Option<usize> {
     let mut out = Vec::new(rt.alloc());
     Work::named(word)?.count(rt.alloc(), bytes, &mut out)

@@ -1,4 +1,4 @@
-//! The questions that a sheet asks of its cases.
+//! The questions of a sheet about its cases.
 use crate::commands::CommandQuery;
 use crate::labels::LabelQuery;
 use crate::tokens::TokenQuery;
@@ -7,7 +7,7 @@ use crate::values::ValueQuery;
 use crate::{copies, journals, laws, lists, sessions, suites};
 use sheets::{Case, CaseFault, Page, Question};
 
-/// What is asked of a case, by the layer that answers.
+/// A question about a case, by the layer that answers.
 #[derive(Clone, Copy)]
 pub(crate) enum Query {
     Token(TokenQuery),

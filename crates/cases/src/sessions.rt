@@ -36,7 +36,7 @@ fn played(case: &Case) -> Result<Result<Finished, ReadFault>, CaseFault> {
     Ok(Ok(Finished { session, replies }))
 }
 
-/// What the first texts of a case ask for.
+/// What the first texts of a case request.
 fn requests_of(case: &Case, count: usize) -> Result<Vec<Request>, CaseFault> {
     let mut requests = Vec::with_capacity(case.alloc, count)?;
     for place in 0..count {
@@ -78,7 +78,7 @@ pub(crate) fn opened(
     apart(Session::open(alloc, current, text))
 }
 
-/// What a line asks a session for: the command and the target of an action are its own.
+/// What a line requests of a session: the command and the target of an action are its own.
 #[derive(Drop)]
 pub(crate) enum Request {
     Do(Command, Target),
@@ -98,7 +98,7 @@ impl Request {
     }
 }
 
-/// What a line asks for: a command and after it, as the last word, its target.
+/// What a line requests: a command and after it, as the last word, its target.
 pub(crate) fn request_of(alloc: Global, line: &str) -> Result<Request, CaseFault> {
     if line == "format" {
         return Ok(Request::Format);

@@ -6,7 +6,7 @@ use bz_token::token;
 use sheets::{Case, CaseFault, Page};
 use std::alloc::Global;
 
-/// What is asked of a text.
+/// A question about a text.
 #[derive(Clone, Copy)]
 pub(crate) enum TokenQuery {
     Token,

@@ -5,7 +5,7 @@ use bz_tree::{BzlTree, Class, Kind, Leaf, Node, Part, ReadFault, Tree};
 use sheets::{Case, CaseFault, Page};
 use std::alloc::{AllocError, Global};
 
-/// What is asked of a text.
+/// A question about a text.
 #[derive(Clone, Copy)]
 pub(crate) enum TreeQuery {
     Tree,

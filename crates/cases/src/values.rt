@@ -9,7 +9,7 @@ use bz_write::{SetFault, set};
 use sheets::{Case, CaseFault, Page};
 use std::alloc::{AllocError, Global};
 
-/// What is asked of a text.
+/// A question about a text.
 #[derive(Clone, Copy)]
 pub(crate) enum ValueQuery {
     View,
@@ -84,7 +84,7 @@ fn show_suffix(comments: &Comments, out: &mut Vec<u8>) -> Result<(), Memory> {
     Ok(())
 }
 
-/// The comments above a token or a form stand in front of it. Before an operator that ends its line is `break`.
+/// The comments above a token or a form are in front of it. Before an operator that ends its line is `break`.
 #[cycle(expr)]
 fn show_expr(alloc: Global, expr: &Expr, out: &mut Vec<u8>) -> Result<(), Memory> {
     match expr {
@@ -149,7 +149,7 @@ fn tidied(alloc: Global, file: File) -> Result<File, Memory> {
     tidy(alloc, file)
 }
 
-/// The layout of what a text says, tidied where that is asked for.
+/// The layout of what a text says, tidied where that is requested.
 fn layout_of(alloc: Global, text: &[u8], is_tidied: bool) -> Result<LaidOut, Memory> {
     let tree = match read(alloc, text)? {
         Ok(tree) => tree,

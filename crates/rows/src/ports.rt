@@ -39,7 +39,7 @@ fn failing_devices(rt: HostRuntime) {
     }
 }
 
-/// Whether a read into the four bytes gives this many, and then these stand there.
+/// Whether a read into the four bytes gives this many, and then these are there.
 fn gives(source: &mut Device<&[u8]>, text: &mut [u8], count: usize, whole: &[u8]) -> bool {
     source.read(text) == Ok(count) && *text == *whole
 }

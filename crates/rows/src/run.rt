@@ -50,7 +50,7 @@ impl Left {
         self.ended(cut, status) && self.out.bytes() == output
     }
 
-    /// What stands on standard error.
+    /// What is on standard error.
     pub(crate) fn errors(&self) -> &[u8] {
         self.err.bytes()
     }

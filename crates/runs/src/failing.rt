@@ -175,7 +175,7 @@ fn has_line(text: &[u8], line: &[u8]) -> bool {
     text.split(|byte| *byte == b'\n').any(|other| other == line)
 }
 
-/// Whether the lines of a text stand in another one, in their order.
+/// Whether the lines of a text occur in another one, in their order.
 fn is_within(part: &[u8], whole: &[u8]) -> bool {
     if part.is_empty() {
         return true;
@@ -425,7 +425,7 @@ impl<'a> Trial<'a> {
             || status == 1 && !way.is_write() && self.task.has_word("-f")
     }
 
-    /// Whether this may stand on standard output.
+    /// Whether this may be on standard output.
     fn is_output(&self, failure: Failure, out: &[u8]) -> bool {
         let whole = self.sound.out.bytes();
         if failure.way.is_write() {
@@ -465,7 +465,7 @@ impl<'a> Trial<'a> {
                 || self.without.iter().any(|other| other.has_held(name, bytes)))
     }
 
-    /// Whether a file was written that is told as not, where no call went well after the failure and no call wrote before.
+    /// Whether a file was written that is reported as not written, where no call went well after the failure and no call wrote before.
     fn is_written(&self, way: Way, left: &Left) -> bool {
         if !matches!(way, Way::FilesFrom) || self.task.has_word("--journal") {
             return false;
@@ -480,7 +480,7 @@ impl<'a> Trial<'a> {
         false
     }
 
-    /// Whether a sound run tells this line, or it says that there is no text to go back to, after one that was not opened.
+    /// Whether a sound run prints this line, or it says that there is no text to go back to, after one that was not opened.
     fn is_known(&self, line: &[u8]) -> bool {
         line.ends_with(b": TooFar (61)")
             || has_line(self.sound.err.bytes(), line)

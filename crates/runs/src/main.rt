@@ -5,9 +5,9 @@
 //! `src` holds the cases, and `stdout` the same sheet with the answers that are wanted, worked out by hand. The library
 //! `sheets` says how a sheet is written.
 //!
-//! The questions, with what they are asked of and what is answered:
+//! The questions, with what they are about and what is answered:
 //!
-//! | Question | Asked of | Answer |
+//! | Question | About | Answer |
 //! |---|---|---|
 //! | `buildifier WORDS`, `buildozer WORDS` | standard input, and files, each after a line with its name | status, standard error, standard output, and each file that is changed |
 //! | `words` | words of buildozer, standard input, and files | the same |
@@ -27,7 +27,7 @@ use crate::runs::RunQuery;
 use anyhow::Result;
 use sheets::{Case, CaseFault, Page, Question, answer};
 
-/// What is asked of a case.
+/// A question about a case.
 #[derive(Clone, Copy)]
 enum Query {
     Run(RunQuery),

@@ -7,7 +7,7 @@ use bz_tools::{Cut, Exit, MemorySink, MemorySource, buildifier};
 use sheets::{Case, CaseFault, Page, text_of};
 use std::alloc::Global;
 
-/// What is asked of a run.
+/// A question about a run.
 #[derive(Clone, Copy)]
 pub(crate) enum RunQuery {
     Buildifier,
@@ -223,7 +223,7 @@ impl Left {
         Ok(())
     }
 
-    /// Writes whether something stands on standard error and standard output, not what.
+    /// Writes whether something is on standard error and standard output, not what.
     fn show_status(&self, alloc: Global, page: &mut Page) -> Result<(), Memory> {
         let mut line = self.shown_exit(alloc)?;
         if !self.err.bytes().is_empty() {

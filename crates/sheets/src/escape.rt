@@ -25,7 +25,7 @@ pub(crate) fn unescaped(alloc: Global, written: &str) -> Result<Vec<u8>, CaseFau
     Ok(bytes)
 }
 
-/// Appends what this text between backquotes stands for.
+/// Appends what this text between backquotes means.
 fn push_escape(bytes: &mut Vec<u8>, written: &str) -> Result<(), CaseFault> {
     match written {
         "" => bytes.extend_from_slice(b"`")?,

@@ -7,7 +7,7 @@
 //! - `>`: a case, with its text; the answer comes after the last line of the case;
 //! - `&`: a further text of the case; right below a question, a text that goes with each of its cases, after their own;
 //! - `|`: the next line of the text above;
-//! - anything else: a question, which is asked of all cases below it, up to the next one, and after a space its argument.
+//! - anything else: a question, about all cases below it, up to the next one, and after a space its argument.
 //!
 //! After a mark is a space and then the text; a mark alone is an empty line. The lines of a text are joined by
 //! newlines, so that a text ends in a newline where its last line is `|` alone. What cannot be seen or written is

@@ -61,7 +61,7 @@ impl Page {
         Ok(())
     }
 
-    /// Lines that each end in a newline, with the mark in front of each; the last one may lack it, which is told.
+    /// Lines that each end in a newline, with the mark in front of each; the last one may lack it, which is then said.
     pub fn lines(&mut self, mark: &str, bytes: &[u8]) -> Result<(), Memory> {
         let Some(lines) = bytes.strip_suffix(b"\n") else {
             self.text(mark, bytes)?;

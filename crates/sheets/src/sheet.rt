@@ -39,7 +39,7 @@ impl<'a> Line<'a> {
     }
 }
 
-/// What a sheet can ask of its cases.
+/// A question that a sheet can have for its cases.
 pub trait Question: Copy {
     /// The question of this name.
     fn named(name: &str) -> Option<Self>;
@@ -56,7 +56,7 @@ enum Owner {
     Case,
 }
 
-/// A sheet that is read line by line: the question that is asked, the case that is read, and the answers so far.
+/// A sheet that is read line by line: the question that is answered, the case that is read, and the answers so far.
 #[derive(Drop)]
 struct Reader<Q: Question> {
     alloc: Global,

@@ -6,7 +6,7 @@ use Rattle.bz_engine.specs.Calls.{spot}
 use Rattle.bz_engine.proofs.RunSteps.{Part}
 use Rattle.bz_engine.proofs.running.run_lines.Given as goal
 
--- what the lines that are left ask for is what all ask for
+-- what the lines that are left request is what all request
 abbrev pub invariant-loop-line : goal.invariant-loop-line
 invariant-loop-line g l = Part l.options.journal (AreOfInput (map asked_in l.lines)) l.options.keep_going (all_steps (map asked_in l.lines))
     (all_steps (map asked_in (drop l.line-index l.lines))) l.cut (spot g.R.Source g.F.Files g.E.Sink l.fn.run l.fn.input l.fn.files l.fn.err) (spot g.R.Source g.F.Files g.E.Sink l.run l.input l.files l.err)
