@@ -2,7 +2,7 @@
 #![tactic(auto)]
 
 use bz_files::DiskFiles;
-use bz_ports::{Device, tell};
+use bz_ports::{Device, report};
 use bz_tools::buildifier;
 use std::alloc::AllocError;
 use std::env;
@@ -17,7 +17,7 @@ const FAILED: u8 = 3;
 // Prints why nothing is done, and passes the status on.
 fn unused(rt: &HostRuntime, line: &str, status: u8) -> u8 {
     let mut err = Device::new(rt.stderr());
-    tell(&mut err, &[line]);
+    report(&mut err, &[line]);
     status
 }
 

@@ -3,7 +3,7 @@
 
 use bz_engine::buildozer;
 use bz_files::DiskFiles;
-use bz_ports::{Device, tell};
+use bz_ports::{Device, report};
 use std::alloc::AllocError;
 use std::env;
 use std::io::ErrorKind;
@@ -17,7 +17,7 @@ const FAILED: u8 = 2;
 // Prints why nothing is done, and passes the status on.
 fn unused(rt: &HostRuntime, line: &str, status: u8) -> u8 {
     let mut err = Device::new(rt.stderr());
-    tell(&mut err, &[line]);
+    report(&mut err, &[line]);
     status
 }
 

@@ -12,7 +12,7 @@ use Rattle.bz_value.specs.declared.value.Expr.{Expr, Token, Form', items-the_row
 use Rattle.bz_value.specs.declared.value.Expr.TheVariants as e
 use Rattle.bz_items.specs.Characters.{Bytes}
 use Rattle.bz_token.specs.declared.class.Class.TheVariants as c
-use Rattle.bz_rule.specs.Rules.{is_text, text_in, value_behind, value_named}
+use Rattle.bz_rule.specs.Rules.{is_text, text_in, value_after, value_named}
 use Rattle.bz_rule.specs.Values.{has_kind, parts_of, with_parts, on_row, on_third}
 use Rattle.bz_rule.proofs.Forms.{form_in_Form}
 use Rattle.bz_rule.proofs.ProperChanges.{by_test, by_case}
@@ -24,7 +24,7 @@ use Rattle.bz_attribute.proofs.MakingForms.{part_list, item_list}
 
 -- a form with these lists
 abbrev pub in_form : Form → List Expr → List Expr → Expr
-in_form f parts items = e.Form (record { kind = f.kind; parts = parts; seq = record { items = items; end_ = f.seq.end_; split = f.seq.split }; open_ = f.open_; comments = f.comments })
+in_form f parts items = e.Form (record { kind = f.kind; parts = parts; seq = record { items = items; end = f.seq.end; split = f.seq.split }; open_break = f.open_break; comments = f.comments })
 
 pub parts_Form : (f : Form) → parts_of (e.Form f) ≡ f.parts
 parts_Form f = part_list f
@@ -39,27 +39,27 @@ row_Form kind change f =
 
 -- ---- a named argument with other parts
 
-abbrev behind : Bytes → Option Form → Option Expr
-behind name found = option_and_then (λ (argument : Form). value_behind name argument.parts) found
+abbrev following : Bytes → Option Form → Option Expr
+following name found = option_and_then (λ (argument : Form). value_after name argument.parts) found
 
-pub value_Form : (name : Bytes) (f : Form) → is_kind f.kind k.Named ≡ true → value_named name (e.Form f) ≡ value_behind name f.parts
-value_Form name f is = ap (behind name) (form_in_Form k.Named f ∙ if_true (is_kind f.kind k.Named) (Some f) None is)
+pub value_Form : (name : Bytes) (f : Form) → is_kind f.kind k.Named ≡ true → value_named name (e.Form f) ≡ value_after name f.parts
+value_Form name f is = ap (following name) (form_in_Form k.Named f ∙ if_true (is_kind f.kind k.Named) (Some f) None is)
 
 -- a change of the parts of a named argument that has these parts
 changed_row : (change : List Expr → List Expr) (ps : List Expr) (x : Expr) → has_kind k.Named x ≡ true → on_row k.Named change (with_parts ps x) ≡ with_parts (change ps) x
 changed_row change ps (Token t) is = absurd (true≢false (sym is))
-changed_row change ps (Form' kind s parts s' items end_ split open_ comments) is =
-    row_Form k.Named change (record { kind = kind; parts = ps; seq = record { items = items-the_row-Expr _ items; end_ = end_; split = split }; open_ = open_; comments = comments })
+changed_row change ps (Form' kind s parts s' items end split open_break comments) is =
+    row_Form k.Named change (record { kind = kind; parts = ps; seq = record { items = items-the_row-Expr _ items; end = end; split = split }; open_break = open_break; comments = comments })
     ∙ if_true (is_kind kind k.Named) _ _ is
 
-value_of_parts : (name : Bytes) (ps : List Expr) (x : Expr) → has_kind k.Named x ≡ true → value_named name (with_parts ps x) ≡ value_behind name ps
+value_of_parts : (name : Bytes) (ps : List Expr) (x : Expr) → has_kind k.Named x ≡ true → value_named name (with_parts ps x) ≡ value_after name ps
 value_of_parts name ps (Token t) is = absurd (true≢false (sym is))
-value_of_parts name ps (Form' kind s parts s' items end_ split open_ comments) is =
-    value_Form name (record { kind = kind; parts = ps; seq = record { items = items-the_row-Expr _ items; end_ = end_; split = split }; open_ = open_; comments = comments }) is
+value_of_parts name ps (Form' kind s parts s' items end split open_break comments) is =
+    value_Form name (record { kind = kind; parts = ps; seq = record { items = items-the_row-Expr _ items; end = end; split = split }; open_break = open_break; comments = comments }) is
 
-pub own_value : (name : Bytes) (x : Expr) → has_kind k.Named x ≡ true → value_named name x ≡ value_behind name (parts_of x)
+pub own_value : (name : Bytes) (x : Expr) → has_kind k.Named x ≡ true → value_named name x ≡ value_after name (parts_of x)
 own_value name (Token t) is = absurd (true≢false (sym is))
-own_value name (Form' kind s parts s' items end_ split open_ comments) is = ap (behind name) (if_true (is_kind kind k.Named) _ None is)
+own_value name (Form' kind s parts s' items end split open_break comments) is = ap (following name) (if_true (is_kind kind k.Named) _ None is)
 
 -- ---- the value of a named argument
 
@@ -67,18 +67,18 @@ some_of : (b : Bool) (x : Expr) → is_some (if b then Some x else None) ≡ tru
 some_of true x some = refl
 some_of false x some = absurd (true≢false (sym some))
 
-third_behind : (name : Bytes) (ps : List Expr) (other : Expr) → is_some (value_behind name ps) ≡ true → Some (slice_index_or ps 2 other) ≡ value_behind name ps
-third_behind name [] other some = absurd (true≢false (sym some))
-third_behind name (x ∷ []) other some = absurd (true≢false (sym some))
-third_behind name (x ∷ y ∷ []) other some = absurd (true≢false (sym some))
-third_behind name (x ∷ y ∷ z ∷ []) other some = some_of (is_text name (text_in c.Name x)) z some
-third_behind name (x ∷ y ∷ z ∷ w ∷ rest) other some = absurd (true≢false (sym some))
+third_after : (name : Bytes) (ps : List Expr) (other : Expr) → is_some (value_after name ps) ≡ true → Some (slice_index_or ps 2 other) ≡ value_after name ps
+third_after name [] other some = absurd (true≢false (sym some))
+third_after name (x ∷ []) other some = absurd (true≢false (sym some))
+third_after name (x ∷ y ∷ []) other some = absurd (true≢false (sym some))
+third_after name (x ∷ y ∷ z ∷ []) other some = some_of (is_text name (text_in c.Name x)) z some
+third_after name (x ∷ y ∷ z ∷ w ∷ rest) other some = absurd (true≢false (sym some))
 
 -- where a form is an attribute of the name, its value is its third part
 pub value_taken : (name : Bytes) (f : Form) (x other : Expr) → x ≡ e.Form f → is_kind f.kind k.Named ≡ true → is_attribute name x ≡ true → Some (slice_index_or f.parts 2 other) ≡ value_named name x
 value_taken name f x other same is some =
-    let own : value_named name x ≡ value_behind name f.parts = ap (value_named name) same ∙ value_Form name f is in
-    third_behind name f.parts other (ap is_some (sym own) ∙ some) ∙ sym own
+    let own : value_named name x ≡ value_after name f.parts = ap (value_named name) same ∙ value_Form name f is in
+    third_after name f.parts other (ap is_some (sym own) ∙ some) ∙ sym own
 
 -- ---- a named argument with another value
 
@@ -86,12 +86,12 @@ either_some : (b : Bool) (x y : Expr) → is_some (if b then Some x else None) �
 either_some true x y = refl
 either_some false x y = refl
 
-behind_third : (name : Bytes) (v : Expr) (ps : List Expr) → is_some (value_behind name (on_third (λ _. v) ps)) ≡ is_some (value_behind name ps)
-behind_third name v [] = refl
-behind_third name v (x ∷ []) = refl
-behind_third name v (x ∷ y ∷ []) = refl
-behind_third name v (x ∷ y ∷ z ∷ []) = either_some (is_text name (text_in c.Name x)) v z
-behind_third name v (x ∷ y ∷ z ∷ w ∷ rest) = refl
+after_third : (name : Bytes) (v : Expr) (ps : List Expr) → is_some (value_after name (on_third (λ _. v) ps)) ≡ is_some (value_after name ps)
+after_third name v [] = refl
+after_third name v (x ∷ []) = refl
+after_third name v (x ∷ y ∷ []) = refl
+after_third name v (x ∷ y ∷ z ∷ []) = either_some (is_text name (text_in c.Name x)) v z
+after_third name v (x ∷ y ∷ z ∷ w ∷ rest) = refl
 
 third_twice : (v w : Expr) (ps : List Expr) → on_third (λ _. w) (on_third (λ _. v) ps) ≡ on_third (λ _. w) ps
 third_twice v w [] = refl
@@ -102,7 +102,7 @@ third_twice v w (x ∷ y ∷ z ∷ rest) = refl
 pub same_name : (name : Bytes) (v x : Expr) → is_attribute name (on_value (λ _. v) x) ≡ is_attribute name x
 same_name name v x =
     by_case (λ (y : Expr). is_attribute name y ≡ is_attribute name x) (has_kind k.Named x) (with_parts (on_third (λ _. v) (parts_of x)) x) x
-    (λ is. ap is_some (value_of_parts name (on_third (λ _. v) (parts_of x)) x is) ∙ (behind_third name v (parts_of x) ∙ sym (ap is_some (own_value name x is))))
+    (λ is. ap is_some (value_of_parts name (on_third (λ _. v) (parts_of x)) x is) ∙ (after_third name v (parts_of x) ∙ sym (ap is_some (own_value name x is))))
     (λ is. refl)
 
 pub value_twice : (v w x : Expr) → on_value (λ _. w) (on_value (λ _. v) x) ≡ on_value (λ _. w) x

@@ -77,8 +77,8 @@ inserted_last : (argument : Expr) (xs : List Expr) → NonePasses (has_kind k.St
 inserted_last argument [] h = refl
 inserted_last argument (x ∷ xs) h = rw (h.all 0 x (omega arith)) (ap (λ ys. x ∷ ys) (inserted_last argument xs (none_later (has_kind k.Star) x xs h)))
 
-pub inserted_behind : (argument : Expr) (xs : List Expr) (i : ℕ) → NonePasses (has_kind k.Star) xs → i ≡ length xs → inserted argument xs ≡ insert xs i argument
-inserted_behind argument xs i h e = inserted_last argument xs h ∙ (sym (insert_end xs argument) ∙ ap (λ n. insert xs n argument) (sym e))
+pub inserted_after : (argument : Expr) (xs : List Expr) (i : ℕ) → NonePasses (has_kind k.Star) xs → i ≡ length xs → inserted argument xs ≡ insert xs i argument
+inserted_after argument xs i h e = inserted_last argument xs h ∙ (sym (insert_end xs argument) ∙ ap (λ n. insert xs n argument) (sym e))
 
 -- ---- the first attribute
 

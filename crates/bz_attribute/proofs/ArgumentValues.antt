@@ -6,7 +6,7 @@ use Rattle.bz_token.specs.declared.class.Class.TheVariants as c
 use Rattle.bz_tree.specs.declared.kind.Kind.TheVariants as k
 use Rattle.bz_value.specs.declared.value.Expr.{Expr}
 use Rattle.bz_items.specs.Characters.{Bytes}
-use Rattle.bz_rule.specs.Rules.{is_text, text_in, value_behind, value_named, attribute}
+use Rattle.bz_rule.specs.Rules.{is_text, text_in, value_after, value_named, attribute}
 use Rattle.bz_rule.specs.Values.{has_kind, parts_of, with_parts, on_third}
 use Rattle.bz_attribute.specs.Attributes.{is_attribute, on_first_that, on_value, with_value}
 use Rattle.bz_attribute.proofs.ArgumentForms.{own_value}
@@ -16,7 +16,7 @@ chosen_value true z v h = cc
 chosen_value false z v h = cc
 
 -- a change of the third part is its new value, where the third part is what the name is before
-same_third : (name : Bytes) (change : Expr → Expr) (v : Expr) (ps : List Expr) → value_behind name ps ≡ Some v → on_third change ps ≡ on_third (λ _. change v) ps
+same_third : (name : Bytes) (change : Expr → Expr) (v : Expr) (ps : List Expr) → value_after name ps ≡ Some v → on_third change ps ≡ on_third (λ _. change v) ps
 same_third name change v [] h = refl
 same_third name change v (x ∷ []) h = refl
 same_third name change v (x ∷ y ∷ []) h = refl

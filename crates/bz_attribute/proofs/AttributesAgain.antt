@@ -9,13 +9,13 @@ use Rattle.bz_tree.specs.declared.kind.Kind.{Kind}
 use Rattle.bz_tree.specs.declared.kind.Kind.TheVariants as k
 use Rattle.bz_value.specs.declared.value.Expr.{Expr, items_hidden-the_row-Expr-0}
 use Rattle.bz_items.specs.Characters.{Bytes}
-use Rattle.bz_rule.specs.Rules.{text_in, is_text, value_behind, value_named, attribute}
+use Rattle.bz_rule.specs.Rules.{text_in, is_text, value_after, value_named, attribute}
 use Rattle.bz_rule.specs.Values.{has_kind, parts_of, on_third}
 use Rattle.bz_rule.proofs.ProperChanges.{by_test}
 use Rattle.bz_attribute.specs.Attributes.{Arguments, by_value, is_attribute, has_attribute, on_value, with_value, without, inserted, with_new}
 use Rattle.bz_attribute.specs.Made.{node, mark, argument_of}
 use Rattle.bz_attribute.specs.Made as new
-use Rattle.bz_attribute.proofs.FormsAgain.{if_true, if_false, found_if, row_same, value_told, value_parts, value_changed, attribute_first}
+use Rattle.bz_attribute.proofs.FormsAgain.{if_true, if_false, found_if, row_same, value_answered, value_parts, value_changed, attribute_first}
 
 -- ---- by an attribute that is there, and by one that is absent
 
@@ -38,7 +38,7 @@ same_made xs ys result d e = cc
 
 -- ---- the value that is there
 
-third_same : (name : Bytes) (value : Expr) (ps : List Expr) → value_behind name ps ≡ Some value → on_third (λ old. value) ps ≡ ps
+third_same : (name : Bytes) (value : Expr) (ps : List Expr) → value_after name ps ≡ Some value → on_third (λ old. value) ps ≡ ps
 third_same name value [] h = refl
 third_same name value (x ∷ []) h = refl
 third_same name value (x ∷ y ∷ []) h = refl
@@ -68,8 +68,8 @@ node_parts kind ps = items_hidden-the_row-Expr-0 ps
 
 own_value : (name : Bytes) (value : Expr) → value_named name (argument_of name value) ≡ Some value
 own_value name value =
-    value_told name (argument_of name value)
-    ∙ (ap (value_behind name) (node_parts k.Named (new.name name ∷ mark (codes "=") ∷ value ∷ []))
+    value_answered name (argument_of name value)
+    ∙ (ap (value_after name) (node_parts k.Named (new.name name ∷ mark (codes "=") ∷ value ∷ []))
     ∙ if_true (bytes_eq name name) (Some value) None ((bytes_eq-Decides name name).1 refl))
 
 -- ---- a new attribute
@@ -86,8 +86,8 @@ found_first : (name : Bytes) (value x : Expr) (xs : List Expr) → value_named n
 found_first name value x xs h = ap (λ (found : Option Expr). option_or found (attribute name xs)) h
 
 -- what is after another argument is found
-found_behind : (name : Bytes) (value x : Expr) (xs : List Expr) → value_named name x ≡ None → attribute name xs ≡ Some value → attribute name (x ∷ xs) ≡ Some value
-found_behind name value x xs n h = ap (λ (found : Option Expr). option_or found (attribute name xs)) n ∙ h
+found_after : (name : Bytes) (value x : Expr) (xs : List Expr) → value_named name x ≡ None → attribute name xs ≡ Some value → attribute name (x ∷ xs) ≡ Some value
+found_after name value x xs n h = ap (λ (found : Option Expr). option_or found (attribute name xs)) n ∙ h
 
 pub attribute_new : (name : Bytes) (value : Expr) (xs : List Expr) → has_attribute name xs ≡ false → attribute name (with_new name value xs) ≡ Some value
 attribute_new name value [] h = found_first name value (argument_of name value) [] (own_value name value)
@@ -96,7 +96,7 @@ attribute_new name value (x ∷ xs) h =
     let p = none_first name x xs h in
     by_test (λ (ys : List Expr). attribute name ys ≡ Some value) (has_kind k.Star x) (argument ∷ x ∷ xs) (x ∷ inserted argument xs)
     (found_first name value argument (x ∷ xs) (own_value name value))
-    (found_behind name value x (inserted argument xs) (none_found (value_named name x) p.0) (attribute_new name value xs p.1))
+    (found_after name value x (inserted argument xs) (none_found (value_named name x) p.0) (attribute_new name value xs p.1))
 
 pub without_new : (name : Bytes) (value : Expr) (xs : List Expr) → has_attribute name xs ≡ false → without name (with_new name value xs) ≡ xs
 without_new name value [] h =
@@ -111,7 +111,7 @@ without_new name value (x ∷ xs) h =
 
 -- ---- another value
 
-third_found : (name : Bytes) (value other : Expr) (ps : List Expr) → value_behind name ps ≡ Some value → value_behind name (on_third (λ old. other) ps) ≡ Some other
+third_found : (name : Bytes) (value other : Expr) (ps : List Expr) → value_after name ps ≡ Some value → value_after name (on_third (λ old. other) ps) ≡ Some other
 third_found name value other [] h = cc
 third_found name value other (x ∷ []) h = cc
 third_found name value other (x ∷ y ∷ []) h = cc
@@ -126,7 +126,7 @@ value_found name value other x h =
 
 found_step : (name : Bytes) (found rest : Option Expr) (value other x y : Expr) (xs ys : List Expr) → option_or found rest ≡ Some value → value_named name x ≡ found
     → (found ≡ Some value → value_named name y ≡ Some other) → (rest ≡ Some value → attribute name ys ≡ Some other) → attribute name (if is_some found then y ∷ xs else x ∷ ys) ≡ Some other
-found_step name None rest value other x y xs ys e d f g = found_behind name other x ys d (g e)
+found_step name None rest value other x y xs ys e d f g = found_after name other x ys d (g e)
 found_step name (Some v) rest value other x y xs ys e d f g = found_first name other y xs (f e)
 
 pub attribute_changed : (name : Bytes) (value other : Expr) (xs : List Expr) → attribute name xs ≡ Some value → attribute name (with_value name other xs) ≡ Some other

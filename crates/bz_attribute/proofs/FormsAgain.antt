@@ -9,7 +9,7 @@ use Rattle.bz_value.specs.declared.value.Form.{Form}
 use Rattle.bz_value.specs.declared.value.Expr.{Expr, Token, Form', items-the_row-Expr, items_hidden-the_row-Expr-0}
 use Rattle.bz_value.specs.declared.value.Expr.TheVariants as e
 use Rattle.bz_items.specs.Characters.{Bytes}
-use Rattle.bz_rule.specs.Rules.{value_behind, value_named, attribute}
+use Rattle.bz_rule.specs.Rules.{value_after, value_named, attribute}
 use Rattle.bz_rule.specs.Values.{has_kind, parts_of, items_of, with_parts, with_items, on_row, on_items}
 use Rattle.bz_rule.proofs.ProperChanges.{by_case}
 pub use Rattle.bz_rule.proofs.Opened.{made, own_parts, own_items}
@@ -50,34 +50,34 @@ then_if false f x = refl
 
 pub parts_kind : (kind : Kind) (xs : List Expr) (x : Expr) → has_kind kind (with_parts xs x) ≡ has_kind kind x
 parts_kind kind xs (Token t) = refl
-parts_kind kind xs (Form' own s parts s' items end_ split open_ comments) = refl
+parts_kind kind xs (Form' own s parts s' items end split open_break comments) = refl
 
 pub items_kind : (kind : Kind) (xs : List Expr) (x : Expr) → has_kind kind (with_items xs x) ≡ has_kind kind x
 items_kind kind xs (Token t) = refl
-items_kind kind xs (Form' own s parts s' items end_ split open_ comments) = refl
+items_kind kind xs (Form' own s parts s' items end split open_break comments) = refl
 
 pub parts_filled : (kind : Kind) (xs : List Expr) (x : Expr) → has_kind kind x ≡ true → parts_of (with_parts xs x) ≡ xs
 parts_filled kind xs (Token t) h = absurd (true≢false (sym h))
-parts_filled kind xs (Form' own s parts s' items end_ split open_ comments) h = items_hidden-the_row-Expr-0 xs
+parts_filled kind xs (Form' own s parts s' items end split open_break comments) h = items_hidden-the_row-Expr-0 xs
 
 pub items_filled : (kind : Kind) (xs : List Expr) (x : Expr) → has_kind kind x ≡ true → items_of (with_items xs x) ≡ xs
 items_filled kind xs (Token t) h = absurd (true≢false (sym h))
-items_filled kind xs (Form' own s parts s' items end_ split open_ comments) h = items_hidden-the_row-Expr-0 xs
+items_filled kind xs (Form' own s parts s' items end split open_break comments) h = items_hidden-the_row-Expr-0 xs
 
 -- the items stay where the parts change
 pub items_beside : (xs : List Expr) (x : Expr) → items_of (with_parts xs x) ≡ items_of x
 items_beside xs (Token t) = refl
-items_beside xs (Form' own s parts s' items end_ split open_ comments) = items_hidden-the_row-Expr-0 (items-the_row-Expr _ items)
+items_beside xs (Form' own s parts s' items end split open_break comments) = items_hidden-the_row-Expr-0 (items-the_row-Expr _ items)
 
 pub parts_twice : (ys xs : List Expr) (x : Expr) → with_parts ys (with_parts xs x) ≡ with_parts ys x
 parts_twice ys xs (Token t) = refl
-parts_twice ys xs (Form' own s parts s' items end_ split open_ comments) =
-    ap (λ i. e.Form (made own ys i end_ split open_ comments)) (items_hidden-the_row-Expr-0 (items-the_row-Expr _ items))
+parts_twice ys xs (Form' own s parts s' items end split open_break comments) =
+    ap (λ i. e.Form (made own ys i end split open_break comments)) (items_hidden-the_row-Expr-0 (items-the_row-Expr _ items))
 
 pub items_twice : (ys xs : List Expr) (x : Expr) → with_items ys (with_items xs x) ≡ with_items ys x
 items_twice ys xs (Token t) = refl
-items_twice ys xs (Form' own s parts s' items end_ split open_ comments) =
-    ap (λ p. e.Form (made own p ys end_ split open_ comments)) (items_hidden-the_row-Expr-0 (items-the_row-Expr _ parts))
+items_twice ys xs (Form' own s parts s' items end split open_break comments) =
+    ap (λ p. e.Form (made own p ys end split open_break comments)) (items_hidden-the_row-Expr-0 (items-the_row-Expr _ parts))
 
 -- ---- the row of a kind
 
@@ -130,25 +130,25 @@ module _ (kind : Kind) (f g : List Expr → List Expr) where
 -- ---- named arguments
 
 -- the value of a named argument, by its kind and its parts
-pub value_told : (name : Bytes) (x : Expr) → value_named name x ≡ (if has_kind k.Named x then value_behind name (parts_of x) else None)
-value_told name (Token t) = refl
-value_told name (Form' own s parts s' items end_ split open_ comments) =
-    then_if (is_kind own k.Named) (λ (argument : Form). value_behind name argument.parts) (made own (items-the_row-Expr _ parts) (items-the_row-Expr _ items) end_ split open_ comments)
+pub value_answered : (name : Bytes) (x : Expr) → value_named name x ≡ (if has_kind k.Named x then value_after name (parts_of x) else None)
+value_answered name (Token t) = refl
+value_answered name (Form' own s parts s' items end split open_break comments) =
+    then_if (is_kind own k.Named) (λ (argument : Form). value_after name argument.parts) (made own (items-the_row-Expr _ parts) (items-the_row-Expr _ items) end split open_break comments)
 
-pub attribute_parts : (name : Bytes) (x : Expr) → is_attribute name x ≡ true → (has_kind k.Named x ≡ true) × (is_some (value_behind name (parts_of x)) ≡ true)
-attribute_parts name x h = some_if (has_kind k.Named x) (value_behind name (parts_of x)) (sym (ap (λ (found : Option Expr). is_some found) (value_told name x)) ∙ h)
+pub attribute_parts : (name : Bytes) (x : Expr) → is_attribute name x ≡ true → (has_kind k.Named x ≡ true) × (is_some (value_after name (parts_of x)) ≡ true)
+attribute_parts name x h = some_if (has_kind k.Named x) (value_after name (parts_of x)) (sym (ap (λ (found : Option Expr). is_some found) (value_answered name x)) ∙ h)
 
-pub value_parts : (name : Bytes) (value x : Expr) → value_named name x ≡ Some value → (has_kind k.Named x ≡ true) × (value_behind name (parts_of x) ≡ Some value)
-value_parts name value x h = found_if (has_kind k.Named x) (value_behind name (parts_of x)) value (sym (value_told name x) ∙ h)
+pub value_parts : (name : Bytes) (value x : Expr) → value_named name x ≡ Some value → (has_kind k.Named x ≡ true) × (value_after name (parts_of x) ≡ Some value)
+value_parts name value x h = found_if (has_kind k.Named x) (value_after name (parts_of x)) value (sym (value_answered name x) ∙ h)
 
 -- the value of a named argument whose row was changed
-pub value_changed : (name : Bytes) (change : List Expr → List Expr) (x : Expr) → has_kind k.Named x ≡ true → value_named name (on_row k.Named change x) ≡ value_behind name (change (parts_of x))
+pub value_changed : (name : Bytes) (change : List Expr → List Expr) (x : Expr) → has_kind k.Named x ≡ true → value_named name (on_row k.Named change x) ≡ value_after name (change (parts_of x))
 value_changed name change x h =
     let y : Expr = with_parts (change (parts_of x)) x in
     ap (value_named name) (row_changed k.Named change x h)
-    ∙ (value_told name y
-    ∙ (if_true (has_kind k.Named y) (value_behind name (parts_of y)) None (parts_kind k.Named (change (parts_of x)) x ∙ h)
-    ∙ ap (value_behind name) (parts_filled k.Named (change (parts_of x)) x h)))
+    ∙ (value_answered name y
+    ∙ (if_true (has_kind k.Named y) (value_after name (parts_of y)) None (parts_kind k.Named (change (parts_of x)) x ∙ h)
+    ∙ ap (value_after name) (parts_filled k.Named (change (parts_of x)) x h)))
 
 -- ---- attributes among arguments
 

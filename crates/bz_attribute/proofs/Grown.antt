@@ -36,11 +36,11 @@ pub front_at_most : (a b all : ℕ) → all ≡ a + b → a ≤ all
 front_at_most a b all e = omega arith
 
 -- a host with more parts, and one with more items
-pub more_parts : (host p q m i j end_ all : ℕ) → all ≡ host + (m + (j + end_)) → p ≡ q → i ≡ j → q ≤ m → host + (p + (i + end_)) ≤ all
-more_parts host p q m i j end_ all e f g h = omega arith
+pub more_parts : (host p q m i j end all : ℕ) → all ≡ host + (m + (j + end)) → p ≡ q → i ≡ j → q ≤ m → host + (p + (i + end)) ≤ all
+more_parts host p q m i j end all e f g h = omega arith
 
-pub more_items : (host p q m i j end_ all : ℕ) → all ≡ host + (q + (m + end_)) → p ≡ q → i ≡ j → j ≤ m → host + (p + (i + end_)) ≤ all
-more_items host p q m i j end_ all e f g h = omega arith
+pub more_items : (host p q m i j end all : ℕ) → all ≡ host + (q + (m + end)) → p ≡ q → i ≡ j → j ≤ m → host + (p + (i + end)) ≤ all
+more_items host p q m i j end all e f g h = omega arith
 
 -- ---- lists
 

@@ -10,7 +10,7 @@ use Rattle.bz_value.specs.Comments.{no_comments}
 use Rattle.bz_value.specs.Counted.{total, host_amount, amount, row_amount}
 use Rattle.bz_items.specs.Characters.{Bytes}
 use Rattle.bz_value.proofs.Totals.{form_amount}
-use Rattle.bz_rule.specs.Rules.{text_in, is_text, value_behind, value_named, attribute}
+use Rattle.bz_rule.specs.Rules.{text_in, is_text, value_after, value_named, attribute}
 use Rattle.bz_rule.specs.Values.{has_kind, parts_of, items_of, with_parts, with_items, with_text, on_row, on_items, on_third, on_lists}
 use Rattle.bz_rule.proofs.ProperChanges.{by_test}
 use Rattle.bz_attribute.specs.Attributes.{Arguments, on_first_that, on_value, with_value, inserted}
@@ -29,22 +29,22 @@ module _ (number : Bytes → ℕ) where
 
   pub parts_grow : (ys : List Expr) (x : Expr) → total whole (parts_of x) ≤ total whole ys → whole x ≤ whole (with_parts ys x)
   parts_grow ys (Token t) h = itself (whole (Token t))
-  parts_grow ys (Form' kind s parts s' items end_ split open_ comments) h =
+  parts_grow ys (Form' kind s parts s' items end split open_break comments) h =
       more_parts (host_amount number comments) (row_amount number parts) (total whole (items-the_row-Expr _ parts)) (total whole ys)
-      (row_amount number items) (total whole (items-the_row-Expr _ items)) (total number end_) (whole (with_parts ys (Form' kind s parts s' items end_ split open_ comments)))
-      (form_amount number (made kind ys (items-the_row-Expr _ items) end_ split open_ comments)) (row_total _ parts) (row_total _ items) h
+      (row_amount number items) (total whole (items-the_row-Expr _ items)) (total number end) (whole (with_parts ys (Form' kind s parts s' items end split open_break comments)))
+      (form_amount number (made kind ys (items-the_row-Expr _ items) end split open_break comments)) (row_total _ parts) (row_total _ items) h
 
   pub items_grow : (ys : List Expr) (x : Expr) → total whole (items_of x) ≤ total whole ys → whole x ≤ whole (with_items ys x)
   items_grow ys (Token t) h = itself (whole (Token t))
-  items_grow ys (Form' kind s parts s' items end_ split open_ comments) h =
+  items_grow ys (Form' kind s parts s' items end split open_break comments) h =
       more_items (host_amount number comments) (row_amount number parts) (total whole (items-the_row-Expr _ parts)) (total whole ys)
-      (row_amount number items) (total whole (items-the_row-Expr _ items)) (total number end_) (whole (with_items ys (Form' kind s parts s' items end_ split open_ comments)))
-      (form_amount number (made kind (items-the_row-Expr _ parts) ys end_ split open_ comments)) (row_total _ parts) (row_total _ items) h
+      (row_amount number items) (total whole (items-the_row-Expr _ items)) (total number end) (whole (with_items ys (Form' kind s parts s' items end split open_break comments)))
+      (form_amount number (made kind (items-the_row-Expr _ parts) ys end split open_break comments)) (row_total _ parts) (row_total _ items) h
 
   pub text_grows : (text : Bytes) → Grows whole (with_text text)
   text_grows text (Token t) = itself (whole (Token t))
-  text_grows text (Form' kind s parts s' items end_ split open_ comments) =
-      let x : Expr = Form' kind s parts s' items end_ split open_ comments in
+  text_grows text (Form' kind s parts s' items end split open_break comments) =
+      let x : Expr = Form' kind s parts s' items end split open_break comments in
       subst (λ y. whole x ≤ whole y) (sym (own_parts x)) (itself (whole x))
 
   pub on_row_grows : (kind : Kind) (change : List Expr → List Expr) → EachGrows whole change → Grows whole (on_row kind change)
@@ -95,7 +95,7 @@ module _ (number : Bytes → ℕ) where
 
   -- ---- arguments
 
-  third_known : (name : Bytes) (value new : Expr) (ps : List Expr) → value_behind name ps ≡ Some value → whole value ≤ whole new → total whole ps ≤ total whole (on_third (λ old. new) ps)
+  third_known : (name : Bytes) (value new : Expr) (ps : List Expr) → value_after name ps ≡ Some value → whole value ≤ whole new → total whole ps ≤ total whole (on_third (λ old. new) ps)
   third_known name value new [] e h = itself 0
   third_known name value new (x ∷ []) e h = itself (total whole (x ∷ []))
   third_known name value new (x ∷ y ∷ []) e h = itself (total whole (x ∷ y ∷ []))

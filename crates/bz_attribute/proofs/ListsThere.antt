@@ -34,7 +34,7 @@ sum_kind _ h = absurd (true≢false (sym h))
 
 pub sum_no_list : (x : Expr) → has_kind k.Sum x ≡ true → has_kind k.List x ≡ false
 sum_no_list (Token t) h = refl
-sum_no_list (Form' kind s parts s' items end_ split open_ comments) h = sum_kind kind h
+sum_no_list (Form' kind s parts s' items end split open_break comments) h = sum_kind kind h
 
 listed_step : (b : Bool) (x : Expr) (xs : List Expr) (ys : List Expr) → flat_map items_of xs ≡ ys → flat_map items_of (if b then x ∷ xs else xs) ≡ (if b then items_of x else []) ++ ys
 listed_step true x xs ys h = ap (λ zs. items_of x ++ zs) h

@@ -13,11 +13,11 @@ abbrev pub listed : Row → List Expr
 listed r = items-the_row-Expr r.0 r.1
 
 abbrev pub part_row : Expr → Row
-part_row (Form' kind s parts s' items end_ split open_ comments) = (_, parts)
+part_row (Form' kind s parts s' items end split open_break comments) = (_, parts)
 part_row (e.Token t) = (_, end_of-Expr)
 
 abbrev pub item_row : Expr → Row
-item_row (Form' kind s parts s' items end_ split open_ comments) = (_, items)
+item_row (Form' kind s parts s' items end split open_break comments) = (_, items)
 item_row (e.Token t) = (_, end_of-Expr)
 
 pub part_list : (f : Form) → listed (part_row (e.Form f)) ≡ f.parts

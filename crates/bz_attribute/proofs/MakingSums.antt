@@ -9,7 +9,7 @@ use Rattle.bz_attribute.specs.Made.{mark, node, operand, plus}
 use Rattle.bz_attribute.proofs.MakingForms.{listed, item_row, part_list, item_list}
 
 abbrev in_form : Form → List Expr → List Expr → Expr
-in_form f parts items = e.Form (record { kind = f.kind; parts = parts; seq = record { items = items; end_ = f.seq.end_; split = f.seq.split }; open_ = f.open_; comments = f.comments })
+in_form f parts items = e.Form (record { kind = f.kind; parts = parts; seq = record { items = items; end = f.seq.end; split = f.seq.split }; open_break = f.open_break; comments = f.comments })
 
 -- a test that is made twice
 once : (b : Bool) (x y z : Expr) → (if b then (if b then x else y) else z) ≡ (if b then x else z)

@@ -9,15 +9,15 @@ use Rattle.bz_token.specs.Lexemes.{IsLexeme, is_mark}
 use Rattle.bz_tree.specs.declared.kind.Kind.{Kind}
 use Rattle.bz_tree.specs.declared.kind.Kind.TheVariants as k
 use Rattle.bz_tree.specs.Shapes as s
-use Rattle.bz_tree.specs.Shapes.{Fits, Listed, Behind, rank, is_kind}
-use Rattle.bz_tree.specs.Legal.{IsSort}
+use Rattle.bz_tree.specs.Shapes.{Fits, Listed, After, rank, is_kind}
+use Rattle.bz_tree.specs.Legal.{IsNonterminal}
 use Rattle.bz_tree.specs.Spots.{Spot, Begins, Within}
 use Rattle.bz_label.specs.Tables.{is_label_attribute}
 use Rattle.bz_label.specs.Read.{shortened}
 use Rattle.bz_value.specs.declared.value.Expr.{Expr, Token, Form'}
 use Rattle.bz_value.specs.Comments.{no_comments}
 use Rattle.bz_items.specs.Characters.{Bytes, full_stop}
-use Rattle.bz_value.specs.Proper.{IsComment, AreComments, comments_of, has_break, is_sign, is_operator, behind_expr, ProperExpr, IsProperItem}
+use Rattle.bz_value.specs.Proper.{IsComment, AreComments, comments_of, has_break, is_operator_class, is_operator, after_expr, ProperExpr, IsProperItem}
 use Rattle.bz_value.specs.Roots.{root}
 use Rattle.bz_value.specs.Roots as r
 use Rattle.bz_value.proofs.FormParts.{AreParts, form_proper}
@@ -31,7 +31,7 @@ use Rattle.bz_rule.proofs.ProperChanges.{by_test, by_case, Strung}
 use Rattle.bz_rule.proofs.ProperItems.{IsValue, KeepsRow, row_within, value_within}
 use Rattle.bz_rule.proofs.ProperRules.{IsFunction}
 use Rattle.bz_rule.proofs.ProperSequences.{IsItem, AreOf, items_again, each_item}
-use Rattle.bz_attribute.specs.Made.{token, node, sequence, name, mark, shortened_in, string_text, string_of, list_of, binds_looser, operand, plus, dotted_behind, dotted_from, function_of, argument_of, rule_made}
+use Rattle.bz_attribute.specs.Made.{token, node, sequence, name, mark, shortened_in, string_text, string_of, list_of, binds_looser, operand, plus, dotted_after, dotted_from, function_of, argument_of, rule_made}
 use Rattle.bz_attribute.proofs.ProperTexts.{one_ascii, shortened_utf8, IsFull, split_full, kind_pieces}
 
 -- ---- tokens and lists
@@ -45,7 +45,7 @@ pub record IsNew (x : Expr) : Type 0 where
 none_there : AreComments no_comments
 none_there = (All-nil IsComment, tt)
 
-pub new_value : (x : Expr) → IsNew x → IsSort s.test (root x) → IsValue x
+pub new_value : (x : Expr) → IsNew x → IsNonterminal s.test (root x) → IsValue x
 new_value x n h = (((n.proper Within, subst AreComments (sym n.comments) none_there, n.breaks), h), n.comments)
 
 pub token_new : (class : Class) (text : Bytes) → IsLexeme class text → IsUtf8 text → IsNew (token class text)
@@ -58,13 +58,13 @@ name_new : (text : Bytes) → IsAttribute text → IsNew (name text)
 name_new text a = token_new c.Name text ((identifiers_are_names text).0 a.0) a.1
 
 -- a new part of a row before others
-new_part : (binary : Bool) (outer here : Spot) (x : Expr) (xs : List Expr) → IsNew x → AreParts binary outer (behind_expr outer here x) xs → AreParts binary outer here (x ∷ xs)
+new_part : (binary : Bool) (outer here : Spot) (x : Expr) (xs : List Expr) → IsNew x → AreParts binary outer (after_expr outer here x) xs → AreParts binary outer here (x ∷ xs)
 new_part binary outer here x xs n h = (n.proper here, n.comments, λ b. absurd (true≢false (sym b ∙ n.breaks)), h)
 
 list_new : (items : List Expr) → AreOf s.test items → IsNew (list_of items)
 list_new items h = record {
   proper = λ here.
-      form_proper here (record { kind = k.List; parts = []; seq = record { items = items; end_ = []; split = false }; open_ = false; comments = no_comments })
+      form_proper here (record { kind = k.List; parts = []; seq = record { items = items; end = []; split = false }; open_break = false; comments = no_comments })
       (refl, items_again s.test s.close_square (r.mark_leaf 93) refl items h) (tt, each_item s.test s.close_square (r.mark_leaf 93) items h, All-nil IsComment, refl);
   comments = refl;
   breaks = refl;
@@ -99,7 +99,7 @@ texts_are_items (text ∷ texts) h = ((string_value text h.0).0, texts_are_items
 pub argument_item : (attribute : Bytes) (value : Expr) → IsAttribute attribute → IsValue value → IsItem s.argument (argument_of attribute value)
 argument_item attribute value a v = (
   (
-    form_proper Within (record { kind = k.Named; parts = name attribute ∷ mark (codes "=") ∷ value ∷ []; seq = record { items = []; end_ = []; split = false }; open_ = false; comments = no_comments })
+    form_proper Within (record { kind = k.Named; parts = name attribute ∷ mark (codes "=") ∷ value ∷ []; seq = record { items = []; end = []; split = false }; open_break = false; comments = no_comments })
         (refl, (refl, (v.0.1, tt))) (
           new_part false Within Within (name attribute) (mark (codes "=") ∷ value ∷ []) (name_new attribute a)
               (new_part false Within Within (mark (codes "=")) (value ∷ []) (mark_new 61 (omega arith) refl)
@@ -120,11 +120,11 @@ argument_item attribute value a v = (
 dot_function : (front : Expr) (text : Bytes) → IsFunction front → IsAttribute text → IsFunction (node k.Dot (front ∷ mark (codes ".") ∷ name text ∷ []))
 dot_function front text f a = (
   λ here.
-      form_proper here (record { kind = k.Dot; parts = front ∷ mark (codes ".") ∷ name text ∷ []; seq = record { items = []; end_ = []; split = false }; open_ = false; comments = no_comments })
+      form_proper here (record { kind = k.Dot; parts = front ∷ mark (codes ".") ∷ name text ∷ []; seq = record { items = []; end = []; split = false }; open_break = false; comments = no_comments })
       (f.2, (refl, (refl, tt))) (
         new_part false here here front (mark (codes ".") ∷ name text ∷ []) (record { proper = f.0; comments = f.1.0; breaks = f.1.1 })
-            (new_part false here (behind_expr here here front) (mark (codes ".")) (name text ∷ []) (mark_new 46 (omega arith) refl)
-            (new_part false here (behind_expr here (behind_expr here here front) (mark (codes "."))) (name text) [] (name_new text a) tt)),
+            (new_part false here (after_expr here here front) (mark (codes ".")) (name text ∷ []) (mark_new 46 (omega arith) refl)
+            (new_part false here (after_expr here (after_expr here here front) (mark (codes "."))) (name text) [] (name_new text a) tt)),
         tt,
         refl,
         refl,
@@ -134,7 +134,7 @@ dot_function front text f a = (
   refl,
 )
 
-dotted_function : (front : Expr) (texts : List Bytes) → IsFunction front → AllByRecursion IsAttribute texts → IsFunction (dotted_behind front texts)
+dotted_function : (front : Expr) (texts : List Bytes) → IsFunction front → AllByRecursion IsAttribute texts → IsFunction (dotted_after front texts)
 dotted_function front [] f h = f
 dotted_function front (text ∷ texts) f h = dotted_function (node k.Dot (front ∷ mark (codes ".") ∷ name text ∷ [])) texts (dot_function front text f h.0) h.1
 
@@ -148,7 +148,7 @@ kind_function kind h = names_function (slice_split (λ byte. nat_eq byte full_st
 call_new : (function argument : Expr) → IsFunction function → IsItem s.argument argument → IsNew (sequence k.Call (function ∷ []) (argument ∷ []))
 call_new function argument f a = record {
   proper = λ here.
-      form_proper here (record { kind = k.Call; parts = function ∷ []; seq = record { items = argument ∷ []; end_ = []; split = false }; open_ = false; comments = no_comments })
+      form_proper here (record { kind = k.Call; parts = function ∷ []; seq = record { items = argument ∷ []; end = []; split = false }; open_break = false; comments = no_comments })
       (f.2, (refl, items_again s.argument s.close_round (r.mark_leaf 41) refl (argument ∷ []) (a, tt)))
       ((f.0 here, f.1, tt), each_item s.argument s.close_round (r.mark_leaf 41) (argument ∷ []) (a, tt), All-nil IsComment, refl);
   comments = refl;
@@ -164,7 +164,7 @@ made_rule kind word h u =
     let argument = argument_item (codes "name") (token c.String (quoted_of word)) (refl, name_coded) (string_value (quoted_of word) (quoted_string word u)) in
     let call : Expr = sequence k.Call (function_of kind ∷ []) (argument_of (codes "name") (token c.String (quoted_of word)) ∷ []) in (
       refl,
-      form_proper Begins (record { kind = k.Bare; parts = call ∷ []; seq = record { items = []; end_ = []; split = false }; open_ = false; comments = no_comments })
+      form_proper Begins (record { kind = k.Bare; parts = call ∷ []; seq = record { items = []; end = []; split = false }; open_break = false; comments = no_comments })
           (refl, tt) (
             new_part false Begins Begins call [] (call_new (function_of kind) (argument_of (codes "name") (token c.String (quoted_of word))) (kind_function kind h) argument) tt,
             tt,
@@ -179,9 +179,9 @@ made_rule kind word h u =
 
 -- what may be in a sum
 abbrev IsOperand : Expr → Type 0
-IsOperand x = (ProperExpr Within x × (comments_of x ≡ no_comments) × (has_break x ≡ false)) × IsSort (s.level 2) (root x)
+IsOperand x = (ProperExpr Within x × (comments_of x ≡ no_comments) × (has_break x ≡ false)) × IsNonterminal (s.level 2) (root x)
 
-tight_kind : (kind : Kind) → is_kind kind k.Sum ≡ false → nat_lt (rank k.Sum) (rank kind) ≡ false → s.sort_has_kind s.test kind ≡ true → s.sort_has_kind (s.level 2) kind ≡ true
+tight_kind : (kind : Kind) → is_kind kind k.Sum ≡ false → nat_lt (rank k.Sum) (rank kind) ≡ false → s.nonterminal_has_kind s.test kind ≡ true → s.nonterminal_has_kind (s.level 2) kind ≡ true
 tight_kind k.Sum n t h = absurd (true≢false n)
 tight_kind k.Shift n t h = absurd (true≢false t)
 tight_kind k.BitAnd n t h = absurd (true≢false t)
@@ -196,20 +196,20 @@ tight_kind k.Lambda n t h = absurd (true≢false t)
 tight_kind k.Row n t h = absurd (true≢false t)
 tight_kind _ n t h = h
 
-tight : (x : Expr) → has_kind k.Sum x ≡ false → binds_looser x ≡ false → IsSort s.test (root x) → IsSort (s.level 2) (root x)
+tight : (x : Expr) → has_kind k.Sum x ≡ false → binds_looser x ≡ false → IsNonterminal s.test (root x) → IsNonterminal (s.level 2) (root x)
 tight (Token t) n b h = h
-tight (Form' kind s parts s' items end_ split open_ comments) n b h = tight_kind kind n b h
+tight (Form' kind s parts s' items end split open_break comments) n b h = tight_kind kind n b h
 
 paren_operand : (x : Expr) → IsValue x → IsOperand (node k.Paren (mark (codes "(") ∷ x ∷ mark (codes ")") ∷ []))
 paren_operand x v = (
   (
-    form_proper Within (record { kind = k.Paren; parts = mark (codes "(") ∷ x ∷ mark (codes ")") ∷ []; seq = record { items = []; end_ = []; split = false }; open_ = false; comments = no_comments })
+    form_proper Within (record { kind = k.Paren; parts = mark (codes "(") ∷ x ∷ mark (codes ")") ∷ []; seq = record { items = []; end = []; split = false }; open_break = false; comments = no_comments })
         (refl, (v.0.1, (refl, tt))) (
           new_part false Within Within (mark (codes "(")) (x ∷ mark (codes ")") ∷ []) (mark_new 40 (omega arith) refl) (
             v.0.0.0,
             v.1,
             λ b. absurd (true≢false (sym b ∙ v.0.0.2)),
-            new_part false Within (behind_expr Within Within x) (mark (codes ")")) [] (mark_new 41 (omega arith) refl) tt,
+            new_part false Within (after_expr Within Within x) (mark (codes ")")) [] (mark_new 41 (omega arith) refl) tt,
           ),
           tt,
           refl,
@@ -234,15 +234,15 @@ more_operands items = mark (codes "+") ∷ list_of items ∷ []
 more_parts : (outer here : Spot) (items : List Expr) → AreOf s.test items → AreParts true outer here (more_operands items)
 more_parts outer here items h =
     new_part true outer here (mark (codes "+")) (list_of items ∷ []) (mark_new 43 (omega arith) refl)
-    (new_part true outer (behind_expr outer here (mark (codes "+"))) (list_of items) [] (list_new items h) tt)
+    (new_part true outer (after_expr outer here (mark (codes "+"))) (list_of items) [] (list_new items h) tt)
 
 sum_value : (first : Expr) (items : List Expr) → IsOperand first → AreOf s.test items → IsValue (node k.Sum (first ∷ more_operands items))
 sum_value first items o h = (
   (
     (
-      form_proper Within (record { kind = k.Sum; parts = first ∷ more_operands items; seq = record { items = []; end_ = []; split = false }; open_ = false; comments = no_comments })
+      form_proper Within (record { kind = k.Sum; parts = first ∷ more_operands items; seq = record { items = []; end = []; split = false }; open_break = false; comments = no_comments })
           (o.1, (refl, (refl, tt))) (
-            (o.0.0, o.0.1, λ b. absurd (true≢false (sym b ∙ o.0.2)), more_parts Within (behind_expr Within Within first) items h),
+            (o.0.0, o.0.1, λ b. absurd (true≢false (sym b ∙ o.0.2)), more_parts Within (after_expr Within Within first) items h),
             tt,
             refl,
             refl,
@@ -258,14 +258,14 @@ sum_value first items o h = (
 
 -- a sum with a further operand
 
-word_class : (class : Class) (text : Bytes) → s.is_one_of s.simple (record { class = class; gap = []; token = text }) ≡ true → is_sign class ≡ false
+word_class : (class : Class) (text : Bytes) → s.is_one_of s.simple (record { class = class; gap = []; token = text }) ≡ true → is_operator_class class ≡ false
 word_class c.Mark text h = absurd (true≢false (sym h))
 word_class c.Keyword text h = absurd (true≢false (sym h))
 word_class _ text h = refl
 
-no_sign : (x : Expr) → IsSort (s.level 2) (root x) → is_operator x ≡ false
+no_sign : (x : Expr) → IsNonterminal (s.level 2) (root x) → is_operator x ≡ false
 no_sign (Token t) h = word_class t.class t.text h
-no_sign (Form' kind s parts s' items end_ split open_ comments) h = refl
+no_sign (Form' kind s parts s' items end split open_break comments) h = refl
 
 abbrev ends_operator : List Expr → Bool
 ends_operator [] = false
@@ -273,21 +273,21 @@ ends_operator (x ∷ []) = is_operator x
 ends_operator (x ∷ y ∷ ys) = ends_operator (y ∷ ys)
 
 abbrev Operands : List Expr → Type 0
-Operands xs = Listed (IsSort (s.level 2)) s.sums false (Fits IsSort s.done) (map root xs)
+Operands xs = Listed (IsNonterminal (s.level 2)) s.sums false (Fits IsNonterminal s.done) (map root xs)
 
-abbrev BehindOperand : List Expr → Type 0
-BehindOperand xs = Behind (IsSort (s.level 2)) s.sums false (Fits IsSort s.done) (map root xs)
+abbrev AfterOperand : List Expr → Type 0
+AfterOperand xs = After (IsNonterminal (s.level 2)) s.sums false (Fits IsNonterminal s.done) (map root xs)
 
 mutual
   operands_more : (items xs : List Expr) → Operands xs → Operands (xs ++ more_operands items)
   operands_more items [] h = absurd h
-  operands_more items (x ∷ xs) h = (h.0, behind_more items xs h.1)
+  operands_more items (x ∷ xs) h = (h.0, after_more items xs h.1)
 
-  behind_more : (items xs : List Expr) → BehindOperand xs → BehindOperand (xs ++ more_operands items)
-  behind_more items [] h = inr (refl, inl (refl, tt))
-  behind_more items (x ∷ xs) (inl h) = absurd h
-  behind_more items (x ∷ xs) (inr (t, inl h)) = inr (t, inl (operands_more items xs h))
-  behind_more items (x ∷ xs) (inr (t, inr h)) = absurd (true≢false (sym h.0))
+  after_more : (items xs : List Expr) → AfterOperand xs → AfterOperand (xs ++ more_operands items)
+  after_more items [] h = inr (refl, inl (refl, tt))
+  after_more items (x ∷ xs) (inl h) = absurd h
+  after_more items (x ∷ xs) (inr (t, inl h)) = inr (t, inl (operands_more items xs h))
+  after_more items (x ∷ xs) (inr (t, inr h)) = absurd (true≢false (sym h.0))
 
 operands_end : (xs : List Expr) → Operands xs → ends_operator xs ≡ false
 operands_end [] h = refl
@@ -303,15 +303,15 @@ parts_more outer here items (x ∷ []) h n a = (
   a.0,
   a.1,
   λ b. absurd (true≢false (sym (a.2 b).0 ∙ ap (λ z. z && true) n)),
-  more_parts outer (behind_expr outer here x) items h,
+  more_parts outer (after_expr outer here x) items h,
 )
-parts_more outer here items (x ∷ y ∷ ys) h n a = (a.0, a.1, a.2, parts_more outer (behind_expr outer here x) items (y ∷ ys) h n a.3)
+parts_more outer here items (x ∷ y ∷ ys) h n a = (a.0, a.1, a.2, parts_more outer (after_expr outer here x) items (y ∷ ys) h n a.3)
 
 sum_kept : (items : List Expr) → AreOf s.test items → KeepsRow k.Sum (λ parts. parts ++ more_operands items)
-sum_kept items h end_ split open_ [] xs g = absurd g.0
-sum_kept items h end_ split open_ (x ∷ []) xs g = absurd g.0.1
-sum_kept items h end_ split open_ (x ∷ y ∷ []) xs g = absurd g.0.1.1
-sum_kept items h end_ split open_ (x ∷ y ∷ z ∷ zs) xs g = (
+sum_kept items h end split open_break [] xs g = absurd g.0
+sum_kept items h end split open_break (x ∷ []) xs g = absurd g.0.1
+sum_kept items h end split open_break (x ∷ y ∷ []) xs g = absurd g.0.1.1
+sum_kept items h end split open_break (x ∷ y ∷ z ∷ zs) xs g = (
   (g.0.0, (g.0.1.0, operands_more items (z ∷ zs) g.0.1.1)),
   (parts_more Within Within items (x ∷ y ∷ z ∷ zs) h (operands_end (z ∷ zs) g.0.1.1) g.1.0, g.1.1, g.1.2, g.1.3, g.1.4),
 )

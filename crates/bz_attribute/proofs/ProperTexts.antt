@@ -12,7 +12,7 @@ use Rattle.std.proofs.lemmas.List.Elements.{All-cons}
 use Rattle.std.proofs.Math.Seq.{get_or-append_seam}
 use Rattle.bz_label.specs.Pieces.{is_colon}
 use Rattle.bz_label.specs.Read.{is_own, shortened}
-use Rattle.bz_label.specs.Shorter.{before_colon, behind_colon, is_repeated, unrepeated}
+use Rattle.bz_label.specs.Shorter.{before_colon, after_colon, is_repeated, unrepeated}
 use Rattle.bz_items.specs.Characters.{Bytes, apostrophe, full_stop, quotation_mark}
 use Rattle.bz_words.specs.Identifiers.{is_identifier}
 use Rattle.bz_words.specs.Proper.{AreUtf8, IsAttribute, IsKind}
@@ -64,20 +64,20 @@ before_utf8 front (byte ∷ rest) u = elim (cases_Bool (is_colon byte)) [
   | inr w ↦ rw w (subst IsUtf8 (append_assoc front (byte ∷ []) (before_colon rest)) (before_utf8 (front ++ byte ∷ []) rest (subst IsUtf8 (sym (append_assoc front (byte ∷ []) rest)) u)))
 ]
 
-behind_utf8 : (front text : Bytes) → IsUtf8 (front ++ text) → IsUtf8 (behind_colon text)
-behind_utf8 front [] u = ([], (refl, refl))
-behind_utf8 front (byte ∷ rest) u = elim (cases_Bool (is_colon byte)) [
+after_utf8 : (front text : Bytes) → IsUtf8 (front ++ text) → IsUtf8 (after_colon text)
+after_utf8 front [] u = ([], (refl, refl))
+after_utf8 front (byte ∷ rest) u = elim (cases_Bool (is_colon byte)) [
   | inl w ↦ rw w (beside_ascii front byte rest (low_colon byte w) u).1
-  | inr w ↦ rw w (behind_utf8 (front ++ byte ∷ []) rest (subst IsUtf8 (sym (append_assoc front (byte ∷ []) rest)) u))
+  | inr w ↦ rw w (after_utf8 (front ++ byte ∷ []) rest (subst IsUtf8 (sym (append_assoc front (byte ∷ []) rest)) u))
 ]
 
 unrepeated_utf8 : (text : Bytes) → IsUtf8 text → IsUtf8 (unrepeated text)
-unrepeated_utf8 text u = by_test IsUtf8 (is_repeated (before_colon text) (behind_colon text)) (before_colon text) text (before_utf8 [] text u) u
+unrepeated_utf8 text u = by_test IsUtf8 (is_repeated (before_colon text) (after_colon text)) (before_colon text) text (before_utf8 [] text u) u
 
 pub shortened_utf8 : (current text : Bytes) → IsUtf8 text → IsUtf8 (shortened current text)
 shortened_utf8 current text u =
-    by_test IsUtf8 (is_own current text) (58 ∷ behind_colon text) (unrepeated text)
-    (IsUtf8-append (58 ∷ []) (behind_colon text) (one_ascii 58 (omega arith)) (behind_utf8 [] text u)) (unrepeated_utf8 text u)
+    by_test IsUtf8 (is_own current text) (58 ∷ after_colon text) (unrepeated text)
+    (IsUtf8-append (58 ∷ []) (after_colon text) (one_ascii 58 (omega arith)) (after_utf8 [] text u)) (unrepeated_utf8 text u)
 
 -- ---- names joined by dots
 

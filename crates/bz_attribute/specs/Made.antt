@@ -18,14 +18,14 @@ use Rattle.bz_words.specs.Quoted.{quoted_of}
 use Rattle.bz_rule.specs.Values.{has_kind, on_row}
 
 abbrev pub token : Class → Bytes → Expr
-token class text = e.Token (record { class = class; text = text; break_ = false; comments = no_comments })
+token class text = e.Token (record { class = class; text = text; line_break = false; comments = no_comments })
 
 -- a node of a row of parts, and one with a sequence after these parts
 abbrev pub node : Kind → List Expr → Expr
-node kind parts = e.Form (record { kind = kind; parts = parts; seq = record { items = []; end_ = []; split = false }; open_ = false; comments = no_comments })
+node kind parts = e.Form (record { kind = kind; parts = parts; seq = record { items = []; end = []; split = false }; open_break = false; comments = no_comments })
 
 abbrev pub sequence : Kind → List Expr → List Expr → Expr
-sequence kind parts items = e.Form (record { kind = kind; parts = parts; seq = record { items = items; end_ = []; split = false }; open_ = false; comments = no_comments })
+sequence kind parts items = e.Form (record { kind = kind; parts = parts; seq = record { items = items; end = []; split = false }; open_break = false; comments = no_comments })
 
 abbrev pub name : Bytes → Expr
 name text = token c.Name text
@@ -56,7 +56,7 @@ strings_of current attribute words = list_of (map (string_of current attribute) 
 
 abbrev pub binds_looser : Expr → Bool
 binds_looser (e.Token t) = false
-binds_looser (Form' kind s parts s' items end_ split open_ comments) = nat_lt (rank k.Sum) (rank kind)
+binds_looser (Form' kind s parts s' items end split open_break comments) = nat_lt (rank k.Sum) (rank kind)
 
 -- an operand of a sum is in brackets where it binds looser
 abbrev pub operand : Expr → Expr
@@ -71,13 +71,13 @@ plus x list =
 -- ---- kinds and rules
 
 -- names joined by dots, from the first one on
-abbrev pub dotted_behind : Expr → List Bytes → Expr
-dotted_behind front [] = front
-dotted_behind front (text ∷ texts) = dotted_behind (node k.Dot (front ∷ mark (codes ".") ∷ name text ∷ [])) texts
+abbrev pub dotted_after : Expr → List Bytes → Expr
+dotted_after front [] = front
+dotted_after front (text ∷ texts) = dotted_after (node k.Dot (front ∷ mark (codes ".") ∷ name text ∷ [])) texts
 
 abbrev pub dotted_from : List Bytes → Expr
 dotted_from [] = name []
-dotted_from (text ∷ texts) = dotted_behind (name text) texts
+dotted_from (text ∷ texts) = dotted_after (name text) texts
 
 -- the function of a call, by a kind
 abbrev pub function_of : Bytes → Expr

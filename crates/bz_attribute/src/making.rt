@@ -46,7 +46,7 @@ pub fn token(class: Class, text: Text) -> Expr
     Expr::Token(Token {
         class,
         text,
-        break_: false,
+        line_break: false,
         comments: Comments::none(),
     })
 }
@@ -60,10 +60,10 @@ pub fn sequence(alloc: Global, kind: Kind, parts: Items<Expr>, items: Items<Expr
         parts,
         seq: Seq {
             items,
-            end_: Items::new(alloc),
+            end: Items::new(alloc),
             split: false,
         },
-        open_: false,
+        open_break: false,
         comments: Comments::none(),
     })
 }
@@ -337,9 +337,9 @@ pub fn function_of(alloc: Global, kind: &[u8]) -> Result<Expr, Memory>
     let (first, mut rest) = cut(kind);
     let mut function = new_token(alloc, Class::Name, first)?;
     while let Some(text) = rest {
-        let (piece, behind) = cut(text);
+        let (piece, following) = cut(text);
         function = dotted(alloc, function, piece)?;
-        rest = behind;
+        rest = following;
     }
     Ok(function)
 }

@@ -9,7 +9,7 @@ use Rattle.bz_tree.specs.Shapes.{is_class}
 use Rattle.bz_value.specs.declared.value.Expr.{Expr, Token, Form'}
 use Rattle.bz_value.specs.declared.value.Expr.TheVariants as e
 use Rattle.bz_items.specs.Characters.{Bytes}
-use Rattle.bz_rule.specs.Rules.{text_in, is_text, value_behind}
+use Rattle.bz_rule.specs.Rules.{text_in, is_text, value_after}
 use Rattle.bz_rule.specs.Values.{parts_of, with_parts, with_text, on_row, on_first}
 use Rattle.bz_attribute.specs.Attributes.{is_attribute, has_attribute, on_first_that}
 use Rattle.bz_attribute.specs.Attributes.{Arguments}
@@ -29,19 +29,19 @@ own_text false text h = absurd (true≢false (sym h))
 
 name_back : (from to : Bytes) (x : Expr) → is_text from (text_in c.Name x) ≡ true → with_text from (with_text to x) ≡ x
 name_back from to (Token t) h = ap (λ (text : Bytes). e.Token (record t { text = text })) (sym (text_if (is_class t.class c.Name) from t.text h).1)
-name_back from to (Form' own s parts s' items end_ split open_ comments) h = absurd (true≢false (sym h))
+name_back from to (Form' own s parts s' items end split open_break comments) h = absurd (true≢false (sym h))
 
 name_found : (from to : Bytes) (x : Expr) → is_text from (text_in c.Name x) ≡ true → is_text to (text_in c.Name (with_text to x)) ≡ true
 name_found from to (Token t) h = own_text (is_class t.class c.Name) to (text_if (is_class t.class c.Name) from t.text h).0
-name_found from to (Form' own s parts s' items end_ split open_ comments) h = absurd (true≢false (sym h))
+name_found from to (Form' own s parts s' items end split open_break comments) h = absurd (true≢false (sym h))
 
 -- ---- an argument
 
 abbrev renamed : Bytes → Expr → Expr
 renamed text = on_row k.Named (on_first (with_text text))
 
-parts_back : (from to : Bytes) (ps : List Expr) → is_some (value_behind from ps) ≡ true
-    → (on_first (with_text from) (on_first (with_text to) ps) ≡ ps) × (is_some (value_behind to (on_first (with_text to) ps)) ≡ true)
+parts_back : (from to : Bytes) (ps : List Expr) → is_some (value_after from ps) ≡ true
+    → (on_first (with_text from) (on_first (with_text to) ps) ≡ ps) × (is_some (value_after to (on_first (with_text to) ps)) ≡ true)
 parts_back from to [] h = absurd (true≢false (sym h))
 parts_back from to (x ∷ []) h = absurd (true≢false (sym h))
 parts_back from to (x ∷ y ∷ []) h = absurd (true≢false (sym h))
@@ -77,10 +77,10 @@ list_back from to (x ∷ xs) h n = elim (cases_Bool (is_attribute from x)) [
       let none : (is_attribute to x ≡ false) × (has_attribute to xs ≡ false) = or_parts (is_attribute to x) (has_attribute to xs) (sym (attribute_first to x xs) ∙ n) in
       let later : has_attribute from xs ≡ true = sym (ap (λ t. t || has_attribute from xs) w) ∙ (sym (attribute_first from x xs) ∙ h) in
       let b : (on_first_that (is_attribute to) (renamed from) rest ≡ xs) × (has_attribute to rest ≡ true) = list_back from to xs later none.1 in
-      let behind : on_first_that (is_attribute from) (renamed to) (x ∷ xs) ≡ x ∷ rest = if_false (is_attribute from x) (renamed to x ∷ xs) (x ∷ rest) w in (
-        ap (on_first_that (is_attribute to) (renamed from)) behind
+      let following : on_first_that (is_attribute from) (renamed to) (x ∷ xs) ≡ x ∷ rest = if_false (is_attribute from x) (renamed to x ∷ xs) (x ∷ rest) w in (
+        ap (on_first_that (is_attribute to) (renamed from)) following
             ∙ (if_false (is_attribute to x) (renamed from x ∷ rest) (x ∷ on_first_that (is_attribute to) (renamed from) rest) none.0 ∙ ap (λ zs. x ∷ zs) b.0),
-        ap (has_attribute to) behind ∙ (attribute_first to x rest ∙ (ap (λ t. t || has_attribute to rest) none.0 ∙ b.1)),
+        ap (has_attribute to) following ∙ (attribute_first to x rest ∙ (ap (λ t. t || has_attribute to rest) none.0 ∙ b.1)),
       )
 ]
 

@@ -26,10 +26,10 @@ set_by_put current name words arguments =
 by_test : (current name : Bytes) (words : List Bytes) (arguments : List Expr) (made : Setting) (test : Bool)
     → made ≡ setting current name words → option_map_or (is_set made) (attribute name arguments) false ≡ test
     → set current name words arguments ≡ Ok (if test then arguments else put name (value_of made) arguments)
-by_test current name words arguments made test is told =
+by_test current name words arguments made test is answered =
     set_by_put current name words arguments
     ∙ (ap (λ (s : Setting). Ok (if option_map_or (is_set s) (attribute name arguments) false then arguments else put name (value_of s) arguments)) (sym is)
-    ∙ ap (λ (b : Bool). Ok (if b then arguments else put name (value_of made) arguments)) told)
+    ∙ ap (λ (b : Bool). Ok (if b then arguments else put name (value_of made) arguments)) answered)
 
 pub set_there : (current name : Bytes) (words : List Bytes) (arguments : List Expr) (made : Setting)
     → made ≡ setting current name words → option_map_or (is_set made) (attribute name arguments) false ≡ true → set current name words arguments ≡ Ok arguments

@@ -76,10 +76,10 @@ form_arguments true f rule e = call_arguments (only f.parts) f.seq.items rule e
 form_arguments false f rule e = cc
 
 -- the expression of a statement, by its kind and its parts
-only_told : (x : Expr) → option_and_then (λ (bare : Form). only bare.parts) (form_in k.Bare x) ≡ (if has_kind k.Bare x then only (parts_of x) else None)
-only_told (Token t) = refl
-only_told (Form' own s parts s' items end_ split open_ comments) =
-    then_if (is_kind own k.Bare) (λ (bare : Form). only bare.parts) (made own (items-the_row-Expr _ parts) (items-the_row-Expr _ items) end_ split open_ comments)
+only_answered : (x : Expr) → option_and_then (λ (bare : Form). only bare.parts) (form_in k.Bare x) ≡ (if has_kind k.Bare x then only (parts_of x) else None)
+only_answered (Token t) = refl
+only_answered (Form' own s parts s' items end split open_break comments) =
+    then_if (is_kind own k.Bare) (λ (bare : Form). only bare.parts) (made own (items-the_row-Expr _ parts) (items-the_row-Expr _ items) end split open_break comments)
 
 abbrev rule_in : Option Expr → Option RuleRead
 rule_in x = option_and_then named (option_and_then called (option_and_then (form_in k.Call) x))
@@ -167,10 +167,10 @@ module _ (number : Bytes → ℕ) where
 
   in_call : (y : Expr) (rule : RuleRead) (new : List Expr) → rule_in (Some y) ≡ Some rule → total whole rule.arguments ≤ total whole new → whole y ≤ whole (with_items new y)
   in_call (Token t) rule new e h = itself (whole (Token t))
-  in_call (Form' own s parts s' items end_ split open_ comments) rule new e h =
-      items_grow number new (Form' own s parts s' items end_ split open_ comments)
+  in_call (Form' own s parts s' items end split open_break comments) rule new e h =
+      items_grow number new (Form' own s parts s' items end split open_break comments)
       (subst (λ xs. total whole xs ≤ total whole new)
-      (sym (form_arguments (is_kind own k.Call) (made own (items-the_row-Expr _ parts) (items-the_row-Expr _ items) end_ split open_ comments) rule e)) h)
+      (sym (form_arguments (is_kind own k.Call) (made own (items-the_row-Expr _ parts) (items-the_row-Expr _ items) end split open_break comments) rule e)) h)
 
   in_row : (ps : List Expr) (rule : RuleRead) (new : List Expr) → rule_in (only ps) ≡ Some rule → total whole rule.arguments ≤ total whole new → total whole ps ≤ total whole (on_first (with_items new) ps)
   in_row [] rule new e h = itself 0
@@ -182,20 +182,20 @@ module _ (number : Bytes → ℕ) where
   rule_grows (i.Stmt x) rule new e h =
       by_case (λ (y : Expr). whole x ≤ whole y) (has_kind k.Bare x) (with_parts (on_first (with_items new) (parts_of x)) x) x
       (λ is. parts_grow number (on_first (with_items new) (parts_of x)) x
-      (in_row (parts_of x) rule new (sym (ap rule_in (only_told x ∙ if_true (has_kind k.Bare x) (only (parts_of x)) None is)) ∙ e) h))
+      (in_row (parts_of x) rule new (sym (ap rule_in (only_answered x ∙ if_true (has_kind k.Bare x) (only (parts_of x)) None is)) ∙ e) h))
       (λ n. itself (whole x))
 
   -- the arguments that are put in are in the item then
   parts_hold : (ys : List Expr) (x : Expr) → has_kind k.Bare x ≡ true → total whole ys ≤ whole (with_parts ys x)
   parts_hold ys (Token t) h = absurd (true≢false (sym h))
-  parts_hold ys (Form' own s parts s' items end_ split open_ comments) h =
-      let all = form_amount number (made own ys (items-the_row-Expr _ items) end_ split open_ comments) in
+  parts_hold ys (Form' own s parts s' items end split open_break comments) h =
+      let all = form_amount number (made own ys (items-the_row-Expr _ items) end split open_break comments) in
       omega arith
 
   call_holds : (y : Expr) (rule : RuleRead) (new : List Expr) → rule_in (Some y) ≡ Some rule → total whole new ≤ whole (with_items new y)
   call_holds (Token t) rule new e = cc
-  call_holds (Form' own s parts s' items end_ split open_ comments) rule new e =
-      let all = form_amount number (made own (items-the_row-Expr _ parts) new end_ split open_ comments) in
+  call_holds (Form' own s parts s' items end split open_break comments) rule new e =
+      let all = form_amount number (made own (items-the_row-Expr _ parts) new end split open_break comments) in
       omega arith
 
   row_holds : (ps : List Expr) (rule : RuleRead) (new : List Expr) → rule_in (only ps) ≡ Some rule → total whole new ≤ total whole (on_first (with_items new) ps)
@@ -208,9 +208,9 @@ module _ (number : Bytes → ℕ) where
   rule_holds (i.Stmt x) rule new e =
       by_case (λ (y : Expr). total whole new ≤ whole y) (has_kind k.Bare x) (with_parts (on_first (with_items new) (parts_of x)) x) x
       (λ is. in_turn (total whole new) (total whole (on_first (with_items new) (parts_of x))) (whole (with_parts (on_first (with_items new) (parts_of x)) x))
-      (row_holds (parts_of x) rule new (sym (ap rule_in (only_told x ∙ if_true (has_kind k.Bare x) (only (parts_of x)) None is)) ∙ e))
+      (row_holds (parts_of x) rule new (sym (ap rule_in (only_answered x ∙ if_true (has_kind k.Bare x) (only (parts_of x)) None is)) ∙ e))
       (parts_hold (on_first (with_items new) (parts_of x)) x is))
-      (λ n. let none : rule_in None ≡ Some rule = sym (ap rule_in (only_told x ∙ if_false (has_kind k.Bare x) (only (parts_of x)) None n)) ∙ e in absurd (true≢false (sym (ap (λ (found : Option RuleRead). is_some found) none))))
+      (λ n. let none : rule_in None ≡ Some rule = sym (ap rule_in (only_answered x ∙ if_false (has_kind k.Bare x) (only (parts_of x)) None n)) ∙ e in absurd (true≢false (sym (ap (λ (found : Option RuleRead). is_some found) none))))
 
   abbrev MadeItem : Item → NewItem → Type 0
   MadeItem item result = IfOk result (λ new. size item ≤ size new)
@@ -231,17 +231,17 @@ module _ (number : Bytes → ℕ) where
   abbrev MadeItems : List Item → Result (List Item) Refusal → Type 0
   MadeItems items result = IfOk result (λ new. total size items ≤ total size new)
 
-  behind_keeps : (item : Item) (items : List Item) (one : NewItem) (rest : Result (List Item) Refusal) → MadeItem item one → MadeItems items rest → MadeItems (item ∷ items) (with_item_first one rest)
-  behind_keeps item items (Err refusal) rest h g = tt
-  behind_keeps item items (Ok new) (Err refusal) h g = tt
-  behind_keeps item items (Ok new) (Ok news) h g = both_at_most (size item) (size new) (total size items) (total size news) h g
+  after_keeps : (item : Item) (items : List Item) (one : NewItem) (rest : Result (List Item) Refusal) → MadeItem item one → MadeItems items rest → MadeItems (item ∷ items) (with_item_first one rest)
+  after_keeps item items (Err refusal) rest h g = tt
+  after_keeps item items (Ok new) (Err refusal) h g = tt
+  after_keeps item items (Ok new) (Ok news) h g = both_at_most (size item) (size new) (total size items) (total size news) h g
 
   meant_keeps : (change : Item → NewItem) → ((item : Item) → MadeItem item (change item)) → (marks : List Bool) (items : List Item) → MadeItems items (on_meant change marks items)
   meant_keeps change g [] items = itself (total size items)
   meant_keeps change g (true ∷ marks) [] = itself 0
   meant_keeps change g (false ∷ marks) [] = itself 0
-  meant_keeps change g (true ∷ marks) (item ∷ items) = behind_keeps item items (change item) (on_meant change marks items) (g item) (meant_keeps change g marks items)
-  meant_keeps change g (false ∷ marks) (item ∷ items) = behind_keeps item items (Ok item) (on_meant change marks items) (itself (size item)) (meant_keeps change g marks items)
+  meant_keeps change g (true ∷ marks) (item ∷ items) = after_keeps item items (change item) (on_meant change marks items) (g item) (meant_keeps change g marks items)
+  meant_keeps change g (false ∷ marks) (item ∷ items) = after_keeps item items (Ok item) (on_meant change marks items) (itself (size item)) (meant_keeps change g marks items)
 
   before_grows : (rule : Bytes) (new : Item) → EachGrows size (before_first rule new)
   before_grows rule new [] = itself 0
@@ -250,17 +250,17 @@ module _ (number : Bytes → ℕ) where
       (last_at_most (size new) (total size (item ∷ items)))
       (both_at_most (size item) (size item) (total size items) (total size (before_first rule new items)) (itself (size item)) (before_grows rule new items))
 
-  behind_grows : (rule : Bytes) (new : Item) → EachGrows size (after_rule rule new)
-  behind_grows rule new [] = itself 0
-  behind_grows rule new (item ∷ items) =
+  after_grows : (rule : Bytes) (new : Item) → EachGrows size (after_rule rule new)
+  after_grows rule new [] = itself 0
+  after_grows rule new (item ∷ items) =
       by_test (λ (all : List Item). total size (item ∷ items) ≤ total size all) (has_name rule item) (item ∷ new ∷ items) (item ∷ after_rule rule new items)
       (both_at_most (size item) (size item) (total size items) (total size (new ∷ items)) (itself (size item)) (last_at_most (size new) (total size items)))
-      (both_at_most (size item) (size item) (total size items) (total size (after_rule rule new items)) (itself (size item)) (behind_grows rule new items))
+      (both_at_most (size item) (size item) (total size items) (total size (after_rule rule new items)) (itself (size item)) (after_grows rule new items))
 
   placed_grows : (place : RulePlace) (new : Item) → EachGrows size (placed place new)
   placed_grows End new items = append_grows size (new ∷ []) items
   placed_grows (Before rule) new items = before_grows rule new items
-  placed_grows (After rule) new items = behind_grows rule new items
+  placed_grows (After rule) new items = after_grows rule new items
 
   new_keeps : (kind name : Bytes) (place : RulePlace) (items : List Item) → MadeItems items (with_rule kind name place items)
   new_keeps kind name place items =

@@ -164,22 +164,22 @@ quotient_past count size some h =
 -- ---- what is answered of a command
 
 -- `words` and `all` are the text and the items as they are handed on
-pub over_told : EffectsStayProper → (operation : Operation) (host : Host) (text words current : Bytes) (target : Target) (lines : List ℕ) (items all : List Item) (result : Result Bool Refusal)
+pub over_answered : EffectsStayProper → (operation : Operation) (host : Host) (text words current : Bytes) (target : Target) (lines : List ℕ) (items all : List Item) (result : Result Bool Refusal)
     → operation ≡ w.Comment (wc.Add host text) → words ≡ text → all ≡ items → IsProperCommand operation → IsProper items
     → IfOk result (λ over. IsTrue over → IsOverfilling host words target current lines all) → IfOk result (λ over. IsTrue over → Overfills (effect operation target current lines items))
-over_told stays operation host text words current target lines items all (Err refusal) is same_text same_items command proper h = tt
-over_told stays operation host text words current target lines items all (Ok over) is same_text same_items command proper h =
+over_answered stays operation host text words current target lines items all (Err refusal) is same_text same_items command proper h = tt
+over_answered stays operation host text words current target lines items all (Ok over) is same_text same_items command proper h =
     λ past_. subst (λ (o : Operation). Overfills (effect o target current lines items)) (sym is)
     (comment_overfills stays text current host target lines items (subst IsProperCommand is command) proper
     (subst (λ (t : Bytes). IsOverfilling host t target current lines items) same_text (subst (λ (xs : List Item). IsOverfilling host words target current lines xs) same_items (h past_))))
 
-pub refusal_told : (operation : Operation) (host : Host) (text words current : Bytes) (target : Target) (lines : List ℕ) (items all : List Item) (result : Result Bool Refusal)
+pub refusal_answered : (operation : Operation) (host : Host) (text words current : Bytes) (target : Target) (lines : List ℕ) (items all : List Item) (result : Result Bool Refusal)
     → operation ≡ w.Comment (wc.Add host text) → words ≡ text → all ≡ items
     → IfErr result (λ refusal. IsRefusing host words target current lines all refusal ⊎ (refusal ≡ Memory))
     → IfErr result (λ refusal. (effect operation target current lines items ≡ Err refusal) ⊎ (refusal ≡ Memory))
-refusal_told operation host text words current target lines items all (Ok over) is same_text same_items h = tt
-refusal_told operation host text words current target lines items all (Err refusal) is same_text same_items (inl refusing) =
+refusal_answered operation host text words current target lines items all (Ok over) is same_text same_items h = tt
+refusal_answered operation host text words current target lines items all (Err refusal) is same_text same_items (inl refusing) =
     inl (ap (λ (o : Operation). effect o target current lines items) is
     ∙ comment_refused text current host target lines items refusal
     (subst (λ (t : Bytes). IsRefusing host t target current lines items refusal) same_text (subst (λ (xs : List Item). IsRefusing host words target current lines xs refusal) same_items refusing)))
-refusal_told operation host text words current target lines items all (Err refusal) is same_text same_items (inr memory) = inr memory
+refusal_answered operation host text words current target lines items all (Err refusal) is same_text same_items (inr memory) = inr memory

@@ -173,14 +173,14 @@ items_before : (rule : Bytes) (new : Item) (items : List Item) → IsProperItem 
 items_before rule new [] n h = tt
 items_before rule new (item ∷ items) n h = by_test AreItems (has_name rule item) (new ∷ item ∷ items) (item ∷ before_first rule new items) (n, h) (h.0, items_before rule new items n h.1)
 
-items_behind : (rule : Bytes) (new : Item) (items : List Item) → IsProperItem new → AreItems items → AreItems (after_rule rule new items)
-items_behind rule new [] n h = tt
-items_behind rule new (item ∷ items) n h = by_test AreItems (has_name rule item) (item ∷ new ∷ items) (item ∷ after_rule rule new items) (h.0, (n, h.1)) (h.0, items_behind rule new items n h.1)
+items_after : (rule : Bytes) (new : Item) (items : List Item) → IsProperItem new → AreItems items → AreItems (after_rule rule new items)
+items_after rule new [] n h = tt
+items_after rule new (item ∷ items) n h = by_test AreItems (has_name rule item) (item ∷ new ∷ items) (item ∷ after_rule rule new items) (h.0, (n, h.1)) (h.0, items_after rule new items n h.1)
 
 placed_items : (place : RulePlace) (new : Item) (items : List Item) → IsProperItem new → AreItems items → AreItems (placed place new items)
 placed_items End new items n h = all_joined IsProperItem items (new ∷ []) h (n, tt)
 placed_items (Before rule) new items n h = items_before rule new items n h
-placed_items (After rule) new items n h = items_behind rule new items n h
+placed_items (After rule) new items n h = items_after rule new items n h
 
 with_rule_made : (kind name : Bytes) (place : RulePlace) (items : List Item) → IsProperItem (rule_made kind name) → AreItems items → MadeItems (with_rule kind name place items)
 with_rule_made kind name place items n h =

@@ -12,19 +12,19 @@ use Rattle.bz_command.specs.Renewed.{are_bare}
 abbrev Exchanges : List Bool → List Item → Result (List Item) Refusal → Type 0
 Exchanges marks before made = IfOk made (λ items. are_bare marks items ≡ true → AreExchanged marks before items)
 
-behind_marked :
+after_marked :
     (marks : List Bool) (old : Item) (before : List Item) (one : NewItem) (rest : Result (List Item) Refusal)
     → is_bare old ≡ true → Exchanges marks before rest → Exchanges (true ∷ marks) (old ∷ before) (with_item_first one rest)
-behind_marked marks old before (Err refusal) rest bare exchanges = tt
-behind_marked marks old before (Ok item) (Err refusal) bare exchanges = tt
-behind_marked marks old before (Ok item) (Ok items) bare exchanges =
+after_marked marks old before (Err refusal) rest bare exchanges = tt
+after_marked marks old before (Ok item) (Err refusal) bare exchanges = tt
+after_marked marks old before (Ok item) (Ok items) bare exchanges =
     λ both. let parts = and_parts (is_bare item) (are_bare marks items) both in ((bare, parts.0), exchanges parts.1)
 
-behind_unmarked :
+after_unmarked :
     (marks : List Bool) (old : Item) (before : List Item) (rest : Result (List Item) Refusal)
     → Exchanges marks before rest → Exchanges (false ∷ marks) (old ∷ before) (with_item_first (Ok old) rest)
-behind_unmarked marks old before (Err refusal) exchanges = tt
-behind_unmarked marks old before (Ok items) exchanges = λ bare. (refl, exchanges bare)
+after_unmarked marks old before (Err refusal) exchanges = tt
+after_unmarked marks old before (Ok items) exchanges = λ bare. (refl, exchanges bare)
 
 meant_exchanges :
     (change : Item → NewItem) (marks : List Bool) (before : List Item)
@@ -34,9 +34,9 @@ meant_exchanges change [] (old ∷ before) count bare = absurd (omega (arith, co
 meant_exchanges change (mark ∷ marks) [] count bare = absurd (omega (arith, count))
 meant_exchanges change (true ∷ marks) (old ∷ before) count bare =
     let parts = and_parts (is_bare old) (are_bare marks before) bare in
-    behind_marked marks old before (change old) (on_meant change marks before) parts.0 (meant_exchanges change marks before (omega (arith, count)) parts.1)
+    after_marked marks old before (change old) (on_meant change marks before) parts.0 (meant_exchanges change marks before (omega (arith, count)) parts.1)
 meant_exchanges change (false ∷ marks) (old ∷ before) count bare =
-    behind_unmarked marks old before (on_meant change marks before) (meant_exchanges change marks before (omega (arith, count)) bare)
+    after_unmarked marks old before (on_meant change marks before) (meant_exchanges change marks before (omega (arith, count)) bare)
 
 -- Where bare statements were marked, and are bare still, they are exchanged, and nothing else; `known` is what was known of the items before.
 pub exchanged_there :

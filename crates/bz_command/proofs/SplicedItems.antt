@@ -29,8 +29,8 @@ module _ (kept at : ℕ) (old : List Item) (d : Item) (order : kept ≤ at) (the
         ∙ (ap (take (kept + 1)) (set-set old kept (get_or old at d) (get_or old at d)) ∙ written))
   ]
 
-  exchanged_behind : drop (at + 1) exchanged ≡ drop (at + 1) old
-  exchanged_behind =
+  exchanged_after : drop (at + 1) exchanged ≡ drop (at + 1) old
+  exchanged_after =
       drop-set-lt (at + 1) (set old kept (get_or old at d)) at (get_or old kept d) (omega arith)
       ∙ drop-set-lt (at + 1) old kept (get_or old at d) (omega arith)
 
@@ -39,7 +39,7 @@ module _ (kept at : ℕ) (old : List Item) (d : Item) (order : kept ≤ at) (the
   exchanged_kept marks new is =
       ap (λ (xs : List Item). take (kept + 1) xs ++ unmarked marks (drop (at + 1) xs)) is
       ∙ (ap (λ (xs : List Item). xs ++ unmarked marks (drop (at + 1) exchanged)) exchanged_front
-      ∙ (ap (λ (xs : List Item). (take kept old ++ get_or old at d ∷ []) ++ unmarked marks xs) exchanged_behind
+      ∙ (ap (λ (xs : List Item). (take kept old ++ get_or old at d ∷ []) ++ unmarked marks xs) exchanged_after
       ∙ (append_assoc (take kept old) (get_or old at d ∷ []) (unmarked marks (drop (at + 1) old))
       ∙ ap (λ (xs : List Item). take kept old ++ unmarked (false ∷ marks) xs) (sym (drop_more old at d there)))))
 
@@ -75,29 +75,29 @@ record Left (from last : ℕ) (marks : List Bool) (items : List Item) : Type 0 w
 
 left_by : (from last : ℕ) (marks : List Bool) (items : List Item) → length marks ≡ length items → from ≤ last → last ≤ length marks
     → ((k : ℕ) → k < from → get_or marks k false ≡ false) → ((k : ℕ) → last ≤ k → k < length marks → get_or marks k false ≡ false) → Left from last marks items
-left_by zero zero marks items count order within front behind = record { middle = []; split = all_stay marks items count (λ k less. behind k (omega arith) less) }
-left_by zero (suc last) [] items count order within front behind = absurd (omega (arith, within))
-left_by zero (suc last) (mark ∷ marks) [] count order within front behind = absurd (omega (arith, count))
-left_by zero (suc last) (true ∷ marks) (item ∷ items) count order within front behind =
-    let rest = left_by zero last marks items (omega (arith, count)) (omega arith) (omega (arith, within)) (λ k less. absurd (omega (arith, less))) (λ k more less. behind (suc k) (omega (arith, more)) (omega (arith, less))) in
+left_by zero zero marks items count order within front following = record { middle = []; split = all_stay marks items count (λ k less. following k (omega arith) less) }
+left_by zero (suc last) [] items count order within front following = absurd (omega (arith, within))
+left_by zero (suc last) (mark ∷ marks) [] count order within front following = absurd (omega (arith, count))
+left_by zero (suc last) (true ∷ marks) (item ∷ items) count order within front following =
+    let rest = left_by zero last marks items (omega (arith, count)) (omega arith) (omega (arith, within)) (λ k less. absurd (omega (arith, less))) (λ k more less. following (suc k) (omega (arith, more)) (omega (arith, less))) in
     record { middle = rest.middle; split = rest.split }
-left_by zero (suc last) (false ∷ marks) (item ∷ items) count order within front behind =
-    let rest = left_by zero last marks items (omega (arith, count)) (omega arith) (omega (arith, within)) (λ k less. absurd (omega (arith, less))) (λ k more less. behind (suc k) (omega (arith, more)) (omega (arith, less))) in
+left_by zero (suc last) (false ∷ marks) (item ∷ items) count order within front following =
+    let rest = left_by zero last marks items (omega (arith, count)) (omega arith) (omega (arith, within)) (λ k less. absurd (omega (arith, less))) (λ k more less. following (suc k) (omega (arith, more)) (omega (arith, less))) in
     record { middle = item ∷ rest.middle; split = ap (λ (xs : List Item). item ∷ xs) rest.split }
-left_by (suc from) zero marks items count order within front behind = absurd (omega (arith, order))
-left_by (suc from) (suc last) [] items count order within front behind = absurd (omega (arith, within))
-left_by (suc from) (suc last) (mark ∷ marks) [] count order within front behind = absurd (omega (arith, count))
-left_by (suc from) (suc last) (true ∷ marks) (item ∷ items) count order within front behind = absurd (true≢false (front 0 (omega arith)))
-left_by (suc from) (suc last) (false ∷ marks) (item ∷ items) count order within front behind =
-    let rest = left_by from last marks items (omega (arith, count)) (omega (arith, order)) (omega (arith, within)) (λ k less. front (suc k) (omega (arith, less))) (λ k more less. behind (suc k) (omega (arith, more)) (omega (arith, less))) in
+left_by (suc from) zero marks items count order within front following = absurd (omega (arith, order))
+left_by (suc from) (suc last) [] items count order within front following = absurd (omega (arith, within))
+left_by (suc from) (suc last) (mark ∷ marks) [] count order within front following = absurd (omega (arith, count))
+left_by (suc from) (suc last) (true ∷ marks) (item ∷ items) count order within front following = absurd (true≢false (front 0 (omega arith)))
+left_by (suc from) (suc last) (false ∷ marks) (item ∷ items) count order within front following =
+    let rest = left_by from last marks items (omega (arith, count)) (omega (arith, order)) (omega (arith, within)) (λ k less. front (suc k) (omega (arith, less))) (λ k more less. following (suc k) (omega (arith, more)) (omega (arith, less))) in
     record { middle = rest.middle; split = ap (λ (xs : List Item). item ∷ xs) rest.split }
 
 pub windowed : (from last gone come left : ℕ) (marks : List Bool) → from ≤ last → last ≤ length marks
     → ((k : ℕ) → k < from → get_or marks k false ≡ false) → ((k : ℕ) → last ≤ k → k < length marks → get_or marks k false ≡ false)
     → from + gone ≡ last → come ≡ left - (from + (length marks - last))
     → (items : List Item) → length marks ≡ length items → left ≡ length (unmarked marks items) → IsSpliced from gone come items (unmarked marks items)
-windowed from last gone come left marks order within front behind place others items count is =
-    let l = left_by from last marks items count order within front behind in
+windowed from last gone come left marks order within front following place others items count is =
+    let l = left_by from last marks items count order within front following in
     let all = ap length l.split in
     let whole = length-append (take from items) (l.middle ++ drop last items) in
     let rest = length-append l.middle (drop last items) in

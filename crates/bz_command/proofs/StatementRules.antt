@@ -54,15 +54,15 @@ by_name : (arguments : List Expr) (o : Option Bytes) → Holds arguments (option
 by_name arguments None = tt
 by_name arguments (Some kind) = refl
 
-by_parts : (ps xs : List Expr) (end_ : List Bytes) (split open_ : Bool) (comments : HostComments) → Holds xs (option_and_then named (called (made k.Call ps xs end_ split open_ comments)))
-by_parts [] xs end_ split open_ comments = tt
-by_parts (p ∷ []) xs end_ split open_ comments = by_name xs (dotted_name p)
-by_parts (p ∷ q ∷ ps) xs end_ split open_ comments = tt
+by_parts : (ps xs : List Expr) (end : List Bytes) (split open_break : Bool) (comments : HostComments) → Holds xs (option_and_then named (called (made k.Call ps xs end split open_break comments)))
+by_parts [] xs end split open_break comments = tt
+by_parts (p ∷ []) xs end split open_break comments = by_name xs (dotted_name p)
+by_parts (p ∷ q ∷ ps) xs end split open_break comments = tt
 
 in_call : (list : List Expr) (y : Expr) → Holds (before_in_call InBrackets list y) (option_and_then named (option_and_then called (form_in k.Call y)))
 in_call list (Token t) = tt
-in_call list (Form' k.Call s parts s' items end_ split open_ comments) = by_parts (items-the_row-Expr _ parts) (items-the_row-Expr _ items) end_ split open_ comments
-in_call list (Form' _ s parts s' items end_ split open_ comments) = tt
+in_call list (Form' k.Call s parts s' items end split open_break comments) = by_parts (items-the_row-Expr _ parts) (items-the_row-Expr _ items) end split open_break comments
+in_call list (Form' _ s parts s' items end split open_break comments) = tt
 
 in_row : (list ps : List Expr) → Holds (before_in_row InBrackets list ps) (option_and_then named (option_and_then called (option_and_then (form_in k.Call) (only ps))))
 in_row list [] = tt
@@ -71,8 +71,8 @@ in_row list (y ∷ z ∷ ps) = tt
 
 in_statement : (list : List Expr) (x : Expr) → Holds (before_in_statement InBrackets list x) (rule_of (i.Stmt x))
 in_statement list (Token t) = tt
-in_statement list (Form' k.Bare s parts s' items end_ split open_ comments) = in_row list (items-the_row-Expr _ parts)
-in_statement list (Form' _ s parts s' items end_ split open_ comments) = tt
+in_statement list (Form' k.Bare s parts s' items end split open_break comments) = in_row list (items-the_row-Expr _ parts)
+in_statement list (Form' _ s parts s' items end split open_break comments) = tt
 
 in_item : (list : List Expr) (item : Item) → Holds (before_in InBrackets list item) (rule_of item)
 in_item list (i.Block lines) = tt

@@ -5,7 +5,7 @@ use Rattle.bz_value.specs.declared.value.Expr.{Expr}
 use Rattle.bz_items.specs.Characters.{Bytes}
 use Rattle.bz_rule.specs.Values.{on_lists}
 use Rattle.bz_list.specs.Changes.{substituted_item, with_body}
-use Rattle.bz_command.specs.SmallValues.{Made, leaves, literal, string}
+use Rattle.bz_command.specs.SmallValues.{Made, leaves, literal, string_expr}
 use Rattle.bz_command.specs.WorkedSubstitutes.{WorkedSubstitutes, deps, other_values, size, small}
 
 -- what is left of a size on its own, by what the pattern makes of its body
@@ -17,11 +17,11 @@ pub substitutes : WorkedSubstitutes
 unfolding Rattle.bz_value.specs.declared.value.Expr.TheBlock.hidden-the_row-Expr-0 denote.Hole.Carrier.hidden
 substitutes = (
   (
-    λ h. ap (left (codes "l+") (codes "n") (codes "small") (string (codes "small"))) h,
-    λ h. ap (λ text. leaves (small ∷ deps (with_body (codes "p") (codes "deps") (codes ":l") text (string (codes ":l")) ∷ other_values) ∷ [])) h,
-    λ h. ap (λ text. leaves (deps (with_body (codes "p") (codes "deps") (codes "//q:a") text (string (codes "//q:a")) ∷ []) ∷ [])) h,
+    λ h. ap (left (codes "l+") (codes "n") (codes "small") (string_expr (codes "small"))) h,
+    λ h. ap (λ text. leaves (small ∷ deps (with_body (codes "p") (codes "deps") (codes ":l") text (string_expr (codes ":l")) ∷ other_values) ∷ [])) h,
+    λ h. ap (λ text. leaves (deps (with_body (codes "p") (codes "deps") (codes "//q:a") text (string_expr (codes "//q:a")) ∷ []) ∷ [])) h,
     λ h. ap (left (codes "l") (codes "l") (codes "small") (literal (codes "'small'"))) h,
-    λ h. ap (left (codes "x") (codes "y") (codes "x") (string (codes "x"))) h,
+    λ h. ap (left (codes "x") (codes "y") (codes "x") (string_expr (codes "x"))) h,
   ),
   (refl, refl, refl, refl),
 )

@@ -20,8 +20,8 @@ with_list_in part list (i.Stmt x) = i.Stmt (on_row k.Bare (on_first (with_list p
 -- what was in the place before; where there is no such place, the new list itself
 abbrev pub before_in_call : CallPart → List Expr → Expr → List Expr
 before_in_call part list (Token t) = list
-before_in_call Function list (Form' own s parts s' items end_ split open_ comments) = items-the_row-Expr _ parts
-before_in_call Arguments list (Form' own s parts s' items end_ split open_ comments) = items-the_row-Expr _ items
+before_in_call Function list (Form' own s parts s' items end split open_break comments) = items-the_row-Expr _ parts
+before_in_call Arguments list (Form' own s parts s' items end split open_break comments) = items-the_row-Expr _ items
 
 abbrev pub before_in_row : CallPart → List Expr → List Expr → List Expr
 before_in_row part list [] = list

@@ -22,33 +22,33 @@ use Rattle.bz_command.specs.Effect.{effect, printed}
 -- ---- expressions
 
 abbrev pub commented_token : HostComments → Class → Bytes → Expr
-commented_token comments class text = e.Token (record { class = class; text = text; break_ = false; comments = comments })
+commented_token comments class text = e.Token (record { class = class; text = text; line_break = false; comments = comments })
 
 abbrev pub commented_form : HostComments → Kind → List Expr → List Expr → Expr
 commented_form comments kind parts items =
-    e.Form (record { kind = kind; parts = parts; seq = record { items = items; end_ = []; split = false }; open_ = false; comments = comments })
+    e.Form (record { kind = kind; parts = parts; seq = record { items = items; end = []; split = false }; open_break = false; comments = comments })
 
-abbrev pub token : Class → Bytes → Expr
-token class text = commented_token no_comments class text
+abbrev pub token_expr : Class → Bytes → Expr
+token_expr class text = commented_token no_comments class text
 
 abbrev pub form : Kind → List Expr → List Expr → Expr
 form kind parts items = commented_form no_comments kind parts items
 
 abbrev pub name : Bytes → Expr
-name text = token c.Name text
+name text = token_expr c.Name text
 
 abbrev pub number : Bytes → Expr
-number text = token c.Number text
+number text = token_expr c.Number text
 
 -- a string by its whole text, and one by what is between its double quotation marks
 abbrev pub literal : Bytes → Expr
-literal text = token c.String text
+literal text = token_expr c.String text
 
 abbrev pub between_marks : Bytes → Bytes
 between_marks body = codes "\"" ++ body ++ codes "\""
 
-abbrev pub string : Bytes → Expr
-string body = literal (between_marks body)
+abbrev pub string_expr : Bytes → Expr
+string_expr body = literal (between_marks body)
 
 -- OPERAND.NAME
 abbrev pub dot_form : Expr → Bytes → Expr
@@ -62,18 +62,18 @@ abbrev pub list : List Expr → Expr
 list items = form k.List [] items
 
 abbrev pub strings : List Bytes → Expr
-strings bodies = list (map string bodies)
+strings bodies = list (map string_expr bodies)
 
 -- KEY: VALUE, both strings, and {KEY: VALUE, ..}
 abbrev pub entry : Bytes → Bytes → Expr
-entry key value = form k.Entry (string key ∷ mark (codes ":") ∷ string value ∷ []) []
+entry key value = form k.Entry (string_expr key ∷ mark (codes ":") ∷ string_expr value ∷ []) []
 
 abbrev pub dict : List Expr → Expr
 dict entries = form k.Dict [] entries
 
 -- NAME = VALUE
-abbrev pub argument : Bytes → Expr → Expr
-argument left value = form k.Named (name left ∷ mark (codes "=") ∷ value ∷ []) []
+abbrev pub argument_expr : Bytes → Expr → Expr
+argument_expr left value = form k.Named (name left ∷ mark (codes "=") ∷ value ∷ []) []
 
 abbrev pub call : Expr → List Expr → Expr
 call function arguments = form k.Call (function ∷ []) arguments
@@ -87,15 +87,15 @@ comments_above comments = record { before = comments; suffix = None }
 abbrev pub commented_statement : HostComments → Expr → Item
 commented_statement comments x = i.Stmt (commented_form comments k.Bare (x ∷ []) [])
 
-abbrev pub statement : Expr → Item
-statement x = commented_statement no_comments x
+abbrev pub statement_item : Expr → Item
+statement_item x = commented_statement no_comments x
 
 abbrev pub block : Item
 block = i.Block (codes "# b" ∷ [])
 
 -- KIND(name = NAME, ..), and f(name = "x", ..)
 abbrev pub rule_of_kind : Bytes → Bytes → List Expr → Item
-rule_of_kind kind own arguments = statement (call (name kind) (argument (codes "name") (string own) ∷ arguments))
+rule_of_kind kind own arguments = statement_item (call (name kind) (argument_expr (codes "name") (string_expr own) ∷ arguments))
 
 abbrev pub rule : List Expr → Item
 rule arguments = rule_of_kind (codes "f") (codes "x") arguments

@@ -13,13 +13,13 @@ use Rattle.bz_words.specs.declared.command.RuleOperation.TheVariants as wr
 use Rattle.bz_value.specs.declared.refusal.Refusal.TheVariants.{NoTarget}
 use Rattle.bz_rule.specs.Rules.{rule_of}
 use Rattle.bz_value.specs.declared.refusal.Refusal.{Refusal}
-use Rattle.bz_command.specs.SmallValues.{comments_above, argument, block, call, commented_statement, dot_form, effect_on, form, literal, name, token}
+use Rattle.bz_command.specs.SmallValues.{comments_above, argument_expr, block, call, commented_statement, dot_form, effect_on, form, literal, name, token_expr}
 
 -- ---- values
 
 -- name = TEXT
 abbrev named : Bytes → Expr
-named text = argument (codes "name") (literal text)
+named text = argument_expr (codes "name") (literal text)
 
 -- an expression as a statement under a comment
 abbrev bare : Expr → Item
@@ -67,10 +67,10 @@ dotted = bare (call (dot_form (dot_form (name (codes "a")) (codes "b")) (codes "
 abbrev others : List Item
 others =
     bare (call (dot_form (call (name (codes "f")) []) (codes "b")) (named (codes "\"x\"") ∷ []))
-    ∷ i.Stmt (form k.Assign (name (codes "x") ∷ token c.Mark (codes "=") ∷ x_call ∷ []) [])
-    ∷ bare (form k.Sum (x_call ∷ token c.Mark (codes "+") ∷ token c.Number (codes "1") ∷ []) [])
+    ∷ i.Stmt (form k.Assign (name (codes "x") ∷ token_expr c.Mark (codes "=") ∷ x_call ∷ []) [])
+    ∷ bare (form k.Sum (x_call ∷ token_expr c.Mark (codes "+") ∷ token_expr c.Number (codes "1") ∷ []) [])
     ∷ bare (call x_call [])
-    ∷ i.Stmt (form k.Load (token c.Keyword (codes "load") ∷ []) (token c.String (codes "\"x\"") ∷ []))
+    ∷ i.Stmt (form k.Load (token_expr c.Keyword (codes "load") ∷ []) (token_expr c.String (codes "\"x\"") ∷ []))
     ∷ []
 
 abbrev Statements : Type 0

@@ -7,17 +7,17 @@ use Rattle.bz_value.specs.declared.value.Expr.{Expr}
 use Rattle.bz_value.specs.declared.value.Item.{Item}
 use Rattle.bz_value.specs.declared.refusal.Refusal.TheVariants.{AttributeExists, NoAttribute, NoSource, NoTarget}
 use Rattle.bz_attribute.specs.Made.{mark}
-use Rattle.bz_command.specs.SmallValues.{comments_above, argument, between_marks, block, call, commented_token, done, form, gives, leaves, list, literal, made, name, number, refuses, rule, rule_of_kind, statement, string, strings}
+use Rattle.bz_command.specs.SmallValues.{comments_above, argument_expr, between_marks, block, call, commented_token, done, form, gives, leaves, list, literal, made, name, number, refuses, rule, rule_of_kind, statement_item, string_expr, strings}
 
 -- size = "small", size = "large", shard_count = 5 and **rest
 abbrev small : Expr
-small = argument (codes "size") (string (codes "small"))
+small = argument_expr (codes "size") (string_expr (codes "small"))
 
 abbrev large : Expr
-large = argument (codes "size") (string (codes "large"))
+large = argument_expr (codes "size") (string_expr (codes "large"))
 
 abbrev shards : Expr
-shards = argument (codes "shard_count") (number (codes "5"))
+shards = argument_expr (codes "shard_count") (number (codes "5"))
 
 abbrev rest : Expr
 rest = form k.Star (mark (codes "**") ∷ name (codes "rest") ∷ []) []
@@ -34,17 +34,17 @@ Set =
     × (done (codes "set size small") (shards ∷ rest ∷ []) ≡ leaves (shards ∷ small ∷ rest ∷ []))
     × (done (codes "set size small") (large ∷ shards ∷ []) ≡ leaves (small ∷ shards ∷ []))
     -- True, False, None and digits are as they are.
-    × (done (codes "set testonly True") [] ≡ leaves (argument (codes "testonly") (name (codes "True")) ∷ []))
+    × (done (codes "set testonly True") [] ≡ leaves (argument_expr (codes "testonly") (name (codes "True")) ∷ []))
     × (done (codes "set shard_count 5") [] ≡ leaves (shards ∷ []))
     -- Several values are a list, and so is one in an attribute of lists; a label is written in its short form.
-    × (done (codes "set args a b") [] ≡ leaves (argument (codes "args") (strings (codes "a" ∷ codes "b" ∷ [])) ∷ []))
-    × (done (codes "set copts -g") [] ≡ leaves (argument (codes "copts") (strings (codes "-g" ∷ [])) ∷ []))
-    × (done (codes "set deps //p:a") [] ≡ leaves (argument (codes "deps") (strings (codes ":a" ∷ [])) ∷ []))
+    × (done (codes "set args a b") [] ≡ leaves (argument_expr (codes "args") (strings (codes "a" ∷ codes "b" ∷ [])) ∷ []))
+    × (done (codes "set copts -g") [] ≡ leaves (argument_expr (codes "copts") (strings (codes "-g" ∷ [])) ∷ []))
+    × (done (codes "set deps //p:a") [] ≡ leaves (argument_expr (codes "deps") (strings (codes ":a" ∷ [])) ∷ []))
     -- A space within a word has a backslash before it; a quotation mark gets one in the string.
-    × (done (codes "set size a\\ \"b") [] ≡ leaves (argument (codes "size") (literal (codes "\"a \\\"b\"")) ∷ []))
+    × (done (codes "set size a\\ \"b") [] ≡ leaves (argument_expr (codes "size") (literal (codes "\"a \\\"b\"")) ∷ []))
     -- 'small' is another token than "small"; a value that differs only in its comments stays.
-    × (done (codes "set size small") (argument (codes "size") (literal (codes "'small'")) ∷ []) ≡ leaves (small ∷ []))
-    × (done (codes "set deps :a") (argument (codes "deps") (list (noted ∷ [])) ∷ []) ≡ leaves (argument (codes "deps") (list (noted ∷ [])) ∷ []))
+    × (done (codes "set size small") (argument_expr (codes "size") (literal (codes "'small'")) ∷ []) ≡ leaves (small ∷ []))
+    × (done (codes "set deps :a") (argument_expr (codes "deps") (list (noted ∷ [])) ∷ []) ≡ leaves (argument_expr (codes "deps") (list (noted ∷ [])) ∷ []))
     × (made (codes "set size small") (Name (codes "z")) (rule [] ∷ []) ≡ refuses NoTarget)
 
 abbrev SetIfAbsent : Type 0
@@ -64,12 +64,12 @@ Removed =
     -- All attributes but the name go; what is starred is none.
     × (done (codes "remove *") (small ∷ shards ∷ large ∷ rest ∷ []) ≡ leaves (rest ∷ []))
     -- The name alone may go as well.
-    × (done (codes "remove name") (small ∷ []) ≡ gives (statement (call (name (codes "f")) (small ∷ [])) ∷ []))
+    × (done (codes "remove name") (small ∷ []) ≡ gives (statement_item (call (name (codes "f")) (small ∷ [])) ∷ []))
     × (made (codes "remove size") (Name (codes "z")) (rule (small ∷ []) ∷ []) ≡ refuses NoTarget)
 
 abbrev Renamed : Type 0
 Renamed =
-    let timeout : Expr = argument (codes "timeout") (string (codes "small")) in
+    let timeout : Expr = argument_expr (codes "timeout") (string_expr (codes "small")) in
     -- The attribute keeps its place and its value.
     (done (codes "rename size timeout") (small ∷ shards ∷ []) ≡ leaves (timeout ∷ shards ∷ []))
     × (made (codes "rename size timeout") All (rule (small ∷ []) ∷ block ∷ y (small ∷ []) ∷ []) ≡ gives (rule (timeout ∷ []) ∷ block ∷ y (timeout ∷ []) ∷ []))
@@ -83,7 +83,7 @@ Renamed =
 
 abbrev Copied : Type 0
 Copied =
-    let long : Expr = argument (codes "deps") (strings (codes "//p:a" ∷ [])) in
+    let long : Expr = argument_expr (codes "deps") (strings (codes "//p:a" ∷ [])) in
     -- The value of the first rule y, put in last or in the place of the old one.
     (made (codes "copy size y") (Name (codes "x")) (y (large ∷ []) ∷ rule (shards ∷ []) ∷ y (small ∷ []) ∷ [])
     ≡ gives (y (large ∷ []) ∷ rule (shards ∷ large ∷ []) ∷ y (small ∷ []) ∷ []))

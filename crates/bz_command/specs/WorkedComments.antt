@@ -8,7 +8,7 @@ use Rattle.bz_value.specs.declared.value.Item.{Item}
 use Rattle.bz_value.specs.Comments.{HostComments, no_comments}
 use Rattle.bz_value.specs.declared.refusal.Refusal.TheVariants.{NoAttribute, NotAList, NoTarget}
 use Rattle.bz_attribute.specs.Made.{mark}
-use Rattle.bz_command.specs.SmallValues.{comments_above, argument, between_marks, block, call, commented_form, commented_statement, commented_token, done, gives, leaves, list, made, name, shows_text, refuses, rule, rule_of_kind, shown, string}
+use Rattle.bz_command.specs.SmallValues.{comments_above, argument_expr, between_marks, block, call, commented_form, commented_statement, commented_token, done, gives, leaves, list, made, name, shows_text, refuses, rule, rule_of_kind, shown, string_expr}
 
 -- "# c" above, and beside it "#  s" at the end of the line
 abbrev c_above : HostComments
@@ -19,20 +19,20 @@ both = record { before = codes "# c" ∷ []; suffix = Some (codes "#  s") }
 
 -- f(name = "x", ..), size = "small", deps = [":a"] and ":a", with comments
 abbrev x : HostComments → List Expr → Item
-x comments arguments = commented_statement comments (call (name (codes "f")) (argument (codes "name") (string (codes "x")) ∷ arguments))
+x comments arguments = commented_statement comments (call (name (codes "f")) (argument_expr (codes "name") (string_expr (codes "x")) ∷ arguments))
 
 abbrev size : HostComments → Expr
-size comments = commented_form comments k.Named (name (codes "size") ∷ mark (codes "=") ∷ string (codes "small") ∷ []) []
+size comments = commented_form comments k.Named (name (codes "size") ∷ mark (codes "=") ∷ string_expr (codes "small") ∷ []) []
 
 abbrev a : HostComments → Expr
 a comments = commented_token comments c.String (between_marks (codes ":a"))
 
 abbrev deps : List Expr → Expr
-deps items = argument (codes "deps") (list items)
+deps items = argument_expr (codes "deps") (list items)
 
 abbrev Added : Type 0
 Added =
-    let b : Expr = string (codes ":b") in
+    let b : Expr = string_expr (codes ":b") in
     -- A comment is above the rule, right above it where others are there; the one at the end of the line stays.
     (made (codes "comment why\\ not") (Name (codes "x")) (x no_comments [] ∷ []) ≡ gives (x (comments_above (codes "# why not" ∷ [])) [] ∷ []))
     × (made (codes "comment d") (Name (codes "x")) (x both [] ∷ []) ≡ gives (x (record { before = codes "# c" ∷ codes "# d" ∷ []; suffix = Some (codes "#  s") }) [] ∷ []))

@@ -7,11 +7,11 @@ use Rattle.bz_value.specs.declared.value.Item.{Item}
 use Rattle.bz_items.specs.Characters.{Bytes}
 use Rattle.bz_value.specs.declared.refusal.Refusal.TheVariants.{NotADict, NoTarget}
 use Rattle.bz_attribute.specs.Made.{mark}
-use Rattle.bz_command.specs.SmallValues.{argument, dict, done, entry, form, gives, leaves, list, made, name, number, refuses, rule, rule_of_kind, string}
+use Rattle.bz_command.specs.SmallValues.{argument_expr, dict, done, entry, form, gives, leaves, list, made, name, number, refuses, rule, rule_of_kind, string_expr}
 
 -- env = {..}, "A": NUMBER and size = "small"
 abbrev env : List Expr → Expr
-env entries = argument (codes "env") (dict entries)
+env entries = argument_expr (codes "env") (dict entries)
 
 abbrev a : Bytes → Expr
 a value = entry (codes "A") value
@@ -20,7 +20,7 @@ abbrev b2 : Expr
 b2 = entry (codes "B") (codes "2")
 
 abbrev small : Expr
-small = argument (codes "size") (string (codes "small"))
+small = argument_expr (codes "size") (string_expr (codes "small"))
 
 -- {} | {}
 abbrev union : Expr
@@ -37,16 +37,16 @@ Added =
     × (done (codes "dict_add env A:x:y") [] ≡ leaves (env (a (codes "x:y") ∷ []) ∷ []))
     × (done (codes "dict_add env :") [] ≡ leaves (env (entry [] [] ∷ []) ∷ []))
     -- In an attribute of labels the value is written in its short form.
-    × (done (codes "dict_add deps A://p:b") [] ≡ leaves (argument (codes "deps") (dict (a (codes ":b") ∷ [])) ∷ []))
+    × (done (codes "dict_add deps A://p:b") [] ≡ leaves (argument_expr (codes "deps") (dict (a (codes ":b") ∷ [])) ∷ []))
     -- A list, a string and a union of dicts are no dicts.
-    × (done (codes "dict_add env A:1") (argument (codes "env") (list []) ∷ []) ≡ refuses NotADict)
+    × (done (codes "dict_add env A:1") (argument_expr (codes "env") (list []) ∷ []) ≡ refuses NotADict)
     × (done (codes "dict_add size A:1") (small ∷ []) ≡ refuses NotADict)
-    × (done (codes "dict_add env A:1") (argument (codes "env") union ∷ []) ≡ refuses NotADict)
+    × (done (codes "dict_add env A:1") (argument_expr (codes "env") union ∷ []) ≡ refuses NotADict)
     × (made (codes "dict_add env A:1") (Name (codes "z")) (rule [] ∷ []) ≡ refuses NoTarget)
 
 abbrev Set : Type 0
 Set =
-    let one : Expr = form k.Entry (string (codes "A") ∷ mark (codes ":") ∷ number (codes "1") ∷ []) [] in
+    let one : Expr = form k.Entry (string_expr (codes "A") ∷ mark (codes ":") ∷ number (codes "1") ∷ []) [] in
     -- The value of a key that is there becomes this one in its place, and a new entry goes last.
     (done (codes "dict_set env A:3 C:4") (env (a (codes "1") ∷ b2 ∷ []) ∷ []) ≡ leaves (env (a (codes "3") ∷ b2 ∷ entry (codes "C") (codes "4") ∷ []) ∷ []))
     × (done (codes "dict_set env A:1") (small ∷ []) ≡ leaves (small ∷ env (a (codes "1") ∷ []) ∷ []))
@@ -54,12 +54,12 @@ Set =
     × (done (codes "dict_set env A:1 A:2") [] ≡ leaves (env (a (codes "2") ∷ []) ∷ []))
     -- Where a key occurs twice in the file its first entry is meant; the value may be any.
     × (done (codes "dict_set env A:3") (env (one ∷ a (codes "2") ∷ []) ∷ []) ≡ leaves (env (a (codes "3") ∷ a (codes "2") ∷ []) ∷ []))
-    × (done (codes "dict_set env A:1") (argument (codes "env") (list []) ∷ []) ≡ refuses NotADict)
+    × (done (codes "dict_set env A:1") (argument_expr (codes "env") (list []) ∷ []) ≡ refuses NotADict)
     × (made (codes "dict_set env A:1") (Name (codes "z")) (rule [] ∷ []) ≡ refuses NoTarget)
 
 abbrev Removed : Type 0
 Removed =
-    let by_name : Expr = form k.Entry (name (codes "A") ∷ mark (codes ":") ∷ string (codes "1") ∷ []) [] in
+    let by_name : Expr = form k.Entry (name (codes "A") ∷ mark (codes ":") ∷ string_expr (codes "1") ∷ []) [] in
     let y : List Expr → Item = λ arguments. rule_of_kind (codes "g") (codes "y") arguments in
     -- All entries of the key go.
     (done (codes "dict_remove env A") (env (a (codes "1") ∷ b2 ∷ a (codes "3") ∷ []) ∷ []) ≡ leaves (env (b2 ∷ []) ∷ []))
@@ -72,7 +72,7 @@ Removed =
     × (done (codes "dict_remove size A") (small ∷ []) ≡ refuses NotADict)
     -- Of all rules the first that refuses decides.
     × (made (codes "dict_remove env B") All (rule (env (b2 ∷ []) ∷ []) ∷ y (env (b2 ∷ []) ∷ []) ∷ []) ≡ gives (rule [] ∷ y [] ∷ []))
-    × (made (codes "dict_remove env B") All (rule (env (b2 ∷ []) ∷ []) ∷ y (argument (codes "env") (list []) ∷ []) ∷ []) ≡ refuses NotADict)
+    × (made (codes "dict_remove env B") All (rule (env (b2 ∷ []) ∷ []) ∷ y (argument_expr (codes "env") (list []) ∷ []) ∷ []) ≡ refuses NotADict)
     × (made (codes "dict_remove env A") (Name (codes "z")) (rule [] ∷ []) ≡ refuses NoTarget)
 
 abbrev pub WorkedDicts : Type 0

@@ -8,39 +8,39 @@ use Rattle.bz_value.specs.declared.value.Item.{Item}
 use Rattle.bz_value.specs.declared.value.Item.TheVariants as i
 use Rattle.bz_items.specs.Characters.{Bytes}
 use Rattle.bz_attribute.specs.Made.{mark}
-use Rattle.bz_command.specs.SmallValues.{comments_above, between_marks, block, call, commented_token, form, gives, literal, made, name, rule, statement, string, token}
+use Rattle.bz_command.specs.SmallValues.{comments_above, between_marks, block, call, commented_token, form, gives, literal, made, name, rule, statement_item, string_expr, token_expr}
 
 abbrev load : List Expr → Item
-load items = i.Stmt (form k.Load (token c.Keyword (codes "load") ∷ []) items)
+load items = i.Stmt (form k.Load (token_expr c.Keyword (codes "load") ∷ []) items)
 
 -- load("//:d.bzl", ..) and load("//:e.bzl", ..)
 abbrev d : List Expr → Item
-d symbols = load (string (codes "//:d.bzl") ∷ symbols)
+d symbols = load (string_expr (codes "//:d.bzl") ∷ symbols)
 
 abbrev e : List Expr → Item
-e symbols = load (string (codes "//:e.bzl") ∷ symbols)
+e symbols = load (string_expr (codes "//:e.bzl") ∷ symbols)
 
 -- TO = "FROM"
 abbrev alias : Bytes → Bytes → Expr
-alias to from = form k.Alias (name to ∷ mark (codes "=") ∷ string from ∷ []) []
+alias to from = form k.Alias (name to ∷ mark (codes "=") ∷ string_expr from ∷ []) []
 
 abbrev x : Item
 x = rule []
 
 -- package()
 abbrev settings : Item
-settings = statement (call (name (codes "package")) [])
+settings = statement_item (call (name (codes "package")) [])
 
 abbrev NewLoads : Type 0
 NewLoads =
-    let a : Expr = string (codes "a") in
+    let a : Expr = string_expr (codes "a") in
     let raw : Item = load (literal (codes "r\"//:d.bzl\"") ∷ a ∷ []) in
     -- A new load goes after the comments at the top of the file, or after the last load.
     (made (codes "new_load //:d.bzl a b=c") All (block ∷ x ∷ []) ≡ gives (block ∷ d (a ∷ alias (codes "b") (codes "c") ∷ []) ∷ x ∷ []))
     × (made (codes "new_load //:d.bzl a") (Name (codes "z")) (e [] ∷ x ∷ e (a ∷ []) ∷ x ∷ []) ≡ gives (e [] ∷ x ∷ e (a ∷ []) ∷ d (a ∷ []) ∷ x ∷ []))
     × (made (codes "new_load //:d.bzl a") (Name (codes "z")) [] ≡ gives (d (a ∷ []) ∷ []))
     -- A further symbol goes to the end of the first load of the path; one that is loaded by that name is passed over.
-    × (made (codes "new_load //:d.bzl a b") All (d (a ∷ []) ∷ x ∷ d [] ∷ []) ≡ gives (d (a ∷ string (codes "b") ∷ []) ∷ x ∷ d [] ∷ []))
+    × (made (codes "new_load //:d.bzl a b") All (d (a ∷ []) ∷ x ∷ d [] ∷ []) ≡ gives (d (a ∷ string_expr (codes "b") ∷ []) ∷ x ∷ d [] ∷ []))
     × (made (codes "new_load //:d.bzl a") All (d [] ∷ d (a ∷ []) ∷ x ∷ []) ≡ gives (d [] ∷ d (a ∷ []) ∷ x ∷ []))
     -- By another name it is loaded once more.
     × (made (codes "new_load //:d.bzl b=a") All (d (a ∷ []) ∷ []) ≡ gives (d (a ∷ alias (codes "b") (codes "a") ∷ []) ∷ []))
@@ -49,8 +49,8 @@ NewLoads =
 
 abbrev Fixes : Type 0
 Fixes =
-    let f : Expr = string (codes "f") in
-    let a : Expr = string (codes "a") in
+    let f : Expr = string_expr (codes "f") in
+    let a : Expr = string_expr (codes "a") in
     let noted : Expr = commented_token (comments_above (codes "# c" ∷ [])) c.String (between_marks (codes "a")) in
     -- The rule x uses the symbol f alone.
     (made (codes "fix unusedLoads") All (d (a ∷ f ∷ alias (codes "b") (codes "f") ∷ []) ∷ x ∷ settings ∷ []) ≡ gives (d (f ∷ []) ∷ x ∷ settings ∷ []))

@@ -4,7 +4,7 @@ use Rattle.bz_label.specs.declared.target.Which.TheVariants.{All, Kind, Line, Na
 use Rattle.bz_value.specs.declared.value.Expr.{Expr}
 use Rattle.bz_value.specs.declared.value.Item.{Item}
 use Rattle.bz_value.specs.declared.refusal.Refusal.TheVariants.{NoTarget}
-use Rattle.bz_command.specs.SmallValues.{comments_above, argument, block, call, commented_statement, gives, literal, made, name, number, shows_text, refuses, rule, rule_of_kind, shown, statement, string, strings}
+use Rattle.bz_command.specs.SmallValues.{comments_above, argument_expr, block, call, commented_statement, gives, literal, made, name, number, shows_text, refuses, rule, rule_of_kind, shown, statement_item, string_expr, strings}
 
 -- f(name = "x"), g(name = "y") and package()
 abbrev x : Item
@@ -14,14 +14,14 @@ abbrev y : Item
 y = rule_of_kind (codes "g") (codes "y") []
 
 abbrev settings : Item
-settings = statement (call (name (codes "package")) [])
+settings = statement_item (call (name (codes "package")) [])
 
 abbrev Fields : Type 0
 Fields =
-    let deps : Expr = argument (codes "deps") (strings (codes ":a" ∷ codes ":b" ∷ [])) in
-    let size : Expr = argument (codes "size") (literal (codes "'small'")) in
-    let shards : Expr = argument (codes "shard_count") (number (codes "5")) in
-    let choice : Expr = argument (codes "srcs") (call (name (codes "select")) (name (codes "C") ∷ [])) in
+    let deps : Expr = argument_expr (codes "deps") (strings (codes ":a" ∷ codes ":b" ∷ [])) in
+    let size : Expr = argument_expr (codes "size") (literal (codes "'small'")) in
+    let shards : Expr = argument_expr (codes "shard_count") (number (codes "5")) in
+    let choice : Expr = argument_expr (codes "srcs") (call (name (codes "select")) (name (codes "C") ∷ [])) in
     -- Fields are on one line in the order in which they are named. A string has no quotation marks, a list of strings has brackets.
     (shown (codes "print name kind deps") (Name (codes "x")) (rule (deps ∷ []) ∷ []) ≡ shows_text (codes "x f [:a :b]\n"))
     × (shown (codes "print size name size") (Name (codes "x")) (rule (size ∷ []) ∷ []) ≡ shows_text (codes "small x small\n"))
@@ -37,7 +37,7 @@ Fields =
 
 abbrev Lines : Type 0
 Lines =
-    let plain : Item = statement (string (codes "x")) in
+    let plain : Item = statement_item (string_expr (codes "x")) in
     -- Statements begin on lines 1, 2 and 3 here; a comment on its own counts as none of them, a plain string as one.
     (shown (codes "print startline name") All (x ∷ block ∷ y ∷ []) ≡ shows_text (codes "1 x\n2 y\n"))
     × (shown (codes "print startline name") All (plain ∷ block ∷ x ∷ plain ∷ []) ≡ shows_text (codes "2 x\n"))

@@ -4,10 +4,10 @@ use Rattle.bz_label.specs.declared.target.Which.TheVariants.{All, Kind, Name, Pa
 use Rattle.bz_value.specs.declared.value.Expr.{Expr}
 use Rattle.bz_value.specs.declared.value.Item.{Item}
 use Rattle.bz_value.specs.declared.refusal.Refusal.TheVariants.{NameTaken, NoTarget}
-use Rattle.bz_command.specs.SmallValues.{comments_above, argument, block, call, commented_statement, done, dot_form, gives, made, name, refuses, rule, rule_of_kind, statement, string}
+use Rattle.bz_command.specs.SmallValues.{comments_above, argument_expr, block, call, commented_statement, done, dot_form, gives, made, name, refuses, rule, rule_of_kind, statement_item, string_expr}
 
 abbrev y_named : List Expr
-y_named = argument (codes "name") (string (codes "y")) ∷ []
+y_named = argument_expr (codes "name") (string_expr (codes "y")) ∷ []
 
 abbrev NewRules : Type 0
 NewRules =
@@ -17,7 +17,7 @@ NewRules =
     (made (codes "new g y") All (x ∷ block ∷ []) ≡ gives (x ∷ block ∷ y ∷ []))
     × (made (codes "new g y") (Name (codes "z")) [] ≡ gives (y ∷ []))
     -- A kind of names joined by dots is a call of such.
-    × (made (codes "new a.b y") All [] ≡ gives (statement (call (dot_form (name (codes "a")) (codes "b")) y_named) ∷ []))
+    × (made (codes "new a.b y") All [] ≡ gives (statement_item (call (dot_form (name (codes "a")) (codes "b")) y_named) ∷ []))
     -- Or right before or after the first rule of a name, of which there are two here.
     × (made (codes "new g y before x") All (block ∷ x ∷ x ∷ []) ≡ gives (block ∷ y ∷ x ∷ x ∷ []))
     × (made (codes "new g y after x") All (block ∷ x ∷ x ∷ []) ≡ gives (block ∷ x ∷ y ∷ x ∷ []))
@@ -30,7 +30,7 @@ NewRules =
 
 abbrev Kinds : Type 0
 Kinds =
-    let size : List Expr = argument (codes "size") (string (codes "small")) ∷ [] in
+    let size : List Expr = argument_expr (codes "size") (string_expr (codes "small")) ∷ [] in
     let y : Item = rule_of_kind (codes "f") (codes "y") [] in
     -- The rule is of another kind; its name and its other arguments stay.
     (done (codes "set kind g") size ≡ gives (rule_of_kind (codes "g") (codes "x") size ∷ []))

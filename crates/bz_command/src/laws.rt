@@ -17,7 +17,7 @@ pub fn worked_effects()
 {}
 
 /// Worked rows: what each command, as it is typed, makes of small file values and prints of them.
-pub fn worked_commands()
+pub fn worked_command_effects()
     ensures rules { WorkedRules }
     ensures attributes { WorkedAttributes }
     ensures values { WorkedValues }

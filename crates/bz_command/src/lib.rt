@@ -15,7 +15,7 @@ mod statements;
 mod targets;
 
 pub use filling::overfills;
-pub use laws::{commands_are_listed, comments_stay, worked_commands, worked_effects};
+pub use laws::{commands_are_listed, comments_stay, worked_command_effects, worked_effects};
 pub use lines::{lines_matter, looks_at_lines};
 pub use outcome::{Extent, Outcome, Ran, Spliced};
 pub use proper_laws::effects_stay_proper;

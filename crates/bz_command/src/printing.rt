@@ -16,12 +16,12 @@ use std::alloc::Global;
 /// The line on which an item begins, where it is on one, and the lines of the statements after it.
 fn line_at<'a>(lines: &'a [u32], item: &Item) -> (Option<u32>, &'a [u32])
     ensures line { result.0 ≡ item_line lines.entry.now item.now }
-    ensures behind { result.1.now ≡ lines_after_item lines.entry.now item.now }
+    ensures following { result.1.now ≡ lines_after_item lines.entry.now item.now }
 {
     match item {
         Item::Block(_) => (None, lines),
         Item::Stmt(_) => match lines.split_first() {
-            Some((line, behind)) => (Some(*line), behind),
+            Some((line, following)) => (Some(*line), following),
             None => (None, lines),
         },
     }
@@ -95,11 +95,11 @@ pub(crate) fn print_rules(
     let mut all = Vec::new(alloc);
     let mut left = lines;
     for (mark, item) in marks.iter().zip(items) {
-        let (line, behind) = line_at(left, item);
+        let (line, following) = line_at(left, item);
         if *mark {
             push_one(alloc, operation, current, line, item, &mut all)?;
         }
-        left = behind;
+        left = following;
     }
     Ok(Text::from_vec(all))
 }

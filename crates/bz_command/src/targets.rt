@@ -58,7 +58,7 @@ fn mark_by_line<'a>(line: u32, lines: &'a [u32], item: &Item) -> (bool, &'a [u32
     match item {
         Item::Block(_) => (false, lines),
         Item::Stmt(_) => match lines.split_first() {
-            Some((first, behind)) => (*first == line && is_rule(item), behind),
+            Some((first, following)) => (*first == line && is_rule(item), following),
             None => (false, lines),
         },
     }
@@ -71,9 +71,9 @@ fn all_on_line(alloc: Global, line: u32, lines: &[u32], items: &[Item]) -> Resul
     let mut marks = Vec::new(alloc);
     let mut left = lines;
     for item in items {
-        let (mark, behind) = mark_by_line(line, left, item);
+        let (mark, following) = mark_by_line(line, left, item);
         marks.push(mark)?;
-        left = behind;
+        left = following;
     }
     Ok(marks)
 }

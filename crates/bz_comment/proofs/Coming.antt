@@ -15,7 +15,7 @@ use Rattle.bz_items.specs.Characters.{Bytes}
 use Rattle.bz_value.proofs.Totals.{append_total}
 use Rattle.bz_words.specs.declared.command.Host.{Host}
 use Rattle.bz_words.specs.declared.command.Host.TheVariants as h
-use Rattle.bz_rule.specs.Rules.{text_in, is_text, value_behind, value_named, attribute}
+use Rattle.bz_rule.specs.Rules.{text_in, is_text, value_after, value_named, attribute}
 use Rattle.bz_rule.specs.Values.{has_kind, parts_of, items_of, with_parts, with_items, on_row, on_items}
 use Rattle.bz_rule.proofs.ProperChanges.{by_case}
 use Rattle.bz_value.specs.declared.refusal.Refusal.TheVariants.{NoAttribute}
@@ -38,8 +38,8 @@ rest_of false b h e = h
 at_first : (a b : ℕ) → 1 ≤ a → 1 ≤ a + b
 at_first a b h = omega arith
 
-behind : (a b : ℕ) → 1 ≤ b → 1 ≤ a + b
-behind a b h = omega arith
+following : (a b : ℕ) → 1 ≤ b → 1 ≤ a + b
+following a b h = omega arith
 
 at_most : (a b : ℕ) → 1 ≤ a → a ≤ b → 1 ≤ b
 at_most a b h i = omega arith
@@ -67,17 +67,17 @@ module _ (text : Bytes) where
 
   pub own_comes : (x : Expr) → 1 ≤ copies (with_comment text x)
   own_comes (Token t) = host_has t.comments
-  own_comes (Form' kind s parts s' items end_ split open_ comments) = let here = host_has comments in omega arith
+  own_comes (Form' kind s parts s' items end split open_break comments) = let here = host_has comments in omega arith
 
   -- ---- what is in an expression
 
   pub parts_within : (x : Expr) → total copies (parts_of x) ≤ copies x
   parts_within (Token t) = omega arith
-  parts_within (Form' kind s parts s' items end_ split open_ comments) = let e = row_total (one_if (comment_made text)) _ parts in omega arith
+  parts_within (Form' kind s parts s' items end split open_break comments) = let e = row_total (one_if (comment_made text)) _ parts in omega arith
 
   pub items_within : (x : Expr) → total copies (items_of x) ≤ copies x
   items_within (Token t) = omega arith
-  items_within (Form' kind s parts s' items end_ split open_ comments) = let e = row_total (one_if (comment_made text)) _ items in omega arith
+  items_within (Form' kind s parts s' items end split open_break comments) = let e = row_total (one_if (comment_made text)) _ items in omega arith
 
   pub row_comes : (kind : Kind) (change : List Expr → List Expr) (x : Expr) → has_kind kind x ≡ true → 1 ≤ total copies (change (parts_of x)) → 1 ≤ copies (on_row kind change x)
   row_comes kind change x is h =
@@ -103,7 +103,7 @@ module _ (text : Bytes) where
   first_that_comes test change b (x ∷ xs) h =
       by_case (λ (ys : List Expr). 1 ≤ total copies ys) (test x) (change x ∷ xs) (x ∷ on_first_that test change xs)
       (λ is. at_first (copies (change x)) (total copies xs) (b x is))
-      (λ other. behind (copies x) (total copies (on_first_that test change xs)) (first_that_comes test change b xs (rest_of (test x) (list_any test xs) h other)))
+      (λ other. following (copies x) (total copies (on_first_that test change xs)) (first_that_comes test change b xs (rest_of (test x) (list_any test xs) h other)))
 
   -- ---- the first item of a value's lists
 
@@ -126,7 +126,7 @@ module _ (text : Bytes) where
 
   -- ---- the value of an attribute
 
-  third_within : (name : Bytes) (value : Expr) (ps : List Expr) → value_behind name ps ≡ Some value → copies value ≤ total copies ps
+  third_within : (name : Bytes) (value : Expr) (ps : List Expr) → value_after name ps ≡ Some value → copies value ≤ total copies ps
   third_within name value [] e = cc
   third_within name value (x ∷ []) e = cc
   third_within name value (x ∷ y ∷ []) e = cc

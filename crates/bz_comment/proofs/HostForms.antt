@@ -24,17 +24,17 @@ refused_by lists there = if not lists then Some NotAList else (if there then Non
 abbrev pub made_by : Bool → Bool → Expr → Result Expr Refusal
 made_by lists there x = if not lists then Err NotAList else (if there then Ok x else Err NoAttribute)
 
-refused_told : (sought : Sought) (value : Expr) (there : Bool) → true ≡ has_lists value → list_any (is_sought sought) (items_in value) ≡ there → value_refused sought value ≡ refused_by true there
-refused_told sought value there h i =
+refused_answered : (sought : Sought) (value : Expr) (there : Bool) → true ≡ has_lists value → list_any (is_sought sought) (items_in value) ≡ there → value_refused sought value ≡ refused_by true there
+refused_answered sought value there h i =
     ap (λ lists. refused_by lists (list_any (is_sought sought) (items_in value))) (sym h) ∙ ap (refused_by true) i
 
 -- where an item is found, and where none is
 pub item_there : (sought : Sought) (found : Option Expr) (value x : Expr) → Some value ≡ found → true ≡ has_lists value → Some x ≡ find (is_sought sought) (items_in value) → None ≡ item_refused sought found
 item_there sought found value x e h i =
     subst (λ (o : Option Expr). None ≡ item_refused sought o) e
-    (sym (refused_told sought value true h (sym (found_any (is_sought sought) (items_in value)) ∙ ap is_some (sym i))))
+    (sym (refused_answered sought value true h (sym (found_any (is_sought sought) (items_in value)) ∙ ap is_some (sym i))))
 
 pub item_absent : (sought : Sought) (found : Option Expr) (value : Expr) → Some value ≡ found → true ≡ has_lists value → None ≡ find (is_sought sought) (items_in value) → Some NoAttribute ≡ item_refused sought found
 item_absent sought found value e h i =
     subst (λ (o : Option Expr). Some NoAttribute ≡ item_refused sought o) e
-    (sym (refused_told sought value false h (sym (found_any (is_sought sought) (items_in value)) ∙ ap (λ (o : Option Expr). is_some o) (sym i))))
+    (sym (refused_answered sought value false h (sym (found_any (is_sought sought) (items_in value)) ∙ ap (λ (o : Option Expr). is_some o) (sym i))))

@@ -134,7 +134,7 @@ module _ (test : Expr → Bool) (f g : Expr → Expr) (same : (x : Expr) → tes
   value_back : (v : Expr) → IfSome (find test (items_in v)) IsBack → on_first_item test g (on_first_item test f v) ≡ v
   value_back v h =
       let ps : List Expr = in_sum f (parts_of v) in
-      let told : IfSome (find test (if has_kind k.Sum v then flat_map listed (parts_of v) else listed v)) IsBack = subst (λ xs. IfSome (find test xs) IsBack) (items_there v) h in
+      let answered : IfSome (find test (if has_kind k.Sum v then flat_map listed (parts_of v) else listed v)) IsBack = subst (λ xs. IfSome (find test xs) IsBack) (items_there v) h in
       by_case (λ y. on_first_item test g y ≡ v) (has_kind k.Sum v) (on_row k.Sum (in_sum f) v) (in_list f v)
       (λ is.
       let y : Expr = on_row k.Sum (in_sum f) v in
@@ -142,13 +142,13 @@ module _ (test : Expr → Bool) (f g : Expr → Expr) (same : (x : Expr) → tes
       (ap (has_kind k.Sum) (if_true (has_kind k.Sum v) (with_parts ps v) v is) ∙ (parts_kind k.Sum ps v ∙ is))
       ∙ row_back k.Sum (in_sum f) (in_sum g) v
       (λ _. first_back (has_item test) (in_list f) (in_list g) list_item (parts_of v)
-      (lists_back (parts_of v) (subst (λ xs. IfSome (find test xs) IsBack) (if_true (has_kind k.Sum v) (flat_map listed (parts_of v)) (listed v) is) told))))
+      (lists_back (parts_of v) (subst (λ xs. IfSome (find test xs) IsBack) (if_true (has_kind k.Sum v) (flat_map listed (parts_of v)) (listed v) is) answered))))
       (λ n.
       let y : Expr = in_list f v in
       if_false (has_kind k.Sum y) (on_row k.Sum (in_sum g) y) (in_list g y) (list_kind k.Sum v ∙ n)
       ∙ list_back v
       (λ is. subst (λ xs. IfSome (find test xs) IsBack)
-      (if_false (has_kind k.Sum v) (flat_map listed (parts_of v)) (listed v) n ∙ if_true (has_kind k.List v) (items_of v) [] is) told))
+      (if_false (has_kind k.Sum v) (flat_map listed (parts_of v)) (listed v) n ∙ if_true (has_kind k.List v) (items_of v) [] is) answered))
 
   -- ---- an item of an attribute
 

@@ -32,8 +32,8 @@ module _ (number : Bytes → ℕ) where
 
   pub own_grows : (text : Bytes) → Grows (whole number) (with_comment text)
   own_grows text (Token t) = host_grows (comment_made text) t.comments
-  own_grows text (Form' kind s parts s' items end_ split open_ comments) =
-      let inside : ℕ = row_amount number parts + (row_amount number items + total number end_) in
+  own_grows text (Form' kind s parts s' items end split open_break comments) =
+      let inside : ℕ = row_amount number parts + (row_amount number items + total number end) in
       both_at_most (host_amount number comments) (host_amount number (record comments { before = comments.before ++ comment_made text ∷ [] })) inside inside
       (host_grows (comment_made text) comments) (itself inside)
 

@@ -7,7 +7,7 @@ use Rattle.std.proofs.lemmas.List.Elements.{All-append, All-cons, All-nil}
 use Rattle.std.proofs.lemmas.Str.{IsUtf8-append}
 use Rattle.bz_tree.specs.declared.kind.Kind.TheVariants as k
 use Rattle.bz_tree.specs.Shapes as s
-use Rattle.bz_tree.specs.Shapes.{Sort}
+use Rattle.bz_tree.specs.Shapes.{Nonterminal}
 use Rattle.bz_tree.specs.Spots.{Spot}
 use Rattle.bz_value.specs.declared.value.Expr.{Expr, Token, Form'}
 use Rattle.bz_value.specs.declared.value.Item.TheVariants as i
@@ -56,15 +56,15 @@ comment_fine text one u =
 
 proper_commented : (here : Spot) (cs : HostComments) (x : Expr) → ProperExpr here x → ProperExpr here (with_comments x cs)
 proper_commented here cs (Token t) h = h
-proper_commented here cs (Form' kind s parts s' items end_ split open_ comments) h = h
+proper_commented here cs (Form' kind s parts s' items end split open_break comments) h = h
 
-item_commented : (sort : Sort) (cs : HostComments) (x : Expr) → AreComments cs → IsItem sort x → IsItem sort (with_comments x cs)
-item_commented sort cs (Token t) a h = ((h.0.0, a, h.0.2), h.1)
-item_commented sort cs (Form' kind s parts s' items end_ split open_ comments) a h = ((h.0.0, a, h.0.2), h.1)
+item_commented : (nonterminal : Nonterminal) (cs : HostComments) (x : Expr) → AreComments cs → IsItem nonterminal x → IsItem nonterminal (with_comments x cs)
+item_commented nonterminal cs (Token t) a h = ((h.0.0, a, h.0.2), h.1)
+item_commented nonterminal cs (Form' kind s parts s' items end split open_break comments) a h = ((h.0.0, a, h.0.2), h.1)
 
 statement_commented : (cs : HostComments) (x : Expr) → AreComments cs → IsProperItem (i.Stmt x) → IsProperItem (i.Stmt (with_comments x cs))
 statement_commented cs (Token t) a h = (h.0, h.1, a)
-statement_commented cs (Form' kind s parts s' items end_ split open_ comments) a h = (h.0, h.1, a)
+statement_commented cs (Form' kind s parts s' items end split open_break comments) a h = (h.0, h.1, a)
 
 more_comments : (text : Bytes) (cs : HostComments) → IsComment (comment_made text) → AreComments cs → AreComments (record cs { before = cs.before ++ comment_made text ∷ [] })
 more_comments text cs f h = (All-append IsComment cs.before (comment_made text ∷ []) h.0 (All-cons IsComment (comment_made text) [] f (All-nil IsComment)), h.1)
@@ -74,13 +74,13 @@ nothing = (All-nil IsComment, tt)
 
 -- what a change of comments keeps
 abbrev KeepsItems : (Expr → Expr) → Type 0
-KeepsItems change = (sort : Sort) (x : Expr) → IsItem sort x → IsItem sort (change x)
+KeepsItems change = (nonterminal : Nonterminal) (x : Expr) → IsItem nonterminal x → IsItem nonterminal (change x)
 
 commented_items : (text : Bytes) → IsComment (comment_made text) → KeepsItems (with_comment text)
-commented_items text f sort x h = item_commented sort _ x (more_comments text (comments_of x) f h.0.1) h
+commented_items text f nonterminal x h = item_commented nonterminal _ x (more_comments text (comments_of x) f h.0.1) h
 
 uncommented_items : KeepsItems without_comments
-uncommented_items sort x h = item_commented sort no_comments x nothing h
+uncommented_items nonterminal x h = item_commented nonterminal no_comments x nothing h
 
 -- ---- statements
 

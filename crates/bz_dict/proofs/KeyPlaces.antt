@@ -208,5 +208,5 @@ put_done Set current name items = refl
 -- nothing is left to be put
 pub put_end : (change : Change) (current name : Bytes) (entries : List Entry) (at : ℕ) (items all : List Expr)
     → length entries ≤ at → entries_put change current name (drop at entries) items ≡ all → items ≡ all
-put_end change current name entries at items all behind so_far =
-    sym (put_done change current name items) ∙ (ap (λ left. entries_put change current name left items) (sym (drop_all at entries behind)) ∙ so_far)
+put_end change current name entries at items all following so_far =
+    sym (put_done change current name items) ∙ (ap (λ left. entries_put change current name left items) (sym (drop_all at entries following)) ∙ so_far)

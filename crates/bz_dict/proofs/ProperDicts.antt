@@ -8,12 +8,12 @@ use Rattle.bz_tree.specs.declared.kind.Kind.{Kind}
 use Rattle.bz_tree.specs.declared.kind.Kind.TheVariants as k
 use Rattle.bz_tree.specs.Shapes as s
 use Rattle.bz_tree.specs.Shapes.{is_kind}
-use Rattle.bz_tree.specs.Legal.{IsSort}
+use Rattle.bz_tree.specs.Legal.{IsNonterminal}
 use Rattle.bz_tree.specs.Spots.{Spot, Within}
 use Rattle.bz_value.specs.declared.value.Expr.{Expr, Token, Form', items-the_row-Expr}
 use Rattle.bz_value.specs.Comments.{no_comments}
 use Rattle.bz_items.specs.Characters.{Bytes}
-use Rattle.bz_value.specs.Proper.{IsComment, AreComments, behind_expr}
+use Rattle.bz_value.specs.Proper.{IsComment, AreComments, after_expr}
 use Rattle.bz_value.specs.Roots.{root}
 use Rattle.bz_value.specs.Roots as r
 use Rattle.bz_value.proofs.FormParts.{AreParts, form_proper}
@@ -42,7 +42,7 @@ none_there : AreComments no_comments
 none_there = (All-nil IsComment, tt)
 
 -- a new part of a row before others
-new_part : (outer here : Spot) (x : Expr) (xs : List Expr) → IsNew x → AreParts false outer (behind_expr outer here x) xs → AreParts false outer here (x ∷ xs)
+new_part : (outer here : Spot) (x : Expr) (xs : List Expr) → IsNew x → AreParts false outer (after_expr outer here x) xs → AreParts false outer here (x ∷ xs)
 new_part outer here x xs n h = (n.proper here, n.comments, λ b. absurd (true≢false (sym b ∙ n.breaks)), h)
 
 key_new : (entry : Entry) → IsEntry entry → IsNew (token c.String (quoted_of entry.key))
@@ -60,11 +60,11 @@ entry_item current name entry e =
     let colon : Expr = mark (codes ":") in
     let value : Expr = string_of current name entry.value in (
       (
-        form_proper Within (record { kind = k.Entry; parts = key ∷ colon ∷ value ∷ []; seq = record { items = []; end_ = []; split = false }; open_ = false; comments = no_comments })
+        form_proper Within (record { kind = k.Entry; parts = key ∷ colon ∷ value ∷ []; seq = record { items = []; end = []; split = false }; open_break = false; comments = no_comments })
             (refl, (refl, (refl, tt))) (
               new_part Within Within key (colon ∷ value ∷ []) (key_new entry e)
-                  (new_part Within (behind_expr Within Within key) colon (value ∷ []) colon_new
-                  (new_part Within (behind_expr Within (behind_expr Within Within key) colon) value [] (value_new current name entry e) tt)),
+                  (new_part Within (after_expr Within Within key) colon (value ∷ []) colon_new
+                  (new_part Within (after_expr Within (after_expr Within Within key) colon) value [] (value_new current name entry e) tt)),
               tt,
               refl,
               refl,
@@ -79,7 +79,7 @@ entry_item current name entry e =
 dict_new : (items : List Expr) → AreOf s.entry items → IsNew (dict_of items)
 dict_new items h = record {
   proper = λ here.
-      form_proper here (record { kind = k.Dict; parts = []; seq = record { items = items; end_ = []; split = false }; open_ = false; comments = no_comments })
+      form_proper here (record { kind = k.Dict; parts = []; seq = record { items = items; end = []; split = false }; open_break = false; comments = no_comments })
       (refl, items_again s.entry s.close_curly (r.mark_leaf 125) refl items h) (tt, each_item s.entry s.close_curly (r.mark_leaf 125) items h, All-nil IsComment, refl);
   comments = refl;
   breaks = refl;
@@ -94,46 +94,46 @@ dict_value items h = new_value (dict_of items) (dict_new items h) refl
 abbrev KeepsEntries : (List Expr → List Expr) → Type 0
 KeepsEntries change = sequences.Keeps s.entry change
 
-dict_items : (change : List Expr → List Expr) → KeepsEntries change → (here : Spot) (end_ : List Bytes) (split open_ : Bool) (ps xs : List Expr)
-    → AsForm here k.Dict ps xs end_ split open_ → AsForm here k.Dict ps (change xs) end_ split open_
-dict_items change keeps here end_ split open_ [] xs h =
+dict_items : (change : List Expr → List Expr) → KeepsEntries change → (here : Spot) (end : List Bytes) (split open_break : Bool) (ps xs : List Expr)
+    → AsForm here k.Dict ps xs end split open_break → AsForm here k.Dict ps (change xs) end split open_break
+dict_items change keeps here end split open_break [] xs h =
     let all : AreOf s.entry (change xs) = keeps xs (items_apart s.entry s.close_curly (r.mark_leaf 125) xs h.1.1 h.0.1) in
     ((h.0.0, items_again s.entry s.close_curly (r.mark_leaf 125) refl (change xs) all), (h.1.0, each_item s.entry s.close_curly (r.mark_leaf 125) (change xs) all, h.1.2, h.1.3))
-dict_items change keeps here end_ split open_ (p ∷ ps) xs h = let n = lead_before k.Dict (map root (p ∷ ps)) (map root xs) h.0 in absurd (omega arith)
+dict_items change keeps here end split open_break (p ∷ ps) xs h = let n = lead_before k.Dict (map root (p ∷ ps)) (map root xs) h.0 in absurd (omega arith)
 
-only_dict : (change : List Expr → List Expr) → KeepsEntries change → (kind : Kind) → is_kind kind k.Dict ≡ true → (here : Spot) (end_ : List Bytes) (split open_ : Bool) (ps xs : List Expr)
-    → AsForm here kind ps xs end_ split open_ → AsForm here kind ps (change xs) end_ split open_
+only_dict : (change : List Expr → List Expr) → KeepsEntries change → (kind : Kind) → is_kind kind k.Dict ≡ true → (here : Spot) (end : List Bytes) (split open_break : Bool) (ps xs : List Expr)
+    → AsForm here kind ps xs end split open_break → AsForm here kind ps (change xs) end split open_break
 only_dict change keeps k.Dict is = dict_items change keeps
 only_dict change keeps _ is = absurd (true≢false (sym is))
 
 changed_dict : (change : List Expr → List Expr) → KeepsEntries change → (x : Expr) → has_kind k.Dict x ≡ true → InPlace x (with_items (change (items_of x)) x)
 changed_dict change keeps (Token t) is = itself (Token t)
-changed_dict change keeps (Form' kind s parts s' items end_ split open_ comments) is =
-    form_in_place (items-the_row-Expr _ parts) (change (items-the_row-Expr _ items)) (Form' kind s parts s' items end_ split open_ comments)
-    (λ here h. only_dict change keeps kind is here end_ split open_ (items-the_row-Expr _ parts) (items-the_row-Expr _ items) h)
+changed_dict change keeps (Form' kind s parts s' items end split open_break comments) is =
+    form_in_place (items-the_row-Expr _ parts) (change (items-the_row-Expr _ items)) (Form' kind s parts s' items end split open_break comments)
+    (λ here h. only_dict change keeps kind is here end split open_break (items-the_row-Expr _ parts) (items-the_row-Expr _ items) h)
 
 dict_in_place : (change : List Expr → List Expr) → KeepsEntries change → (x : Expr) → InPlace x (on_items k.Dict change x)
 dict_in_place change keeps x = where_true (has_kind k.Dict x) x (with_items (change (items_of x)) x) (changed_dict change keeps x)
 
 -- ---- an entry with another value
 
-module _ (value : Expr) (new : IsNew value) (sort : IsSort s.test (root value)) where
+module _ (value : Expr) (new : IsNew value) (nonterminal : IsNonterminal s.test (root value)) where
   value_kept : KeepsRow k.Entry (on_third (λ old. value))
-  value_kept end_ split open_ [] xs h = absurd h.0
-  value_kept end_ split open_ (x ∷ []) xs h = absurd h.0.1
-  value_kept end_ split open_ (x ∷ y ∷ []) xs h = absurd h.0.1.1
-  value_kept end_ split open_ (x ∷ y ∷ v ∷ []) xs h =
+  value_kept end split open_break [] xs h = absurd h.0
+  value_kept end split open_break (x ∷ []) xs h = absurd h.0.1
+  value_kept end split open_break (x ∷ y ∷ []) xs h = absurd h.0.1.1
+  value_kept end split open_break (x ∷ y ∷ v ∷ []) xs h =
       let g = h.1.0 in (
-        (h.0.0, (h.0.1.0, (sort, tt))),
+        (h.0.0, (h.0.1.0, (nonterminal, tt))),
         (
-          (g.0, g.1, g.2, (g.3.0, g.3.1, g.3.2, new_part Within (behind_expr Within (behind_expr Within Within x) y) value [] new tt)),
+          (g.0, g.1, g.2, (g.3.0, g.3.1, g.3.2, new_part Within (after_expr Within (after_expr Within Within x) y) value [] new tt)),
           h.1.1,
           h.1.2,
           h.1.3,
           h.1.4,
         ),
       )
-  value_kept end_ split open_ (x ∷ y ∷ v ∷ w ∷ rest) xs h = absurd h.0.1.1.1
+  value_kept end split open_break (x ∷ y ∷ v ∷ w ∷ rest) xs h = absurd h.0.1.1.1
 
   only_entry : (kind : Kind) → is_kind kind k.Entry ≡ true → KeepsRow kind (on_third (λ old. value))
   only_entry k.Entry is = value_kept

@@ -7,12 +7,12 @@ use Rattle.bz_value.specs.declared.refusal.Refusal.{Refusal}
 use Rattle.bz_value.specs.declared.refusal.Refusal.TheVariants.{Memory}
 use Rattle.bz_workspace.specs.Sessions.{Action, Reply, History, Acts, Leads}
 use Rattle.bz_ports.specs.Faults.{AppendsUnlessFailed}
-use Rattle.bz_ports.specs.Outputs.{Tells}
+use Rattle.bz_ports.specs.Outputs.{Reports}
 use Rattle.bz_workspace.specs.Packages.{Opened, Used, file_at, with_opened}
 use Rattle.bz_workspace.specs.Shown.{used_in}
 use Rattle.bz_workspace.specs.declared.used.Used as d
-use Rattle.bz_engine.specs.Run.{Progress, answered, told_of}
-use Rattle.bz_engine.specs.Told.{refusal_line}
+use Rattle.bz_engine.specs.Run.{Progress, answered, reported_of}
+use Rattle.bz_engine.specs.Reported.{refusal_line}
 
 -- the file that takes the place of one that is there
 put_there : (place : ℕ) (used : List Used) (file new : Opened) → file_at place used ≡ Some file → file_at place (with_opened place (Some new) used) ≡ Some new
@@ -38,13 +38,13 @@ pub led_to : (h after : History) (action : Action) (note : Bytes) (refusal : Ref
     → Leads action note h (Err refusal) after
 led_to h after action note refusal (inl long) other = inl long
 led_to h after action note refusal (inr (short, inl makes)) other = inr (short, makes)
-led_to h after action note refusal (inr (short, inr wanting)) other = let e = wanting.1 in absurd (other (cc))
+led_to h after action note refusal (inr (short, inr refused_memory)) other = let e = refused_memory.1 in absurd (other (cc))
 
 -- a reply is what an action leads to
 pub led_on : (h after : History) (action : Action) (note : Bytes) (reply : Reply) → Acts action note h (Ok reply) after → Leads action note h (Ok reply) after
 led_on h after action note reply (inl long) = inl long
 led_on h after action note reply (inr (short, inl makes)) = inr (short, makes)
-led_on h after action note reply (inr (short, inr wanting)) = let e = wanting.1 in absurd (cc)
+led_on h after action note reply (inr (short, inr refused_memory)) = let e = refused_memory.1 in absurd (cc)
 
 -- a file that is there
 pub some_of : (found : Option Opened) → IsSome found → (file : Opened) × (found ≡ Some file)
@@ -91,10 +91,10 @@ was_listed place file before after text listing printed there is put same =
     ∙ ap (state (with_opened place (Some file) before.used) (before.printed ++ listing)) (or_false before.failed)))
 
 -- a refusal is reported by the name of the file
-pub told_by : (f f' : ℕ) (old new : Option Bytes) (name other command : Bytes) (refusal : Refusal) → name ≡ other
-    → AppendsUnlessFailed f f' old new (refusal_line name command refusal) → Tells f f' old new (told_of other command (Err refusal))
-told_by f f' old new name other command refusal is told =
-    (f', new, subst (λ (text : Bytes). AppendsUnlessFailed f f' old new (refusal_line text command refusal)) is told, (refl, refl))
+pub reported_by : (f f' : ℕ) (old new : Option Bytes) (name other command : Bytes) (refusal : Refusal) → name ≡ other
+    → AppendsUnlessFailed f f' old new (refusal_line name command refusal) → Reports f f' old new (reported_of other command (Err refusal))
+reported_by f f' old new name other command refusal is reported =
+    (f', new, subst (λ (text : Bytes). AppendsUnlessFailed f f' old new (refusal_line text command refusal)) is reported, (refl, refl))
 
 -- ---- a package by its number
 

@@ -9,12 +9,12 @@ use Rattle.bz_ports.specs.Exits.{first_cut}
 
 pub cut_more : (cut later : Cut) (r s t f g h : ℕ) → AreCutBy cut r s f g → AreCutBy later s t g h → Counts r s → Counts s t → Counts f g → Counts g h
     → AreCutBy (first_cut cut later) r t f h
-cut_more c.Whole later r s t f g h first more reads reads' files files' =
+cut_more c.Whole later r s t f g h first more read_faults read_faults' files files' =
     subst (λ (n : ℕ). AreCutBy later n t f h) first.0 (subst (λ (n : ℕ). AreCutBy later s t n h) first.1 more)
-cut_more c.Memory later r s t f g h first more reads reads' files files' = tt
-cut_more c.Read later r s t f g h first more reads reads' files files' = rises_more r s t reads.grows first reads'
-cut_more c.Write later r s t f g h first more reads reads' files files' = first
-cut_more c.Files later r s t f g h first more reads reads' files files' = rises_more f g h files.grows first files'
+cut_more c.Memory later r s t f g h first more read_faults read_faults' files files' = tt
+cut_more c.Read later r s t f g h first more read_faults read_faults' files files' = rises_more r s t read_faults.grows first read_faults'
+cut_more c.Write later r s t f g h first more read_faults read_faults' files files' = first
+cut_more c.Files later r s t f g h first more read_faults read_faults' files files' = rises_more f g h files.grows first files'
 
 pub whole_before : (cut later : Cut) → first_cut cut later ≡ c.Whole → cut ≡ c.Whole
 whole_before c.Whole later is = refl
@@ -23,12 +23,12 @@ whole_before c.Read later is = is
 whole_before c.Write later is = is
 whole_before c.Files later is = is
 
-pub whole_behind : (cut later : Cut) → first_cut cut later ≡ c.Whole → later ≡ c.Whole
-whole_behind c.Whole later is = is
-whole_behind c.Memory later is = absurd (cc is)
-whole_behind c.Read later is = absurd (cc is)
-whole_behind c.Write later is = absurd (cc is)
-whole_behind c.Files later is = absurd (cc is)
+pub whole_after : (cut later : Cut) → first_cut cut later ≡ c.Whole → later ≡ c.Whole
+whole_after c.Whole later is = is
+whole_after c.Memory later is = absurd (cc is)
+whole_after c.Read later is = absurd (cc is)
+whole_after c.Write later is = absurd (cc is)
+whole_after c.Files later is = absurd (cc is)
 
 -- where standard output was not given all
 pub never_whole : (later : Cut) (P Q R : Type 0) → ((later ≡ c.Memory) × P) ⊎ ((later ≡ c.Write) × Q × R) → later ≡ c.Whole → ⊥
@@ -46,11 +46,11 @@ works_cut cut r f g (inl whole) = subst (λ (it : Cut). AreCutBy it r r f g) (sy
 works_cut cut r f g (inr (inl memory)) = subst (λ (it : Cut). AreCutBy it r r f g) (sym memory) tt
 works_cut cut r f g (inr (inr files)) = subst (λ (it : Cut). AreCutBy it r r f g) (sym files.0) files.1
 
-pub cut_behind : (cut later result : Cut) (r s f g h : ℕ) → result ≡ first_cut cut later → CutsFiles later g h → AreCutBy cut r s f g → Counts r s
+pub cut_after : (cut later result : Cut) (r s f g h : ℕ) → result ≡ first_cut cut later → CutsFiles later g h → AreCutBy cut r s f g → Counts r s
     → Counts f g → Counts g h → AreCutBy result r s f h
-cut_behind cut later result r s f g h is works first reads counts counts' =
+cut_after cut later result r s f g h is works first read_faults counts counts' =
     subst (λ (it : Cut). AreCutBy it r s f h) (sym is)
-    (cut_more cut later r s s f g h first (works_cut later s g h works) reads (record { grows = omega arith; rises = inl refl }) counts counts')
+    (cut_more cut later r s s f g h first (works_cut later s g h works) read_faults (record { grows = omega arith; rises = inl refl }) counts counts')
 
 -- ---- cuts that are not for standard input
 
@@ -67,7 +67,7 @@ works_unread cut f g (inr (inl memory)) = λ is. absurd (let e = sym memory ∙ 
 works_unread cut f g (inr (inr files)) = λ is. absurd (let e = sym files.0 ∙ is in cc)
 
 pub both_whole : (first later result : Cut) → result ≡ first_cut first later → result ≡ c.Whole → (first ≡ c.Whole) × (later ≡ c.Whole)
-both_whole first later result is whole = (whole_before first later (sym is ∙ whole), whole_behind first later (sym is ∙ whole))
+both_whole first later result is whole = (whole_before first later (sym is ∙ whole), whole_after first later (sym is ∙ whole))
 
 -- what holds for a name holds for one that is the same
 pub by_name : (A : Type 0) (one other wanted : List ℕ) → one ≡ other → A ⊎ (other ≡ wanted) → A ⊎ (one ≡ wanted)

@@ -9,7 +9,7 @@ use Rattle.bz_files.specs.Folder.{Folder}
 use Rattle.bz_workspace.specs.Sessions.{present}
 use Rattle.bz_workspace.specs.Packages.{Opened, Used}
 use Rattle.bz_engine.specs.Ending.{differs, is_input, is_written, Writing, writing_of, WritesFiles, fixed_lines}
-use Rattle.bz_engine.specs.Told.{fixed_line}
+use Rattle.bz_engine.specs.Reported.{fixed_line}
 
 -- ---- lists
 

@@ -18,8 +18,8 @@ use Rattle.bz_workspace.proofs.JournalSteps.{one_given}
 use Rattle.bz_workspace.proofs.NameSteps.{apart as packages_apart, journal_not_new, not_new}
 use Rattle.bz_engine.specs.Ending.{Left, all_kept, fixed_lines, status_of, texts_out}
 use Rattle.bz_engine.specs.Exact.{IsLeftOpen, SameLeft, SameLines}
-use Rattle.bz_engine.specs.Keeping.{AllAreKept, AnswersBeside, DoesBeside, FolderBehind, IsApart, PerformsBeside, RunsBeside, UsesBeside, file_behind, state_behind}
-use Rattle.bz_engine.specs.Run.{Finds, Progress, World, nothing_done, told_of}
+use Rattle.bz_engine.specs.Keeping.{AllAreKept, AnswersBeside, DoesBeside, FolderAfter, IsApart, PerformsBeside, RunsBeside, UsesBeside, file_after, state_after}
+use Rattle.bz_engine.specs.Run.{Finds, Progress, World, nothing_done, reported_of}
 use Rattle.bz_engine.specs.Steps.{RunStep, action_of, input_package, shows_input}
 use Rattle.bz_engine.proofs.ExactActions.{one_answer}
 use Rattle.bz_engine.proofs.ExactEnding.{either_not, reads_input}
@@ -27,7 +27,7 @@ use Rattle.bz_engine.proofs.ExactLines.{same_append, same_as, same_lines}
 use Rattle.bz_engine.proofs.ExactSteps.{TakesSame, no_place, one_place, same_taken}
 use Rattle.bz_engine.proofs.Outcomes.{apart}
 use Rattle.bz_engine.proofs.SafeSteps.{IsUnlike, file_in_front, one_file, unlike_put}
-use Rattle.bz_engine.proofs.StandSteps.{apart_from, does_stand, found_holds, others_behind, package_at, runs_stand}
+use Rattle.bz_engine.proofs.StandSteps.{apart_from, does_stand, found_holds, others_after, package_at, runs_stand}
 
 -- ---- names that no step changes
 
@@ -84,19 +84,19 @@ others_used began folder current before place lines after (inr (none, number, (f
     subst (λ (used : List Used). OthersAre began used folder) (sym new)
     (λ name unlike aside. others name (λ at it there. unlike at it (file_in_front at before (record { «package» = current; file = file }) it there)) aside)
 
-name_behind : (answer : Answer) (history : History) (file : Opened) → (file_behind answer history file).name ≡ file.name
-name_behind (Ok reply) history file = refl
-name_behind (Err refusal) history file = refl
+name_after : (answer : Answer) (history : History) (file : Opened) → (file_after answer history file).name ≡ file.name
+name_after (Ok reply) history file = refl
+name_after (Err refusal) history file = refl
 
 others_answered : (began : Folder) (step : RunStep) (place : ℕ) (found : Option Opened) (folder folder' : Folder) (state after : Progress) (lines : List Bytes)
     → file_at place state.used ≡ found → AnswersBeside step place found folder state lines folder' after → OthersAre began state.used folder
     → OthersAre began after.used folder'
-others_answered began step place None folder folder' state after lines at (told, still, is) others =
+others_answered began step place None folder folder' state after lines at (reported, still, is) others =
     subst (λ (now : Progress). OthersAre began now.used folder') (sym is) (subst (OthersAre began state.used) (sym still) others)
-others_answered began step place (Some file) folder folder' state after lines at (answer, history, leads, behind, told, is) others =
-    let then = file_behind answer history file in
-    let named = name_behind answer history file in
-    let stay = others_behind answer file history folder folder' behind in
+others_answered began step place (Some file) folder folder' state after lines at (answer, history, leads, following, reported, is) others =
+    let then = file_after answer history file in
+    let named = name_after answer history file in
+    let stay = others_after answer file history folder folder' following in
     subst (λ (now : Progress). OthersAre began now.used folder') (sym is) (λ name unlike aside.
     let put = unlike_put place state.used (with_opened place (Some then) state.used) file then at refl named name unlike in
     stay name put.1.0 put.1.1 (λ e. aside (file.name, e)) (λ e. aside (journal_name file.name, e)) ∙ others name put.0 aside)
@@ -109,11 +109,11 @@ others_done began step folder folder' before after lines does others =
 
 others_run : (began : Folder) (keep_going : Bool) (steps : List RunStep) (folder folder' : Folder) (before after : Progress) (lines : List Bytes)
     → RunsBeside keep_going steps folder before lines folder' after → OthersAre began before.used folder → OthersAre began after.used folder'
-others_run began keep_going [] folder folder' before after lines (told, still, is) others =
+others_run began keep_going [] folder folder' before after lines (reported, still, is) others =
     subst (λ (now : Progress). OthersAre began now.used folder') (sym is) (subst (OthersAre began before.used) (sym still) others)
-others_run began keep_going (step ∷ steps) folder folder' before after lines (inl (ended, told, still, is)) others =
+others_run began keep_going (step ∷ steps) folder folder' before after lines (inl (ended, reported, still, is)) others =
     subst (λ (now : Progress). OthersAre began now.used folder') (sym is) (subst (OthersAre began before.used) (sym still) others)
-others_run began keep_going (step ∷ steps) folder folder' before after lines (inr (goes, (between, mid, first, rest, does, runs, told))) others =
+others_run began keep_going (step ∷ steps) folder folder' before after lines (inr (goes, (between, mid, first, rest, does, runs, reported))) others =
     others_run began keep_going steps between folder' mid after rest runs (others_done began step folder between before mid first does others)
 
 -- ---- one step is one
@@ -123,10 +123,10 @@ same_beside : (words : List Bytes) (world : World) (current name text : Bytes) (
     → TakesSame words world file file' lines lines'
 same_beside words world current name text None file file' lines lines' found takes takes' =
     same_taken words world current name text file file' lines lines' found takes takes'
-same_beside words world current name text (Some bytes) file file' lines lines' found (given, comes, is, told) (given', comes', is', told') =
+same_beside words world current name text (Some bytes) file file' lines lines' found (given, comes, is, reported) (given', comes', is', reported') =
     let one = one_given current bytes text given given' comes comes' in (
       is ∙ ap (file_of_journal name text) one ∙ sym is',
-      same_lines words world lines lines' (told ∙ ap (lines_of_journal name) one ∙ sym told'),
+      same_lines words world lines lines' (reported ∙ ap (lines_of_journal name) one ∙ sym reported'),
     )
 
 same_opened : (words : List Bytes) (world : World) (current : Bytes) (found : Option PackagesFound) (file file' : Option Opened) (lines lines' : List Bytes)
@@ -160,10 +160,10 @@ one_answered : OneReading → (step : RunStep) (place : ℕ) (file : Option Open
     (after after' : Progress) → AnswersBeside step place file folder state lines then after → AnswersBeside step place file folder' state lines' then' after'
     → (lines ≡ lines') × (after ≡ after')
 one_answered one step place None state folder folder' then then' lines lines' after after' is is' = (is.0 ∙ sym is'.0, is.2 ∙ sym is'.2)
-one_answered one step place (Some file) state folder folder' then then' lines lines' after after' (answer, history, leads, behind, told, is) (answer', history', leads', behind', told', is') =
-    let same = one_answer one (action_of step.target step.asking.verb) step.asking.text file.history answer answer' history history' leads leads' in (
-      told ∙ ap (told_of file.name step.asking.text) same.0 ∙ sym told',
-      is ∙ ap (λ (it : Answer). state_behind place file it history state) same.0 ∙ ap (λ (it : History). state_behind place file answer' it state) same.1 ∙ sym is',
+one_answered one step place (Some file) state folder folder' then then' lines lines' after after' (answer, history, leads, following, reported, is) (answer', history', leads', following', reported', is') =
+    let same = one_answer one (action_of step.target step.request.verb) step.request.text file.history answer answer' history history' leads leads' in (
+      reported ∙ ap (reported_of file.name step.request.text) same.0 ∙ sym reported',
+      is ∙ ap (λ (it : Answer). state_after place file it history state) same.0 ∙ ap (λ (it : History). state_after place file answer' it state) same.1 ∙ sym is',
     )
 
 same_done : OneReading → (words : List Bytes) (world : World) (step : RunStep) (folder folder' then then' : Folder) (before : Progress) (lines lines' : List Bytes)
@@ -178,7 +178,7 @@ same_done one words world step folder folder' then then' before lines lines' aft
     subst (λ (u : List Used). AnswersBeside step does.place (file_at does.place u) folder' (record before { used = u }) does'.answer then' after') (sym uses.2) at_place in
     let same = one_answered one step does.place (file_at does.place does.used) (record before { used = does.used }) folder folder' then then' does.answer does'.answer after after'
     does.answers here in (
-      same_as words world lines lines' (does.opening ++ does.answer) (does'.opening ++ does'.answer) does.told does'.told
+      same_as words world lines lines' (does.opening ++ does.answer) (does'.opening ++ does'.answer) does.reported does'.reported
           (same_append words world does.opening does'.opening does.answer does'.answer uses.1 (same_lines words world does.answer does'.answer same.0)),
       same.1,
     )
@@ -202,7 +202,7 @@ same_run one words world keep_going (step ∷ steps) folder folder' then then' b
     absurd (true≢false (sym over ∙ on))
 same_run one words world keep_going (step ∷ steps) folder folder' then then' before lines lines' after after' unread stays stays' (inr (on, runs)) (inl (over, none, still, is)) =
     absurd (true≢false (sym over ∙ on))
-same_run one words world keep_going (step ∷ steps) folder folder' then then' before lines lines' after after' unread stays stays' (inr (on, (between, mid, first, rest, does, runs, told))) (inr (on', (between', mid', first', rest', does', runs', told'))) =
+same_run one words world keep_going (step ∷ steps) folder folder' then then' before lines lines' after after' unread stays stays' (inr (on, (between, mid, first, rest, does, runs, reported))) (inr (on', (between', mid', first', rest', does', runs', reported'))) =
     let parts = either_not (reads_input step) (list_any reads_input steps) unread in
     let done = same_done one words world step folder folder' between between' before first first' mid mid' (apart step.target.«package» parts.0) stays stays' does does' in
     let here : RunsBeside keep_going steps between' mid rest' then' after' =
@@ -211,7 +211,7 @@ same_run one words world keep_going (step ∷ steps) folder folder' then then' b
     subst (λ (it : Progress). Stays world it.used between') (sym done.1) (stays_done world step folder' between' before mid' first' does' stays') in
     let same = same_run one words world keep_going steps between between' then then' mid rest rest' after after' parts.1
     (stays_done world step folder between before mid first does stays) there runs here in (
-      same_as words world lines lines' (first ++ rest) (first' ++ rest') told told' (same_append words world first first' rest rest' done.0 same.0),
+      same_as words world lines lines' (first ++ rest) (first' ++ rest') reported reported' (same_append words world first first' rest rest' done.0 same.0),
       same.1,
     )
 
@@ -273,20 +273,20 @@ pub same_kept : OneReading → (words : List Bytes) (options : Options) (steps :
     → SameLeft words world left other
 same_kept one words options steps world left other unread journals performs performs' =
     let start : Stays world [] world.folder = (tt, λ name unlike aside. refl) in
-    let same = same_run one words world options.keep_going steps world.folder world.folder left.folder other.folder nothing_done performs.told performs'.told
+    let same = same_run one words world options.keep_going steps world.folder world.folder left.folder other.folder nothing_done performs.reported performs'.reported
     performs.state performs'.state unread start start performs.runs performs'.runs in
     let files = all_kept performs.state.used in
-    let lines : other.lines ≡ performs'.told ++ fixed_lines options.quiet files =
-    performs'.lines ∙ ap (λ (s : Progress). performs'.told ++ fixed_lines options.quiet (all_kept s.used)) (sym same.1) in
+    let lines : other.lines ≡ performs'.reported ++ fixed_lines options.quiet files =
+    performs'.lines ∙ ap (λ (s : Progress). performs'.reported ++ fixed_lines options.quiet (all_kept s.used)) (sym same.1) in
     let stays' : Stays world performs.state.used other.folder =
-    subst (λ (s : Progress). Stays world s.used other.folder) (sym same.1) (stays_run world options.keep_going steps other.folder performs'.state performs'.told performs'.runs) in
+    subst (λ (s : Progress). Stays world s.used other.folder) (sym same.1) (stays_run world options.keep_going steps other.folder performs'.state performs'.reported performs'.runs) in
     record {
       output = performs.output ∙ ap (λ (s : Progress). s.printed ++ texts_out (shows_input steps) options.to_stdout s.used) same.1 ∙ sym performs'.output;
       status = performs.status ∙ ap status_of same.1 ∙ sym performs'.status;
-      lines = same_as words world left.lines other.lines (performs.told ++ fixed_lines options.quiet files) (performs'.told ++ fixed_lines options.quiet files) performs.lines lines
-          (same_append words world performs.told performs'.told (fixed_lines options.quiet files) (fixed_lines options.quiet files) same.0
+      lines = same_as words world left.lines other.lines (performs.reported ++ fixed_lines options.quiet files) (performs'.reported ++ fixed_lines options.quiet files) performs.lines lines
+          (same_append words world performs.reported performs'.reported (fixed_lines options.quiet files) (fixed_lines options.quiet files) same.0
           (same_lines words world (fixed_lines options.quiet files) (fixed_lines options.quiet files) refl));
       folder = λ name open_is. same_folder world performs.state.used left.folder other.folder
-          (stays_run world options.keep_going steps left.folder performs.state performs.told performs.runs) stays' name (λ aside. open_is (inl aside))
+          (stays_run world options.keep_going steps left.folder performs.state performs.reported performs.runs) stays' name (λ aside. open_is (inl aside))
           (λ file is. open_is (subst (IsLeftOpen words) (sym is) (journals file)));
     }

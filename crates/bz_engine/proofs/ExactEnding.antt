@@ -10,14 +10,14 @@ use Rattle.bz_tree.specs.Laws.{OneReading}
 use Rattle.bz_items.specs.Characters.{Bytes}
 use Rattle.bz_files.specs.Folder.{Folder, SameBut, SameFolders, with_file, new_name}
 use Rattle.bz_label.specs.declared.target.Target.{Target}
-use Rattle.bz_line.specs.Asked.{Asked, Asking}
+use Rattle.bz_line.specs.Requested.{Requested, Request}
 use Rattle.bz_line.specs.declared.line.Options.{Options}
 use Rattle.bz_workspace.specs.Found.{PackagesFound}
 use Rattle.bz_workspace.specs.Packages.{Used}
 use Rattle.bz_engine.specs.Ending.{Left, Performs, WritesFiles, Writing, texts_out, all_writings, fixed_lines, status_of}
 use Rattle.bz_engine.specs.Exact.{SameLeft}
 use Rattle.bz_engine.specs.Run.{World, Progress, Finds, Uses, Does, RunsSteps, nothing_done}
-use Rattle.bz_engine.specs.Steps.{RunStep, step_of, steps_asked, all_steps, is_of_input, names_input, shows_input}
+use Rattle.bz_engine.specs.Steps.{RunStep, step_of, steps_requested, all_steps, is_of_input, names_input, shows_input}
 use Rattle.bz_engine.proofs.ExactLines.{same_lines, same_as, same_append}
 use Rattle.bz_engine.proofs.ExactSteps.{same_run}
 use Rattle.bz_engine.proofs.Outcomes.{apart}
@@ -51,12 +51,12 @@ pub either_not : (a b : Bool) → a || b ≡ false → (a ≡ false) × (b ≡ f
 either_not true b is = absurd (cc is)
 either_not false b is = (refl, is)
 
-no_commands : (target : Target) (commands : List Asking) → is_of_input target ≡ false → list_any reads_input (map (step_of target) commands) ≡ false
+no_commands : (target : Target) (commands : List Request) → is_of_input target ≡ false → list_any reads_input (map (step_of target) commands) ≡ false
 no_commands target [] is = refl
 no_commands target (command ∷ commands) is =
     ap (λ (b : Bool). b || list_any reads_input (map (step_of target) commands)) is ∙ no_commands target commands is
 
-no_targets : (commands : List Asking) (targets : List Target) → list_any is_of_input targets ≡ false
+no_targets : (commands : List Request) (targets : List Target) → list_any is_of_input targets ≡ false
     → list_any reads_input (flat_map (λ target. map (step_of target) commands) targets) ≡ false
 no_targets commands [] none = refl
 no_targets commands (target ∷ targets) none =
@@ -65,11 +65,11 @@ no_targets commands (target ∷ targets) none =
     ∙ ap (λ (b : Bool). b || list_any reads_input (flat_map (λ target. map (step_of target) commands) targets)) (no_commands target commands parts.0)
     ∙ no_targets commands targets parts.1
 
-pub no_steps : (lines : List Asked) → names_input lines ≡ false → list_any reads_input (all_steps lines) ≡ false
+pub no_steps : (lines : List Requested) → names_input lines ≡ false → list_any reads_input (all_steps lines) ≡ false
 no_steps [] none = refl
 no_steps (line ∷ lines) none =
     let parts = either_not (list_any is_of_input line.targets) (names_input lines) none in
-    list_any-append reads_input (steps_asked line) (all_steps lines)
+    list_any-append reads_input (steps_requested line) (all_steps lines)
     ∙ ap (λ (b : Bool). b || list_any reads_input (all_steps lines)) (no_targets line.commands line.targets parts.0)
     ∙ no_steps lines parts.1
 
@@ -97,23 +97,23 @@ done_unread world known step before lines after not_input does = record {
   answer = does.answer;
   uses = used_unread world known step before.used does.place does.opening does.used not_input does.uses;
   answers = does.answers;
-  told = does.told;
+  reported = does.reported;
 }
 
 run_unread : (world : World) (known : Option Bytes) (keep_going : Bool) (steps : List RunStep) (before : Progress) (lines : List Bytes) (after : Progress)
     → list_any reads_input steps ≡ false → RunsSteps (with_known world known) keep_going steps before lines after → RunsSteps world keep_going steps before lines after
 run_unread world known keep_going [] before lines after none runs = runs
 run_unread world known keep_going (step ∷ steps) before lines after none (inl over) = inl over
-run_unread world known keep_going (step ∷ steps) before lines after none (inr (on, (mid, first, rest, does, runs, told))) =
+run_unread world known keep_going (step ∷ steps) before lines after none (inr (on, (mid, first, rest, does, runs, reported))) =
     let parts = either_not (reads_input step) (list_any reads_input steps) none in
-    inr (on, (mid, first, rest, done_unread world known step before first mid parts.0 does, run_unread world known keep_going steps mid rest after parts.1 runs, told))
+    inr (on, (mid, first, rest, done_unread world known step before first mid parts.0 does, run_unread world known keep_going steps mid rest after parts.1 runs, reported))
 
 pub performed_unread : (options : Options) (steps : List RunStep) (world : World) (known : Option Bytes) (left : Left) → list_any reads_input steps ≡ false
     → Performs options steps (record world { known = known }) left → Performs options steps world left
 performed_unread options steps world known left none performs = record {
-  told = performs.told;
+  reported = performs.reported;
   state = performs.state;
-  runs = run_unread world known options.keep_going steps nothing_done performs.told performs.state none performs.runs;
+  runs = run_unread world known options.keep_going steps nothing_done performs.reported performs.state none performs.runs;
   output = performs.output;
   writes = performs.writes;
   lines = performs.lines;
@@ -125,16 +125,16 @@ performed_unread options steps world known left none performs = record {
 pub same_performed : OneReading → (words : List Bytes) (bytes : Bytes) (options : Options) (steps : List RunStep) (world : World) (left other : Left)
     → world.known ≡ Some bytes → Performs options steps world left → Performs options steps world other → SameLeft words world left other
 same_performed one words bytes options steps world left other known performs performs' =
-    let same = same_run one words world bytes options.keep_going steps nothing_done performs.told performs'.told performs.state performs'.state known performs.runs performs'.runs in
+    let same = same_run one words world bytes options.keep_going steps nothing_done performs.reported performs'.reported performs.state performs'.state known performs.runs performs'.runs in
     let files = all_writings options.to_stdout performs.state.used in
     let files_same : all_writings options.to_stdout performs'.state.used ≡ files = ap (λ (s : Progress). all_writings options.to_stdout s.used) (sym same.1) in
     let writes : WritesFiles files world.folder other.folder = subst (λ (fs : List Writing). WritesFiles fs world.folder other.folder) files_same performs'.writes in
-    let lines : other.lines ≡ performs'.told ++ fixed_lines options.quiet files = performs'.lines ∙ ap (λ (fs : List Writing). performs'.told ++ fixed_lines options.quiet fs) files_same in
+    let lines : other.lines ≡ performs'.reported ++ fixed_lines options.quiet files = performs'.lines ∙ ap (λ (fs : List Writing). performs'.reported ++ fixed_lines options.quiet fs) files_same in
     record {
       output = performs.output ∙ ap (λ (s : Progress). s.printed ++ texts_out (shows_input steps) options.to_stdout s.used) same.1 ∙ sym performs'.output;
       status = performs.status ∙ ap status_of same.1 ∙ sym performs'.status;
-      lines = same_as words world left.lines other.lines (performs.told ++ fixed_lines options.quiet files) (performs'.told ++ fixed_lines options.quiet files) performs.lines lines
-          (same_append words world performs.told performs'.told (fixed_lines options.quiet files) (fixed_lines options.quiet files) same.0
+      lines = same_as words world left.lines other.lines (performs.reported ++ fixed_lines options.quiet files) (performs'.reported ++ fixed_lines options.quiet files) performs.lines lines
+          (same_append words world performs.reported performs'.reported (fixed_lines options.quiet files) (fixed_lines options.quiet files) same.0
           (same_lines words world (fixed_lines options.quiet files) (fixed_lines options.quiet files) refl));
       folder = λ name open_is. same_writes files world.folder world.folder left.folder other.folder (λ name aside. refl) performs.writes writes name
           (λ aside. open_is (inl aside));

@@ -19,8 +19,8 @@ same_as words world lines others these those is other_is same =
 
 pub same_append : (words : List Bytes) (world : World) (first others rest more : List Bytes) → SameLines words world first others
     → SameLines words world rest more → SameLines words world (first ++ rest) (others ++ more)
-same_append words world [] [] rest more same behind = behind
-same_append words world [] (other ∷ others) rest more same behind = absurd same
-same_append words world (line ∷ first) [] rest more same behind = absurd same
-same_append words world (line ∷ first) (other ∷ others) rest more same behind =
-    (same.0, same_append words world first others rest more same.1 behind)
+same_append words world [] [] rest more same following = following
+same_append words world [] (other ∷ others) rest more same following = absurd same
+same_append words world (line ∷ first) [] rest more same following = absurd same
+same_append words world (line ∷ first) (other ∷ others) rest more same following =
+    (same.0, same_append words world first others rest more same.1 following)

@@ -3,13 +3,13 @@ use Rattle.std.proofs.Common.{◌≡◌, inl, inr, ℕ, List, [], ◌∷◌, ◌
 use Rattle.bz_tree.specs.Laws.{OneReading}
 use Rattle.bz_items.specs.Characters.{Bytes}
 use Rattle.bz_ports.specs.Ports.{IsInput}
-use Rattle.bz_ports.specs.Told.{stdin, fault_line}
+use Rattle.bz_ports.specs.Reported.{stdin, fault_line}
 use Rattle.bz_workspace.specs.Sessions.{History, Answer}
 use Rattle.bz_workspace.specs.Found.{PackagesFound}
 use Rattle.bz_workspace.specs.Opens.{Opens, Takes}
 use Rattle.bz_workspace.specs.Packages.{Opened, Used, file_at, package_number}
 use Rattle.bz_engine.specs.Exact.{SameLines}
-use Rattle.bz_engine.specs.Run.{World, Progress, Finds, Uses, Answers, Does, RunsSteps, answered, told_of}
+use Rattle.bz_engine.specs.Run.{World, Progress, Finds, Uses, Answers, Does, RunsSteps, answered, reported_of}
 use Rattle.bz_engine.specs.Steps.{RunStep, action_of}
 use Rattle.bz_engine.proofs.ExactActions.{one_answer}
 use Rattle.bz_engine.proofs.ExactLines.{same_lines, same_as, same_append}
@@ -41,9 +41,9 @@ same_taken words world current name text file file' lines lines' found (inl (acc
     (is ∙ sym is', same_lines words world lines lines' (none ∙ sym none'))
 same_taken words world current name text file file' lines lines' found (inl (accepted, is, none)) (inr (refused, faults)) = absurd (refused accepted)
 same_taken words world current name text file file' lines lines' found (inr (refused, faults)) (inl (accepted, is, none)) = absurd (refused accepted)
-same_taken words world current name text file file' lines lines' found (inr (refused, (fault, one, is, told))) (inr (refused', (fault', two, is', told'))) = (
+same_taken words world current name text file file' lines lines' found (inr (refused, (fault, one, is, reported))) (inr (refused', (fault', two, is', reported'))) = (
   is ∙ sym is',
-  same_as words world lines lines' (fault_line name fault ∷ []) (fault_line name fault' ∷ []) told told' (
+  same_as words world lines lines' (fault_line name fault ∷ []) (fault_line name fault' ∷ []) reported reported' (
     inr (inl (record {
       current = current;
       name = name;
@@ -54,8 +54,8 @@ same_taken words world current name text file file' lines lines' found (inr (ref
       refused = refused;
       one = one;
       two = two;
-      told = refl;
-      told_other = refl;
+      reported = refl;
+      reported_other = refl;
     })),
     tt,
   ),
@@ -94,9 +94,9 @@ same_used words world bytes current before place place' lines lines' after after
 one_answered : OneReading → (step : RunStep) (place : ℕ) (file : Option Opened) (state : Progress) (lines lines' : List Bytes) (after after' : Progress)
     → Answers step place file state lines after → Answers step place file state lines' after' → (lines ≡ lines') × (after ≡ after')
 one_answered one step place None state lines lines' after after' is is' = (is.0 ∙ sym is'.0, is.1 ∙ sym is'.1)
-one_answered one step place (Some file) state lines lines' after after' (answer, history, leads, told, is) (answer', history', leads', told', is') =
-    let same = one_answer one (action_of step.target step.asking.verb) step.asking.text file.history answer answer' history history' leads leads' in (
-      told ∙ ap (told_of file.name step.asking.text) same.0 ∙ sym told',
+one_answered one step place (Some file) state lines lines' after after' (answer, history, leads, reported, is) (answer', history', leads', reported', is') =
+    let same = one_answer one (action_of step.target step.request.verb) step.request.text file.history answer answer' history history' leads leads' in (
+      reported ∙ ap (reported_of file.name step.request.text) same.0 ∙ sym reported',
       is ∙ ap (λ (it : Answer). answered place file it history state) same.0 ∙ ap (λ (it : History). answered place file answer' it state) same.1 ∙ sym is',
     )
 
@@ -109,7 +109,7 @@ same_done one words world bytes step before lines lines' after after' known does
     let here : Answers step does.place (file_at does.place does.used) (record before { used = does.used }) does'.answer after' =
     subst (λ (u : List Used). Answers step does.place (file_at does.place u) (record before { used = u }) does'.answer after') (sym uses.2) at_place in
     let same = one_answered one step does.place (file_at does.place does.used) (record before { used = does.used }) does.answer does'.answer after after' does.answers here in (
-      same_as words world lines lines' (does.opening ++ does.answer) (does'.opening ++ does'.answer) does.told does'.told
+      same_as words world lines lines' (does.opening ++ does.answer) (does'.opening ++ does'.answer) does.reported does'.reported
           (same_append words world does.opening does'.opening does.answer does'.answer uses.1 (same_lines words world does.answer does'.answer same.0)),
       same.1,
     )
@@ -125,10 +125,10 @@ same_run one words world bytes keep_going (step ∷ steps) before lines lines' a
     absurd (true≢false (sym over ∙ on))
 same_run one words world bytes keep_going (step ∷ steps) before lines lines' after after' known (inr (on, runs)) (inl (over, none, is)) =
     absurd (true≢false (sym over ∙ on))
-same_run one words world bytes keep_going (step ∷ steps) before lines lines' after after' known (inr (on, (mid, first, rest, does, runs, told))) (inr (on', (mid', first', rest', does', runs', told'))) =
+same_run one words world bytes keep_going (step ∷ steps) before lines lines' after after' known (inr (on, (mid, first, rest, does, runs, reported))) (inr (on', (mid', first', rest', does', runs', reported'))) =
     let done = same_done one words world bytes step before first first' mid mid' known does does' in
     let here : RunsSteps world keep_going steps mid rest' after' = subst (λ (it : Progress). RunsSteps world keep_going steps it rest' after') (sym done.1) runs' in
     let same = same_run one words world bytes keep_going steps mid rest rest' after after' known runs here in (
-      same_as words world lines lines' (first ++ rest) (first' ++ rest') told told' (same_append words world first first' rest rest' done.0 same.0),
+      same_as words world lines lines' (first ++ rest) (first' ++ rest') reported reported' (same_append words world first first' rest rest' done.0 same.0),
       same.1,
     )

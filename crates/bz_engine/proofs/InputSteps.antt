@@ -4,12 +4,12 @@ use Rattle.std.specs.List.{All, flat_map}
 use Rattle.std.proofs.lemmas.List.Elements.{All-head, All-tail}
 use Rattle.bz_items.specs.Characters.{Bytes}
 use Rattle.bz_label.specs.declared.target.Target.{Target}
-use Rattle.bz_line.specs.Asked.{Asked, Asking}
+use Rattle.bz_line.specs.Requested.{Requested, Request}
 use Rattle.bz_workspace.specs.Packages.{Opened, Used, with_opened, file_at}
 use Rattle.bz_engine.specs.Ending.{Writing, file_writing, all_writings}
 use Rattle.bz_engine.specs.Outcome.{AreOfInput}
 use Rattle.bz_engine.specs.Run.{World, Progress, nothing_done, Uses, Answers, Does, RunsSteps}
-use Rattle.bz_engine.specs.Steps.{RunStep, step_of, steps_asked, all_steps, input_package}
+use Rattle.bz_engine.specs.Steps.{RunStep, step_of, steps_requested, all_steps, input_package}
 
 -- each of these packages is that of standard input
 abbrev pub AreInput : List Used → Type 0
@@ -53,8 +53,8 @@ used_on world current before place lines after is (inr (absent, number, (found, 
 
 answers_on : (step : RunStep) (place : ℕ) (file : Option Opened) (state : Progress) (lines : List Bytes) (after : Progress) → Answers step place file state lines after
     → AreInput state.used → AreInput after.used
-answers_on step place None state lines after (told, is) are = subst (λ (now : Progress). AreInput now.used) (sym is) are
-answers_on step place (Some file) state lines after (answer, history, leads, told, is) are =
+answers_on step place None state lines after (reported, is) are = subst (λ (now : Progress). AreInput now.used) (sym is) are
+answers_on step place (Some file) state lines after (answer, history, leads, reported, is) are =
     subst (λ (now : Progress). AreInput now.used) (sym is) (kept place _ state.used are)
 
 does_on : (world : World) (step : RunStep) (before : Progress) (lines : List Bytes) (after : Progress) → step.target.«package» ≡ input_package
@@ -65,9 +65,9 @@ does_on world step before lines after is does are =
 
 runs_on : (world : World) (keep_going : Bool) (steps : List RunStep) (before : Progress) (lines : List Bytes) (after : Progress) → AreStepsOfInput steps
     → RunsSteps world keep_going steps before lines after → AreInput before.used → AreInput after.used
-runs_on world keep_going [] before lines after of_input (told, is) are = subst (λ (now : Progress). AreInput now.used) (sym is) are
-runs_on world keep_going (step ∷ steps) before lines after of_input (inl (ended, told, is)) are = subst (λ (now : Progress). AreInput now.used) (sym is) are
-runs_on world keep_going (step ∷ steps) before lines after of_input (inr (goes, (mid, first, rest, does, runs, told))) are =
+runs_on world keep_going [] before lines after of_input (reported, is) are = subst (λ (now : Progress). AreInput now.used) (sym is) are
+runs_on world keep_going (step ∷ steps) before lines after of_input (inl (ended, reported, is)) are = subst (λ (now : Progress). AreInput now.used) (sym is) are
+runs_on world keep_going (step ∷ steps) before lines after of_input (inr (goes, (mid, first, rest, does, runs, reported))) are =
     runs_on world keep_going steps mid rest after of_input.1 runs (does_on world step before first mid of_input.0 does are)
 
 -- ---- the steps of lines
@@ -76,25 +76,25 @@ appended : (first more : List RunStep) → AreStepsOfInput first → AreStepsOfI
 appended [] more are others = others
 appended (step ∷ first) more are others = (are.0, appended first more are.1 others)
 
-on_target : (target : Target) (commands : List Asking) → target.«package» ≡ input_package → AreStepsOfInput (map (step_of target) commands)
+on_target : (target : Target) (commands : List Request) → target.«package» ≡ input_package → AreStepsOfInput (map (step_of target) commands)
 on_target target [] is = tt
-on_target target (asking ∷ commands) is = (is, on_target target commands is)
+on_target target (request ∷ commands) is = (is, on_target target commands is)
 
-on_targets : (commands : List Asking) (targets : List Target) → All (λ target. target.«package» ≡ input_package) targets
+on_targets : (commands : List Request) (targets : List Target) → All (λ target. target.«package» ≡ input_package) targets
     → AreStepsOfInput (flat_map (λ target. map (step_of target) commands) targets)
 on_targets commands [] all = tt
 on_targets commands (target ∷ targets) all =
     appended (map (step_of target) commands) _ (on_target target commands (All-head (λ (other : Target). other.«package» ≡ input_package) target targets all))
     (on_targets commands targets (All-tail (λ (other : Target). other.«package» ≡ input_package) target targets all))
 
-pub on_lines : (lines : List Asked) → AreOfInput lines → AreStepsOfInput (all_steps lines)
+pub on_lines : (lines : List Requested) → AreOfInput lines → AreStepsOfInput (all_steps lines)
 on_lines [] all = tt
 on_lines (line ∷ lines) all =
-    appended (steps_asked line) (all_steps lines) (on_targets line.commands line.targets (All-head (λ (asked : Asked). All (λ target. target.«package» ≡ input_package) asked.targets) line lines all))
-    (on_lines lines (All-tail (λ (asked : Asked). All (λ target. target.«package» ≡ input_package) asked.targets) line lines all))
+    appended (steps_requested line) (all_steps lines) (on_targets line.commands line.targets (All-head (λ (requested : Requested). All (λ target. target.«package» ≡ input_package) requested.targets) line lines all))
+    (on_lines lines (All-tail (λ (requested : Requested). All (λ target. target.«package» ≡ input_package) requested.targets) line lines all))
 
 -- Lines on rules of standard input alone write no file.
-pub nothing_written : (to_stdout : Bool) (world : World) (keep_going : Bool) (lines : List Asked) (told : List Bytes) (state : Progress) → AreOfInput lines
-    → RunsSteps world keep_going (all_steps lines) nothing_done told state → all_writings to_stdout state.used ≡ []
-nothing_written to_stdout world keep_going lines told state are runs =
-    no_writings to_stdout state.used (runs_on world keep_going (all_steps lines) nothing_done told state (on_lines lines are) runs tt)
+pub nothing_written : (to_stdout : Bool) (world : World) (keep_going : Bool) (lines : List Requested) (reported : List Bytes) (state : Progress) → AreOfInput lines
+    → RunsSteps world keep_going (all_steps lines) nothing_done reported state → all_writings to_stdout state.used ≡ []
+nothing_written to_stdout world keep_going lines reported state are runs =
+    no_writings to_stdout state.used (runs_on world keep_going (all_steps lines) nothing_done reported state (on_lines lines are) runs tt)

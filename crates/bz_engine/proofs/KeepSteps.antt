@@ -17,7 +17,7 @@ use Rattle.bz_files.specs.declared.files.Files.{Ghosts as FilesOf}
 use Rattle.bz_ports.specs.Exits.{first_cut}
 use Rattle.bz_ports.proofs.Outputs.{counts_more}
 use Rattle.bz_engine.specs.Calls.{WorksOn}
-use Rattle.bz_engine.specs.Keeping.{FolderBehind, state_behind}
+use Rattle.bz_engine.specs.Keeping.{FolderAfter, state_after}
 use Rattle.bz_engine.specs.Run.{Progress, printed_in}
 use Rattle.bz_engine.proofs.ActSteps.{still_open}
 use Rattle.bz_engine.proofs.CutSteps.{files_cut}
@@ -35,10 +35,10 @@ same_package answer h after (inl same) = ap (λ (it : History). it.«package») 
 same_package answer h after (inr follows) = follows.1
 
 -- Where another text is the present one the history is kept, else nothing changes.
-pub kept_behind : {F : Type 0} (files : FilesOf F) (file : Opened) (history : History) (reply : Reply) (old new : F) → files.honest old ≡ true
+pub kept_after : {F : Type 0} (files : FilesOf F) (file : Opened) (history : History) (reply : Reply) (old new : F) → files.honest old ≡ true
     → Holds (files.folder old) file.name file.history.«package» (present file.history) file.history.texts → Follows (Ok reply) file.history history
-    → KeepsFile files file.name file.history history (Ok reply) old new → FolderBehind (Ok reply) file history (files.folder old) (files.folder new)
-kept_behind files file history reply old new honest holds follows pair = elim (eqb_tells history.cursor file.history.cursor) [
+    → KeepsFile files file.name file.history history (Ok reply) old new → FolderAfter (Ok reply) file history (files.folder old) (files.folder new)
+kept_after files file history reply old new honest holds follows pair = elim (eqb_tells history.cursor file.history.cursor) [
   | inl same ↦ inl (same.1, ap files.folder (pair.still same.1))
   | inr other ↦
       let done = pair.kept honest (present file.history, holds) other.1 in inr (
@@ -69,7 +69,7 @@ changed_of cut fault (inr (inr files)) is = absurd (let e = sym files.0 ∙ is i
 
 pub was_kept : (place : ℕ) (file : Opened) (reply : Reply) (history : History) (before after : Progress) (used : List Used) (printed : Bytes)
     → after ≡ record before { used = used; printed = printed } → used ≡ with_opened place (Some (after_keeping (Ok reply) history file)) before.used
-    → printed ≡ before.printed ++ printed_in reply → after ≡ state_behind place file (Ok reply) history before
+    → printed ≡ before.printed ++ printed_in reply → after ≡ state_after place file (Ok reply) history before
 was_kept place file reply history before after used printed is put said =
     is ∙ ap (λ (u : List Used). record { used = u; printed = printed; failed = before.failed }) put
     ∙ ap (λ (text : Bytes). record { used = with_opened place (Some (after_keeping (Ok reply) history file)) before.used; printed = text; failed = before.failed }) said

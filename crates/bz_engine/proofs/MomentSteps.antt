@@ -5,7 +5,7 @@ use Rattle.bz_items.specs.Characters.{Bytes}
 use Rattle.bz_files.specs.Folder.{Folder}
 use Rattle.bz_files.specs.declared.files.Files.{Ghosts as FilesOf}
 use Rattle.bz_files.proofs.Elapsing.{each_since, elapsed_on, weakened}
-use Rattle.bz_line.specs.Asked.{Asked, operand_group}
+use Rattle.bz_line.specs.Requested.{Requested, operand_group}
 use Rattle.bz_line.specs.Line.{CommandLine, Given, LineUsage, operands, script, command_line_of}
 use Rattle.bz_line.specs.Script.{script_of}
 use Rattle.bz_workspace.specs.Keeps.{KeepsFolder}
@@ -21,28 +21,28 @@ unused_yet folder = record { files = λ place file then here there. absurd (let 
 
 -- a folder at a moment of what a text of lines requests, in a run that began with one
 abbrev pub IsMomentOfText : Folder → Bytes → Folder → Type 0
-IsMomentOfText folder text now = (lines : List Asked) × (script_of text ≡ Ok lines) × IsMomentOfSteps folder (all_steps lines) [] now
+IsMomentOfText folder text now = (lines : List Requested) × (script_of text ≡ Ok lines) × IsMomentOfSteps folder (all_steps lines) [] now
 
 module _ {F : Type 0} (files : FilesOf F) (old new : F) where
-  pub by_operands : (known : Option Bytes) (texts : List Bytes) (asked : Asked) (lines : List Asked) → operand_group texts ≡ Ok asked → lines ≡ asked ∷ []
+  pub by_operands : (known : Option Bytes) (texts : List Bytes) (requested : Requested) (lines : List Requested) → operand_group texts ≡ Ok requested → lines ≡ requested ∷ []
       → PassesBy files (IsMomentOfSteps (files.folder old) (all_steps lines) []) old new
       → PassesBy files (IsMomentOfRun (record { folder = files.folder old; known = known }) (operands texts)) old new
-  by_operands known texts asked lines is same =
+  by_operands known texts requested lines is same =
       weakened (files.moment old) (files.moment new) (files.since old) (files.since new) (IsMomentOfSteps (files.folder old) (all_steps lines) [])
       (IsMomentOfRun (record { folder = files.folder old; known = known }) (operands texts)) (λ now moment. inr (
-        asked ∷ [],
-        (asked, is, refl),
-        subst (λ (these : List Asked). IsMomentOfSteps (files.folder old) (all_steps these) [] now) same moment,
+        requested ∷ [],
+        (requested, is, refl),
+        subst (λ (these : List Requested). IsMomentOfSteps (files.folder old) (all_steps these) [] now) same moment,
       ))
 
-  pub by_text : (text text' : Bytes) (lines lines' : List Asked) → text' ≡ text → script_of text' ≡ Ok lines → lines' ≡ lines
+  pub by_text : (text text' : Bytes) (lines lines' : List Requested) → text' ≡ text → script_of text' ≡ Ok lines → lines' ≡ lines
       → PassesBy files (IsMomentOfSteps (files.folder old) (all_steps lines') []) old new → PassesBy files (IsMomentOfText (files.folder old) text) old new
   by_text text text' lines lines' same is these =
       weakened (files.moment old) (files.moment new) (files.since old) (files.since new) (IsMomentOfSteps (files.folder old) (all_steps lines') [])
       (IsMomentOfText (files.folder old) text) (λ now moment. (
         lines,
         subst (λ (it : Bytes). script_of it ≡ Ok lines) same is,
-        subst (λ (it : List Asked). IsMomentOfSteps (files.folder old) (all_steps it) [] now) these moment,
+        subst (λ (it : List Requested). IsMomentOfSteps (files.folder old) (all_steps it) [] now) these moment,
       ))
 
   -- a file of lines that was not read

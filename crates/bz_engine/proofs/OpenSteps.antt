@@ -5,7 +5,7 @@ use Rattle.std.specs.Option.{option_map}
 use Rattle.std.proofs.lemmas.Slice.Eq.{bytes_eq-Decides}
 use Rattle.bz_tree.specs.Spell.{limit}
 use Rattle.bz_items.specs.Characters.{Bytes}
-use Rattle.bz_ports.specs.Told.{stdin}
+use Rattle.bz_ports.specs.Reported.{stdin}
 use Rattle.bz_workspace.specs.Found.{found_in}
 use Rattle.bz_files.specs.Folder.{Folder}
 use Rattle.bz_workspace.specs.Journals.{Adds, IsOpenedIn}
@@ -73,26 +73,26 @@ found_here : (b : Bool) (found : Option ℕ) → b ≡ true → (if b then Some 
 found_here true found is none = let e = none in cc
 found_here false found is none = true≢false (sym is)
 
-found_behind : (b : Bool) (found : Option ℕ) → (found ≡ None → ⊥) → (if b then Some 0 else option_map (λ place. place + 1) found) ≡ None → ⊥
-found_behind true found some none = let e = none in cc
-found_behind false (Some place) some none = let e = none in cc
-found_behind false None some none = some refl
+found_after : (b : Bool) (found : Option ℕ) → (found ≡ None → ⊥) → (if b then Some 0 else option_map (λ place. place + 1) found) ≡ None → ⊥
+found_after true found some none = let e = none in cc
+found_after false (Some place) some none = let e = none in cc
+found_after false None some none = some refl
 
 pub last_is_used : (current : Bytes) (used : List Used) (one : Used) → one.package ≡ current → package_number current (used ++ one ∷ []) ≡ None → ⊥
 last_is_used current [] one is none = found_here (bytes_eq one.package current) None ((bytes_eq-Decides one.package current).1 is) none
 last_is_used current (first ∷ more) one is none =
-    found_behind (bytes_eq first.package current) (package_number current (more ++ one ∷ [])) (last_is_used current more one is) none
+    found_after (bytes_eq first.package current) (package_number current (more ++ one ∷ [])) (last_is_used current more one is) none
 
 -- ---- what is left of standard input
 
-pub left_behind_input : (known remaining : Option Bytes) (used new : List Used) (one : Used) → one.package ≡ input_package → new ≡ used ++ one ∷ []
+pub left_after_input : (known remaining : Option Bytes) (used new : List Used) (one : Used) → one.package ≡ input_package → new ≡ used ++ one ∷ []
     → IsLeft known new remaining
-left_behind_input known remaining used new one is added = λ none.
+left_after_input known remaining used new one is added = λ none.
     absurd (last_is_used input_package used one is (subst (λ (all : List Used). package_number input_package all ≡ None) added none))
 
-pub left_behind : (known remaining : Option Bytes) (used new : List Used) (one : Used) → new ≡ used ++ one ∷ [] → IsLeft known used remaining
+pub left_after_use : (known remaining : Option Bytes) (used new : List Used) (one : Used) → new ≡ used ++ one ∷ [] → IsLeft known used remaining
     → IsLeft known new remaining
-left_behind known remaining used new one added left = λ none.
+left_after_use known remaining used new one added left = λ none.
     left (unused_before input_package used one (subst (λ (all : List Used). package_number input_package all ≡ None) added none))
 
 -- an action changes no package

@@ -9,47 +9,47 @@ use Rattle.bz_lex.specs.declared.fault.ReadFault.TheVariants.{NotUtf8}
 use Rattle.bz_items.specs.Characters.{Bytes}
 use Rattle.bz_files.specs.Folder.{Folder}
 use Rattle.bz_label.specs.declared.target.Target.{Target}
-use Rattle.bz_line.specs.Asked.{Asked, Asking, Refused, Usage, accepted, asked_of, complete, operand_group}
+use Rattle.bz_line.specs.Requested.{Requested, Request, Refused, Usage, accepted, requested_of, complete, operand_group}
 use Rattle.bz_line.specs.Line.{Given, script, CommandLine, LineUsage, command_line_of}
 use Rattle.bz_line.specs.Refused.{IsGroupFault, IsScriptFault}
 use Rattle.bz_line.specs.Script.{script_of}
 use Rattle.bz_line.specs.declared.line.Options.{Options}
 use Rattle.bz_ports.specs.Faults.{AppendsUnlessFailed}
-use Rattle.bz_ports.specs.Outputs.{Tells}
-use Rattle.bz_ports.specs.Told.{named_line, fault_line}
+use Rattle.bz_ports.specs.Outputs.{Reports}
+use Rattle.bz_ports.specs.Reported.{named_line, fault_line}
 use Rattle.bz_ports.proofs.Outputs.{appends_nothing}
 use Rattle.bz_engine.specs.Ending.{Left, LeftStands}
-use Rattle.bz_engine.specs.Outcome.{unused, LinesLeave, AreOfInput, AreOfInputAndSome, IsOfInput, NamesNoFile, KeepsJournals, IsScript, told_name, OperandsOutcome, LinesOutcome, TextOutcome, ScriptOutcome, GivenOutcome, LineOutcome, WordsOutcome}
+use Rattle.bz_engine.specs.Outcome.{unused, LinesLeave, AreOfInput, AreOfInputAndSome, IsOfInput, NamesNoFile, KeepsJournals, IsScript, reported_name, OperandsOutcome, LinesOutcome, TextOutcome, ScriptOutcome, GivenOutcome, LineOutcome, WordsOutcome}
 use Rattle.bz_engine.specs.Run.{World}
 use Rattle.bz_ports.specs.Ports.{IsInput}
 use Rattle.bz_engine.specs.Steps.{is_of_input, names_input, input_package}
-use Rattle.bz_engine.specs.Told.{IsUsageLine, IsLineUsageLine, input_line}
+use Rattle.bz_engine.specs.Reported.{IsUsageLine, IsLineUsageLine, input_line}
 
 -- ---- lines on standard error
 
-pub told_once : (f g : ℕ) (old new : Option Bytes) (line : Bytes) → AppendsUnlessFailed f g old new line → Tells f g old new (line ∷ [])
-told_once f g old new line told = (g, new, told, (refl, refl))
+pub reported_once : (f g : ℕ) (old new : Option Bytes) (line : Bytes) → AppendsUnlessFailed f g old new line → Reports f g old new (line ∷ [])
+reported_once f g old new line reported = (g, new, reported, (refl, refl))
 
 -- What was reported holds for what was requested.
-pub usage_told : (found : Option Usage) (file : Bytes) (f g : ℕ) (old new : Option Bytes) → IsSome found
+pub usage_reported : (found : Option Usage) (file : Bytes) (f g : ℕ) (old new : Option Bytes) → IsSome found
     → IfSome found (λ usage. (line : Bytes) × IsUsageLine file usage line × AppendsUnlessFailed f g old new line)
-    → (usage : Usage) × (line : Bytes) × (found ≡ Some usage) × IsUsageLine file usage line × Tells f g old new (line ∷ [])
-usage_told None file f g old new is holds = absurd (true≢false (sym is))
-usage_told (Some usage) file f g old new is holds = (usage, holds.0, refl, holds.1, told_once f g old new holds.0 holds.2)
+    → (usage : Usage) × (line : Bytes) × (found ≡ Some usage) × IsUsageLine file usage line × Reports f g old new (line ∷ [])
+usage_reported None file f g old new is holds = absurd (true≢false (sym is))
+usage_reported (Some usage) file f g old new is holds = (usage, holds.0, refl, holds.1, reported_once f g old new holds.0 holds.2)
 
-pub line_usage_told : (found : Option LineUsage) (f g : ℕ) (old new : Option Bytes) → IsSome found
+pub line_usage_reported : (found : Option LineUsage) (f g : ℕ) (old new : Option Bytes) → IsSome found
     → IfSome found (λ usage. (line : Bytes) × IsLineUsageLine usage line × AppendsUnlessFailed f g old new line)
-    → (usage : LineUsage) × (line : Bytes) × (found ≡ Some usage) × IsLineUsageLine usage line × Tells f g old new (line ∷ [])
-line_usage_told None f g old new is holds = absurd (true≢false (sym is))
-line_usage_told (Some usage) f g old new is holds = (usage, holds.0, refl, holds.1, told_once f g old new holds.0 holds.2)
+    → (usage : LineUsage) × (line : Bytes) × (found ≡ Some usage) × IsLineUsageLine usage line × Reports f g old new (line ∷ [])
+line_usage_reported None f g old new is holds = absurd (true≢false (sym is))
+line_usage_reported (Some usage) f g old new is holds = (usage, holds.0, refl, holds.1, reported_once f g old new holds.0 holds.2)
 
 pub at_some : {A : Type 0} (P : A → Type 0) (found : Option A) (x : A) → found ≡ Some x → IfSome found P → P x
 at_some P found x is holds = subst (λ it. IfSome it P) is holds
 
 -- Nothing was done, and one line printed.
 pub stands_unused : (folder folder' : Folder) (line : Bytes) (status : ℕ) (out : Option Bytes) (f g : ℕ) (old new : Option Bytes) → folder' ≡ folder
-    → status ≡ 1 → Tells f g old new (line ∷ []) → LeftStands (unused folder line) status folder' out out f g old new
-stands_unused folder folder' line status out f g old new same exit told = record { exit = exit; files = same; output = appends_nothing out; lines = told }
+    → status ≡ 1 → Reports f g old new (line ∷ []) → LeftStands (unused folder line) status folder' out out f g old new
+stands_unused folder folder' line status out f g old new same exit reported = record { exit = exit; files = same; output = appends_nothing out; lines = reported }
 
 -- ---- the bytes of standard input
 
@@ -67,37 +67,37 @@ apart name differs same = true≢false (ap (λ (it : Bytes). bytes_eq it input_p
 
 pub operands_refused : (options : Options) (texts : List Bytes) (world : World) (found : Option Usage) (usage : Usage) (line : Bytes) (status : ℕ)
     (out : Option Bytes) (f g : ℕ) (old new : Option Bytes) → IfSome found (IsGroupFault texts) → found ≡ Some usage → IsUsageLine [] usage line
-    → status ≡ 1 → Tells f g old new (line ∷ []) → (left : Left) × OperandsOutcome options texts world left × LeftStands left status world.folder out out f g old new
-operands_refused options texts world found usage line status out f g old new fault is told exit tells = (
+    → status ≡ 1 → Reports f g old new (line ∷ []) → (left : Left) × OperandsOutcome options texts world left × LeftStands left status world.folder out out f g old new
+operands_refused options texts world found usage line status out f g old new fault is reported exit reports = (
   unused world.folder line,
-  inl (usage, line, at_some (IsGroupFault texts) found usage is fault, told, refl),
-  stands_unused world.folder world.folder line status out f g old new refl exit tells,
+  inl (usage, line, at_some (IsGroupFault texts) found usage is fault, reported, refl),
+  stands_unused world.folder world.folder line status out f g old new refl exit reports,
 )
 
-pub operands_done : (options : Options) (texts : List Bytes) (world : World) (asked : Asked) (lines : List Asked) (left : Left) → operand_group texts ≡ Ok asked
-    → lines ≡ asked ∷ [] → LinesLeave options lines world left → OperandsOutcome options texts world left
-operands_done options texts world asked lines left is same leave =
-    inr (asked, is, subst (λ (these : List Asked). LinesLeave options these world left) same leave)
+pub operands_done : (options : Options) (texts : List Bytes) (world : World) (requested : Requested) (lines : List Requested) (left : Left) → operand_group texts ≡ Ok requested
+    → lines ≡ requested ∷ [] → LinesLeave options lines world left → OperandsOutcome options texts world left
+operands_done options texts world requested lines left is same leave =
+    inr (requested, is, subst (λ (these : List Requested). LinesLeave options these world left) same leave)
 
-pub operands_of_input : (texts : List Bytes) (asked : Asked) (lines : List Asked) → operand_group texts ≡ Ok asked → lines ≡ asked ∷ []
-    → IfOk (operand_group texts) (λ asked. AreOfInput (asked ∷ [])) → AreOfInput lines
-operands_of_input texts asked lines is same are =
-    subst AreOfInput (sym same) (subst (λ (it : Result Asked Usage). IfOk it (λ asked. AreOfInput (asked ∷ []))) is are)
+pub operands_of_input : (texts : List Bytes) (requested : Requested) (lines : List Requested) → operand_group texts ≡ Ok requested → lines ≡ requested ∷ []
+    → IfOk (operand_group texts) (λ requested. AreOfInput (requested ∷ [])) → AreOfInput lines
+operands_of_input texts requested lines is same are =
+    subst AreOfInput (sym same) (subst (λ (it : Result Requested Usage). IfOk it (λ requested. AreOfInput (requested ∷ []))) is are)
 
 -- Operands that request something have a target.
-has_target : (commands : List Asking) (targets : List Target) (asked : Asked) → complete commands targets ≡ Ok asked
-    → (target : Target) × (more : List Target) × (asked.targets ≡ target ∷ more)
-has_target [] targets asked is = absurd (let e = is in cc)
-has_target (command ∷ commands) [] asked is = absurd (let e = is in cc)
-has_target (command ∷ commands) (target ∷ targets) asked is =
-    (target, targets, ap (λ (a : Asked). a.targets) (one_asked asked (record { commands = command ∷ commands; targets = target ∷ targets }) (sym is)))
+has_target : (commands : List Request) (targets : List Target) (requested : Requested) → complete commands targets ≡ Ok requested
+    → (target : Target) × (more : List Target) × (requested.targets ≡ target ∷ more)
+has_target [] targets requested is = absurd (let e = is in cc)
+has_target (command ∷ commands) [] requested is = absurd (let e = is in cc)
+has_target (command ∷ commands) (target ∷ targets) requested is =
+    (target, targets, ap (λ (a : Requested). a.targets) (one_requested requested (record { commands = command ∷ commands; targets = target ∷ targets }) (sym is)))
   where
-    one_asked : (a b : Asked) → ◌≡◌ {A = Result Asked Usage} (Ok a) (Ok b) → a ≡ b
-    one_asked a b e = cc
+    one_requested : (a b : Requested) → ◌≡◌ {A = Result Requested Usage} (Ok a) (Ok b) → a ≡ b
+    one_requested a b e = cc
 
-group_target : (found : Result Asked Refused) (asked : Asked) → accepted found ≡ Ok asked → (target : Target) × (more : List Target) × (asked.targets ≡ target ∷ more)
-group_target (Ok whole) asked is = has_target whole.commands whole.targets asked is
-group_target (Err refused) asked is = absurd (let e = is in cc)
+group_target : (found : Result Requested Refused) (requested : Requested) → accepted found ≡ Ok requested → (target : Target) × (more : List Target) × (requested.targets ≡ target ∷ more)
+group_target (Ok whole) requested is = has_target whole.commands whole.targets requested is
+group_target (Err refused) requested is = absurd (let e = is in cc)
 
 named_first : (targets : List Target) (target : Target) (more : List Target) → targets ≡ target ∷ more → All (λ (one : Target). one.«package» ≡ input_package) targets
     → list_any is_of_input targets ≡ true
@@ -106,27 +106,27 @@ named_first targets target more is all =
     (subst (All (λ (one : Target). one.«package» ≡ input_package)) is all) in
     ap (list_any is_of_input) is ∙ ap (λ (b : Bool). b || list_any is_of_input more) ((bytes_eq-Decides target.«package» input_package).1 first)
 
-group_named : (texts : List Bytes) (asked : Asked) → operand_group texts ≡ Ok asked → AreOfInput (asked ∷ []) → names_input (asked ∷ []) ≡ true
-group_named texts asked is are =
-    let some = group_target (asked_of texts) asked is in
-    ap (λ (b : Bool). b || false) (named_first asked.targets some.0 some.1 some.2
-    (All-head (λ (line : Asked). All (λ (one : Target). one.«package» ≡ input_package) line.targets) asked [] are))
+group_named : (texts : List Bytes) (requested : Requested) → operand_group texts ≡ Ok requested → AreOfInput (requested ∷ []) → names_input (requested ∷ []) ≡ true
+group_named texts requested is are =
+    let some = group_target (requested_of texts) requested is in
+    ap (λ (b : Bool). b || false) (named_first requested.targets some.0 some.1 some.2
+    (All-head (λ (line : Requested). All (λ (one : Target). one.«package» ≡ input_package) line.targets) requested [] are))
 
-pub operands_premise : (honest : Bool) (texts : List Bytes) (asked : Asked) (lines : List Asked) → operand_group texts ≡ Ok asked → lines ≡ asked ∷ []
-    → (honest ≡ true) ⊎ IfOk (operand_group texts) (λ asked. AreOfInput (asked ∷ [])) → (honest ≡ true) ⊎ AreOfInputAndSome lines
-operands_premise honest texts asked lines is same (inl is_honest) = inl is_honest
-operands_premise honest texts asked lines is same (inr are) =
-    let all = operands_of_input texts asked lines is same are in
-    inr (all, ap names_input same ∙ group_named texts asked is (subst AreOfInput same all))
+pub operands_premise : (honest : Bool) (texts : List Bytes) (requested : Requested) (lines : List Requested) → operand_group texts ≡ Ok requested → lines ≡ requested ∷ []
+    → (honest ≡ true) ⊎ IfOk (operand_group texts) (λ requested. AreOfInput (requested ∷ [])) → (honest ≡ true) ⊎ AreOfInputAndSome lines
+operands_premise honest texts requested lines is same (inl is_honest) = inl is_honest
+operands_premise honest texts requested lines is same (inr are) =
+    let all = operands_of_input texts requested lines is same are in
+    inr (all, ap names_input same ∙ group_named texts requested is (subst AreOfInput same all))
 
 -- rules of standard input that operands name
-pub names_given : (texts : List Bytes) (asked : Asked) (lines : List Asked) → operand_group texts ≡ Ok asked → lines ≡ asked ∷ []
-    → (other : Asked) × (operand_group texts ≡ Ok other) × (names_input (other ∷ []) ≡ true) → names_input lines ≡ true
-names_given texts asked lines is same (other, found, named) =
-    let one : other ≡ asked = ok_same other asked (sym found ∙ is) in
-    ap names_input (same ∙ ap (λ (a : Asked). a ∷ []) (sym one)) ∙ named
+pub names_given : (texts : List Bytes) (requested : Requested) (lines : List Requested) → operand_group texts ≡ Ok requested → lines ≡ requested ∷ []
+    → (other : Requested) × (operand_group texts ≡ Ok other) × (names_input (other ∷ []) ≡ true) → names_input lines ≡ true
+names_given texts requested lines is same (other, found, named) =
+    let one : other ≡ requested = ok_same other requested (sym found ∙ is) in
+    ap names_input (same ∙ ap (λ (a : Requested). a ∷ []) (sym one)) ∙ named
   where
-    ok_same : (a b : Asked) → ◌≡◌ {A = Result Asked Usage} (Ok a) (Ok b) → a ≡ b
+    ok_same : (a b : Requested) → ◌≡◌ {A = Result Requested Usage} (Ok a) (Ok b) → a ≡ b
     ok_same a b e = cc
 
 -- ---- rules of standard input, which has no journal
@@ -139,48 +139,48 @@ pub both_true : (a b : Bool) → a && b ≡ true → (a ≡ true) × (b ≡ true
 both_true true b both = (refl, both)
 both_true false b both = absurd (true≢false (sym both))
 
-pub lines_premise : (honest journals : Bool) (lines : List Asked) → journals && names_input lines ≡ false → (honest ≡ true) ⊎ AreOfInputAndSome lines
+pub lines_premise : (honest journals : Bool) (lines : List Requested) → journals && names_input lines ≡ false → (honest ≡ true) ⊎ AreOfInputAndSome lines
     → (honest ≡ true) ⊎ ((journals ≡ false) × AreOfInput lines)
 lines_premise honest journals lines neither (inl is) = inl is
 lines_premise honest journals lines neither (inr named) = inr (not_both journals (names_input lines) neither named.1, named.0)
 
 -- ---- the text of a file of lines
 
-pub text_invalid : (options : Options) (name text told : Bytes) (world : World) (at at' : ℕ) (out : Option Bytes) (f g : ℕ) (old new : Option Bytes)
-    → IsValidUpTo text at → at' ≡ at → told ≡ told_name name → AppendsUnlessFailed f g old new (fault_line told (NotUtf8 at'))
+pub text_invalid : (options : Options) (name text reported : Bytes) (world : World) (at at' : ℕ) (out : Option Bytes) (f g : ℕ) (old new : Option Bytes)
+    → IsValidUpTo text at → at' ≡ at → reported ≡ reported_name name → AppendsUnlessFailed f g old new (fault_line reported (NotUtf8 at'))
     → (left : Left) × TextOutcome options name (Some text) world left × LeftStands left 1 world.folder out out f g old new
-text_invalid options name text told world at at' out f g old new valid same called appends =
-    let line : Bytes = fault_line told (NotUtf8 at') in
-    let is : line ≡ fault_line (told_name name) (NotUtf8 at) = ap (λ (n : ℕ). fault_line told (NotUtf8 n)) same ∙ ap (λ (it : Bytes). fault_line it (NotUtf8 at)) called in (
+text_invalid options name text reported world at at' out f g old new valid same called appends =
+    let line : Bytes = fault_line reported (NotUtf8 at') in
+    let is : line ≡ fault_line (reported_name name) (NotUtf8 at) = ap (λ (n : ℕ). fault_line reported (NotUtf8 n)) same ∙ ap (λ (it : Bytes). fault_line it (NotUtf8 at)) called in (
       unused world.folder line,
       inl (at, valid, ap (unused world.folder) is),
-      stands_unused world.folder world.folder line 1 out f g old new refl refl (told_once f g old new line appends),
+      stands_unused world.folder world.folder line 1 out f g old new refl refl (reported_once f g old new line appends),
     )
 
-pub text_refused : (options : Options) (name text text' told : Bytes) (world : World) (found : Option Usage) (usage : Usage) (line : Bytes) (status : ℕ)
+pub text_refused : (options : Options) (name text text' reported : Bytes) (world : World) (found : Option Usage) (usage : Usage) (line : Bytes) (status : ℕ)
     (out : Option Bytes) (f g : ℕ) (old new : Option Bytes) → text' ≡ text → IsUtf8 text → IfSome found (IsScriptFault text') → found ≡ Some usage
-    → told ≡ told_name name → IsUsageLine told usage line → status ≡ 1 → Tells f g old new (line ∷ [])
+    → reported ≡ reported_name name → IsUsageLine reported usage line → status ≡ 1 → Reports f g old new (line ∷ [])
     → (left : Left) × TextOutcome options name (Some text) world left × LeftStands left status world.folder out out f g old new
-text_refused options name text text' told world found usage line status out f g old new same utf8 fault is called says exit tells =
+text_refused options name text text' reported world found usage line status out f g old new same utf8 fault is called says exit reports =
     let why : IsScriptFault text usage = subst (λ (it : Bytes). IsScriptFault it usage) same (at_some (IsScriptFault text') found usage is fault) in
-    let as_told : IsUsageLine (told_name name) usage line = subst (λ (it : Bytes). IsUsageLine it usage line) called says in (
+    let as_reported : IsUsageLine (reported_name name) usage line = subst (λ (it : Bytes). IsUsageLine it usage line) called says in (
       unused world.folder line,
-      inr (inl (utf8, (usage, line, why, as_told, refl))),
-      stands_unused world.folder world.folder line status out f g old new refl exit tells,
+      inr (inl (utf8, (usage, line, why, as_reported, refl))),
+      stands_unused world.folder world.folder line status out f g old new refl exit reports,
     )
 
 -- its lines mean rules of standard input, where they are there
-pub text_refuses : (options : Options) (name text text' : Bytes) (world : World) (lines lines' : List Asked) (status : ℕ) (out : Option Bytes) (f g : ℕ)
+pub text_refuses : (options : Options) (name text text' : Bytes) (world : World) (lines lines' : List Requested) (status : ℕ) (out : Option Bytes) (f g : ℕ)
     (old new : Option Bytes) → text' ≡ text → IsUtf8 text → script_of text' ≡ Ok lines → lines' ≡ lines → bytes_eq name input_package && names_input lines' ≡ true
     → status ≡ 1 → AppendsUnlessFailed f g old new input_line
     → (left : Left) × TextOutcome options name (Some text) world left × LeftStands left status world.folder out out f g old new
-text_refuses options name text text' world lines lines' status out f g old new same utf8 is these both exit told = (
+text_refuses options name text text' world lines lines' status out f g old new same utf8 is these both exit reported = (
   unused world.folder input_line,
-  inr (inr (utf8, (lines, ap script_of (sym same) ∙ is, inl (ap (λ (l : List Asked). bytes_eq name input_package && names_input l) (sym these) ∙ both, refl)))),
-  stands_unused world.folder world.folder input_line status out f g old new refl exit (told_once f g old new input_line told),
+  inr (inr (utf8, (lines, ap script_of (sym same) ∙ is, inl (ap (λ (l : List Requested). bytes_eq name input_package && names_input l) (sym these) ∙ both, refl)))),
+  stands_unused world.folder world.folder input_line status out f g old new refl exit (reported_once f g old new input_line reported),
 )
 
-pub text_done : (options : Options) (name text text' : Bytes) (folder : Folder) (known left_over : Option Bytes) (lines lines' : List Asked) (left : Left)
+pub text_done : (options : Options) (name text text' : Bytes) (folder : Folder) (known left_over : Option Bytes) (lines lines' : List Requested) (left : Left)
     → text' ≡ text → IsUtf8 text → script_of text' ≡ Ok lines → lines' ≡ lines → bytes_eq name input_package && names_input lines' ≡ false
     → (name ≢ input_package → known ≡ left_over) → LinesLeave options lines' (record { folder = folder; known = left_over }) left
     → TextOutcome options name (Some text) (record { folder = folder; known = known }) left
@@ -188,19 +188,19 @@ text_done options name text text' folder known left_over lines lines' left same 
     let world : World = record { folder = folder; known = known } in
     let outcome : LinesOutcome options (bytes_eq name input_package) lines' world left =
     inr (neither, (left_over, λ other. sym (unread (apart name other)), leave)) in
-    inr (inr (utf8, (lines, ap script_of (sym same) ∙ is, subst (λ (it : List Asked). LinesOutcome options (bytes_eq name input_package) it world left) these outcome)))
+    inr (inr (utf8, (lines, ap script_of (sym same) ∙ is, subst (λ (it : List Requested). LinesOutcome options (bytes_eq name input_package) it world left) these outcome)))
 
 -- ---- a file of lines
 
-pub script_unread : (options : Options) (name told : Bytes) (world : World) (folder' : Folder) (status : ℕ) (out : Option Bytes) (f g : ℕ) (old new : Option Bytes)
-    → folder' ≡ world.folder → IsScript world name None → told ≡ told_name name → status ≡ 1
-    → AppendsUnlessFailed f g old new (named_line told (codes "cannot open"))
+pub script_unread : (options : Options) (name reported : Bytes) (world : World) (folder' : Folder) (status : ℕ) (out : Option Bytes) (f g : ℕ) (old new : Option Bytes)
+    → folder' ≡ world.folder → IsScript world name None → reported ≡ reported_name name → status ≡ 1
+    → AppendsUnlessFailed f g old new (named_line reported (codes "cannot open"))
     → (left : Left) × ScriptOutcome options name world left × LeftStands left status folder' out out f g old new
-script_unread options name told world folder' status out f g old new same is called exit appends =
-    let line : Bytes = named_line told (codes "cannot open") in (
+script_unread options name reported world folder' status out f g old new same is called exit appends =
+    let line : Bytes = named_line reported (codes "cannot open") in (
       unused world.folder line,
       (None, is, ap (λ (it : Bytes). unused world.folder (named_line it (codes "cannot open"))) called),
-      stands_unused world.folder folder' line status out f g old new same exit (told_once f g old new line appends),
+      stands_unused world.folder folder' line status out f g old new same exit (reported_once f g old new line appends),
     )
 
 pub script_done : (options : Options) (name text text' : Bytes) (folder folder' : Folder) (known : Option Bytes) (left : Left) → text' ≡ text
@@ -218,13 +218,13 @@ script_done options name text text' folder folder' known left same still is outc
 
 pub words_refused : (words : List Bytes) (world : World) (found : Option LineUsage) (usage : LineUsage) (line : Bytes) (status : ℕ) (out : Option Bytes)
     (f g : ℕ) (old new : Option Bytes) → IfSome found (λ usage. command_line_of words ≡ Err usage) → found ≡ Some usage → IsLineUsageLine usage line
-    → status ≡ 1 → Tells f g old new (line ∷ []) → (left : Left) × WordsOutcome words world left × LeftStands left status world.folder out out f g old new
-words_refused words world found usage line status out f g old new fault is told exit tells =
+    → status ≡ 1 → Reports f g old new (line ∷ []) → (left : Left) × WordsOutcome words world left × LeftStands left status world.folder out out f g old new
+words_refused words world found usage line status out f g old new fault is reported exit reports =
     let left = unused world.folder line in
-    let refused : LineOutcome (Err usage) world left = (line, told, refl) in (
+    let refused : LineOutcome (Err usage) world left = (line, reported, refl) in (
       left,
       subst (λ (it : Result CommandLine LineUsage). LineOutcome it world left) (sym (at_some (λ usage. command_line_of words ≡ Err usage) found usage is fault)) refused,
-      stands_unused world.folder world.folder line status out f g old new refl exit tells,
+      stands_unused world.folder world.folder line status out f g old new refl exit reports,
     )
 
 pub words_done : (words : List Bytes) (line : CommandLine) (given : Given) (world : World) (left : Left) → command_line_of words ≡ Ok line → line.given ≡ given

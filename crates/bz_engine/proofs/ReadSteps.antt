@@ -13,7 +13,7 @@ use Rattle.bz_engine.specs.Cuts.{AreClosed, ShowsNothing, UsesInput, OpensInput,
 use Rattle.bz_engine.specs.Ending.{opened_out, is_input, texts_out}
 use Rattle.bz_engine.specs.Run.{Answers, Progress, nothing_done}
 use Rattle.bz_engine.specs.Steps.{RunStep, input_package}
-use Rattle.bz_engine.proofs.CutSteps.{whole_before, whole_behind}
+use Rattle.bz_engine.proofs.CutSteps.{whole_before, whole_after}
 use Rattle.bz_engine.proofs.OpenSteps.{last_is_used, place_stays}
 
 -- ---- packages without an open file
@@ -93,7 +93,7 @@ step_there step why later result found place at before used after opens there is
   again = λ uses read. let e = sym (opens.again uses).0 ∙ not_read why later kinds (sym is ∙ read) in cc;
   still = λ uses nothing. some_none found at there ((opens.again uses).2 nothing.1);
   whole = λ whole.
-      let done = answers (whole_behind why later (sym is ∙ whole)) in
+      let done = answers (whole_after why later (sym is ∙ whole)) in
       inr (answers_use step place (file_at place used) (record before { used = used }) after done.0 done.1
       (opens.whole (whole_before why later (sym is ∙ whole))));
 }
@@ -132,10 +132,10 @@ both_still : (why later : Cut) (before mid after : Progress) → ReadsOnce why b
     → ShowsNothing after × UsesInput after.used
 both_still why later before mid after first more uses nothing = let now = first.still uses nothing in more.still now.1 now.0
 
-failed_behind : (later : Cut) (before mid after : Progress) → (mid ≡ before) ⊎ UsesInput mid.used → ReadsOnce later mid after → ShowsNothing before → later ≡ c.Read
+failed_after : (later : Cut) (before mid after : Progress) → (mid ≡ before) ⊎ UsesInput mid.used → ReadsOnce later mid after → ShowsNothing before → later ≡ c.Read
     → ShowsNothing after × UsesInput after.used
-failed_behind later before mid after (inl same) more nothing read = more.failed (subst ShowsNothing (sym same) nothing) read
-failed_behind later before mid after (inr uses) more nothing read = absurd (more.again uses read)
+failed_after later before mid after (inl same) more nothing read = more.failed (subst ShowsNothing (sym same) nothing) read
+failed_after later before mid after (inr uses) more nothing read = absurd (more.again uses read)
 
 whole_of : (before mid after : Progress) → (mid ≡ before) ⊎ UsesInput mid.used → (after ≡ mid) ⊎ UsesInput after.used → (after ≡ before) ⊎ UsesInput after.used
 whole_of before mid after (inl same) (inl still) = inl (still ∙ same)
@@ -145,7 +145,7 @@ whole_of before mid after first (inr uses) = inr uses
 pub reads_more : (why later : Cut) (before mid after : Progress) → ReadsOnce why before mid → ReadsOnce later mid after
     → ReadsOnce (first_cut why later) before after
 reads_more c.Whole later before mid after first more = record {
-  failed = failed_behind later before mid after (first.whole refl) more;
+  failed = failed_after later before mid after (first.whole refl) more;
   again = λ uses. more.again (uses_still before mid (first.whole refl) uses);
   still = both_still c.Whole later before mid after first more;
   whole = λ is. whole_of before mid after (first.whole refl) (more.whole is);

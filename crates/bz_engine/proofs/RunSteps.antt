@@ -5,15 +5,15 @@ use Rattle.std.proofs.lemmas.List.{append-nil, drop_all}
 use Rattle.std.proofs.lemmas.List.Elements.{All-get_or}
 use Rattle.bz_files.specs.Folder.{Elapses, Folder}
 use Rattle.bz_files.proofs.Elapsing.{elapsed_on, stays}
-use Rattle.bz_ports.specs.Outputs.{Tells, Counts}
+use Rattle.bz_ports.specs.Outputs.{Reports, Counts}
 use Rattle.bz_ports.specs.declared.exit.Cut.{Cut}
 use Rattle.bz_ports.specs.declared.exit.Cut.TheVariants as c
-use Rattle.bz_ports.proofs.Outputs.{counts_more, tells_more}
+use Rattle.bz_ports.proofs.Outputs.{counts_more, reports_more}
 use Rattle.bz_ports.proofs.Written.{left-cons}
 use Rattle.bz_engine.specs.Calls.{RunSpot, DoesBetween, ReadsNoInput, KeepsBetween, PassesSafely, Proceeds}
 use Rattle.bz_engine.specs.Cuts.{AreCutBy, IsLeft, ReadsOnce}
 use Rattle.bz_ports.specs.Exits.{first_cut}
-use Rattle.bz_engine.proofs.CutSteps.{cut_more, neither_read, whole_before, whole_behind}
+use Rattle.bz_engine.proofs.CutSteps.{cut_more, neither_read, whole_before, whole_after}
 use Rattle.bz_engine.proofs.ReadSteps.{reads_none, reads_more}
 use Rattle.bz_engine.proofs.StandSteps.{runs_stand}
 use Rattle.bz_engine.specs.Keeping.{AllAreKept, DoesBeside, RunsBeside}
@@ -39,11 +39,11 @@ ended_runs world keep_going (step ∷ steps) state ended = inl (ended, refl, ref
 pub runs_more : (world : World) (keep_going : Bool) (xs ys : List RunStep) (state mid after : Progress) (lines more : List (List ℕ))
     → RunsSteps world keep_going xs state lines mid → RunsSteps world keep_going ys mid more after → RunsSteps world keep_going (xs ++ ys) state (lines ++ more) after
 runs_more world keep_going [] ys state mid after lines more first last =
-    subst (λ (told : List (List ℕ)). RunsSteps world keep_going ys state (told ++ more) after) (sym first.0)
+    subst (λ (reported : List (List ℕ)). RunsSteps world keep_going ys state (reported ++ more) after) (sym first.0)
     (subst (λ (s : Progress). RunsSteps world keep_going ys s more after) first.1 last)
 runs_more world keep_going (x ∷ xs) ys state mid after lines more (inl stays) last =
     let none = stays_ended world keep_going ys mid after more (ap (ends_run keep_going) stays.2 ∙ stays.0) last in
-    inl (stays.0, ap (λ (told : List (List ℕ)). told ++ more) stays.1 ∙ none.0, none.1 ∙ stays.2)
+    inl (stays.0, ap (λ (reported : List (List ℕ)). reported ++ more) stays.1 ∙ none.0, none.1 ∙ stays.2)
 runs_more world keep_going (x ∷ xs) ys state mid after lines more (inr goes) last = inr (
   goes.0,
   (
@@ -52,7 +52,7 @@ runs_more world keep_going (x ∷ xs) ys state mid after lines more (inr goes) l
     goes.1.2 ++ more,
     goes.1.3,
     runs_more world keep_going xs ys goes.1.0 mid after goes.1.2 more goes.1.4 last,
-    ap (λ (told : List (List ℕ)). told ++ more) goes.1.5 ∙ append_assoc goes.1.1 goes.1.2 more,
+    ap (λ (reported : List (List ℕ)). reported ++ more) goes.1.5 ∙ append_assoc goes.1.1 goes.1.2 more,
   ),
 )
 
@@ -78,12 +78,12 @@ beside_more : (keep_going : Bool) (xs ys : List RunStep) (folder between folder'
     → RunsBeside keep_going xs folder state lines between mid → RunsBeside keep_going ys between mid more folder' after
     → RunsBeside keep_going (xs ++ ys) folder state (lines ++ more) folder' after
 beside_more keep_going [] ys folder between folder' state mid after lines more first last =
-    subst (λ (told : List (List ℕ)). RunsBeside keep_going ys folder state (told ++ more) folder' after) (sym first.0)
+    subst (λ (reported : List (List ℕ)). RunsBeside keep_going ys folder state (reported ++ more) folder' after) (sym first.0)
     (subst (λ (f : Folder). RunsBeside keep_going ys f state more folder' after) first.1
     (subst (λ (s : Progress). RunsBeside keep_going ys between s more folder' after) first.2 last))
 beside_more keep_going (x ∷ xs) ys folder between folder' state mid after lines more (inl stays) last =
     let none = beside_ended keep_going ys between folder' mid after more (ap (ends_run keep_going) stays.3 ∙ stays.0) last in
-    inl (stays.0, ap (λ (told : List (List ℕ)). told ++ more) stays.1 ∙ none.0, none.1 ∙ stays.2, none.2 ∙ stays.3)
+    inl (stays.0, ap (λ (reported : List (List ℕ)). reported ++ more) stays.1 ∙ none.0, none.1 ∙ stays.2, none.2 ∙ stays.3)
 beside_more keep_going (x ∷ xs) ys folder between folder' state mid after lines more (inr goes) last = inr (
   goes.0,
   (
@@ -93,7 +93,7 @@ beside_more keep_going (x ∷ xs) ys folder between folder' state mid after line
     goes.1.3 ++ more,
     goes.1.4,
     beside_more keep_going xs ys goes.1.0 between folder' goes.1.1 mid after goes.1.3 more goes.1.5 last,
-    ap (λ (told : List (List ℕ)). told ++ more) goes.1.6 ∙ append_assoc goes.1.2 goes.1.3 more,
+    ap (λ (reported : List (List ℕ)). reported ++ more) goes.1.6 ∙ append_assoc goes.1.2 goes.1.3 more,
   ),
 )
 
@@ -116,10 +116,10 @@ moment_in_front began (x ∷ xs) ys used now (mid, after, joins, moves, inl is) 
 moment_in_front began (x ∷ xs) ys used now (mid, after, joins, moves, inr is) = (mid, after, joins, moves, inr (moment_in_front began xs ys after now is))
 
 -- steps may do nothing
-moment_behind : (began : Folder) (xs ys : List RunStep) (used : List Used) (now : Folder) → IsMomentOfSteps began ys used now
+moment_after : (began : Folder) (xs ys : List RunStep) (used : List Used) (now : Folder) → IsMomentOfSteps began ys used now
     → IsMomentOfSteps began (xs ++ ys) used now
-moment_behind began [] ys used now is = is
-moment_behind began (x ∷ xs) ys used now is = (used, used, inl refl, inl refl, inr (moment_behind began xs ys used now is))
+moment_after began [] ys used now is = is
+moment_after began (x ∷ xs) ys used now is = (used, used, inl refl, inl refl, inr (moment_after began xs ys used now is))
 
 -- ---- parts of a run
 
@@ -133,14 +133,14 @@ Passes folder keep_going steps left old new = (known : Option (List ℕ)) → Is
     × ((more : List (List ℕ)) (after : Progress) → RunsSteps (record { folder = folder; known = known }) keep_going left new.state more after
     → RunsSteps (record { folder = folder; known = known }) keep_going steps old.state (lines ++ more) after)
     × IsLeft known new.state.used new.left
-    × Tells old.faults new.faults old.told new.told lines
+    × Reports old.faults new.faults old.reported new.reported lines
 
 -- the same with journals, and each open file is
 abbrev pub Continues : Bool → List RunStep → List RunStep → RunSpot → RunSpot → Type 0
 Continues keep_going steps left old new = AllAreKept old.folder old.state.used → (lines : List (List ℕ)) × AllAreKept new.folder new.state.used
     × ((more : List (List ℕ)) (folder' : Folder) (after : Progress) → RunsBeside keep_going left new.folder new.state more folder' after
     → RunsBeside keep_going steps old.folder old.state (lines ++ more) folder' after)
-    × Tells old.faults new.faults old.told new.told lines
+    × Reports old.faults new.faults old.reported new.reported lines
 
 -- Each open file is safe again, each folder is at a moment of the steps, and one at a moment of those that are left, and of further ones, is at
 -- one of all.
@@ -159,9 +159,9 @@ pub record Part (journals : Bool) (Premise : Type 0) (keep_going : Bool) (steps 
   pub unread : journals ≡ true → ReadsNoInput why old new
   pub works : old.sound ≡ true → why ≢ c.Read
   pub sound : new.sound ≡ old.sound
-  pub cut : AreCutBy why old.reads new.reads old.files new.files
-  pub reads : Counts old.reads new.reads
-  pub counts : Counts old.files new.files
+  pub cut : AreCutBy why old.read_faults new.read_faults old.file_faults new.file_faults
+  pub read_faults : Counts old.read_faults new.read_faults
+  pub counts : Counts old.file_faults new.file_faults
   pub honest : new.honest ≡ old.honest
   pub input : journals ≡ false → Premise → ReadsOnce why old.state new.state
 
@@ -184,8 +184,8 @@ part_none journals Premise keep_going steps spot = record {
   works = λ sound is. absurd (cc is);
   sound = refl;
   cut = (refl, refl);
-  reads = counts_same spot.reads;
-  counts = counts_same spot.files;
+  read_faults = counts_same spot.read_faults;
+  counts = counts_same spot.file_faults;
   honest = refl;
   input = λ plain is. reads_none spot.state;
 }
@@ -197,11 +197,11 @@ passes_more folder folder' keep_going steps left part rest old mid new split sam
     let before = passes known remains in
     let then = subst (λ (f : Folder). Goes f keep_going part mid new) same goes known before.2 in (
       before.0 ++ then.0,
-      (λ more after runs. subst (λ (told : List (List ℕ)). RunsSteps world keep_going steps old.state told after) (sym (append_assoc before.0 then.0 more))
+      (λ more after runs. subst (λ (reported : List (List ℕ)). RunsSteps world keep_going steps old.state reported after) (sym (append_assoc before.0 then.0 more))
           (before.1 (then.0 ++ more) after (subst (λ (all : List RunStep). RunsSteps world keep_going all mid.state (then.0 ++ more) after) (sym split)
           (runs_more world keep_going part rest mid.state new.state after then.0 more then.1 runs)))),
       then.2,
-      tells_more old.faults mid.faults new.faults old.told mid.told new.told before.0 then.0 before.3 then.3,
+      reports_more old.faults mid.faults new.faults old.reported mid.reported new.reported before.0 then.0 before.3 then.3,
     )
 
 continues_more : (keep_going : Bool) (steps left part rest : List RunStep) (old mid new : RunSpot) → left ≡ part ++ rest
@@ -211,12 +211,12 @@ continues_more keep_going steps left part rest old mid new split continues goes 
     let then = goes before.1 in (
       before.0 ++ then.0,
       runs_stand keep_going part mid.folder new.folder mid.state new.state then.0 then.1 before.1,
-      (λ more folder' after runs. subst (λ (told : List (List ℕ)). RunsBeside keep_going steps old.folder old.state told folder' after)
+      (λ more folder' after runs. subst (λ (reported : List (List ℕ)). RunsBeside keep_going steps old.folder old.state reported folder' after)
           (sym (append_assoc before.0 then.0 more))
           (before.2 (then.0 ++ more) folder' after
           (subst (λ (all : List RunStep). RunsBeside keep_going all mid.folder mid.state (then.0 ++ more) folder' after) (sym split)
           (beside_more keep_going part rest mid.folder new.folder folder' mid.state new.state after then.0 more then.1 runs)))),
-      tells_more old.faults mid.faults new.faults old.told mid.told new.told before.0 then.0 before.3 then.2,
+      reports_more old.faults mid.faults new.faults old.reported mid.reported new.reported before.0 then.0 before.3 then.2,
     )
 
 safe_more : (steps left part rest : List RunStep) (old mid new : RunSpot) → left ≡ part ++ rest → SafeSoFar steps left old mid → PassesSafely part mid new
@@ -246,18 +246,18 @@ pub part_more : (journals : Bool) (Premise Now : Type 0) (keep_going : Bool) (st
 part_more journals Premise Now keep_going steps left part rest cut later old mid new implies split before then = record {
   runs = λ plain honest whole. passes_more old.folder mid.folder keep_going steps left part rest old mid new split (before.folder plain honest)
       (before.runs plain honest (whole_before cut later whole))
-      (then.does plain (still Premise Now old.honest mid.honest before.honest implies honest) (whole_behind cut later whole));
+      (then.does plain (still Premise Now old.honest mid.honest before.honest implies honest) (whole_after cut later whole));
   folder = λ plain honest. then.folder plain (still Premise Now old.honest mid.honest before.honest implies honest) ∙ before.folder plain honest;
   keeps = λ kept honest whole. continues_more keep_going steps left part rest old mid new split (before.keeps kept honest (whole_before cut later whole))
-      (then.keeps kept (before.honest ∙ honest) (whole_behind cut later whole));
+      (then.keeps kept (before.honest ∙ honest) (whole_after cut later whole));
   safely = λ kept honest. safe_more steps left part rest old mid new split (before.safely kept honest) (then.safely kept (before.honest ∙ honest));
   unread = λ kept. let first = before.unread kept in let more = then.unread kept in
       (more.0 ∙ first.0, more.1 ∙ first.1, neither_read cut later first.2 more.2);
   works = λ sound. neither_read cut later (before.works sound) (then.works (before.sound ∙ sound));
   sound = then.sound ∙ before.sound;
-  cut = cut_more cut later old.reads mid.reads new.reads old.files mid.files new.files before.cut then.cut before.reads then.reads before.counts then.counts;
-  reads = counts_more old.reads mid.reads new.reads before.reads then.reads;
-  counts = counts_more old.files mid.files new.files before.counts then.counts;
+  cut = cut_more cut later old.read_faults mid.read_faults new.read_faults old.file_faults mid.file_faults new.file_faults before.cut then.cut before.read_faults then.read_faults before.counts then.counts;
+  read_faults = counts_more old.read_faults mid.read_faults new.read_faults before.read_faults then.read_faults;
+  counts = counts_more old.file_faults mid.file_faults new.file_faults before.counts then.counts;
   honest = then.honest ∙ before.honest;
   input = λ plain is. reads_more cut later old.state mid.state new.state (before.input plain is) (then.input plain (implies is));
 }
@@ -268,7 +268,7 @@ passes_all : (folder : Folder) (keep_going : Bool) (steps left : List RunStep) (
 passes_all folder keep_going steps left old new none passes known remains =
     let before = passes known remains in (
       before.0,
-      subst (λ (told : List (List ℕ)). RunsSteps (record { folder = folder; known = known }) keep_going steps old.state told new.state) (append-nil before.0)
+      subst (λ (reported : List (List ℕ)). RunsSteps (record { folder = folder; known = known }) keep_going steps old.state reported new.state) (append-nil before.0)
           (before.1 [] new.state (none known)),
       before.2,
       before.3,
@@ -279,7 +279,7 @@ continues_all : (keep_going : Bool) (steps left : List RunStep) (old new : RunSp
 continues_all keep_going steps left old new none continues stand =
     let before = continues stand in (
       before.0,
-      subst (λ (told : List (List ℕ)). RunsBeside keep_going steps old.folder old.state told new.folder new.state) (append-nil before.0)
+      subst (λ (reported : List (List ℕ)). RunsBeside keep_going steps old.folder old.state reported new.folder new.state) (append-nil before.0)
           (before.2 [] new.folder new.state none),
       before.3,
     )
@@ -287,7 +287,7 @@ continues_all keep_going steps left old new none continues stand =
 safe_all : (steps left : List RunStep) (old new : RunSpot) → SafeSoFar steps left old new → PassesSafely steps old new
 safe_all steps left old new safe began all mean =
     let done = safe began all mean in
-    (done.0, done.1, done.2, (λ rest now is. done.3 rest now (moment_behind began left rest new.state.used now is)))
+    (done.0, done.1, done.2, (λ rest now is. done.3 rest now (moment_after began left rest new.state.used now is)))
 
 part_done : (journals : Bool) (Premise : Type 0) (keep_going : Bool) (steps left : List RunStep) (cut : Cut) (old new : RunSpot)
     → ((known : Option (List ℕ)) → RunsSteps (record { folder = old.folder; known = known }) keep_going left new.state [] new.state)
@@ -302,7 +302,7 @@ part_done journals Premise keep_going steps left cut old new none none' part = r
   sound = part.sound;
   folder = part.folder;
   cut = part.cut;
-  reads = part.reads;
+  read_faults = part.read_faults;
   counts = part.counts;
   honest = part.honest;
   input = part.input;

@@ -26,20 +26,20 @@ use Rattle.bz_engine.specs.Keeping.{IsApart}
 use Rattle.bz_engine.specs.Moments.{AllAreSafe, IsBetween, IsMeanwhile, IsMomentOfSteps, IsSafe, Joins, MayAct}
 use Rattle.bz_engine.specs.Steps.{RunStep}
 use Rattle.bz_engine.proofs.ActSteps.{file_put}
-use Rattle.bz_engine.proofs.StandSteps.{apart_from, apart_kept, apart_last, not_behind, not_here, takes_stand, told_still}
+use Rattle.bz_engine.proofs.StandSteps.{apart_from, apart_kept, apart_last, not_after, not_here, takes_stand, reported_still}
 
 -- ---- a file in another folder
 
 holds_still : (folder now : Folder) (name current text : Bytes) (texts : List Bytes) → get now name ≡ get folder name
     → get now (journal_name name) ≡ get folder (journal_name name) → Holds folder name current text texts → Holds now name current text texts
 holds_still folder now name current text texts same journal holds =
-    record { holds = same ∙ holds.holds; history = told_still folder now name current text texts journal holds.history }
+    record { holds = same ∙ holds.holds; history = reported_still folder now name current text texts journal holds.history }
 
 between_still : (folder now : Folder) (name : Bytes) (h after : History) → get now name ≡ get folder name
     → get now (journal_name name) ≡ get folder (journal_name name) → IsBetween folder name h after → IsBetween now name h after
 between_still folder now name h after same journal (inl first) = inl (holds_still folder now name h.«package» (present h) h.texts same journal first)
-between_still folder now name h after same journal (inr (inl told)) =
-    inr (inl (holds_still folder now name h.«package» (present h) after.texts same journal told))
+between_still folder now name h after same journal (inr (inl reported)) =
+    inr (inl (holds_still folder now name h.«package» (present h) after.texts same journal reported))
 between_still folder now name h after same journal (inr (inr done)) =
     inr (inr (holds_still folder now name h.«package» (present after) after.texts same journal done))
 
@@ -105,20 +105,20 @@ two_apart folder (suc place) zero (used ∷ more) file other here there differ a
 two_apart folder (suc place) (suc at) (used ∷ more) file other here there differ all =
     two_apart folder place at more file other here there (λ same. differ (ap suc same)) all.2
 
-all_safe_behind : (place : ℕ) (used : List Used) (file next : Opened) (folder now : Folder) → file_at place used ≡ Some file → next.name ≡ file.name
+all_safe_after : (place : ℕ) (used : List Used) (file next : Opened) (folder now : Folder) → file_at place used ≡ Some file → next.name ≡ file.name
     → IsSafe now next → OthersStay file.name folder now → AllAreSafe folder used → AllAreSafe now (with_opened place (Some next) used)
-all_safe_behind place [] file next folder now at same safe stay all = tt
-all_safe_behind zero (used ∷ more) file next folder now at same safe stay all =
+all_safe_after place [] file next folder now at same safe stay all = tt
+all_safe_after zero (used ∷ more) file next folder now at same safe stay all =
     let stood : IsSafeOf folder used.«package» file = subst (λ (it : Option Opened). IfSome it (IsSafeOf folder used.«package»)) at all.0 in (
       (subst (IsNameOf used.«package») (sym same) stood.0, safe),
       all.1,
       others_safe folder now used.«package» file.name more stood.0 all.1 stay all.2,
     )
-all_safe_behind (suc place) (used ∷ more) file next folder now at same safe stay all =
+all_safe_after (suc place) (used ∷ more) file next folder now at same safe stay all =
     let found = safe_at folder place more file at all.2 in (
       may_be_safe folder now found.0 used.«package» file.name used.file found.1.0 (λ is. found.2 used.«package» all.1 (sym is)) stay all.0,
       apart_kept used.«package» place (Some next) more all.1,
-      all_safe_behind place more file next folder now at same safe stay all.2,
+      all_safe_after place more file next folder now at same safe stay all.2,
     )
 
 -- ---- names of a run
@@ -211,7 +211,7 @@ number_last current file (used ∷ more) none = go (bytes_eq used.«package» cu
     go true is rest = absurd (not_here (bytes_eq used.«package» current) (package_number current more) none is)
     go false is rest =
         ap (λ (b : Bool). if b then Some 0 else option_map (λ (place : ℕ). place + 1) (package_number current (more ++ record { «package» = current; file = file } ∷ []))) is
-        ∙ ap (option_map (λ (place : ℕ). place + 1)) (rest (not_behind (bytes_eq used.«package» current) (package_number current more) none))
+        ∙ ap (option_map (λ (place : ℕ). place + 1)) (rest (not_after (bytes_eq used.«package» current) (package_number current more) none))
         ∙ ap Some (plus_one (length more))
 
 placed : (place at : ℕ) (file : Option Opened) → option_map (λ (_ : Opened). place) file ≡ Some at → place ≡ at
@@ -316,11 +316,11 @@ module _ {F : Type 0} (files : FilesOf F) (file : Opened) (old new : F) where
   unmoved history same still holds =
       subst (GoesOn (files.folder new) file.name) (sym same) (subst (λ (f : F). GoesOn (files.folder f) file.name file.history) (sym still) holds)
 
-  safe_behind : (action : Action) (note : Bytes) (answer : Result Reply KeepFault) (history : History) → files.honest old ≡ true → file.left ≡ false
+  safe_after : (action : Action) (note : Bytes) (answer : Result Reply KeepFault) (history : History) → files.honest old ≡ true → file.left ≡ false
       → GoesOn (files.folder old) file.name file.history → Keeps action note file.history answer history
       → KeepsFile files file.name file.history history answer old new → IsBetween (files.folder new) file.name file.history history
       → IsSafe (files.folder new) (after_keeping answer history file)
-  safe_behind action note (Ok reply) history honest stays holds keeps pair between = inl (
+  safe_after action note (Ok reply) history honest stays holds keeps pair between = inl (
     stays,
     elim (acts_leaves action note file.history history (Ok reply) keeps) [
       | inl same ↦ unmoved history same (pair.still (ap (λ (h : History). h.cursor) same)) holds
@@ -328,12 +328,12 @@ module _ {F : Type 0} (files : FilesOf F) (file : Opened) (old new : F) where
           (pair.kept honest (present file.history, holds) went.1).0
     ],
   )
-  safe_behind action note (Err (Refused refusal)) history honest stays holds keeps pair between =
+  safe_after action note (Err (Refused refusal)) history honest stays holds keeps pair between =
       elim (acts_leaves action note file.history history (Err refusal) keeps) [
         | inl same ↦ inl (stays, unmoved history same (pair.refused tt) holds)
         | inr went ↦ absurd (let e = went.0.1 in cc)
       ]
-  safe_behind action note (Err (Pair fault)) history honest stays holds keeps pair between =
+  safe_after action note (Err (Pair fault)) history honest stays holds keeps pair between =
       inr (refl, (file.history, action, note, fault, keeps, between))
 
 -- the file that isn't left alone goes on
@@ -359,8 +359,8 @@ module _ {F : Type 0} (files : FilesOf F) (counts : (held : F) (t : ℕ) → t �
       let last = at_moment files file old new history (files.folder new) holds
       (done.pair.each honest resumes (files.folder new) (counts new (files.moment old) time.later)) in
       let safe = subst (AllAreSafe (files.folder new)) (sym done.kept)
-      (all_safe_behind place before file next folder (files.folder new) done.there named
-      (safe_behind files file old new action note answer history honest stays holds done.keeps done.pair last.0) last.1 all) in
+      (all_safe_after place before file next folder (files.folder new) done.there named
+      (safe_after files file old new action note answer history honest stays holds done.keeps done.pair last.0) last.1 all) in
       let is_between = λ (now : Folder). λ (is : IsBetween now file.name file.history history).
       subst (IsBetween now file.name file.history) (sym (history_kept answer history file)) is in (
         safe,
@@ -418,12 +418,12 @@ module _ {F : Type 0} (files : FilesOf F) (counts : (held : F) (t : ℕ) → t �
       × Elapses (files.moment old) (files.moment held) (files.since old) (files.since held) (IsMomentOfSteps began (step ∷ []) before)
       × ((rest : List RunStep) (now : Folder) → IsMomentOfSteps began rest after now → IsMomentOfSteps began (step ∷ rest) before now)) (sym still)
       (step_still step before mid after found old between uses same first is all mean)
-  step_acted step at before mid after found old between new uses there same first honest (inr (stays, (action, asked, (answer, done)))) all mean =
+  step_acted step at before mid after found old between new uses there same first honest (inr (stays, (action, requested, (answer, done)))) all mean =
       let opened = joined began (files.folder old) step.target.«package» before mid found uses all mean in
       let safe = subst (λ (f : Folder). AllAreSafe f mid) (sym same) opened.1 in
       let still = subst (IsMeanwhile began mid mid) (sym same) opened.2 in
       let left : done.file.left ≡ false = sym (ap (λ (found : Option Opened). option_map_or (λ (file : Opened). file.left) found false) done.there) ∙ stays in
       let number = number_there (files.folder old) step.target.«package» before mid found at uses there in
-      let moved = acted at action step.asking.text mid after answer between new done left honest safe still in
+      let moved = acted at action step.request.text mid after answer between new done left honest safe still in
       stepped step before mid after old between new opened.0
-      (inr (at, done.file, action, answer, done.history, number, done.there, left, asked, done.keeps, done.kept)) safe still same first moved.0 moved.1 moved.2
+      (inr (at, done.file, action, answer, done.history, number, done.there, left, requested, done.keeps, done.kept)) safe still same first moved.0 moved.1 moved.2

@@ -10,14 +10,14 @@ use Rattle.bz_files.specs.Folder.{Folder}
 use Rattle.bz_journal.specs.History.{Makes, after_meaning, changed, most_steps, moved, unchanged}
 use Rattle.bz_journal.specs.Meaning.{Meaning, gives, refuses}
 use Rattle.bz_keep.specs.Pair.{journal_name}
-use Rattle.bz_keep.specs.Resuming.{Holds, IsToldBy, OthersStay}
+use Rattle.bz_keep.specs.Resuming.{Holds, IsRecordedBy, OthersStay}
 use Rattle.bz_resume.specs.Journals.{stands, text_at}
 use Rattle.bz_resume.specs.declared.fault.ResumeFault.{ResumeFault}
 use Rattle.bz_workspace.specs.Found.{PackagesFound, IsNameOf, first_name, found_at, found_in, second_name}
 use Rattle.bz_workspace.specs.Journals.{JournalGives, OpensBeside, TakesBeside, file_of_journal}
 use Rattle.bz_workspace.specs.Packages.{Opened, Used, file_at, package_number, with_opened}
 use Rattle.bz_workspace.specs.Sessions.{Action, Do, Format, Undo, Redo, Reply, Changed, Moved, History, Answer, Leads, present}
-use Rattle.bz_engine.specs.Keeping.{AllAreKept, AnswersBeside, DoesBeside, FolderBehind, IsApart, RunsBeside, IsKeptIn, UsesBeside, file_behind}
+use Rattle.bz_engine.specs.Keeping.{AllAreKept, AnswersBeside, DoesBeside, FolderAfter, IsApart, RunsBeside, IsKeptIn, UsesBeside, file_after}
 use Rattle.bz_engine.specs.Run.{LeadsBy, Progress}
 use Rattle.bz_engine.specs.Steps.{RunStep, action_of}
 use Rattle.bz_workspace.proofs.HeldSteps.{stands_text}
@@ -46,16 +46,16 @@ pub not_here : (b : Bool) (found : Option ℕ) → (if b then Some 0 else option
 not_here true found none is = let e = none in absurd (cc e)
 not_here false found none is = true≢false (sym is)
 
-pub not_behind : (b : Bool) (found : Option ℕ) → (if b then Some 0 else option_map (λ place. place + 1) found) ≡ None → found ≡ None
-not_behind true found none = let e = none in absurd (cc e)
-not_behind false None none = refl
-not_behind false (Some place) none = let e = none in absurd (cc e)
+pub not_after : (b : Bool) (found : Option ℕ) → (if b then Some 0 else option_map (λ place. place + 1) found) ≡ None → found ≡ None
+not_after true found none = let e = none in absurd (cc e)
+not_after false None none = refl
+not_after false (Some place) none = let e = none in absurd (cc e)
 
 pub apart_from : (current : Bytes) (used : List Used) → package_number current used ≡ None → IsApart current used
 apart_from current [] none = tt
 apart_from current (used ∷ more) none = (
   (λ is. not_here (bytes_eq used.«package» current) (package_number current more) none ((bytes_eq-Decides used.«package» current).1 is)),
-  apart_from current more (not_behind (bytes_eq used.«package» current) (package_number current more) none),
+  apart_from current more (not_after (bytes_eq used.«package» current) (package_number current more) none),
 )
 
 pub apart_last : (current : Bytes) (used : List Used) (one : Used) → IsApart current used → one.«package» ≢ current → IsApart current (used ++ one ∷ [])
@@ -130,11 +130,11 @@ follows_by (Some action) note h after answer leads = follows action note h after
 -- ---- a file that holds its present text
 
 -- what records the texts of a file stays where its journal does
-pub told_still : (old now : Folder) (name current text : Bytes) (texts : List Bytes) → get now (journal_name name) ≡ get old (journal_name name)
-    → IsToldBy old name current text texts → IsToldBy now name current text texts
-told_still old now name current text texts same (inl (none, alone)) = inl (same ∙ none, alone)
-told_still old now name current text texts same (inr (bytes, h, es, place, there, tells, of, is, at)) =
-    inr (bytes, h, es, place, same ∙ there, tells, of, is, at)
+pub reported_still : (old now : Folder) (name current text : Bytes) (texts : List Bytes) → get now (journal_name name) ≡ get old (journal_name name)
+    → IsRecordedBy old name current text texts → IsRecordedBy now name current text texts
+reported_still old now name current text texts same (inl (none, alone)) = inl (same ∙ none, alone)
+reported_still old now name current text texts same (inr (bytes, h, es, place, there, reports, of, is, at)) =
+    inr (bytes, h, es, place, same ∙ there, reports, of, is, at)
 
 -- the file goes on with a history
 abbrev GoesOn : Folder → Bytes → History → Type 0
@@ -150,36 +150,36 @@ goes_on_by folder folder' name h after still same at texts holds =
 
 -- ---- the file after an answer
 
-goes_on_behind : (answer : Answer) (file : Opened) (history : History) (folder folder' : Folder) → Follows answer file.history history
-    → FolderBehind answer file history folder folder' → GoesOn folder file.name file.history → GoesOn folder' file.name history
-goes_on_behind (Ok reply) file history folder folder' follows (inr (moved, pair)) holds = pair.holds
-goes_on_behind (Ok reply) file history folder folder' (inl same) (inl (at, still)) holds =
+goes_on_after : (answer : Answer) (file : Opened) (history : History) (folder folder' : Folder) → Follows answer file.history history
+    → FolderAfter answer file history folder folder' → GoesOn folder file.name file.history → GoesOn folder' file.name history
+goes_on_after (Ok reply) file history folder folder' follows (inr (moved, pair)) holds = pair.holds
+goes_on_after (Ok reply) file history folder folder' (inl same) (inl (at, still)) holds =
     goes_on_by folder folder' file.name file.history history still (ap (λ (h : History). h.«package») same) at (ap (λ (h : History). h.texts) same) holds
-goes_on_behind (Ok reply) file history folder folder' (inr (replies, same, texts)) (inl (at, still)) holds =
+goes_on_after (Ok reply) file history folder folder' (inr (replies, same, texts)) (inl (at, still)) holds =
     goes_on_by folder folder' file.name file.history history still same at (texts at) holds
-goes_on_behind (Err refusal) file history folder folder' (inl same) still holds =
+goes_on_after (Err refusal) file history folder folder' (inl same) still holds =
     goes_on_by folder folder' file.name file.history history still (ap (λ (h : History). h.«package») same) (ap (λ (h : History). h.cursor) same)
     (ap (λ (h : History). h.texts) same) holds
-goes_on_behind (Err refusal) file history folder folder' (inr (replies, same, texts)) still holds = absurd (let e = replies.1 in cc)
+goes_on_after (Err refusal) file history folder folder' (inr (replies, same, texts)) still holds = absurd (let e = replies.1 in cc)
 
-stands_behind : (answer : Answer) (current : Bytes) (file : Opened) (history : History) (folder folder' : Folder) → Follows answer file.history history
-    → FolderBehind answer file history folder folder' → IsKeptIn folder current file → IsKeptIn folder' current (file_behind answer history file)
-stands_behind (Ok reply) current file history folder folder' follows behind stands = record {
+stands_after : (answer : Answer) (current : Bytes) (file : Opened) (history : History) (folder folder' : Folder) → Follows answer file.history history
+    → FolderAfter answer file history folder folder' → IsKeptIn folder current file → IsKeptIn folder' current (file_after answer history file)
+stands_after (Ok reply) current file history folder folder' follows following stands = record {
   named = stands.named;
   stays = stands.stays;
-  holds = goes_on_behind (Ok reply) file history folder folder' follows behind stands.holds;
+  holds = goes_on_after (Ok reply) file history folder folder' follows following stands.holds;
 }
-stands_behind (Err refusal) current file history folder folder' follows behind stands = record {
+stands_after (Err refusal) current file history folder folder' follows following stands = record {
   named = stands.named;
   stays = stands.stays;
-  holds = goes_on_behind (Err refusal) file history folder folder' follows behind stands.holds;
+  holds = goes_on_after (Err refusal) file history folder folder' follows following stands.holds;
 }
 
-pub others_behind : (answer : Answer) (file : Opened) (history : History) (folder folder' : Folder) → FolderBehind answer file history folder folder'
+pub others_after : (answer : Answer) (file : Opened) (history : History) (folder folder' : Folder) → FolderAfter answer file history folder folder'
     → OthersStay file.name folder folder'
-others_behind (Ok reply) file history folder folder' (inl (at, still)) = λ name a b c d. ap (λ (f : Folder). get f name) still
-others_behind (Ok reply) file history folder folder' (inr (moved, pair)) = pair.others
-others_behind (Err refusal) file history folder folder' still = λ name a b c d. ap (λ (f : Folder). get f name) still
+others_after (Ok reply) file history folder folder' (inl (at, still)) = λ name a b c d. ap (λ (f : Folder). get f name) still
+others_after (Ok reply) file history folder folder' (inr (moved, pair)) = pair.others
+others_after (Err refusal) file history folder folder' still = λ name a b c d. ap (λ (f : Folder). get f name) still
 
 -- ---- the files of other packages
 
@@ -197,7 +197,7 @@ other_stands folder folder' current other name file named differs stay stands =
       stays = stands.stays;
       holds = record {
         holds = same ∙ stands.holds.holds;
-        history = told_still folder folder' file.name file.history.«package» (present file.history) file.history.texts journal stands.holds.history;
+        history = reported_still folder folder' file.name file.history.«package» (present file.history) file.history.texts journal stands.holds.history;
       };
     }
 
@@ -224,22 +224,22 @@ package_at folder zero (used ∷ more) file at all =
 package_at folder (suc place) (used ∷ more) file at all =
     let found = package_at folder place more file at all.2 in (found.0, found.1, λ other apart. found.2 other apart.1)
 
-all_behind : (answer : Answer) (place : ℕ) (used : List Used) (file : Opened) (history : History) (folder folder' : Folder)
-    → file_at place used ≡ Some file → Follows answer file.history history → FolderBehind answer file history folder folder' → AllAreKept folder used
-    → AllAreKept folder' (with_opened place (Some (file_behind answer history file)) used)
-all_behind answer place [] file history folder folder' at follows behind all = tt
-all_behind answer zero (used ∷ more) file history folder folder' at follows behind all =
+all_after : (answer : Answer) (place : ℕ) (used : List Used) (file : Opened) (history : History) (folder folder' : Folder)
+    → file_at place used ≡ Some file → Follows answer file.history history → FolderAfter answer file history folder folder' → AllAreKept folder used
+    → AllAreKept folder' (with_opened place (Some (file_after answer history file)) used)
+all_after answer place [] file history folder folder' at follows following all = tt
+all_after answer zero (used ∷ more) file history folder folder' at follows following all =
     let stood : IsKeptIn folder used.«package» file = subst (λ (it : Option Opened). IfSome it (IsKeptIn folder used.«package»)) at all.0 in (
-      stands_behind answer used.«package» file history folder folder' follows behind stood,
+      stands_after answer used.«package» file history folder folder' follows following stood,
       all.1,
-      others_stand folder folder' used.«package» file.name more stood.named all.1 (others_behind answer file history folder folder' behind) all.2,
+      others_stand folder folder' used.«package» file.name more stood.named all.1 (others_after answer file history folder folder' following) all.2,
     )
-all_behind answer (suc place) (used ∷ more) file history folder folder' at follows behind all =
+all_after answer (suc place) (used ∷ more) file history folder folder' at follows following all =
     let found = package_at folder place more file at all.2 in (
       may_stand folder folder' found.0 used.«package» file.name used.file found.1.named (λ same. found.2 used.«package» all.1 (sym same))
-          (others_behind answer file history folder folder' behind) all.0,
-      apart_kept used.«package» place (Some (file_behind answer history file)) more all.1,
-      all_behind answer place more file history folder folder' at follows behind all.2,
+          (others_after answer file history folder folder' following) all.0,
+      apart_kept used.«package» place (Some (file_after answer history file)) more all.1,
+      all_after answer place more file history folder folder' at follows following all.2,
     )
 
 -- ---- a package that is opened
@@ -266,7 +266,7 @@ takes_stand folder current name text None file lines named there beside (inl ope
     (record { named = named; stays = refl; holds = record { holds = there; history = inl (beside, refl) } })
 takes_stand folder current name text None file lines named there beside (inr refused) =
     subst (λ (it : Option Opened). IfSome it (IsKeptIn folder current)) (sym refused.1.2) tt
-takes_stand folder current name text (Some bytes) file lines named there beside (given, comes, is, told) =
+takes_stand folder current name text (Some bytes) file lines named there beside (given, comes, is, reported) =
     subst (λ (it : Option Opened). IfSome it (IsKeptIn folder current)) (sym is) (given_stands folder current name text bytes given named there beside comes)
 
 opens_stand : (folder : Folder) (current : Bytes) (found : Option PackagesFound) (file : Option Opened) (lines : List Bytes) → found_in folder current ≡ found
@@ -294,12 +294,12 @@ uses_stand folder current before place lines after (inr (none, number, (file, op
 answers_stand : (step : RunStep) (place : ℕ) (found : Option Opened) (folder folder' : Folder) (state after : Progress) (lines : List Bytes)
     → file_at place state.used ≡ found → AnswersBeside step place found folder state lines folder' after → AllAreKept folder state.used
     → AllAreKept folder' after.used
-answers_stand step place None folder folder' state after lines at (told, still, is) all =
+answers_stand step place None folder folder' state after lines at (reported, still, is) all =
     subst (λ (now : Progress). AllAreKept folder' now.used) (sym is) (subst (λ (f : Folder). AllAreKept f state.used) (sym still) all)
-answers_stand step place (Some file) folder folder' state after lines at (answer, history, leads, behind, told, is) all =
+answers_stand step place (Some file) folder folder' state after lines at (answer, history, leads, following, reported, is) all =
     subst (λ (now : Progress). AllAreKept folder' now.used) (sym is)
-    (all_behind answer place state.used file history folder folder' at
-    (follows_by (action_of step.target step.asking.verb) step.asking.text file.history history answer leads) behind all)
+    (all_after answer place state.used file history folder folder' at
+    (follows_by (action_of step.target step.request.verb) step.request.text file.history history answer leads) following all)
 
 pub does_stand : (step : RunStep) (folder folder' : Folder) (before after : Progress) (lines : List Bytes) → DoesBeside step folder before lines folder' after
     → AllAreKept folder before.used → AllAreKept folder' after.used
@@ -309,9 +309,9 @@ does_stand step folder folder' before after lines does all =
 
 pub runs_stand : (keep_going : Bool) (steps : List RunStep) (folder folder' : Folder) (before after : Progress) (lines : List Bytes)
     → RunsBeside keep_going steps folder before lines folder' after → AllAreKept folder before.used → AllAreKept folder' after.used
-runs_stand keep_going [] folder folder' before after lines (told, still, is) all =
+runs_stand keep_going [] folder folder' before after lines (reported, still, is) all =
     subst (λ (now : Progress). AllAreKept folder' now.used) (sym is) (subst (λ (f : Folder). AllAreKept f before.used) (sym still) all)
-runs_stand keep_going (step ∷ steps) folder folder' before after lines (inl (ended, told, still, is)) all =
+runs_stand keep_going (step ∷ steps) folder folder' before after lines (inl (ended, reported, still, is)) all =
     subst (λ (now : Progress). AllAreKept folder' now.used) (sym is) (subst (λ (f : Folder). AllAreKept f before.used) (sym still) all)
-runs_stand keep_going (step ∷ steps) folder folder' before after lines (inr (goes, (between, mid, first, rest, does, runs, told))) all =
+runs_stand keep_going (step ∷ steps) folder folder' before after lines (inr (goes, (between, mid, first, rest, does, runs, reported))) all =
     runs_stand keep_going steps between folder' mid after rest runs (does_stand step folder between before mid first does all)

@@ -3,12 +3,12 @@ use Rattle.std.proofs.Common.{ap, ◌∙◌, ◌≡◌, refl, List, [], ◌∷�
 use Rattle.std.specs.List.{flat_map, list_any}
 use Rattle.std.proofs.Math.Bool.{and-false}
 use Rattle.std.proofs.lemmas.List.Folds.{list_any-append}
-use Rattle.bz_line.specs.Asked.{Asked, Asking}
+use Rattle.bz_line.specs.Requested.{Requested, Request}
 use Rattle.bz_line.specs.Verbs.{prints}
-use Rattle.bz_line.specs.Shown.{asked_in, asking_in}
-use Rattle.bz_line.specs.declared.asked.Asked.{Asked as Held}
-use Rattle.bz_engine.specs.Shown.{names_in, shown_in}
-use Rattle.bz_engine.specs.Steps.{step_of, steps_asked, all_steps, is_of_input, is_shown_by, shows_input, names_input}
+use Rattle.bz_line.specs.Shown.{requested_in, request_in}
+use Rattle.bz_line.specs.declared.requested.Requested.{Requested as Held}
+use Rattle.bz_engine.specs.Shown.{targets_input_in, shown_in}
+use Rattle.bz_engine.specs.Steps.{step_of, steps_requested, all_steps, is_of_input, is_shown_by, shows_input, names_input}
 
 any_map : {X Y : Type 0} (p : X → Bool) (f : Y → X) (ys : List Y) → list_any p (map f ys) ≡ list_any (λ y. p (f y)) ys
 any_map p f [] = refl
@@ -38,23 +38,23 @@ and_any p b [] = refl
 and_any p b (x ∷ xs) = and_step (p x) b (list_any p xs) (list_any (λ x. p x && b) xs) (and_any p b xs)
 
 -- a command that doesn't print
-abbrev shows : Asking → Bool
-shows asking = not (prints asking.verb)
+abbrev prints_nothing : Request → Bool
+prints_nothing request = not (prints request.verb)
 
 -- a line shows the text of standard input where it means rules of it and has a command that doesn't print
-shown_by_line : (asked : Asked) → list_any is_shown_by (steps_asked asked) ≡ (list_any is_of_input asked.targets && list_any shows asked.commands)
-shown_by_line asked =
-    any_flat is_shown_by (λ target. map (step_of target) asked.commands) asked.targets
-    ∙ any_same (λ target. list_any is_shown_by (map (step_of target) asked.commands)) (λ target. is_of_input target && list_any shows asked.commands)
-    (λ target. any_map is_shown_by (step_of target) asked.commands ∙ any_and (is_of_input target) shows asked.commands) asked.targets
-    ∙ and_any is_of_input (list_any shows asked.commands) asked.targets
+shown_by_line : (requested : Requested) → list_any is_shown_by (steps_requested requested) ≡ (list_any is_of_input requested.targets && list_any prints_nothing requested.commands)
+shown_by_line requested =
+    any_flat is_shown_by (λ target. map (step_of target) requested.commands) requested.targets
+    ∙ any_same (λ target. list_any is_shown_by (map (step_of target) requested.commands)) (λ target. is_of_input target && list_any prints_nothing requested.commands)
+    (λ target. any_map is_shown_by (step_of target) requested.commands ∙ any_and (is_of_input target) prints_nothing requested.commands) requested.targets
+    ∙ and_any is_of_input (list_any prints_nothing requested.commands) requested.targets
 
-pub shown_by_lines : (lines : List Held) → shows_input (all_steps (map asked_in lines)) ≡ list_any shown_in lines
+pub shown_by_lines : (lines : List Held) → shows_input (all_steps (map requested_in lines)) ≡ list_any shown_in lines
 shown_by_lines lines =
-    any_flat is_shown_by steps_asked (map asked_in lines)
-    ∙ any_map (λ (asked : Asked). list_any is_shown_by (steps_asked asked)) asked_in lines
-    ∙ any_same (λ (line : Held). list_any is_shown_by (steps_asked (asked_in line))) shown_in
-    (λ line. shown_by_line (asked_in line) ∙ ap (λ b. names_in line && b) (any_map shows asking_in line.commands.items)) lines
+    any_flat is_shown_by steps_requested (map requested_in lines)
+    ∙ any_map (λ (requested : Requested). list_any is_shown_by (steps_requested requested)) requested_in lines
+    ∙ any_same (λ (line : Held). list_any is_shown_by (steps_requested (requested_in line))) shown_in
+    (λ line. shown_by_line (requested_in line) ∙ ap (λ b. targets_input_in line && b) (any_map prints_nothing request_in line.commands.items)) lines
 
-pub named_in_lines : (lines : List Held) → names_input (map asked_in lines) ≡ list_any names_in lines
-named_in_lines lines = any_map (λ (asked : Asked). list_any is_of_input asked.targets) asked_in lines
+pub named_in_lines : (lines : List Held) → names_input (map requested_in lines) ≡ list_any targets_input_in lines
+named_in_lines lines = any_map (λ (requested : Requested). list_any is_of_input requested.targets) requested_in lines

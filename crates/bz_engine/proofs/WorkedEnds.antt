@@ -11,14 +11,14 @@ use Rattle.bz_files.specs.Folder.{Folder, with_file}
 use Rattle.bz_workspace.specs.Sessions.{History, Answer, changed, undone, opened, note_limit, gives, Changed, Moved}
 use Rattle.bz_label.specs.declared.target.Target.{Target}
 use Rattle.bz_label.specs.declared.target.Which.TheVariants.{Name}
-use Rattle.bz_line.specs.Asked.{Asked, Asking, Usage, nothing_asked, operand_group, no_command, no_target, no_line, of_operand}
+use Rattle.bz_line.specs.Requested.{Requested, Request, Usage, nothing_requested, operand_group, no_command, no_target, no_line, of_operand}
 use Rattle.bz_line.specs.Line.{CommandLine, LineUsage, operands, script, command_line_of}
 use Rattle.bz_line.specs.Refused.{IsGroupFault}
 use Rattle.bz_line.specs.declared.line.Options.{Options}
 use Rattle.bz_line.specs.declared.verb.OperandFault.{OperandFault}
 use Rattle.bz_line.specs.declared.verb.OperandFault.TheVariants.{BadTarget, Command}
 use Rattle.bz_line.specs.declared.verb.Verb.TheVariants.{Do, Undo, Redo}
-use Rattle.bz_ports.specs.Told.{stdin}
+use Rattle.bz_ports.specs.Reported.{stdin}
 use Rattle.bz_items.specs.Characters.{Bytes}
 use Rattle.bz_words.specs.declared.command.AttributeOperation.TheVariants as wa
 use Rattle.bz_words.specs.declared.command.Operation.TheVariants as w
@@ -29,9 +29,9 @@ use Rattle.bz_workspace.specs.Opens.{opened_fresh}
 use Rattle.bz_workspace.specs.Packages.{opened_with, Opened, Used, package_number, file_at}
 use Rattle.bz_engine.specs.Ending.{Left, Performs}
 use Rattle.bz_engine.specs.Outcome.{WordsOutcome, LineOutcome, ScriptOutcome, unused}
-use Rattle.bz_engine.specs.Run.{World, Progress, Finds, Uses, Answers, Does, RunsSteps, nothing_done, told_of, answered, ends_run}
+use Rattle.bz_engine.specs.Run.{World, Progress, Finds, Uses, Answers, Does, RunsSteps, nothing_done, reported_of, answered, ends_run}
 use Rattle.bz_engine.specs.Steps.{RunStep, all_steps, names_input}
-use Rattle.bz_engine.specs.Told.{IsUsageLine}
+use Rattle.bz_engine.specs.Reported.{IsUsageLine}
 use Rattle.bz_engine.specs.WorkedParts.{text_read, text_made}
 use Rattle.bz_engine.specs.WorkedRuns.{WorkedUsage, WorkedWholeRuns, HasBuild, OverBuild, BesideNone, OverInput}
 use Rattle.bz_engine.proofs.Outcomes.{apart}
@@ -66,8 +66,8 @@ plain = record { keep_going = false; to_stdout = false; quiet = false; journal =
 
 usage_of : (words : List Bytes) (usage : Usage) (line : Bytes) (world : World) → command_line_of words ≡ Ok (record { options = plain; given = operands words })
     → IsGroupFault words usage → IsUsageLine [] usage line → WordsOutcome words world (unused world.folder line)
-usage_of words usage line world is fault told =
-    subst (λ (whole : Result CommandLine LineUsage). LineOutcome whole world (unused world.folder line)) (sym is) (inl (usage, line, fault, told, refl))
+usage_of words usage line world is fault reported =
+    subst (λ (whole : Result CommandLine LineUsage). LineOutcome whole world (unused world.folder line)) (sym is) (inl (usage, line, fault, reported, refl))
 
 script_of : (words : List Bytes) (name : Bytes) (world : World) (left : Left) → command_line_of words ≡ Ok (record { options = plain; given = script name })
     → ScriptOutcome plain name world left → WordsOutcome words world left
@@ -79,13 +79,13 @@ refused operand fault = of_operand (record { operand = operand; fault = fault })
 abbrev rule_x : Bytes → Target
 rule_x current = record { «package» = current; which = Name (codes "x") }
 
-abbrev undo : ℕ → Bytes → Asking
+abbrev undo : ℕ → Bytes → Request
 undo count text = record { verb = Undo count; text = text }
 
-abbrev undo_input : Asked
+abbrev undo_input : Requested
 undo_input = record { commands = undo 1 (codes "undo") ∷ []; targets = rule_x (codes "-") ∷ [] }
 
-abbrev only_delete : Asked
+abbrev only_delete : Requested
 only_delete = record { commands = record { verb = Do (w.Rule wr.Delete); text = codes "delete" } ∷ []; targets = [] }
 
 comment_is_text : is_utf8 (codes "# none\n\n") ≡ true
@@ -104,12 +104,12 @@ usage = (
   (λ world. usage_of [] no_command (codes "buildozer: no command\n") world refl refl refl),
   (λ world. usage_of (codes "add deps" ∷ codes "grow" ∷ codes "//:x" ∷ []) (refused (codes "add deps") (Command Arguments))
       (codes "buildozer: add deps: Arguments (32)\nbuildozer: the form is 'add ATTR VALUE..'\n") world refl
-      (record { front = []; rest = codes "grow" ∷ codes "//:x" ∷ []; asked = nothing_asked; split = refl; before = refl; fault = inl refl }) refl),
+      (record { front = []; rest = codes "grow" ∷ codes "//:x" ∷ []; requested = nothing_requested; split = refl; before = refl; fault = inl refl }) refl),
   (λ world. usage_of (codes "delete" ∷ codes "//a/:x" ∷ []) (refused (codes "//a/:x") BadTarget) (codes "buildozer: //a/:x: BadTarget (12)\n") world refl
-      (record { front = codes "delete" ∷ []; rest = []; asked = only_delete; split = refl; before = refl; fault = inl refl }) refl),
+      (record { front = codes "delete" ∷ []; rest = []; requested = only_delete; split = refl; before = refl; fault = inl refl }) refl),
   (λ world. usage_of (codes "help" ∷ codes "//:x" ∷ []) (refused (codes "help") (Command Unknown))
       (codes "buildozer: help: Unknown (31)\nbuildozer: see buildozer --help, or man buildozer\n") world refl
-      (record { front = []; rest = codes "//:x" ∷ []; asked = nothing_asked; split = refl; before = refl; fault = inl refl }) refl),
+      (record { front = []; rest = codes "//:x" ∷ []; requested = nothing_requested; split = refl; before = refl; fault = inl refl }) refl),
   (λ world. (codes "buildozer: operands beside -f\n", refl, refl)),
   (λ world. (codes "buildozer: --stdout beside --journal\n", refl, refl)),
   (λ line world. (line, tt, refl)),
@@ -134,11 +134,11 @@ usage = (
 abbrev set_text : Bytes
 set_text = codes "set size small"
 
-abbrev set_size : Asking
+abbrev set_size : Request
 set_size = record { verb = Do (w.Attribute (wa.Set (codes "size") (codes "small" ∷ []))); text = set_text }
 
-abbrev step_at : Bytes → Asking → RunStep
-step_at current asking = record { target = rule_x current; asking = asking }
+abbrev step_at : Bytes → Request → RunStep
+step_at current request = record { target = rule_x current; request = request }
 
 abbrev set_history : Bytes → History
 set_history current = changed set_text (opened current text_read) text_made
@@ -159,7 +159,7 @@ does : (world : World) (step : RunStep) (before after : Progress) (place : ℕ) 
     → Uses world step.target.«package» before.used place opening used → Answers step place (file_at place used) (record before { used = used }) answer after
     → Does world step before (opening ++ answer) after
 does world step before after place used opening answer uses answers =
-    record { place = place; used = used; opening = opening; answer = answer; uses = uses; answers = answers; told = refl }
+    record { place = place; used = used; opening = opening; answer = answer; uses = uses; answers = answers; reported = refl }
 
 -- A package is used for the first time, and its file is opened.
 opens : (world : World) (current name : Bytes) (used : List Used) → package_number current used ≡ None → Finds world current (Some (name, text_read))
@@ -175,7 +175,7 @@ sets current name place state =
 
 goes_back : (current : Bytes) (count : ℕ) (text : Bytes) (place : ℕ) (file : Opened) (state : Progress) (answer : Answer) (history : History)
     → length text ≤ note_limit → (answer, history) ≡ undone count file.history
-    → Answers (step_at current (undo count text)) place (Some file) state (told_of file.name text answer) (answered place file answer history state)
+    → Answers (step_at current (undo count text)) place (Some file) state (reported_of file.name text answer) (answered place file answer history state)
 goes_back current count text place file state answer history short is = (answer, history, inr (short, is), refl, refl)
 
 one_step : (world : World) (keep : Bool) (step : RunStep) (steps : List RunStep) (before mid after : Progress) (first rest : List Bytes)
@@ -183,12 +183,12 @@ one_step : (world : World) (keep : Bool) (step : RunStep) (steps : List RunStep)
     → RunsSteps world keep (step ∷ steps) before (first ++ rest) after
 one_step world keep step steps before mid after first rest going done more = inr (going, (mid, first, rest, done, more, refl))
 
-run_of : (words texts : List Bytes) (options : Options) (asked : Asked) (world : World) (left : Left)
-    → options.journal ≡ false → command_line_of words ≡ Ok (record { options = options; given = operands texts }) → operand_group texts ≡ Ok asked
-    → Performs options (all_steps (asked ∷ [])) world left → WordsOutcome words world left
-run_of words texts options asked world left alone is group done =
+run_of : (words texts : List Bytes) (options : Options) (requested : Requested) (world : World) (left : Left)
+    → options.journal ≡ false → command_line_of words ≡ Ok (record { options = options; given = operands texts }) → operand_group texts ≡ Ok requested
+    → Performs options (all_steps (requested ∷ [])) world left → WordsOutcome words world left
+run_of words texts options requested world left alone is group done =
     subst (λ (whole : Result CommandLine LineUsage). LineOutcome whole world left) (sym is)
-    (inr (asked, group, inr (ap (λ (kept : Bool). kept && names_input (asked ∷ [])) alone, inl (alone, done))))
+    (inr (requested, group, inr (ap (λ (kept : Bool). kept && names_input (requested ∷ [])) alone, inl (alone, done))))
 
 -- ---- the first step, `set size small` or `undo`, in a file that is found
 
@@ -204,12 +204,12 @@ set_first world current name finds =
 -- What `set size small` made is taken back by this many steps, or that is refused.
 set_back : (world : World) (current name : Bytes) (count : ℕ) (text : Bytes) (answer : Answer) (history : History)
     → package_number current (after_set current name).used ≡ Some 0 → length text ≤ note_limit → (answer, history) ≡ undone count (set_history current)
-    → Does world (step_at current (undo count text)) (after_set current name) (told_of name text answer)
+    → Does world (step_at current (undo count text)) (after_set current name) (reported_of name text answer)
     (answered 0 (opened_with name text_read (set_history current)) answer history (after_set current name))
 set_back world current name count text answer history there short is =
     let file : Opened = opened_with name text_read (set_history current) in
     does world (step_at current (undo count text)) (after_set current name) (answered 0 file answer history (after_set current name)) 0
-    (after_set current name).used [] (told_of name text answer) (inl (there, refl, refl))
+    (after_set current name).used [] (reported_of name text answer) (inl (there, refl, refl))
     (goes_back current count text 0 file (after_set current name) answer history short is)
 
 abbrev back_history : Bytes → History
@@ -235,8 +235,8 @@ finds_build world has = inr (apart [] refl, sym (second_found world.folder [] (S
 abbrev made_lines : List Bytes
 made_lines = codes "fixed BUILD\n" ∷ []
 
-abbrev asked_of : List Asking → List Target → Asked
-asked_of commands targets = record { commands = commands; targets = targets }
+abbrev requested_of : List Request → List Target → Requested
+requested_of commands targets = record { commands = commands; targets = targets }
 
 abbrev rule_word : Bytes
 rule_word = codes "//:x"
@@ -289,22 +289,22 @@ over_build : (world : World) → HasBuild world → OverBuild world
 unfolding clap_on_literals
 over_build world has =
     let written : Folder = with_file world.folder build text_made in
-    let asked : Asked = asked_of (set_size ∷ []) (rule_x [] ∷ []) in (
-      run_of (set_text ∷ rule_word ∷ []) (set_text ∷ rule_word ∷ []) plain asked world (left_of [] made_lines 0 written) refl refl refl
-          (record { told = []; state = after_set [] build; runs = run_set world false has; output = refl; writes = (has.1, written, (λ name other. refl), refl); lines = refl; status = refl }),
-      run_of (codes "--quiet" ∷ set_text ∷ rule_word ∷ []) (set_text ∷ rule_word ∷ []) (record plain { quiet = true }) asked world (left_of [] [] 0 written) refl refl refl
-          (record { told = []; state = after_set [] build; runs = run_set world false has; output = refl; writes = (has.1, written, (λ name other. refl), refl); lines = refl; status = refl }),
-      run_of (codes "--stdout" ∷ set_text ∷ rule_word ∷ []) (set_text ∷ rule_word ∷ []) (record plain { to_stdout = true }) asked world (left_of text_made [] 0 world.folder) refl refl refl
-          (record { told = []; state = after_set [] build; runs = run_set world false has; output = refl; writes = refl; lines = refl; status = refl }),
-      run_of (set_text ∷ undo_text ∷ rule_word ∷ []) (set_text ∷ undo_text ∷ rule_word ∷ []) plain (asked_of (set_size ∷ undo 1 undo_text ∷ []) (rule_x [] ∷ []))
+    let requested : Requested = requested_of (set_size ∷ []) (rule_x [] ∷ []) in (
+      run_of (set_text ∷ rule_word ∷ []) (set_text ∷ rule_word ∷ []) plain requested world (left_of [] made_lines 0 written) refl refl refl
+          (record { reported = []; state = after_set [] build; runs = run_set world false has; output = refl; writes = (has.1, written, (λ name other. refl), refl); lines = refl; status = refl }),
+      run_of (codes "--quiet" ∷ set_text ∷ rule_word ∷ []) (set_text ∷ rule_word ∷ []) (record plain { quiet = true }) requested world (left_of [] [] 0 written) refl refl refl
+          (record { reported = []; state = after_set [] build; runs = run_set world false has; output = refl; writes = (has.1, written, (λ name other. refl), refl); lines = refl; status = refl }),
+      run_of (codes "--stdout" ∷ set_text ∷ rule_word ∷ []) (set_text ∷ rule_word ∷ []) (record plain { to_stdout = true }) requested world (left_of text_made [] 0 world.folder) refl refl refl
+          (record { reported = []; state = after_set [] build; runs = run_set world false has; output = refl; writes = refl; lines = refl; status = refl }),
+      run_of (set_text ∷ undo_text ∷ rule_word ∷ []) (set_text ∷ undo_text ∷ rule_word ∷ []) plain (requested_of (set_size ∷ undo 1 undo_text ∷ []) (rule_x [] ∷ []))
           world (left_of [] [] 3 world.folder) refl refl refl
-          (record { told = []; state = after_back [] build; runs = run_set_undo world [] build refl (finds_build world has); output = refl; writes = refl; lines = refl; status = refl }),
+          (record { reported = []; state = after_back [] build; runs = run_set_undo world [] build refl (finds_build world has); output = refl; writes = refl; lines = refl; status = refl }),
       run_of (set_text ∷ codes "undo 2" ∷ rule_word ∷ []) (set_text ∷ codes "undo 2" ∷ rule_word ∷ []) plain
-          (asked_of (set_size ∷ undo 2 (codes "undo 2") ∷ []) (rule_x [] ∷ [])) world (left_of [] (refused_two ∷ made_lines) 2 written) refl refl refl
-          (record { told = refused_two ∷ []; state = after_two; runs = run_two world has; output = refl; writes = (has.1, written, (λ name other. refl), refl); lines = refl; status = refl }),
-      run_of (undo_text ∷ rule_word ∷ []) (undo_text ∷ rule_word ∷ []) plain (asked_of (undo 1 undo_text ∷ []) (rule_x [] ∷ [])) world
+          (requested_of (set_size ∷ undo 2 (codes "undo 2") ∷ []) (rule_x [] ∷ [])) world (left_of [] (refused_two ∷ made_lines) 2 written) refl refl refl
+          (record { reported = refused_two ∷ []; state = after_two; runs = run_two world has; output = refl; writes = (has.1, written, (λ name other. refl), refl); lines = refl; status = refl }),
+      run_of (undo_text ∷ rule_word ∷ []) (undo_text ∷ rule_word ∷ []) plain (requested_of (undo 1 undo_text ∷ []) (rule_x [] ∷ [])) world
           (left_of [] (refused_one ∷ []) 2 world.folder) refl refl refl
-          (record { told = refused_one ∷ []; state = after_one; runs = run_one world has; output = refl; writes = refl; lines = refl; status = refl }),
+          (record { reported = refused_one ∷ []; state = after_one; runs = run_one world has; output = refl; writes = refl; lines = refl; status = refl }),
     )
 
 -- ---- runs that mean package `none`, of which no file is there
@@ -318,12 +318,12 @@ none_line = codes "none/BUILD: cannot open\n"
 abbrev after_none : Progress
 after_none = state_of (none_used ∷ []) true
 
-fails_first : (world : World) (asking : Asking) → found_in world.folder none ≡ None → Does world (step_at none asking) nothing_done (none_line ∷ []) after_none
-fails_first world asking gone = does world (step_at none asking) nothing_done after_none 0 (none_used ∷ []) (none_line ∷ []) []
+fails_first : (world : World) (request : Request) → found_in world.folder none ≡ None → Does world (step_at none request) nothing_done (none_line ∷ []) after_none
+fails_first world request gone = does world (step_at none request) nothing_done after_none 0 (none_used ∷ []) (none_line ∷ []) []
     (inr (refl, refl, (None, None, inr (apart none refl, sym gone), (refl, refl), refl))) (refl, refl)
 
-fails_again : (world : World) (asking : Asking) → Does world (step_at none asking) after_none [] after_none
-fails_again world asking = does world (step_at none asking) after_none after_none 0 (none_used ∷ []) [] [] (inl (refl, refl, refl)) (refl, refl)
+fails_again : (world : World) (request : Request) → Does world (step_at none request) after_none [] after_none
+fails_again world request = does world (step_at none request) after_none after_none 0 (none_used ∷ []) [] [] (inl (refl, refl, refl)) (refl, refl)
 
 abbrev after_both : Progress
 after_both = state_of (none_used ∷ file_with [] build (set_history []) ∷ []) true
@@ -334,7 +334,7 @@ set_next world has =
     does world (step_at [] set_size) after_none after_both 1 used [] [] (opens world [] build (none_used ∷ []) refl (finds_build world has))
     (sets [] build 1 (state_of used true))
 
-abbrev redo : Asking
+abbrev redo : Request
 redo = record { verb = Redo 1; text = codes "redo" }
 
 beside_none : (world : World) → HasBuild world → found_in world.folder none ≡ None → BesideNone world
@@ -343,10 +343,10 @@ beside_none world has gone =
     let written : Folder = with_file world.folder build text_made in
     let keep : Options = record plain { keep_going = true } in
     let texts : List Bytes = set_text ∷ codes "//none:x" ∷ rule_word ∷ [] in
-    let asked : Asked = asked_of (set_size ∷ []) (rule_x none ∷ rule_x [] ∷ []) in (
-      run_of texts texts plain asked world (left_of [] (none_line ∷ []) 2 world.folder) refl refl refl
+    let requested : Requested = requested_of (set_size ∷ []) (rule_x none ∷ rule_x [] ∷ []) in (
+      run_of texts texts plain requested world (left_of [] (none_line ∷ []) 2 world.folder) refl refl refl
           (record {
-            told = none_line ∷ [];
+            reported = none_line ∷ [];
             state = after_none;
             output = refl;
             writes = refl;
@@ -355,9 +355,9 @@ beside_none world has gone =
             runs = one_step world false (step_at none set_size) (step_at [] set_size ∷ []) nothing_done after_none after_none (none_line ∷ []) [] refl
                 (fails_first world set_size gone) (inl (refl, refl, refl));
           }),
-      run_of (codes "-k" ∷ texts) texts keep asked world (left_of [] (none_line ∷ made_lines) 2 written) refl refl refl
+      run_of (codes "-k" ∷ texts) texts keep requested world (left_of [] (none_line ∷ made_lines) 2 written) refl refl refl
           (record {
-            told = none_line ∷ [];
+            reported = none_line ∷ [];
             state = after_both;
             output = refl;
             writes = (has.1, written, (λ name other. refl), refl);
@@ -367,9 +367,9 @@ beside_none world has gone =
                 (one_step world true (step_at [] set_size) [] after_none after_both after_both [] [] refl (set_next world has) (refl, refl));
           }),
       run_of (codes "-k" ∷ undo_text ∷ codes "redo" ∷ codes "//none:x" ∷ []) (undo_text ∷ codes "redo" ∷ codes "//none:x" ∷ []) keep
-          (asked_of (undo 1 undo_text ∷ redo ∷ []) (rule_x none ∷ [])) world (left_of [] (none_line ∷ []) 2 world.folder) refl refl refl
+          (requested_of (undo 1 undo_text ∷ redo ∷ []) (rule_x none ∷ [])) world (left_of [] (none_line ∷ []) 2 world.folder) refl refl refl
           (record {
-            told = none_line ∷ [];
+            reported = none_line ∷ [];
             state = after_none;
             output = refl;
             writes = refl;
@@ -391,10 +391,10 @@ unfolding clap_on_literals
 over_input folder =
     let world : World = record { folder = folder; known = Some text_read } in
     let finds : Finds world dash (Some (stdin, text_read)) = inl (refl, (text_read, refl, refl)) in (
-      run_of (codes "--" ∷ set_text ∷ codes "-:x" ∷ []) (set_text ∷ codes "-:x" ∷ []) plain (asked_of (set_size ∷ []) (rule_x dash ∷ [])) world
+      run_of (codes "--" ∷ set_text ∷ codes "-:x" ∷ []) (set_text ∷ codes "-:x" ∷ []) plain (requested_of (set_size ∷ []) (rule_x dash ∷ [])) world
           (left_of text_made [] 0 folder) refl refl refl
           (record {
-            told = [];
+            reported = [];
             state = after_set dash stdin;
             output = refl;
             writes = refl;
@@ -403,9 +403,9 @@ over_input folder =
             runs = one_step world false (step_at dash set_size) [] nothing_done (after_set dash stdin) (after_set dash stdin) [] [] refl (set_first world dash stdin finds) (refl, refl);
           }),
       run_of (codes "--" ∷ set_text ∷ undo_text ∷ codes "-:x" ∷ []) (set_text ∷ undo_text ∷ codes "-:x" ∷ []) plain
-          (asked_of (set_size ∷ undo 1 undo_text ∷ []) (rule_x dash ∷ [])) world (left_of text_read [] 3 folder) refl refl refl
+          (requested_of (set_size ∷ undo 1 undo_text ∷ []) (rule_x dash ∷ [])) world (left_of text_read [] 3 folder) refl refl refl
           (record {
-            told = [];
+            reported = [];
             state = after_back dash stdin;
             output = refl;
             writes = refl;

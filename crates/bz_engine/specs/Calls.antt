@@ -7,7 +7,7 @@ use Rattle.bz_items.specs.Characters.{Bytes}
 use Rattle.bz_files.specs.Folder.{Folder, Elapses}
 use Rattle.bz_files.specs.declared.files.Files.{Ghosts as FilesOf}
 use Rattle.bz_ports.specs.Faults.{AppendsSome, AppendsUnlessFailed}
-use Rattle.bz_ports.specs.Outputs.{Tells, Counts}
+use Rattle.bz_ports.specs.Outputs.{Reports, Counts}
 use Rattle.bz_ports.specs.declared.exit.Cut.{Cut}
 use Rattle.bz_ports.specs.declared.exit.Cut.TheVariants as c
 use Rattle.bz_ports.specs.declared.sink.Sink.{Ghosts as SinkOf}
@@ -29,12 +29,12 @@ use Rattle.bz_engine.specs.declared.run.Run.{Run}
 -- ---- standard error
 
 -- A line was printed, whole unless its writing failed.
-abbrev pub TellsLine : {E : Type 0} → SinkOf E → E → E → Bytes → Type 0
-TellsLine sink old new line = AppendsUnlessFailed (sink.faults old) (sink.faults new) (sink.contents old) (sink.contents new) line
+abbrev pub ReportsLine : {E : Type 0} → SinkOf E → E → E → Bytes → Type 0
+ReportsLine sink old new line = AppendsUnlessFailed (sink.faults old) (sink.faults new) (sink.contents old) (sink.contents new) line
 
 -- Lines were printed one after the other, each whole unless its writing failed.
-abbrev pub TellsLines : {E : Type 0} → SinkOf E → E → E → List Bytes → Type 0
-TellsLines sink old new lines = Tells (sink.faults old) (sink.faults new) (sink.contents old) (sink.contents new) lines
+abbrev pub ReportsLines : {E : Type 0} → SinkOf E → E → E → List Bytes → Type 0
+ReportsLines sink old new lines = Reports (sink.faults old) (sink.faults new) (sink.contents old) (sink.contents new) lines
 
 -- ---- standard output
 
@@ -100,35 +100,35 @@ KeepsSome files place action note before after old new = (answer : Result Reply 
 -- What a step does in an open file, whatever comes: nothing; or its action is done there, and kept or not.
 abbrev pub KeepsStep : {F : Type 0} → FilesOf F → RunStep → ℕ → List Used → List Used → F → F → Type 0
 KeepsStep files step place before after old new = ((after ≡ before) × (new ≡ old))
-    ⊎ ((is_left_at place before ≡ false) × ((action : Action) × (action_of step.target step.asking.verb ≡ Some action)
-    × KeepsSome files place action step.asking.text before after old new))
+    ⊎ ((is_left_at place before ≡ false) × ((action : Action) × (action_of step.target step.request.verb ≡ Some action)
+    × KeepsSome files place action step.request.text before after old new))
 
 -- Where a run is: how far it has come, what is left of standard input, the files, and standard error. (Of each, the count of faults.)
 pub record RunSpot : Type 1 where
   pub state : Progress
   pub left : Option Bytes
-  pub reads : ℕ
+  pub read_faults : ℕ
   pub sound : Bool
   pub folder : Folder
   pub moment : ℕ
   pub since : ℕ → Folder → Type 0
   pub honest : Bool
-  pub files : ℕ
-  pub told : Option Bytes
+  pub file_faults : ℕ
+  pub reported : Option Bytes
   pub faults : ℕ
 
 abbrev pub spot : {R F E : Type 0} → SourceOf R → FilesOf F → SinkOf E → Run → R → F → E → RunSpot
 spot source files errors run input held err = record {
   state = progress_in run;
   left = source.remaining input;
-  reads = source.faults input;
+  read_faults = source.faults input;
   sound = source.sound input;
   folder = files.folder held;
   moment = files.moment held;
   since = files.since held;
   honest = files.honest held;
-  files = files.faults held;
-  told = errors.contents err;
+  file_faults = files.faults held;
+  reported = errors.contents err;
   faults = errors.faults err;
 }
 
@@ -138,17 +138,17 @@ abbrev pub DoesBetween : Folder → (World → Progress → List Bytes → Progr
 DoesBetween folder Does old new = (known : Option Bytes) → IsLeft known old.state.used old.left → (lines : List Bytes)
     × Does (record { folder = folder; known = known }) old.state lines new.state
     × IsLeft known new.state.used new.left
-    × Tells old.faults new.faults old.told new.told lines
+    × Reports old.faults new.faults old.reported new.reported lines
 
 -- Nothing is read of standard input, from one spot to another. (Why that is cut.)
 abbrev pub ReadsNoInput : Cut → RunSpot → RunSpot → Type 0
-ReadsNoInput why old new = (new.left ≡ old.left) × (new.reads ≡ old.reads) × (why ≢ c.Read)
+ReadsNoInput why old new = (new.left ≡ old.left) × (new.read_faults ≡ old.read_faults) × (why ≢ c.Read)
 
 -- This is done from one spot to another, and in the folder, where each open file is; and its lines are printed.
 abbrev pub KeepsBetween : (Folder → Progress → List Bytes → Folder → Progress → Type 0) → RunSpot → RunSpot → Type 0
 KeepsBetween Keeps old new = AllAreKept old.folder old.state.used → (lines : List Bytes)
     × Keeps old.folder old.state lines new.folder new.state
-    × Tells old.faults new.faults old.told new.told lines
+    × Reports old.faults new.faults old.reported new.reported lines
 
 -- From one spot to another of a run that began with any folder: where each open file was safe each one is again, each folder is at a
 -- moment of these steps, and one that is at a moment of further steps after them is at one of all.
@@ -171,14 +171,14 @@ pub record Proceeds (journals : Bool) (Premise : Type 0) (steps : List RunStep) 
   pub unread : journals ≡ true → ReadsNoInput why old new
   pub works : old.sound ≡ true → why ≢ c.Read
   pub sound : new.sound ≡ old.sound
-  pub cut : AreCutBy why old.reads new.reads old.files new.files
-  pub reads : Counts old.reads new.reads
-  pub counts : Counts old.files new.files
+  pub cut : AreCutBy why old.read_faults new.read_faults old.file_faults new.file_faults
+  pub read_faults : Counts old.read_faults new.read_faults
+  pub counts : Counts old.file_faults new.file_faults
   pub honest : new.honest ≡ old.honest
 
 -- ---- what a run leaves
 
 -- The writers and the folder hold what is left. (The status, standard output and standard error before and after, and the files after.)
-abbrev pub LeavesBehind : {W E F : Type 0} → SinkOf W → SinkOf E → FilesOf F → Left → ℕ → W → W → E → E → F → Type 0
-LeavesBehind sink errors files left status out out' err err' held' =
+abbrev pub LeavesAfter : {W E F : Type 0} → SinkOf W → SinkOf E → FilesOf F → Left → ℕ → W → W → E → E → F → Type 0
+LeavesAfter sink errors files left status out out' err err' held' =
     LeftStands left status (files.folder held') (sink.contents out) (sink.contents out') (errors.faults err) (errors.faults err') (errors.contents err) (errors.contents err')

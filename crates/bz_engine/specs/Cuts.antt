@@ -10,11 +10,11 @@ use Rattle.bz_engine.specs.Steps.{input_package}
 
 -- Steps are cut where a count of faults rose; where none is, none has risen. (Standard input, then files, each before and after.)
 abbrev pub AreCutBy : Cut → ℕ → ℕ → ℕ → ℕ → Type 0
-AreCutBy c.Whole reads reads' files files' = (reads' ≡ reads) × (files' ≡ files)
-AreCutBy c.Memory reads reads' files files' = Unit {0}
-AreCutBy c.Read reads reads' files files' = Rises reads reads'
-AreCutBy c.Write reads reads' files files' = ⊥
-AreCutBy c.Files reads reads' files files' = Rises files files'
+AreCutBy c.Whole read_faults read_faults' files files' = (read_faults' ≡ read_faults) × (files' ≡ files)
+AreCutBy c.Memory read_faults read_faults' files files' = Unit {0}
+AreCutBy c.Read read_faults read_faults' files files' = Rises read_faults read_faults'
+AreCutBy c.Write read_faults read_faults' files files' = ⊥
+AreCutBy c.Files read_faults read_faults' files files' = Rises files files'
 
 -- What is done on files is cut for memory, or where a count of faults rose; where it is not, none has risen.
 abbrev pub CutsFiles : Cut → ℕ → ℕ → Type 0
@@ -27,11 +27,11 @@ IsLeft known used remaining = package_number input_package used ≡ None → rem
 -- A run is cut where a count of faults rose; where none is, none has risen. (Standard input, standard output and files, each before
 -- and after.)
 abbrev pub IsEndedBy : Cut → ℕ → ℕ → ℕ → ℕ → ℕ → ℕ → Type 0
-IsEndedBy c.Whole reads reads' writes writes' files files' = (reads' ≡ reads) × (writes' ≡ writes) × (files' ≡ files)
-IsEndedBy c.Memory reads reads' writes writes' files files' = Unit {0}
-IsEndedBy c.Read reads reads' writes writes' files files' = Rises reads reads'
-IsEndedBy c.Write reads reads' writes writes' files files' = Rises writes writes'
-IsEndedBy c.Files reads reads' writes writes' files files' = Rises files files'
+IsEndedBy c.Whole read_faults read_faults' writes writes' files files' = (read_faults' ≡ read_faults) × (writes' ≡ writes) × (files' ≡ files)
+IsEndedBy c.Memory read_faults read_faults' writes writes' files files' = Unit {0}
+IsEndedBy c.Read read_faults read_faults' writes writes' files files' = Rises read_faults read_faults'
+IsEndedBy c.Write read_faults read_faults' writes writes' files files' = Rises writes writes'
+IsEndedBy c.Files read_faults read_faults' writes writes' files files' = Rises files files'
 
 -- ---- standard input that can't be read
 

@@ -8,11 +8,11 @@ use Rattle.bz_items.specs.Characters.{Bytes}
 use Rattle.bz_files.specs.Folder.{Folder, SameBut, new_name, with_file}
 use Rattle.bz_workspace.specs.Sessions.{present}
 use Rattle.bz_line.specs.declared.line.Options.{Options}
-use Rattle.bz_ports.specs.Outputs.{Tells}
+use Rattle.bz_ports.specs.Outputs.{Reports}
 use Rattle.bz_workspace.specs.Packages.{Opened, Used}
 use Rattle.bz_engine.specs.Run.{World, Progress, nothing_done, RunsSteps}
 use Rattle.bz_engine.specs.Steps.{RunStep, input_package, shows_input}
-use Rattle.bz_engine.specs.Told.{fixed_line}
+use Rattle.bz_engine.specs.Reported.{fixed_line}
 
 -- the text at the end is another one than was read
 abbrev pub differs : Opened → Bool
@@ -104,12 +104,12 @@ pub record Left : Type 0 where
 
 -- Steps are run; then standard output is given what they printed and the texts after it, and files are written.
 pub record Performs (options : Options) (steps : List RunStep) (world : World) (left : Left) : Type 0 where
-  pub told : List Bytes
+  pub reported : List Bytes
   pub state : Progress
-  pub runs : RunsSteps world options.keep_going steps nothing_done told state
+  pub runs : RunsSteps world options.keep_going steps nothing_done reported state
   pub output : left.output ≡ state.printed ++ texts_out (shows_input steps) options.to_stdout state.used
   pub writes : WritesFiles (all_writings options.to_stdout state.used) world.folder left.folder
-  pub lines : left.lines ≡ told ++ fixed_lines options.quiet (all_writings options.to_stdout state.used)
+  pub lines : left.lines ≡ reported ++ fixed_lines options.quiet (all_writings options.to_stdout state.used)
   pub status : left.status ≡ status_of state
 
 -- What is left is in the writers and in the folder. (Standard output before and after; the faults of standard error and what it
@@ -118,4 +118,4 @@ pub record LeftStands (left : Left) (status : ℕ) (folder : Folder) (out out' :
   pub exit : status ≡ left.status
   pub files : folder ≡ left.folder
   pub output : Appends out out' left.output
-  pub lines : Tells faults faults' err err' left.lines
+  pub lines : Reports faults faults' err err' left.lines

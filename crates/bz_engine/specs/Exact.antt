@@ -7,21 +7,21 @@ use Rattle.bz_items.specs.Characters.{Bytes}
 use Rattle.bz_files.specs.Folder.{IsAside, SameBut}
 use Rattle.bz_tree.specs.Faults.{IsFaultOf}
 use Rattle.bz_keep.specs.Pair.{journal_name}
-use Rattle.bz_line.specs.Asked.{Refused, of_operand}
+use Rattle.bz_line.specs.Requested.{Refused, of_operand}
 use Rattle.bz_line.specs.Line.{Given, operands, script, CommandLine, of_clap, command_line_of}
 use Rattle.bz_line.specs.Refused.{IsPatternFault, IsFirstRefused, IsFirstFault}
 use Rattle.bz_line.specs.Script.{lines_in}
-use Rattle.bz_ports.specs.Told.{fault_line}
+use Rattle.bz_ports.specs.Reported.{fault_line}
 use Rattle.bz_engine.specs.Ending.{Left}
 use Rattle.bz_engine.specs.Outcome.{WordsOutcome, IsScript, unused}
 use Rattle.bz_engine.specs.Run.{World, Finds}
-use Rattle.bz_engine.specs.Told.{operand_line}
+use Rattle.bz_engine.specs.Reported.{operand_line}
 
 -- ---- lines
 
 -- Two lines report a fault of one text that is read for a package and isn't accepted. The faults are TooLarge or NotUtf8 exactly where
 -- the text is that; what else it is, and its place, may differ.
-pub record TellFaults (world : World) (line other : Bytes) : Type 0 where
+pub record ReportFaults (world : World) (line other : Bytes) : Type 0 where
   pub current : Bytes
   pub name : Bytes
   pub text : Bytes
@@ -31,15 +31,15 @@ pub record TellFaults (world : World) (line other : Bytes) : Type 0 where
   pub refused : Accepted text → ⊥
   pub one : IsFaultOf text first
   pub two : IsFaultOf text second
-  pub told : line ≡ fault_line name first
-  pub told_other : other ≡ fault_line name second
+  pub reported : line ≡ fault_line name first
+  pub reported_other : other ≡ fault_line name second
 
 -- clap finds a fault in the words, and reports it in its own text
 abbrev pub AreClaps : List Bytes → Type 0
 AreClaps words = command_line_of words ≡ Err of_clap
 
 abbrev pub SameLine : List Bytes → World → Bytes → Bytes → Type 0
-SameLine words world line other = (line ≡ other) ⊎ TellFaults world line other ⊎ AreClaps words
+SameLine words world line other = (line ≡ other) ⊎ ReportFaults world line other ⊎ AreClaps words
 
 -- as many lines, each the same as the other
 abbrev pub SameLines : List Bytes → World → List Bytes → List Bytes → Type 0
@@ -63,19 +63,19 @@ pub record SameLeft (words : List Bytes) (world : World) (left other : Left) : T
   pub folder : SameBut (IsLeftOpen words) left.folder other.folder
 
 -- Nothing is done, and the pattern of this operand is reported as one that `regex` refuses.
-abbrev pub IsToldPattern : Refused → World → Left → Type 0
-IsToldPattern refused world left = IsPatternFault refused.operand refused.fault × (left ≡ unused world.folder (operand_line refused))
+abbrev pub IsReportedPattern : Refused → World → Left → Type 0
+IsReportedPattern refused world left = IsPatternFault refused.operand refused.fault × (left ≡ unused world.folder (operand_line refused))
 
 -- The operand is among the words, or in the file of lines.
-abbrev pub GivenTellsPattern : Given → World → Left → Type 0
-GivenTellsPattern (operands texts) world left = (refused : Refused) × IsFirstRefused texts refused × IsToldPattern refused world left
-GivenTellsPattern (script name) world left =
-    (text : Bytes) × IsScript world name (Some text) × (refused : Refused) × IsFirstFault (lines_in text) (of_operand refused) × IsToldPattern refused world left
+abbrev pub GivenReportsPattern : Given → World → Left → Type 0
+GivenReportsPattern (operands texts) world left = (refused : Refused) × IsFirstRefused texts refused × IsReportedPattern refused world left
+GivenReportsPattern (script name) world left =
+    (text : Bytes) × IsScript world name (Some text) × (refused : Refused) × IsFirstFault (lines_in text) (of_operand refused) × IsReportedPattern refused world left
 
-abbrev pub TellsPattern : List Bytes → World → Left → Type 0
-TellsPattern words world left = (line : CommandLine) × (command_line_of words ≡ Ok line) × GivenTellsPattern line.given world left
+abbrev pub ReportsPattern : List Bytes → World → Left → Type 0
+ReportsPattern words world left = (line : CommandLine) × (command_line_of words ≡ Ok line) × GivenReportsPattern line.given world left
 
 -- Two outcomes of words are the same, unless one of them is that a pattern is refused.
 abbrev pub OutcomesAreExact : Type 0
 OutcomesAreExact = (words : List Bytes) (world : World) (bytes : Bytes) (left other : Left) → world.known ≡ Some bytes → WordsOutcome words world left
-    → WordsOutcome words world other → TellsPattern words world left ⊎ TellsPattern words world other ⊎ SameLeft words world left other
+    → WordsOutcome words world other → ReportsPattern words world left ⊎ ReportsPattern words world other ⊎ SameLeft words world left other

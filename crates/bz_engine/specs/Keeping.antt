@@ -15,7 +15,7 @@ use Rattle.bz_workspace.specs.Keeps.{after_keeping}
 use Rattle.bz_workspace.specs.Packages.{Opened, Used, package_number, file_at, with_opened}
 use Rattle.bz_workspace.specs.Sessions.{History, Answer, present}
 use Rattle.bz_engine.specs.Ending.{Left, all_kept, texts_out, fixed_lines, status_of}
-use Rattle.bz_engine.specs.Run.{World, Progress, LeadsBy, ends_run, nothing_done, printed_by, told_of}
+use Rattle.bz_engine.specs.Run.{World, Progress, LeadsBy, ends_run, nothing_done, printed_by, reported_of}
 use Rattle.bz_engine.specs.Steps.{RunStep, action_of, shows_input}
 
 -- ---- one step
@@ -29,14 +29,14 @@ UsesBeside folder current before place lines after =
     × (after ≡ before ++ record { «package» = current; file = file } ∷ [])))
 
 -- the file after an answer that left it this history: with its journal it was written where another text is the present one
-abbrev pub file_behind : Answer → History → Opened → Opened
-file_behind (Ok reply) history file = after_keeping (Ok reply) history file
-file_behind (Err refusal) history file = record file { history = history }
+abbrev pub file_after : Answer → History → Opened → Opened
+file_after (Ok reply) history file = after_keeping (Ok reply) history file
+file_after (Err refusal) history file = record file { history = history }
 
 -- the state after an answer of the open file with this number
-abbrev pub state_behind : ℕ → Opened → Answer → History → Progress → Progress
-state_behind place file answer history state = record {
-  used = with_opened place (Some (file_behind answer history file)) state.used;
+abbrev pub state_after : ℕ → Opened → Answer → History → Progress → Progress
+state_after place file answer history state = record {
+  used = with_opened place (Some (file_after answer history file)) state.used;
   printed = state.printed ++ printed_by answer;
   failed = state.failed || is_err answer;
 }
@@ -50,19 +50,19 @@ pub record KeepsHistory (name : Bytes) (history : History) (before after : Folde
   pub others : OthersStay name before after
 
 -- The folder after an answer: where another text is the present one its history is kept, else the folder stays.
-abbrev pub FolderBehind : Answer → Opened → History → Folder → Folder → Type 0
-FolderBehind (Ok reply) file history before after =
+abbrev pub FolderAfter : Answer → Opened → History → Folder → Folder → Type 0
+FolderAfter (Ok reply) file history before after =
     ((history.cursor ≡ file.history.cursor) × (after ≡ before))
     ⊎ ((history.cursor ≢ file.history.cursor) × KeepsHistory file.name history before after)
-FolderBehind (Err refusal) file history before after = after ≡ before
+FolderAfter (Err refusal) file history before after = after ≡ before
 
 -- In a package without an open file a step does nothing and fails.
 abbrev pub AnswersBeside : RunStep → ℕ → Option Opened → Folder → Progress → List Bytes → Folder → Progress → Type 0
 AnswersBeside step place None folder state lines folder' after = (lines ≡ []) × (folder' ≡ folder) × (after ≡ record state { failed = true })
 AnswersBeside step place (Some file) folder state lines folder' after =
-    (answer : Answer) × (history : History) × LeadsBy (action_of step.target step.asking.verb) step.asking.text file.history answer history
-    × FolderBehind answer file history folder folder'
-    × (lines ≡ told_of file.name step.asking.text answer) × (after ≡ state_behind place file answer history state)
+    (answer : Answer) × (history : History) × LeadsBy (action_of step.target step.request.verb) step.request.text file.history answer history
+    × FolderAfter answer file history folder folder'
+    × (lines ≡ reported_of file.name step.request.text answer) × (after ≡ state_after place file answer history state)
 
 -- Its package is opened, if it was not used before; then its command is done there, and kept.
 pub record DoesBeside (step : RunStep) (folder : Folder) (before : Progress) (lines : List Bytes) (folder' : Folder) (after : Progress) : Type 0 where
@@ -72,7 +72,7 @@ pub record DoesBeside (step : RunStep) (folder : Folder) (before : Progress) (li
   pub answer : List Bytes
   pub uses : UsesBeside folder step.target.«package» before.used place opening used
   pub answers : AnswersBeside step place (file_at place used) folder (record before { used = used }) answer folder' after
-  pub told : lines ≡ opening ++ answer
+  pub reported : lines ≡ opening ++ answer
 
 -- ---- whole runs
 
@@ -87,11 +87,11 @@ RunsBeside keep_going (step ∷ steps) folder before lines folder' after =
 -- Steps are run, and files are written after each; then standard output is given what was printed and the texts after it, and the files
 -- that were written are reported.
 pub record PerformsBeside (options : Options) (steps : List RunStep) (world : World) (left : Left) : Type 0 where
-  pub told : List Bytes
+  pub reported : List Bytes
   pub state : Progress
-  pub runs : RunsBeside options.keep_going steps world.folder nothing_done told left.folder state
+  pub runs : RunsBeside options.keep_going steps world.folder nothing_done reported left.folder state
   pub output : left.output ≡ state.printed ++ texts_out (shows_input steps) options.to_stdout state.used
-  pub lines : left.lines ≡ told ++ fixed_lines options.quiet (all_kept state.used)
+  pub lines : left.lines ≡ reported ++ fixed_lines options.quiet (all_kept state.used)
   pub status : left.status ≡ status_of state
 
 -- ---- files that are kept

@@ -8,7 +8,7 @@ pub mod Outcome
 pub mod Run
 pub mod Shown
 pub mod Steps
-pub mod Told
+pub mod Reported
 pub mod Usage
 pub mod Worked
 pub mod WorkedParts

@@ -9,7 +9,7 @@ use Rattle.bz_journal.specs.Keeping.{Keeps}
 use Rattle.bz_keep.specs.declared.fault.PairFault.{PairFault}
 use Rattle.bz_keep.specs.Pair.{journal_name}
 use Rattle.bz_keep.specs.Resuming.{Holds}
-use Rattle.bz_line.specs.Asked.{Asked, operand_group}
+use Rattle.bz_line.specs.Requested.{Requested, operand_group}
 use Rattle.bz_line.specs.Line.{Given, operands, script}
 use Rattle.bz_line.specs.Script.{script_of}
 use Rattle.bz_workspace.specs.Found.{IsNameOf}
@@ -65,7 +65,7 @@ abbrev pub MayAct : RunStep → List Used → List Used → Type 0
 MayAct step before after = (after ≡ before)
     ⊎ ((place : ℕ) × (file : Opened) × (action : Action) × (answer : Result Reply KeepFault) × (history : History)
     × (package_number step.target.«package» before ≡ Some place) × (file_at place before ≡ Some file) × (file.left ≡ false)
-    × (action_of step.target step.asking.verb ≡ Some action) × Keeps action step.asking.text file.history answer history
+    × (action_of step.target step.request.verb ≡ Some action) × Keeps action step.request.text file.history answer history
     × (after ≡ with_opened place (Some (after_keeping answer history file)) before))
 
 -- a folder at a moment of a run of these steps, which has used these packages: the first step is under way, or is done and the moment is one
@@ -78,11 +78,11 @@ IsMomentOfSteps began (step ∷ steps) used now = (mid : List Used) × (after : 
 -- ---- runs
 
 -- what is requested by operands, or by the lines of a file
-abbrev pub AsksFor : World → Given → List Asked → Type 0
-AsksFor world (operands texts) lines = (asked : Asked) × (operand_group texts ≡ Ok asked) × (lines ≡ asked ∷ [])
-AsksFor world (script name) lines = (text : Bytes) × IsScript world name (Some text) × (script_of text ≡ Ok lines)
+abbrev pub RequestsFor : World → Given → List Requested → Type 0
+RequestsFor world (operands texts) lines = (requested : Requested) × (operand_group texts ≡ Ok requested) × (lines ≡ requested ∷ [])
+RequestsFor world (script name) lines = (text : Bytes) × IsScript world name (Some text) × (script_of text ≡ Ok lines)
 
 -- a folder at a moment of a run: it is as it was, or at a moment of the steps that are requested
 abbrev pub IsMomentOfRun : World → Given → Folder → Type 0
 IsMomentOfRun world given now = (now ≡ world.folder)
-    ⊎ ((lines : List Asked) × AsksFor world given lines × IsMomentOfSteps world.folder (all_steps lines) [] now)
+    ⊎ ((lines : List Requested) × RequestsFor world given lines × IsMomentOfSteps world.folder (all_steps lines) [] now)

@@ -6,18 +6,18 @@ use Rattle.std.specs.Str.{IsUtf8, IsValidUpTo}
 use Rattle.bz_lex.specs.declared.fault.ReadFault.TheVariants.{NotUtf8}
 use Rattle.bz_items.specs.Characters.{Bytes}
 use Rattle.bz_files.specs.Folder.{Folder}
-use Rattle.bz_line.specs.Asked.{Asked, Usage, operand_group}
+use Rattle.bz_line.specs.Requested.{Requested, Usage, operand_group}
 use Rattle.bz_line.specs.Line.{Given, operands, script, LineUsage, CommandLine, command_line_of}
 use Rattle.bz_line.specs.Refused.{IsGroupFault, IsScriptFault}
 use Rattle.bz_line.specs.Script.{script_of}
 use Rattle.bz_line.specs.declared.line.Options.{Options}
-use Rattle.bz_ports.specs.Told.{stdin, named_line, fault_line}
+use Rattle.bz_ports.specs.Reported.{stdin, named_line, fault_line}
 use Rattle.bz_engine.specs.Ending.{Left, Performs}
 use Rattle.bz_engine.specs.Keeping.{PerformsBeside}
 use Rattle.bz_engine.specs.Run.{World}
 use Rattle.bz_ports.specs.Ports.{IsInput}
 use Rattle.bz_engine.specs.Steps.{RunStep, input_package, all_steps, names_input}
-use Rattle.bz_engine.specs.Told.{IsUsageLine, IsLineUsageLine, input_line, no_journal_line}
+use Rattle.bz_engine.specs.Reported.{IsUsageLine, IsLineUsageLine, input_line, no_journal_line}
 
 -- A fault of usage is reported by one line, and all else is as it was.
 abbrev pub unused : Folder → Bytes → Left
@@ -31,7 +31,7 @@ StepsLeave options steps world left =
     ((options.journal ≡ false) × Performs options steps world left) ⊎ ((options.journal ≡ true) × PerformsBeside options steps world left)
 
 -- What lines request is done, unless that needs a journal of standard input, which has none.
-abbrev pub LinesLeave : Options → List Asked → World → Left → Type 0
+abbrev pub LinesLeave : Options → List Requested → World → Left → Type 0
 LinesLeave options lines world left =
     ((options.journal && names_input lines ≡ true) × (left ≡ unused world.folder no_journal_line))
     ⊎ ((options.journal && names_input lines ≡ false) × StepsLeave options (all_steps lines) world left)
@@ -41,7 +41,7 @@ LinesLeave options lines world left =
 abbrev pub OperandsOutcome : Options → List Bytes → World → Left → Type 0
 OperandsOutcome options texts world left =
     ((usage : Usage) × (line : Bytes) × IsGroupFault texts usage × IsUsageLine [] usage line × (left ≡ unused world.folder line))
-    ⊎ ((asked : Asked) × (operand_group texts ≡ Ok asked) × LinesLeave options (asked ∷ []) world left)
+    ⊎ ((requested : Requested) × (operand_group texts ≡ Ok requested) × LinesLeave options (requested ∷ []) world left)
 
 -- ---- operands in a file of lines
 
@@ -52,12 +52,12 @@ IsScript world name text =
     ⊎ ((name ≢ input_package) × (text ≡ get world.folder name))
 
 -- the name by which the file of lines is reported
-abbrev pub told_name : Bytes → Bytes
-told_name name = if bytes_eq name input_package then stdin else name
+abbrev pub reported_name : Bytes → Bytes
+reported_name name = if bytes_eq name input_package then stdin else name
 
 -- What lines request is done; rules of standard input can't be meant where the lines are in it, and then no step reads what is left
 -- of it.
-abbrev pub LinesOutcome : Options → Bool → List Asked → World → Left → Type 0
+abbrev pub LinesOutcome : Options → Bool → List Requested → World → Left → Type 0
 LinesOutcome options of_input lines world left =
     ((of_input && names_input lines ≡ true) × (left ≡ unused world.folder input_line))
     ⊎ ((of_input && names_input lines ≡ false) × ((known : Option Bytes) × (of_input ≡ false → known ≡ world.known)
@@ -65,12 +65,12 @@ LinesOutcome options of_input lines world left =
 
 -- A file of lines is there, is text, and requests something; else that is reported.
 abbrev pub TextOutcome : Options → Bytes → Option Bytes → World → Left → Type 0
-TextOutcome options name None world left = left ≡ unused world.folder (named_line (told_name name) (codes "cannot open"))
+TextOutcome options name None world left = left ≡ unused world.folder (named_line (reported_name name) (codes "cannot open"))
 TextOutcome options name (Some text) world left =
-    ((at : ℕ) × IsValidUpTo text at × (left ≡ unused world.folder (fault_line (told_name name) (NotUtf8 at))))
-    ⊎ (IsUtf8 text × ((usage : Usage) × (line : Bytes) × IsScriptFault text usage × IsUsageLine (told_name name) usage line
+    ((at : ℕ) × IsValidUpTo text at × (left ≡ unused world.folder (fault_line (reported_name name) (NotUtf8 at))))
+    ⊎ (IsUtf8 text × ((usage : Usage) × (line : Bytes) × IsScriptFault text usage × IsUsageLine (reported_name name) usage line
     × (left ≡ unused world.folder line)))
-    ⊎ (IsUtf8 text × ((lines : List Asked) × (script_of text ≡ Ok lines) × LinesOutcome options (bytes_eq name input_package) lines world left))
+    ⊎ (IsUtf8 text × ((lines : List Requested) × (script_of text ≡ Ok lines) × LinesOutcome options (bytes_eq name input_package) lines world left))
 
 abbrev pub ScriptOutcome : Options → Bytes → World → Left → Type 0
 ScriptOutcome options name world left = (text : Option Bytes) × IsScript world name text × TextOutcome options name text world left
@@ -99,15 +99,15 @@ KeepsJournals words = IfOk (command_line_of words) (λ line. line.options.journa
 -- ---- lines that reach no file
 
 -- Each target of these lines is one of standard input.
-abbrev pub AreOfInput : List Asked → Type 0
-AreOfInput lines = All (λ asked. All (λ target. target.«package» ≡ input_package) asked.targets) lines
+abbrev pub AreOfInput : List Requested → Type 0
+AreOfInput lines = All (λ requested. All (λ target. target.«package» ≡ input_package) requested.targets) lines
 
 -- The same, and a line has a target.
-abbrev pub AreOfInputAndSome : List Asked → Type 0
+abbrev pub AreOfInputAndSome : List Requested → Type 0
 AreOfInputAndSome lines = AreOfInput lines × (names_input lines ≡ true)
 
 abbrev pub IsOfInput : Given → Type 0
-IsOfInput (operands texts) = IfOk (operand_group texts) (λ asked. AreOfInput (asked ∷ []))
+IsOfInput (operands texts) = IfOk (operand_group texts) (λ requested. AreOfInput (requested ∷ []))
 IsOfInput (script name) = ⊥
 
 -- The words name no file, and no package but standard input.
@@ -119,7 +119,7 @@ NamesNoFile words = IfOk (command_line_of words) (λ line. IsOfInput line.given)
 -- operands that are refused, or lack a command or a target, or mean rules of standard input where journals are kept
 abbrev pub GivesNothing : Options → Given → Type 0
 GivesNothing options (operands texts) = IsErr (operand_group texts)
-    ⊎ ((options.journal ≡ true) × ((asked : Asked) × (operand_group texts ≡ Ok asked) × (names_input (asked ∷ []) ≡ true)))
+    ⊎ ((options.journal ≡ true) × ((requested : Requested) × (operand_group texts ≡ Ok requested) × (names_input (requested ∷ []) ≡ true)))
 GivesNothing options (script name) = ⊥
 
 -- The lines, if any, aren't in standard input.

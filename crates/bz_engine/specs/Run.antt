@@ -4,12 +4,12 @@ use Rattle.bz_items.specs.Characters.{Bytes}
 use Rattle.bz_files.specs.Folder.{Folder}
 use Rattle.bz_workspace.specs.Sessions.{Action, Reply, Changed, Same, Printed, Moved, History, Answer, Leads, listing}
 use Rattle.bz_ports.specs.Ports.{IsInput}
-use Rattle.bz_ports.specs.Told.{stdin}
+use Rattle.bz_ports.specs.Reported.{stdin}
 use Rattle.bz_workspace.specs.Found.{PackagesFound, found_in}
 use Rattle.bz_workspace.specs.Opens.{Opens}
 use Rattle.bz_workspace.specs.Packages.{Opened, Used, package_number, file_at, with_opened}
 use Rattle.bz_engine.specs.Steps.{RunStep, action_of, input_package}
-use Rattle.bz_engine.specs.Told.{refusal_line}
+use Rattle.bz_engine.specs.Reported.{refusal_line}
 
 -- what can be read: the files of a folder, and the bytes of standard input where they are known
 pub record World : Type 0 where
@@ -55,9 +55,9 @@ printed_by (Ok reply) = printed_in reply
 printed_by (Err refusal) = []
 
 -- what is reported of an answer: a refusal, by its file and its command
-abbrev pub told_of : Bytes → Bytes → Answer → List Bytes
-told_of name command (Ok reply) = []
-told_of name command (Err refusal) = refusal_line name command refusal ∷ []
+abbrev pub reported_of : Bytes → Bytes → Answer → List Bytes
+reported_of name command (Ok reply) = []
+reported_of name command (Err refusal) = refusal_line name command refusal ∷ []
 
 -- the state after an answer of the open file with this number
 abbrev pub answered : ℕ → Opened → Answer → History → Progress → Progress
@@ -77,8 +77,8 @@ LeadsBy (Some action) note h answer after = Leads action note h answer after
 abbrev pub Answers : RunStep → ℕ → Option Opened → Progress → List Bytes → Progress → Type 0
 Answers step place None state lines after = (lines ≡ []) × (after ≡ record state { failed = true })
 Answers step place (Some file) state lines after =
-    (answer : Answer) × (history : History) × LeadsBy (action_of step.target step.asking.verb) step.asking.text file.history answer history
-    × (lines ≡ told_of file.name step.asking.text answer) × (after ≡ answered place file answer history state)
+    (answer : Answer) × (history : History) × LeadsBy (action_of step.target step.request.verb) step.request.text file.history answer history
+    × (lines ≡ reported_of file.name step.request.text answer) × (after ≡ answered place file answer history state)
 
 -- Its package is opened, if it was not used before; then its command is done there.
 pub record Does (world : World) (step : RunStep) (before : Progress) (lines : List Bytes) (after : Progress) : Type 0 where
@@ -88,7 +88,7 @@ pub record Does (world : World) (step : RunStep) (before : Progress) (lines : Li
   pub answer : List Bytes
   pub uses : Uses world step.target.«package» before.used place opening used
   pub answers : Answers step place (file_at place used) (record before { used = used }) answer after
-  pub told : lines ≡ opening ++ answer
+  pub reported : lines ≡ opening ++ answer
 
 -- ---- many steps
 

@@ -2,8 +2,8 @@
 use Rattle.std.specs.Prelude.{Bool, not, ◌&&◌}
 use Rattle.std.specs.List.{list_any}
 use Rattle.bz_line.specs.Verbs.{prints}
-use Rattle.bz_line.specs.declared.asked.Asked.{Asked}
-use Rattle.bz_line.specs.declared.asked.Asking.{Asking}
+use Rattle.bz_line.specs.declared.requested.Requested.{Requested}
+use Rattle.bz_line.specs.declared.requested.Request.{Request}
 use Rattle.bz_engine.specs.Run as r
 use Rattle.bz_engine.specs.Steps.{is_of_input}
 use Rattle.bz_engine.specs.declared.run.Run.{Run}
@@ -12,13 +12,13 @@ abbrev pub progress_in : Run → r.Progress
 progress_in run = record { used = run.workspace; printed = run.printed.items; failed = run.failed }
 
 -- a command that doesn't print
-abbrev pub shows_in : Asking → Bool
-shows_in asking = not (prints asking.verb)
+abbrev pub prints_nothing_in : Request → Bool
+prints_nothing_in request = not (prints request.verb)
 
 -- a line that means rules of standard input
-abbrev pub names_in : Asked → Bool
-names_in line = list_any is_of_input line.targets.items
+abbrev pub targets_input_in : Requested → Bool
+targets_input_in line = list_any is_of_input line.targets.items
 
 -- a line with a command on rules of standard input that doesn't print
-abbrev pub shown_in : Asked → Bool
-shown_in line = names_in line && list_any shows_in line.commands.items
+abbrev pub shown_in : Requested → Bool
+shown_in line = targets_input_in line && list_any prints_nothing_in line.commands.items

@@ -5,7 +5,7 @@ use Rattle.bz_items.specs.Characters.{Bytes}
 use Rattle.bz_label.specs.declared.target.Target.{Target}
 use Rattle.bz_workspace.specs.Sessions.{Action}
 use Rattle.bz_workspace.specs.Sessions as a
-use Rattle.bz_line.specs.Asked.{Asked, Asking}
+use Rattle.bz_line.specs.Requested.{Requested, Request}
 use Rattle.bz_line.specs.Verbs.{prints}
 use Rattle.bz_line.specs.declared.verb.Verb.{Verb}
 use Rattle.bz_line.specs.declared.verb.Verb.TheVariants.{Do, Undo, Redo, Journal}
@@ -13,17 +13,17 @@ use Rattle.bz_line.specs.declared.verb.Verb.TheVariants.{Do, Undo, Redo, Journal
 -- a command on one target
 pub record RunStep : Type 0 where
   pub target : Target
-  pub asking : Asking
+  pub request : Request
 
-abbrev pub step_of : Target → Asking → RunStep
-step_of target asking = record { target = target; asking = asking }
+abbrev pub step_of : Target → Request → RunStep
+step_of target request = record { target = target; request = request }
 
 -- Each target gets all commands, in order.
-abbrev pub steps_asked : Asked → List RunStep
-steps_asked asked = flat_map (λ target. map (step_of target) asked.commands) asked.targets
+abbrev pub steps_requested : Requested → List RunStep
+steps_requested requested = flat_map (λ target. map (step_of target) requested.commands) requested.targets
 
-abbrev pub all_steps : List Asked → List RunStep
-all_steps lines = flat_map steps_asked lines
+abbrev pub all_steps : List Requested → List RunStep
+all_steps lines = flat_map steps_requested lines
 
 -- what the session of the target's file is to do; to list its texts is no action
 abbrev pub action_of : Target → Verb → Option Action
@@ -39,12 +39,12 @@ input_package = codes "-"
 abbrev pub is_of_input : Target → Bool
 is_of_input target = bytes_eq target.«package» input_package
 
-abbrev pub names_input : List Asked → Bool
-names_input lines = list_any (λ asked. list_any is_of_input asked.targets) lines
+abbrev pub names_input : List Requested → Bool
+names_input lines = list_any (λ requested. list_any is_of_input requested.targets) lines
 
 -- a command on rules of standard input that doesn't print
 abbrev pub is_shown_by : RunStep → Bool
-is_shown_by step = is_of_input step.target && not (prints step.asking.verb)
+is_shown_by step = is_of_input step.target && not (prints step.request.verb)
 
 -- The text of standard input is shown where a command on it isn't one that prints.
 abbrev pub shows_input : List RunStep → Bool

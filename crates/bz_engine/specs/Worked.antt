@@ -3,8 +3,8 @@ use Rattle.std.specs.Prelude.{◌≡◌, codes}
 use Rattle.bz_value.specs.declared.refusal.Refusal.TheVariants.{TooFar}
 use Rattle.bz_lex.specs.declared.fault.ReadFault.TheVariants.{NotUtf8, Unexpected}
 use Rattle.bz_line.specs.declared.verb.OperandFault.TheVariants.{BadTarget}
-use Rattle.bz_ports.specs.Told.{stdin, fault_line}
-use Rattle.bz_engine.specs.Told.{refusal_line, operand_line, fixed_line}
+use Rattle.bz_ports.specs.Reported.{stdin, fault_line}
+use Rattle.bz_engine.specs.Reported.{refusal_line, operand_line, fixed_line}
 
 abbrev pub WorkedRefusals : Type 0
 WorkedRefusals = (fault_line stdin (Unexpected 12 305) ≡ codes "<stdin>:12:305: Unexpected\n")

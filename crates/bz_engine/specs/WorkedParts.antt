@@ -4,14 +4,14 @@ use Rattle.std.specs.FinMap.{get}
 use Rattle.bz_value.specs.declared.refusal.Refusal.TheVariants.{NotAList, TooFar}
 use Rattle.bz_files.specs.Folder.{Folder}
 use Rattle.bz_workspace.specs.Sessions.{changed, undone, redone, Changed, Same, Printed, Moved}
-use Rattle.bz_line.specs.Asked.{Asked, Usage, operand_group}
-use Rattle.bz_ports.specs.Told.{stdin}
+use Rattle.bz_line.specs.Requested.{Requested, Usage, operand_group}
+use Rattle.bz_ports.specs.Reported.{stdin}
 use Rattle.bz_items.specs.Characters.{Bytes}
 use Rattle.bz_workspace.specs.Found.{found_in, first_name, second_name}
 use Rattle.bz_workspace.specs.Opens.{opened_fresh}
 use Rattle.bz_workspace.specs.Packages.{Opened, Used, package_number}
 use Rattle.bz_engine.specs.Ending.{differs, texts_out, all_writings, fixed_lines, status_of}
-use Rattle.bz_engine.specs.Run.{Progress, Finds, told_of, printed_by, answered, ends_run}
+use Rattle.bz_engine.specs.Run.{Progress, Finds, reported_of, printed_by, answered, ends_run}
 use Rattle.bz_engine.specs.Steps.{RunStep, all_steps, shows_input}
 
 -- a file as it is read, and what `set size small` makes of it
@@ -96,14 +96,14 @@ TextsOut =
     × (texts_out true false (input (edited app_read) ∷ []) ≡ text_made) × (texts_out true true (input app_read ∷ []) ≡ text_read)
     × (texts_out false true (input app_read ∷ []) ≡ []) × (all_writings false (input (edited app_read) ∷ []) ≡ [])
 
-abbrev Told : Type 0
-Told =
+abbrev Reported : Type 0
+Reported =
     let name : Bytes = codes "app/BUILD" in
     -- What is refused is reported, by file and command; what is done or printed is not.
-    (told_of name (codes "add size a") (Err NotAList) ≡ codes "buildozer: app/BUILD: add size a: NotAList (44)\n" ∷ [])
-    × (told_of stdin (codes "redo") (Err TooFar) ≡ codes "buildozer: <stdin>: redo: TooFar (61)\n" ∷ [])
-    × (told_of name (codes "set size small") (Ok Changed) ≡ []) × (told_of name (codes "undo") (Ok Moved) ≡ [])
-    × (told_of name (codes "print name") (Ok (Printed (codes "x\n"))) ≡ [])
+    (reported_of name (codes "add size a") (Err NotAList) ≡ codes "buildozer: app/BUILD: add size a: NotAList (44)\n" ∷ [])
+    × (reported_of stdin (codes "redo") (Err TooFar) ≡ codes "buildozer: <stdin>: redo: TooFar (61)\n" ∷ [])
+    × (reported_of name (codes "set size small") (Ok Changed) ≡ []) × (reported_of name (codes "undo") (Ok Moved) ≡ [])
+    × (reported_of name (codes "print name") (Ok (Printed (codes "x\n"))) ≡ [])
     -- Only what a command prints is printed.
     × (printed_by (Ok (Printed (codes "x\n"))) ≡ codes "x\n") × (printed_by (Ok Same) ≡ []) × (printed_by (Err NotAList) ≡ [])
     -- A refusal after a printed line: the line stays, and the run has failed from then on.
@@ -113,8 +113,8 @@ Told =
 -- ---- which file
 
 -- the steps of operands
-abbrev steps_in : Result Asked Usage → List RunStep
-steps_in (Ok asked) = all_steps (asked ∷ [])
+abbrev steps_in : Result Requested Usage → List RunStep
+steps_in (Ok requested) = all_steps (requested ∷ [])
 steps_in (Err usage) = []
 
 abbrev typed : List Bytes → List RunStep
@@ -125,7 +125,7 @@ Steps =
     -- undo redo //a:x b:y :z: each target gets both commands, in the file of its package.
     (map (λ (step : RunStep). step.target.«package») (typed (codes "undo" ∷ codes "redo" ∷ codes "//a:x" ∷ codes "b:y" ∷ codes ":z" ∷ []))
     ≡ codes "a" ∷ codes "a" ∷ codes "b" ∷ codes "b" ∷ [] ∷ [] ∷ [])
-    × (map (λ (step : RunStep). step.asking.text) (typed (codes "undo" ∷ codes "redo" ∷ codes "//a:x" ∷ [])) ≡ codes "undo" ∷ codes "redo" ∷ [])
+    × (map (λ (step : RunStep). step.request.text) (typed (codes "undo" ∷ codes "redo" ∷ codes "//a:x" ∷ [])) ≡ codes "undo" ∷ codes "redo" ∷ [])
     -- -- undo -:x shows the text of standard input; print and journal don't, but where another command is beside them.
     × (shows_input (typed (codes "undo" ∷ codes "-:x" ∷ [])) ≡ true)
     × (shows_input (typed (codes "print name" ∷ codes "journal" ∷ codes "-:x" ∷ [])) ≡ false)
@@ -148,4 +148,4 @@ Files =
     × (package_number (codes "app") (closed ∷ app app_read ∷ []) ≡ Some 1) × (package_number (codes "./app") (closed ∷ app app_read ∷ []) ≡ None)
 
 abbrev pub WorkedParts : Type 0
-WorkedParts = Statuses × GoesOn × TextsOut × Told × Steps × Files
+WorkedParts = Statuses × GoesOn × TextsOut × Reported × Steps × Files

@@ -11,7 +11,7 @@ use Rattle.bz_words.specs.declared.command.Operation.TheVariants as w
 use Rattle.bz_workspace.specs.Found.{found_in}
 use Rattle.bz_engine.specs.Outcome.{WordsOutcome}
 use Rattle.bz_engine.specs.Run.{World}
-use Rattle.bz_engine.specs.Usage.{LineTells}
+use Rattle.bz_engine.specs.Usage.{LineReports}
 use Rattle.bz_engine.specs.WorkedParts.{text_read, text_made}
 
 -- ---- usage faults: a run prints its one line, has status 1 and leaves all else as it was
@@ -45,7 +45,7 @@ WorkedUsage =
     × ((folder : Folder) → Unused (codes "-f" ∷ codes "-" ∷ []) (codes "buildozer: package - cannot be edited beside -f -\n")
     (record { folder = folder; known = Some (codes "undo|-:x\n") }))
     -- --journal -- undo -:x
-    × ((world : World) → LineTells true world (command_line_of (codes "--journal" ∷ codes "--" ∷ codes "undo" ∷ codes "-:x" ∷ []))
+    × ((world : World) → LineReports true world (command_line_of (codes "--journal" ∷ codes "--" ∷ codes "undo" ∷ codes "-:x" ∷ []))
     (codes "buildozer: package - has no journal\n"))
 
 -- ---- whole runs over one file, BUILD in the current folder, or over standard input

@@ -3,26 +3,26 @@ ghost use Rattle.std.specs.Prelude.{◌≡◌, ◌≢◌, ◌⊎◌, ◌&&◌, �
 ghost use Rattle.bz_workspace.specs.Sessions.{action_in, History, Answer, Leads, listing};
 ghost use Rattle.bz_workspace.specs.Sessions as Reply;
 ghost use Rattle.bz_line.specs.Paths.{HasPath};
-ghost use Rattle.bz_line.specs.Shown.{asking_in};
+ghost use Rattle.bz_line.specs.Shown.{request_in};
 ghost use Rattle.bz_workspace.specs.Packages as p;
 ghost use Rattle.bz_workspace.specs.Packages.{file_at};
 ghost use Rattle.bz_workspace.specs.Shown.{opened_in, used_in};
-ghost use Rattle.bz_engine.specs.Calls.{KeepsSome, KeepsStep, TellsLines, WorksOn, spot, Proceeds};
-ghost use Rattle.bz_engine.specs.Keeping.{AllAreKept, AnswersBeside, DoesBeside, FolderBehind, is_left_at, state_behind};
-ghost use Rattle.bz_engine.specs.Run.{Answers, Does, printed_in, answered, told_of};
+ghost use Rattle.bz_engine.specs.Calls.{KeepsSome, KeepsStep, ReportsLines, WorksOn, spot, Proceeds};
+ghost use Rattle.bz_engine.specs.Keeping.{AllAreKept, AnswersBeside, DoesBeside, FolderAfter, is_left_at, state_after};
+ghost use Rattle.bz_engine.specs.Run.{Answers, Does, printed_in, answered, reported_of};
 ghost use Rattle.bz_engine.specs.Shown.{progress_in};
 ghost use Rattle.bz_engine.specs.Steps.{input_package, step_of};
 
 use crate::opening::open_package;
 use crate::run::Run;
 use crate::step::{action_of, package_of};
-use crate::told::tell_refusal;
+use crate::reported::report_refusal;
 use bz_files::Files;
 use bz_items::at;
 use bz_keep::PairFault;
 use bz_label::Target;
-use bz_line::Asking;
-use bz_ports::{Cut, Sink, Source, first_cut, tell_named};
+use bz_line::Request;
+use bz_ports::{Cut, Sink, Source, first_cut, report_named};
 use bz_value::Refusal;
 use bz_workspace::{Action, KeepFault, Opened, Reply, Used, Workspace};
 use std::alloc::{AllocError, Global};
@@ -66,12 +66,12 @@ fn refuse<E: Sink>(run: &mut Run, place: usize, command: &str, refusal: Refusal,
     ensures kinds { (result ≡ Cut.Whole) ⊎ (result ≡ Cut.Memory) }
     ensures whole { result ≡ Cut.Whole → (refusal ≢ Refusal.Memory) }
     ensures state { progress_in run.new ≡ record (progress_in run.old) { failed = true } }
-    ensures told { (file : p.Opened) → file_at place run.old.workspace ≡ Some file
-        → TellsLines E.Sink err.old err.new (told_of file.name command.now (Err refusal)) }
+    ensures reported { (file : p.Opened) → file_at place run.old.workspace ≡ Some file
+        → ReportsLines E.Sink err.old err.new (reported_of file.name command.now (Err refusal)) }
 {
     run.failed = true;
     let name = open_file(&run.workspace, place).name.as_str();
-    tell_refusal(err, name, command, refusal);
+    report_refusal(err, name, command, refusal);
     match refusal {
         Refusal::Memory => Cut::Memory,
         _ => Cut::Whole,
@@ -90,7 +90,7 @@ fn act_at<E: Sink>(
     ensures kinds { (result ≡ Cut.Whole) ⊎ (result ≡ Cut.Memory) }
     ensures whole { result ≡ Cut.Whole → (file : p.Opened) × (answer : Answer) × (history : History) × (file_at place run.old.workspace ≡ Some file)
         × Leads (action_in action.now) command.now file.history answer history × (progress_in run.new ≡ answered place file answer history (progress_in run.old))
-        × TellsLines E.Sink err.old err.new (told_of file.name command.now answer) }
+        × ReportsLines E.Sink err.old err.new (reported_of file.name command.now answer) }
 {
     match run.workspace.act(place, action, command) {
         Ok(reply) => match put_printed(&reply, &mut run.printed) {
@@ -107,7 +107,7 @@ fn list_at<E: Sink>(alloc: Global, run: &mut Run, place: usize, command: &str, e
     ensures kinds { (result ≡ Cut.Whole) ⊎ (result ≡ Cut.Memory) }
     ensures whole { result ≡ Cut.Whole → (file : p.Opened) × (file_at place run.old.workspace ≡ Some file)
         × (progress_in run.new ≡ answered place file (Ok (Reply.Printed (listing file.history))) file.history (progress_in run.old))
-        × TellsLines E.Sink err.old err.new [] }
+        × ReportsLines E.Sink err.old err.new [] }
     ensures same { run.new.workspace ≡ run.old.workspace }
 {
     let Ok(text) = open_file(&run.workspace, place).editor.listing(alloc) else {
@@ -139,15 +139,15 @@ fn leave<E: Sink>(run: &mut Run, place: usize, fault: PairFault, err: &mut E) ->
     let name = open_file(&run.workspace, place).name.as_str();
     match fault {
         PairFault::Memory => {
-            tell_named(err, name, "Memory");
+            report_named(err, name, "Memory");
             Cut::Memory
         }
         PairFault::Changed => {
-            tell_named(err, name, "cannot write");
+            report_named(err, name, "cannot write");
             Cut::Whole
         }
         PairFault::Open | PairFault::Write => {
-            tell_named(err, name, "cannot write");
+            report_named(err, name, "cannot write");
             Cut::Files
         }
     }
@@ -166,9 +166,9 @@ fn keep_at<F: Files, E: Sink>(
     ensures whole { F.honest files.old ≡ true → AllAreKept (F.folder files.old) run.old.workspace → result ≡ Cut.Whole
         → (file : p.Opened) × (answer : Answer) × (history : History) × (file_at place run.old.workspace ≡ Some file)
         × Leads (action_in action.now) command.now file.history answer history
-        × FolderBehind answer file history (F.folder files.old) (F.folder files.new)
-        × (progress_in run.new ≡ state_behind place file answer history (progress_in run.old))
-        × TellsLines E.Sink err.old err.new (told_of file.name command.now answer) }
+        × FolderAfter answer file history (F.folder files.old) (F.folder files.new)
+        × (progress_in run.new ≡ state_after place file answer history (progress_in run.old))
+        × ReportsLines E.Sink err.old err.new (reported_of file.name command.now answer) }
     ensures keeps { KeepsSome F.Files place (action_in action.now) command.now run.old.workspace run.new.workspace files.old files.new }
     ensures works { WorksOn F.Files result files.old files.new }
 {
@@ -190,21 +190,21 @@ fn act_on<F: Files, E: Sink>(
     run: &mut Run,
     place: usize,
     target: &Target,
-    asking: &Asking<'_>,
+    request: &Request<'_>,
     files: &mut F,
     err: &mut E,
 ) -> Cut
     requires { IsSome (file_at place run.old.workspace) }
     ensures kinds { journals ≡ false → (result ≡ Cut.Whole) ⊎ (result ≡ Cut.Memory) }
     ensures whole { journals ≡ false → result ≡ Cut.Whole → (lines : List (List ℕ))
-        × Answers (step_of target.now (asking_in asking.now)) place (file_at place run.old.workspace) (progress_in run.old) lines (progress_in run.new)
-        × TellsLines E.Sink err.old err.new lines }
+        × Answers (step_of target.now (request_in request.now)) place (file_at place run.old.workspace) (progress_in run.old) lines (progress_in run.new)
+        × ReportsLines E.Sink err.old err.new lines }
     ensures still { journals ≡ false → files.new ≡ files.old }
     ensures beside { journals ≡ true → F.honest files.old ≡ true → AllAreKept (F.folder files.old) run.old.workspace → result ≡ Cut.Whole
-        → (lines : List (List ℕ)) × AnswersBeside (step_of target.now (asking_in asking.now)) place (file_at place run.old.workspace)
+        → (lines : List (List ℕ)) × AnswersBeside (step_of target.now (request_in request.now)) place (file_at place run.old.workspace)
         (F.folder files.old) (progress_in run.old) lines (F.folder files.new) (progress_in run.new)
-        × TellsLines E.Sink err.old err.new lines }
-    ensures keeps { journals ≡ true → KeepsStep F.Files (step_of target.now (asking_in asking.now)) place run.old.workspace run.new.workspace files.old files.new }
+        × ReportsLines E.Sink err.old err.new lines }
+    ensures keeps { journals ≡ true → KeepsStep F.Files (step_of target.now (request_in request.now)) place run.old.workspace run.new.workspace files.old files.new }
     ensures left { journals ≡ true → is_left_at place run.old.workspace ≡ true
         → (result ≡ Cut.Whole) × (files.new ≡ files.old) × (err.new ≡ err.old) × (progress_in run.new ≡ record (progress_in run.old) { failed = true }) }
     ensures works { WorksOn F.Files result files.old files.new }
@@ -213,13 +213,13 @@ fn act_on<F: Files, E: Sink>(
         run.failed = true;
         return Cut::Whole;
     }
-    match action_of(&asking.verb, target) {
-        None => list_at(alloc, run, place, asking.text, err),
+    match action_of(&request.verb, target) {
+        None => list_at(alloc, run, place, request.text, err),
         Some(action) => {
             if journals {
-                keep_at(run, place, &action, asking.text, files, err)
+                keep_at(run, place, &action, request.text, files, err)
             } else {
-                act_at(run, place, &action, asking.text, err)
+                act_at(run, place, &action, request.text, err)
             }
         }
     }
@@ -232,14 +232,14 @@ pub(crate) fn do_step<R: Source, F: Files, E: Sink>(
     journals: bool,
     run: &mut Run,
     target: &Target,
-    asking: &Asking<'_>,
+    request: &Request<'_>,
     input: &mut R,
     files: &mut F,
     err: &mut E,
 ) -> Cut
     requires { HasPath target.now }
-    ensures { Proceeds journals (target.now.«package» ≡ input_package) (step_of target.now (asking_in asking.now) ∷ []) (λ world. Does world (step_of target.now (asking_in asking.now)))
-        (DoesBeside (step_of target.now (asking_in asking.now))) result
+    ensures { Proceeds journals (target.now.«package» ≡ input_package) (step_of target.now (request_in request.now) ∷ []) (λ world. Does world (step_of target.now (request_in request.now)))
+        (DoesBeside (step_of target.now (request_in request.now))) result
         (spot R.Source F.Files E.Sink run.old input.old files.old err.old) (spot R.Source F.Files E.Sink run.new input.new files.new err.new) }
 {
     let package = package_of(target);
@@ -248,7 +248,7 @@ pub(crate) fn do_step<R: Source, F: Files, E: Sink>(
     match opening.place {
         Some(place) => first_cut(
             opening.cut,
-            act_on(alloc, journals, run, place, target, asking, files, err),
+            act_on(alloc, journals, run, place, target, request, files, err),
         ),
         None => {
             run.failed = true;

@@ -5,17 +5,17 @@ ghost use Rattle.bz_workspace.specs.Sessions.{present};
 ghost use Rattle.bz_ports.specs.Faults.{Rises};
 ghost use Rattle.bz_ports.specs.Outputs.{Counts};
 ghost use Rattle.bz_workspace.specs.Shown.{opened_in, used_in};
-ghost use Rattle.bz_engine.specs.Calls.{TellsLines, PrintsAll, PrintsSome, WorksOn};
+ghost use Rattle.bz_engine.specs.Calls.{ReportsLines, PrintsAll, PrintsSome, WorksOn};
 ghost use Rattle.bz_engine.specs.Ending.{differs, has_changed, is_input, goes_out, text_out, texts_out, writing_of, all_writings, WritesFiles, fixed_of, all_fixed, fixed_lines, status_of};
 ghost use Rattle.bz_engine.specs.Shown.{progress_in};
-ghost use Rattle.bz_engine.specs.Told.{fixed_line};
+ghost use Rattle.bz_engine.specs.Reported.{fixed_line};
 
 use crate::run::Run;
 use crate::script::INPUT;
 use bz_files::Files;
 use bz_items::Memory;
 use bz_line::Options;
-use bz_ports::{Cut, Exit, Sink, first_cut, tell, tell_named, write_whole};
+use bz_ports::{Cut, Exit, Sink, first_cut, report, report_named, write_whole};
 use bz_workspace::{Opened, Used};
 use std::alloc::Global;
 
@@ -105,13 +105,13 @@ fn print_all<W: Sink, E: Sink>(
 {
     let mut output = printed;
     let Ok(changed) = put_texts(packages, shown, to_stdout, &mut output) else {
-        tell_named(err, STDOUT, "Memory");
+        report_named(err, STDOUT, "Memory");
         return Err(Cut::Memory);
     };
     match write_whole(out, &output) {
         Ok(()) => Ok(changed),
         Err(_) => {
-            tell_named(err, STDOUT, "cannot write");
+            report_named(err, STDOUT, "cannot write");
             Err(Cut::Write)
         }
     }
@@ -132,11 +132,11 @@ fn new_text(alloc: Global, file: &Opened) -> Result<Option<Vec<u8>>, Memory>
 }
 
 // Reports that a file was written, unless the run is quiet.
-fn tell_written<E: Sink>(quiet: bool, name: &str, err: &mut E)
-    ensures { TellsLines E.Sink err.old err.new (if quiet then [] else fixed_line name.now ∷ []) }
+fn report_written<E: Sink>(quiet: bool, name: &str, err: &mut E)
+    ensures { ReportsLines E.Sink err.old err.new (if quiet then [] else fixed_line name.now ∷ []) }
 {
     if !quiet {
-        tell(err, &["fixed ", name, "\n"]);
+        report(err, &["fixed ", name, "\n"]);
     }
 }
 
@@ -148,7 +148,7 @@ fn write_file<F: Files, E: Sink>(
     files: &mut F,
     err: &mut E,
 ) -> Cut
-    ensures told { result ≡ Cut.Whole → TellsLines E.Sink err.old err.new
+    ensures reported { result ≡ Cut.Whole → ReportsLines E.Sink err.old err.new
         (fixed_lines options.quiet (fixed_of options.journal options.to_stdout (used_in used.now))) }
     ensures writes { options.journal ≡ false → (F.honest files.old ≡ true) ⊎ (writing_of options.to_stdout (used_in used.now) ≡ []) → result ≡ Cut.Whole
         → WritesFiles (writing_of options.to_stdout (used_in used.now)) (F.folder files.old) (F.folder files.new) }
@@ -161,7 +161,7 @@ fn write_file<F: Files, E: Sink>(
     let name = file.name.as_str();
     if options.journal {
         if file.written {
-            tell_written(options.quiet, name, err);
+            report_written(options.quiet, name, err);
         }
         return Cut::Whole;
     }
@@ -171,17 +171,17 @@ fn write_file<F: Files, E: Sink>(
     match new_text(alloc, file) {
         Ok(Some(text)) => match files.rewrite(name, file.read.as_slice(), &text) {
             Ok(()) => {
-                tell_written(options.quiet, name, err);
+                report_written(options.quiet, name, err);
                 Cut::Whole
             }
             Err(_) => {
-                tell_named(err, name, "cannot write");
+                report_named(err, name, "cannot write");
                 Cut::Files
             }
         },
         Ok(None) => Cut::Whole,
         Err(_) => {
-            tell_named(err, name, "Memory");
+            report_named(err, name, "Memory");
             Cut::Memory
         }
     }
@@ -195,7 +195,7 @@ fn write_files<F: Files, E: Sink>(
     files: &mut F,
     err: &mut E,
 ) -> Cut
-    ensures told { result ≡ Cut.Whole → TellsLines E.Sink err.old err.new
+    ensures reported { result ≡ Cut.Whole → ReportsLines E.Sink err.old err.new
         (fixed_lines options.quiet (all_fixed options.journal options.to_stdout (map used_in packages.now))) }
     ensures writes { options.journal ≡ false → (F.honest files.old ≡ true) ⊎ (all_writings options.to_stdout (map used_in packages.now) ≡ []) → result ≡ Cut.Whole
         → WritesFiles (all_writings options.to_stdout (map used_in packages.now)) (F.folder files.old) (F.folder files.new) }
@@ -242,7 +242,7 @@ pub(crate) fn finish<W: Sink, F: Files, E: Sink>(
     ensures whole { result.cut ≡ Cut.Whole → (cut ≡ Cut.Whole) × (result.status ≡ status_of (progress_in run))
         × PrintsAll W.Sink out.old out.new ((progress_in run).printed ++ texts_out shown options.to_stdout (progress_in run).used)
         × (W.faults out.new ≡ W.faults out.old) × (F.faults files.new ≡ F.faults files.old)
-        × TellsLines E.Sink err.old err.new (fixed_lines options.quiet (all_fixed options.journal options.to_stdout (progress_in run).used)) }
+        × ReportsLines E.Sink err.old err.new (fixed_lines options.quiet (all_fixed options.journal options.to_stdout (progress_in run).used)) }
     ensures writes { options.journal ≡ false → (F.honest files.old ≡ true) ⊎ (all_writings options.to_stdout (progress_in run).used ≡ [])
         → cut ≡ Cut.Whole → (result.cut ≡ Cut.Whole) ⊎ (result.cut ≡ Cut.Write)
         → WritesFiles (all_writings options.to_stdout (progress_in run).used) (F.folder files.old) (F.folder files.new) }

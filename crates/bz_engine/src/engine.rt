@@ -2,38 +2,38 @@
 ghost use Rattle.std.specs.Prelude.{bytes_eq, ◌≡◌, ◌≢◌, ◌⊎◌, ◌&&◌, ◌∷◌, [], List, ℕ, Option, true, map, Some, Ok, IfOk};
 ghost use Rattle.std.specs.List.{All};
 ghost use Rattle.bz_files.specs.Folder.{Folder};
-ghost use Rattle.bz_line.specs.Asked as a;
+ghost use Rattle.bz_line.specs.Requested as a;
 ghost use Rattle.bz_line.specs.Line.{command_line_of};
 ghost use Rattle.bz_line.specs.Line.{operands as words_given, script};
 ghost use Rattle.bz_line.specs.Paths.{HasPath};
 ghost use Rattle.bz_line.specs.Script.{script_of};
-ghost use Rattle.bz_line.specs.Shown.{asked_in};
+ghost use Rattle.bz_line.specs.Shown.{requested_in};
 ghost use Rattle.bz_workspace.specs.Keeps.{KeepsFolder};
-ghost use Rattle.bz_engine.specs.Calls.{TellsLines, PrintsAll, PrintsSome, IsStill, ReadsNothing, world_with, world_of, PassesBy, IsEndedOver, LeavesBehind};
+ghost use Rattle.bz_engine.specs.Calls.{ReportsLines, PrintsAll, PrintsSome, IsStill, ReadsNothing, world_with, world_of, PassesBy, IsEndedOver, LeavesAfter};
 ghost use Rattle.bz_engine.specs.Ending.{Left};
 ghost use Rattle.bz_engine.specs.Moments.{IsMomentOfRun, IsMomentOfSteps};
 ghost use Rattle.bz_engine.specs.Outcome.{LinesLeave, WordsOutcome, OperandsOutcome, TextOutcome, ScriptOutcome, AreOfInput, AreOfInputAndSome, IsOfInput, GivesNothing, KeepsJournals, LineGivesNothing, NamesNoFile, TakesNoFile, TakesNoInput, TakesScript};
 ghost use Rattle.bz_engine.specs.Steps.{all_steps, input_package, names_input};
-ghost use Rattle.bz_engine.specs.Told.{no_journal_line};
-ghost use Rattle.bz_engine.specs.Usage.{OperandsTell, TextTells, GivenTells, LineTells};
+ghost use Rattle.bz_engine.specs.Reported.{no_journal_line};
+ghost use Rattle.bz_engine.specs.Usage.{OperandsReport, TextReports, GivenReports, LineReports};
 
 use crate::ending::finish;
 use crate::run::begun;
 use crate::running::run_lines;
-use crate::script::{INPUT, read_bytes, told_name};
+use crate::script::{INPUT, read_bytes, reported_name};
 use crate::step::{names_input, shows_input};
-use crate::told::{UNUSED, tell_input, tell_line_usage, tell_no_journal, tell_unread, tell_usage};
+use crate::reported::{UNUSED, report_input, report_line_usage, report_no_journal, report_unread, report_usage};
 use bz_files::Files;
-use bz_line::{Asked, Given, Options, read_group, read_line, read_script};
-use bz_ports::{Cut, Exit, Sink, Source, tell_fault};
+use bz_line::{Requested, Given, Options, read_group, read_line, read_script};
+use bz_ports::{Cut, Exit, Sink, Source, report_fault};
 use bz_tree::ReadFault;
 use std::alloc::Global;
 use std::convert::AsStr;
 use std::slice::from_ref;
 
 // Whether rules of standard input are meant where journals are kept: it has none.
-fn lacks_journal(options: Options, lines: &[Asked<'_>]) -> bool
-    ensures { result ≡ (options.journal && names_input (map asked_in lines.now)) }
+fn lacks_journal(options: Options, lines: &[Requested<'_>]) -> bool
+    ensures { result ≡ (options.journal && names_input (map requested_in lines.now)) }
 {
     options.journal && names_input(lines)
 }
@@ -42,36 +42,36 @@ fn lacks_journal(options: Options, lines: &[Asked<'_>]) -> bool
 fn perform<R: Source, W: Sink, E: Sink, F: Files>(
     alloc: Global,
     options: Options,
-    lines: &[Asked<'_>],
+    lines: &[Requested<'_>],
     input: &mut R,
     out: &mut W,
     err: &mut E,
     files: &mut F,
 ) -> Exit
-    requires { All (λ asked. All HasPath asked.targets.items) lines.now }
-    ensures whole { (F.honest files.old ≡ true) ⊎ AreOfInputAndSome (map asked_in lines.now)
+    requires { All (λ requested. All HasPath requested.targets.items) lines.now }
+    ensures whole { (F.honest files.old ≡ true) ⊎ AreOfInputAndSome (map requested_in lines.now)
         → result.cut ≡ Cut.Whole → (left : Left)
-        × LinesLeave options (map asked_in lines.now) (world_of R.Source F.Files input.old files.old) left
-        × LeavesBehind W.Sink E.Sink F.Files left result.status out.old out.new err.old err.new files.new }
-    ensures write { (F.honest files.old ≡ true) ⊎ AreOfInputAndSome (map asked_in lines.now)
+        × LinesLeave options (map requested_in lines.now) (world_of R.Source F.Files input.old files.old) left
+        × LeavesAfter W.Sink E.Sink F.Files left result.status out.old out.new err.old err.new files.new }
+    ensures write { (F.honest files.old ≡ true) ⊎ AreOfInputAndSome (map requested_in lines.now)
         → result.cut ≡ Cut.Write → (left : Left)
-        × LinesLeave options (map asked_in lines.now) (world_of R.Source F.Files input.old files.old) left
+        × LinesLeave options (map requested_in lines.now) (world_of R.Source F.Files input.old files.old) left
         × PrintsSome W.Sink out.old out.new left.output × (F.folder files.new ≡ left.folder) }
-    ensures unread { options.journal ≡ true → names_input (map asked_in lines.now) ≡ true → (input.new ≡ input.old) × (out.new ≡ out.old) × (files.new ≡ files.old) }
+    ensures unread { options.journal ≡ true → names_input (map requested_in lines.now) ≡ true → (input.new ≡ input.old) × (out.new ≡ out.old) × (files.new ≡ files.old) }
     ensures reads_nothing { options.journal ≡ true → ReadsNothing R.Source result.cut input.old input.new }
     ensures unused { result.status ≡ 1 → (input.new ≡ input.old) × (out.new ≡ out.old) × (files.new ≡ files.old) }
-    ensures usage { result.status ≡ 1 → (options.journal ≡ true) × (names_input (map asked_in lines.now) ≡ true)
-        × TellsLines E.Sink err.old err.new (no_journal_line ∷ []) }
-    ensures read { AreOfInput (map asked_in lines.now) → result.cut ≡ Cut.Read → PrintsAll W.Sink out.old out.new [] }
+    ensures usage { result.status ≡ 1 → (options.journal ≡ true) × (names_input (map requested_in lines.now) ≡ true)
+        × ReportsLines E.Sink err.old err.new (no_journal_line ∷ []) }
+    ensures read { AreOfInput (map requested_in lines.now) → result.cut ≡ Cut.Read → PrintsAll W.Sink out.old out.new [] }
     ensures moments { options.journal ≡ true → F.honest files.old ≡ true
-        → PassesBy F.Files (IsMomentOfSteps (F.folder files.old) (all_steps (map asked_in lines.now)) []) files.old files.new }
+        → PassesBy F.Files (IsMomentOfSteps (F.folder files.old) (all_steps (map requested_in lines.now)) []) files.old files.new }
     ensures sound { R.sound input.old ≡ true → result.cut ≢ Cut.Read }
     ensures status { result.cut ≢ Cut.Whole → result.status ≡ 2 }
     ensures ended { IsEndedOver R.Source W.Sink F.Files result.cut input.old input.new out.old out.new files.old files.new }
     ensures honest { F.honest files.new ≡ F.honest files.old }
 {
     if lacks_journal(options, lines) {
-        tell_no_journal(err);
+        report_no_journal(err);
         return UNUSED;
     }
     let mut run = begun(alloc);
@@ -93,15 +93,15 @@ fn run_operands<R: Source, W: Sink, E: Sink, F: Files>(
     ensures whole { (F.honest files.old ≡ true) ⊎ IsOfInput (words_given (map (λ s. s.now) operands.now))
         → result.cut ≡ Cut.Whole → (left : Left)
         × OperandsOutcome options (map (λ s. s.now) operands.now) (world_of R.Source F.Files input.old files.old) left
-        × LeavesBehind W.Sink E.Sink F.Files left result.status out.old out.new err.old err.new files.new }
+        × LeavesAfter W.Sink E.Sink F.Files left result.status out.old out.new err.old err.new files.new }
     ensures write { (F.honest files.old ≡ true) ⊎ IsOfInput (words_given (map (λ s. s.now) operands.now))
         → result.cut ≡ Cut.Write → (left : Left)
         × OperandsOutcome options (map (λ s. s.now) operands.now) (world_of R.Source F.Files input.old files.old) left
         × PrintsSome W.Sink out.old out.new left.output × (F.folder files.new ≡ left.folder) }
     ensures unread { GivesNothing options (words_given (map (λ s. s.now) operands.now)) → (input.new ≡ input.old) × (out.new ≡ out.old) × (files.new ≡ files.old) }
     ensures unused { result.status ≡ 1 → (input.new ≡ input.old) × (out.new ≡ out.old) × (files.new ≡ files.old) }
-    ensures usage { result.status ≡ 1 → (line : List ℕ) × OperandsTell options (map (λ s. s.now) operands.now) line
-        × TellsLines E.Sink err.old err.new (line ∷ []) }
+    ensures usage { result.status ≡ 1 → (line : List ℕ) × OperandsReport options (map (λ s. s.now) operands.now) line
+        × ReportsLines E.Sink err.old err.new (line ∷ []) }
     ensures unread_kept { options.journal ≡ true → IsStill R.Source input.old input.new }
     ensures read { IsOfInput (words_given (map (λ s. s.now) operands.now)) → result.cut ≡ Cut.Read → PrintsAll W.Sink out.old out.new [] }
     ensures moments { options.journal ≡ true → F.honest files.old ≡ true
@@ -112,14 +112,14 @@ fn run_operands<R: Source, W: Sink, E: Sink, F: Files>(
     ensures honest { F.honest files.new ≡ F.honest files.old }
 {
     match read_group(alloc, operands) {
-        Ok(asked) => perform(alloc, options, from_ref(&asked), input, out, err, files),
-        Err(fault) => tell_usage(alloc, err, "", &fault),
+        Ok(requested) => perform(alloc, options, from_ref(&requested), input, out, err, files),
+        Err(fault) => report_usage(alloc, err, "", &fault),
     }
 }
 
 // Whether rules of standard input are meant where the lines are read from there.
-fn edits_input(name: &str, lines: &[Asked<'_>]) -> bool
-    ensures { result ≡ (bytes_eq name.now input_package && names_input (map asked_in lines.now)) }
+fn edits_input(name: &str, lines: &[Requested<'_>]) -> bool
+    ensures { result ≡ (bytes_eq name.now input_package && names_input (map requested_in lines.now)) }
 {
     name == INPUT && names_input(lines)
 }
@@ -138,16 +138,16 @@ fn run_text<R: Source, W: Sink, E: Sink, F: Files>(
     ensures whole { F.honest files.old ≡ true → result.cut ≡ Cut.Whole
         → (known : Option (List ℕ)) → (name.now ≢ input_package → known ≡ R.remaining input.old)
         → (left : Left) × TextOutcome options name.now (Some bytes.now) (world_with F.Files files.old known) left
-        × LeavesBehind W.Sink E.Sink F.Files left result.status out.old out.new err.old err.new files.new }
+        × LeavesAfter W.Sink E.Sink F.Files left result.status out.old out.new err.old err.new files.new }
     ensures write { F.honest files.old ≡ true → result.cut ≡ Cut.Write
         → (known : Option (List ℕ)) → (name.now ≢ input_package → known ≡ R.remaining input.old)
         → (left : Left) × TextOutcome options name.now (Some bytes.now) (world_with F.Files files.old known) left
         × PrintsSome W.Sink out.old out.new left.output × (F.folder files.new ≡ left.folder) }
     ensures unused { result.status ≡ 1 → (input.new ≡ input.old) × (out.new ≡ out.old) × (files.new ≡ files.old) }
-    ensures usage { result.status ≡ 1 → (line : List ℕ) × TextTells options name.now (Some bytes.now) line
-        × TellsLines E.Sink err.old err.new (line ∷ []) }
+    ensures usage { result.status ≡ 1 → (line : List ℕ) × TextReports options name.now (Some bytes.now) line
+        × ReportsLines E.Sink err.old err.new (line ∷ []) }
     ensures unread_kept { options.journal ≡ true → IsStill R.Source input.old input.new }
-    ensures moments { options.journal ≡ true → F.honest files.old ≡ true → PassesBy F.Files (λ now. (lines : List a.Asked)
+    ensures moments { options.journal ≡ true → F.honest files.old ≡ true → PassesBy F.Files (λ now. (lines : List a.Requested)
         × (script_of bytes.now ≡ Ok lines) × IsMomentOfSteps (F.folder files.old) (all_steps lines) [] now) files.old files.new }
     ensures sound { R.sound input.old ≡ true → result.cut ≢ Cut.Read }
     ensures status { result.cut ≢ Cut.Whole → result.status ≡ 2 }
@@ -158,17 +158,17 @@ fn run_text<R: Source, W: Sink, E: Sink, F: Files>(
         Ok(text) => text,
         Err(fault) => {
             let at = fault.valid_up_to();
-            tell_fault(err, told_name(name), &ReadFault::NotUtf8 { at });
+            report_fault(err, reported_name(name), &ReadFault::NotUtf8 { at });
             return UNUSED;
         }
     };
     let lines = match read_script(alloc, text) {
         Ok(lines) => lines,
-        Err(fault) => return tell_usage(alloc, err, told_name(name), &fault),
+        Err(fault) => return report_usage(alloc, err, reported_name(name), &fault),
     };
     let lines = lines.as_slice();
     if edits_input(name, lines) {
-        tell_input(err);
+        report_input(err);
         return UNUSED;
     }
     perform(alloc, options, lines, input, out, err, files)
@@ -186,7 +186,7 @@ fn run_script<R: Source, W: Sink, E: Sink, F: Files>(
 ) -> Exit
     ensures whole { F.honest files.old ≡ true → result.cut ≡ Cut.Whole → (left : Left)
         × ScriptOutcome options name.now (world_of R.Source F.Files input.old files.old) left
-        × LeavesBehind W.Sink E.Sink F.Files left result.status out.old out.new err.old err.new files.new }
+        × LeavesAfter W.Sink E.Sink F.Files left result.status out.old out.new err.old err.new files.new }
     ensures write { F.honest files.old ≡ true → result.cut ≡ Cut.Write → (left : Left)
         × ScriptOutcome options name.now (world_of R.Source F.Files input.old files.old) left
         × PrintsSome W.Sink out.old out.new left.output × (F.folder files.new ≡ left.folder) }
@@ -195,8 +195,8 @@ fn run_script<R: Source, W: Sink, E: Sink, F: Files>(
     ensures unused_files { result.status ≡ 1 → name.now ≡ input_package → files.new ≡ files.old }
     ensures unused_time { result.status ≡ 1 → F.honest files.old ≡ true → KeepsFolder F.Files files.old files.new }
     ensures usage { result.status ≡ 1 → result.cut ≡ Cut.Whole → (line : List ℕ)
-        × GivenTells (F.honest files.old) (world_of R.Source F.Files input.old files.old) options (script name.now) line
-        × TellsLines E.Sink err.old err.new (line ∷ []) }
+        × GivenReports (F.honest files.old) (world_of R.Source F.Files input.old files.old) options (script name.now) line
+        × ReportsLines E.Sink err.old err.new (line ∷ []) }
     ensures unread_kept { options.journal ≡ true → name.now ≢ input_package → IsStill R.Source input.old input.new }
     ensures moments { options.journal ≡ true → F.honest files.old ≡ true
         → PassesBy F.Files (IsMomentOfRun (world_of R.Source F.Files input.old files.old) (script name.now)) files.old files.new }
@@ -207,7 +207,7 @@ fn run_script<R: Source, W: Sink, E: Sink, F: Files>(
 {
     match read_bytes(alloc, name, input, files) {
         Ok(bytes) => run_text(alloc, options, name, &bytes, input, out, err, files),
-        Err(cut) => tell_unread(err, told_name(name), cut),
+        Err(cut) => report_unread(err, reported_name(name), cut),
     }
 }
 
@@ -232,7 +232,7 @@ pub fn buildozer<S: AsStr, R: Source, W: Sink, E: Sink, F: Files>(
     ensures whole { (F.honest files.old ≡ true) ⊎ NamesNoFile (map S.text words.now)
         → result.cut ≡ Cut.Whole → (left : Left)
         × WordsOutcome (map S.text words.now) (world_of R.Source F.Files input.old files.old) left
-        × LeavesBehind W.Sink E.Sink F.Files left result.status out.old out.new err.old err.new files.new }
+        × LeavesAfter W.Sink E.Sink F.Files left result.status out.old out.new err.old err.new files.new }
 
     // Where standard output fails, a beginning of what it is to be given is there, and the files are as a whole run leaves them.
     ensures write { (F.honest files.old ≡ true) ⊎ NamesNoFile (map S.text words.now)
@@ -245,8 +245,8 @@ pub fn buildozer<S: AsStr, R: Source, W: Sink, E: Sink, F: Files>(
 
     // A run of status 1 that no port cut says in one line why, with journals as without: of operands the first one that is refused.
     ensures usage { result.status ≡ 1 → result.cut ≡ Cut.Whole → (line : List ℕ)
-        × LineTells (F.honest files.old) (world_of R.Source F.Files input.old files.old) (command_line_of (map S.text words.now)) line
-        × TellsLines E.Sink err.old err.new (line ∷ []) }
+        × LineReports (F.honest files.old) (world_of R.Source F.Files input.old files.old) (command_line_of (map S.text words.now)) line
+        × ReportsLines E.Sink err.old err.new (line ∷ []) }
 
     // A run of status 1 leaves the output as it was. So it leaves the input, unless lines are in it, and the files, unless lines
     // are in one; then these are no more than read, and a folder of honest ones is the same at each moment.
@@ -278,7 +278,7 @@ pub fn buildozer<S: AsStr, R: Source, W: Sink, E: Sink, F: Files>(
 {
     let line = match read_line(alloc, words) {
         Ok(line) => line,
-        Err(fault) => return tell_line_usage(alloc, err, &fault),
+        Err(fault) => return report_line_usage(alloc, err, &fault),
     };
     match &line.given {
         Given::Operands(operands) => {

@@ -11,7 +11,7 @@ mod run;
 mod running;
 mod script;
 mod step;
-mod told;
+mod reported;
 
 pub use bz_ports::{Cut, Exit};
 pub use engine::buildozer;

@@ -1,11 +1,11 @@
 //! The package of a step.
 ghost use Rattle.std.specs.Prelude.{◌≡◌, ◌≢◌, ◌⊎◌, ◌≤◌, ◌++◌, [], ◌∷◌, ℕ, List, Option, Some, None, true, false, length, option_map, IfSome, IsSome};
 ghost use Rattle.bz_ports.specs.Outputs.{Counts};
-ghost use Rattle.bz_ports.specs.Told.{stdin};
+ghost use Rattle.bz_ports.specs.Reported.{stdin};
 ghost use Rattle.bz_workspace.specs.Keeps.{KeepsFolder};
 ghost use Rattle.bz_workspace.specs.Opens.{Opens};
 ghost use Rattle.bz_workspace.specs.Packages.{Opened, package_number, file_at};
-ghost use Rattle.bz_engine.specs.Calls.{TellsLines, ReadsNothing, UsesSome, world_with, AreCutOver};
+ghost use Rattle.bz_engine.specs.Calls.{ReportsLines, ReadsNothing, UsesSome, world_with, AreCutOver};
 ghost use Rattle.bz_engine.specs.Cuts.{AreCutBy, IsLeft, OpensInput};
 ghost use Rattle.bz_engine.specs.Keeping.{UsesBeside};
 ghost use Rattle.bz_engine.specs.Run.{Uses};
@@ -14,15 +14,15 @@ ghost use Rattle.bz_engine.specs.Steps.{input_package};
 
 use crate::script::INPUT;
 use bz_files::Files;
-use bz_ports::{Cut, InputFault, MOST, STDIN, Sink, Source, read_most, tell_named};
+use bz_ports::{Cut, InputFault, MOST, STDIN, Sink, Source, read_most, report_named};
 use bz_workspace::{Opening, Workspace};
 use std::alloc::Global;
 
 // Standard input was not read, which is reported.
-fn unread<E: Sink>(err: &mut E, word: &str, cut: Cut) -> Opening
+fn refused_opening<E: Sink>(err: &mut E, word: &str, cut: Cut) -> Opening
     ensures { result ≡ record { place = None; cut = cut } }
 {
-    tell_named(err, STDIN, word);
+    report_named(err, STDIN, word);
     Opening { place: None, cut }
 }
 
@@ -37,21 +37,21 @@ fn open_input<R: Source, E: Sink>(
     ensures whole { result.cut ≡ Cut.Whole → (text : List ℕ) × (file : Option Opened) × (lines : List (List ℕ)) × IsInput (R.remaining input.old) text
         × Opens input_package (Some (stdin, text)) file lines × (workspace.new ≡ workspace.old ++ record { «package» = input_package; file = file } ∷ [])
         × (result.place ≡ option_map (λ _. length workspace.old) file)
-        × TellsLines E.Sink err.old err.new lines }
+        × ReportsLines E.Sink err.old err.new lines }
     ensures there { IfSome result.place (λ at. IsSome (file_at at workspace.new)) }
     ensures failed { result.cut ≡ Cut.Read → (result.place ≡ None) × (workspace.new ≡ workspace.old ++ record { «package» = input_package; file = None } ∷ []) }
     ensures works { R.sound input.old ≡ true → result.cut ≢ Cut.Read }
     ensures sound { R.sound input.new ≡ R.sound input.old }
     ensures cut { (files : ℕ) → AreCutBy result.cut (R.faults input.old) (R.faults input.new) files files }
-    ensures reads { Counts (R.faults input.old) (R.faults input.new) }
+    ensures read_faults { Counts (R.faults input.old) (R.faults input.new) }
 {
     let Ok(place) = workspace.add(INPUT.as_bytes()) else {
-        return unread(err, "Memory", Cut::Memory);
+        return refused_opening(err, "Memory", Cut::Memory);
     };
     match read_most(alloc, input, MOST) {
         Ok(text) => workspace.open_text(place, INPUT, STDIN, text, err),
-        Err(InputFault::Read) => unread(err, "cannot open", Cut::Read),
-        Err(InputFault::Memory) => unread(err, "Memory", Cut::Memory),
+        Err(InputFault::Read) => refused_opening(err, "cannot open", Cut::Read),
+        Err(InputFault::Memory) => refused_opening(err, "Memory", Cut::Memory),
     }
 }
 
@@ -79,11 +79,11 @@ pub(crate) fn open_package<R: Source, F: Files, E: Sink>(
         → IsLeft known workspace.old (R.remaining input.old) → (place : ℕ) × (lines : List (List ℕ))
         × Uses (world_with F.Files files.old known) «package».now workspace.old place lines workspace.new
         × (result.place ≡ option_map (λ _. place) (file_at place workspace.new)) × IsLeft known workspace.new (R.remaining input.new)
-        × TellsLines E.Sink err.old err.new lines }
+        × ReportsLines E.Sink err.old err.new lines }
     ensures beside { journals ≡ true → F.honest files.old ≡ true → result.cut ≡ Cut.Whole → (place : ℕ) × (lines : List (List ℕ))
         × UsesBeside (F.folder files.old) «package».now workspace.old place lines workspace.new
         × (result.place ≡ option_map (λ _. place) (file_at place workspace.new))
-        × TellsLines E.Sink err.old err.new lines }
+        × ReportsLines E.Sink err.old err.new lines }
     ensures some { journals ≡ true → F.honest files.old ≡ true → UsesSome (F.folder files.old) «package».now result.place workspace.old workspace.new }
     ensures time { journals ≡ true → F.honest files.old ≡ true → KeepsFolder F.Files files.old files.new }
     ensures kept { journals ≡ true → F.honest files.old ≡ true → F.folder files.new ≡ F.folder files.old }
@@ -94,7 +94,7 @@ pub(crate) fn open_package<R: Source, F: Files, E: Sink>(
     ensures works { R.sound input.old ≡ true → result.cut ≢ Cut.Read }
     ensures sound { R.sound input.new ≡ R.sound input.old }
     ensures cut { AreCutOver R.Source F.Files result.cut input.old input.new files.old files.new }
-    ensures reads { Counts (R.faults input.old) (R.faults input.new) }
+    ensures read_faults { Counts (R.faults input.old) (R.faults input.new) }
     ensures counts { Counts (F.faults files.old) (F.faults files.new) }
     ensures honest { F.honest files.new ≡ F.honest files.old }
 {

@@ -2,18 +2,18 @@
 ghost use Rattle.std.specs.Prelude.{◌≡◌, map};
 ghost use Rattle.std.specs.List.{All};
 ghost use Rattle.bz_line.specs.Paths.{HasPath};
-ghost use Rattle.bz_line.specs.Shown.{asked_in, asking_in};
+ghost use Rattle.bz_line.specs.Shown.{requested_in, request_in};
 ghost use Rattle.bz_engine.specs.Calls.{spot, Proceeds};
 ghost use Rattle.bz_engine.specs.Outcome.{AreOfInput};
 ghost use Rattle.bz_engine.specs.Keeping.{RunsBeside};
 ghost use Rattle.bz_engine.specs.Run.{RunsSteps};
-ghost use Rattle.bz_engine.specs.Steps.{input_package, step_of, steps_asked, all_steps};
+ghost use Rattle.bz_engine.specs.Steps.{input_package, step_of, steps_requested, all_steps};
 
 use crate::acting::do_step;
 use crate::run::Run;
 use bz_files::Files;
 use bz_label::Target;
-use bz_line::{Asked, Asking, Options};
+use bz_line::{Requested, Request, Options};
 use bz_ports::{Cut, Sink, Source, first_cut};
 use std::alloc::Global;
 
@@ -22,25 +22,25 @@ fn run_target<R: Source, F: Files, E: Sink>(
     alloc: Global,
     options: Options,
     target: &Target,
-    commands: &[Asking<'_>],
+    commands: &[Request<'_>],
     run: &mut Run,
     input: &mut R,
     files: &mut F,
     err: &mut E,
 ) -> Cut
     requires { HasPath target.now }
-    ensures { Proceeds options.journal (target.now.«package» ≡ input_package) (map (step_of target.now) (map asking_in commands.now))
-        (λ world. RunsSteps world options.keep_going (map (step_of target.now) (map asking_in commands.now)))
-        (RunsBeside options.keep_going (map (step_of target.now) (map asking_in commands.now))) result
+    ensures { Proceeds options.journal (target.now.«package» ≡ input_package) (map (step_of target.now) (map request_in commands.now))
+        (λ world. RunsSteps world options.keep_going (map (step_of target.now) (map request_in commands.now)))
+        (RunsBeside options.keep_going (map (step_of target.now) (map request_in commands.now))) result
         (spot R.Source F.Files E.Sink run.old input.old files.old err.old) (spot R.Source F.Files E.Sink run.new input.new files.new err.new) }
 {
     let journals = options.journal;
     let mut cut = Cut::Whole;
-    for asking in commands {
+    for request in commands {
         if run.failed && !options.keep_going {
             return cut;
         }
-        let later = do_step(alloc, journals, run, target, asking, input, files, err);
+        let later = do_step(alloc, journals, run, target, request, input, files, err);
         cut = first_cut(cut, later);
     }
     cut
@@ -50,16 +50,16 @@ fn run_target<R: Source, F: Files, E: Sink>(
 pub(crate) fn run_line<R: Source, F: Files, E: Sink>(
     alloc: Global,
     options: Options,
-    line: &Asked<'_>,
+    line: &Requested<'_>,
     run: &mut Run,
     input: &mut R,
     files: &mut F,
     err: &mut E,
 ) -> Cut
     requires { All HasPath line.now.targets.items }
-    ensures { Proceeds options.journal (All (λ target. target.«package» ≡ input_package) line.now.targets.items) (steps_asked (asked_in line.now))
-        (λ world. RunsSteps world options.keep_going (steps_asked (asked_in line.now)))
-        (RunsBeside options.keep_going (steps_asked (asked_in line.now))) result
+    ensures { Proceeds options.journal (All (λ target. target.«package» ≡ input_package) line.now.targets.items) (steps_requested (requested_in line.now))
+        (λ world. RunsSteps world options.keep_going (steps_requested (requested_in line.now)))
+        (RunsBeside options.keep_going (steps_requested (requested_in line.now))) result
         (spot R.Source F.Files E.Sink run.old input.old files.old err.old) (spot R.Source F.Files E.Sink run.new input.new files.new err.new) }
 {
     let commands = line.commands.as_slice();
@@ -75,16 +75,16 @@ pub(crate) fn run_line<R: Source, F: Files, E: Sink>(
 pub(crate) fn run_lines<R: Source, F: Files, E: Sink>(
     alloc: Global,
     options: Options,
-    lines: &[Asked<'_>],
+    lines: &[Requested<'_>],
     run: &mut Run,
     input: &mut R,
     files: &mut F,
     err: &mut E,
 ) -> Cut
-    requires { All (λ asked. All HasPath asked.targets.items) lines.now }
-    ensures { Proceeds options.journal (AreOfInput (map asked_in lines.now)) (all_steps (map asked_in lines.now))
-        (λ world. RunsSteps world options.keep_going (all_steps (map asked_in lines.now)))
-        (RunsBeside options.keep_going (all_steps (map asked_in lines.now))) result
+    requires { All (λ requested. All HasPath requested.targets.items) lines.now }
+    ensures { Proceeds options.journal (AreOfInput (map requested_in lines.now)) (all_steps (map requested_in lines.now))
+        (λ world. RunsSteps world options.keep_going (all_steps (map requested_in lines.now)))
+        (RunsBeside options.keep_going (all_steps (map requested_in lines.now))) result
         (spot R.Source F.Files E.Sink run.old input.old files.old err.old) (spot R.Source F.Files E.Sink run.new input.new files.new err.new) }
 {
     let mut cut = Cut::Whole;

@@ -3,7 +3,7 @@ ghost use Rattle.std.specs.Prelude.{◌≡◌, ◌≢◌, ℕ, Some, None, true,
 ghost use Rattle.bz_ports.specs.Outputs.{Counts};
 ghost use Rattle.bz_engine.specs.Calls.{world_of, AreCutOver};
 ghost use Rattle.bz_workspace.specs.Keeps.{KeepsFolder};
-ghost use Rattle.bz_engine.specs.Outcome.{IsScript, told_name};
+ghost use Rattle.bz_engine.specs.Outcome.{IsScript, reported_name};
 ghost use Rattle.bz_engine.specs.Steps.{input_package};
 
 use bz_files::{FileFault, Files};
@@ -14,8 +14,8 @@ use std::alloc::Global;
 pub(crate) const INPUT: &str = "-";
 
 /// The name by which a file of lines is reported.
-pub(crate) fn told_name(name: &str) -> &str
-    ensures { result.now ≡ told_name name.now }
+pub(crate) fn reported_name(name: &str) -> &str
+    ensures { result.now ≡ reported_name name.now }
 {
     if name == INPUT { STDIN } else { name }
 }

@@ -3,14 +3,14 @@ ghost use Rattle.std.specs.Prelude.{◌≡◌, map, option_map};
 ghost use Rattle.std.specs.List.{list_any};
 ghost use Rattle.bz_line.specs.Paths.{HasPath};
 ghost use Rattle.bz_workspace.specs.Sessions.{action_in};
-ghost use Rattle.bz_line.specs.Shown.{asked_in};
+ghost use Rattle.bz_line.specs.Shown.{requested_in};
 ghost use Rattle.bz_engine.specs.Steps as s;
-ghost use Rattle.bz_engine.specs.Shown.{names_in, shows_in, shown_in};
+ghost use Rattle.bz_engine.specs.Shown.{targets_input_in, prints_nothing_in, shown_in};
 ghost use Rattle.bz_engine.specs.Steps.{is_of_input, names_input, shows_input, all_steps};
 
 use crate::script::INPUT;
 use bz_label::Target;
-use bz_line::{Asked, Asking, Verb};
+use bz_line::{Requested, Request, Verb};
 use bz_workspace::Action;
 
 /// What the session of the target's file is to do; to list its texts is no action.
@@ -41,55 +41,55 @@ fn is_of_input(target: &Target) -> bool
 }
 
 // Whether a command doesn't print.
-fn shows(asking: &Asking<'_>) -> bool
-    ensures { result ≡ shows_in asking.now }
+fn prints_nothing(request: &Request<'_>) -> bool
+    ensures { result ≡ prints_nothing_in request.now }
 {
-    !asking.verb.prints()
+    !request.verb.prints()
 }
 
 // Whether rules of standard input are meant in a line.
-fn names(line: &Asked<'_>) -> bool
-    ensures { result ≡ names_in line.now }
+fn targets_input(line: &Requested<'_>) -> bool
+    ensures { result ≡ targets_input_in line.now }
 {
     line.targets.iter().any(|target| is_of_input(target))
 }
 
 // Whether a command among them doesn't print.
-fn any_shows(commands: &[Asking<'_>]) -> bool
-    ensures { result ≡ list_any shows_in commands.now }
+fn any_prints_nothing(commands: &[Request<'_>]) -> bool
+    ensures { result ≡ list_any prints_nothing_in commands.now }
 {
-    commands.iter().any(|asking| shows(asking))
+    commands.iter().any(|request| prints_nothing(request))
 }
 
 // Whether a line has a command on rules of standard input that doesn't print.
-fn is_shown(line: &Asked<'_>) -> bool
+fn is_shown(line: &Requested<'_>) -> bool
     ensures { result ≡ shown_in line.now }
 {
-    names(line) && any_shows(&line.commands)
+    targets_input(line) && any_prints_nothing(&line.commands)
 }
 
-fn any_names(lines: &[Asked<'_>]) -> bool
-    ensures { result ≡ list_any names_in lines.now }
+fn any_targets_input(lines: &[Requested<'_>]) -> bool
+    ensures { result ≡ list_any targets_input_in lines.now }
 {
-    lines.iter().any(|line| names(line))
+    lines.iter().any(|line| targets_input(line))
 }
 
-fn any_shown(lines: &[Asked<'_>]) -> bool
+fn any_shown(lines: &[Requested<'_>]) -> bool
     ensures { result ≡ list_any shown_in lines.now }
 {
     lines.iter().any(|line| is_shown(line))
 }
 
 /// Whether rules of standard input are meant in one of the lines.
-pub(crate) fn names_input(lines: &[Asked<'_>]) -> bool
-    ensures { result ≡ names_input (map asked_in lines.now) }
+pub(crate) fn names_input(lines: &[Requested<'_>]) -> bool
+    ensures { result ≡ names_input (map requested_in lines.now) }
 {
-    any_names(lines)
+    any_targets_input(lines)
 }
 
 /// Whether the text of standard input is shown: a command on it is not one that prints.
-pub(crate) fn shows_input(lines: &[Asked<'_>]) -> bool
-    ensures { result ≡ shows_input (all_steps (map asked_in lines.now)) }
+pub(crate) fn shows_input(lines: &[Requested<'_>]) -> bool
+    ensures { result ≡ shows_input (all_steps (map requested_in lines.now)) }
 {
     any_shown(lines)
 }

@@ -74,9 +74,9 @@ after_own mark s =
     let same : bytes_eq mark mark ≡ true = (bytes_eq-Decides mark mark).1 refl in
     rw (front, back, same) refl
 
-pub after_told : (mark s r : List ℕ) → after_mark mark s ≡ Some r → s ≡ mark ++ r
+pub after_answered : (mark s r : List ℕ) → after_mark mark s ≡ Some r → s ≡ mark ++ r
 unfolding after_mark
-after_told mark s r e =
+after_answered mark s r e =
     let f = cond_some (bytes_eq (take (length mark) s) mark) (drop (length mark) s) r e in
     let front : take (length mark) s ≡ mark = (bytes_eq-Decides (take (length mark) s) mark).0 f.0 in
     sym (take-append-drop (length mark) s) ∙ ap (λ t. t ++ drop (length mark) s) front ∙ ap (λ t. mark ++ t) f.1
@@ -86,7 +86,7 @@ mark_exact {X = X} mark sx P go exact = record {
   sound = λ s x rest e.
       let b = bind_some (after_mark mark s) go (x, rest) e in
       let q = exact.sound b.0 x rest b.2 in
-      let spelled : s ≡ mark ++ (sx x ++ rest) = after_told mark s b.0 b.1 ∙ ap (λ t. mark ++ t) q.1 in
+      let spelled : s ≡ mark ++ (sx x ++ rest) = after_answered mark s b.0 b.1 ∙ ap (λ t. mark ++ t) q.1 in
       (q.0, spelled ∙ sym (append_assoc mark (sx x) rest));
   complete = λ x rest p.
       ap (λ s. after_mark mark s >>= go) (append_assoc mark (sx x) rest) ∙ ap (λ o. o >>= go) (after_own mark (sx x ++ rest)) ∙ exact.complete x rest p;

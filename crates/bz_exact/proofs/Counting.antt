@@ -9,7 +9,7 @@ use Rattle.bz_token.specs.Bytes.{is_digit}
 use Rattle.bz_exact.specs.Spellings.{number_limit, numeral}
 use Rattle.bz_exact.specs.Laws.{IsExact}
 use Rattle.bz_exact.specs.Readers.{◌>>=◌, after_mark, digits_at, number_at}
-use Rattle.bz_exact.proofs.Chains.{bind_some, same_read, after_own, after_told}
+use Rattle.bz_exact.proofs.Chains.{bind_some, same_read, after_own, after_answered}
 
 -- the digits of a number, whatever follows them
 abbrev Goes : ℕ → ℕ → List ℕ → Type 0
@@ -116,7 +116,7 @@ module _ (stop : ℕ) (no_digit : is_digit stop ≡ false) where
         let here : b ≡ 48 = eqb-true b 48 yes' in
         let written : decimal n ≡ 48 ∷ [] = ap decimal (sym h.0) ∙ decimal_digit 0 (omega arith) in (
           omega (arith, h.0),
-          ap (λ k. k ∷ s) here ∙ ap (λ t. 48 ∷ t) (after_told (stop ∷ []) s g.0 g.1 ∙ ap (λ t. stop ∷ t) h.1) ∙ ap (λ t. (t ++ stop ∷ []) ++ rest) (sym written),
+          ap (λ k. k ∷ s) here ∙ ap (λ t. 48 ∷ t) (after_answered (stop ∷ []) s g.0 g.1 ∙ ap (λ t. stop ∷ t) h.1) ∙ ap (λ t. (t ++ stop ∷ []) ++ rest) (sym written),
         )
     | inr no' ↦
         let g = cond_reads (is_digit b) (digits_at stop (b - 48) s) (n, rest) (rw no' at e) in

@@ -16,7 +16,7 @@ use Rattle.bz_exact.specs.Spellings.{counted_text, IsDigest, number_limit, numer
 use Rattle.bz_exact.specs.Laws.{IsExact}
 use Rattle.bz_exact.specs.Readers.{◌>>=◌, Reader, after_mark, field_at, number_at, ok_value, digest_at, repeated, counted_at, listed_at, tested, up_to}
 use Rattle.std.specs.Prelude.{nat_le}
-use Rattle.bz_exact.proofs.Chains.{bind_some, same_read, after_own, after_told, AreAll, repeated_exact, then_exact, so}
+use Rattle.bz_exact.proofs.Chains.{bind_some, same_read, after_own, after_answered, AreAll, repeated_exact, then_exact, so}
 use Rattle.bz_exact.proofs.Counting.{number_exact}
 
 cond_other : {A : Type 0} (b : Bool) (x y : A) → cond b None (Some x) ≡ Some y → (b ≡ false) × (x ≡ y)
@@ -95,7 +95,7 @@ digest_exact = record {
       let len : length hex ≡ 2 * 32 = b.0 in
       let k = decode_of-ok hex v.0 (sym (decode_sized-twice hex 32 len) ∙ ok_is (decode_sized hex 32) v.0 v.1) in
       let fits : IsDigest v.0 = (omega (arith, k.2, len), k.3) in
-      let line : s ≡ hex ++ (line_feed ∷ rest) = b.1 ∙ ap (λ t. hex ++ t) (after_told (line_feed ∷ []) h.0.1 w.0 w.1 ∙ ap (λ t. line_feed ∷ t) f.1) in
+      let line : s ≡ hex ++ (line_feed ∷ rest) = b.1 ∙ ap (λ t. hex ++ t) (after_answered (line_feed ∷ []) h.0.1 w.0 w.1 ∙ ap (λ t. line_feed ∷ t) f.1) in
       (subst IsDigest f.0 fits, line ∙ ap (λ t. t ++ (line_feed ∷ rest)) (sym same ∙ ap encode_lower f.0) ∙ sym (append_assoc (encode_lower d) (line_feed ∷ []) rest));
   complete = λ d rest p.
       let len : length (encode_lower d) ≡ 64 = omega (arith, length-encode_with lower_digits d, p.0) in

@@ -24,7 +24,7 @@ folder_then files moment = folder_after (take moment files.log.items)
 -- each read of these names; and how many calls there were, how many of `replace` among all of them, and how many failed
 pub record HeldPlan : Type 0 where
   pub fails_at : Option ℕ
-  pub fails_behind : Option ℕ
+  pub fails_after : Option ℕ
   pub stops_at : Option ℕ
   pub unreadable : List Text
   pub calls : ℕ
@@ -34,7 +34,7 @@ pub record HeldPlan : Type 0 where
 abbrev pub plan_in : MemoryFiles → HeldPlan
 plan_in files = record {
   fails_at = files.fails_at;
-  fails_behind = files.fails_behind;
+  fails_after = files.fails_after;
   stops_at = files.stops_at;
   unreadable = map string_bytes files.unreadable.items;
   calls = files.calls;
@@ -44,4 +44,4 @@ plan_in files = record {
 
 -- before the first call, of which none is to fail
 abbrev pub no_plan : HeldPlan
-no_plan = record { fails_at = None; fails_behind = None; stops_at = None; unreadable = []; calls = 0; replaces = 0; faults = 0 }
+no_plan = record { fails_at = None; fails_after = None; stops_at = None; unreadable = []; calls = 0; replaces = 0; faults = 0 }

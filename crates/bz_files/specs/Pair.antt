@@ -9,15 +9,15 @@ IsNew journal file name = (name ≡ new_name journal) ⊎ (name ≡ new_name fil
 
 -- the folder with the journal's bytes, and then the file's
 abbrev pub with_both : Text → List ℕ → Text → List ℕ → Folder → Folder
-with_both journal told file text old = with_file (with_file old journal told) file text
+with_both journal stored file text old = with_file (with_file old journal stored) file text
 
 -- a moment of a call that keeps both: neither is there yet, the journal alone, or both
 abbrev pub IsKeeping : Text → List ℕ → Text → List ℕ → Folder → Folder → Type 0
-IsKeeping journal told file text old now = SameBut (IsNew journal file) old now
-    ⊎ (SameBut (IsNew journal file) (with_file old journal told) now
-    ⊎ SameBut (IsNew journal file) (with_both journal told file text old) now)
+IsKeeping journal stored file text old now = SameBut (IsNew journal file) old now
+    ⊎ (SameBut (IsNew journal file) (with_file old journal stored) now
+    ⊎ SameBut (IsNew journal file) (with_both journal stored file text old) now)
 
 -- a moment of a call that keeps both only where the file holds the text `standing`: the folder is as it was, or the file held
 -- that text
 abbrev pub IsChecking : Text → Text → List ℕ → Text → List ℕ → Folder → Folder → Type 0
-IsChecking standing journal told file text old now = (now ≡ old) ⊎ ((get old file ≡ Some standing) × IsKeeping journal told file text old now)
+IsChecking standing journal stored file text old now = (now ≡ old) ⊎ ((get old file ≡ Some standing) × IsKeeping journal stored file text old now)

@@ -21,7 +21,7 @@ pub struct MemoryFiles {
     unreadable: Vec<String>,
     calls: u64,
     fails_at: Option<u64>,
-    fails_behind: Option<u64>,
+    fails_after: Option<u64>,
     stops_at: Option<u64>,
     replaces: u64,
     faults: u64,
@@ -78,7 +78,7 @@ impl MemoryFiles {
             unreadable: Vec::new(alloc),
             calls: 0,
             fails_at: None,
-            fails_behind: None,
+            fails_after: None,
             stops_at: None,
             replaces: 0,
             faults: 0,
@@ -108,12 +108,12 @@ impl MemoryFiles {
 
     /// Makes the k-th call from now on, counted from 1, answer `Write` where it is a `replace`, but only when the file is
     /// replaced. A read goes on.
-    pub fn fail_behind(&mut self, k: u64)
+    pub fn fail_after(&mut self, k: u64)
         ensures same { folder_in self.new ≡ folder_in self.old }
-        ensures plan { plan_in self.new ≡ record (plan_in self.old) { calls = 0; fails_behind = Some k } }
+        ensures plan { plan_in self.new ≡ record (plan_in self.old) { calls = 0; fails_after = Some k } }
     {
         self.calls = 0;
-        self.fails_behind = Some(k);
+        self.fails_after = Some(k);
     }
 
     /// Makes each call from the k-th from now on fail, counted from 1.
@@ -197,9 +197,9 @@ impl MemoryFiles {
 
     // Whether the call that was counted last is one that fails when its work is done.
     fn fails_now(&self) -> bool
-        ensures { IsTrue result ↔ ((plan_in self.now).fails_behind ≡ Some (plan_in self.now).calls) }
+        ensures { IsTrue result ↔ ((plan_in self.now).fails_after ≡ Some (plan_in self.now).calls) }
     {
-        self.fails_behind == Some(self.calls)
+        self.fails_after == Some(self.calls)
     }
 
     // Whether there is a file that holds these bytes.
@@ -292,7 +292,7 @@ impl Files for MemoryFiles {
     fn rewrite_pair(
         &mut self,
         journal: &str,
-        told: &[u8],
+        stored: &[u8],
         file: &str,
         held: &[u8],
         text: &[u8],
@@ -300,7 +300,7 @@ impl Files for MemoryFiles {
         if !self.contains(file, held) {
             return Err(self.failed(FileFault::Write));
         }
-        self.replace(journal, told)?;
+        self.replace(journal, stored)?;
         self.replace(file, text)
     }
 }

@@ -15,7 +15,7 @@ use std::{fs, io};
 #[derive(Drop)]
 pub(crate) struct Pair<'a> {
     pub(crate) journal: &'a str,
-    pub(crate) told: &'a [u8],
+    pub(crate) stored: &'a [u8],
     pub(crate) file: &'a str,
     pub(crate) held: &'a [u8],
     pub(crate) text: &'a [u8],
@@ -104,7 +104,7 @@ fn put_both<R: std::rt::Files<File = File>>(
 ) -> io::Result<()> {
     let rights = rights_at(system, pair.file)?;
     file.write(pair.text, rights)?;
-    journal.write(pair.told, common(rights, rights_at(system, pair.journal)?))?;
+    journal.write(pair.stored, common(rights, rights_at(system, pair.journal)?))?;
     check(alloc, system, pair.file, pair.held, rights)?;
     journal.replace(system, pair.journal)?;
     // that took its time, down to the disk
@@ -113,7 +113,7 @@ fn put_both<R: std::rt::Files<File = File>>(
 }
 
 // Creates the new file of a journal, whose file's is there.
-fn put_behind<R: std::rt::Files<File = File>>(
+fn put_after<R: std::rt::Files<File = File>>(
     alloc: Global,
     system: &R,
     file: &mut Fresh<'_>,
@@ -134,6 +134,6 @@ pub(crate) fn replace_pair<R: std::rt::Files<File = File>>(
 ) -> io::Result<()> {
     let own = new_name(alloc, pair.file)?;
     let mut file = Fresh::create(system, own.as_str())?;
-    let ended = put_behind(alloc, system, &mut file, pair);
+    let ended = put_after(alloc, system, &mut file, pair);
     file.unless_failed(system, ended)
 }

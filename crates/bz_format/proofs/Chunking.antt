@@ -9,7 +9,7 @@ use Rattle.bz_suite.specs.declared.value.BzlItem.{BzlItem}
 use Rattle.bz_suite.specs.Joined.{BzlViewsJoin}
 use Rattle.bz_suite.specs.Laws.{BzlViewIsProper}
 use Rattle.bz_suite.specs.View.{bzl_view_of}
-use Rattle.bz_indent.specs.Drawn.{bzl_drawn}
+use Rattle.bz_indent.specs.LaidOut.{bzl_laid_out}
 use Rattle.bz_indent.specs.Joined.{bzl_gap_below, BzlLayoutsJoin, BzlDepthsJoin}
 use Rattle.bz_indent.specs.Laws.{BzlLayoutIsAccepted, BzlLayoutReadsBack, LevelKeepsLayout, LevelStays}
 use Rattle.bz_indent.specs.Layout.{bzl_layout}
@@ -70,7 +70,7 @@ module _ (laws : LayersJoin) where
             k.formatted ∙ (ap (λ z. z ++ (bzl_gap_below above (level items) ++ bzl_layout (level items))) h.formatted
             ∙ (sym (laid_both above h.items (level items) h.last) ∙ ap bzl_layout (sym two)));
         short = k.short;
-        shallow = subst (λ xs. depth_of (bzl_drawn xs) ≤ depth_limit) (sym two) (laws.depths (level h.items) (level items) depth_limit h.shallow k.shallow);
+        shallow = subst (λ xs. depth_of (bzl_laid_out xs) ≤ depth_limit) (sym two) (laws.depths (level h.items) (level items) depth_limit h.shallow k.shallow);
         last = last_there below (h.items ++ items) (k.last.0, k.last.1, last_both h.items items k.last.0 two k.last.2);
       }
 
@@ -93,7 +93,7 @@ module _ (laws : LayersJoin) where
       let h : IsBegun text out last ends = subst (λ z. IsBegun z out last ends) (ap (λ n. take n text) all ∙ take-length text) g in
       let leveled : List BzlItem = level (bzl_view_of h.tree) in
       let is : out ≡ bzl_layout leveled = h.formatted ∙ ap (λ xs. bzl_layout (level xs)) h.says in
-      let shallow : depth_of (bzl_drawn leveled) ≤ depth_limit = subst (λ xs. depth_of (bzl_drawn (level xs)) ≤ depth_limit) h.says h.shallow in
+      let shallow : depth_of (bzl_laid_out leveled) ≤ depth_limit = subst (λ xs. depth_of (bzl_laid_out (level xs)) ≤ depth_limit) h.says h.shallow in
       let proper = level_proper laws.proper laws.keeps text h.tree h.reads in
       (h.tree, h.reads, is, h.short, (laws.accepted leveled proper (subst (λ t. length t ≤ limit) is h.short) shallow, laws.back leveled proper ∙ laws.stays (bzl_view_of h.tree)))
 

@@ -7,7 +7,7 @@ use Rattle.bz_items.specs.Characters.{Bytes}
 use Rattle.bz_suite.specs.Kept.{BzlCommentsKept, bzl_times}
 use Rattle.bz_suite.specs.View.{bzl_view_of}
 use Rattle.bz_indent.specs.Laws.{LevelKeepsComments, LevelStays}
-use Rattle.bz_indent.specs.Drawn.{bzl_drawn}
+use Rattle.bz_indent.specs.LaidOut.{bzl_laid_out}
 use Rattle.bz_indent.specs.Layout.{bzl_layout}
 use Rattle.bz_indent.specs.Level.{level}
 use Rattle.bz_indent.specs.Syntax.{bzl_program, LevelKeepsProgram}
@@ -32,8 +32,8 @@ formatted_again layers text formatted formats =
     let reads : ReadsBzl formatted new = subst (λ (t : Bytes). ReadsBzl t new) (sym formats.2) lasts.0 in
     let stays : level (bzl_view_of new) ≡ bzl_view_of new = ap level said ∙ layers.level_stays (bzl_view_of tree) ∙ sym said in
     let same : formatted ≡ bzl_formatted new = formats.2 ∙ sym (ap bzl_layout (stays ∙ said)) in
-    let drawn : formatted_tree new ≡ new = ap bzl_drawn (stays ∙ said) in
-    let lasts_again : Lasts new = (subst (λ (n : Node). ReadsBzl (bzl_formatted new) n) (sym drawn) (subst (λ (t : Bytes). ReadsBzl t new) same reads), ap bzl_view_of drawn ∙ sym stays) in
+    let laid_out : formatted_tree new ≡ new = ap bzl_laid_out (stays ∙ said) in
+    let lasts_again : Lasts new = (subst (λ (n : Node). ReadsBzl (bzl_formatted new) n) (sym laid_out) (subst (λ (t : Bytes). ReadsBzl t new) same reads), ap bzl_view_of laid_out ∙ sym stays) in
     let valued : (t u : Node) → ReadsBzl text t → ReadsBzl formatted u → bzl_view_of u ≡ level (bzl_view_of t) =
     λ t u h i. ap bzl_view_of (layers.one formatted u new i reads) ∙ said ∙ ap (λ (n : Node). level (bzl_view_of n)) (layers.one text tree t formats.1 h) in
     record {

@@ -10,7 +10,7 @@ use Rattle.bz_suite.specs.declared.value.BzlItem.{BzlItem}
 use Rattle.bz_suite.specs.Laws.{BzlViewIsProper}
 use Rattle.bz_suite.specs.Proper.{IsProperBzl}
 use Rattle.bz_suite.specs.View.{bzl_view_of}
-use Rattle.bz_indent.specs.Drawn.{bzl_drawn}
+use Rattle.bz_indent.specs.LaidOut.{bzl_laid_out}
 use Rattle.bz_indent.specs.Laws.{LevelKeepsLayout}
 use Rattle.bz_indent.specs.Layout.{bzl_layout}
 use Rattle.bz_indent.specs.Level.{level}
@@ -23,28 +23,28 @@ pub level_proper : BzlViewIsProper → LevelKeepsLayout → (text : Bytes) (tree
 level_proper proper keeps text tree reads = (keeps (bzl_view_of tree)).1 (proper tree reads.0)
 
 module _ (A : Type 0) (proper : BzlViewIsProper) (keeps : LevelKeepsLayout) (text : Bytes) where
-  past_limits : (tree : Node) → ReadsBzl text tree → (fault : SetFault) (told : FormatFault)
-      → (fault ≡ s.TooLarge → told ≡ f.TooLarge) → (fault ≡ s.TooDeep → told ≡ f.TooDeep) → (fault ≡ s.Memory → told ≡ f.Memory)
+  past_limits : (tree : Node) → ReadsBzl text tree → (fault : SetFault) (answered : FormatFault)
+      → (fault ≡ s.TooLarge → answered ≡ f.TooLarge) → (fault ≡ s.TooDeep → answered ≡ f.TooDeep) → (fault ≡ s.Memory → answered ≡ f.Memory)
       → (◌≡◌ {A = Result A SetFault} (Err fault) (Err s.TooLarge) → limit < length (bzl_layout (level (bzl_view_of tree))))
-      → (◌≡◌ {A = Result A SetFault} (Err fault) (Err s.TooDeep) → (length (bzl_layout (level (bzl_view_of tree))) ≤ limit) × (depth_limit < depth_of (bzl_drawn (level (bzl_view_of tree)))))
+      → (◌≡◌ {A = Result A SetFault} (Err fault) (Err s.TooDeep) → (length (bzl_layout (level (bzl_view_of tree))) ≤ limit) × (depth_limit < depth_of (bzl_laid_out (level (bzl_view_of tree)))))
       → (◌≡◌ {A = Result A SetFault} (Err fault) (Err s.TooDeep) → IsProperBzl (level (bzl_view_of tree)) → NoBzlTree (bzl_layout (level (bzl_view_of tree))))
-      → FormatsBzlTo text (Err told)
-  past_limits tree reads s.Memory told a b c large deep unread = subst (λ t. FormatsBzlTo text (Err t)) (sym (c refl)) tt
-  past_limits tree reads s.TooLarge told a b c large deep unread = subst (λ t. FormatsBzlTo text (Err t)) (sym (a refl)) (tree, reads, large refl)
-  past_limits tree reads s.TooDeep told a b c large deep unread =
+      → FormatsBzlTo text (Err answered)
+  past_limits tree reads s.Memory answered a b c large deep unread = subst (λ t. FormatsBzlTo text (Err t)) (sym (c refl)) tt
+  past_limits tree reads s.TooLarge answered a b c large deep unread = subst (λ t. FormatsBzlTo text (Err t)) (sym (a refl)) (tree, reads, large refl)
+  past_limits tree reads s.TooDeep answered a b c large deep unread =
       subst (λ t. FormatsBzlTo text (Err t)) (sym (b refl)) (tree, reads, (deep refl).0, (deep refl).1, unread refl (level_proper proper keeps text tree reads))
 
   -- reported of the value that was read, and of the same levelled
-  pub limits_told : (items leveled : List BzlItem) → Says text (Ok items) → leveled ≡ level items → (fault : SetFault) (told : FormatFault)
-      → (fault ≡ s.TooLarge → told ≡ f.TooLarge) → (fault ≡ s.TooDeep → told ≡ f.TooDeep) → (fault ≡ s.Memory → told ≡ f.Memory)
+  pub limits_answered : (items leveled : List BzlItem) → Says text (Ok items) → leveled ≡ level items → (fault : SetFault) (answered : FormatFault)
+      → (fault ≡ s.TooLarge → answered ≡ f.TooLarge) → (fault ≡ s.TooDeep → answered ≡ f.TooDeep) → (fault ≡ s.Memory → answered ≡ f.Memory)
       → (◌≡◌ {A = Result A SetFault} (Err fault) (Err s.TooLarge) → limit < length (bzl_layout leveled))
-      → (◌≡◌ {A = Result A SetFault} (Err fault) (Err s.TooDeep) → (length (bzl_layout leveled) ≤ limit) × (depth_limit < depth_of (bzl_drawn leveled)))
+      → (◌≡◌ {A = Result A SetFault} (Err fault) (Err s.TooDeep) → (length (bzl_layout leveled) ≤ limit) × (depth_limit < depth_of (bzl_laid_out leveled)))
       → (◌≡◌ {A = Result A SetFault} (Err fault) (Err s.TooDeep) → IsProperBzl leveled → NoBzlTree (bzl_layout leveled))
-      → FormatsBzlTo text (Err told)
-  limits_told items leveled says same fault told a b c large deep unread =
+      → FormatsBzlTo text (Err answered)
+  limits_answered items leveled says same fault answered a b c large deep unread =
       let tree : Node = says.0 in
       let made : leveled ≡ level (bzl_view_of tree) = subst (λ z. leveled ≡ level z) says.2 same in
-      past_limits tree says.1 fault told a b c
+      past_limits tree says.1 fault answered a b c
       (subst (λ z. ◌≡◌ {A = Result A SetFault} (Err fault) (Err s.TooLarge) → limit < length (bzl_layout z)) made large)
-      (subst (λ z. ◌≡◌ {A = Result A SetFault} (Err fault) (Err s.TooDeep) → (length (bzl_layout z) ≤ limit) × (depth_limit < depth_of (bzl_drawn z))) made deep)
+      (subst (λ z. ◌≡◌ {A = Result A SetFault} (Err fault) (Err s.TooDeep) → (length (bzl_layout z) ≤ limit) × (depth_limit < depth_of (bzl_laid_out z))) made deep)
       (subst (λ z. ◌≡◌ {A = Result A SetFault} (Err fault) (Err s.TooDeep) → IsProperBzl z → NoBzlTree (bzl_layout z)) made unread)

@@ -11,9 +11,9 @@ use Rattle.bz_tree.specs.declared.kind.Kind.TheVariants as k
 use Rattle.bz_tree.specs.declared.tree.Node.{Node}
 use Rattle.bz_tree.specs.declared.tree.Part.{Part, Row_of-Part, end_of-Part, more_of-Part, Node', items-the_row-Part}
 use Rattle.bz_tree.specs.declared.tree.Part.TheVariants as p
-use Rattle.bz_tree.specs.Legal.{IsSort, LegalBzlPart, LegalBzlRow, ReadsBzl}
+use Rattle.bz_tree.specs.Legal.{IsNonterminal, LegalBzlPart, LegalBzlRow, ReadsBzl}
 use Rattle.bz_tree.specs.Shapes as s
-use Rattle.bz_tree.specs.Shapes.{Sort, Terminal, Fits, Listed, Behind, Several, Times, no_more, once_more, bzl_shape, enclosed, owned, sort_has_kind, sub, tok, done, has_token, is_one_of}
+use Rattle.bz_tree.specs.Shapes.{Nonterminal, Terminal, Fits, Listed, After, Several, Times, no_more, once_more, bzl_shape, enclosed, owned, nonterminal_has_kind, sub, tok, done, has_token, is_one_of}
 use Rattle.bz_tree.specs.Spell.{leaves_part, leaves_row}
 use Rattle.bz_tree.proofs.Balance.{no_such}
 use Rattle.bz_items.specs.Characters.{Bytes}
@@ -23,13 +23,13 @@ use Rattle.bz_value.specs.declared.value.Expr.TheVariants as e
 use Rattle.bz_value.specs.Comments.{no_comments}
 use Rattle.bz_value.specs.Frames.{Frame, row, sequence, frame, lead}
 use Rattle.bz_tidy.proofs.Keeping.{both}
-use Rattle.bz_tidy.proofs.Parts.{made, parts_behind, items_behind, parts_are, items_are}
+use Rattle.bz_tidy.proofs.Parts.{made, parts_after, items_after, parts_are, items_are}
 use Rattle.bz_suite.specs.declared.value.Branch.{Branch}
 use Rattle.bz_suite.specs.declared.value.Statement.{Statement, Simple, Compound', Row_of-Branch, end_of-Branch, more_of-Branch, Row_of-Statement, end_of-Statement, more_of-Statement, items-the_row-Branch, items-the_row-Statement, items_shown-the_row-Statement-0}
 use Rattle.bz_suite.specs.declared.value.Statement.TheVariants as st
 use Rattle.bz_suite.specs.View.{stated}
-use Rattle.bz_suite.proofs.KeptGaps.{NoColon, sort_plain, token_plain}
-use Rattle.bz_indent.proofs.Rows.{branches_behind, branches_are}
+use Rattle.bz_suite.proofs.KeptGaps.{NoColon, nonterminal_plain, token_plain}
+use Rattle.bz_indent.proofs.Rows.{branches_after, branches_are}
 use Rattle.bz_formatter.specs.TreePrograms.{before_marks, node_syntax, part_syntax}
 use Rattle.bz_formatter.proofs.TreeTokens.{BracketedIn, IsSeparator, Paired, SeparatorAt, call_bracketed, close_round, comma, dict_bracketed, end_of_file, first_is, later_is, list_bracketed, listed_paired, load_bracketed, newline, open_round, semicolon, syntax_map, tuple_bracketed}
 use Rattle.bz_format.specs.Formatted.{BzlFixedPoint}
@@ -44,7 +44,7 @@ Words = List (Class × Bytes)
 mutual
   expr_words : Expr → Words
   expr_words (Token t) = words_in t.class t.text
-  expr_words (Form' kind n parts m items end_ split open_ comments) = row_words parts ++ row_words items
+  expr_words (Form' kind n parts m items end split open_break comments) = row_words parts ++ row_words items
 
   row_words : {m : _} → Row_of-Expr m → Words
   row_words end_of-Expr = []
@@ -62,8 +62,8 @@ form_words : (f : Form) → expr_words (e.Form f) ≡ all_words f.parts ++ all_w
 unfolding expr_words row_words
 form_words f =
     both (λ us vs. us ++ vs)
-    (row_all _ (parts_behind (e.Form f)).1 ∙ ap all_words (parts_are f))
-    (row_all _ (items_behind (e.Form f)).1 ∙ ap all_words (items_are f))
+    (row_all _ (parts_after (e.Form f)).1 ∙ ap all_words (parts_are f))
+    (row_all _ (items_after (e.Form f)).1 ∙ ap all_words (items_are f))
 
 abbrev head_words : Form → Words
 head_words f = all_words f.parts ++ all_words f.seq.items
@@ -75,7 +75,7 @@ mutual
 
   branches_words : {m : _} → Row_of-Branch m → Words
   branches_words end_of-Branch = []
-  branches_words (more_of-Branch head size statements end_ rest) = (head_words head ++ statements_words statements) ++ branches_words rest
+  branches_words (more_of-Branch head size statements end rest) = (head_words head ++ statements_words statements) ++ branches_words rest
 
   statements_words : {m : _} → Row_of-Statement m → Words
   statements_words end_of-Statement = []
@@ -95,14 +95,14 @@ statements_all m (more_of-Statement x rest) = ap (λ ws. statement_words x ++ ws
 branches_all : (m : _) (r : Row_of-Branch m) → branches_words r ≡ flat_map branch_words (items-the_row-Branch m r)
 unfolding statement_words branches_words statements_words
 branches_all m end_of-Branch = refl
-branches_all m (more_of-Branch head size statements end_ rest) =
+branches_all m (more_of-Branch head size statements end rest) =
     both (λ us vs. (head_words head ++ us) ++ vs)
     (statements_all _ statements ∙ ap program_words (sym (items_shown-the_row-Statement-0 size statements)))
     (branches_all _ rest)
 
 compound_words : (own : List Branch) → statement_words (st.Compound own) ≡ flat_map branch_words own
 unfolding statement_words branches_words statements_words
-compound_words own = branches_all _ (branches_behind (st.Compound own)).1 ∙ ap (flat_map branch_words) (branches_are own)
+compound_words own = branches_all _ (branches_after (st.Compound own)).1 ∙ ap (flat_map branch_words) (branches_are own)
 
 simple_words : (xs : List Expr) → program_words (map st.Simple xs) ≡ all_words xs
 unfolding statement_words branches_words statements_words
@@ -173,7 +173,7 @@ node_kept (sequence opener closer) kind xs a h =
     form_words (made kind (take (lead kind) (map part_syntax xs)) (before_marks (drop (suc (lead kind)) (map part_syntax xs))) [] false false no_comments)
     ∙ sequence_kept (lead kind) xs a.opener a.body h
 
-node_bracketed : (kind : Kind) (xs : List Part) → Fits IsSort (bzl_shape kind) xs → BracketedIn (frame kind) kind xs
+node_bracketed : (kind : Kind) (xs : List Part) → Fits IsNonterminal (bzl_shape kind) xs → BracketedIn (frame kind) kind xs
 node_bracketed k.Call xs h = call_bracketed xs h
 node_bracketed k.Load xs h = load_bracketed xs h
 node_bracketed k.Tuple xs h = tuple_bracketed xs h
@@ -185,8 +185,8 @@ node_bracketed _ xs h = tt
 
 record Known (x : Part) : Type 0 where
   kept : Kept x
-  statement : IsSort s.stmt x → program_words (parsed x).statements ≡ part_words x
-  suite : IsSort s.suite x → program_words (parsed x).suite ≡ part_words x
+  statement : IsNonterminal s.stmt x → program_words (parsed x).statements ≡ part_words x
+  suite : IsNonterminal s.suite x → program_words (parsed x).suite ≡ part_words x
 
 kept_all : (xs : List Part) → AllByRecursion Known xs → AllByRecursion Kept xs
 kept_all [] h = tt
@@ -223,12 +223,12 @@ record Cut (P : List Part → Type 0) (back xs : List Part) : Type 0 where
   such : P front
   plain : AllByRecursion NoColon front
   colon : has_token s.colon_mark mark ≡ true
-  suite : IsSort s.suite own
+  suite : IsNonterminal s.suite own
 
 abbrev Any : List Part → Type 0
 Any front = Unit {0}
 
-here_cut : (P : List Part → Type 0) (back : List Part) (mark own : Part) → P [] → has_token s.colon_mark mark ≡ true → IsSort s.suite own → Cut P back (mark ∷ own ∷ back)
+here_cut : (P : List Part → Type 0) (back : List Part) (mark own : Part) → P [] → has_token s.colon_mark mark ≡ true → IsNonterminal s.suite own → Cut P back (mark ∷ own ∷ back)
 here_cut P back mark own such h i = record { front = []; mark = mark; own = own; cut = refl; such = such; plain = tt; colon = h; suite = i }
 
 one_more : (P Q : List Part → Type 0) (back : List Part) (y : Part) (xs : List Part) → NoColon y → ((front : List Part) → P front → Q (y ∷ front)) → Cut P back xs → Cut Q back (y ∷ xs)
@@ -237,33 +237,33 @@ one_more P Q back y xs n f h = record { front = y ∷ h.front; mark = h.mark; ow
 abbrev Nothing : List Part → Type 0
 Nothing front = front ≡ []
 
-owned_cut : (xs : List Part) → Fits IsSort owned xs → Cut Nothing [] xs
+owned_cut : (xs : List Part) → Fits IsNonterminal owned xs → Cut Nothing [] xs
 owned_cut [] h = absurd h
 owned_cut (mark ∷ []) h = absurd h.1
 owned_cut (mark ∷ own ∷ []) h = here_cut Nothing [] mark own refl h.0 h.1.0
 owned_cut (mark ∷ own ∷ x ∷ xs) h = absurd h.1.1
 
 -- after for
-in_cut : (xs : List Part) → Fits IsSort (tok (s.one_keyword (codes "in")) (sub s.expr owned)) xs → Cut Any [] xs
+in_cut : (xs : List Part) → Fits IsNonterminal (tok (s.one_keyword (codes "in")) (sub s.expr owned)) xs → Cut Any [] xs
 in_cut [] h = absurd h
 in_cut (x ∷ []) h = absurd h.1
 in_cut (x ∷ y ∷ xs) h =
     one_more Any Any [] x (y ∷ xs) (token_plain (s.one_keyword (codes "in")) x refl h.0) (λ front w. tt)
-    (one_more Nothing Any [] y xs (sort_plain s.expr y h.1.0) (λ front w. tt) (owned_cut xs h.1.1))
+    (one_more Nothing Any [] y xs (nonterminal_plain s.expr y h.1.0) (λ front w. tt) (owned_cut xs h.1.1))
 
 mutual
-  names_cut : (xs : List Part) → Listed (IsSort s.primary) s.comma_mark false (Fits IsSort (tok (s.one_keyword (codes "in")) (sub s.expr owned))) xs → Cut Any [] xs
+  names_cut : (xs : List Part) → Listed (IsNonterminal s.primary) s.comma_mark false (Fits IsNonterminal (tok (s.one_keyword (codes "in")) (sub s.expr owned))) xs → Cut Any [] xs
   names_cut [] h = absurd h
-  names_cut (x ∷ xs) h = one_more Any Any [] x xs (sort_plain s.primary x h.0) (λ front w. tt) (behind_name_cut xs h.1)
+  names_cut (x ∷ xs) h = one_more Any Any [] x xs (nonterminal_plain s.primary x h.0) (λ front w. tt) (after_name_cut xs h.1)
 
-  behind_name_cut : (xs : List Part) → Behind (IsSort s.primary) s.comma_mark false (Fits IsSort (tok (s.one_keyword (codes "in")) (sub s.expr owned))) xs → Cut Any [] xs
-  behind_name_cut [] h = in_cut [] h
-  behind_name_cut (x ∷ xs) (inl h) = in_cut (x ∷ xs) h
-  behind_name_cut (x ∷ xs) (inr (m, inl h)) = one_more Any Any [] x xs (token_plain s.comma_mark x refl m) (λ front w. tt) (names_cut xs h)
-  behind_name_cut (x ∷ xs) (inr (m, inr h)) = no_such h.0
+  after_name_cut : (xs : List Part) → After (IsNonterminal s.primary) s.comma_mark false (Fits IsNonterminal (tok (s.one_keyword (codes "in")) (sub s.expr owned))) xs → Cut Any [] xs
+  after_name_cut [] h = in_cut [] h
+  after_name_cut (x ∷ xs) (inl h) = in_cut (x ∷ xs) h
+  after_name_cut (x ∷ xs) (inr (m, inl h)) = one_more Any Any [] x xs (token_plain s.comma_mark x refl m) (λ front w. tt) (names_cut xs h)
+  after_name_cut (x ∷ xs) (inr (m, inr h)) = no_such h.0
 
 -- after the bracket of def
-close_cut : (xs : List Part) → Fits IsSort (tok s.close_round owned) xs → Cut (λ front. (y : Part) × (front ≡ y ∷ []) × IsSeparator y) [] xs
+close_cut : (xs : List Part) → Fits IsNonterminal (tok s.close_round owned) xs → Cut (λ front. (y : Part) × (front ≡ y ∷ []) × IsSeparator y) [] xs
 close_cut [] h = absurd h
 close_cut (y ∷ xs) h =
     one_more Nothing (λ front. (z : Part) × (front ≡ z ∷ []) × IsSeparator z) [] y xs (token_plain s.close_round y refl h.0) (λ front w. (y, ap (λ (zs : List Part). y ∷ zs) w, close_round y h.0)) (owned_cut xs h.1)
@@ -271,28 +271,28 @@ close_cut (y ∷ xs) h =
 alone_paired : (front : List Part) → (y : Part) × (front ≡ y ∷ []) × IsSeparator y → Paired front
 alone_paired front w = subst Paired (sym w.1) w.2
 
-behind_one : (x : Part) (front : List Part) → (y : Part) × (front ≡ y ∷ []) × IsSeparator y → Paired (x ∷ front)
-behind_one x front w = subst (λ zs. Paired (x ∷ zs)) (sym w.1) (w.2, tt)
+after_one : (x : Part) (front : List Part) → (y : Part) × (front ≡ y ∷ []) × IsSeparator y → Paired (x ∷ front)
+after_one x front w = subst (λ zs. Paired (x ∷ zs)) (sym w.1) (w.2, tt)
 
 weaker : (P Q : List Part → Type 0) (back xs : List Part) → ((front : List Part) → P front → Q front) → Cut P back xs → Cut Q back xs
 weaker P Q back xs f h = record { front = h.front; mark = h.mark; own = h.own; cut = h.cut; such = f h.front h.such; plain = h.plain; colon = h.colon; suite = h.suite }
 
-abbrev BehindOne : List Part → Type 0
-BehindOne front = (x : Part) → Paired (x ∷ front)
+abbrev AfterOne : List Part → Type 0
+AfterOne front = (x : Part) → Paired (x ∷ front)
 
 mutual
-  parameters_cut : (xs : List Part) → Listed (IsSort s.param) s.comma_mark true (Fits IsSort (tok s.close_round owned)) xs → Cut Paired [] xs
+  parameters_cut : (xs : List Part) → Listed (IsNonterminal s.param) s.comma_mark true (Fits IsNonterminal (tok s.close_round owned)) xs → Cut Paired [] xs
   parameters_cut [] h = absurd h
-  parameters_cut (x ∷ xs) h = one_more BehindOne Paired [] x xs (sort_plain s.param x h.0) (λ front w. w x) (behind_parameter_cut xs h.1)
+  parameters_cut (x ∷ xs) h = one_more AfterOne Paired [] x xs (nonterminal_plain s.param x h.0) (λ front w. w x) (after_parameter_cut xs h.1)
 
-  behind_parameter_cut : (xs : List Part) → Behind (IsSort s.param) s.comma_mark true (Fits IsSort (tok s.close_round owned)) xs → Cut BehindOne [] xs
-  behind_parameter_cut [] h = absurd h
-  behind_parameter_cut (y ∷ xs) (inl h) = weaker (λ front. (z : Part) × (front ≡ z ∷ []) × IsSeparator z) BehindOne [] (y ∷ xs) (λ front w x. behind_one x front w) (close_cut (y ∷ xs) h)
-  behind_parameter_cut (y ∷ xs) (inr (m, inl h)) = one_more Paired BehindOne [] y xs (token_plain s.comma_mark y refl m) (λ front w x. (comma y m, w)) (parameters_cut xs h)
-  behind_parameter_cut (y ∷ xs) (inr (m, inr h)) =
-      one_more (λ front. (z : Part) × (front ≡ z ∷ []) × IsSeparator z) BehindOne [] y xs (token_plain s.comma_mark y refl m) (λ front w x. (comma y m, alone_paired front w)) (close_cut xs h.1)
+  after_parameter_cut : (xs : List Part) → After (IsNonterminal s.param) s.comma_mark true (Fits IsNonterminal (tok s.close_round owned)) xs → Cut AfterOne [] xs
+  after_parameter_cut [] h = absurd h
+  after_parameter_cut (y ∷ xs) (inl h) = weaker (λ front. (z : Part) × (front ≡ z ∷ []) × IsSeparator z) AfterOne [] (y ∷ xs) (λ front w x. after_one x front w) (close_cut (y ∷ xs) h)
+  after_parameter_cut (y ∷ xs) (inr (m, inl h)) = one_more Paired AfterOne [] y xs (token_plain s.comma_mark y refl m) (λ front w x. (comma y m, w)) (parameters_cut xs h)
+  after_parameter_cut (y ∷ xs) (inr (m, inr h)) =
+      one_more (λ front. (z : Part) × (front ≡ z ∷ []) × IsSeparator z) AfterOne [] y xs (token_plain s.comma_mark y refl m) (λ front w x. (comma y m, alone_paired front w)) (close_cut xs h.1)
 
-enclosed_cut : (xs : List Part) → Fits IsSort (enclosed s.param s.close_round owned) xs → Cut Paired [] xs
+enclosed_cut : (xs : List Part) → Fits IsNonterminal (enclosed s.param s.close_round owned) xs → Cut Paired [] xs
 enclosed_cut xs (inl h) = weaker (λ front. (y : Part) × (front ≡ y ∷ []) × IsSeparator y) Paired [] xs alone_paired (close_cut xs h)
 enclosed_cut xs (inr h) = parameters_cut xs h
 
@@ -321,7 +321,7 @@ abbrev HeadersKept : Kind → List Part → Type 0
 HeadersKept kind xs = flat_map branch_words (headers_in kind [] (map parsed xs)) ≡ parts_words xs
 
 header_ends : (kind : Kind) (hs : List Part) (mark own : Part) (back : List Part) → AllByRecursion NoColon hs → has_token s.colon_mark mark ≡ true
-    → headers_in kind [] (map parsed (hs ++ mark ∷ own ∷ back)) ≡ record { head = head_in kind (map part_syntax hs); statements = (parsed own).suite; end_ = [] } ∷ headers_in kind [] (map parsed back)
+    → headers_in kind [] (map parsed (hs ++ mark ∷ own ∷ back)) ≡ record { head = head_in kind (map part_syntax hs); statements = (parsed own).suite; end = [] } ∷ headers_in kind [] (map parsed back)
 header_ends kind hs mark own back n c =
     ap (headers_in kind []) (map-append parsed hs (mark ∷ own ∷ back))
     ∙ (skipped kind [] hs (parsed mark ∷ parsed own ∷ map parsed back) n
@@ -356,15 +356,15 @@ row_headed kind P word back xs f h n g b = cut_kept kind P word back xs h n (row
 
 -- ---- if, elif, else
 
-test_cut : (x mark own : Part) (back : List Part) → IsSort s.test x → has_token s.colon_mark mark ≡ true → IsSort s.suite own → Cut Any back (x ∷ mark ∷ own ∷ back)
-test_cut x mark own back h i j = one_more Any Any back x (mark ∷ own ∷ back) (sort_plain s.test x h) (λ front w. tt) (here_cut Any back mark own tt i j)
+test_cut : (x mark own : Part) (back : List Part) → IsNonterminal s.test x → has_token s.colon_mark mark ≡ true → IsNonterminal s.suite own → Cut Any back (x ∷ mark ∷ own ∷ back)
+test_cut x mark own back h i j = one_more Any Any back x (mark ∷ own ∷ back) (nonterminal_plain s.test x h) (λ front w. tt) (here_cut Any back mark own tt i j)
 
-else_kept : (xs : List Part) → Fits IsSort (s.alt (tok (s.one_keyword (codes "else")) owned) done) xs → AllByRecursion Known xs → HeadersKept k.IfStmt xs
+else_kept : (xs : List Part) → Fits IsNonterminal (s.alt (tok (s.one_keyword (codes "else")) owned) done) xs → AllByRecursion Known xs → HeadersKept k.IfStmt xs
 else_kept [] h g = refl
 else_kept (x ∷ xs) (inr h) g = absurd h
 else_kept (x ∷ xs) (inl h) g = row_headed k.IfStmt Nothing x [] xs refl (owned_cut xs h.1) (token_plain (s.one_keyword (codes "else")) x refl h.0) g refl
 
-branches_kept : (xs : List Part) → Times (Fits IsSort (tok (s.one_keyword (codes "elif")) (sub s.test owned))) (Fits IsSort (s.alt (tok (s.one_keyword (codes "else")) owned) done)) xs → AllByRecursion Known xs → HeadersKept k.IfStmt xs
+branches_kept : (xs : List Part) → Times (Fits IsNonterminal (tok (s.one_keyword (codes "elif")) (sub s.test owned))) (Fits IsNonterminal (s.alt (tok (s.one_keyword (codes "else")) owned) done)) xs → AllByRecursion Known xs → HeadersKept k.IfStmt xs
 branches_kept xs (no_more h) g = else_kept xs h g
 branches_kept xs (once_more [] back e h t) g = absurd h
 branches_kept xs (once_more (word ∷ []) back e h t) g = absurd h.1
@@ -378,7 +378,7 @@ branches_kept xs (once_more (word ∷ x ∷ mark ∷ own ∷ []) back e h t) g =
 
 -- ---- statements with suites
 
-if_statement : (xs : List Part) → Fits IsSort (bzl_shape k.IfStmt) xs → AllByRecursion Known xs → HeadersKept k.IfStmt xs
+if_statement : (xs : List Part) → Fits IsNonterminal (bzl_shape k.IfStmt) xs → AllByRecursion Known xs → HeadersKept k.IfStmt xs
 if_statement [] h g = absurd h
 if_statement (word ∷ []) h g = absurd h.1
 if_statement (word ∷ x ∷ []) h g = absurd h.1.1
@@ -386,11 +386,11 @@ if_statement (word ∷ x ∷ mark ∷ []) h g = absurd h.1.1.1
 if_statement (word ∷ x ∷ mark ∷ own ∷ back) h g =
     row_headed k.IfStmt Any word back (x ∷ mark ∷ own ∷ back) refl (test_cut x mark own back h.1.0 h.1.1.0 h.1.1.1.0) (token_plain (s.one_keyword (codes "if")) word refl h.0) g (branches_kept back h.1.1.1.1 g.1.1.1.1)
 
-for_statement : (xs : List Part) → Fits IsSort (bzl_shape k.ForStmt) xs → AllByRecursion Known xs → HeadersKept k.ForStmt xs
+for_statement : (xs : List Part) → Fits IsNonterminal (bzl_shape k.ForStmt) xs → AllByRecursion Known xs → HeadersKept k.ForStmt xs
 for_statement [] h g = absurd h
 for_statement (word ∷ xs) h g = row_headed k.ForStmt Any word [] xs refl (names_cut xs h.1) (token_plain (s.one_keyword (codes "for")) word refl h.0) g refl
 
-def_statement : (xs : List Part) → Fits IsSort (bzl_shape k.Def) xs → AllByRecursion Known xs → HeadersKept k.Def xs
+def_statement : (xs : List Part) → Fits IsNonterminal (bzl_shape k.Def) xs → AllByRecursion Known xs → HeadersKept k.Def xs
 def_statement [] h g = absurd h
 def_statement (word ∷ []) h g = absurd h.1
 def_statement (word ∷ name ∷ []) h g = absurd h.1.1
@@ -403,7 +403,7 @@ def_statement (word ∷ name ∷ opener ∷ xs) h g =
 
 -- ---- nodes
 
-line_kept : (xs : List Part) → Fits IsSort (bzl_shape k.Line) xs → AllByRecursion Known xs → program_words (line_statements (map parsed xs)) ≡ parts_words xs
+line_kept : (xs : List Part) → Fits IsNonterminal (bzl_shape k.Line) xs → AllByRecursion Known xs → program_words (line_statements (map parsed xs)) ≡ parts_words xs
 line_kept xs h g =
     simple_words (before_marks (parsed_parts (map parsed xs)))
     ∙ (ap (λ zs. all_words (before_marks zs)) (parts_parsed xs) ∙ front_kept xs (listed_paired s.semicolon s.newline semicolon newline s.small xs h) (kept_all xs g))
@@ -411,26 +411,26 @@ line_kept xs h g =
 compound_kept : (kind : Kind) (xs : List Part) → HeadersKept kind xs → program_words (st.Compound (headers_in kind [] (map parsed xs)) ∷ []) ≡ parts_words xs
 compound_kept kind xs h = append-nil (statement_words (st.Compound (headers_in kind [] (map parsed xs)))) ∙ (compound_words (headers_in kind [] (map parsed xs)) ∙ h)
 
-node_statement : (kind : Kind) (xs : List Part) → sort_has_kind s.stmt kind ≡ true → Fits IsSort (bzl_shape kind) xs → AllByRecursion Known xs → program_words (node_statements kind (map parsed xs)) ≡ parts_words xs
+node_statement : (kind : Kind) (xs : List Part) → nonterminal_has_kind s.stmt kind ≡ true → Fits IsNonterminal (bzl_shape kind) xs → AllByRecursion Known xs → program_words (node_statements kind (map parsed xs)) ≡ parts_words xs
 node_statement k.Line xs i h g = line_kept xs h g
 node_statement k.Def xs i h g = compound_kept k.Def xs (def_statement xs h g)
 node_statement k.IfStmt xs i h g = compound_kept k.IfStmt xs (if_statement xs h g)
 node_statement k.ForStmt xs i h g = compound_kept k.ForStmt xs (for_statement xs h g)
 node_statement _ xs i h g = no_such i
 
-several_kept : (xs : List Part) → Several (IsSort s.stmt) (Fits IsSort done) xs → AllByRecursion Known xs → program_words (statements_in (map parsed xs)) ≡ parts_words xs
+several_kept : (xs : List Part) → Several (IsNonterminal s.stmt) (Fits IsNonterminal done) xs → AllByRecursion Known xs → program_words (statements_in (map parsed xs)) ≡ parts_words xs
 several_kept [] h g = refl
 several_kept (x ∷ xs) (inl h) g = absurd h
 several_kept (x ∷ xs) (inr h) g =
     flat_map-append statement_words (parsed x).statements (statements_in (map parsed xs)) ∙ both (λ us vs. us ++ vs) (g.0.statement h.0) (several_kept xs h.1 g.1)
 
-suite_kept : (xs : List Part) → Fits IsSort (bzl_shape k.Suite) xs → AllByRecursion Known xs → program_words (statements_in (drop 1 (map parsed xs))) ≡ parts_words xs
+suite_kept : (xs : List Part) → Fits IsNonterminal (bzl_shape k.Suite) xs → AllByRecursion Known xs → program_words (statements_in (drop 1 (map parsed xs))) ≡ parts_words xs
 suite_kept [] h g = absurd h
 suite_kept (x ∷ []) h g = absurd h.1
 suite_kept (x ∷ y ∷ xs) h g =
     several_kept (y ∷ xs) (inr h.1) g.1 ∙ sym (silent (part_words x) (parts_words (y ∷ xs)) (quiet_part x (newline x h.0)))
 
-node_suite : (kind : Kind) (xs : List Part) → sort_has_kind s.suite kind ≡ true → Fits IsSort (bzl_shape kind) xs → AllByRecursion Known xs → program_words (suite_statements kind (map parsed xs)) ≡ parts_words xs
+node_suite : (kind : Kind) (xs : List Part) → nonterminal_has_kind s.suite kind ≡ true → Fits IsNonterminal (bzl_shape kind) xs → AllByRecursion Known xs → program_words (suite_statements kind (map parsed xs)) ≡ parts_words xs
 node_suite k.Line xs i h g = line_kept xs h g
 node_suite k.Suite xs i h g = suite_kept xs h g
 node_suite _ xs i h g = no_such i
@@ -457,13 +457,13 @@ parts_known [] h = tt
 parts_known (x ∷ xs) h = (part_known x h.0, parts_known xs h.1)
 
 -- the end of a file is no statement
-end_kept : (xs : List Part) → Fits IsSort (tok s.end done) xs → program_words (statements_in (map parsed xs)) ≡ parts_words xs
+end_kept : (xs : List Part) → Fits IsNonterminal (tok s.end done) xs → program_words (statements_in (map parsed xs)) ≡ parts_words xs
 end_kept [] h = absurd h
 end_kept (p.Leaf l ∷ []) h = sym (silent (part_words (p.Leaf l)) [] (quiet_part (p.Leaf l) (end_of_file (p.Leaf l) h.0)))
 end_kept (Node' kind m r ∷ xs) h = no_such h.0
 end_kept (p.Leaf l ∷ y ∷ xs) h = absurd h.1
 
-file_kept : (xs : List Part) → Several (IsSort s.stmt) (Fits IsSort (tok s.end done)) xs → AllByRecursion Known xs → program_words (statements_in (map parsed xs)) ≡ parts_words xs
+file_kept : (xs : List Part) → Several (IsNonterminal s.stmt) (Fits IsNonterminal (tok s.end done)) xs → AllByRecursion Known xs → program_words (statements_in (map parsed xs)) ≡ parts_words xs
 file_kept [] h g = absurd h
 file_kept (x ∷ xs) (inl h) g = end_kept (x ∷ xs) h
 file_kept (x ∷ xs) (inr h) g =
@@ -472,7 +472,7 @@ file_kept (x ∷ xs) (inr h) g =
 -- the tokens of a tree are those of its program
 tree_kept : (text : Bytes) (tree : Node) → ReadsBzl text tree → tree_words tree ≡ program_words (bzl_tree_program tree)
 tree_kept text tree h =
-    let fits : Fits IsSort (bzl_shape k.File) tree.parts = subst (λ kd. Fits IsSort (bzl_shape kd) tree.parts) h.0.file.root h.0.file.shapes.0 in
+    let fits : Fits IsNonterminal (bzl_shape k.File) tree.parts = subst (λ kd. Fits IsNonterminal (bzl_shape kd) tree.parts) h.0.file.root h.0.file.shapes.0 in
     parts_leaves tree.parts ∙ sym (file_kept tree.parts fits (parts_known tree.parts h.0.file.shapes.1))
 
 pub formatted_words : BzlFixedPoint → FormattingKeepsWords

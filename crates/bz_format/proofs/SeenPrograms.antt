@@ -28,22 +28,22 @@ use Rattle.bz_formatter.proofs.SeenPrograms.{Says, EachSays, items_say, part_say
 use Rattle.bz_format.specs.TreePrograms.{BzlViewsKeepPrograms, bare_head, head_in, headers_in, node_statements, Parsed, parsed, parsed_row, parsed_parts, statements_in, suite_statements, suites_in}
 
 -- whatever is around it, a part that was read says this
-record Tells (x : Stated) (y : Parsed) : Type 0 where
+record Agrees (x : Stated) (y : Parsed) : Type 0 where
   part : Says x.part y.part
   colon : x.is_colon ≡ y.is_colon
   statements : (above : List Bytes) (after : List IndentedGapLine) → map statement_syntax (x.statement above after).0 ≡ y.statements
   suite : (after : List IndentedGapLine) → map statement_syntax (x.suite after).0.0 ≡ y.suite
 
-abbrev EachTells : List Stated → List Parsed → Type 0
-EachTells [] [] = Unit {0}
-EachTells (x ∷ xs) (y ∷ ys) = Tells x y × EachTells xs ys
-EachTells _ _ = ⊥
+abbrev EachAgrees : List Stated → List Parsed → Type 0
+EachAgrees [] [] = Unit {0}
+EachAgrees (x ∷ xs) (y ∷ ys) = Agrees x y × EachAgrees xs ys
+EachAgrees _ _ = ⊥
 
-parts_tell : (xs : List Stated) (ys : List Parsed) → EachTells xs ys → EachSays (map (λ x. x.part) xs) (parsed_parts ys)
-parts_tell [] [] h = tt
-parts_tell [] (y ∷ ys) h = absurd h
-parts_tell (x ∷ xs) [] h = absurd h
-parts_tell (x ∷ xs) (y ∷ ys) h = (h.0.part, parts_tell xs ys h.1)
+parts_agree : (xs : List Stated) (ys : List Parsed) → EachAgrees xs ys → EachSays (map (λ x. x.part) xs) (parsed_parts ys)
+parts_agree [] [] h = tt
+parts_agree [] (y ∷ ys) h = absurd h
+parts_agree (x ∷ xs) [] h = absurd h
+parts_agree (x ∷ xs) (y ∷ ys) h = (h.0.part, parts_agree xs ys h.1)
 
 -- ---- statements one after the other
 
@@ -52,22 +52,22 @@ simple_syntax [] = refl
 simple_syntax (i.Block texts ∷ items) = simple_syntax items
 simple_syntax (i.Stmt x ∷ items) = ap (λ z. s.Simple (syntax_of x) ∷ z) (simple_syntax items)
 
-line_tells : (above : List Bytes) (ss : List Seen) (xs : List Expr) → EachSays ss xs → map statement_syntax (simple_statements (seen_statements above ss)) ≡ map s.Simple (before_marks xs)
-line_tells above ss xs h = simple_syntax (seen_statements above ss) ∙ ap (map s.Simple) (statements_say above ss xs h)
+line_agrees : (above : List Bytes) (ss : List Seen) (xs : List Expr) → EachSays ss xs → map statement_syntax (simple_statements (seen_statements above ss)) ≡ map s.Simple (before_marks xs)
+line_agrees above ss xs h = simple_syntax (seen_statements above ss) ∙ ap (map s.Simple) (statements_say above ss xs h)
 
-walk_tells : (above : List IndentedGapLine) (xs : List Stated) (ys : List Parsed) (after : List IndentedGapLine) → EachTells xs ys → map statement_syntax (walked above xs after).0 ≡ statements_in ys
-walk_tells above [] [] after h = refl
-walk_tells above [] (y ∷ ys) after h = absurd h
-walk_tells above (x ∷ xs) [] after h = absurd h
-walk_tells above (x ∷ xs) (y ∷ ys) after h =
+walk_agrees : (above : List IndentedGapLine) (xs : List Stated) (ys : List Parsed) (after : List IndentedGapLine) → EachAgrees xs ys → map statement_syntax (walked above xs after).0 ≡ statements_in ys
+walk_agrees above [] [] after h = refl
+walk_agrees above [] (y ∷ ys) after h = absurd h
+walk_agrees above (x ∷ xs) [] after h = absurd h
+walk_agrees above (x ∷ xs) (y ∷ ys) after h =
     let one = x.statement (indented_comments above) (indented_lines_before xs after) in
     map-append statement_syntax one.0 (walked one.1 xs after).0
-    ∙ both (λ us vs. us ++ vs) (h.0.statements (indented_comments above) (indented_lines_before xs after)) (walk_tells one.1 xs ys after h.1)
+    ∙ both (λ us vs. us ++ vs) (h.0.statements (indented_comments above) (indented_lines_before xs after)) (walk_agrees one.1 xs ys after h.1)
 
 -- ---- headers
 
-head_tells : (kind : Kind) (ss : List Seen) (xs : List Expr) (above : List Bytes) (suffix : Option Bytes) → EachSays ss xs → head_syntax (head kind ss above suffix) ≡ head_in kind xs
-head_tells kind ss xs above suffix h = elim (cases_Bool (is_kind kind k.Def)) [
+head_agrees : (kind : Kind) (ss : List Seen) (xs : List Expr) (above : List Bytes) (suffix : Option Bytes) → EachSays ss xs → head_syntax (head kind ss above suffix) ≡ head_in kind xs
+head_agrees kind ss xs above suffix h = elim (cases_Bool (is_kind kind k.Def)) [
   | inl w ↦ rw w (both (λ parts items. bare_head k.Def parts items) (plain_says (take 2 ss) (take 2 xs) (taken_say 2 ss xs h)) (items_say (all_in (first_seen_gap (drop 3 ss))) (drop 3 ss) (drop 3 xs) (dropped_say 3 ss xs h)))
   | inr w ↦ rw w (ap (λ parts. bare_head kind parts []) (row_says false false false ss xs h))
 ]
@@ -79,70 +79,70 @@ one_more (t ∷ ss) [] s x h a = absurd h
 one_more (t ∷ ss) (y ∷ xs) s x h a = (h.0, one_more ss xs s x h.1 a)
 
 mutual
-  headers_tell : (kind : Kind) (ss : List Seen) (ps : List Expr) (above : List Bytes) (left : List IndentedGapLine) (xs : List Stated) (ys : List Parsed) (after : List IndentedGapLine)
-      → EachSays ss ps → EachTells xs ys → map branch_syntax (branches kind ss above left xs after).0 ≡ headers_in kind ps ys
-  headers_tell kind ss ps above left [] [] after h a = refl
-  headers_tell kind ss ps above left [] (y ∷ ys) after h a = absurd a
-  headers_tell kind ss ps above left (x ∷ xs) [] after h a = absurd a
-  headers_tell kind ss ps above left (x ∷ xs) (y ∷ ys) after h a = elim (cases_Bool y.is_colon) [
-    | inl w ↦ let v : x.is_colon ≡ true = a.0.colon ∙ w in rw (v, w) (suites_tell kind ss ps above left xs ys after h a.1)
-    | inr w ↦ let v : x.is_colon ≡ false = a.0.colon ∙ w in rw (v, w) (headers_tell kind (ss ++ x.part ∷ []) (ps ++ y.part ∷ []) above left xs ys after (one_more ss ps x.part y.part h a.0.part) a.1)
+  headers_agree : (kind : Kind) (ss : List Seen) (ps : List Expr) (above : List Bytes) (left : List IndentedGapLine) (xs : List Stated) (ys : List Parsed) (after : List IndentedGapLine)
+      → EachSays ss ps → EachAgrees xs ys → map branch_syntax (branches kind ss above left xs after).0 ≡ headers_in kind ps ys
+  headers_agree kind ss ps above left [] [] after h a = refl
+  headers_agree kind ss ps above left [] (y ∷ ys) after h a = absurd a
+  headers_agree kind ss ps above left (x ∷ xs) [] after h a = absurd a
+  headers_agree kind ss ps above left (x ∷ xs) (y ∷ ys) after h a = elim (cases_Bool y.is_colon) [
+    | inl w ↦ let v : x.is_colon ≡ true = a.0.colon ∙ w in rw (v, w) (suites_agree kind ss ps above left xs ys after h a.1)
+    | inr w ↦ let v : x.is_colon ≡ false = a.0.colon ∙ w in rw (v, w) (headers_agree kind (ss ++ x.part ∷ []) (ps ++ y.part ∷ []) above left xs ys after (one_more ss ps x.part y.part h a.0.part) a.1)
   ]
 
-  suites_tell : (kind : Kind) (ss : List Seen) (ps : List Expr) (above : List Bytes) (left : List IndentedGapLine) (xs : List Stated) (ys : List Parsed) (after : List IndentedGapLine)
-      → EachSays ss ps → EachTells xs ys → map branch_syntax (with_suite kind ss above left xs after).0 ≡ suites_in kind ps ys
-  suites_tell kind ss ps above left [] [] after h a = refl
-  suites_tell kind ss ps above left [] (y ∷ ys) after h a = absurd a
-  suites_tell kind ss ps above left (x ∷ xs) [] after h a = absurd a
-  suites_tell kind ss ps above left (x ∷ xs) (y ∷ ys) after h a =
+  suites_agree : (kind : Kind) (ss : List Seen) (ps : List Expr) (above : List Bytes) (left : List IndentedGapLine) (xs : List Stated) (ys : List Parsed) (after : List IndentedGapLine)
+      → EachSays ss ps → EachAgrees xs ys → map branch_syntax (with_suite kind ss above left xs after).0 ≡ suites_in kind ps ys
+  suites_agree kind ss ps above left [] [] after h a = refl
+  suites_agree kind ss ps above left [] (y ∷ ys) after h a = absurd a
+  suites_agree kind ss ps above left (x ∷ xs) [] after h a = absurd a
+  suites_agree kind ss ps above left (x ∷ xs) (y ∷ ys) after h a =
       let own = x.suite (indented_lines_before xs after) in
       both (λ z zs. z ∷ zs)
-      (both (λ f own. record { head = f; statements = own; end_ = [] }) (head_tells kind ss ps above x.suffix h) (a.0.suite (indented_lines_before xs after)))
-      (headers_tell kind [] [] (indented_comments own.1) own.1 xs ys after tt a.1)
+      (both (λ f own. record { head = f; statements = own; end = [] }) (head_agrees kind ss ps above x.suffix h) (a.0.suite (indented_lines_before xs after)))
+      (headers_agree kind [] [] (indented_comments own.1) own.1 xs ys after tt a.1)
 
 -- ---- parts of each kind
 
-compound_tells : (kind : Kind) (xs : List Stated) (ys : List Parsed) (above : List Bytes) (after : List IndentedGapLine) → EachTells xs ys → map statement_syntax (compound_read kind xs above after).0 ≡ s.Compound (headers_in kind [] ys) ∷ []
-compound_tells kind xs ys above after h =
-    ap (λ z. z ∷ []) (syntax_Compound (branches kind [] above after xs after).0 ∙ ap (λ z. s.Compound z) (headers_tell kind [] [] above after xs ys after tt h))
+compound_agrees : (kind : Kind) (xs : List Stated) (ys : List Parsed) (above : List Bytes) (after : List IndentedGapLine) → EachAgrees xs ys → map statement_syntax (compound_read kind xs above after).0 ≡ s.Compound (headers_in kind [] ys) ∷ []
+compound_agrees kind xs ys above after h =
+    ap (λ z. z ∷ []) (syntax_Compound (branches kind [] above after xs after).0 ∙ ap (λ z. s.Compound z) (headers_agree kind [] [] above after xs ys after tt h))
 
-statement_tells : (kind : Kind) (xs : List Stated) (ys : List Parsed) (above : List Bytes) (after : List IndentedGapLine) → EachTells xs ys → map statement_syntax (statement_read kind xs above after).0 ≡ node_statements kind ys
-statement_tells kind xs ys above after h = elim (cases_Bool (is_kind kind k.Line)) [
-  | inl w ↦ rw w (line_tells above (map (λ x. x.part) xs) (parsed_parts ys) (parts_tell xs ys h))
+statement_agrees : (kind : Kind) (xs : List Stated) (ys : List Parsed) (above : List Bytes) (after : List IndentedGapLine) → EachAgrees xs ys → map statement_syntax (statement_read kind xs above after).0 ≡ node_statements kind ys
+statement_agrees kind xs ys above after h = elim (cases_Bool (is_kind kind k.Line)) [
+  | inl w ↦ rw w (line_agrees above (map (λ x. x.part) xs) (parsed_parts ys) (parts_agree xs ys h))
   | inr w ↦ elim (cases_Bool (is_compound kind)) [
-    | inl v ↦ rw (w, v) (compound_tells kind xs ys above after h)
+    | inl v ↦ rw (w, v) (compound_agrees kind xs ys above after h)
     | inr v ↦ rw (w, v) refl
   ]
 ]
 
-behind_newline : (xs : List Stated) (ys : List Parsed) → EachTells xs ys → EachTells (drop 1 xs) (drop 1 ys)
-behind_newline [] [] h = tt
-behind_newline [] (y ∷ ys) h = absurd h
-behind_newline (x ∷ xs) [] h = absurd h
-behind_newline (x ∷ xs) (y ∷ ys) h = h.1
+after_newline : (xs : List Stated) (ys : List Parsed) → EachAgrees xs ys → EachAgrees (drop 1 xs) (drop 1 ys)
+after_newline [] [] h = tt
+after_newline [] (y ∷ ys) h = absurd h
+after_newline (x ∷ xs) [] h = absurd h
+after_newline (x ∷ xs) (y ∷ ys) h = h.1
 
-suite_tells : (kind : Kind) (xs : List Stated) (ys : List Parsed) (after : List IndentedGapLine) → EachTells xs ys → map statement_syntax (suite_in kind xs after).0.0 ≡ suite_statements kind ys
-suite_tells kind xs ys after h = elim (cases_Bool (is_kind kind k.Line)) [
-  | inl w ↦ rw w (line_tells [] (map (λ x. x.part) xs) (parsed_parts ys) (parts_tell xs ys h))
+suite_agrees : (kind : Kind) (xs : List Stated) (ys : List Parsed) (after : List IndentedGapLine) → EachAgrees xs ys → map statement_syntax (suite_in kind xs after).0.0 ≡ suite_statements kind ys
+suite_agrees kind xs ys after h = elim (cases_Bool (is_kind kind k.Line)) [
+  | inl w ↦ rw w (line_agrees [] (map (λ x. x.part) xs) (parsed_parts ys) (parts_agree xs ys h))
   | inr w ↦ elim (cases_Bool (is_kind kind k.Suite)) [
-    | inl v ↦ rw (w, v) (walk_tells (indented_lines_before (drop 1 xs) []) (drop 1 xs) (drop 1 ys) after (behind_newline xs ys h))
+    | inl v ↦ rw (w, v) (walk_agrees (indented_lines_before (drop 1 xs) []) (drop 1 xs) (drop 1 ys) after (after_newline xs ys h))
     | inr v ↦ rw (w, v) refl
   ]
 ]
 
 mutual
-  part_tells : (x : Part) → Tells (stated x) (parsed x)
-  part_tells (p.Leaf l) = record { part = part_says (p.Leaf l); colon = refl; statements = λ above after. refl; suite = λ after. refl }
-  part_tells (Node' kind size row) = record {
+  part_agrees : (x : Part) → Agrees (stated x) (parsed x)
+  part_agrees (p.Leaf l) = record { part = part_says (p.Leaf l); colon = refl; statements = λ above after. refl; suite = λ after. refl }
+  part_agrees (Node' kind size row) = record {
     part = part_says (Node' kind size row);
     colon = refl;
-    statements = λ above after. statement_tells kind (stated_row row) (parsed_row row) above after (each_tells _ row);
-    suite = λ after. suite_tells kind (stated_row row) (parsed_row row) after (each_tells _ row);
+    statements = λ above after. statement_agrees kind (stated_row row) (parsed_row row) above after (each_agrees _ row);
+    suite = λ after. suite_agrees kind (stated_row row) (parsed_row row) after (each_agrees _ row);
   }
 
-  each_tells : (m : _) (r : Row_of-Part m) → EachTells (stated_row r) (parsed_row r)
-  each_tells m end_of-Part = tt
-  each_tells m (more_of-Part x rest) = (part_tells x, each_tells _ rest)
+  each_agrees : (m : _) (r : Row_of-Part m) → EachAgrees (stated_row r) (parsed_row r)
+  each_agrees m end_of-Part = tt
+  each_agrees m (more_of-Part x rest) = (part_agrees x, each_agrees _ rest)
 
 -- ---- the file
 
@@ -160,17 +160,17 @@ as_items : (xs : List Statement) → bzl_program (map b.Statement xs) ≡ map st
 as_items [] = refl
 as_items (x ∷ xs) = ap (λ z. statement_syntax x ∷ z) (as_items xs)
 
-items_tell : (lines : List IndentedGapLine) (xs : List Part) → bzl_program (bzl_items lines xs) ≡ statements_in (map parsed xs)
-items_tell lines [] = refl
-items_tell lines (p.Leaf l ∷ xs) = no_program (groups_of (map (λ l. l.line) lines)) (bzl_items [] xs) ∙ items_tell [] xs
-items_tell lines (Node' kind size row ∷ xs) =
+items_agree : (lines : List IndentedGapLine) (xs : List Part) → bzl_program (bzl_items lines xs) ≡ statements_in (map parsed xs)
+items_agree lines [] = refl
+items_agree lines (p.Leaf l ∷ xs) = no_program (groups_of (map (λ l. l.line) lines)) (bzl_items [] xs) ∙ items_agree [] xs
+items_agree lines (Node' kind size row ∷ xs) =
     let groups : List (List Bytes) = groups_of (map (λ l. l.line) lines) in
     let own = (stated (Node' kind size row)).statement (last_group groups) (indented_lines_before (map stated xs) []) in
     no_program (all_but_last groups) (map b.Statement own.0 ++ bzl_items own.1 xs)
     ∙ bzl_program_append (map b.Statement own.0) (bzl_items own.1 xs)
     ∙ both (λ us vs. us ++ vs)
-    (as_items own.0 ∙ (part_tells (Node' kind size row)).statements (last_group groups) (indented_lines_before (map stated xs) []))
-    (items_tell own.1 xs)
+    (as_items own.0 ∙ (part_agrees (Node' kind size row)).statements (last_group groups) (indented_lines_before (map stated xs) []))
+    (items_agree own.1 xs)
 
 pub views_keep_programs : BzlViewsKeepPrograms
-views_keep_programs tree = items_tell (indented_lines_before (map stated tree.parts) []) tree.parts
+views_keep_programs tree = items_agree (indented_lines_before (map stated tree.parts) []) tree.parts

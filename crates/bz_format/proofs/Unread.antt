@@ -6,7 +6,7 @@ use Rattle.bz_lex.specs.declared.fault.ReadFault.TheVariants as f
 use Rattle.bz_tree.specs.Faults.{IsOfText}
 use Rattle.bz_tree.specs.Legal.{NoBzlTree}
 use Rattle.bz_tree.specs.Spell.{limit}
-use Rattle.bz_formatter.proofs.Untold.{fault_of_text}
+use Rattle.bz_formatter.proofs.ReadFaults.{fault_of_text}
 use Rattle.bz_formatter.specs.declared.formatter.FormatFault.{FormatFault}
 use Rattle.bz_formatter.specs.declared.formatter.FormatFault.TheVariants.{Unread, Memory}
 use Rattle.bz_format.specs.Formatted.{Says}
@@ -15,13 +15,13 @@ refused_text : (text : List ℕ) (fault : ReadFault) → (IsOfText fault → NoB
 refused_text text f.Memory none memory tree reads = memory refl
 refused_text text _ none memory tree reads = none tt tree reads
 
-pub unread_says : (A : Type 0) (text : List ℕ) (fault : ReadFault) (told : FormatFault) → ((told ≡ Unread fault) × (fault ≡ f.Memory → ⊥)) ⊎ (told ≡ Memory)
+pub unread_says : (A : Type 0) (text : List ℕ) (fault : ReadFault) (answered : FormatFault) → ((answered ≡ Unread fault) × (fault ≡ f.Memory → ⊥)) ⊎ (answered ≡ Memory)
     → (IsOfText fault → NoBzlTree text)
     → (◌≡◌ {A = Result A ReadFault} (Err fault) (Err f.TooLarge) ↔ (limit < length text))
     → ((at : ℕ) → (◌≡◌ {A = Result A ReadFault} (Err fault) (Err (f.NotUtf8 at)) ↔ ((length text ≤ limit) × IsValidUpTo text at)))
-    → Says text (Err told)
-unread_says A text fault told (inl of_text) none large coding = subst (λ (t : FormatFault). Says text (Err t)) (sym of_text.0) (
+    → Says text (Err answered)
+unread_says A text fault answered (inl of_text) none large coding = subst (λ (t : FormatFault). Says text (Err t)) (sym of_text.0) (
   refused_text text fault none of_text.1,
   fault_of_text A text fault large coding of_text.1,
 )
-unread_says A text fault told (inr memory) none large coding = subst (λ (t : FormatFault). Says text (Err t)) (sym memory) tt
+unread_says A text fault answered (inr memory) none large coding = subst (λ (t : FormatFault). Says text (Err t)) (sym memory) tt

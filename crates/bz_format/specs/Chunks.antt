@@ -7,7 +7,7 @@ use Rattle.bz_tree.specs.Spell.{depth_of, depth_limit, limit}
 use Rattle.bz_suite.specs.declared.value.BzlItem.{BzlItem}
 use Rattle.bz_suite.specs.Joined.{BeginsBare, EndsWithStatement}
 use Rattle.bz_suite.specs.View.{bzl_view_of}
-use Rattle.bz_indent.specs.Drawn.{bzl_drawn}
+use Rattle.bz_indent.specs.LaidOut.{bzl_laid_out}
 use Rattle.bz_indent.specs.Joined.{bzl_gap_below}
 use Rattle.bz_indent.specs.Layout.{bzl_layout}
 use Rattle.bz_indent.specs.Level.{level}
@@ -30,12 +30,12 @@ pub record IsBegun (text out : Bytes) (above : Option BzlItem) (ends : Bool) : T
   pub closes : ends ≡ true → EndsWithStatement tree
   pub formatted : out ≡ bzl_layout (level items)
   pub short : length out ≤ limit
-  pub shallow : depth_of (bzl_drawn (level items)) ≤ depth_limit
+  pub shallow : depth_of (bzl_laid_out (level items)) ≤ depth_limit
   pub last : IsLast above items
 
 -- After what was formatted is the layout of further items, levelled.
 pub record IsAppended (before : Bytes) (above : Option BzlItem) (items : List BzlItem) (out : Bytes) (below : Option BzlItem) : Type 0 where
   pub formatted : out ≡ before ++ (bzl_gap_below above (level items) ++ bzl_layout (level items))
   pub short : length out ≤ limit
-  pub shallow : depth_of (bzl_drawn (level items)) ≤ depth_limit
+  pub shallow : depth_of (bzl_laid_out (level items)) ≤ depth_limit
   pub last : (item : BzlItem) × (below ≡ Some item) × IsLast (Some item) items

@@ -7,7 +7,7 @@ use Rattle.bz_items.specs.Characters.{Bytes}
 use Rattle.bz_view.specs.Kept.{occurrences}
 use Rattle.bz_suite.specs.declared.value.BzlItem.{BzlItem}
 use Rattle.bz_suite.specs.View.{bzl_view_of}
-use Rattle.bz_indent.specs.Drawn.{bzl_drawn}
+use Rattle.bz_indent.specs.LaidOut.{bzl_laid_out}
 use Rattle.bz_indent.specs.Layout.{bzl_layout}
 use Rattle.bz_indent.specs.Level.{level}
 use Rattle.bz_tree.specs.Faults.{IsFaultOf}
@@ -29,7 +29,7 @@ bzl_formatted tree = bzl_layout (level (bzl_view_of tree))
 
 -- its tree
 abbrev pub formatted_tree : Node → Node
-formatted_tree tree = bzl_drawn (level (bzl_view_of tree))
+formatted_tree tree = bzl_laid_out (level (bzl_view_of tree))
 
 -- It reads as this tree, which says the same.
 abbrev pub Lasts : Node → Type 0

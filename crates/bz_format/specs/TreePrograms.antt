@@ -37,7 +37,7 @@ statements_in [] = []
 statements_in (x ∷ xs) = x.statements ++ statements_in xs
 
 abbrev pub bare_head : Kind → List Expr → List Expr → Form
-bare_head kind parts items = record { kind = kind; parts = parts; seq = record { items = items; end_ = []; split = false }; open_ = false; comments = no_comments }
+bare_head kind parts items = record { kind = kind; parts = parts; seq = record { items = items; end = []; split = false }; open_break = false; comments = no_comments }
 
 -- The parts of a header up to its colon. Of a Def: the word and the name, and the parameters after the bracket.
 abbrev pub head_in : Kind → List Expr → Form
@@ -51,7 +51,7 @@ abbrev mutual
 
   pub suites_in : Kind → List Expr → List Parsed → List Branch
   suites_in kind parts [] = []
-  suites_in kind parts (x ∷ xs) = record { head = head_in kind parts; statements = x.suite; end_ = [] } ∷ headers_in kind [] xs
+  suites_in kind parts (x ∷ xs) = record { head = head_in kind parts; statements = x.suite; end = [] } ∷ headers_in kind [] xs
 
 abbrev pub node_statements : Kind → List Parsed → List Statement
 node_statements kind xs =

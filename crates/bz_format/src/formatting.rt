@@ -4,7 +4,7 @@ ghost use Rattle.bz_format.specs.Formatted.{FormatsBzlTo, IsFormattedBzl, Says};
 
 use crate::chunks::chunks_formatted;
 use crate::laws::formatted_bzl_once;
-use bz_formatter::{FormatFault, unread};
+use bz_formatter::{FormatFault, of_read_fault};
 use bz_indent::{level, level_keeps_layout, level_stays, set_bzl};
 use bz_items::Text;
 use bz_parse::parse_bzl;
@@ -19,7 +19,7 @@ fn said(alloc: Global, text: &[u8]) -> Result<BzlFile, FormatFault>
 {
     let tree = match parse_bzl(alloc, text) {
         Ok(tree) => tree,
-        Err(fault) => return Err(unread(fault)),
+        Err(fault) => return Err(of_read_fault(fault)),
     };
     match view_bzl(alloc, &tree) {
         Ok(file) => Ok(file),
@@ -28,7 +28,7 @@ fn said(alloc: Global, text: &[u8]) -> Result<BzlFile, FormatFault>
 }
 
 /// What is reported where the layout is past a limit, or memory was refused.
-fn unset(fault: SetFault) -> FormatFault
+fn of_set_fault(fault: SetFault) -> FormatFault
     ensures large { (fault ≡ SetFault.TooLarge) → (result ≡ FormatFault.TooLarge) }
     ensures deep { (fault ≡ SetFault.TooDeep) → (result ≡ FormatFault.TooDeep) }
     ensures memory { (fault ≡ SetFault.Memory) → (result ≡ FormatFault.Memory) }
@@ -54,7 +54,7 @@ fn formatted(alloc: Global, text: &[u8]) -> Result<Text, FormatFault>
     level(&mut file);
     match set_bzl(alloc, &file) {
         Ok(formatted) => Ok(formatted),
-        Err(fault) => Err(unset(fault)),
+        Err(fault) => Err(of_set_fault(fault)),
     }
 }
 

@@ -8,7 +8,7 @@ use Rattle.bz_items.specs.Characters.{Bytes}
 use Rattle.bz_view.specs.Joined.{EndsWithLine, EmptyReads, ViewsJoin}
 use Rattle.bz_view.specs.View.{view_of}
 use Rattle.bz_write.specs.Appended.{gap_below, LayoutsJoin, DepthsJoin}
-use Rattle.bz_write.specs.Drawn.{drawn}
+use Rattle.bz_write.specs.LaidOut.{laid_out}
 use Rattle.bz_write.specs.Written.{layout}
 use Rattle.bz_tidy.specs.Joined.{TidiedApart}
 use Rattle.bz_tidy.specs.Passes.{tidied}
@@ -61,7 +61,7 @@ module _ (laws : LayersJoin) where
             k.formatted ∙ (ap (λ z. z ++ (gap_below above (tidied items) ++ layout (tidied items))) h.formatted
             ∙ (sym (laid_both above h.items (tidied items) h.last) ∙ ap layout (sym two)));
         short = k.short;
-        shallow = subst (λ xs. depth_of (drawn xs) ≤ depth_limit) (sym two) (laws.depths (tidied h.items) (tidied items) depth_limit h.shallow k.shallow);
+        shallow = subst (λ xs. depth_of (laid_out xs) ≤ depth_limit) (sym two) (laws.depths (tidied h.items) (tidied items) depth_limit h.shallow k.shallow);
         last = last_both last k.last.0 h.items items two k.last.1 k.last.2;
       }
 

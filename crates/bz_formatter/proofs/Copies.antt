@@ -15,7 +15,7 @@ use Rattle.bz_value.specs.declared.value.Item.TheVariants as i
 use Rattle.bz_items.specs.Characters.{Bytes, backslash, line_feed, number_sign}
 use Rattle.bz_value.specs.Comments.{HostComments}
 use Rattle.bz_value.specs.Counted.{total, suffix_amount, host_amount, amount, row_amount, item_amount, one_if, times}
-use Rattle.bz_value.specs.Gaps.{with_first, trimmed, in_comment, behind_backslash, lines_of, comments_in, all_in}
+use Rattle.bz_value.specs.Gaps.{with_first, trimmed, in_comment, after_backslash, lines_of, comments_in, all_in}
 use Rattle.bz_value.proofs.Totals.{append_total}
 use Rattle.bz_view.specs.Kept.{CommentsKept, comments_of_tree, occurrences}
 use Rattle.bz_view.specs.View.{view_of}
@@ -56,7 +56,7 @@ mutual
     | inr not_sign ↦ rw not_sign (elim (cases_Bool (nat_eq c line_feed)) [
       | inl is ↦ let rest = gap_holds gap in rw is (omega arith)
       | inr not_line ↦ rw not_line (elim (cases_Bool (nat_eq c backslash)) [
-        | inl is ↦ let rest = behind_holds gap in rw is (omega arith)
+        | inl is ↦ let rest = after_holds gap in rw is (omega arith)
         | inr other ↦ let rest = gap_holds gap in rw other (omega arith)
       ])
     ])
@@ -69,11 +69,11 @@ mutual
     | inr other ↦ let rest = comment_holds gap in rw other (omega arith)
   ]
 
-  behind_holds : (gap : Bytes) → bytes (comments_in (behind_backslash gap)) ≤ length gap
-  behind_holds [] = omega arith
-  behind_holds (c ∷ gap) = elim (cases_Bool (nat_eq c line_feed)) [
+  after_holds : (gap : Bytes) → bytes (comments_in (after_backslash gap)) ≤ length gap
+  after_holds [] = omega arith
+  after_holds (c ∷ gap) = elim (cases_Bool (nat_eq c line_feed)) [
     | inl is ↦ let rest = gap_holds gap in rw is (omega arith)
-    | inr other ↦ let rest = behind_holds gap in rw other (omega arith)
+    | inr other ↦ let rest = after_holds gap in rw other (omega arith)
   ]
 
 -- ---- those of a tree
@@ -140,11 +140,11 @@ module _ (comment : Bytes) where
   mutual
     expr_scaled : (x : Expr) → amount copies x * length comment ≤ amount long x
     expr_scaled (Token t) = host_scaled t.comments
-    expr_scaled (Form' kind s parts s' items end_ split open_ comments) =
-        both_scaled (host_amount copies comments) (row_amount copies parts + (row_amount copies items + total copies end_)) (length comment)
-        (host_amount long comments) (row_amount long parts + (row_amount long items + bytes end_)) (host_scaled comments)
-        (both_scaled (row_amount copies parts) (row_amount copies items + total copies end_) (length comment) (row_amount long parts) (row_amount long items + bytes end_) (row_scaled parts)
-        (both_scaled (row_amount copies items) (total copies end_) (length comment) (row_amount long items) (bytes end_) (row_scaled items) (copies_hold comment end_)))
+    expr_scaled (Form' kind s parts s' items end split open_break comments) =
+        both_scaled (host_amount copies comments) (row_amount copies parts + (row_amount copies items + total copies end)) (length comment)
+        (host_amount long comments) (row_amount long parts + (row_amount long items + bytes end)) (host_scaled comments)
+        (both_scaled (row_amount copies parts) (row_amount copies items + total copies end) (length comment) (row_amount long parts) (row_amount long items + bytes end) (row_scaled parts)
+        (both_scaled (row_amount copies items) (total copies end) (length comment) (row_amount long items) (bytes end) (row_scaled items) (copies_hold comment end)))
 
     row_scaled : {n : _} (r : Row_of-Expr n) → row_amount copies r * length comment ≤ row_amount long r
     row_scaled end_of-Expr = omega arith

@@ -16,9 +16,9 @@ use Rattle.bz_items.specs.Characters.{Bytes, line_feed}
 use Rattle.bz_value.specs.Counted.{total, suffix_amount, host_amount, amount, row_amount, item_amount, times}
 use Rattle.bz_value.specs.Empty.{is_empty, is_none}
 use Rattle.bz_value.specs.Frames.{Frame, row, sequence, frame, is_binary}
-use Rattle.bz_value.specs.Proper.{comments_of, in_frame, behind_expr, IsEmptyRow, ProperExpr, ProperRow, ProperHead, ProperItems, IsProperItem}
+use Rattle.bz_value.specs.Proper.{comments_of, in_frame, after_expr, IsEmptyRow, ProperExpr, ProperRow, ProperHead, ProperItems, IsProperItem}
 use Rattle.bz_rule.proofs.Opened.{made, own_parts}
-use Rattle.bz_write.specs.Layout.{line, gap_behind, margin_behind, margin_lines, ended, suffix_text, has_comments, is_broken, is_tuple}
+use Rattle.bz_write.specs.Layout.{new_line_at, gap_after, margin_after, margin_lines, ended, suffix_text, has_comments, is_broken, is_tuple}
 use Rattle.bz_write.specs.Sizes.{row_size, head_size, comma_size, joined_size, stacked_size, body_size, size_in}
 use Rattle.bz_write.specs.Written.{text_of, comment_lines, item_text, layout}
 use Rattle.bz_write.proofs.Measured.{statement_length, layout_first}
@@ -41,13 +41,13 @@ margins_hold : (m : ℕ) (texts : List Bytes) → bytes texts ≤ length (margin
 margins_hold m [] = omega arith
 margins_hold m (text ∷ texts) =
     let rest = margins_hold m texts in
-    omega (arith, length-append text (line m ++ margin_lines m texts), length-append (line m) (margin_lines m texts))
+    omega (arith, length-append text (new_line_at m ++ margin_lines m texts), length-append (new_line_at m) (margin_lines m texts))
 
 ended_holds : (m : ℕ) (texts : List Bytes) → bytes texts ≤ length (ended m texts)
 ended_holds m [] = omega arith
 ended_holds m (text ∷ texts) =
     let rest = ended_holds m texts in
-    omega (arith, length-append (line (m + 4)) (text ++ ended m texts), length-append text (ended m texts))
+    omega (arith, length-append (new_line_at (m + 4)) (text ++ ended m texts), length-append text (ended m texts))
 
 suffix_holds : (suffix : Option Bytes) → suffix_amount long suffix ≤ length (suffix_text suffix)
 suffix_holds None = omega arith
@@ -87,45 +87,45 @@ first_part x rest host text gap others h none more = omega arith
 first_head : (x rest host text others : ℕ) → x ≤ host + text → host ≡ 0 → rest ≤ others → x + rest ≤ text + others
 first_head x rest host text others h none more = omega arith
 
-first_stacked : (x rest ends before suffix begins above_ text behind others : ℕ) → x ≤ (before + suffix) + text → before ≤ above_ → suffix ≤ behind → rest + ends ≤ others
-    → (x + rest) + ends ≤ (begins + (above_ + (text + (1 + behind)))) + others
-first_stacked x rest ends before suffix begins above_ text behind others h b s more = omega arith
+first_stacked : (x rest ends before suffix begins above_ text following others : ℕ) → x ≤ (before + suffix) + text → before ≤ above_ → suffix ≤ following → rest + ends ≤ others
+    → (x + rest) + ends ≤ (begins + (above_ + (text + (1 + following)))) + others
+first_stacked x rest ends before suffix begins above_ text following others h b s more = omega arith
 
 mutual
   expr_holds : (here : Spot) (x : Expr) (m : ℕ) → ProperExpr here x → amount long x ≤ host_amount long (comments_of x) + length (text_of x m)
   expr_holds here (Token t) m h = omega arith
-  expr_holds here (Form' kind s parts s' items end_ split open_ comments) m h =
-      let x : Expr = Form' kind s parts s' items end_ split open_ comments in
-      let form : Form = made kind (items-the_row-Expr _ parts) (items-the_row-Expr _ items) end_ split open_ comments in
+  expr_holds here (Form' kind s parts s' items end split open_break comments) m h =
+      let x : Expr = Form' kind s parts s' items end split open_break comments in
+      let form : Form = made kind (items-the_row-Expr _ parts) (items-the_row-Expr _ items) end split open_break comments in
       let size : length (text_of x m) ≡ size_in (frame kind) form m = text_size x form m (own_parts x) in
-      let inside : row_amount long parts + (row_amount long items + bytes end_) ≤ size_in (frame kind) form m =
-      by_frame (frame kind) form m (row_amount long parts + (row_amount long items + bytes end_)) _ _ h.1
+      let inside : row_amount long parts + (row_amount long items + bytes end) ≤ size_in (frame kind) form m =
+      by_frame (frame kind) form m (row_amount long parts + (row_amount long items + bytes end)) _ _ h.1
       (λ a.
-      let row_ : row_amount long parts ≤ row_size kind open_ m m (items-the_row-Expr _ parts) = row_holds (is_binary kind) here here parts kind open_ m m a.0 in
+      let row_ : row_amount long parts ≤ row_size kind open_break m m (items-the_row-Expr _ parts) = row_holds (is_binary kind) here here parts kind open_break m m a.0 in
       let none : row_amount long items ≡ 0 = none_in items a.1 in
-      let ends : bytes end_ ≡ 0 = ap bytes a.2 in
+      let ends : bytes end ≡ 0 = ap bytes a.2 in
       omega arith)
       (λ opener closer b.
       let head : row_amount long parts ≤ head_size m (items-the_row-Expr _ parts) = head_holds here parts m b.0 in
       let inner : List Expr = items-the_row-Expr _ items in
       let one : Bool = is_tuple kind && nat_eq (length inner) 1 in
-      let body : row_amount long items + bytes end_ ≤ body_size form m =
-      by_break (is_broken kind split inner end_) (row_amount long items + bytes end_) (stacked_size m end_ inner) (joined_size m one inner)
-      (λ is. stacked_holds items end_ m b.1)
+      let body : row_amount long items + bytes end ≤ body_size form m =
+      by_break (is_broken kind split inner end) (row_amount long items + bytes end) (stacked_size m end inner) (joined_size m one inner)
+      (λ is. stacked_holds items end m b.1)
       (λ other.
       let bare = or_parts (has_comments inner) _ other in
-      let ends : bytes end_ ≡ 0 = empty_holds end_ (or_parts (not (is_empty end_)) _ bare.1).0 in
+      let ends : bytes end ≡ 0 = empty_holds end (or_parts (not (is_empty end)) _ bare.1).0 in
       let joined_ : row_amount long items ≤ joined_size m one inner = joined_holds items m one b.1 bare.0 in
       omega arith) in
       omega arith) in
       omega arith
 
-  row_holds : (binary : Bool) (outer here : Spot) {n : _} (r : Row_of-Expr n) (kind : Kind) (open_ : Bool) (m k : ℕ) → ProperRow binary outer here r → row_amount long r ≤ row_size kind open_ m k (items-the_row-Expr _ r)
-  row_holds binary outer here end_of-Expr kind open_ m k h = omega arith
-  row_holds binary outer here (more_of-Expr x rest) kind open_ m k h =
+  row_holds : (binary : Bool) (outer here : Spot) {n : _} (r : Row_of-Expr n) (kind : Kind) (open_break : Bool) (m k : ℕ) → ProperRow binary outer here r → row_amount long r ≤ row_size kind open_break m k (items-the_row-Expr _ r)
+  row_holds binary outer here end_of-Expr kind open_break m k h = omega arith
+  row_holds binary outer here (more_of-Expr x rest) kind open_break m k h =
       let others : List Expr = items-the_row-Expr _ rest in
-      let more : row_amount long rest ≤ row_size kind open_ m (margin_behind open_ m x) others = row_holds binary outer (behind_expr outer here x) rest kind open_ m (margin_behind open_ m x) h.3 in
-      first_part (amount long x) (row_amount long rest) (host_amount long (comments_of x)) (length (text_of x k)) (length (gap_behind kind open_ m x others)) (row_size kind open_ m (margin_behind open_ m x) others)
+      let more : row_amount long rest ≤ row_size kind open_break m (margin_after open_break m x) others = row_holds binary outer (after_expr outer here x) rest kind open_break m (margin_after open_break m x) h.3 in
+      first_part (amount long x) (row_amount long rest) (host_amount long (comments_of x)) (length (text_of x k)) (length (gap_after kind open_break m x others)) (row_size kind open_break m (margin_after open_break m x) others)
       (expr_holds here x k h.0) (ap (host_amount long) h.1) more
 
   head_holds : (here : Spot) {n : _} (r : Row_of-Expr n) (m : ℕ) → ProperHead here r → row_amount long r ≤ head_size m (items-the_row-Expr _ r)
@@ -134,12 +134,12 @@ mutual
       first_head (amount long x) (row_amount long rest) (host_amount long (comments_of x)) (length (text_of x m)) (head_size m (items-the_row-Expr _ rest))
       (expr_holds here x m h.0) (ap (host_amount long) h.1.0) (head_holds here rest m h.2)
 
-  stacked_holds : {n : _} (r : Row_of-Expr n) (end_ : List Bytes) (m : ℕ) → ProperItems r → row_amount long r + bytes end_ ≤ stacked_size m end_ (items-the_row-Expr _ r)
-  stacked_holds end_of-Expr end_ m h = let ends : bytes end_ ≤ length (ended m end_) = ended_holds m end_ in omega arith
-  stacked_holds (more_of-Expr x rest) end_ m h =
-      first_stacked (amount long x) (row_amount long rest) (bytes end_) (bytes (comments_of x).before) (suffix_amount long (comments_of x).suffix) (length (line (m + 4)))
-      (length (margin_lines (m + 4) (comments_of x).before)) (length (text_of x (m + 4))) (length (suffix_text (comments_of x).suffix)) (stacked_size m end_ (items-the_row-Expr _ rest))
-      (expr_holds Within x (m + 4) h.0) (margins_hold (m + 4) (comments_of x).before) (suffix_holds (comments_of x).suffix) (stacked_holds rest end_ m h.3)
+  stacked_holds : {n : _} (r : Row_of-Expr n) (end : List Bytes) (m : ℕ) → ProperItems r → row_amount long r + bytes end ≤ stacked_size m end (items-the_row-Expr _ r)
+  stacked_holds end_of-Expr end m h = let ends : bytes end ≤ length (ended m end) = ended_holds m end in omega arith
+  stacked_holds (more_of-Expr x rest) end m h =
+      first_stacked (amount long x) (row_amount long rest) (bytes end) (bytes (comments_of x).before) (suffix_amount long (comments_of x).suffix) (length (new_line_at (m + 4)))
+      (length (margin_lines (m + 4) (comments_of x).before)) (length (text_of x (m + 4))) (length (suffix_text (comments_of x).suffix)) (stacked_size m end (items-the_row-Expr _ rest))
+      (expr_holds Within x (m + 4) h.0) (margins_hold (m + 4) (comments_of x).before) (suffix_holds (comments_of x).suffix) (stacked_holds rest end m h.3)
 
   joined_holds : {n : _} (r : Row_of-Expr n) (m : ℕ) (one : Bool) → ProperItems r → has_comments (items-the_row-Expr _ r) ≡ false → row_amount long r ≤ joined_size m one (items-the_row-Expr _ r)
   joined_holds end_of-Expr m one h bare = omega arith
@@ -156,7 +156,7 @@ item_holds (i.Block lines) h = lines_hold lines
 item_holds (i.Stmt x) h =
     let inside = expr_holds Begins x 0 h.1 in
     let above_ = lines_hold (comments_of x).before in
-    let behind = suffix_holds (comments_of x).suffix in
+    let following = suffix_holds (comments_of x).suffix in
     let whole = statement_length x in
     omega arith
 

@@ -11,7 +11,7 @@ use Rattle.bz_value.specs.Proper.{IsProper}
 use Rattle.bz_view.specs.Kept.{CommentsKept}
 use Rattle.bz_view.specs.View.{view_of}
 use Rattle.bz_view.specs.Laws.{ViewsAreProper}
-use Rattle.bz_write.specs.Drawn.{drawn}
+use Rattle.bz_write.specs.LaidOut.{laid_out}
 use Rattle.bz_write.specs.Laws.{LayoutIsAccepted, LayoutReadsBack}
 use Rattle.bz_tidy.specs.Laws.{ProperStays, TidySettles, TidyStays, TidyingKeepsComments}
 use Rattle.bz_tidy.specs.Passes.{tidied}
@@ -26,7 +26,7 @@ use Rattle.bz_formatter.proofs.Writes.{IsGiven, given}
 
 -- what is written of a value that is tidy already
 abbrev as_written : List Item → Option Bytes → Meaning
-as_written items printed = if nat_lt limit (length (layout items)) then refuses TooLarge else (if nat_lt depth_limit (depth_of (drawn items)) then refuses TooDeep else gives (layout items) printed)
+as_written items printed = if nat_lt limit (length (layout items)) then refuses TooLarge else (if nat_lt depth_limit (depth_of (laid_out items)) then refuses TooDeep else gives (layout items) printed)
 
 -- What the layers below promise: of reading, of the view, of the layout of a proper value, and of tidying.
 pub record LayersHold : Type 0 where
@@ -50,7 +50,7 @@ formatted_again layers text formatted formats =
     let tidy : List Item = tidied items in
     let proper : IsProper tidy = layers.proper items (layers.seen tree formats.1.0) in
     let is : IsGiven items formatted None None = given items formatted None None (sym formats.2) in
-    let new : Node = drawn tidy in
+    let new : Node = laid_out tidy in
     let reads : Reads formatted new = subst (λ (t : Bytes). Reads t new) (sym is.layout_is) (layers.accepted tidy proper is.long is.deep) in
     let seen : view_of new ≡ tidy = layers.back tidy proper ∙ layers.settled items in
     let valued : (t u : Node) → Reads text t → Reads formatted u → view_of u ≡ tidied (view_of t) =

@@ -1,6 +1,6 @@
 pub mod Writes
 pub mod Formatting
-pub mod Untold
+pub mod ReadFaults
 pub mod Copies
 pub mod Filled
 pub mod SeenPrograms

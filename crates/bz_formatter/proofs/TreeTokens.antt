@@ -11,9 +11,9 @@ use Rattle.bz_tree.specs.declared.kind.Kind.{Kind}
 use Rattle.bz_tree.specs.declared.kind.Kind.TheVariants as k
 use Rattle.bz_tree.specs.declared.tree.Part.{Part, Row_of-Part, end_of-Part, more_of-Part, Node', items-the_row-Part}
 use Rattle.bz_tree.specs.declared.tree.Part.TheVariants as p
-use Rattle.bz_tree.specs.Legal.{IsSort, LegalPart, LegalRow}
+use Rattle.bz_tree.specs.Legal.{IsNonterminal, LegalPart, LegalRow}
 use Rattle.bz_tree.specs.Shapes as s
-use Rattle.bz_tree.specs.Shapes.{Sort, Terminal, any, this, Fits, Listed, Several, shape, items, tok, done, has_token, is_class, is_one_of, is_terminal}
+use Rattle.bz_tree.specs.Shapes.{Nonterminal, Terminal, any, this, Fits, Listed, Several, shape, items, tok, done, has_token, is_class, is_one_of, is_terminal}
 use Rattle.bz_tree.specs.Spell.{leaves_part, leaves_row}
 use Rattle.bz_tree.proofs.Balance.{no_such}
 use Rattle.bz_tree.proofs.Numbers.{same_kind}
@@ -27,7 +27,7 @@ use Rattle.bz_value.proofs.Totals.{append_total}
 use Rattle.bz_items.specs.Characters.{Bytes}
 use Rattle.bz_tidy.specs.Syntax.{token_sum, row_token_sum, one_if_token}
 use Rattle.bz_tidy.proofs.Keeping.{both}
-use Rattle.bz_tidy.proofs.Parts.{made, parts_behind, items_behind, parts_are, items_are}
+use Rattle.bz_tidy.proofs.Parts.{made, parts_after, items_after, parts_are, items_are}
 use Rattle.bz_formatter.specs.Fixed.{FixedPoint}
 use Rattle.bz_formatter.specs.TreePrograms.{before_marks, node_syntax, part_syntax, row_syntax, lines_program}
 use Rattle.bz_formatter.specs.Tokens.{marks_between, is_mark_between, FormattingKeepsTokens, TreeProgramsKeepTokens}
@@ -106,11 +106,11 @@ SeparatorAt zero (x ∷ xs) = IsSeparator x
 SeparatorAt (suc n) (x ∷ xs) = SeparatorAt n xs
 
 module _ (between close : List Terminal) (b : Separates between) (c : Separates close) where
-  ends_paired : (x : Part) (xs : List Part) → Fits IsSort (tok close done) (x ∷ xs) → Paired (x ∷ xs)
+  ends_paired : (x : Part) (xs : List Part) → Fits IsNonterminal (tok close done) (x ∷ xs) → Paired (x ∷ xs)
   ends_paired x [] h = c x h.0
   ends_paired x (y ∷ xs) h = absurd h.1
 
-  pub listed_paired : (q : Sort) (xs : List Part) → Listed (IsSort q) between true (Fits IsSort (tok close done)) xs → Paired xs
+  pub listed_paired : (q : Nonterminal) (xs : List Part) → Listed (IsNonterminal q) between true (Fits IsNonterminal (tok close done)) xs → Paired xs
   listed_paired q [] h = absurd h
   listed_paired q (x ∷ []) h = absurd h.1
   listed_paired q (x ∷ y ∷ []) (h, inl i) = (c y i.0, tt)
@@ -120,12 +120,12 @@ module _ (between close : List Terminal) (b : Separates between) (c : Separates 
   listed_paired q (x ∷ y ∷ z ∷ xs) (h, inr (m, inr i)) = (b y m, ends_paired z xs i.1)
 
 module _ (close : List Terminal) (c : Separates close) where
-  items_paired : (q : Sort) (xs : List Part) → Fits IsSort (items q close) xs → Paired xs
+  items_paired : (q : Nonterminal) (xs : List Part) → Fits IsNonterminal (items q close) xs → Paired xs
   items_paired q [] h = tt
   items_paired q (x ∷ xs) (inl h) = ends_paired s.comma_mark close comma c x xs h
   items_paired q (x ∷ xs) (inr h) = listed_paired s.comma_mark close comma c q (x ∷ xs) h
 
-  one_paired : (q : Sort) (x : Part) (xs : List Part) → Fits IsSort (s.alt (tok close done) (tok s.comma_mark (items q close))) xs → Paired (x ∷ xs)
+  one_paired : (q : Nonterminal) (x : Part) (xs : List Part) → Fits IsNonterminal (s.alt (tok close done) (tok s.comma_mark (items q close))) xs → Paired (x ∷ xs)
   one_paired q x [] (inl h) = absurd h
   one_paired q x [] (inr h) = absurd h
   one_paired q x (y ∷ []) (inl h) = (c y h.0, tt)
@@ -137,31 +137,31 @@ pub record Bracketed (kind : Kind) (xs : List Part) : Type 0 where
   pub opener : SeparatorAt (lead kind) xs
   pub body : Paired (drop (suc (lead kind)) xs)
 
-pub call_bracketed : (xs : List Part) → Fits IsSort (shape k.Call) xs → Bracketed k.Call xs
+pub call_bracketed : (xs : List Part) → Fits IsNonterminal (shape k.Call) xs → Bracketed k.Call xs
 call_bracketed [] h = absurd h
 call_bracketed (x ∷ []) h = absurd h.1
 call_bracketed (x ∷ y ∷ xs) h = record { opener = open_round y h.1.0; body = items_paired s.close_round close_round s.argument xs h.1.1 }
 
-pub load_bracketed : (xs : List Part) → Fits IsSort (shape k.Load) xs → Bracketed k.Load xs
+pub load_bracketed : (xs : List Part) → Fits IsNonterminal (shape k.Load) xs → Bracketed k.Load xs
 load_bracketed [] h = absurd h
 load_bracketed (x ∷ []) h = absurd h.1
 load_bracketed (x ∷ y ∷ []) h = absurd h.1.1
 load_bracketed (x ∷ y ∷ z ∷ xs) h = record { opener = open_round y h.1.0; body = one_paired s.close_round close_round s.loaded z xs h.1.1.1 }
 
-tuple_body : (xs : List Part) → Fits IsSort (s.alt (tok s.close_round done) (s.sub s.test (tok s.comma_mark (items s.test s.close_round)))) xs → Paired xs
+tuple_body : (xs : List Part) → Fits IsNonterminal (s.alt (tok s.close_round done) (s.sub s.test (tok s.comma_mark (items s.test s.close_round)))) xs → Paired xs
 tuple_body [] i = tt
 tuple_body (x ∷ xs) (inl i) = ends_paired s.comma_mark s.close_round comma close_round x xs i
 tuple_body (x ∷ xs) (inr i) = one_paired s.close_round close_round s.test x xs (inr i.1)
 
-pub tuple_bracketed : (xs : List Part) → Fits IsSort (shape k.Tuple) xs → Bracketed k.Tuple xs
+pub tuple_bracketed : (xs : List Part) → Fits IsNonterminal (shape k.Tuple) xs → Bracketed k.Tuple xs
 tuple_bracketed [] h = absurd h
 tuple_bracketed (y ∷ xs) h = record { opener = open_round y h.0; body = tuple_body xs h.1 }
 
-pub list_bracketed : (xs : List Part) → Fits IsSort (shape k.List) xs → Bracketed k.List xs
+pub list_bracketed : (xs : List Part) → Fits IsNonterminal (shape k.List) xs → Bracketed k.List xs
 list_bracketed [] h = absurd h
 list_bracketed (y ∷ xs) h = record { opener = open_square y h.0; body = items_paired s.close_square close_square s.test xs h.1 }
 
-pub dict_bracketed : (xs : List Part) → Fits IsSort (shape k.Dict) xs → Bracketed k.Dict xs
+pub dict_bracketed : (xs : List Part) → Fits IsNonterminal (shape k.Dict) xs → Bracketed k.Dict xs
 dict_bracketed [] h = absurd h
 dict_bracketed (y ∷ xs) h = record { opener = open_curly y h.0; body = items_paired s.close_curly close_curly s.entry xs h.1 }
 
@@ -169,7 +169,7 @@ abbrev pub BracketedIn : Frame → Kind → List Part → Type 0
 BracketedIn row kind xs = Unit {0}
 BracketedIn (sequence opener closer) kind xs = Bracketed kind xs
 
-node_bracketed : (kind : Kind) (xs : List Part) → Fits IsSort (shape kind) xs → BracketedIn (frame kind) kind xs
+node_bracketed : (kind : Kind) (xs : List Part) → Fits IsNonterminal (shape kind) xs → BracketedIn (frame kind) kind xs
 node_bracketed k.Call xs h = call_bracketed xs h
 node_bracketed k.Load xs h = load_bracketed xs h
 node_bracketed k.Tuple xs h = tuple_bracketed xs h
@@ -213,8 +213,8 @@ module _ (number : Class → Bytes → ℕ) (quiet : (l : Leaf) → is_one_of ma
   sum_Form : (f : Form) → token_sum number (e.Form f) ≡ total whole f.parts + total whole f.seq.items
   sum_Form f =
       both (λ a b. a + b)
-      (row_total _ (parts_behind (e.Form f)).1 ∙ ap (total whole) (parts_are f))
-      (row_total _ (items_behind (e.Form f)).1 ∙ ap (total whole) (items_are f))
+      (row_total _ (parts_after (e.Form f)).1 ∙ ap (total whole) (parts_are f))
+      (row_total _ (items_after (e.Form f)).1 ∙ ap (total whole) (items_are f))
 
   abbrev Kept : Part → Type 0
   Kept x = whole (part_syntax x) ≡ part_sum x
@@ -269,7 +269,7 @@ module _ (number : Class → Bytes → ℕ) (quiet : (l : Leaf) → is_one_of ma
   -- ---- the file
 
   abbrev Lines : List Part → Type 0
-  Lines xs = Several (IsSort s.line) (Fits IsSort (tok s.end done)) xs
+  Lines xs = Several (IsNonterminal s.line) (Fits IsNonterminal (tok s.end done)) xs
 
   lines_sum : (xs : List Part) → Lines xs → AllByRecursion LegalPart xs → total whole (lines_program xs) ≡ total part_sum xs
   lines_sum [] h g = absurd h
@@ -280,7 +280,7 @@ module _ (number : Class → Bytes → ℕ) (quiet : (l : Leaf) → is_one_of ma
   lines_sum (Node' kind m r ∷ xs) (inr h) g =
       let ys : List Part = items-the_row-Part _ r in
       let is : kind ≡ k.Line = same_kind kind k.Line (eqb-true _ _ h.0) in
-      let statements : Fits IsSort (shape k.Line) ys = subst (λ kd. Fits IsSort (shape kd) ys) is g.0.0 in
+      let statements : Fits IsNonterminal (shape k.Line) ys = subst (λ kd. Fits IsNonterminal (shape kd) ys) is g.0.0 in
       let paired : Paired ys = listed_paired s.semicolon s.newline semicolon newline s.small ys statements in
       let here : total whole (before_marks (row_syntax r)) ≡ part_sum (Node' kind m r) =
       ap (λ zs. total whole (before_marks zs)) (syntax_map _ r) ∙ (front_sum ys paired (row_kept _ r g.0.1) ∙ sym (row_leaves _ r)) in
@@ -303,7 +303,7 @@ other_token class token other l h = elim (cases_Bool (is_class l.class class && 
 
 pub tree_tokens : TreeProgramsKeepTokens
 tree_tokens n h class token other =
-    let fits : Fits IsSort (shape k.File) n.parts = subst (λ kd. Fits IsSort (shape kd) n.parts) h.file.root h.file.shapes.0 in
+    let fits : Fits IsNonterminal (shape k.File) n.parts = subst (λ kd. Fits IsNonterminal (shape kd) n.parts) h.file.root h.file.shapes.0 in
     lines_sum (one_if_token class token) (other_token class token other) n.parts fits h.file.shapes.1
     ∙ sym (parts_leaves (one_if_token class token) (other_token class token other) n.parts)
 

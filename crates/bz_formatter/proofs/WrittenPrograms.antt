@@ -7,7 +7,7 @@ use Rattle.bz_value.specs.declared.value.Item.{Item}
 use Rattle.bz_items.specs.Characters.{Bytes}
 use Rattle.bz_value.specs.Proper.{IsProper}
 use Rattle.bz_view.specs.View.{view_of}
-use Rattle.bz_write.specs.Drawn.{drawn}
+use Rattle.bz_write.specs.LaidOut.{laid_out}
 use Rattle.bz_write.specs.Laws.{LayoutIsAccepted, LayoutReadsBack}
 use Rattle.bz_tidy.specs.Laws.{ProperStays, TidySettles}
 use Rattle.bz_tidy.specs.Passes.{tidied}
@@ -20,7 +20,7 @@ written_program one accepted back stays settled kept items text printed proper e
     let tidy : List Item = tidied items in
     let good : IsProper tidy = stays items proper in
     let is : IsGiven items text printed printed = given items text printed printed e in
-    let own : Node = drawn tidy in
+    let own : Node = laid_out tidy in
     let own_reads : Reads text own = subst (λ (t : Bytes). Reads t own) (sym is.layout_is) (accepted tidy good is.long is.deep) in
     let seen : view_of tree ≡ tidy = ap view_of (one text tree own reads own_reads) ∙ back tidy good ∙ settled items in
     subst (KeepsProgram items) (sym seen) (kept items)

@@ -8,7 +8,7 @@ use Rattle.bz_items.specs.Characters.{Bytes}
 use Rattle.bz_view.specs.Joined.{EndsWithLine}
 use Rattle.bz_view.specs.View.{view_of}
 use Rattle.bz_write.specs.Appended.{gap_below}
-use Rattle.bz_write.specs.Drawn.{drawn}
+use Rattle.bz_write.specs.LaidOut.{laid_out}
 use Rattle.bz_write.specs.Written.{layout}
 use Rattle.bz_tidy.specs.Passes.{tidied}
 use Rattle.bz_tidy.specs.Spliced.{begins_with_load}
@@ -28,7 +28,7 @@ pub record IsBegun (text out : Bytes) (above : Option Item) (ends : Bool) : Type
   pub reads : ReadsAs text items ends
   pub formatted : out ≡ layout (tidied items)
   pub short : length out ≤ limit
-  pub shallow : depth_of (drawn (tidied items)) ≤ depth_limit
+  pub shallow : depth_of (laid_out (tidied items)) ≤ depth_limit
   pub last : IsLast above items
 
 -- After what was formatted is the layout of further items, tidied; none of them is sorted with those above.
@@ -36,5 +36,5 @@ pub record IsAppended (before : Bytes) (above : Option Item) (items : List Item)
   pub apart : (above ≡ None) ⊎ (begins_with_load items ≡ false)
   pub formatted : out ≡ before ++ (gap_below above (tidied items) ++ layout (tidied items))
   pub short : length out ≤ limit
-  pub shallow : depth_of (drawn (tidied items)) ≤ depth_limit
+  pub shallow : depth_of (laid_out (tidied items)) ≤ depth_limit
   pub last : (item : Item) × (below ≡ Some item) × IsLast (Some item) items

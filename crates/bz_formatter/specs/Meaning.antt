@@ -7,7 +7,7 @@ use Rattle.bz_value.specs.declared.value.Item.{Item}
 use Rattle.bz_items.specs.Characters.{Bytes}
 use Rattle.bz_view.specs.View.{view_of}
 use Rattle.bz_write.specs.Written.{layout}
-use Rattle.bz_write.specs.Drawn.{drawn}
+use Rattle.bz_write.specs.LaidOut.{laid_out}
 use Rattle.bz_tidy.specs.Passes.{tidied}
 use Rattle.bz_value.specs.declared.refusal.Refusal.{Refusal}
 use Rattle.bz_value.specs.declared.refusal.Refusal.TheVariants.{TooLarge, TooDeep}
@@ -21,7 +21,7 @@ pub data Meaning : Type 0 where
 abbrev pub written : List Item → Option Bytes → Meaning
 written items printed =
     if nat_lt limit (length (layout (tidied items))) then refuses TooLarge
-    else (if nat_lt depth_limit (depth_of (drawn (tidied items))) then refuses TooDeep else gives (layout (tidied items)) printed)
+    else (if nat_lt depth_limit (depth_of (laid_out (tidied items))) then refuses TooDeep else gives (layout (tidied items)) printed)
 
 -- A text that reads as a tree is formatted to the layout of its value tidied, or that is refused.
 abbrev pub Formats : Bytes → Meaning → Type 0

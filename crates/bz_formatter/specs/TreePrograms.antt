@@ -19,7 +19,7 @@ before_marks (x ∷ []) = []
 before_marks (x ∷ mark ∷ xs) = x ∷ before_marks xs
 
 abbrev pub bare_form : Kind → List Expr → List Expr → Expr
-bare_form kind parts items = e.Form (record { kind = kind; parts = parts; seq = record { items = items; end_ = []; split = false }; open_ = false; comments = no_comments })
+bare_form kind parts items = e.Form (record { kind = kind; parts = parts; seq = record { items = items; end = []; split = false }; open_break = false; comments = no_comments })
 
 -- a row of parts; or what is before the opening bracket, and the items after it
 abbrev pub node_syntax : Frame → Kind → List Expr → Expr
@@ -28,7 +28,7 @@ node_syntax (sequence opener closer) kind xs = bare_form kind (take (lead kind) 
 
 abbrev mutual
   pub part_syntax : Part → Expr
-  part_syntax (p.Leaf l) = e.Token (record { class = l.class; text = l.token; break_ = false; comments = no_comments })
+  part_syntax (p.Leaf l) = e.Token (record { class = l.class; text = l.token; line_break = false; comments = no_comments })
   part_syntax (Node' kind _ parts) = node_syntax (frame kind) kind (row_syntax parts)
 
   pub row_syntax : {m : _} → Row_of-Part m → List Expr

@@ -31,7 +31,7 @@ pub enum FormatFault {
 }
 
 /// Why there is no formatted text of a text that is not read.
-pub fn unread(fault: ReadFault) -> FormatFault
+pub fn of_read_fault(fault: ReadFault) -> FormatFault
     ensures { ((result ≡ FormatFault.Unread fault) × (fault ≢ ReadFault.Memory)) ⊎ (result ≡ FormatFault.Memory) }
 {
     match fault {
@@ -54,7 +54,7 @@ pub fn format(alloc: Global, text: &[u8]) -> Result<Text, FormatFault>
     }
     let tree = match parse(alloc, text) {
         Ok(tree) => tree,
-        Err(fault) => return Err(unread(fault)),
+        Err(fault) => return Err(of_read_fault(fault)),
     };
     let Ok(value) = value_of(alloc, tree) else {
         return Err(FormatFault::Memory);

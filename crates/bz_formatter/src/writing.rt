@@ -67,7 +67,7 @@ pub(crate) fn written_text(alloc: Global, file: File) -> Result<Text, Refusal>
 
 /// The tree of the layout of a tidy value. Errors: `TooLarge` and `TooDeep` past a limit; `Memory`: a growth was refused.
 #[tactic(auto, using(crate::proofs::Writes::written_too_large, crate::proofs::Writes::written_too_deep, crate::proofs::Writes::written_spelled))]
-pub fn drawn_of(alloc: Global, file: &File) -> Result<Tree, Refusal>
+pub fn laid_out_of(alloc: Global, file: &File) -> Result<Tree, Refusal>
     requires { tidied file.now ≡ file.now }
     ensures ok { IfOk result (λ tree. (printed : Option Bytes) → written file.now printed ≡ gives (spell_node tree) printed) }
     ensures err { IfErr result (λ refusal. ((printed : Option Bytes) → written file.now printed ≡ refuses refusal) ⊎ (refusal ≡ Refusal.Memory)) }

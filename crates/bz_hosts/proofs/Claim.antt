@@ -9,7 +9,7 @@ use Rattle.bz_tree.specs.declared.tree.Part.TheVariants as p
 use Rattle.bz_tree.specs.Shapes as s
 use Rattle.bz_tree.specs.Shapes.{Fits, shape}
 use Rattle.bz_tree.specs.Spell.{leaves_row}
-use Rattle.bz_tree.specs.Legal.{IsSort, LegalPart, LegalRow}
+use Rattle.bz_tree.specs.Legal.{IsNonterminal, LegalPart, LegalRow}
 use Rattle.bz_value.specs.declared.value.Expr.{Expr}
 use Rattle.bz_value.specs.declared.value.Form.{Form}
 use Rattle.bz_value.specs.Comments.{no_comments}
@@ -19,7 +19,7 @@ use Rattle.bz_view.specs.View.{Seen, seen, seen_row, plain, first_seen_gap, loos
 use Rattle.bz_view.proofs.SeenParts.{seen_rows}
 use Rattle.bz_hosts.specs.Hosts.{Region, host, Comment, Measured, sizes, measured, in_node, Hosted, ended, by_frame, inside_expr}
 use Rattle.bz_hosts.proofs.Around.{SeesAt}
-use Rattle.bz_hosts.proofs.Parts.{measured_rows, leaves_rows, comments_behind, behind_parts, parts_behind}
+use Rattle.bz_hosts.proofs.Parts.{measured_rows, leaves_rows, comments_after, after_parts, parts_after}
 use Rattle.bz_hosts.proofs.Alternating.{Alternating, Regions}
 use Rattle.bz_hosts.proofs.Insides.{inside_list, form_inside, insides, row_insides, head_insides}
 use Rattle.bz_hosts.proofs.Texts.{Texts, InHost, first_texts}
@@ -31,7 +31,7 @@ use Rattle.bz_hosts.proofs.Nodes.{cut_regions, head_of, body_of, cut_size, node_
 row_hosts : (kind : Kind) → frame kind ≡ row → (xs : List Part) → inside_expr (plain (seen_node row kind (map seen xs))) ≡ insides xs
 row_hosts kind e xs =
     let es : List Expr = row_exprs (is_binary kind) false false (map seen xs) in
-    let form : Form = record { kind = kind; parts = es; seq = record { items = []; end_ = []; split = false }; open_ = is_comprehension kind && is_open (map seen xs); comments = no_comments } in
+    let form : Form = record { kind = kind; parts = es; seq = record { items = []; end = []; split = false }; open_break = is_comprehension kind && is_open (map seen xs); comments = no_comments } in
     form_inside form ∙ (ap (λ (g : Frame). by_frame g (flat_map inside_expr es) [] (ended [])) e ∙ row_insides (is_binary kind) false false xs)
 
 bracket_hosts : (kind : Kind) (opener closer : ℕ) → frame kind ≡ sequence opener closer → (xs : List Part) →
@@ -41,7 +41,7 @@ bracket_hosts kind opener closer e xs =
     let body : List Seen = drop (suc n) (map seen xs) in
     let found : List Expr × List (List ℕ) = items_in (all_in (first_seen_gap body)) body in
     let es : List Expr = map plain (take n (map seen xs)) in
-    let form : Form = record { kind = kind; parts = es; seq = record { items = found.0; end_ = found.1; split = is_split body }; open_ = false; comments = no_comments } in
+    let form : Form = record { kind = kind; parts = es; seq = record { items = found.0; end = found.1; split = is_split body }; open_break = false; comments = no_comments } in
     form_inside form
     ∙ (ap (λ (g : Frame). by_frame g (flat_map inside_expr es) (inside_list found.0) (ended found.1)) e
     ∙ (ap (λ (ys : List Seen). flat_map inside_expr (map plain ys) ++ sequence_hosts (all_in (first_seen_gap body)) body) (take-map seen n xs)
@@ -51,17 +51,17 @@ bracket_hosts kind opener closer e xs =
 module _ (all : List Region) (h b e n : ℕ) (under : h ≤ n) where
   body_case : (head : List Part) (l : Leaf) (body : List Part) → Alternating s.comma_mark body → AllByRecursion Regions head → AllByRecursion Regions body → AllByRecursion (InHost all) head → AllByRecursion (InHost all) body →
       SeesAt all (Some (host h b e)) (suc n) (suc (n + sizes (map measured head)) + sizes (map measured body)) (cut_regions n head body) →
-      Texts all h n (suc (n + sizes (map measured head)) + sizes (map measured body)) (behind_parts n (head ++ p.Leaf l ∷ body)) (loose_in (map seen (head ++ p.Leaf l ∷ []))) (cut_regions n head body)
+      Texts all h n (suc (n + sizes (map measured head)) + sizes (map measured body)) (after_parts n (head ++ p.Leaf l ∷ body)) (loose_in (map seen (head ++ p.Leaf l ∷ []))) (cut_regions n head body)
       (insides head ++ sequence_hosts (all_in (first_seen_gap (map seen body))) (map seen body))
   body_case head l [] a r r' i i' v = absurd a
   body_case head l (x ∷ xs) a r r' i i' v = cut_texts all h b e n head l x xs under a r r' i i' v
 
-  node_texts : (kind : Kind) (f : Frame) → frame kind ≡ f → (xs : List Part) → Fits IsSort (shape kind) xs → AllByRecursion Regions xs → AllByRecursion (InHost all) xs →
+  node_texts : (kind : Kind) (f : Frame) → frame kind ≡ f → (xs : List Part) → Fits IsNonterminal (shape kind) xs → AllByRecursion Regions xs → AllByRecursion (InHost all) xs →
       SeesAt all (Some (host h b e)) (suc n) (n + sizes (map measured xs)) (in_node f kind n (map measured xs)) →
-      Texts all h n (n + sizes (map measured xs)) (behind_parts n xs) (seen_node f kind (map seen xs)).loose (in_node f kind n (map measured xs)) (inside_expr (plain (seen_node f kind (map seen xs))))
+      Texts all h n (n + sizes (map measured xs)) (after_parts n xs) (seen_node f kind (map seen xs)).loose (in_node f kind n (map measured xs)) (inside_expr (plain (seen_node f kind (map seen xs))))
   node_texts kind row d xs fits r i v =
       let up : ℕ = n + sizes (map measured xs) in
-      subst (λ (z : List Hosted). Texts all h n up (behind_parts n xs) (loose_in (map seen xs)) (in_node row kind n (map measured xs)) z) (sym (row_hosts kind d xs)) (first_texts all h b e n up xs under refl r i v)
+      subst (λ (z : List Hosted). Texts all h n up (after_parts n xs) (loose_in (map seen xs)) (in_node row kind n (map measured xs)) z) (sym (row_hosts kind d xs)) (first_texts all h b e n up xs under refl r i v)
   node_texts kind (sequence opener closer) d xs fits r i v =
       let c : Cut kind xs = sequence_cut kind opener closer xs d fits in
       let head : List Part = head_of kind xs c in
@@ -73,14 +73,14 @@ module _ (all : List Region) (h b e n : ℕ) (under : h ≤ n) where
       let there : rs ≡ cut = node_cut kind xs c opener closer n in
       let w = parted kind xs c Regions r in
       let w' = parted kind xs c (InHost all) i in
-      let end_ : n + sizes (map measured xs) ≡ suc (n + sizes (map measured head)) + sizes (map measured body) = cut_size kind xs c n in
+      let end : n + sizes (map measured xs) ≡ suc (n + sizes (map measured head)) + sizes (map measured body) = cut_size kind xs c n in
       let sees : SeesAt all (Some (host h b e)) (suc n) (suc (n + sizes (map measured head)) + sizes (map measured body)) cut =
-      subst (λ (z : List Region). SeesAt all (Some (host h b e)) (suc n) (suc (n + sizes (map measured head)) + sizes (map measured body)) z) there (subst (λ (z : ℕ). SeesAt all (Some (host h b e)) (suc n) z rs) end_ v) in
+      subst (λ (z : List Region). SeesAt all (Some (host h b e)) (suc n) (suc (n + sizes (map measured head)) + sizes (map measured body)) z) there (subst (λ (z : ℕ). SeesAt all (Some (host h b e)) (suc n) z rs) end v) in
       let loose_there : loose_in (map seen (head ++ p.Leaf c.opener ∷ [])) ≡ seen_loose = ap (λ (ys : List Part). loose_in (map seen ys)) (sym c.front) ∙ ap loose_in (sym (take-map seen (suc (lead kind)) xs)) in
-      subst (λ (z : ℕ). Texts all h n z (behind_parts n xs) seen_loose rs hosts_there) (sym end_)
-      (same_texts all h n (suc (n + sizes (map measured head)) + sizes (map measured body)) (behind_parts n (head ++ p.Leaf c.opener ∷ body)) (behind_parts n xs) (loose_in (map seen (head ++ p.Leaf c.opener ∷ []))) seen_loose cut rs
+      subst (λ (z : ℕ). Texts all h n z (after_parts n xs) seen_loose rs hosts_there) (sym end)
+      (same_texts all h n (suc (n + sizes (map measured head)) + sizes (map measured body)) (after_parts n (head ++ p.Leaf c.opener ∷ body)) (after_parts n xs) (loose_in (map seen (head ++ p.Leaf c.opener ∷ []))) seen_loose cut rs
       (insides head ++ sequence_hosts (all_in (first_seen_gap (map seen body))) (map seen body)) hosts_there
-      (ap (behind_parts n) (sym c.parts)) loose_there (sym there) (sym (bracket_hosts kind opener closer d xs))
+      (ap (after_parts n) (sym c.parts)) loose_there (sym there) (sym (bracket_hosts kind opener closer d xs))
       (body_case head c.opener body c.alternating w.0 w.1 w'.0 w'.1 sees))
 
 -- ---- parts of a legal tree
@@ -91,12 +91,12 @@ mutual
   part_texts all (Node' kind z r) g h b e n under v =
       let xs : List Part = items-the_row-Part _ r in
       let f : Frame = frame kind in
-      let comments : comments_behind n (leaves_row r) ≡ behind_parts n xs = ap (comments_behind n) (leaves_rows _ r) ∙ parts_behind n xs (row_solid _ r g.1) in
-      subst (λ (ms : List Measured). SeesAt all (Some (host h b e)) (suc n) (n + sizes ms) (in_node f kind n ms) → Texts all h n (n + sizes ms) (comments_behind n (leaves_row r)) (seen_node f kind (seen_row r)).loose
+      let comments : comments_after n (leaves_row r) ≡ after_parts n xs = ap (comments_after n) (leaves_rows _ r) ∙ parts_after n xs (row_solid _ r g.1) in
+      subst (λ (ms : List Measured). SeesAt all (Some (host h b e)) (suc n) (n + sizes ms) (in_node f kind n ms) → Texts all h n (n + sizes ms) (comments_after n (leaves_row r)) (seen_node f kind (seen_row r)).loose
       (in_node f kind n ms) (inside_expr (plain (seen_node f kind (seen_row r)))))
       (sym (measured_rows _ r))
       (λ v'. subst (λ (cs : List Comment). Texts all h n (n + sizes (map measured xs)) cs (seen_node f kind (seen_row r)).loose (in_node f kind n (map measured xs)) (inside_expr (plain (seen_node f kind (seen_row r))))) (sym comments)
-      (subst (λ (ss : List Seen). Texts all h n (n + sizes (map measured xs)) (behind_parts n xs) (seen_node f kind ss).loose (in_node f kind n (map measured xs)) (inside_expr (plain (seen_node f kind ss)))) (sym (seen_rows _ r))
+      (subst (λ (ss : List Seen). Texts all h n (n + sizes (map measured xs)) (after_parts n xs) (seen_node f kind ss).loose (in_node f kind n (map measured xs)) (inside_expr (plain (seen_node f kind ss)))) (sym (seen_rows _ r))
       (node_texts all h b e n under kind f refl xs g.0 (row_regions _ r g.1) (row_in_host all _ r g.1) v')))
       v
 

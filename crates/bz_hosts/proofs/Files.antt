@@ -9,10 +9,10 @@ use Rattle.bz_tree.specs.declared.kind.Kind.TheVariants as k
 use Rattle.bz_tree.specs.declared.tree.Part.{Part, Row_of-Part, Node', items-the_row-Part}
 use Rattle.bz_tree.specs.declared.tree.Part.TheVariants as p
 use Rattle.bz_tree.specs.Shapes as s
-use Rattle.bz_tree.specs.Shapes.{Fits, Several, shape, tok, done, sort_has_kind}
+use Rattle.bz_tree.specs.Shapes.{Fits, Several, shape, tok, done, nonterminal_has_kind}
 use Rattle.bz_tree.specs.Spell.{leaves_part, leaves_row, leaves_of}
-use Rattle.bz_tree.specs.Legal.{IsSort, LegalPart, LegalRow}
-use Rattle.bz_tree.specs.Spots.{Begins, behind_node, Stands, AtRow, AtParts}
+use Rattle.bz_tree.specs.Legal.{IsNonterminal, LegalPart, LegalRow}
+use Rattle.bz_tree.specs.Spots.{Begins, after_node, Stands, AtRow, AtParts}
 use Rattle.bz_tree.proofs.Balance.{no_such, parts_of_row}
 use Rattle.bz_tree.proofs.Numbers.{same_kind}
 use Rattle.bz_value.specs.Comments.{HostComments}
@@ -25,9 +25,9 @@ use Rattle.bz_view.proofs.SeenParts.{seen_rows, node_gap, comments_made}
 use Rattle.bz_view.proofs.QuietGaps.{Quiet, Statements, statements_quiet, row_legal}
 use Rattle.bz_hosts.specs.Hosts.{Region, Comment, comments_at, comments_from, Measured, sizes, measured, measured_row, hosts_from, in_line, regions_from, CommentPlace, outside, texts_at, Hosted, block, hosted_at, hosted_by, hosts_alone, with_group, hosted_in, inside_expr, inside_item}
 use Rattle.bz_hosts.specs.Laws.{HostsByPlace}
-use Rattle.bz_hosts.proofs.Around.{AllInside, all_wider, Sees, SeesAt, sees_behind, sees_before}
+use Rattle.bz_hosts.proofs.Around.{AllInside, all_wider, Sees, SeesAt, sees_after, sees_before}
 use Rattle.bz_hosts.proofs.Gathered.{key, pick_other, GapPlaces, texts_joined, gap_all}
-use Rattle.bz_hosts.proofs.Parts.{size, measured_rows, leaves_rows, size_leaves, Solid, some_leaf, part_solid, comments_behind, inner, in_parts, behind_parts, parts_from, parts_behind}
+use Rattle.bz_hosts.proofs.Parts.{size, measured_rows, leaves_rows, size_leaves, Solid, some_leaf, part_solid, comments_after, inner, in_parts, after_parts, parts_from, parts_after}
 use Rattle.bz_hosts.proofs.Alternating.{Alternating, inside_joined, hosts_inside}
 use Rattle.bz_hosts.proofs.Insides.{inside_made}
 use Rattle.bz_hosts.proofs.Cuts.{listed_alternating}
@@ -35,7 +35,7 @@ use Rattle.bz_hosts.proofs.Nodes.{row_regions, row_solid}
 use Rattle.bz_hosts.proofs.Claim.{row_in_host}
 use Rattle.bz_hosts.proofs.Sequences.{From}
 use Rattle.bz_hosts.proofs.Statements.{LineTexts, line_texts}
-use Rattle.bz_hosts.proofs.Walked.{gap_of, last_gap, walked, last_behind, LeafLast, by_number}
+use Rattle.bz_hosts.proofs.Walked.{gap_of, last_gap, walked, last_after, LeafLast, by_number}
 
 -- ---- comment lines
 
@@ -63,17 +63,17 @@ group_above group (x ∷ y ∷ z ∷ u ∷ xs) = statement_group group None x (f
 -- ---- the last gap of a line
 
 last_further : (ks ls ms : List Leaf) (m : Leaf) → ms ≡ m ∷ ls → last_gap (ks ++ ms) ≡ last_gap ms
-last_further ks ls ms m e = rw e (last_behind ks m ls)
+last_further ks ls ms m e = rw e (last_after ks m ls)
 
 last_same : (separators : List s.Terminal) (xs : List Part) → Alternating separators xs → AllByRecursion Solid xs → last_gap (flat_map leaves_part xs) ≡ v.last_gap (map seen xs)
 last_same separators [] a h = absurd a
 last_same separators (p.Leaf l ∷ []) a h = refl
 last_same separators (Node' kind n r ∷ []) a h = absurd a
-last_same separators (x ∷ p.Leaf l ∷ []) a h = last_behind (leaves_part x) l []
+last_same separators (x ∷ p.Leaf l ∷ []) a h = last_after (leaves_part x) l []
 last_same separators (x ∷ Node' kind n r ∷ []) a h = absurd a.1
 last_same separators (x ∷ p.Leaf l ∷ z ∷ xs) a h =
     let rest : List Leaf = flat_map leaves_part xs in
-    last_behind (leaves_part x) l (leaves_part z ++ rest)
+    last_after (leaves_part x) l (leaves_part z ++ rest)
     ∙ (last_further (l ∷ []) (h.1.1.0.rest ++ rest) (leaves_part z ++ rest) h.1.1.0.first (ap (λ (ls : List Leaf). ls ++ rest) h.1.1.0.leaves) ∙ last_same separators (z ∷ xs) a.2 h.1.1)
 last_same separators (x ∷ Node' kind n r ∷ z ∷ xs) a h = absurd a.1
 
@@ -83,7 +83,7 @@ first_gap_of ls l ms gap e g = rw (e, g) refl
 -- ---- the file
 
 abbrev LinesOf : List Part → Type 0
-LinesOf xs = Several (IsSort s.line) (Fits IsSort (tok s.end done)) xs
+LinesOf xs = Several (IsNonterminal s.line) (Fits IsNonterminal (tok s.end done)) xs
 
 -- a gap in no statement, and after none
 gap_outside : (all : List Region) (m hi : ℕ) → Sees all m None hi [] → GapPlaces all m outside outside
@@ -102,15 +102,15 @@ record LineIn (x : Part) : Type 0 where
   some : 0 < size x
   within : (n : ℕ) → AllInside n (n + size x) (in_line n x)
 
-statements_of : (kind : Kind) (ys : List Part) → sort_has_kind s.line kind ≡ true → Fits IsSort (shape kind) ys → Statements ys
+statements_of : (kind : Kind) (ys : List Part) → nonterminal_has_kind s.line kind ≡ true → Fits IsNonterminal (shape kind) ys → Statements ys
 statements_of kind ys h g =
     let e : kind ≡ k.Line = same_kind kind k.Line (eqb-true _ _ h) in
-    subst (λ kd. Fits IsSort (shape kd) ys) e g
+    subst (λ kd. Fits IsNonterminal (shape kd) ys) e g
 
 line_alternating : (ys : List Part) → Statements ys → Alternating s.semicolon ys
 line_alternating ys h = listed_alternating s.semicolon s.newline refl refl refl s.small ys h
 
-line_in : (x : Part) → IsSort s.line x → LegalPart x → LineIn x
+line_in : (x : Part) → IsNonterminal s.line x → LegalPart x → LineIn x
 line_in (p.Leaf l) h g = no_such h
 line_in (Node' kind z r) h g = record {
   some = some_leaf (Node' kind z r) (part_solid (Node' kind z r) g);
@@ -140,15 +140,15 @@ regions_inside n (x ∷ xs) h =
 -- the texts of a line
 line_found : (all : List Region) (n : ℕ) (kind : Kind) (m : _) (r : Row_of-Part m) → Statements (items-the_row-Part m r) → LegalRow r → AtRow Stands Begins Begins r →
     SeesAt all None (suc n) (n + sizes (measured_row r)) (hosts_from s.semicolon n (measured_row r)) →
-    LineTexts all n (n + sizes (measured_row r)) (comments_behind n (leaves_row r)) (hosts_from s.semicolon n (measured_row r)) (statements_in [] (seen_row r))
+    LineTexts all n (n + sizes (measured_row r)) (comments_after n (leaves_row r)) (hosts_from s.semicolon n (measured_row r)) (statements_in [] (seen_row r))
 line_found all n kind m r h g at_ sees =
     let ys : List Part = items-the_row-Part m r in
-    let comments : comments_behind n (leaves_row r) ≡ behind_parts n ys = ap (comments_behind n) (leaves_rows m r) ∙ parts_behind n ys (row_solid m r g) in
+    let comments : comments_after n (leaves_row r) ≡ after_parts n ys = ap (comments_after n) (leaves_rows m r) ∙ parts_after n ys (row_solid m r g) in
     let quiet : Quiet ys = statements_quiet Begins Begins ys refl h (row_legal m r g) (parts_of_row Stands Begins Begins m r at_) in
-    subst (λ (ms : List Measured). SeesAt all None (suc n) (n + sizes ms) (hosts_from s.semicolon n ms) → LineTexts all n (n + sizes ms) (comments_behind n (leaves_row r)) (hosts_from s.semicolon n ms) (statements_in [] (seen_row r)))
+    subst (λ (ms : List Measured). SeesAt all None (suc n) (n + sizes ms) (hosts_from s.semicolon n ms) → LineTexts all n (n + sizes ms) (comments_after n (leaves_row r)) (hosts_from s.semicolon n ms) (statements_in [] (seen_row r)))
     (sym (measured_rows m r))
     (λ sees'. subst (λ (cs : List Comment). LineTexts all n (n + sizes (map measured ys)) cs (hosts_from s.semicolon n (map measured ys)) (statements_in [] (seen_row r))) (sym comments)
-    (subst (λ (ss : List Seen). LineTexts all n (n + sizes (map measured ys)) (behind_parts n ys) (hosts_from s.semicolon n (map measured ys)) (statements_in [] ss)) (sym (seen_rows m r))
+    (subst (λ (ss : List Seen). LineTexts all n (n + sizes (map measured ys)) (after_parts n ys) (hosts_from s.semicolon n (map measured ys)) (statements_in [] ss)) (sym (seen_rows m r))
     (line_texts all n (n + sizes (map measured ys)) ys refl (line_alternating ys h) quiet (row_regions m r g) (row_in_host all m r g) sees')))
     sees
 
@@ -158,7 +158,7 @@ seen_parts (p.Leaf l) = []
 seen_parts (Node' kind m r) = seen_row r
 
 -- a line, and the lines after it
-line_step : (all : List Region) (n up : ℕ) (x : Part) (xs : List Part) → IsSort s.line x → 0 < size x → n + size x ≤ up → GapPlaces all n outside outside →
+line_step : (all : List Region) (n up : ℕ) (x : Part) (xs : List Part) → IsNonterminal s.line x → 0 < size x → n + size x ≤ up → GapPlaces all n outside outside →
     LineTexts all n (n + size x) (inner n x) (in_line n x) (statements_in [] (seen_parts x)) → FileTexts all (n + size x) up xs →
     gap_of (leaves_part x) ≡ first_seen_gap (seen_parts x) → last_gap (leaves_part x) ≡ v.last_gap (seen_parts x) →
     ((group : List Bytes) → with_group group (flat_map inside_item (statements_in [] (seen_parts x))) ≡ flat_map inside_item (statements_in group (seen_parts x))) →
@@ -166,36 +166,36 @@ line_step : (all : List Region) (n up : ℕ) (x : Part) (xs : List Part) → IsS
 line_step all n up (p.Leaf l) xs is some u gap there rest e e' above_it = no_such is
 line_step all n up (Node' kind size_ r) xs is some u gap there rest e e' above_it =
     let line : Part = Node' kind size_ r in
-    let behind_it : ℕ = n + size line in
+    let after_it : ℕ = n + size line in
     let seen_there : List Seen = seen_row r in
     let mine : List Comment = inner n line in
-    let behind : List Comment = in_parts behind_it xs in
-    let told : (q : CommentPlace) → 0 < key q → texts_at all q (in_parts n (line ∷ xs)) ≡ texts_at all q mine ++ texts_at all q behind =
-    λ q d. texts_joined all q (comments_at n (seen line).gap) (mine ++ behind) ∙ (ap (λ (z : List Bytes). z ++ texts_at all q (mine ++ behind)) (outside_none all n (seen line).gap gap q d) ∙ texts_joined all q mine behind) in
+    let following : List Comment = in_parts after_it xs in
+    let collected : (q : CommentPlace) → 0 < key q → texts_at all q (in_parts n (line ∷ xs)) ≡ texts_at all q mine ++ texts_at all q following =
+    λ q d. texts_joined all q (comments_at n (seen line).gap) (mine ++ following) ∙ (ap (λ (z : List Bytes). z ++ texts_at all q (mine ++ following)) (outside_none all n (seen line).gap gap q d) ∙ texts_joined all q mine following) in
     record {
       outer = λ q d o.
-          told q d ∙ (ap (λ (z : List Bytes). z ++ texts_at all q behind) (there.outer q d (λ j. o (j.0, omega (arith, j.1)))) ∙ rest.outer q d (λ j. o (omega (arith, j.0), j.1)));
+          collected q d ∙ (ap (λ (z : List Bytes). z ++ texts_at all q following) (there.outer q d (λ j. o (j.0, omega (arith, j.1)))) ∙ rest.outer q d (λ j. o (omega (arith, j.0), j.1)));
       found = λ cs left f.
           let lines : List GapLine = left ++ lines_of (first_seen_gap seen_there) in
           let before : List Hosted = hosts_alone (all_but_last (groups_of lines)) in
           let group : List Bytes = last_group (groups_of lines) in
           let next : List GapLine = after_first_comment (lines_of (v.last_gap seen_there)) in
-          let len : n + length (leaves_row r) ≡ behind_it = ap (λ (z : ℕ). n + z) (sym (size_leaves line)) in
+          let len : n + length (leaves_row r) ≡ after_it = ap (λ (z : ℕ). n + z) (sym (size_leaves line)) in
           let hosts_there : map (hosted_at all cs) (in_line n line) ≡ flat_map inside_item (statements_in [] seen_there) = there.found cs (λ q j.
           let j0 = j.0 in
           let d : 0 < key q = omega arith in
-          f q (j.0, omega (arith, j.1)) ∙ (told q d ∙ (ap (λ (z : List Bytes). texts_at all q mine ++ z) (rest.outer q d (λ i. omega (arith, i.0, j.1))) ∙ append-nil (texts_at all q mine)))) in
-          let after : walked all cs next behind_it xs ≡ flat_map inside_item (file_items next xs) = rest.found cs next (λ q j.
+          f q (j.0, omega (arith, j.1)) ∙ (collected q d ∙ (ap (λ (z : List Bytes). texts_at all q mine ++ z) (rest.outer q d (λ i. omega (arith, i.0, j.1))) ∙ append-nil (texts_at all q mine)))) in
+          let after : walked all cs next after_it xs ≡ flat_map inside_item (file_items next xs) = rest.found cs next (λ q j.
           let j0 = j.0 in
           let d : 0 < key q = omega arith in
-          f q (omega arith, j.1) ∙ (told q d ∙ ap (λ (z : List Bytes). z ++ texts_at all q behind) (there.outer q d (λ i. omega (arith, i.1, j.0))))) in
+          f q (omega arith, j.1) ∙ (collected q d ∙ ap (λ (z : List Bytes). z ++ texts_at all q following) (there.outer q d (λ i. omega (arith, i.1, j.0))))) in
           let joined : (gap last : Bytes) (place : ℕ) → List Hosted = λ gap last place.
           (hosts_alone (all_but_last (groups_of (left ++ lines_of gap))) ++ with_group (last_group (groups_of (left ++ lines_of gap))) (map (hosted_at all cs) (in_line n line))) ++ walked all cs (after_first_comment (lines_of last)) place xs in
           ap (λ (z : Bytes). joined z (last_gap (leaves_row r)) (n + length (leaves_row r))) e
           ∙ (ap (λ (z : Bytes). joined (first_seen_gap seen_there) z (n + length (leaves_row r))) e'
           ∙ (ap (λ (z : ℕ). joined (first_seen_gap seen_there) (v.last_gap seen_there) z) len
-          ∙ (ap (λ (z : List Hosted). (before ++ with_group group z) ++ walked all cs next behind_it xs) hosts_there
-          ∙ (ap (λ (z : List Hosted). (before ++ z) ++ walked all cs next behind_it xs) (above_it group)
+          ∙ (ap (λ (z : List Hosted). (before ++ with_group group z) ++ walked all cs next after_it xs) hosts_there
+          ∙ (ap (λ (z : List Hosted). (before ++ z) ++ walked all cs next after_it xs) (above_it group)
           ∙ (ap (λ (z : List Hosted). (before ++ flat_map inside_item (statements_in group seen_there)) ++ z) after
           ∙ (ap (λ (z : List Hosted). (z ++ flat_map inside_item (statements_in group seen_there)) ++ flat_map inside_item (file_items next xs)) (sym (blocks_alone (all_but_last (groups_of lines))))
           ∙ (ap (λ (z : List Hosted). z ++ flat_map inside_item (file_items next xs)) (sym (flat_map-append inside_item (blocks (all_but_last (groups_of lines))) (statements_in group seen_there)))
@@ -230,8 +230,8 @@ lines_texts all n up (Node' kind z r ∷ xs) u (inr h) g at_ sees =
     let texts : LineTexts all n m (inner n x) (in_line n x) (statements_in [] (seen_row r)) = line_found all n kind _ r statements g.0.1 at_.0
     (λ q a b. sees_before all q None up m (m + sizes (map measured xs)) m (in_line n x) (regions_from m xs) (regions_inside m xs rest_in) (omega arith) (omega arith) (omega arith)
     (sees q (omega arith) (omega arith))) in
-    let at_rest : AtParts Stands Begins Begins xs = subst (λ kd. AtParts Stands Begins (behind_node kd Begins) xs) e at_.1 in
-    let rest : FileTexts all m up xs = lines_texts all m up xs (omega arith) h.1 g.1 at_rest (λ q a b. sees_behind all q None up n m (in_line n x) (regions_from m xs) (there.within n) a (sees q (omega arith) b)) in
+    let at_rest : AtParts Stands Begins Begins xs = subst (λ kd. AtParts Stands Begins (after_node kd Begins) xs) e at_.1 in
+    let rest : FileTexts all m up xs = lines_texts all m up xs (omega arith) h.1 g.1 at_rest (λ q a b. sees_after all q None up n m (in_line n x) (regions_from m xs) (there.within n) a (sees q (omega arith) b)) in
     let solid : Solid x = part_solid x g.0 in
     let first : gap_of (leaves_row r) ≡ first_seen_gap (seen_row r) = first_gap_of (leaves_row r) solid.first solid.rest (first_seen_gap (seen_row r)) solid.leaves (sym (node_gap kind (seen_row r) (frame kind)) ∙ solid.gap) in
     let last : last_gap (leaves_row r) ≡ v.last_gap (seen_row r) = ap last_gap (leaves_rows _ r) ∙ (last_same s.semicolon ys (line_alternating ys statements) (row_solid _ r g.0.1) ∙ ap v.last_gap (sym (seen_rows _ r))) in
@@ -252,7 +252,7 @@ leaf_last (Node' kind z r ∷ xs) (inr h) = leaf_last xs h.1
 
 pub hosts_by_place : HostsByPlace
 hosts_by_place n h =
-    let fits : Fits IsSort (shape k.File) n.parts = subst (λ kd. Fits IsSort (shape kd) n.parts) h.file.root h.file.shapes.0 in
+    let fits : Fits IsNonterminal (shape k.File) n.parts = subst (λ kd. Fits IsNonterminal (shape kd) n.parts) h.file.root h.file.shapes.0 in
     let all : List Region = regions_from 0 n.parts in
     let cs : List Comment = comments_from 0 (leaves_of n) in
     let solid : AllByRecursion Solid n.parts = all_solid n.parts h.file.shapes.1 in

@@ -30,7 +30,7 @@ place_same outside = refl
 -- ---- texts, where they have this place
 
 abbrev pub pick : CommentPlace → CommentPlace → List Bytes → List Bytes
-pick place asked texts = if same_place place asked then texts else []
+pick place requested texts = if same_place place requested then texts else []
 
 pub pick_same : (p : CommentPlace) (texts : List Bytes) → pick p p texts ≡ texts
 pick_same p texts = rw (place_same p) refl

@@ -29,21 +29,21 @@ items_rows m end_of-Expr = refl
 items_rows m (more_of-Expr x rest) = ap (λ (t : List Hosted). hosted_by (comments_of x) ∷ (inside_expr x ++ t)) (items_rows _ rest)
 
 abbrev parts_in : Expr → (m : Count) × Row_of-Expr m
-parts_in (Form' kind s parts s' items end_ split open_ comments) = (_, parts)
+parts_in (Form' kind s parts s' items end split open_break comments) = (_, parts)
 parts_in (Token t) = (_, end_of-Expr)
 
 abbrev items_in : Expr → (m : Count) × Row_of-Expr m
-items_in (Form' kind s parts s' items end_ split open_ comments) = (_, items)
+items_in (Form' kind s parts s' items end split open_break comments) = (_, items)
 items_in (Token t) = (_, end_of-Expr)
 
-pub form_inside : (f : Form) → inside_expr (e.Form f) ≡ by_frame (frame f.kind) (flat_map inside_expr f.parts) (inside_list f.seq.items) (ended f.seq.end_)
+pub form_inside : (f : Form) → inside_expr (e.Form f) ≡ by_frame (frame f.kind) (flat_map inside_expr f.parts) (inside_list f.seq.items) (ended f.seq.end)
 form_inside f =
     let ps = parts_in (e.Form f) in
     let qs = items_in (e.Form f) in
     let parts : inside_row ps.1 ≡ flat_map inside_expr f.parts = inside_rows ps.0 ps.1 ∙ ap (flat_map inside_expr) (items_hidden-the_row-Expr-0 f.parts) in
     let items : inside_items qs.1 ≡ inside_list f.seq.items = items_rows qs.0 qs.1 ∙ ap inside_list (items_hidden-the_row-Expr-0 f.seq.items) in
-    ap (λ (z : List Hosted). by_frame (frame f.kind) z (inside_items qs.1) (ended f.seq.end_)) parts
-    ∙ ap (λ (z : List Hosted). by_frame (frame f.kind) (flat_map inside_expr f.parts) z (ended f.seq.end_)) items
+    ap (λ (z : List Hosted). by_frame (frame f.kind) z (inside_items qs.1) (ended f.seq.end)) parts
+    ∙ ap (λ (z : List Hosted). by_frame (frame f.kind) (flat_map inside_expr f.parts) z (ended f.seq.end)) items
 
 -- ---- what is made of a part has the same in it for any comments and break
 

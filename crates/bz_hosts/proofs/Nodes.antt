@@ -8,7 +8,7 @@ use Rattle.bz_tree.specs.declared.tree.Part.{Part, Row_of-Part, end_of-Part, mor
 use Rattle.bz_tree.specs.declared.tree.Part.TheVariants as p
 use Rattle.bz_tree.specs.Shapes as s
 use Rattle.bz_tree.specs.Shapes.{Fits, shape}
-use Rattle.bz_tree.specs.Legal.{IsSort, LegalPart, LegalRow}
+use Rattle.bz_tree.specs.Legal.{IsNonterminal, LegalPart, LegalRow}
 use Rattle.bz_value.specs.Frames.{Frame, row, sequence, frame, lead}
 use Rattle.bz_items.specs.Characters.{Bytes}
 use Rattle.bz_value.specs.Gaps.{all_in}
@@ -16,9 +16,9 @@ use Rattle.bz_value.proofs.GapComments.{all_joined}
 use Rattle.bz_view.specs.View.{Seen, seen, plain, loose_in, items_in}
 use Rattle.bz_view.proofs.SeenParts.{all_parted}
 use Rattle.bz_hosts.specs.Hosts.{Region, host, between, Comment, comments_at, Measured, sizes, measured, in_row, in_node, hosts_from, CommentPlace, above, texts_at, Hosted, ended, hosted_at, inside_expr}
-use Rattle.bz_hosts.proofs.Around.{AllInside, all_wider, Sees, SeesAt, sees_behind, sees_before_bracket, sees_in_sequence}
+use Rattle.bz_hosts.proofs.Around.{AllInside, all_wider, Sees, SeesAt, sees_after, sees_before_bracket, sees_in_sequence}
 use Rattle.bz_hosts.proofs.Gathered.{key, pick, pick_other, pick_none, GapPlaces, texts_joined, gap_all}
-use Rattle.bz_hosts.proofs.Parts.{size, measured_rows, Solid, some_leaf, part_solid, inner, in_parts, behind_parts}
+use Rattle.bz_hosts.proofs.Parts.{size, measured_rows, Solid, some_leaf, part_solid, inner, in_parts, after_parts}
 use Rattle.bz_hosts.proofs.Alternating.{Alternating, Regions, inside_joined, hosts_inside}
 use Rattle.bz_hosts.proofs.Insides.{inside_list, insides}
 use Rattle.bz_hosts.proofs.Texts.{Inner, Texts, both_texts, InHost, row_inside, first_texts}
@@ -44,9 +44,9 @@ in_cut n (x ∷ xs) l ys =
     ap (λ (z : List Comment). comments_at n (seen x).gap ++ (inner n x ++ z)) (in_cut m xs l ys ∙ ap (λ (z : ℕ). in_parts m (xs ++ p.Leaf l ∷ []) ++ in_parts z ys) e)
     ∙ regroup (comments_at n (seen x).gap) (inner n x) (in_parts m (xs ++ p.Leaf l ∷ [])) (in_parts (suc (n + sizes (map measured (x ∷ xs)))) ys)
 
-behind_cut : (n : ℕ) (xs : List Part) (l : Leaf) (ys : List Part) → behind_parts n (xs ++ p.Leaf l ∷ ys) ≡ behind_parts n (xs ++ p.Leaf l ∷ []) ++ in_parts (suc (n + sizes (map measured xs))) ys
-behind_cut n [] l ys = let e : n + 1 ≡ suc (n + 0) = omega arith in ap (λ (z : ℕ). in_parts z ys) e
-behind_cut n (x ∷ xs) l ys =
+after_cut : (n : ℕ) (xs : List Part) (l : Leaf) (ys : List Part) → after_parts n (xs ++ p.Leaf l ∷ ys) ≡ after_parts n (xs ++ p.Leaf l ∷ []) ++ in_parts (suc (n + sizes (map measured xs))) ys
+after_cut n [] l ys = let e : n + 1 ≡ suc (n + 0) = omega arith in ap (λ (z : ℕ). in_parts z ys) e
+after_cut n (x ∷ xs) l ys =
     let m : ℕ = n + size x in
     let e : suc (m + sizes (map measured xs)) ≡ suc (n + sizes (map measured (x ∷ xs))) = omega arith in
     ap (λ (z : List Comment). inner n x ++ z) (in_cut m xs l ys ∙ ap (λ (z : ℕ). in_parts m (xs ++ p.Leaf l ∷ []) ++ in_parts z ys) e)
@@ -68,8 +68,8 @@ leaf_regions l = record { some = omega arith; within = λ n. tt }
 -- a sequence after its head, at its opening bracket
 abbrev pub cut_regions : ℕ → List Part → List Part → List Region
 cut_regions n head body =
-    let open_ : ℕ = n + sizes (map measured head) in
-    in_row n (map measured head) ++ between open_ (suc open_ + sizes (map measured body)) ∷ hosts_from s.comma_mark (suc open_) (map measured body)
+    let open_break : ℕ = n + sizes (map measured head) in
+    in_row n (map measured head) ++ between open_break (suc open_break + sizes (map measured body)) ∷ hosts_from s.comma_mark (suc open_break) (map measured body)
 
 cut_inside : (n : ℕ) (head body : List Part) → Alternating s.comma_mark body → AllByRecursion Regions head → AllByRecursion Regions body → AllInside n (suc (n + sizes (map measured head)) + sizes (map measured body)) (cut_regions n head body)
 cut_inside n head body a r r' =
@@ -103,7 +103,7 @@ module _ (kind : Kind) (xs : List Part) (c : Cut kind xs) where
   pub parted : (P : Part → Type 0) → AllByRecursion P xs → AllByRecursion P head_of × AllByRecursion P body_of
   parted P h = let w = all_parted P head_of (p.Leaf c.opener ∷ body_of) (subst (AllByRecursion P) c.parts h) in (w.0, w.1.1)
 
-node_inside : (kind : Kind) (f : Frame) → frame kind ≡ f → (xs : List Part) → Fits IsSort (shape kind) xs → AllByRecursion Regions xs → (n : ℕ) → AllInside n (n + sizes (map measured xs)) (in_node f kind n (map measured xs))
+node_inside : (kind : Kind) (f : Frame) → frame kind ≡ f → (xs : List Part) → Fits IsNonterminal (shape kind) xs → AllByRecursion Regions xs → (n : ℕ) → AllInside n (n + sizes (map measured xs)) (in_node f kind n (map measured xs))
 node_inside kind row e xs h r n = row_inside n xs r
 node_inside kind (sequence opener closer) e xs h r n =
     let c : Cut kind xs = sequence_cut kind opener closer xs e h in
@@ -155,7 +155,7 @@ module _ (all : List Region) (h b e n : ℕ) (head : List Part) (l : Leaf) (x : 
   items_within = hosts_inside s.comma_mark (suc at_open) (x ∷ xs) a r'
 
   module _ (sees : SeesAt all (Some (host h b e)) (suc n) at_end (cut_regions n head (x ∷ xs))) where
-    head_texts : Texts all h n (suc at_open) (behind_parts n (head ++ p.Leaf l ∷ [])) (loose_in (map seen (head ++ p.Leaf l ∷ []))) (in_row n (map measured (head ++ p.Leaf l ∷ []))) (insides (head ++ p.Leaf l ∷ []))
+    head_texts : Texts all h n (suc at_open) (after_parts n (head ++ p.Leaf l ∷ [])) (loose_in (map seen (head ++ p.Leaf l ∷ []))) (in_row n (map measured (head ++ p.Leaf l ∷ []))) (insides (head ++ p.Leaf l ∷ []))
     head_texts =
         let token : AllByRecursion Regions (p.Leaf l ∷ []) = (leaf_regions l, tt) in
         let token' : AllByRecursion (InHost all) (p.Leaf l ∷ []) = (leaf_texts all l, tt) in
@@ -168,7 +168,7 @@ module _ (all : List Region) (h b e n : ℕ) (head : List Part) (l : Leaf) (x : 
     inside_sees : SeesAt all (Some (between at_open at_end)) (suc at_open) at_end items_there
     inside_sees q v w =
         sees_in_sequence all q (Some (host h b e)) at_end at_open at_end items_there (omega arith) w
-        (sees_behind all q (Some (host h b e)) at_end n at_open (in_row n (map measured head)) (between at_open at_end ∷ items_there) (row_inside n head r) (omega arith) (sees q (omega arith) w))
+        (sees_after all q (Some (host h b e)) at_end n at_open (in_row n (map measured head)) (between at_open at_end ∷ items_there) (row_inside n head r) (omega arith) (sees q (omega arith) w))
 
     abbrev first_at : CommentPlace
     first_at = first_place at_open (suc at_open) (x ∷ xs)
@@ -187,26 +187,26 @@ module _ (all : List Region) (h b e n : ℕ) (head : List Part) (l : Leaf) (x : 
     sequence_texts =
         let some = r'.0.some in
         let gap : Bytes = (seen x).gap in
-        let behind : List Comment = behind_parts (suc at_open) (x ∷ xs) in
+        let following : List Comment = after_parts (suc at_open) (x ∷ xs) in
         let body : BodyTexts all at_open at_end (suc at_open) (x ∷ xs) = body_texts all at_open at_end (suc at_open) (x ∷ xs) (omega arith) refl a r' i' (λ q v w. inside_sees q (omega arith) w) in
-        let told : (q : CommentPlace) → texts_at all q (in_parts (suc at_open) (x ∷ xs)) ≡ pick first_at q (all_in gap) ++ texts_at all q behind =
-        λ q. texts_joined all q (comments_at (suc at_open) gap) behind ∙ ap (λ (z : List Bytes). z ++ texts_at all q behind) (gap_all all q first_at (suc at_open) gap first_gap_at) in
+        let collected : (q : CommentPlace) → texts_at all q (in_parts (suc at_open) (x ∷ xs)) ≡ pick first_at q (all_in gap) ++ texts_at all q following =
+        λ q. texts_joined all q (comments_at (suc at_open) gap) following ∙ ap (λ (z : List Bytes). z ++ texts_at all q following) (gap_all all q first_at (suc at_open) gap first_gap_at) in
         record {
           outer = λ q o.
-              told q ∙ (ap (λ (z : List Bytes). z ++ texts_at all q behind) (pick_other first_at q (all_in gap) (λ d. o (mine_inner first_at q d (first_mine at_open (suc at_open) at_end (x ∷ xs) (omega arith)))))
+              collected q ∙ (ap (λ (z : List Bytes). z ++ texts_at all q following) (pick_other first_at q (all_in gap) (λ d. o (mine_inner first_at q d (first_mine at_open (suc at_open) at_end (x ∷ xs) (omega arith)))))
               ∙ (body.outer q (λ j. o (mine_inner q q refl j)) ∙ sym (pick_none (above h) q)));
           hosts = λ cs f.
-              let w = body.found cs (all_in gap) (λ q j. f q (mine_inner q q refl j) ∙ told q) in
+              let w = body.found cs (all_in gap) (λ q j. f q (mine_inner q q refl j) ∙ collected q) in
               ap (λ (z : List Bytes). ended z ∷ map (hosted_at all cs) items_there) w.1 ∙ ap (λ (z : List Hosted). ended (items_in (all_in gap) (map seen (x ∷ xs))).1 ∷ z) w.0;
         }
 
-    pub cut_texts : Texts all h n at_end (behind_parts n (head ++ p.Leaf l ∷ x ∷ xs)) (loose_in (map seen (head ++ p.Leaf l ∷ []))) (cut_regions n head (x ∷ xs)) (insides head ++ sequence_hosts (all_in (seen x).gap) (map seen (x ∷ xs)))
+    pub cut_texts : Texts all h n at_end (after_parts n (head ++ p.Leaf l ∷ x ∷ xs)) (loose_in (map seen (head ++ p.Leaf l ∷ []))) (cut_regions n head (x ∷ xs)) (insides head ++ sequence_hosts (all_in (seen x).gap) (map seen (x ∷ xs)))
     cut_texts =
         let front : List Part = head ++ p.Leaf l ∷ [] in
         let items : List Hosted = sequence_hosts (all_in (seen x).gap) (map seen (x ∷ xs)) in
         let rs : List Region = between at_open at_end ∷ items_there in
-        same_texts all h n at_end (behind_parts n front ++ in_parts (suc at_open) (x ∷ xs)) (behind_parts n (head ++ p.Leaf l ∷ x ∷ xs)) (loose_in (map seen front) ++ []) (loose_in (map seen front))
+        same_texts all h n at_end (after_parts n front ++ in_parts (suc at_open) (x ∷ xs)) (after_parts n (head ++ p.Leaf l ∷ x ∷ xs)) (loose_in (map seen front) ++ []) (loose_in (map seen front))
         (in_row n (map measured front) ++ rs) (cut_regions n head (x ∷ xs)) (insides front ++ items) (insides head ++ items)
-        (sym (behind_cut n head l (x ∷ xs))) (append-nil (loose_in (map seen front))) (ap (λ (z : List Region). z ++ rs) (row_cut n head l)) (ap (λ (z : List Hosted). z ++ items) (insides_cut head l))
-        (both_texts all h n (suc at_open) at_open at_end (behind_parts n front) (in_parts (suc at_open) (x ∷ xs)) (loose_in (map seen front)) [] (in_row n (map measured front)) rs (insides front) items under
+        (sym (after_cut n head l (x ∷ xs))) (append-nil (loose_in (map seen front))) (ap (λ (z : List Region). z ++ rs) (row_cut n head l)) (ap (λ (z : List Hosted). z ++ items) (insides_cut head l))
+        (both_texts all h n (suc at_open) at_open at_end (after_parts n front) (in_parts (suc at_open) (x ∷ xs)) (loose_in (map seen front)) [] (in_row n (map measured front)) rs (insides front) items under
         (omega arith) (omega arith) (omega arith) head_texts sequence_texts)

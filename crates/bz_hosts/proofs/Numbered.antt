@@ -21,9 +21,9 @@ swap true b c = refl
 swap false true c = refl
 swap false false c = refl
 
-reaches_behind : (x : GapLine) (ls : List GapLine) (n : ℕ) → reaches (x ∷ ls) (suc n) ≡ (has x.comment && reaches ls n)
-reaches_behind x ls zero = refl
-reaches_behind x ls (suc n) = ap (λ b. has (comment_on ls n) && b) (reaches_behind x ls n) ∙ swap (has (comment_on ls n)) (has x.comment) (reaches ls n)
+reaches_after : (x : GapLine) (ls : List GapLine) (n : ℕ) → reaches (x ∷ ls) (suc n) ≡ (has x.comment && reaches ls n)
+reaches_after x ls zero = refl
+reaches_after x ls (suc n) = ap (λ b. has (comment_on ls n) && b) (reaches_after x ls n) ∙ swap (has (comment_on ls n)) (has x.comment) (reaches ls n)
 
 first_above : (c : Option Bytes) → with_last [] c ≡ as_list c ++ []
 first_above None = refl
@@ -33,31 +33,31 @@ next_above : (c : Option Bytes) (r : Bool) (top a b : List Bytes) → a ≡ (if 
 next_above None r top a b e = refl
 next_above (Some text) r top a b e = ap (λ (z : List Bytes). z ++ text ∷ []) e ∙ append_assoc (if r then top else []) b (text ∷ [])
 
-above_behind : (x : GapLine) (ls : List GapLine) (n : ℕ) → right_above (x ∷ ls) (suc n) ≡ (if reaches ls n then as_list x.comment else []) ++ right_above ls n
-above_behind x ls zero = first_above x.comment
-above_behind x ls (suc n) = next_above (comment_on ls n) (reaches ls n) (as_list x.comment) (right_above (x ∷ ls) (suc n)) (right_above ls n) (above_behind x ls n)
+above_after : (x : GapLine) (ls : List GapLine) (n : ℕ) → right_above (x ∷ ls) (suc n) ≡ (if reaches ls n then as_list x.comment else []) ++ right_above ls n
+above_after x ls zero = first_above x.comment
+above_after x ls (suc n) = next_above (comment_on ls n) (reaches ls n) (as_list x.comment) (right_above (x ∷ ls) (suc n)) (right_above ls n) (above_after x ls n)
 
 -- ---- the groups, and whether each reaches up to the first line
 
-abbrev Told : Type 0
-Told = Bool × List Bytes
+abbrev Collected : Type 0
+Collected = Bool × List Bytes
 
-abbrev told : List GapLine → ℕ → Told
-told ls n = (reaches ls n, right_above ls n)
+abbrev collected : List GapLine → ℕ → Collected
+collected ls n = (reaches ls n, right_above ls n)
 
-abbrev more : Option Bytes → Told → Told
+abbrev more : Option Bytes → Collected → Collected
 more c t = (has c && t.0, (if t.0 then as_list c else []) ++ t.1)
 
-told_behind : (x : GapLine) (ls : List GapLine) (n : ℕ) → told (x ∷ ls) (suc n) ≡ more x.comment (told ls n)
-told_behind x ls n = ap (λ (b : Bool). let t : Told = (b, right_above (x ∷ ls) (suc n)) in t) (reaches_behind x ls n) ∙ ap (λ (z : List Bytes). let t : Told = (has x.comment && reaches ls n, z) in t) (above_behind x ls n)
+collected_after : (x : GapLine) (ls : List GapLine) (n : ℕ) → collected (x ∷ ls) (suc n) ≡ more x.comment (collected ls n)
+collected_after x ls n = ap (λ (b : Bool). let t : Collected = (b, right_above (x ∷ ls) (suc n)) in t) (reaches_after x ls n) ∙ ap (λ (z : List Bytes). let t : Collected = (has x.comment && reaches ls n, z) in t) (above_after x ls n)
 
 -- the line after each group
 abbrev stops : List GapLine → List ℕ
 stops ls = bare_lines 0 ls ++ length ls ∷ []
 
-all_told : (x : GapLine) (ls : List GapLine) (ns : List ℕ) → map (told (x ∷ ls)) (map (λ n. suc n) ns) ≡ map (more x.comment) (map (told ls) ns)
-all_told x ls [] = refl
-all_told x ls (n ∷ ns) = ap (λ (z : Told). z ∷ map (told (x ∷ ls)) (map (λ n. suc n) ns)) (told_behind x ls n) ∙ ap (λ (z : List Told). more x.comment (told ls n) ∷ z) (all_told x ls ns)
+all_collected : (x : GapLine) (ls : List GapLine) (ns : List ℕ) → map (collected (x ∷ ls)) (map (λ n. suc n) ns) ≡ map (more x.comment) (map (collected ls) ns)
+all_collected x ls [] = refl
+all_collected x ls (n ∷ ns) = ap (λ (z : Collected). z ∷ map (collected (x ∷ ls)) (map (λ n. suc n) ns)) (collected_after x ls n) ∙ ap (λ (z : List Collected). more x.comment (collected ls n) ∷ z) (all_collected x ls ns)
 
 unless_shift : (c : Option Bytes) (n : ℕ) → unless_comment c (suc n) ≡ map (λ n. suc n) (unless_comment c n)
 unless_shift None n = refl
@@ -69,25 +69,25 @@ bare_shift n (x ∷ ls) =
     ap (λ z. z ++ bare_lines (suc (suc n)) ls) (unless_shift x.comment n)
     ∙ (ap (λ z. map (λ n. suc n) (unless_comment x.comment n) ++ z) (bare_shift (suc n) ls) ∙ sym (map-append (λ n. suc n) (unless_comment x.comment n) (bare_lines (suc n) ls)))
 
-stops_behind : (x : GapLine) (ls : List GapLine) → stops (x ∷ ls) ≡ unless_comment x.comment 0 ++ map (λ n. suc n) (stops ls)
-stops_behind x ls =
+stops_after : (x : GapLine) (ls : List GapLine) → stops (x ∷ ls) ≡ unless_comment x.comment 0 ++ map (λ n. suc n) (stops ls)
+stops_after x ls =
     append_assoc (unless_comment x.comment 0) (bare_lines 1 ls) (suc (length ls) ∷ [])
     ∙ ap (λ z. unless_comment x.comment 0 ++ z) (ap (λ z. z ++ suc (length ls) ∷ []) (bare_shift 0 ls) ∙ sym (map-append (λ n. suc n) (bare_lines 0 ls) (length ls ∷ [])))
 
-abbrev unmarked : List Bytes → Told
+abbrev unmarked : List Bytes → Collected
 unmarked group = (false, group)
 
-abbrev marked : List (List Bytes) → List Told
+abbrev marked : List (List Bytes) → List Collected
 marked [] = []
-marked (group ∷ groups) = let t : Told = (true, group) in t ∷ map unmarked groups
+marked (group ∷ groups) = let t : Collected = (true, group) in t ∷ map unmarked groups
 
 none_more : (groups : List (List Bytes)) → map (more None) (map unmarked groups) ≡ map unmarked groups
 none_more [] = refl
-none_more (group ∷ groups) = ap (λ (z : List Told). unmarked group ∷ z) (none_more groups)
+none_more (group ∷ groups) = ap (λ (z : List Collected). unmarked group ∷ z) (none_more groups)
 
 some_more : (text : Bytes) (groups : List (List Bytes)) → map (more (Some text)) (map unmarked groups) ≡ map unmarked groups
 some_more text [] = refl
-some_more text (group ∷ groups) = ap (λ (z : List Told). unmarked group ∷ z) (some_more text groups)
+some_more text (group ∷ groups) = ap (λ (z : List Collected). unmarked group ∷ z) (some_more text groups)
 
 -- there is a group, if an empty one
 record HasGroup (groups : List (List Bytes)) : Type 0 where
@@ -105,29 +105,29 @@ has_group [] = record { group = []; others = []; is = refl }
 has_group (x ∷ ls) = before_has x.comment (groups_of ls)
 
 marked_before : (x : GapLine) (ls : List GapLine) (c : Option Bytes) (group : List Bytes) (groups : List (List Bytes)) →
-    map (told (x ∷ ls)) (unless_comment c 0) ++ map (more c) (marked (group ∷ groups)) ≡ marked (before_groups c (group ∷ groups))
-marked_before x ls None group groups = ap (λ (z : List Told). told (x ∷ ls) 0 ∷ unmarked group ∷ z) (none_more groups)
-marked_before x ls (Some text) group groups = ap (λ (z : List Told). let t : Told = (true, text ∷ group) in t ∷ z) (some_more text groups)
+    map (collected (x ∷ ls)) (unless_comment c 0) ++ map (more c) (marked (group ∷ groups)) ≡ marked (before_groups c (group ∷ groups))
+marked_before x ls None group groups = ap (λ (z : List Collected). collected (x ∷ ls) 0 ∷ unmarked group ∷ z) (none_more groups)
+marked_before x ls (Some text) group groups = ap (λ (z : List Collected). let t : Collected = (true, text ∷ group) in t ∷ z) (some_more text groups)
 
-groups_told : (ls : List GapLine) → map (told ls) (stops ls) ≡ marked (groups_of ls)
-groups_told [] = refl
-groups_told (x ∷ ls) =
+groups_collected : (ls : List GapLine) → map (collected ls) (stops ls) ≡ marked (groups_of ls)
+groups_collected [] = refl
+groups_collected (x ∷ ls) =
     let g : HasGroup (groups_of ls) = has_group ls in
-    ap (map (told (x ∷ ls))) (stops_behind x ls)
-    ∙ (map-append (told (x ∷ ls)) (unless_comment x.comment 0) (map (λ n. suc n) (stops ls))
-    ∙ (ap (λ (z : List Told). map (told (x ∷ ls)) (unless_comment x.comment 0) ++ z) (all_told x ls (stops ls) ∙ ap (map (more x.comment)) (groups_told ls ∙ ap marked g.is))
+    ap (map (collected (x ∷ ls))) (stops_after x ls)
+    ∙ (map-append (collected (x ∷ ls)) (unless_comment x.comment 0) (map (λ n. suc n) (stops ls))
+    ∙ (ap (λ (z : List Collected). map (collected (x ∷ ls)) (unless_comment x.comment 0) ++ z) (all_collected x ls (stops ls) ∙ ap (map (more x.comment)) (groups_collected ls ∙ ap marked g.is))
     ∙ (marked_before x ls x.comment g.group g.others ∙ ap (λ (z : List (List Bytes)). marked (before_groups x.comment z)) (sym g.is))))
 
 -- ---- the groups alone
 
-texts : List Told → List (List Bytes)
+texts : List Collected → List (List Bytes)
 texts [] = []
 texts (t ∷ ts) = t.1 ∷ texts ts
 
-texts_told : (ls : List GapLine) (ns : List ℕ) → texts (map (told ls) ns) ≡ map (right_above ls) ns
+texts_collected : (ls : List GapLine) (ns : List ℕ) → texts (map (collected ls) ns) ≡ map (right_above ls) ns
 unfolding texts
-texts_told ls [] = refl
-texts_told ls (n ∷ ns) = ap (λ (z : List (List Bytes)). right_above ls n ∷ z) (texts_told ls ns)
+texts_collected ls [] = refl
+texts_collected ls (n ∷ ns) = ap (λ (z : List (List Bytes)). right_above ls n ∷ z) (texts_collected ls ns)
 
 texts_unmarked : (groups : List (List Bytes)) → texts (map unmarked groups) ≡ groups
 unfolding texts
@@ -140,7 +140,7 @@ texts_marked [] = refl
 texts_marked (group ∷ groups) = ap (λ (z : List (List Bytes)). group ∷ z) (texts_unmarked groups)
 
 pub all_numbered : (ls : List GapLine) → groups_of ls ≡ map (right_above ls) (bare_lines 0 ls ++ length ls ∷ [])
-all_numbered ls = sym (texts_marked (groups_of ls)) ∙ (ap texts (sym (groups_told ls)) ∙ texts_told ls (stops ls))
+all_numbered ls = sym (texts_marked (groups_of ls)) ∙ (ap texts (sym (groups_collected ls)) ∙ texts_collected ls (stops ls))
 
 -- ---- the last, and the others
 

@@ -8,7 +8,7 @@ use Rattle.bz_tree.specs.declared.tree.Part.{Part, Row_of-Part, end_of-Part, mor
 use Rattle.bz_tree.specs.declared.tree.Part.TheVariants as p
 use Rattle.bz_tree.specs.Shapes.{Fits, shape}
 use Rattle.bz_tree.specs.Spell.{leaves_part, leaves_row}
-use Rattle.bz_tree.specs.Legal.{IsSort, LegalPart, LegalRow}
+use Rattle.bz_tree.specs.Legal.{IsNonterminal, LegalPart, LegalRow}
 use Rattle.bz_value.specs.Frames.{frame}
 use Rattle.bz_items.specs.Characters.{Bytes}
 use Rattle.bz_view.specs.View.{seen, seen_row, first_seen_gap}
@@ -50,7 +50,7 @@ pub record Solid (x : Part) : Type 0 where
 pub some_leaf : (x : Part) → Solid x → 0 < size x
 some_leaf x h = let e = size_leaves x in let e' = ap length h.leaves in omega arith
 
-kind_some : (kind : Kind) → Fits IsSort (shape kind) [] → ⊥
+kind_some : (kind : Kind) → Fits IsNonterminal (shape kind) [] → ⊥
 kind_some k.Line h = absurd h
 kind_some _ h = absurd h
 
@@ -58,7 +58,7 @@ abbrev SolidFirst : List Part → Type 0
 SolidFirst [] = Unit {0}
 SolidFirst (x ∷ xs) = Solid x
 
-node_solid : (kind : Kind) (m : _) (r : Row_of-Part m) → Fits IsSort (shape kind) (items-the_row-Part m r) → SolidFirst (items-the_row-Part m r) →
+node_solid : (kind : Kind) (m : _) (r : Row_of-Part m) → Fits IsNonterminal (shape kind) (items-the_row-Part m r) → SolidFirst (items-the_row-Part m r) →
     (first : Leaf) × (rest : List Leaf) × (leaves_row r ≡ first ∷ rest) × (first_seen_gap (seen_row r) ≡ first.gap)
 node_solid kind m end_of-Part h s = absurd (kind_some kind h)
 node_solid kind m (more_of-Part x rest) h s = (s.first, s.rest ++ leaves_row rest, ap (λ (ls : List Leaf). ls ++ leaves_row rest) s.leaves, s.gap)
@@ -76,22 +76,22 @@ mutual
 
 -- ---- the comments after the first leaf's gap
 
-abbrev pub comments_behind : ℕ → List Leaf → List Comment
-comments_behind n [] = []
-comments_behind n (l ∷ ls) = comments_from (suc n) ls
+abbrev pub comments_after : ℕ → List Leaf → List Comment
+comments_after n [] = []
+comments_after n (l ∷ ls) = comments_from (suc n) ls
 
 -- those inside a part
 abbrev pub inner : ℕ → Part → List Comment
-inner n x = comments_behind n (leaves_part x)
+inner n x = comments_after n (leaves_part x)
 
 -- those in parts, and those after the gap of the first of them
 abbrev pub in_parts : ℕ → List Part → List Comment
 in_parts n [] = []
 in_parts n (x ∷ xs) = comments_at n (seen x).gap ++ (inner n x ++ in_parts (n + size x) xs)
 
-abbrev pub behind_parts : ℕ → List Part → List Comment
-behind_parts n [] = []
-behind_parts n (x ∷ xs) = inner n x ++ in_parts (n + size x) xs
+abbrev pub after_parts : ℕ → List Part → List Comment
+after_parts n [] = []
+after_parts n (x ∷ xs) = inner n x ++ in_parts (n + size x) xs
 
 comments_joined : (n : ℕ) (ls ls' : List Leaf) → comments_from n (ls ++ ls') ≡ comments_from n ls ++ comments_from (n + length ls) ls'
 comments_joined n [] ls' = let e : n ≡ n + length {A = Leaf} [] = omega arith in ap (λ z. comments_from z ls') e
@@ -100,28 +100,28 @@ comments_joined n (l ∷ ls) ls' =
     ap (λ (z : List Comment). comments_at n l.gap ++ z) (comments_joined (suc n) ls ls' ∙ ap (λ z. comments_from (suc n) ls ++ comments_from z ls') e)
     ∙ sym (append_assoc (comments_at n l.gap) (comments_from (suc n) ls) (comments_from (n + length (l ∷ ls)) ls'))
 
-behind_joined : (n s : ℕ) (ks : List Leaf) (l : Leaf) (ls ls' : List Leaf) → ks ≡ l ∷ ls → s ≡ length ks → comments_behind n (ks ++ ls') ≡ comments_behind n ks ++ comments_from (n + s) ls'
-behind_joined n s ks l ls ls' e d =
+after_joined : (n s : ℕ) (ks : List Leaf) (l : Leaf) (ls ls' : List Leaf) → ks ≡ l ∷ ls → s ≡ length ks → comments_after n (ks ++ ls') ≡ comments_after n ks ++ comments_from (n + s) ls'
+after_joined n s ks l ls ls' e d =
     let u : s ≡ suc (length ls) = omega (arith, ap length e) in
     let v : suc n + length ls ≡ n + s = omega arith in
     rw e (comments_joined (suc n) ls ls' ∙ ap (λ z. comments_from (suc n) ls ++ comments_from z ls') v)
 
-from_first : (n : ℕ) (gap : Bytes) (ks : List Leaf) (l : Leaf) (ls : List Leaf) → ks ≡ l ∷ ls → gap ≡ l.gap → comments_from n ks ≡ comments_at n gap ++ comments_behind n ks
+from_first : (n : ℕ) (gap : Bytes) (ks : List Leaf) (l : Leaf) (ls : List Leaf) → ks ≡ l ∷ ls → gap ≡ l.gap → comments_from n ks ≡ comments_at n gap ++ comments_after n ks
 from_first n gap ks l ls e g = rw (e, g) refl
 
 module _ (n : ℕ) (x : Part) (h : Solid x) (ls : List Leaf) where
-  pub part_behind : comments_behind n (leaves_part x ++ ls) ≡ inner n x ++ comments_from (n + size x) ls
-  part_behind = behind_joined n (size x) (leaves_part x) h.first h.rest ls h.leaves (size_leaves x)
+  pub part_after : comments_after n (leaves_part x ++ ls) ≡ inner n x ++ comments_from (n + size x) ls
+  part_after = after_joined n (size x) (leaves_part x) h.first h.rest ls h.leaves (size_leaves x)
 
   pub part_from : comments_from n (leaves_part x ++ ls) ≡ comments_at n (seen x).gap ++ (inner n x ++ comments_from (n + size x) ls)
   part_from =
       from_first n (seen x).gap (leaves_part x ++ ls) h.first (h.rest ++ ls) (ap (λ (z : List Leaf). z ++ ls) h.leaves) h.gap
-      ∙ ap (λ (z : List Comment). comments_at n (seen x).gap ++ z) part_behind
+      ∙ ap (λ (z : List Comment). comments_at n (seen x).gap ++ z) part_after
 
 pub parts_from : (n : ℕ) (xs : List Part) → AllByRecursion Solid xs → comments_from n (flat_map leaves_part xs) ≡ in_parts n xs
 parts_from n [] h = refl
 parts_from n (x ∷ xs) h = part_from n x h.0 (flat_map leaves_part xs) ∙ ap (λ (z : List Comment). comments_at n (seen x).gap ++ (inner n x ++ z)) (parts_from (n + size x) xs h.1)
 
-pub parts_behind : (n : ℕ) (xs : List Part) → AllByRecursion Solid xs → comments_behind n (flat_map leaves_part xs) ≡ behind_parts n xs
-parts_behind n [] h = refl
-parts_behind n (x ∷ xs) h = part_behind n x h.0 (flat_map leaves_part xs) ∙ ap (λ (z : List Comment). inner n x ++ z) (parts_from (n + size x) xs h.1)
+pub parts_after : (n : ℕ) (xs : List Part) → AllByRecursion Solid xs → comments_after n (flat_map leaves_part xs) ≡ after_parts n xs
+parts_after n [] h = refl
+parts_after n (x ∷ xs) h = part_after n x h.0 (flat_map leaves_part xs) ∙ ap (λ (z : List Comment). inner n x ++ z) (parts_from (n + size x) xs h.1)

@@ -17,10 +17,10 @@ use Rattle.bz_value.specs.Proper.{comments_of}
 use Rattle.bz_view.specs.View.{seen, plain, items_in}
 use Rattle.bz_view.proofs.SeenParts.{comments_made}
 use Rattle.bz_hosts.specs.Hosts.{Region, host, between, beginning_in, place_at_end, Comment, comments_at, sizes, measured, is_item_part, hosts_from, CommentPlace, suffix_of, above, end_of, texts_at, Hosted, hosted, hosted_at, hosted_by, inside_expr}
-use Rattle.bz_hosts.proofs.Around.{AllInside, Sees, SeesAt, Ended, sees_behind, sees_before, sees_in_host, sees_past_host, sees_ended}
+use Rattle.bz_hosts.proofs.Around.{AllInside, Sees, SeesAt, Ended, sees_after, sees_before, sees_in_host, sees_past_host, sees_ended}
 use Rattle.bz_hosts.proofs.Gathered.{key, pick, pick_same, pick_other, pick_joined, GapPlaces, texts_joined, gap_texts, gap_all}
 use Rattle.bz_hosts.proofs.Joined.{Lines, three_none, three_first, three_second, three_third, five_none, five_first, five_third, five_rest}
-use Rattle.bz_hosts.proofs.Parts.{size, inner, in_parts, behind_parts}
+use Rattle.bz_hosts.proofs.Parts.{size, inner, in_parts, after_parts}
 use Rattle.bz_hosts.proofs.Alternating.{IsMark, Alternating, Regions, hosts_closed, hosts_last, hosts_more, hosts_inside}
 use Rattle.bz_hosts.proofs.Insides.{inside_list, inside_made}
 use Rattle.bz_hosts.proofs.Texts.{Inner, PartTexts, InHost}
@@ -99,8 +99,8 @@ host_with all n b e x c cs rs hs before suffix inside rest =
 -- ---- the texts of a sequence after the gap before the first of these parts
 
 pub record BodyTexts (all : List Region) (o hi n : ℕ) (xs : List Part) : Type 0 where
-  pub outer : (q : CommentPlace) → (Mine o n hi q → ⊥) → texts_at all q (behind_parts n xs) ≡ []
-  pub found : (cs : List Comment) (before : List Bytes) → ((q : CommentPlace) → Mine o n hi q → texts_at all q cs ≡ pick (first_place o n xs) q before ++ texts_at all q (behind_parts n xs)) →
+  pub outer : (q : CommentPlace) → (Mine o n hi q → ⊥) → texts_at all q (after_parts n xs) ≡ []
+  pub found : (cs : List Comment) (before : List Bytes) → ((q : CommentPlace) → Mine o n hi q → texts_at all q cs ≡ pick (first_place o n xs) q before ++ texts_at all q (after_parts n xs)) →
       (map (hosted_at all cs) (hosts_from s.comma_mark n (map measured xs)) ≡ inside_list (items_in before (map seen xs)).0) × (texts_at all (end_of o) cs ≡ (items_in before (map seen xs)).1)
 
 -- the last item, with the closing bracket after it
@@ -117,27 +117,27 @@ module _ (all : List Region) (o hi n : ℕ) (x : Part) (l : Leaf) (opened : o < 
       (sees_in_host all q (Some (between o hi)) hi n b b (rs ++ []) (omega arith) w (omega arith) (sees q v (omega arith)))) in
       let places : GapPlaces all b (suffix_of n) (end_of o) = gap_ended all b n o hi []
       (sees_ended all b (Some (between o hi)) hi n b b hi rs [] (omega arith) (omega arith) (omega arith) (r.within n) tt (omega arith) (sees b (omega arith) (omega arith))) in
-      let told : (q : CommentPlace) → texts_at all q (behind_parts n (x ∷ p.Leaf l ∷ [])) ≡ texts_at all q (inner n x) ++ (pick (suffix_of n) q (as_list (suffix_in l.gap)) ++ pick (end_of o) q (others_in l.gap)) =
+      let collected : (q : CommentPlace) → texts_at all q (after_parts n (x ∷ p.Leaf l ∷ [])) ≡ texts_at all q (inner n x) ++ (pick (suffix_of n) q (as_list (suffix_in l.gap)) ++ pick (end_of o) q (others_in l.gap)) =
       λ q. texts_joined all q (inner n x) (comments_at b l.gap ++ []) ∙ ap (λ (z : Lines). texts_at all q (inner n x) ++ z)
       (texts_joined all q (comments_at b l.gap) [] ∙ (append-nil (texts_at all q (comments_at b l.gap)) ∙ gap_texts all q (suffix_of n) (end_of o) b l.gap places)) in
       record {
         outer = λ q u.
             let differ : suc (n + n) ≡ key q → ⊥ = λ e. u (inl (omega arith, omega arith)) in
-            told q ∙ three_none _ _ _ (part.outer q (λ j. u (inl (omega (arith, j.0), omega (arith, j.1)))) ∙ pick_other (above n) q loose differ) (pick_other (suffix_of n) q (as_list (suffix_in l.gap)) differ)
+            collected q ∙ three_none _ _ _ (part.outer q (λ j. u (inl (omega (arith, j.0), omega (arith, j.1)))) ∙ pick_other (above n) q loose differ) (pick_other (suffix_of n) q (as_list (suffix_in l.gap)) differ)
             (pick_other (end_of o) q (others_in l.gap) (λ e. u (inr (sym e))));
         found = λ cs before f.
             let here : From n hi (above n) = (omega arith, omega arith) in
             let inside : map (hosted_at all cs) rs ≡ inside_expr (plain (seen x)) = part.hosts cs (λ q j.
             let j0 = j.0 in
-            f q (inl (omega arith, omega (arith, j.1))) ∙ (ap (λ (z : Lines). z ++ texts_at all q (behind_parts n (x ∷ p.Leaf l ∷ []))) (pick_other (above n) q before (λ e. omega arith))
-            ∙ (told q ∙ three_first _ _ _ (texts_at all q (inner n x)) refl (pick_other (suffix_of n) q (as_list (suffix_in l.gap)) (λ e. omega arith)) (pick_other (end_of o) q (others_in l.gap) (λ e. omega arith))))) in
+            f q (inl (omega arith, omega (arith, j.1))) ∙ (ap (λ (z : Lines). z ++ texts_at all q (after_parts n (x ∷ p.Leaf l ∷ []))) (pick_other (above n) q before (λ e. omega arith))
+            ∙ (collected q ∙ three_first _ _ _ (texts_at all q (inner n x)) refl (pick_other (suffix_of n) q (as_list (suffix_in l.gap)) (λ e. omega arith)) (pick_other (end_of o) q (others_in l.gap) (λ e. omega arith))))) in
             let at_above : texts_at all (above n) cs ≡ before ++ loose =
-            f (above n) (inl here) ∙ (ap (λ (z : Lines). z ++ texts_at all (above n) (behind_parts n (x ∷ p.Leaf l ∷ []))) (pick_same (above n) before)
-            ∙ ap (λ (z : Lines). before ++ z) (told (above n) ∙ three_first _ _ _ loose (part.outer (above n) (λ j. omega (arith, j.0)) ∙ pick_same (above n) loose) refl refl)) in
+            f (above n) (inl here) ∙ (ap (λ (z : Lines). z ++ texts_at all (above n) (after_parts n (x ∷ p.Leaf l ∷ []))) (pick_same (above n) before)
+            ∙ ap (λ (z : Lines). before ++ z) (collected (above n) ∙ three_first _ _ _ loose (part.outer (above n) (λ j. omega (arith, j.0)) ∙ pick_same (above n) loose) refl refl)) in
             let at_suffix : texts_at all (suffix_of n) cs ≡ as_list (suffix_in l.gap) =
-            f (suffix_of n) (inl here) ∙ (told (suffix_of n) ∙ three_second _ _ _ (as_list (suffix_in l.gap)) (part.outer (suffix_of n) (λ j. omega (arith, j.0))) (pick_same (suffix_of n) (as_list (suffix_in l.gap))) refl) in
+            f (suffix_of n) (inl here) ∙ (collected (suffix_of n) ∙ three_second _ _ _ (as_list (suffix_in l.gap)) (part.outer (suffix_of n) (λ j. omega (arith, j.0))) (pick_same (suffix_of n) (as_list (suffix_in l.gap))) refl) in
             let at_end : texts_at all (end_of o) cs ≡ others_in l.gap =
-            f (end_of o) (inr refl) ∙ (told (end_of o) ∙ three_third _ _ _ (others_in l.gap) (part.outer (end_of o) (λ j. omega (arith, j.0))) refl (pick_same (end_of o) (others_in l.gap))) in (
+            f (end_of o) (inr refl) ∙ (collected (end_of o) ∙ three_third _ _ _ (others_in l.gap) (part.outer (end_of o) (λ j. omega (arith, j.0))) refl (pick_same (end_of o) (others_in l.gap))) in (
               ap (map (hosted_at all cs)) (hosts_last s.comma_mark n x l item mark) ∙ host_with all n b b x (record { before = before ++ loose; suffix = suffix_in l.gap }) cs [] [] at_above at_suffix inside refl,
               at_end,
             );
@@ -162,7 +162,7 @@ module _ (all : List Region) (o hi n : ℕ) (x : Part) (l : Leaf) (z : Part) (xs
       let up' : ℕ = n' + sizes (map measured (z ∷ xs)) in
       let within : AllInside n' up' rs' = hosts_inside s.comma_mark n' (z ∷ xs) a r' in
       let sees : SeesAt all found (suc n) hi (host n b n' ∷ (rs ++ rs')) = λ q v w. subst (Sees all q found hi) (hosts_more s.comma_mark n x l (z ∷ xs) item mark) (s' q v w) in
-      let past : (q : ℕ) → b ≤ q → n' ≢ q → q < hi → Sees all q found hi rs' = λ q v d w. sees_behind all q found hi n b rs rs' (r.within n) v (sees_past_host all q found hi n b n' (rs ++ rs') (omega arith) v d (sees q (omega arith) w)) in
+      let past : (q : ℕ) → b ≤ q → n' ≢ q → q < hi → Sees all q found hi rs' = λ q v d w. sees_after all q found hi n b rs rs' (r.within n) v (sees_past_host all q found hi n b n' (rs ++ rs') (omega arith) v d (sees q (omega arith) w)) in
       let part : PartTexts all n n x = i n b n' n (omega arith) (λ q v w. sees_before all q (Some (host n b n')) hi n' up' b rs rs' within (omega arith) (omega arith) (omega arith)
       (sees_in_host all q found hi n b n' (rs ++ rs') (omega arith) w (omega arith) (sees q v (omega arith)))) in
       let rest : BodyTexts all o hi n' (z ∷ xs) = later (λ q v w. past q (omega arith) (λ e. omega arith) w) in
@@ -171,15 +171,15 @@ module _ (all : List Region) (o hi n : ℕ) (x : Part) (l : Leaf) (z : Part) (xs
       let at_next : GapPlaces all n' (suffix_of n) place =
       subst (GapPlaces all n' (suffix_of n)) (beginning_first o hi n' n' (omega arith) (omega arith) (z ∷ xs) a)
       (gap_ended all n' n o hi rs' (sees_ended all n' found hi n b n' up' rs rs' (omega arith) (omega arith) (omega arith) (r.within n) within (omega arith) (sees n' (omega arith) (omega arith)))) in
-      let whole : List Comment = behind_parts n (x ∷ p.Leaf l ∷ z ∷ xs) in
-      let behind : List Comment = behind_parts n' (z ∷ xs) in
+      let whole : List Comment = after_parts n (x ∷ p.Leaf l ∷ z ∷ xs) in
+      let following : List Comment = after_parts n' (z ∷ xs) in
       let one : b + 1 ≡ n' = omega arith in
-      let told : (q : CommentPlace) → texts_at all q whole ≡ texts_at all q (inner n x) ++ (pick place q (all_in l.gap) ++ ((pick (suffix_of n) q (as_list (suffix_in gap)) ++ pick place q (others_in gap)) ++ texts_at all q behind)) =
+      let collected : (q : CommentPlace) → texts_at all q whole ≡ texts_at all q (inner n x) ++ (pick place q (all_in l.gap) ++ ((pick (suffix_of n) q (as_list (suffix_in gap)) ++ pick place q (others_in gap)) ++ texts_at all q following)) =
       λ q. ap (λ (y : ℕ). texts_at all q (inner n x ++ (comments_at b l.gap ++ in_parts y (z ∷ xs)))) one
-      ∙ (texts_joined all q (inner n x) (comments_at b l.gap ++ (comments_at n' gap ++ behind))
-      ∙ ap (λ (y : Lines). texts_at all q (inner n x) ++ y) (texts_joined all q (comments_at b l.gap) (comments_at n' gap ++ behind)
-      ∙ (ap (λ (y : Lines). y ++ texts_at all q (comments_at n' gap ++ behind)) (gap_all all q place b l.gap at_comma)
-      ∙ ap (λ (y : Lines). pick place q (all_in l.gap) ++ y) (texts_joined all q (comments_at n' gap) behind ∙ ap (λ (y : Lines). y ++ texts_at all q behind) (gap_texts all q (suffix_of n) place n' gap at_next))))) in
+      ∙ (texts_joined all q (inner n x) (comments_at b l.gap ++ (comments_at n' gap ++ following))
+      ∙ ap (λ (y : Lines). texts_at all q (inner n x) ++ y) (texts_joined all q (comments_at b l.gap) (comments_at n' gap ++ following)
+      ∙ (ap (λ (y : Lines). y ++ texts_at all q (comments_at n' gap ++ following)) (gap_all all q place b l.gap at_comma)
+      ∙ ap (λ (y : Lines). pick place q (all_in l.gap) ++ y) (texts_joined all q (comments_at n' gap) following ∙ ap (λ (y : Lines). y ++ texts_at all q following) (gap_texts all q (suffix_of n) place n' gap at_next))))) in
       let place_mine : Mine o n' hi place = first_mine o n' hi (z ∷ xs) (omega arith) in
       let place_later : (q : CommentPlace) → key q ≡ suc (n + n) → key place ≡ key q → ⊥ = λ q e d. mine_later o n n' hi place opened (omega arith) (d ∙ e) place_mine in
       let place_beyond : (q : CommentPlace) → Inner n b q → key place ≡ key q → ⊥ = λ q j d. mine_beyond o n b n' hi place opened (omega arith) place_mine (subst (λ (y : ℕ). (suc (suc (n + n)) ≤ y) × (y < b + b)) (sym d) j) in
@@ -187,30 +187,30 @@ module _ (all : List Region) (o hi n : ℕ) (x : Part) (l : Leaf) (z : Part) (xs
         outer = λ q u.
             let differ : suc (n + n) ≡ key q → ⊥ = λ e. u (inl (omega arith, omega arith)) in
             let apart : key place ≡ key q → ⊥ = λ e. u (mine_wider o n n' hi q (omega arith) (moved place q e place_mine)) in
-            told q ∙ five_none _ _ _ _ _ (part.outer q (λ j. u (inl (omega (arith, j.0), omega (arith, j.1)))) ∙ pick_other (above n) q loose differ) (pick_other place q (all_in l.gap) apart)
+            collected q ∙ five_none _ _ _ _ _ (part.outer q (λ j. u (inl (omega (arith, j.0), omega (arith, j.1)))) ∙ pick_other (above n) q loose differ) (pick_other place q (all_in l.gap) apart)
             (pick_other (suffix_of n) q (as_list (suffix_in gap)) differ) (pick_other place q (others_in gap) apart) (rest.outer q (λ j. u (mine_wider o n n' hi q (omega arith) j)));
         found = λ cs before f.
             let here : From n hi (above n) = (omega arith, omega arith) in
             let inside : map (hosted_at all cs) rs ≡ inside_expr (plain (seen x)) = part.hosts cs (λ q j.
             let j0 = j.0 in
             f q (inl (omega arith, omega (arith, j.1))) ∙ (ap (λ (y : Lines). y ++ texts_at all q whole) (pick_other (above n) q before (λ e. omega arith))
-            ∙ (told q ∙ five_first _ _ _ _ _ (texts_at all q (inner n x)) refl (pick_other place q (all_in l.gap) (place_beyond q j)) (pick_other (suffix_of n) q (as_list (suffix_in gap)) (λ e. omega arith))
+            ∙ (collected q ∙ five_first _ _ _ _ _ (texts_at all q (inner n x)) refl (pick_other place q (all_in l.gap) (place_beyond q j)) (pick_other (suffix_of n) q (as_list (suffix_in gap)) (λ e. omega arith))
             (pick_other place q (others_in gap) (place_beyond q j)) (rest.outer q (λ k. mine_beyond o n b n' hi q opened (omega arith) k j))))) in
             let at_above : texts_at all (above n) cs ≡ before ++ loose =
             f (above n) (inl here) ∙ (ap (λ (y : Lines). y ++ texts_at all (above n) whole) (pick_same (above n) before)
-            ∙ ap (λ (y : Lines). before ++ y) (told (above n) ∙ five_first _ _ _ _ _ loose (part.outer (above n) (λ j. omega (arith, j.0)) ∙ pick_same (above n) loose)
+            ∙ ap (λ (y : Lines). before ++ y) (collected (above n) ∙ five_first _ _ _ _ _ loose (part.outer (above n) (λ j. omega (arith, j.0)) ∙ pick_same (above n) loose)
             (pick_other place (above n) (all_in l.gap) (place_later (above n) refl)) refl (pick_other place (above n) (others_in gap) (place_later (above n) refl))
             (rest.outer (above n) (mine_later o n n' hi (above n) opened (omega arith) refl)))) in
             let at_suffix : texts_at all (suffix_of n) cs ≡ as_list (suffix_in gap) =
-            f (suffix_of n) (inl here) ∙ (told (suffix_of n) ∙ five_third _ _ _ _ _ (as_list (suffix_in gap)) (part.outer (suffix_of n) (λ j. omega (arith, j.0)))
+            f (suffix_of n) (inl here) ∙ (collected (suffix_of n) ∙ five_third _ _ _ _ _ (as_list (suffix_in gap)) (part.outer (suffix_of n) (λ j. omega (arith, j.0)))
             (pick_other place (suffix_of n) (all_in l.gap) (place_later (suffix_of n) refl)) (pick_same (suffix_of n) (as_list (suffix_in gap)))
             (pick_other place (suffix_of n) (others_in gap) (place_later (suffix_of n) refl)) (rest.outer (suffix_of n) (mine_later o n n' hi (suffix_of n) opened (omega arith) refl))) in
             let next = rest.found cs (all_in l.gap ++ others_in gap) (λ q j.
             let differ : suc (n + n) ≡ key q → ⊥ = λ e. mine_later o n n' hi q opened (omega arith) (sym e) j in
             f q (mine_wider o n n' hi q (omega arith) j) ∙ (ap (λ (y : Lines). y ++ texts_at all q whole) (pick_other (above n) q before differ)
-            ∙ (told q ∙ (five_rest _ (pick place q (all_in l.gap)) _ (pick place q (others_in gap)) (texts_at all q behind)
+            ∙ (collected q ∙ (five_rest _ (pick place q (all_in l.gap)) _ (pick place q (others_in gap)) (texts_at all q following)
             (part.outer q (mine_beyond o n b n' hi q opened (omega arith) j) ∙ pick_other (above n) q loose differ) (pick_other (suffix_of n) q (as_list (suffix_in gap)) differ)
-            ∙ ap (λ (y : Lines). y ++ texts_at all q behind) (sym (pick_joined place q (all_in l.gap) (others_in gap))))))) in (
+            ∙ ap (λ (y : Lines). y ++ texts_at all q following) (sym (pick_joined place q (all_in l.gap) (others_in gap))))))) in (
               ap (map (hosted_at all cs)) (hosts_more s.comma_mark n x l (z ∷ xs) item mark) ∙ host_with all n b n' x (record { before = before ++ loose; suffix = suffix_in gap }) cs rs'
                   (inside_list (items_in (all_in l.gap ++ others_in gap) (map seen (z ∷ xs))).0) at_above at_suffix inside next.0,
               next.1,

@@ -11,9 +11,9 @@ use Rattle.bz_value.specs.Gaps.{GapLine, lines_of, as_list, after_first_comment,
 use Rattle.bz_view.specs.View.{seen, plain, statement, statements_in}
 use Rattle.bz_view.proofs.QuietGaps.{Quiet}
 use Rattle.bz_hosts.specs.Hosts.{Region, host, Comment, comments_at, sizes, measured, is_item_part, hosts_from, CommentPlace, suffix_of, above, outside, texts_at, hosted_at, inside_expr, inside_item}
-use Rattle.bz_hosts.proofs.Around.{AllInside, Sees, SeesAt, Ended, sees_behind, sees_before, sees_in_host, sees_past_host, sees_ended}
+use Rattle.bz_hosts.proofs.Around.{AllInside, Sees, SeesAt, Ended, sees_after, sees_before, sees_in_host, sees_past_host, sees_ended}
 use Rattle.bz_hosts.proofs.Gathered.{key, pick, pick_same, pick_other, pick_none, GapPlaces, texts_joined, gap_texts}
-use Rattle.bz_hosts.proofs.Parts.{size, inner, in_parts, behind_parts}
+use Rattle.bz_hosts.proofs.Parts.{size, inner, in_parts, after_parts}
 use Rattle.bz_hosts.proofs.Alternating.{IsMark, Alternating, Regions, hosts_closed, hosts_last, hosts_more, hosts_inside}
 use Rattle.bz_hosts.proofs.Texts.{PartTexts, InHost}
 use Rattle.bz_hosts.proofs.Joined.{Lines, three_none, three_first, three_second, three_third}
@@ -55,7 +55,7 @@ gap_suffix all m first gap h q k =
 
 module _ (all : List Region) (n n' hi next : ℕ) (x : Part) (suffix : Option Bytes) (whole later : List Comment) (rs : List Region) (items : List Item)
     (some : 0 < size x) (ahead : n + size x ≤ n') (up : n + size x ≤ hi) (part : PartTexts all n n x)
-    (told : (q : CommentPlace) → 0 < key q → texts_at all q whole ≡ texts_at all q (inner n x) ++ (pick (suffix_of n) q (as_list suffix) ++ texts_at all q later)) (rest : LineTexts all n' hi later rs items) where
+    (collected : (q : CommentPlace) → 0 < key q → texts_at all q whole ≡ texts_at all q (inner n x) ++ (pick (suffix_of n) q (as_list suffix) ++ texts_at all q later)) (rest : LineTexts all n' hi later rs items) where
   statement_texts : LineTexts all n hi whole (host n (n + size x) next ∷ ((measured x).inside n ++ rs)) (statement [] suffix (seen x) ∷ items)
   statement_texts =
       let b : ℕ = n + size x in
@@ -64,21 +64,21 @@ module _ (all : List Region) (n n' hi next : ℕ) (x : Part) (suffix : Option By
       record {
         outer = λ q k o.
             let differ : suc (n + n) ≡ key q → ⊥ = λ e. o (omega arith, omega arith) in
-            told q k ∙ three_none _ _ _ (part.outer q (λ j. o (omega (arith, j.0), omega (arith, j.1))) ∙ pick_other (above n) q loose differ) (pick_other (suffix_of n) q (as_list suffix) differ) (rest.outer q k (λ j. o (omega (arith, j.0), j.1)));
+            collected q k ∙ three_none _ _ _ (part.outer q (λ j. o (omega (arith, j.0), omega (arith, j.1))) ∙ pick_other (above n) q loose differ) (pick_other (suffix_of n) q (as_list suffix) differ) (rest.outer q k (λ j. o (omega (arith, j.0), j.1)));
         found = λ cs f.
             let inside : map (hosted_at all cs) ((measured x).inside n) ≡ inside_expr (plain (seen x)) = part.hosts cs (λ q j.
             let j0 = j.0 in
             let j1 = j.1 in
-            f q (omega arith, omega arith) ∙ (told q (omega arith) ∙ three_first _ _ _ (texts_at all q (inner n x)) refl (pick_other (suffix_of n) q (as_list suffix) (λ e. omega arith)) (rest.outer q (omega arith) (λ k. omega (arith, k.0))))) in
+            f q (omega arith, omega arith) ∙ (collected q (omega arith) ∙ three_first _ _ _ (texts_at all q (inner n x)) refl (pick_other (suffix_of n) q (as_list suffix) (λ e. omega arith)) (rest.outer q (omega arith) (λ k. omega (arith, k.0))))) in
             let at_above : texts_at all (above n) cs ≡ loose =
-            f (above n) here ∙ (told (above n) (omega arith) ∙ three_first _ _ _ loose (part.outer (above n) (λ j. omega (arith, j.0)) ∙ pick_same (above n) loose) refl (rest.outer (above n) (omega arith) (λ k. omega (arith, k.0)))) in
+            f (above n) here ∙ (collected (above n) (omega arith) ∙ three_first _ _ _ loose (part.outer (above n) (λ j. omega (arith, j.0)) ∙ pick_same (above n) loose) refl (rest.outer (above n) (omega arith) (λ k. omega (arith, k.0)))) in
             let at_suffix : texts_at all (suffix_of n) cs ≡ as_list suffix =
-            f (suffix_of n) here ∙ (told (suffix_of n) (omega arith) ∙ three_second _ _ _ (as_list suffix) (part.outer (suffix_of n) (λ j. omega (arith, j.0))) (pick_same (suffix_of n) (as_list suffix))
+            f (suffix_of n) here ∙ (collected (suffix_of n) (omega arith) ∙ three_second _ _ _ (as_list suffix) (part.outer (suffix_of n) (λ j. omega (arith, j.0))) (pick_same (suffix_of n) (as_list suffix))
             (rest.outer (suffix_of n) (omega arith) (λ k. omega (arith, k.0)))) in
             host_with all n b next x (record { before = loose; suffix = suffix }) cs rs (flat_map inside_item items) at_above at_suffix inside (rest.found cs (λ q j.
             let j0 = j.0 in
             let differ : suc (n + n) ≡ key q → ⊥ = λ e. omega arith in
-            f q (omega arith, j.1) ∙ (told q (omega arith) ∙ three_third _ _ _ (texts_at all q later) (part.outer q (λ k. omega (arith, k.1)) ∙ pick_other (above n) q loose differ) (pick_other (suffix_of n) q (as_list suffix) differ) refl)));
+            f q (omega arith, j.1) ∙ (collected q (omega arith) ∙ three_third _ _ _ (texts_at all q later) (part.outer q (λ k. omega (arith, k.1)) ∙ pick_other (above n) q loose differ) (pick_other (suffix_of n) q (as_list suffix) differ) refl)));
       }
 
 -- ---- the line
@@ -86,54 +86,54 @@ module _ (all : List Region) (n n' hi next : ℕ) (x : Part) (suffix : Option By
 module _ (all : List Region) (n hi : ℕ) (x : Part) (l : Leaf) (r : Regions x) (i : InHost all x) where
   -- no semicolon after the last statement
   bare_end : hi ≡ suc (n + size x) → is_item_part x ≡ true → IsMark s.semicolon false (p.Leaf l) → SeesAt all None (suc n) hi (hosts_from s.semicolon n (map measured (x ∷ p.Leaf l ∷ []))) →
-      LineTexts all n hi (behind_parts n (x ∷ p.Leaf l ∷ [])) (hosts_from s.semicolon n (map measured (x ∷ p.Leaf l ∷ []))) (statements_in [] (map seen (x ∷ p.Leaf l ∷ [])))
+      LineTexts all n hi (after_parts n (x ∷ p.Leaf l ∷ [])) (hosts_from s.semicolon n (map measured (x ∷ p.Leaf l ∷ []))) (statements_in [] (map seen (x ∷ p.Leaf l ∷ [])))
   bare_end up item mark s' =
       let b : ℕ = n + size x in
       let rs : List Region = (measured x).inside n in
       let some = r.some in
-      let whole : List Comment = behind_parts n (x ∷ p.Leaf l ∷ []) in
+      let whole : List Comment = after_parts n (x ∷ p.Leaf l ∷ []) in
       let sees : SeesAt all None (suc n) hi (host n b b ∷ (rs ++ [])) = λ q v w. subst (Sees all q None hi) (hosts_last s.semicolon n x l item mark) (s' q v w) in
       let part : PartTexts all n n x = i n b b n (omega arith) (λ q v w. sees_before all q (Some (host n b b)) hi b hi b rs [] tt (omega arith) (omega arith) (omega arith)
       (sees_in_host all q None hi n b b (rs ++ []) (omega arith) w (omega arith) (sees q v (omega arith)))) in
       let places : GapPlaces all b (suffix_of n) outside = gap_ended all b n hi [] (sees_ended all b None hi n b b hi rs [] (omega arith) (omega arith) (omega arith) (r.within n) tt (omega arith) (sees b (omega arith) (omega arith))) in
-      let told : (q : CommentPlace) → 0 < key q → texts_at all q whole ≡ texts_at all q (inner n x) ++ (pick (suffix_of n) q (as_list (suffix_in l.gap)) ++ texts_at all q []) =
+      let collected : (q : CommentPlace) → 0 < key q → texts_at all q whole ≡ texts_at all q (inner n x) ++ (pick (suffix_of n) q (as_list (suffix_in l.gap)) ++ texts_at all q []) =
       λ q k. texts_joined all q (inner n x) (comments_at b l.gap ++ []) ∙ ap (λ (z : Lines). texts_at all q (inner n x) ++ z) (texts_joined all q (comments_at b l.gap) [] ∙ ap (λ (z : Lines). z ++ []) (gap_suffix all b n l.gap places q k)) in
       subst (λ (z : List Region). LineTexts all n hi whole z (statements_in [] (map seen (x ∷ p.Leaf l ∷ [])))) (sym (hosts_last s.semicolon n x l item mark))
-      (statement_texts all n hi hi b x (suffix_in l.gap) whole [] [] [] some (omega arith) (omega arith) part told (nothing_there all hi hi))
+      (statement_texts all n hi hi b x (suffix_in l.gap) whole [] [] [] some (omega arith) (omega arith) part collected (nothing_there all hi hi))
 
   module _ (z : Part) (xs : List Part) (item : is_item_part x ≡ true) (mark : IsMark s.semicolon true (p.Leaf l)) (up : hi ≡ suc (n + size x) + sizes (map measured (z ∷ xs))) (a : Alternating s.semicolon (z ∷ xs))
       (r' : AllByRecursion Regions (z ∷ xs)) (silent : all_in l.gap ≡ []) (s' : SeesAt all None (suc n) hi (hosts_from s.semicolon n (map measured (x ∷ p.Leaf l ∷ z ∷ xs)))) where
-    abbrev behind_it : ℕ
-    behind_it = suc (n + size x)
+    abbrev after_it : ℕ
+    after_it = suc (n + size x)
 
     abbrev later : List Region
-    later = hosts_from s.semicolon behind_it (map measured (z ∷ xs))
+    later = hosts_from s.semicolon after_it (map measured (z ∷ xs))
 
-    sees_whole : SeesAt all None (suc n) hi (host n (n + size x) behind_it ∷ ((measured x).inside n ++ later))
+    sees_whole : SeesAt all None (suc n) hi (host n (n + size x) after_it ∷ ((measured x).inside n ++ later))
     sees_whole q v w = subst (Sees all q None hi) (hosts_more s.semicolon n x l (z ∷ xs) item mark) (s' q v w)
 
-    later_inside : AllInside behind_it (behind_it + sizes (map measured (z ∷ xs))) later
-    later_inside = hosts_inside s.semicolon behind_it (z ∷ xs) a r'
+    later_inside : AllInside after_it (after_it + sizes (map measured (z ∷ xs))) later
+    later_inside = hosts_inside s.semicolon after_it (z ∷ xs) a r'
 
-    sees_later : SeesAt all None (suc behind_it) hi later
-    sees_later q v w = sees_behind all q None hi n (n + size x) ((measured x).inside n) later (r.within n) (omega arith)
-        (sees_past_host all q None hi n (n + size x) behind_it ((measured x).inside n ++ later) (omega arith) (omega arith) (λ e. omega arith) (sees_whole q (omega arith) w))
+    sees_later : SeesAt all None (suc after_it) hi later
+    sees_later q v w = sees_after all q None hi n (n + size x) ((measured x).inside n) later (r.within n) (omega arith)
+        (sees_past_host all q None hi n (n + size x) after_it ((measured x).inside n ++ later) (omega arith) (omega arith) (λ e. omega arith) (sees_whole q (omega arith) w))
 
     inside_it : PartTexts all n n x
     inside_it =
         let b : ℕ = n + size x in
-        i n b behind_it n (omega arith) (λ q v w. sees_before all q (Some (host n b behind_it)) hi behind_it (behind_it + sizes (map measured (z ∷ xs))) b ((measured x).inside n) later later_inside (omega arith)
-        (omega arith) (omega arith) (sees_in_host all q None hi n b behind_it ((measured x).inside n ++ later) (omega arith) w (omega arith) (sees_whole q v (omega arith))))
+        i n b after_it n (omega arith) (λ q v w. sees_before all q (Some (host n b after_it)) hi after_it (after_it + sizes (map measured (z ∷ xs))) b ((measured x).inside n) later later_inside (omega arith)
+        (omega arith) (omega arith) (sees_in_host all q None hi n b after_it ((measured x).inside n ++ later) (omega arith) w (omega arith) (sees_whole q v (omega arith))))
 
     -- the comments after the statement are those after its semicolon
-    split : behind_parts n (x ∷ p.Leaf l ∷ z ∷ xs) ≡ inner n x ++ in_parts behind_it (z ∷ xs)
+    split : after_parts n (x ∷ p.Leaf l ∷ z ∷ xs) ≡ inner n x ++ in_parts after_it (z ∷ xs)
     split =
-        let one : n + size x + 1 ≡ behind_it = omega arith in
+        let one : n + size x + 1 ≡ after_it = omega arith in
         ap (λ (y : List Comment). inner n x ++ (y ++ in_parts (n + size x + 1) (z ∷ xs))) (silent_gap (n + size x) l.gap silent) ∙ ap (λ (y : ℕ). inner n x ++ in_parts y (z ∷ xs)) one
 
   semicolon_end : (l' : Leaf) → is_item_part x ≡ true → IsMark s.semicolon true (p.Leaf l) → hi ≡ suc (n + size x) + 1 → IsMark s.semicolon false (p.Leaf l') → all_in l.gap ≡ [] →
       SeesAt all None (suc n) hi (hosts_from s.semicolon n (map measured (x ∷ p.Leaf l ∷ p.Leaf l' ∷ []))) →
-      LineTexts all n hi (behind_parts n (x ∷ p.Leaf l ∷ p.Leaf l' ∷ [])) (hosts_from s.semicolon n (map measured (x ∷ p.Leaf l ∷ p.Leaf l' ∷ []))) (statements_in [] (map seen (x ∷ p.Leaf l ∷ p.Leaf l' ∷ [])))
+      LineTexts all n hi (after_parts n (x ∷ p.Leaf l ∷ p.Leaf l' ∷ [])) (hosts_from s.semicolon n (map measured (x ∷ p.Leaf l ∷ p.Leaf l' ∷ []))) (statements_in [] (map seen (x ∷ p.Leaf l ∷ p.Leaf l' ∷ [])))
   semicolon_end l' item mark up mark' silent s' =
       let b : ℕ = n + size x in
       let n' : ℕ = suc b in
@@ -141,41 +141,41 @@ module _ (all : List Region) (n hi : ℕ) (x : Part) (l : Leaf) (r : Regions x) 
       let rs : List Region = (measured x).inside n in
       let some = r.some in
       let r' : AllByRecursion Regions (z ∷ []) = (record { some = omega arith; within = λ m. tt }, tt) in
-      let whole : List Comment = behind_parts n (x ∷ p.Leaf l ∷ z ∷ []) in
+      let whole : List Comment = after_parts n (x ∷ p.Leaf l ∷ z ∷ []) in
       let closed : hosts_from s.semicolon n' (map measured (z ∷ [])) ≡ [] = hosts_closed s.semicolon n' z mark' in
       let there : hosts_from s.semicolon n (map measured (x ∷ p.Leaf l ∷ z ∷ [])) ≡ host n b n' ∷ (rs ++ []) = hosts_more s.semicolon n x l (z ∷ []) item mark ∙ ap (λ (y : List Region). host n b n' ∷ (rs ++ y)) closed in
       let part : PartTexts all n n x = inside_it z [] item mark (omega arith) mark' r' silent s' in
       let places : GapPlaces all n' (suffix_of n) outside = gap_ended all n' n hi []
       (sees_ended all n' None hi n b hi hi rs [] (omega arith) (omega arith) (omega arith) (r.within n) tt (omega arith) (subst (Sees all n' None hi) there (s' n' (omega arith) (omega arith)))) in
-      let told : (q : CommentPlace) → 0 < key q → texts_at all q whole ≡ texts_at all q (inner n x) ++ (pick (suffix_of n) q (as_list (suffix_in l'.gap)) ++ texts_at all q []) =
+      let collected : (q : CommentPlace) → 0 < key q → texts_at all q whole ≡ texts_at all q (inner n x) ++ (pick (suffix_of n) q (as_list (suffix_in l'.gap)) ++ texts_at all q []) =
       λ q k. ap (texts_at all q) (split z [] item mark (omega arith) mark' r' silent s') ∙
       (texts_joined all q (inner n x) (comments_at n' l'.gap ++ []) ∙ ap (λ (y : Lines). texts_at all q (inner n x) ++ y)
       (texts_joined all q (comments_at n' l'.gap) [] ∙ ap (λ (y : Lines). y ++ []) (gap_suffix all n' n l'.gap places q k))) in
       subst (λ (y : List Region). LineTexts all n hi whole y (statements_in [] (map seen (x ∷ p.Leaf l ∷ z ∷ [])))) (sym there)
-      (statement_texts all n hi hi n' x (suffix_in l'.gap) whole [] [] [] some (omega arith) (omega arith) part told (nothing_there all hi hi))
+      (statement_texts all n hi hi n' x (suffix_in l'.gap) whole [] [] [] some (omega arith) (omega arith) part collected (nothing_there all hi hi))
 
   before_others : (z u : Part) (xs : List Part) → is_item_part x ≡ true → IsMark s.semicolon true (p.Leaf l) → hi ≡ suc (n + size x) + sizes (map measured (z ∷ u ∷ xs)) → Alternating s.semicolon (z ∷ u ∷ xs) →
       AllByRecursion Regions (z ∷ u ∷ xs) → all_in l.gap ≡ [] → all_in (seen z).gap ≡ [] →
       SeesAt all None (suc n) hi (hosts_from s.semicolon n (map measured (x ∷ p.Leaf l ∷ z ∷ u ∷ xs))) →
-      (SeesAt all None (suc (suc (n + size x))) hi (hosts_from s.semicolon (suc (n + size x)) (map measured (z ∷ u ∷ xs))) → LineTexts all (suc (n + size x)) hi (behind_parts (suc (n + size x)) (z ∷ u ∷ xs))
+      (SeesAt all None (suc (suc (n + size x))) hi (hosts_from s.semicolon (suc (n + size x)) (map measured (z ∷ u ∷ xs))) → LineTexts all (suc (n + size x)) hi (after_parts (suc (n + size x)) (z ∷ u ∷ xs))
       (hosts_from s.semicolon (suc (n + size x)) (map measured (z ∷ u ∷ xs))) (statements_in [] (map seen (z ∷ u ∷ xs)))) →
-      LineTexts all n hi (behind_parts n (x ∷ p.Leaf l ∷ z ∷ u ∷ xs)) (hosts_from s.semicolon n (map measured (x ∷ p.Leaf l ∷ z ∷ u ∷ xs))) (statements_in [] (map seen (x ∷ p.Leaf l ∷ z ∷ u ∷ xs)))
+      LineTexts all n hi (after_parts n (x ∷ p.Leaf l ∷ z ∷ u ∷ xs)) (hosts_from s.semicolon n (map measured (x ∷ p.Leaf l ∷ z ∷ u ∷ xs))) (statements_in [] (map seen (x ∷ p.Leaf l ∷ z ∷ u ∷ xs)))
   before_others z u xs item mark up a r' silent silent' s' next =
       let n' : ℕ = suc (n + size x) in
       let some = r.some in
-      let whole : List Comment = behind_parts n (x ∷ p.Leaf l ∷ z ∷ u ∷ xs) in
-      let behind : List Comment = behind_parts n' (z ∷ u ∷ xs) in
+      let whole : List Comment = after_parts n (x ∷ p.Leaf l ∷ z ∷ u ∷ xs) in
+      let following : List Comment = after_parts n' (z ∷ u ∷ xs) in
       let part : PartTexts all n n x = inside_it z (u ∷ xs) item mark up a r' silent s' in
-      let same : whole ≡ inner n x ++ behind = split z (u ∷ xs) item mark up a r' silent s' ∙ ap (λ (y : List Comment). inner n x ++ (y ++ behind)) (silent_gap n' (seen z).gap silent') in
-      let told : (q : CommentPlace) → 0 < key q → texts_at all q whole ≡ texts_at all q (inner n x) ++ (pick (suffix_of n) q (as_list None) ++ texts_at all q behind) =
-      λ q k. ap (texts_at all q) same ∙ (texts_joined all q (inner n x) behind ∙ ap (λ (y : Lines). texts_at all q (inner n x) ++ (y ++ texts_at all q behind)) (sym (pick_none (suffix_of n) q))) in
+      let same : whole ≡ inner n x ++ following = split z (u ∷ xs) item mark up a r' silent s' ∙ ap (λ (y : List Comment). inner n x ++ (y ++ following)) (silent_gap n' (seen z).gap silent') in
+      let collected : (q : CommentPlace) → 0 < key q → texts_at all q whole ≡ texts_at all q (inner n x) ++ (pick (suffix_of n) q (as_list None) ++ texts_at all q following) =
+      λ q k. ap (texts_at all q) same ∙ (texts_joined all q (inner n x) following ∙ ap (λ (y : Lines). texts_at all q (inner n x) ++ (y ++ texts_at all q following)) (sym (pick_none (suffix_of n) q))) in
       subst (λ (y : List Region). LineTexts all n hi whole y (statements_in [] (map seen (x ∷ p.Leaf l ∷ z ∷ u ∷ xs)))) (sym (hosts_more s.semicolon n x l (z ∷ u ∷ xs) item mark))
-      (statement_texts all n n' hi n' x None whole behind (hosts_from s.semicolon n' (map measured (z ∷ u ∷ xs))) (statements_in [] (map seen (z ∷ u ∷ xs))) some (omega arith) (omega arith) part told
+      (statement_texts all n n' hi n' x None whole following (hosts_from s.semicolon n' (map measured (z ∷ u ∷ xs))) (statements_in [] (map seen (z ∷ u ∷ xs))) some (omega arith) (omega arith) part collected
       (next (sees_later z (u ∷ xs) item mark up a r' silent s')))
 
 pub line_texts : (all : List Region) (n hi : ℕ) (xs : List Part) → hi ≡ n + sizes (map measured xs) → Alternating s.semicolon xs → Quiet xs → AllByRecursion Regions xs → AllByRecursion (InHost all) xs →
     SeesAt all None (suc n) hi (hosts_from s.semicolon n (map measured xs)) →
-    LineTexts all n hi (behind_parts n xs) (hosts_from s.semicolon n (map measured xs)) (statements_in [] (map seen xs))
+    LineTexts all n hi (after_parts n xs) (hosts_from s.semicolon n (map measured xs)) (statements_in [] (map seen xs))
 line_texts all n hi [] u a q r i s' = absurd a
 line_texts all n hi (p.Leaf l ∷ []) u a q r i s' = record { outer = λ place k o. refl; found = λ cs f. ap (map (hosted_at all cs)) (hosts_closed s.semicolon n (p.Leaf l) a) }
 line_texts all n hi (Node' kind c t ∷ []) u a q r i s' = absurd a

@@ -5,11 +5,11 @@ use Rattle.std.proofs.lemmas.List.{map-append}
 use Rattle.bz_tree.specs.declared.tree.Part.{Part}
 use Rattle.bz_items.specs.Characters.{Bytes}
 use Rattle.bz_value.specs.Gaps.{all_in}
-use Rattle.bz_view.specs.View.{seen, plain, loose_in, loose_behind}
+use Rattle.bz_view.specs.View.{seen, plain, loose_in, loose_after}
 use Rattle.bz_hosts.specs.Hosts.{Region, host, Comment, comments_at, sizes, measured, in_row, CommentPlace, above, texts_at, Hosted, hosted_at, inside_expr}
-use Rattle.bz_hosts.proofs.Around.{AllInside, all_wider, Sees, SeesAt, sees_behind, sees_before}
+use Rattle.bz_hosts.proofs.Around.{AllInside, all_wider, Sees, SeesAt, sees_after, sees_before}
 use Rattle.bz_hosts.proofs.Gathered.{key, pick, pick_other, pick_none, pick_joined, GapPlaces, texts_joined, gap_all}
-use Rattle.bz_hosts.proofs.Parts.{size, inner, in_parts, behind_parts}
+use Rattle.bz_hosts.proofs.Parts.{size, inner, in_parts, after_parts}
 use Rattle.bz_hosts.proofs.Alternating.{Regions, inside_joined}
 use Rattle.bz_hosts.proofs.Insides.{insides}
 
@@ -64,8 +64,8 @@ module _ (all : List Region) (h n up m : ℕ) (gap : Bytes) (mine : List Comment
   }
 
 -- a gap in a host and in nothing that is in it
-pub gap_in_host : (all : List Region) (m hi first behind next : ℕ) → Sees all m (Some (host first behind next)) hi [] → GapPlaces all m (above first) (above first)
-gap_in_host all m hi first behind next h = record { on_line = λ t. rw (h.ends, h.inner) refl; below = λ t. rw h.inner refl }
+pub gap_in_host : (all : List Region) (m hi first following next : ℕ) → Sees all m (Some (host first following next)) hi [] → GapPlaces all m (above first) (above first)
+gap_in_host all m hi first following next h = record { on_line = λ t. rw (h.ends, h.inner) refl; below = λ t. rw h.inner refl }
 
 -- ---- rows
 
@@ -91,18 +91,18 @@ module _ (all : List Region) (h b e : ℕ) where
 
   pair_texts : (n up : ℕ) (x : Part) (xs : List Part) → h ≤ n → up ≡ n + sizes (map measured (x ∷ xs)) → AllByRecursion Regions (x ∷ xs) → AllByRecursion (InHost all) (x ∷ xs) →
       SeesAt all (Some (host h b e)) (suc n) up (in_row n (map measured (x ∷ xs))) →
-      Texts all h (n + size x) up (in_parts (n + size x) xs) (loose_behind (map seen xs)) (in_row (n + size x) (map measured xs)) (insides xs) →
-      Texts all h n up (behind_parts n (x ∷ xs)) (loose_in (map seen (x ∷ xs))) (in_row n (map measured (x ∷ xs))) (insides (x ∷ xs))
+      Texts all h (n + size x) up (in_parts (n + size x) xs) (loose_after (map seen xs)) (in_row (n + size x) (map measured xs)) (insides xs) →
+      Texts all h n up (after_parts n (x ∷ xs)) (loose_in (map seen (x ∷ xs))) (in_row n (map measured (x ∷ xs))) (insides (x ∷ xs))
   pair_texts n up x xs l u r i s rest =
       let m : ℕ = n + size x in
       let some = r.0.some in
-      both_texts all h n m m up (inner n x) (in_parts m xs) (seen x).loose (loose_behind (map seen xs)) ((measured x).inside n) (in_row m (map measured xs)) (inside_expr (plain (seen x))) (insides xs) l (omega arith) (omega arith) (omega arith)
+      both_texts all h n m m up (inner n x) (in_parts m xs) (seen x).loose (loose_after (map seen xs)) ((measured x).inside n) (in_row m (map measured xs)) (inside_expr (plain (seen x))) (insides xs) l (omega arith) (omega arith) (omega arith)
       (i.0 h b e n l (λ q v w. sees_before all q (Some (host h b e)) up m (m + sizes (map measured xs)) m ((measured x).inside n) (in_row m (map measured xs)) (row_inside m xs r.1) (omega arith) (omega arith) (omega arith) (s q v (omega arith))))
       rest
 
   -- in parts, the gap before the first of them too
   pub row_texts : (n up : ℕ) (xs : List Part) → h ≤ n → up ≡ n + sizes (map measured xs) → AllByRecursion Regions xs → AllByRecursion (InHost all) xs → SeesAt all (Some (host h b e)) n up (in_row n (map measured xs)) →
-      Texts all h n up (in_parts n xs) (loose_behind (map seen xs)) (in_row n (map measured xs)) (insides xs)
+      Texts all h n up (in_parts n xs) (loose_after (map seen xs)) (in_row n (map measured xs)) (insides xs)
   row_texts n up [] l u r i s = nothing_texts n up
   row_texts n up (x ∷ xs) l u r i s =
       let m : ℕ = n + size x in
@@ -111,16 +111,16 @@ module _ (all : List Region) (h b e : ℕ) where
       let whole : AllInside n (n + sizes (map measured (x ∷ xs))) rs = row_inside n (x ∷ xs) r in
       let gap : GapPlaces all n (above h) (above h) = gap_in_host all n n h b e
       (sees_before all n (Some (host h b e)) up n (n + sizes (map measured (x ∷ xs))) n [] rs whole (omega arith) (omega arith) (omega arith) (s n (omega arith) (omega arith))) in
-      subst (λ (z : List Bytes). Texts all h n up (in_parts n (x ∷ xs)) z rs (insides (x ∷ xs))) (sym (append_assoc (all_in (seen x).gap) (seen x).loose (loose_behind (map seen xs))))
-      (with_gap all h n up n (seen x).gap (inner n x ++ in_parts m xs) ((seen x).loose ++ loose_behind (map seen xs)) rs (insides (x ∷ xs)) l gap
+      subst (λ (z : List Bytes). Texts all h n up (in_parts n (x ∷ xs)) z rs (insides (x ∷ xs))) (sym (append_assoc (all_in (seen x).gap) (seen x).loose (loose_after (map seen xs))))
+      (with_gap all h n up n (seen x).gap (inner n x ++ in_parts m xs) ((seen x).loose ++ loose_after (map seen xs)) rs (insides (x ∷ xs)) l gap
       (pair_texts n up x xs l u r i (λ q v w. s q (omega arith) w)
-      (row_texts m up xs (omega arith) (omega arith) r.1 i.1 (λ q v w. sees_behind all q (Some (host h b e)) up n m ((measured x).inside n) (in_row m (map measured xs)) (r.0.within n) v (s q (omega arith) w)))))
+      (row_texts m up xs (omega arith) (omega arith) r.1 i.1 (λ q v w. sees_after all q (Some (host h b e)) up n m ((measured x).inside n) (in_row m (map measured xs)) (r.0.within n) v (s q (omega arith) w)))))
 
   -- after the gap before the first of them
   pub first_texts : (n up : ℕ) (xs : List Part) → h ≤ n → up ≡ n + sizes (map measured xs) → AllByRecursion Regions xs → AllByRecursion (InHost all) xs → SeesAt all (Some (host h b e)) (suc n) up (in_row n (map measured xs)) →
-      Texts all h n up (behind_parts n xs) (loose_in (map seen xs)) (in_row n (map measured xs)) (insides xs)
+      Texts all h n up (after_parts n xs) (loose_in (map seen xs)) (in_row n (map measured xs)) (insides xs)
   first_texts n up [] l u r i s = nothing_texts n up
   first_texts n up (x ∷ xs) l u r i s =
       let m : ℕ = n + size x in
       let some = r.0.some in
-      pair_texts n up x xs l u r i s (row_texts m up xs (omega arith) (omega arith) r.1 i.1 (λ q v w. sees_behind all q (Some (host h b e)) up n m ((measured x).inside n) (in_row m (map measured xs)) (r.0.within n) v (s q (omega arith) w)))
+      pair_texts n up x xs l u r i s (row_texts m up xs (omega arith) (omega arith) r.1 i.1 (λ q v w. sees_after all q (Some (host h b e)) up n m ((measured x).inside n) (in_row m (map measured xs)) (r.0.within n) v (s q (omega arith) w)))

@@ -34,24 +34,24 @@ walked rs cs left n (Node' kind z r ∷ xs) =
 
 -- ---- the last gap of leaves
 
-pub last_behind : (ls : List Leaf) (m : Leaf) (ms : List Leaf) → last_gap (ls ++ m ∷ ms) ≡ last_gap (m ∷ ms)
-last_behind [] m ms = refl
-last_behind (l ∷ []) m ms = refl
-last_behind (l ∷ l' ∷ ls) m ms = last_behind (l' ∷ ls) m ms
+pub last_after : (ls : List Leaf) (m : Leaf) (ms : List Leaf) → last_gap (ls ++ m ∷ ms) ≡ last_gap (m ∷ ms)
+last_after [] m ms = refl
+last_after (l ∷ []) m ms = refl
+last_after (l ∷ l' ∷ ls) m ms = last_after (l' ∷ ls) m ms
 
 abbrev left_by : List Leaf → List GapLine
 left_by [] = []
 left_by (l ∷ ls) = after_first_comment (lines_of (last_gap (l ∷ ls)))
 
-left_behind : (front : List Leaf) (m : Leaf) (ms : List Leaf) → left_by (front ++ m ∷ ms) ≡ after_first_comment (lines_of (last_gap (m ∷ ms)))
-left_behind [] m ms = refl
-left_behind (l ∷ ls) m ms = ap (λ (z : Bytes). after_first_comment (lines_of z)) (last_behind (l ∷ ls) m ms)
+left_after : (front : List Leaf) (m : Leaf) (ms : List Leaf) → left_by (front ++ m ∷ ms) ≡ after_first_comment (lines_of (last_gap (m ∷ ms)))
+left_after [] m ms = refl
+left_after (l ∷ ls) m ms = ap (λ (z : Bytes). after_first_comment (lines_of z)) (last_after (l ∷ ls) m ms)
 
 -- the lines before a leaf, by what is in front of it
-before_told : (front : List Leaf) (m : Leaf) (ms : List Leaf) → lines_before (front ++ m ∷ ms) (length front) ≡ left_by front ++ lines_of m.gap
-before_told [] m ms = refl
-before_told (l ∷ []) m ms = refl
-before_told (l ∷ l' ∷ ls) m ms = before_told (l' ∷ ls) m ms
+before_collected : (front : List Leaf) (m : Leaf) (ms : List Leaf) → lines_before (front ++ m ∷ ms) (length front) ≡ left_by front ++ lines_of m.gap
+before_collected [] m ms = refl
+before_collected (l ∷ []) m ms = refl
+before_collected (l ∷ l' ∷ ls) m ms = before_collected (l' ∷ ls) m ms
 
 -- ---- the lines of a file, of which a leaf is the last
 
@@ -66,7 +66,7 @@ module _ (rs : List Region) (cs : List Comment) where
       hosted_from rs cs (front ++ flat_map leaves_part xs) n xs ≡ walked rs cs (left_by front) n xs
   by_number front n [] h e d = refl
   by_number front n (p.Leaf l ∷ []) h e d =
-      let lines : lines_before (front ++ l ∷ []) n ≡ left_by front ++ lines_of l.gap = ap (lines_before (front ++ l ∷ [])) (sym d) ∙ before_told front l [] in
+      let lines : lines_before (front ++ l ∷ []) n ≡ left_by front ++ lines_of l.gap = ap (lines_before (front ++ l ∷ [])) (sym d) ∙ before_collected front l [] in
       ap (λ (z : List GapLine). hosts_alone (map (right_above z) (bare_lines 0 z ++ length z ∷ [])) ++ []) lines
       ∙ ap (λ (z : List (List Bytes)). hosts_alone z ++ []) (sym (all_numbered (left_by front ++ lines_of l.gap)))
   by_number front n (p.Leaf l ∷ y ∷ xs) h e d = absurd e
@@ -82,17 +82,17 @@ module _ (rs : List Region) (cs : List Comment) where
       let lines : lines_before all n ≡ left_by front ++ lines_of (gap_of ls) =
       ap (λ (z : List Leaf). lines_before (front ++ (z ++ more)) n) leaves
       ∙ (ap (lines_before (front ++ first ∷ (rest ++ more))) (sym d)
-      ∙ (before_told front first (rest ++ more) ∙ ap (λ (z : List Leaf). left_by front ++ lines_of (gap_of z)) (sym leaves))) in
+      ∙ (before_collected front first (rest ++ more) ∙ ap (λ (z : List Leaf). left_by front ++ lines_of (gap_of z)) (sym leaves))) in
       let there : List GapLine = left_by front ++ lines_of (gap_of ls) in
       let far : length (front ++ ls) ≡ m = let e' = size_leaves line in omega (arith, length-append front ls) in
-      let behind : hosted_from rs cs all m xs ≡ walked rs cs (after_first_comment (lines_of (last_gap ls))) m xs =
+      let following : hosted_from rs cs all m xs ≡ walked rs cs (after_first_comment (lines_of (last_gap ls))) m xs =
       ap (λ (z : List Leaf). hosted_from rs cs z m xs) (sym (append_assoc front ls more))
       ∙ (by_number (front ++ ls) m xs h.1 e far
-      ∙ ap (λ (z : List GapLine). walked rs cs z m xs) (ap (λ (z : List Leaf). left_by (front ++ z)) leaves ∙ (left_behind front first rest ∙ ap (λ (z : List Leaf). after_first_comment (lines_of (last_gap z))) (sym leaves)))) in
+      ∙ ap (λ (z : List GapLine). walked rs cs z m xs) (ap (λ (z : List Leaf). left_by (front ++ z)) leaves ∙ (left_after front first rest ∙ ap (λ (z : List Leaf). after_first_comment (lines_of (last_gap z))) (sym leaves)))) in
       let same : m ≡ n + length ls = ap (λ (z : ℕ). n + z) (size_leaves line) in
       let hosts : List Hosted = map (hosted_at rs cs) (in_line n line) in
       ap (λ (z : List GapLine). hosts_alone (map (right_above z) (bare_lines 0 z)) ++ with_group (right_above z (length z)) hosts ++ hosted_from rs cs all m xs) lines
       ∙ (ap (λ (z : List (List Bytes)). hosts_alone z ++ with_group (right_above there (length there)) hosts ++ hosted_from rs cs all m xs) (sym (alone_numbered there))
       ∙ (ap (λ (z : List Bytes). hosts_alone (all_but_last (groups_of there)) ++ with_group z hosts ++ hosted_from rs cs all m xs) (sym (last_numbered there))
-      ∙ (ap (λ (z : List Hosted). hosts_alone (all_but_last (groups_of there)) ++ with_group (last_group (groups_of there)) hosts ++ z) behind
+      ∙ (ap (λ (z : List Hosted). hosts_alone (all_but_last (groups_of there)) ++ with_group (last_group (groups_of there)) hosts ++ z) following
       ∙ ap (λ (z : ℕ). hosts_alone (all_but_last (groups_of there)) ++ with_group (last_group (groups_of there)) hosts ++ walked rs cs (after_first_comment (lines_of (last_gap ls))) z xs) same)))

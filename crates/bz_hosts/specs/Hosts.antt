@@ -81,15 +81,15 @@ in_row n (x ∷ xs) = x.inside n ++ in_row (n + x.size) xs
 abbrev pub hosts_from : List Terminal → ℕ → List Measured → List Region
 hosts_from separators n [] = []
 hosts_from separators n (x ∷ xs) =
-    let behind : ℕ = n + x.size in
-    (if is_item_part x.part then host n behind (if begins_with_token separators xs then suc behind else behind) ∷ x.inside n else []) ++ hosts_from separators behind xs
+    let following : ℕ = n + x.size in
+    (if is_item_part x.part then host n following (if begins_with_token separators xs then suc following else following) ∷ x.inside n else []) ++ hosts_from separators following xs
 
 -- a node by its frame; of a sequence what is before its bracket, the sequence itself and its items
 abbrev pub in_node : Frame → Kind → ℕ → List Measured → List Region
 in_node row kind n xs = in_row n xs
 in_node (sequence opener closer) kind n xs =
-    let open_ : ℕ = n + sizes (take (lead kind) xs) in
-    in_row n (take (lead kind) xs) ++ between open_ (n + sizes xs) ∷ hosts_from s.comma_mark (suc open_) (drop (suc (lead kind)) xs)
+    let open_break : ℕ = n + sizes (take (lead kind) xs) in
+    in_row n (take (lead kind) xs) ++ between open_break (n + sizes xs) ∷ hosts_from s.comma_mark (suc open_break) (drop (suc (lead kind)) xs)
 
 abbrev mutual
   pub measured : Part → Measured
@@ -122,19 +122,19 @@ pub data CommentPlace : Type 0 where
 -- the host at whose end the comment is
 abbrev pub ending_at : ℕ → List Region → Option ℕ
 ending_at leaf [] = None
-ending_at leaf (host first behind next ∷ rs) = if nat_eq next leaf then Some first else ending_at leaf rs
-ending_at leaf (between open_ behind ∷ rs) = ending_at leaf rs
+ending_at leaf (host first following next ∷ rs) = if nat_eq next leaf then Some first else ending_at leaf rs
+ending_at leaf (between open_break following ∷ rs) = ending_at leaf rs
 
 -- the item that begins next in a sequence
 abbrev pub beginning_in : ℕ → ℕ → List Region → Option ℕ
-beginning_in leaf behind [] = None
-beginning_in leaf behind (host first b next ∷ rs) = if nat_le leaf first && nat_lt first behind then Some first else beginning_in leaf behind rs
-beginning_in leaf behind (between open_ b ∷ rs) = beginning_in leaf behind rs
+beginning_in leaf following [] = None
+beginning_in leaf following (host first b next ∷ rs) = if nat_le leaf first && nat_lt first following then Some first else beginning_in leaf following rs
+beginning_in leaf following (between open_break b ∷ rs) = beginning_in leaf following rs
 
 -- the gap of the leaf is in the region
 abbrev pub holds_gap : ℕ → Region → Bool
-holds_gap leaf (host first behind next) = nat_lt first leaf && nat_lt leaf behind
-holds_gap leaf (between open_ behind) = nat_lt open_ leaf && nat_lt leaf behind
+holds_gap leaf (host first following next) = nat_lt first leaf && nat_lt leaf following
+holds_gap leaf (between open_break following) = nat_lt open_break leaf && nat_lt leaf following
 
 -- Regions are inside one another or apart, in the order in which they begin: the innermost around a gap is the last that
 -- holds it.
@@ -143,14 +143,14 @@ innermost leaf found [] = found
 innermost leaf found (r ∷ rs) = innermost leaf (if holds_gap leaf r then Some r else found) rs
 
 abbrev pub place_at_end : ℕ → Option ℕ → CommentPlace
-place_at_end open_ (Some first) = above first
-place_at_end open_ None = end_of open_
+place_at_end open_break (Some first) = above first
+place_at_end open_break None = end_of open_break
 
 -- In a host: above it. In a sequence: above the item that begins next, or at its end where none does.
 abbrev pub place_in : ℕ → List Region → Option Region → CommentPlace
 place_in leaf rs None = outside
-place_in leaf rs (Some (host first behind next)) = above first
-place_in leaf rs (Some (between open_ behind)) = place_at_end open_ (beginning_in leaf behind rs)
+place_in leaf rs (Some (host first following next)) = above first
+place_in leaf rs (Some (between open_break following)) = place_at_end open_break (beginning_in leaf following rs)
 
 abbrev pub place_unless : Option ℕ → CommentPlace → CommentPlace
 place_unless (Some first) place = suffix_of first
@@ -182,8 +182,8 @@ pub data Hosted : Type 0 where
   ended : List Bytes → Hosted
 
 abbrev pub hosted_at : List Region → List Comment → Region → Hosted
-hosted_at rs cs (host first behind next) = hosted (texts_at rs (above first) cs) (texts_at rs (suffix_of first) cs)
-hosted_at rs cs (between open_ behind) = ended (texts_at rs (end_of open_) cs)
+hosted_at rs cs (host first following next) = hosted (texts_at rs (above first) cs) (texts_at rs (suffix_of first) cs)
+hosted_at rs cs (between open_break following) = ended (texts_at rs (end_of open_break) cs)
 
 -- groups on their own; an empty one is none
 abbrev pub hosts_alone : List (List Bytes) → List Hosted
@@ -258,13 +258,13 @@ abbrev pub hosted_by : HostComments → Hosted
 hosted_by comments = hosted comments.before (as_list comments.suffix)
 
 abbrev pub by_frame : Frame → List Hosted → List Hosted → Hosted → List Hosted
-by_frame row parts items end_ = parts
-by_frame (sequence opener closer) parts items end_ = parts ++ end_ ∷ items
+by_frame row parts items end = parts
+by_frame (sequence opener closer) parts items end = parts ++ end ∷ items
 
 abbrev mutual
   pub inside_expr : Expr → List Hosted
   inside_expr (Token t) = []
-  inside_expr (Form' kind _ parts _ items end_ split open_ comments) = by_frame (frame kind) (inside_row parts) (inside_items items) (ended end_)
+  inside_expr (Form' kind _ parts _ items end split open_break comments) = by_frame (frame kind) (inside_row parts) (inside_items items) (ended end)
 
   pub inside_row : {m : _} → Row_of-Expr m → List Hosted
   inside_row end_of-Expr = []

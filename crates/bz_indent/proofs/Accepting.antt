@@ -4,7 +4,7 @@ use Rattle.bz_tree.specs.Legal.{LegalBzl, ReadsBzl}
 use Rattle.bz_tree.specs.Spell.{depth_of, depth_limit, limit}
 use Rattle.bz_suite.specs.declared.value.BzlItem.{BzlItem}
 use Rattle.bz_suite.specs.Proper.{IsProperBzl}
-use Rattle.bz_indent.specs.Drawn.{bzl_drawn}
+use Rattle.bz_indent.specs.LaidOut.{bzl_laid_out}
 use Rattle.bz_indent.specs.Layout.{bzl_layout}
 use Rattle.bz_indent.proofs.Shaped.{bzl_file}
 use Rattle.bz_indent.proofs.Indented.{bzl_indented}
@@ -13,7 +13,7 @@ use Rattle.bz_indent.proofs.StatementGaps.{bzl_gaps, bzl_coded}
 use Rattle.bz_indent.proofs.StatementTokens.{bzl_tokens}
 
 -- what is laid out of a proper value is legal, where it is not too deep
-pub bzl_legal : (items : List BzlItem) → IsProperBzl items → depth_of (bzl_drawn items) ≤ depth_limit → LegalBzl (bzl_drawn items)
+pub bzl_legal : (items : List BzlItem) → IsProperBzl items → depth_of (bzl_laid_out items) ≤ depth_limit → LegalBzl (bzl_laid_out items)
 bzl_legal items h d = record {
   file = bzl_file items h;
   gaps = bzl_gaps items h;
@@ -24,5 +24,5 @@ bzl_legal items h d = record {
 }
 
 -- so the layout is accepted
-pub bzl_accepted : (items : List BzlItem) → IsProperBzl items → length (bzl_layout items) ≤ limit → depth_of (bzl_drawn items) ≤ depth_limit → ReadsBzl (bzl_layout items) (bzl_drawn items)
+pub bzl_accepted : (items : List BzlItem) → IsProperBzl items → length (bzl_layout items) ≤ limit → depth_of (bzl_laid_out items) ≤ depth_limit → ReadsBzl (bzl_layout items) (bzl_laid_out items)
 bzl_accepted items h n d = (bzl_legal items h d, bzl_spelled items h, n)

@@ -5,9 +5,9 @@ use Rattle.std.specs.List.{AllByRecursion}
 use Rattle.std.proofs.lemmas.Bool.{and_parts, or_cases}
 use Rattle.bz_tree.specs.declared.kind.Kind.{Kind}
 use Rattle.bz_tree.specs.declared.tree.Part.{Part}
-use Rattle.bz_tree.specs.Legal.{IsSort}
+use Rattle.bz_tree.specs.Legal.{IsNonterminal}
 use Rattle.bz_tree.specs.Shapes as s
-use Rattle.bz_tree.specs.Shapes.{Shape, Sort, Terminal, Fits, Listed, Behind, has_token, has_sort}
+use Rattle.bz_tree.specs.Shapes.{Shape, Nonterminal, Terminal, Fits, Listed, After, has_token, has_nonterminal}
 use Rattle.bz_tree.specs.Suites.{def_header}
 use Rattle.bz_value.specs.declared.value.Expr.{Expr, Token, Form'}
 use Rattle.bz_items.specs.Characters.{Bytes, space}
@@ -15,11 +15,11 @@ use Rattle.bz_value.specs.Indented.{IndentedGapLine}
 use Rattle.bz_value.specs.Proper.{comments_of}
 use Rattle.bz_value.specs.Roots.{root, mark_leaf}
 use Rattle.bz_view.specs.View.{Seen, seen}
-use Rattle.bz_write.specs.Layout.{rowed, joined, stacked, gap_behind, margin_behind, firsts}
-use Rattle.bz_write.specs.Drawn.{part_of, piece_part, drawings}
+use Rattle.bz_write.specs.Layout.{rowed, joined, stacked, gap_after, margin_after, firsts}
+use Rattle.bz_write.specs.LaidOut.{part_of, piece_part, layouts}
 use Rattle.bz_value.proofs.LeadParts.{fits_free}
 use Rattle.bz_suite.specs.View.{Stated, stated, branches, with_suite}
-use Rattle.bz_suite.proofs.KeptGaps.{NoColon, no_colons, token_plain, sort_plain}
+use Rattle.bz_suite.proofs.KeptGaps.{NoColon, no_colons, token_plain, nonterminal_plain}
 use Rattle.bz_suite.proofs.Parts.{part_of as stated_part}
 
 -- ---- lists
@@ -47,10 +47,10 @@ abbrev pub plain_front : Shape → Bool
 plain_front s.none = false
 plain_front s.done = true
 plain_front (s.tok terminals then_) = (no_colons terminals || is_done then_) && plain_front then_
-plain_front (s.sub sort then_) = plain_front then_
+plain_front (s.sub nonterminal then_) = plain_front then_
 plain_front (s.alt left right) = plain_front left && plain_front right
-plain_front (s.list sort separators last then_) = no_colons separators && plain_front then_
-plain_front (s.each sort then_) = false
+plain_front (s.list nonterminal separators last then_) = no_colons separators && plain_front then_
+plain_front (s.each nonterminal then_) = false
 plain_front (s.times group then_) = false
 
 module _ (last_part : Part) where
@@ -59,25 +59,25 @@ module _ (last_part : Part) where
   Front K = (xs : List Part) → K (xs ++ last_part ∷ []) → AllByRecursion NoColon xs
 
   -- where nothing more is in the shape there is no part
-  nothing_fits : (r : Shape) → is_done r ≡ true → (xs : List Part) → Fits IsSort r (xs ++ last_part ∷ []) → ⊥
+  nothing_fits : (r : Shape) → is_done r ≡ true → (xs : List Part) → Fits IsNonterminal r (xs ++ last_part ∷ []) → ⊥
   nothing_fits s.done e [] h = h
   nothing_fits s.done e (x ∷ xs) h = h
   nothing_fits _ e xs h = true≢false (sym e)
 
-  module _ (sort : Sort) (separators : List Terminal) (plain : no_colons separators ≡ true) (last : Bool) (K : List Part → Type 0) (rest : Front K) where
+  module _ (nonterminal : Nonterminal) (separators : List Terminal) (plain : no_colons separators ≡ true) (last : Bool) (K : List Part → Type 0) (rest : Front K) where
     mutual
-      listed_front : (xs : List Part) → Listed (IsSort sort) separators last K (xs ++ last_part ∷ []) → AllByRecursion NoColon xs
+      listed_front : (xs : List Part) → Listed (IsNonterminal nonterminal) separators last K (xs ++ last_part ∷ []) → AllByRecursion NoColon xs
       listed_front [] h = tt
-      listed_front (x ∷ xs) h = (sort_plain sort x h.0, behind_front xs h.1)
+      listed_front (x ∷ xs) h = (nonterminal_plain nonterminal x h.0, after_front xs h.1)
 
-      behind_front : (xs : List Part) → Behind (IsSort sort) separators last K (xs ++ last_part ∷ []) → AllByRecursion NoColon xs
-      behind_front [] h = tt
-      behind_front (x ∷ xs) (inl h) = rest (x ∷ xs) h
-      behind_front (x ∷ xs) (inr (m, inl h)) = (token_plain separators x plain m, listed_front xs h)
-      behind_front (x ∷ xs) (inr (m, inr h)) = (token_plain separators x plain m, rest xs h.1)
+      after_front : (xs : List Part) → After (IsNonterminal nonterminal) separators last K (xs ++ last_part ∷ []) → AllByRecursion NoColon xs
+      after_front [] h = tt
+      after_front (x ∷ xs) (inl h) = rest (x ∷ xs) h
+      after_front (x ∷ xs) (inr (m, inl h)) = (token_plain separators x plain m, listed_front xs h)
+      after_front (x ∷ xs) (inr (m, inr h)) = (token_plain separators x plain m, rest xs h.1)
 
   -- no part but the last is a colon
-  pub front_plain : (r : Shape) → plain_front r ≡ true → (xs : List Part) → Fits IsSort r (xs ++ last_part ∷ []) → AllByRecursion NoColon xs
+  pub front_plain : (r : Shape) → plain_front r ≡ true → (xs : List Part) → Fits IsNonterminal r (xs ++ last_part ∷ []) → AllByRecursion NoColon xs
   front_plain r b [] h = tt
   front_plain s.none b (x ∷ xs) h = absurd h
   front_plain s.done b (x ∷ xs) h = absurd h
@@ -87,13 +87,13 @@ module _ (last_part : Part) where
         | inl plain ↦ (token_plain terminals x plain h.0, front_plain then_ parts.1 xs h.1)
         | inr done ↦ absurd (nothing_fits then_ done xs h.1)
       ]
-  front_plain (s.sub sort then_) b (x ∷ xs) h = (sort_plain sort x h.0, front_plain then_ b xs h.1)
+  front_plain (s.sub nonterminal then_) b (x ∷ xs) h = (nonterminal_plain nonterminal x h.0, front_plain then_ b xs h.1)
   front_plain (s.alt left right) b (x ∷ xs) (inl h) = front_plain left (and_parts (plain_front left) (plain_front right) b).0 (x ∷ xs) h
   front_plain (s.alt left right) b (x ∷ xs) (inr h) = front_plain right (and_parts (plain_front left) (plain_front right) b).1 (x ∷ xs) h
-  front_plain (s.list sort separators last then_) b (x ∷ xs) h =
+  front_plain (s.list nonterminal separators last then_) b (x ∷ xs) h =
       let parts = and_parts (no_colons separators) (plain_front then_) b in
-      listed_front sort separators parts.0 last (Fits IsSort then_) (front_plain then_ parts.1) (x ∷ xs) h
-  front_plain (s.each sort then_) b (x ∷ xs) h = absurd (true≢false (sym b))
+      listed_front nonterminal separators parts.0 last (Fits IsNonterminal then_) (front_plain then_ parts.1) (x ∷ xs) h
+  front_plain (s.each nonterminal then_) b (x ∷ xs) h = absurd (true≢false (sym b))
   front_plain (s.times group then_) b (x ∷ xs) h = absurd (true≢false (sym b))
 
 -- ---- a function has its bracket after two parts
@@ -103,7 +103,7 @@ abbrev parameters_end : Shape
 parameters_end = s.enclosed s.param s.close_round (s.tok s.colon_mark s.done)
 
 -- the bracket is after two parts, since the rest of the shape has no other
-pub two_before : (ps : List Expr) (ys : List Part) → Fits IsSort def_header (map root ps ++ (mark_leaf 40 ∷ ys)) → length ps ≡ 2
+pub two_before : (ps : List Expr) (ys : List Part) → Fits IsNonterminal def_header (map root ps ++ (mark_leaf 40 ∷ ys)) → length ps ≡ 2
 two_before [] ys h = absurd (true≢false (sym h.0))
 two_before (x ∷ []) ys h = absurd (true≢false (sym h.1.0))
 two_before (x ∷ y ∷ []) ys h = refl
@@ -114,24 +114,24 @@ two_before (x ∷ y ∷ z ∷ zs) ys h = absurd (fits_free 40 ys parameters_end 
 -- what is laid out of an expression is a colon where its root is one
 plain_part : (x : Expr) (gap : Bytes) (m : ℕ) → NoColon (root x) → NoColon (part_of x gap m)
 plain_part (Token t) gap m h = h
-plain_part (Form' kind s parts s' items end_ split open_ comments) gap m h = refl
+plain_part (Form' kind s parts s' items end split open_break comments) gap m h = refl
 
 -- no colon among the roots
 abbrev PlainRoots : List Expr → Type 0
 PlainRoots xs = AllByRecursion NoColon (map root xs)
 
 -- none in a row
-pub row_plain : (kind : Kind) (open_ : Bool) (m : ℕ) (gap : Bytes) (n : ℕ) (xs : List Expr) → PlainRoots xs → AllByRecursion NoColon (map piece_part (rowed kind open_ m gap n (drawings xs)))
-row_plain kind open_ m gap n [] h = tt
-row_plain kind open_ m gap n (x ∷ xs) h = (plain_part x gap n h.0, row_plain kind open_ m (gap_behind kind open_ m x (firsts (drawings xs))) (margin_behind open_ m x) xs h.1)
+pub row_plain : (kind : Kind) (open_break : Bool) (m : ℕ) (gap : Bytes) (n : ℕ) (xs : List Expr) → PlainRoots xs → AllByRecursion NoColon (map piece_part (rowed kind open_break m gap n (layouts xs)))
+row_plain kind open_break m gap n [] h = tt
+row_plain kind open_break m gap n (x ∷ xs) h = (plain_part x gap n h.0, row_plain kind open_break m (gap_after kind open_break m x (firsts (layouts xs))) (margin_after open_break m x) xs h.1)
 
 -- none in a sequence, broken
-pub stacked_plain : (m : ℕ) (suffix : Option Bytes) (end_ : List Bytes) (xs : List Expr) → PlainRoots xs → AllByRecursion NoColon (map piece_part (stacked m suffix 41 end_ (drawings xs)))
-stacked_plain m suffix end_ [] h = (refl, tt)
-stacked_plain m suffix end_ (x ∷ xs) h = (plain_part x _ (m + 4) h.0, (refl, stacked_plain m (comments_of x).suffix end_ xs h.1))
+pub stacked_plain : (m : ℕ) (suffix : Option Bytes) (end : List Bytes) (xs : List Expr) → PlainRoots xs → AllByRecursion NoColon (map piece_part (stacked m suffix 41 end (layouts xs)))
+stacked_plain m suffix end [] h = (refl, tt)
+stacked_plain m suffix end (x ∷ xs) h = (plain_part x _ (m + 4) h.0, (refl, stacked_plain m (comments_of x).suffix end xs h.1))
 
 -- or not
-pub joined_plain : (m : ℕ) (gap : Bytes) (one : Bool) (xs : List Expr) → PlainRoots xs → AllByRecursion NoColon (map piece_part (joined m gap 41 one (drawings xs)))
+pub joined_plain : (m : ℕ) (gap : Bytes) (one : Bool) (xs : List Expr) → PlainRoots xs → AllByRecursion NoColon (map piece_part (joined m gap 41 one (layouts xs)))
 joined_plain m gap one [] h = (refl, tt)
 joined_plain m gap true (x ∷ []) h = (plain_part x gap m h.0, (refl, (refl, tt)))
 joined_plain m gap false (x ∷ []) h = (plain_part x gap m h.0, (refl, tt))

@@ -5,8 +5,8 @@ use Rattle.std.proofs.lemmas.Bool.{le-leb, lt-leb}
 use Rattle.bz_items.specs.Characters.{Bytes}
 use Rattle.bz_value.specs.Gaps.{as_list}
 use Rattle.bz_value.specs.Indented.{IndentedGapLine}
-use Rattle.bz_suite.specs.View.{indented_comments, is_taken_line, end_comments, behind_end}
-use Rattle.bz_indent.proofs.BackLines.{Lines, told_at}
+use Rattle.bz_suite.specs.View.{indented_comments, is_taken_line, end_comments, after_end}
+use Rattle.bz_indent.proofs.BackLines.{Lines, commented_at}
 
 -- ---- from the first comment on
 
@@ -45,15 +45,15 @@ same_ends margin (line ∷ lines) = ends_step margin line.line.comment line line
 
 -- what is left from a line on
 abbrev left_by : ℕ → Option Bytes → IndentedGapLine → Lines → Lines
-left_by margin comment line lines = if is_taken_line margin line.indent comment then behind_end margin lines else line ∷ lines
+left_by margin comment line lines = if is_taken_line margin line.indent comment then after_end margin lines else line ∷ lines
 
-left_step : (margin : ℕ) (comment : Option Bytes) (line : IndentedGapLine) (lines : Lines) → line.line.comment ≡ comment → behind_end margin (from_comment lines) ≡ behind_end margin lines
-    → behind_end margin (from_line line.line.comment line lines (from_comment lines)) ≡ behind_end margin (line ∷ lines)
-left_step margin None line lines e same = ap (λ z. behind_end margin (from_line z line lines (from_comment lines))) e ∙ (same ∙ ap (λ z. left_by margin z line lines) (sym e))
-left_step margin (Some text) line lines e same = ap (λ z. behind_end margin (from_line z line lines (from_comment lines))) e
+left_step : (margin : ℕ) (comment : Option Bytes) (line : IndentedGapLine) (lines : Lines) → line.line.comment ≡ comment → after_end margin (from_comment lines) ≡ after_end margin lines
+    → after_end margin (from_line line.line.comment line lines (from_comment lines)) ≡ after_end margin (line ∷ lines)
+left_step margin None line lines e same = ap (λ z. after_end margin (from_line z line lines (from_comment lines))) e ∙ (same ∙ ap (λ z. left_by margin z line lines) (sym e))
+left_step margin (Some text) line lines e same = ap (λ z. after_end margin (from_line z line lines (from_comment lines))) e
 
 -- what is left is the same
-pub same_left : (margin : ℕ) (lines : Lines) → behind_end margin (from_comment lines) ≡ behind_end margin lines
+pub same_left : (margin : ℕ) (lines : Lines) → after_end margin (from_comment lines) ≡ after_end margin lines
 same_left margin [] = refl
 same_left margin (line ∷ lines) = left_step margin line.line.comment line lines refl (same_left margin lines)
 
@@ -89,23 +89,23 @@ bounded_further m n [] e h = tt
 bounded_further m n (line ∷ lines) e h = bounded_more line.line.comment _ _ _ _ (λ k. omega (arith, e, k)) (bounded_further m n lines e) h
 
 -- comments at the margin itself
-pub told_bounded : (m : ℕ) (texts : List Bytes) (lines : Lines) → AreBounded m lines → AreBounded m (told_at m texts ++ lines)
-told_bounded m [] lines h = h
-told_bounded m (text ∷ texts) lines h = omega arith
+pub commented_bounded : (m : ℕ) (texts : List Bytes) (lines : Lines) → AreBounded m lines → AreBounded m (commented_at m texts ++ lines)
+commented_bounded m [] lines h = h
+commented_bounded m (text ∷ texts) lines h = omega arith
 
 -- ---- what a suite takes
 
 -- a suite takes all comments at its margin
-pub own_taken : (m : ℕ) (texts : List Bytes) (lines : Lines) → end_comments m (told_at m texts ++ lines) ≡ texts ++ end_comments m lines
+pub own_taken : (m : ℕ) (texts : List Bytes) (lines : Lines) → end_comments m (commented_at m texts ++ lines) ≡ texts ++ end_comments m lines
 own_taken m [] lines = refl
 own_taken m (text ∷ texts) lines =
-    ap (λ z. if z then text ∷ end_comments m (told_at m texts ++ lines) else []) (le-leb m m (omega arith)) ∙ ap (λ z. text ∷ z) (own_taken m texts lines)
+    ap (λ z. if z then text ∷ end_comments m (commented_at m texts ++ lines) else []) (le-leb m m (omega arith)) ∙ ap (λ z. text ∷ z) (own_taken m texts lines)
 
 -- and leaves what is after them
-pub own_left : (m : ℕ) (texts : List Bytes) (lines : Lines) → behind_end m (told_at m texts ++ lines) ≡ behind_end m lines
+pub own_left : (m : ℕ) (texts : List Bytes) (lines : Lines) → after_end m (commented_at m texts ++ lines) ≡ after_end m lines
 own_left m [] lines = refl
 own_left m (text ∷ texts) lines =
-    ap (λ z. if z then behind_end m (told_at m texts ++ lines) else told_at m (text ∷ texts) ++ lines) (le-leb m m (omega arith)) ∙ own_left m texts lines
+    ap (λ z. if z then after_end m (commented_at m texts ++ lines) else commented_at m (text ∷ texts) ++ lines) (le-leb m m (omega arith)) ∙ own_left m texts lines
 
 none_step : (margin m : ℕ) (comment : Option Bytes) (line : IndentedGapLine) (lines : Lines) → m < margin → bounded_line comment (line.indent ≤ m) (AreBounded m lines)
     → (AreBounded m lines → end_comments margin lines ≡ []) → ends_by margin comment line lines ≡ []
@@ -119,11 +119,11 @@ none_taken margin m [] less h = refl
 none_taken margin m (line ∷ lines) less h = none_step margin m line.line.comment line lines less h (none_taken margin m lines less)
 
 all_step : (margin m : ℕ) (comment : Option Bytes) (line : IndentedGapLine) (lines : Lines) → m < margin → bounded_line comment (line.indent ≤ m) (AreBounded m lines)
-    → (AreBounded m lines → behind_end margin lines ≡ from_comment lines) → left_by margin comment line lines ≡ from_line comment line lines (from_comment lines)
+    → (AreBounded m lines → after_end margin lines ≡ from_comment lines) → left_by margin comment line lines ≡ from_line comment line lines (from_comment lines)
 all_step margin m None line lines less h more = more h
-all_step margin m (Some text) line lines less h more = ap (λ z. if z then behind_end margin lines else line ∷ lines) (lt-leb margin line.indent (omega (arith, less, h)))
+all_step margin m (Some text) line lines less h more = ap (λ z. if z then after_end margin lines else line ∷ lines) (lt-leb margin line.indent (omega (arith, less, h)))
 
 -- all lines that belong further out are left, from the first comment on
-pub all_left : (margin m : ℕ) (lines : Lines) → m < margin → AreBounded m lines → behind_end margin lines ≡ from_comment lines
+pub all_left : (margin m : ℕ) (lines : Lines) → m < margin → AreBounded m lines → after_end margin lines ≡ from_comment lines
 all_left margin m [] less h = refl
 all_left margin m (line ∷ lines) less h = all_step margin m line.line.comment line lines less h (all_left margin m lines less)

@@ -12,20 +12,20 @@ use Rattle.bz_value.specs.Gaps.{GapLine, before_groups, groups_of, all_but_last,
 use Rattle.bz_value.specs.Indented.{IndentedGapLine, indented}
 use Rattle.bz_value.specs.Proper.{IsComment}
 use Rattle.bz_view.specs.View.{blocks}
-use Rattle.bz_write.proofs.Gapped.{ended_line, told}
+use Rattle.bz_write.proofs.Gapped.{ended_line, commented}
 use Rattle.bz_write.proofs.Made.{two}
-use Rattle.bz_write.proofs.Waiting.{Waits, nothing_waits, blank_waits, end_blocks, told_blocks, block_waits}
+use Rattle.bz_write.proofs.Waiting.{Waits, nothing_waits, blank_waits, end_blocks, commented_blocks, block_waits}
 use Rattle.bz_suite.specs.declared.value.Statement.{Statement, Simple, Compound'}
 use Rattle.bz_suite.specs.declared.value.BzlItem.{BzlItem}
 use Rattle.bz_suite.specs.declared.value.BzlItem.TheVariants as b
 use Rattle.bz_suite.specs.Proper.{IsProperBzlItem, IsProperBzl}
-use Rattle.bz_suite.specs.View.{Read, stated, indented_lines_before, bzl_item, block_items, bzl_items, bzl_view_of}
+use Rattle.bz_suite.specs.View.{ReadStatements, stated, indented_lines_before, bzl_item, block_items, bzl_items, bzl_view_of}
 use Rattle.bz_suite.proofs.Lined.{plain_lines}
 use Rattle.bz_indent.specs.Layout.{indented_lines, before_others}
-use Rattle.bz_indent.specs.Drawn.{left_behind, statement_part, bzl_lines, bzl_drawn}
+use Rattle.bz_indent.specs.LaidOut.{left_after, statement_part, bzl_lines, bzl_laid_out}
 use Rattle.bz_indent.specs.Level.{level_statement, level}
-use Rattle.bz_indent.proofs.BackLines.{Lines, line_with, AreIndented, told_at, plain_told, no_lines, a_blank_line, lines_appended, comments_at, whole_gap, gap_lines}
-use Rattle.bz_indent.proofs.BackEnds.{from_line, from_comment, AreBounded, told_bounded}
+use Rattle.bz_indent.proofs.BackLines.{Lines, line_with, AreIndented, commented_at, plain_commented, no_lines, a_blank_line, lines_appended, comments_at, whole_gap, gap_lines}
+use Rattle.bz_indent.proofs.BackEnds.{from_line, from_comment, AreBounded, commented_bounded}
 use Rattle.bz_indent.proofs.BackLeft.{left_lines, left_are, above_of, comments_above, statement_first}
 use Rattle.bz_indent.proofs.BackSuites.{IsReadAs}
 use Rattle.bz_indent.proofs.BackStatements.{statement_back}
@@ -33,14 +33,14 @@ use Rattle.bz_indent.proofs.BackStatements.{statement_back}
 -- ---- the groups of lines, with those before the first comment and without them
 
 -- an empty group in front changes neither the last group nor the Blocks before it
-behind_blank : (comment : Option Bytes) (gs : List (List Bytes)) → (all_but_last ([] ∷ before_groups comment gs) ≡ [] ∷ all_but_last (before_groups comment gs)) × (last_group ([] ∷ before_groups comment gs) ≡ last_group (before_groups comment gs))
-behind_blank None gs = (refl, refl)
-behind_blank (Some text) [] = (refl, refl)
-behind_blank (Some text) (g ∷ gs) = (refl, refl)
+after_blank : (comment : Option Bytes) (gs : List (List Bytes)) → (all_but_last ([] ∷ before_groups comment gs) ≡ [] ∷ all_but_last (before_groups comment gs)) × (last_group ([] ∷ before_groups comment gs) ≡ last_group (before_groups comment gs))
+after_blank None gs = (refl, refl)
+after_blank (Some text) [] = (refl, refl)
+after_blank (Some text) (g ∷ gs) = (refl, refl)
 
 blank_first : (lines : List GapLine) → (all_but_last ([] ∷ groups_of lines) ≡ [] ∷ all_but_last (groups_of lines)) × (last_group ([] ∷ groups_of lines) ≡ last_group (groups_of lines))
 blank_first [] = (refl, refl)
-blank_first (line ∷ lines) = behind_blank line.comment (groups_of lines)
+blank_first (line ∷ lines) = after_blank line.comment (groups_of lines)
 
 -- what groups say: the Blocks in all of them, those in all but the last, and the last
 record SaysSame (gs hs : List (List Bytes)) : Type 0 where
@@ -119,14 +119,14 @@ between_known (b.Statement (Compound' size own)) (y ∷ ys) = if_blank false
 -- the lines of these items up to the first statement
 abbrev file_lines : List BzlItem → Lines
 file_lines [] = []
-file_lines (b.Block texts ∷ items) = told_at 0 texts ++ ((between_known (b.Block texts) items).lines ++ file_lines items)
-file_lines (b.Statement x ∷ items) = told_at 0 (above_of x)
+file_lines (b.Block texts ∷ items) = commented_at 0 texts ++ ((between_known (b.Block texts) items).lines ++ file_lines items)
+file_lines (b.Statement x ∷ items) = commented_at 0 (above_of x)
 
 -- they are not indented
 file_bounded : (items : List BzlItem) → AreBounded 0 (file_lines items)
 file_bounded [] = tt
-file_bounded (b.Block texts ∷ items) = told_bounded 0 texts _ ((between_known (b.Block texts) items).bounded (file_lines items) (file_bounded items))
-file_bounded (b.Statement x ∷ items) = subst (AreBounded 0) (append-nil (told_at 0 (above_of x))) (told_bounded 0 (above_of x) [] tt)
+file_bounded (b.Block texts ∷ items) = commented_bounded 0 texts _ ((between_known (b.Block texts) items).bounded (file_lines items) (file_bounded items))
+file_bounded (b.Statement x ∷ items) = subst (AreBounded 0) (append-nil (commented_at 0 (above_of x))) (commented_bounded 0 (above_of x) [] tt)
 
 -- what is read of a statement that the file begins with
 statement_items : (now : Lines) (gap : Bytes) (x : Statement) (xs : List Part) →
@@ -141,10 +141,10 @@ file_before : (items : List BzlItem) → AllByRecursion IsProperBzlItem items �
 file_before [] h gap lines k = whole_gap gap lines k ∙ sym (append-nil lines)
 file_before (b.Block texts ∷ items) h gap lines k =
     let next : IsBetween (before_others (b.Block texts) items) = between_known (b.Block texts) items in
-    file_before items h.1 ((gap ++ indented_lines 0 texts) ++ before_others (b.Block texts) items) ((lines ++ told_at 0 texts) ++ next.lines)
-    (lines_appended (gap ++ indented_lines 0 texts) (before_others (b.Block texts) items) (lines ++ told_at 0 texts) next.lines
-    (lines_appended gap (indented_lines 0 texts) lines (told_at 0 texts) k (comments_at 0 texts (recursion_from_All IsComment texts h.0.1))) next.are)
-    ∙ (append_assoc (lines ++ told_at 0 texts) next.lines (file_lines items) ∙ append_assoc lines (told_at 0 texts) (next.lines ++ file_lines items))
+    file_before items h.1 ((gap ++ indented_lines 0 texts) ++ before_others (b.Block texts) items) ((lines ++ commented_at 0 texts) ++ next.lines)
+    (lines_appended (gap ++ indented_lines 0 texts) (before_others (b.Block texts) items) (lines ++ commented_at 0 texts) next.lines
+    (lines_appended gap (indented_lines 0 texts) lines (commented_at 0 texts) k (comments_at 0 texts (recursion_from_All IsComment texts h.0.1))) next.are)
+    ∙ (append_assoc (lines ++ commented_at 0 texts) next.lines (file_lines items) ∙ append_assoc lines (commented_at 0 texts) (next.lines ++ file_lines items))
 file_before (b.Statement x ∷ items) h gap lines k = ap indented (statement_first 0 gap x h.0) ∙ gap_lines 0 gap lines (above_of x) k (comments_above x h.0)
 
 -- items, the first after lines that say these Blocks
@@ -155,41 +155,41 @@ items_back [] h gap now waiting bs waits e =
     ap (λ z. map bzl_item z ++ []) (says.all ∙ (ap (λ z. blocks (groups z)) (append-nil waiting) ∙ end_blocks (plain_lines waiting) bs waits))
 items_back (b.Block [] ∷ items) h gap now waiting bs waits e = absurd (h.0.0 refl)
 items_back (b.Block (text ∷ texts) ∷ []) h gap now waiting bs waits e =
-    let all : Lines = waiting ++ (told_at 0 (text ∷ texts) ++ []) in
+    let all : Lines = waiting ++ (commented_at 0 (text ∷ texts) ++ []) in
     let says : SaysSame (groups now) (groups all) = both_say now all e in
-    let plain : plain_lines all ≡ plain_lines waiting ++ told (text ∷ texts) = plain_append waiting (told_at 0 (text ∷ texts) ++ []) ∙ ap (λ z. plain_lines waiting ++ z) (ap plain_lines (append-nil (told_at 0 (text ∷ texts))) ∙ plain_told 0 (text ∷ texts)) in
-    ap (λ z. map bzl_item z ++ []) (says.all ∙ (ap (λ z. blocks (groups_of z)) plain ∙ told_blocks (plain_lines waiting) bs text texts waits))
+    let plain : plain_lines all ≡ plain_lines waiting ++ commented (text ∷ texts) = plain_append waiting (commented_at 0 (text ∷ texts) ++ []) ∙ ap (λ z. plain_lines waiting ++ z) (ap plain_lines (append-nil (commented_at 0 (text ∷ texts))) ∙ plain_commented 0 (text ∷ texts)) in
+    ap (λ z. map bzl_item z ++ []) (says.all ∙ (ap (λ z. blocks (groups_of z)) plain ∙ commented_blocks (plain_lines waiting) bs text texts waits))
     ∙ (append-nil (map bzl_item (bs ++ (i.Block (text ∷ texts) ∷ []))) ∙ map-append bzl_item bs (i.Block (text ∷ texts) ∷ []))
 items_back (b.Block (text ∷ texts) ∷ y ∷ ys) h gap now waiting bs waits e =
-    let own : Lines = told_at 0 (text ∷ texts) in
+    let own : Lines = commented_at 0 (text ∷ texts) in
     let all : Lines = (waiting ++ own) ++ blank in
-    let plain : plain_lines all ≡ (plain_lines waiting ++ told (text ∷ texts)) ++ (ended_line None ∷ []) =
-    plain_append (waiting ++ own) blank ∙ ap (λ z. z ++ (ended_line None ∷ [])) (plain_append waiting own ∙ ap (λ z. plain_lines waiting ++ z) (plain_told 0 (text ∷ texts))) in
+    let plain : plain_lines all ≡ (plain_lines waiting ++ commented (text ∷ texts)) ++ (ended_line None ∷ []) =
+    plain_append (waiting ++ own) blank ∙ ap (λ z. z ++ (ended_line None ∷ [])) (plain_append waiting own ∙ ap (λ z. plain_lines waiting ++ z) (plain_commented 0 (text ∷ texts))) in
     let more : List Item = bs ++ (i.Block (text ∷ texts) ∷ []) in
     items_back (y ∷ ys) h.1 ((gap ++ indented_lines 0 (text ∷ texts)) ++ (line_feed ∷ [])) now all more (subst (λ z. Waits z more) (sym plain) (block_waits (plain_lines waiting) bs text texts waits))
     (e ∙ ap from_comment (sym (append_assoc (waiting ++ own) blank (file_lines (y ∷ ys)) ∙ append_assoc waiting own (blank ++ file_lines (y ∷ ys)))))
     ∙ (ap (λ z. z ++ level (y ∷ ys)) (map-append bzl_item bs (i.Block (text ∷ texts) ∷ [])) ∙ append_assoc (map bzl_item bs) (b.Block (text ∷ texts) ∷ []) (level (y ∷ ys)))
 items_back (b.Statement x ∷ items) h gap now waiting bs waits e =
     let next : IsBetween (before_others (b.Statement x) items) = between_known (b.Statement x) items in
-    let all : Lines = waiting ++ told_at 0 (above_of x) in
+    let all : Lines = waiting ++ commented_at 0 (above_of x) in
     let says : SaysSame (groups now) (groups all) = both_say now all e in
-    let plain : plain_lines all ≡ plain_lines waiting ++ told (above_of x) = plain_append waiting (told_at 0 (above_of x)) ∙ ap (λ z. plain_lines waiting ++ z) (plain_told 0 (above_of x)) in
-    let gap' : Bytes = left_behind 0 x ++ before_others (b.Statement x) items in
+    let plain : plain_lines all ≡ plain_lines waiting ++ commented (above_of x) = plain_append waiting (commented_at 0 (above_of x)) ∙ ap (λ z. plain_lines waiting ++ z) (plain_commented 0 (above_of x)) in
+    let gap' : Bytes = left_after 0 x ++ before_others (b.Statement x) items in
     let xs : List Part = bzl_lines gap' items in
     let rest : Lines = next.lines ++ file_lines items in
     let after : indented_lines_before (map stated xs) [] ≡ left_lines 0 x ++ rest =
-    file_before items h.1 gap' (left_lines 0 x ++ next.lines) (lines_appended (left_behind 0 x) (before_others (b.Statement x) items) (left_lines 0 x) next.lines (left_are 0 x h.0) next.are) ∙ append_assoc (left_lines 0 x) next.lines (file_lines items) in
-    let read : List Bytes → Lines → Read (List Statement) = (stated (statement_part 0 gap x)).statement in
-    let own : Read (List Statement) = read (above_of x) (left_lines 0 x ++ rest) in
+    file_before items h.1 gap' (left_lines 0 x ++ next.lines) (lines_appended (left_after 0 x) (before_others (b.Statement x) items) (left_lines 0 x) next.lines (left_are 0 x h.0) next.are) ∙ append_assoc (left_lines 0 x) next.lines (file_lines items) in
+    let read : List Bytes → Lines → ReadStatements (List Statement) = (stated (statement_part 0 gap x)).statement in
+    let own : ReadStatements (List Statement) = read (above_of x) (left_lines 0 x ++ rest) in
     let back : IsReadAs own (level_statement x ∷ []) rest = statement_back 0 gap x h.0 rest (next.bounded (file_lines items) (file_bounded items)) in
-    let out : Read (List Statement) → List BzlItem = λ z. map b.Statement z.0 ++ bzl_items z.1 xs in
+    let out : ReadStatements (List Statement) → List BzlItem = λ z. map b.Statement z.0 ++ bzl_items z.1 xs in
     statement_items now gap x xs
     ∙ two (λ z w. map bzl_item z ++ w) (says.front ∙ (ap (λ z. blocks (all_but_last (groups_of z))) plain ∙ waits.front (above_of x)))
     (two (λ z w. out (read z w)) (says.last ∙ (ap (λ z. last_group (groups_of z)) plain ∙ waits.last (above_of x))) after
     ∙ two (λ z w. map b.Statement z ++ w) back.value (items_back items h.1 gap' own.1 next.lines [] next.waits back.left))
 
 -- the view of the tree of the layout of a proper value is the value, levelled
-pub bzl_back : (items : List BzlItem) → IsProperBzl items → bzl_view_of (bzl_drawn items) ≡ level items
+pub bzl_back : (items : List BzlItem) → IsProperBzl items → bzl_view_of (bzl_laid_out items) ≡ level items
 bzl_back items h =
     let each : AllByRecursion IsProperBzlItem items = recursion_from_All IsProperBzlItem items h in
     items_back items each [] (indented_lines_before (map stated (bzl_lines [] items)) []) [] [] nothing_waits (ap from_comment (file_before items each [] [] no_lines))

@@ -20,8 +20,8 @@ use Rattle.bz_suite.specs.Proper.{IsProperStatement, AreProperBranches, ArePrope
 use Rattle.bz_suite.specs.View.{stated, indented_lines_before}
 use Rattle.bz_suite.proofs.Parts.{part_of as stated_part}
 use Rattle.bz_indent.specs.Layout.{indented_lines}
-use Rattle.bz_indent.specs.Drawn.{gap_to_margin, left_behind, left_branches, left_statements, statement_part, statement_parts, branch_parts}
-use Rattle.bz_indent.proofs.BackLines.{Lines, AreIndented, told_at, no_lines, lines_appended, comments_at, gap_lines}
+use Rattle.bz_indent.specs.LaidOut.{gap_to_margin, left_after, left_branches, left_statements, statement_part, statement_parts, branch_parts}
+use Rattle.bz_indent.proofs.BackLines.{Lines, AreIndented, commented_at, no_lines, lines_appended, comments_at, gap_lines}
 use Rattle.bz_indent.proofs.BackHeads.{header_first}
 use Rattle.bz_indent.proofs.BackProper.{headers_read}
 
@@ -35,7 +35,7 @@ abbrev mutual
 
   pub branch_lines : ℕ → Lines → {n : _} → Row_of-Branch n → Lines
   branch_lines m lines end_of-Branch = lines
-  branch_lines m lines (more_of-Branch head size statements end_ rest) = branch_lines m (statement_lines (m + 4) [] statements ++ told_at (m + 4) end_) rest
+  branch_lines m lines (more_of-Branch head size statements end rest) = branch_lines m (statement_lines (m + 4) [] statements ++ commented_at (m + 4) end) rest
 
   pub statement_lines : ℕ → Lines → {n : _} → Row_of-Statement n → Lines
   statement_lines m lines end_of-Statement = lines
@@ -43,27 +43,27 @@ abbrev mutual
 
 mutual
   -- these are the lines of that gap
-  pub left_are : (m : ℕ) (x : Statement) → IsProperStatement x → AreIndented (left_behind m x) (left_lines m x)
+  pub left_are : (m : ℕ) (x : Statement) → IsProperStatement x → AreIndented (left_after m x) (left_lines m x)
   left_are m (Simple x) h = no_lines
   left_are m (Compound' size own) h = branches_are m _ own h.1 [] [] no_lines
 
   branches_are : (m : ℕ) (n : _) (r : Row_of-Branch n) → AreProperBranches r → (gap : Bytes) (lines : Lines) → AreIndented gap lines → AreIndented (left_branches m gap r) (branch_lines m lines r)
   branches_are m n end_of-Branch h gap lines k = k
-  branches_are m n (more_of-Branch head size statements end_ rest) h gap lines k =
-      branches_are m _ rest h.3 (left_statements (m + 4) [] statements ++ indented_lines (m + 4) end_) (statement_lines (m + 4) [] statements ++ told_at (m + 4) end_)
-      (lines_appended (left_statements (m + 4) [] statements) (indented_lines (m + 4) end_) (statement_lines (m + 4) [] statements) (told_at (m + 4) end_)
-      (statements_are (m + 4) _ statements h.1 [] [] no_lines) (comments_at (m + 4) end_ (recursion_from_All IsComment end_ h.2)))
+  branches_are m n (more_of-Branch head size statements end rest) h gap lines k =
+      branches_are m _ rest h.3 (left_statements (m + 4) [] statements ++ indented_lines (m + 4) end) (statement_lines (m + 4) [] statements ++ commented_at (m + 4) end)
+      (lines_appended (left_statements (m + 4) [] statements) (indented_lines (m + 4) end) (statement_lines (m + 4) [] statements) (commented_at (m + 4) end)
+      (statements_are (m + 4) _ statements h.1 [] [] no_lines) (comments_at (m + 4) end (recursion_from_All IsComment end h.2)))
 
   pub statements_are : (m : ℕ) (n : _) (r : Row_of-Statement n) → AreProperStatements r → (gap : Bytes) (lines : Lines) → AreIndented gap lines → AreIndented (left_statements m gap r) (statement_lines m lines r)
   statements_are m n end_of-Statement h gap lines k = k
-  statements_are m n (more_of-Statement x rest) h gap lines k = statements_are m _ rest h.1 (left_behind m x) (left_lines m x) (left_are m x h.0)
+  statements_are m n (more_of-Statement x rest) h gap lines k = statements_are m _ rest h.1 (left_after m x) (left_lines m x) (left_are m x h.0)
 
 -- ---- the comments above a statement
 
 -- above the first of these headers
 abbrev pub above_first : {n : _} → Row_of-Branch n → List Bytes
 above_first end_of-Branch = []
-above_first (more_of-Branch head size statements end_ rest) = head.comments.before
+above_first (more_of-Branch head size statements end rest) = head.comments.before
 
 -- above a statement
 abbrev pub above_of : Statement → List Bytes
@@ -73,12 +73,12 @@ above_of (Compound' size own) = above_first own
 -- the lines before what follows: the comments above the next one, or what is after all
 abbrev pub coming : ℕ → {n : _} → Row_of-Statement n → Lines → Lines
 coming m end_of-Statement rest = rest
-coming m (more_of-Statement x more) rest = told_at m (above_of x)
+coming m (more_of-Statement x more) rest = commented_at m (above_of x)
 
 -- the same of headers
 abbrev pub coming_header : ℕ → {n : _} → Row_of-Branch n → Lines → Lines
 coming_header m end_of-Branch rest = rest
-coming_header m (more_of-Branch head size statements end_ more) rest = told_at m head.comments.before
+coming_header m (more_of-Branch head size statements end more) rest = commented_at m head.comments.before
 
 -- the gap before a node is that before its first part
 node_first : (kind : Kind) (ps : List Part) → (seen (p.Node (record { kind = kind; parts = ps }))).gap ≡ first_seen_gap (map seen ps)
@@ -86,7 +86,7 @@ node_first kind ps = ap (λ z. z.gap) (seen_made kind ps) ∙ node_gap kind (map
 
 first_above : (n : _) (r : Row_of-Branch n) → AreHeaders (heads r) → AllByRecursion IsComment (above_first r)
 first_above n end_of-Branch h = tt
-first_above n (more_of-Branch head size statements end_ rest) h = (headers_read (heads (more_of-Branch head size statements end_ rest)) h).each.1.before
+first_above n (more_of-Branch head size statements end rest) h = (headers_read (heads (more_of-Branch head size statements end rest)) h).each.1.before
 
 -- they are comments
 pub comments_above : (x : Statement) → IsProperStatement x → AllByRecursion IsComment (above_of x)
@@ -97,8 +97,8 @@ comments_above (Compound' size own) h = first_above _ own h.0
 
 branches_first : (m : ℕ) (lines : Bytes) (n : _) (r : Row_of-Branch n) → AreHeaders (heads r) → first_seen_gap (map seen (branch_parts m lines r)) ≡ gap_to_margin m lines (above_first r)
 branches_first m lines n end_of-Branch h = absurd h
-branches_first m lines n (more_of-Branch head size statements end_ rest) h =
-    header_first m (gap_to_margin m lines head.comments.before) head _ (headers_read (heads (more_of-Branch head size statements end_ rest)) h).each.1
+branches_first m lines n (more_of-Branch head size statements end rest) h =
+    header_first m (gap_to_margin m lines head.comments.before) head _ (headers_read (heads (more_of-Branch head size statements end rest)) h).each.1
 
 -- the gap before a statement: the lines that are handed on, the comments above it, its margin
 pub statement_first : (m : ℕ) (lines : Bytes) (x : Statement) → IsProperStatement x → (stated (statement_part m lines x)).part.gap ≡ gap_to_margin m lines (above_of x)

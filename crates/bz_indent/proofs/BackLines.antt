@@ -8,13 +8,13 @@ use Rattle.std.proofs.Math.Bool.{and-false}
 use Rattle.bz_lex.specs.Gaps.{indent, are_indents, is_indent}
 use Rattle.bz_items.specs.Characters.{Bytes, line_feed, space}
 use Rattle.bz_value.specs.Gaps.{GapLine, lines_of}
-use Rattle.bz_value.specs.Indented.{IndentedGapLine, indented, indented_from, indented_behind}
+use Rattle.bz_value.specs.Indented.{IndentedGapLine, indented, indented_from, indented_after}
 use Rattle.bz_value.specs.Proper.{IsComment}
-use Rattle.bz_write.proofs.Gapped.{ended_line, told, comment_line, OneLine, words_of}
+use Rattle.bz_write.proofs.Gapped.{ended_line, commented, comment_line, OneLine, words_of}
 use Rattle.bz_write.proofs.Made.{two}
 use Rattle.bz_suite.proofs.Lined.{plain_lines}
 use Rattle.bz_indent.specs.Layout.{indented_line, indented_lines}
-use Rattle.bz_indent.specs.Drawn.{gap_to_margin}
+use Rattle.bz_indent.specs.LaidOut.{gap_to_margin}
 
 -- lines of a gap with their indents
 abbrev pub Lines : Type 0
@@ -25,14 +25,14 @@ abbrev pub line_with : ℕ → GapLine → IndentedGapLine
 line_with m line = record { indent = m; line = line }
 
 -- comment lines at a margin
-abbrev pub told_at : ℕ → List Bytes → Lines
-told_at m [] = []
-told_at m (text ∷ texts) = line_with m (ended_line (Some text)) ∷ told_at m texts
+abbrev pub commented_at : ℕ → List Bytes → Lines
+commented_at m [] = []
+commented_at m (text ∷ texts) = line_with m (ended_line (Some text)) ∷ commented_at m texts
 
 -- without their indents they are the comments, line by line
-pub plain_told : (m : ℕ) (texts : List Bytes) → plain_lines (told_at m texts) ≡ told texts
-plain_told m [] = refl
-plain_told m (text ∷ texts) = ap (λ z. ended_line (Some text) ∷ z) (plain_told m texts)
+pub plain_commented : (m : ℕ) (texts : List Bytes) → plain_lines (commented_at m texts) ≡ commented texts
+plain_commented m [] = refl
+plain_commented m (text ∷ texts) = ap (λ z. ended_line (Some text) ∷ z) (plain_commented m texts)
 
 -- ---- a comment after its margin
 
@@ -45,9 +45,9 @@ margin_counted : (m : ℕ) (gap : Bytes) → indented (replicate m space ++ gap)
 margin_counted m gap = let all : 0 + m ≡ m = omega arith in spaces_counted 0 m gap ∙ ap (λ k. indented_from k gap) all
 
 -- what is read after the newline of a comment
-behind_words : (words rest : Bytes) → OneLine words → indented_behind (words ++ (line_feed ∷ rest)) ≡ indented rest
-behind_words [] rest h = refl
-behind_words (c ∷ words) rest h = rw (ne_eqb c line_feed h.0) (behind_words words rest h.1)
+after_words : (words rest : Bytes) → OneLine words → indented_after (words ++ (line_feed ∷ rest)) ≡ indented rest
+after_words [] rest h = refl
+after_words (c ∷ words) rest h = rw (ne_eqb c line_feed h.0) (after_words words rest h.1)
 
 -- the first of these lines; an empty one where there is none
 abbrev first_line : List GapLine → GapLine
@@ -58,7 +58,7 @@ first_line (line ∷ lines) = line
 comment_read : (m : ℕ) (text rest : Bytes) → IsComment text → indented_from m (text ++ (line_feed ∷ rest)) ≡ line_with m (ended_line (Some text)) ∷ indented rest
 comment_read m text rest h =
     ap (λ z. indented_from m (z ++ (line_feed ∷ rest))) h.begins.1
-    ∙ two (λ line lines. line_with m line ∷ lines) (ap first_line (ap (λ z. lines_of (z ++ (line_feed ∷ rest))) (sym h.begins.1) ∙ comment_line text rest h)) (behind_words h.begins.0 rest (words_of text h))
+    ∙ two (λ line lines. line_with m line ∷ lines) (ap first_line (ap (λ z. lines_of (z ++ (line_feed ∷ rest))) (sym h.begins.1) ∙ comment_line text rest h)) (after_words h.begins.0 rest (words_of text h))
 
 -- ---- whole lines
 
@@ -83,9 +83,9 @@ one_line m text h rest =
     ∙ (margin_counted m (text ++ (line_feed ∷ rest)) ∙ comment_read m text rest h)
 
 -- comments, each on a line of its own
-pub comments_at : (m : ℕ) (texts : List Bytes) → AllByRecursion IsComment texts → AreIndented (indented_lines m texts) (told_at m texts)
+pub comments_at : (m : ℕ) (texts : List Bytes) → AllByRecursion IsComment texts → AreIndented (indented_lines m texts) (commented_at m texts)
 comments_at m [] h = no_lines
-comments_at m (text ∷ texts) h = lines_appended (indented_line m text) (indented_lines m texts) (line_with m (ended_line (Some text)) ∷ []) (told_at m texts) (one_line m text h.0) (comments_at m texts h.1)
+comments_at m (text ∷ texts) h = lines_appended (indented_line m text) (indented_lines m texts) (line_with m (ended_line (Some text)) ∷ []) (commented_at m texts) (one_line m text h.0) (comments_at m texts h.1)
 
 -- a gap of whole lines says these lines
 pub whole_gap : (gap : Bytes) (ls : Lines) → AreIndented gap ls → indented gap ≡ ls
@@ -96,10 +96,10 @@ spaces_are_none : (m : ℕ) → indented (replicate m space) ≡ []
 spaces_are_none m = ap indented (sym (append-nil (replicate m space))) ∙ margin_counted m []
 
 -- the gap before the first token of what is at a margin
-pub gap_lines : (m : ℕ) (lines : Bytes) (ls : Lines) (texts : List Bytes) → AreIndented lines ls → AllByRecursion IsComment texts → indented (gap_to_margin m lines texts) ≡ ls ++ told_at m texts
+pub gap_lines : (m : ℕ) (lines : Bytes) (ls : Lines) (texts : List Bytes) → AreIndented lines ls → AllByRecursion IsComment texts → indented (gap_to_margin m lines texts) ≡ ls ++ commented_at m texts
 gap_lines m lines ls texts h k =
     h (indented_lines m texts ++ replicate m space)
-    ∙ ap (λ z. ls ++ z) (comments_at m texts k (replicate m space) ∙ (ap (λ z. told_at m texts ++ z) (spaces_are_none m) ∙ append-nil (told_at m texts)))
+    ∙ ap (λ z. ls ++ z) (comments_at m texts k (replicate m space) ∙ (ap (λ z. commented_at m texts ++ z) (spaces_are_none m) ∙ append-nil (commented_at m texts)))
 
 -- ---- the margin of a gap
 
@@ -109,9 +109,9 @@ not_all_indents [] b = refl
 not_all_indents (c ∷ a) b = ap (λ z. is_indent c && z) (not_all_indents a b) ∙ and-false (is_indent c)
 
 -- the indent is after the last newline
-behind_newline : (a b : Bytes) → indent (a ++ (line_feed ∷ b)) ≡ indent b
-behind_newline [] b = refl
-behind_newline (c ∷ a) b = ap (λ t. if t then c ∷ (a ++ (line_feed ∷ b)) else indent (a ++ (line_feed ∷ b))) (not_all_indents (c ∷ a) b) ∙ behind_newline a b
+after_newline : (a b : Bytes) → indent (a ++ (line_feed ∷ b)) ≡ indent b
+after_newline [] b = refl
+after_newline (c ∷ a) b = ap (λ t. if t then c ∷ (a ++ (line_feed ∷ b)) else indent (a ++ (line_feed ∷ b))) (not_all_indents (c ∷ a) b) ∙ after_newline a b
 
 -- spaces are an indent
 all_indents : (m : ℕ) → are_indents (replicate m space) ≡ true
@@ -122,15 +122,15 @@ own_indent : (m : ℕ) → indent (replicate m space) ≡ replicate m space
 own_indent zero = refl
 own_indent (suc m) = ap (λ t. if t then replicate (suc m) space else indent (replicate m space)) (all_indents (suc m))
 
-behind_lines : (m : ℕ) (texts : List Bytes) → indent (indented_lines m texts ++ replicate m space) ≡ indent (replicate m space)
-behind_lines m [] = refl
-behind_lines m (text ∷ texts) =
+after_lines : (m : ℕ) (texts : List Bytes) → indent (indented_lines m texts ++ replicate m space) ≡ indent (replicate m space)
+after_lines m [] = refl
+after_lines m (text ∷ texts) =
     let rest : Bytes = indented_lines m texts ++ replicate m space in
     ap indent
     (append_assoc (indented_line m text) (indented_lines m texts) (replicate m space)
     ∙ (append_assoc (replicate m space) (text ++ line_feed ∷ []) rest ∙ (ap (λ z. replicate m space ++ z) (append_assoc text (line_feed ∷ []) rest) ∙ sym (append_assoc (replicate m space) text (line_feed ∷ rest)))))
-    ∙ (behind_newline (replicate m space ++ text) rest ∙ behind_lines m texts)
+    ∙ (after_newline (replicate m space ++ text) rest ∙ after_lines m texts)
 
 -- what is after the lines of comments at a margin is indented to that margin
 pub gap_margin : (m : ℕ) (texts : List Bytes) → length (indent (gap_to_margin m [] texts)) ≡ m
-gap_margin m texts = ap length (behind_lines m texts ∙ own_indent m) ∙ length-replicate m space
+gap_margin m texts = ap length (after_lines m texts ∙ own_indent m) ∙ length-replicate m space

@@ -5,16 +5,16 @@ use Rattle.std.proofs.lemmas.List.Elements.{recursion_from_All}
 use Rattle.bz_tree.specs.declared.kind.Kind.{Kind}
 use Rattle.bz_tree.specs.declared.kind.Kind.TheVariants as k
 use Rattle.bz_tree.specs.declared.tree.Part.{Part}
-use Rattle.bz_tree.specs.Legal.{IsSort}
+use Rattle.bz_tree.specs.Legal.{IsNonterminal}
 use Rattle.bz_tree.specs.Shapes.{Shape, Terminal, Fits, tok, has_token, is_kind, one_keyword}
 use Rattle.bz_tree.specs.Spots.{Spot, Begins}
 use Rattle.bz_tree.specs.Suites.{def_header, for_header, test_header, else_header}
 use Rattle.bz_value.specs.declared.value.Expr.{Expr}
 use Rattle.bz_value.specs.declared.value.Form.{Form}
 use Rattle.bz_value.specs.Empty.{is_empty}
-use Rattle.bz_value.specs.Proper.{IsComment, comments_of, behind_expr}
+use Rattle.bz_value.specs.Proper.{IsComment, comments_of, after_expr}
 use Rattle.bz_value.specs.Roots.{root, mark_leaf, each_with_comma}
-use Rattle.bz_write.specs.Drawn.{drawings}
+use Rattle.bz_write.specs.LaidOut.{layouts}
 use Rattle.bz_write.proofs.Readable.{readable, AreHeads, AreItems}
 use Rattle.bz_write.proofs.ReadBack.{expr_back}
 use Rattle.bz_write.proofs.Viewed.{Reads}
@@ -52,12 +52,12 @@ items_plain true items none h = without_commas (map root items) (mark_leaf 41 �
 items_plain false items none h = subst (λ z. AllByRecursion NoColon (map root z)) (sym (none refl)) tt
 
 -- neither a bracket nor a colon begins a header
-not_first : (terminals : List Terminal) (then_ : Shape) (def : Bool) (items : List Expr) → has_token terminals (mark_leaf 40) ≡ false → has_token terminals (mark_leaf 58) ≡ false → Fits IsSort (tok terminals then_) (end_by def items) → ⊥
+not_first : (terminals : List Terminal) (then_ : Shape) (def : Bool) (items : List Expr) → has_token terminals (mark_leaf 40) ≡ false → has_token terminals (mark_leaf 58) ≡ false → Fits IsNonterminal (tok terminals then_) (end_by def items) → ⊥
 not_first terminals then_ true items b c h = true≢false (sym h.0 ∙ b)
 not_first terminals then_ false items b c h = true≢false (sym h.0 ∙ c)
 
 -- so a header has a part before them
-some_part : (terminals : List Terminal) (then_ : Shape) (def : Bool) (ps items : List Expr) → has_token terminals (mark_leaf 40) ≡ false → has_token terminals (mark_leaf 58) ≡ false → Fits IsSort (tok terminals then_) (map root ps ++ end_by def items) → is_empty ps ≡ false
+some_part : (terminals : List Terminal) (then_ : Shape) (def : Bool) (ps items : List Expr) → has_token terminals (mark_leaf 40) ≡ false → has_token terminals (mark_leaf 58) ≡ false → Fits IsNonterminal (tok terminals then_) (map root ps ++ end_by def items) → is_empty ps ≡ false
 some_part terminals then_ def [] items b c h = absurd (not_first terminals then_ def items b c h)
 some_part terminals then_ def (x ∷ ps) items b c h = refl
 
@@ -75,15 +75,15 @@ pub record IsCompound (fs : List Form) : Type 0 where
 
 -- ---- parts and parameters
 
-parts_read : (here : Spot) (xs : List Expr) → AreHeaderParts here xs → Reads (drawings xs)
+parts_read : (here : Spot) (xs : List Expr) → AreHeaderParts here xs → Reads (layouts xs)
 parts_read here [] h = tt
-parts_read here (x ∷ xs) h = (expr_back x (readable here x h.0), parts_read (behind_expr Begins here x) xs h.2)
+parts_read here (x ∷ xs) h = (expr_back x (readable here x h.0), parts_read (after_expr Begins here x) xs h.2)
 
 parts_bare : (here : Spot) (xs : List Expr) → AreHeaderParts here xs → AreHeads xs
 parts_bare here [] h = tt
-parts_bare here (x ∷ xs) h = (h.1.0, h.1.1, parts_bare (behind_expr Begins here x) xs h.2)
+parts_bare here (x ∷ xs) h = (h.1.0, h.1.1, parts_bare (after_expr Begins here x) xs h.2)
 
-parameters_read : (xs : List Expr) → AreParameters xs → Reads (drawings xs)
+parameters_read : (xs : List Expr) → AreParameters xs → Reads (layouts xs)
 parameters_read [] h = tt
 parameters_read (x ∷ xs) h = (expr_back x (readable _ x h.0), parameters_read xs h.3)
 
@@ -100,7 +100,7 @@ header_read kind terminals then_ f plain b c h function =
     let shape : Shape = tok terminals then_ in
     let plain : AllByRecursion NoColon (map root f.parts) × AllByRecursion NoColon (front_by (is_def f) f.seq.items) =
     both_parts NoColon (map root f.parts) (front_by (is_def f) f.seq.items)
-    (front_plain (mark_leaf 58) shape plain (map root f.parts ++ front_by (is_def f) f.seq.items) (subst (λ z. Fits IsSort shape z) (end_cut (is_def f) (map root f.parts) f.seq.items) h.fits)) in
+    (front_plain (mark_leaf 58) shape plain (map root f.parts ++ front_by (is_def f) f.seq.items) (subst (λ z. Fits IsNonterminal shape z) (end_cut (is_def f) (map root f.parts) f.seq.items) h.fits)) in
     record {
       plain_parts = plain.0;
       plain_items = items_plain (is_def f) f.seq.items (λ e. (h.bare e).0) plain.1;
@@ -109,7 +109,7 @@ header_read kind terminals then_ f plain b c h function =
       bare = parts_bare Begins f.parts h.parts;
       reads = parameters_read f.seq.items h.parameters;
       items = parameters_items f.seq.items h.parameters;
-      ends = recursion_from_All IsComment f.seq.end_ h.ends;
+      ends = recursion_from_All IsComment f.seq.end h.ends;
       function = function;
       no_parameters = h.bare;
       not_open = h.not_open;
@@ -120,7 +120,7 @@ header_read kind terminals then_ f plain b c h function =
 -- headers by their shapes
 def_read : (f : Form) → IsHeader k.Def def_header f → IsRead f
 def_read f h =
-    header_read k.Def _ _ f refl refl refl h (λ e. (h.kinds, two_before f.parts _ (subst (λ z. Fits IsSort def_header (map root f.parts ++ end_by z f.seq.items)) e h.fits)))
+    header_read k.Def _ _ f refl refl refl h (λ e. (h.kinds, two_before f.parts _ (subst (λ z. Fits IsNonterminal def_header (map root f.parts ++ end_by z f.seq.items)) e h.fits)))
 
 -- no other header is one of a function
 other : (kind : Kind) (f : Form) → is_kind kind k.Def ≡ false → f.kind ≡ kind → is_def f ≡ true → (f.kind ≡ k.Def) × (length f.parts ≡ 2)

@@ -16,7 +16,7 @@ use Rattle.bz_value.specs.Empty.{is_empty}
 use Rattle.bz_value.specs.Indented.{indented}
 use Rattle.bz_value.specs.Proper.{IsComment, comments_of}
 use Rattle.bz_view.specs.View.{Seen, seen, first_seen_gap}
-use Rattle.bz_write.specs.Drawn.{part_of}
+use Rattle.bz_write.specs.LaidOut.{part_of}
 use Rattle.bz_write.proofs.Made.{two}
 use Rattle.bz_write.proofs.Readable.{readable}
 use Rattle.bz_write.proofs.ReadBack.{expr_back}
@@ -26,15 +26,15 @@ use Rattle.bz_suite.specs.Proper.{IsProperStatement, AreProperBranches, ArePrope
 use Rattle.bz_suite.specs.View.{SuiteRead, stated, branches, with_suite, walked, suite_read, margin_of, is_compound, head as header_form, indented_lines_before, indented_comments as comments_in_lines}
 use Rattle.bz_suite.proofs.Parts.{part_of as stated_part, statement_Node, suite_Node, compound_is, line_is}
 use Rattle.bz_indent.specs.Layout.{indented_lines, is_def}
-use Rattle.bz_indent.specs.Drawn.{gap_to_margin, newline_part, header_parts, left_behind, left_statements, first_kind, statement_part, branch_parts, statement_parts}
+use Rattle.bz_indent.specs.LaidOut.{gap_to_margin, newline_part, header_parts, left_after, left_statements, first_kind, statement_part, branch_parts, statement_parts}
 use Rattle.bz_indent.specs.Level.{level_head, level_statement, each_branch, each_statement}
-use Rattle.bz_indent.proofs.BackLines.{Lines, AreIndented, told_at, no_lines, lines_appended, comments_at, gap_lines, gap_margin}
-use Rattle.bz_indent.proofs.BackEnds.{from_comment, AreBounded, bounded_further, told_bounded, same_comments}
+use Rattle.bz_indent.proofs.BackLines.{Lines, AreIndented, commented_at, no_lines, lines_appended, comments_at, gap_lines, gap_margin}
+use Rattle.bz_indent.proofs.BackEnds.{from_comment, AreBounded, bounded_further, commented_bounded, same_comments}
 use Rattle.bz_indent.proofs.BackColons.{up_to_colon}
 use Rattle.bz_indent.proofs.BackHeads.{IsRead, before_colon, header_cut, header_plain, header_first, head_read}
 use Rattle.bz_indent.proofs.BackProper.{AreRead, IsCompound, headers_read}
 use Rattle.bz_indent.proofs.BackLeft.{left_lines, branch_lines, statement_lines, left_are, statements_are, above_first, above_of, coming, coming_header, comments_above, statement_first, statements_before}
-use Rattle.bz_indent.proofs.BackSuites.{IsReadAs, simple_back, suite_from, walked_more, suite_more, Starts, starts_from, comments_told_at, header_bounded, statement_bounded, suite_node, suite_suffix}
+use Rattle.bz_indent.proofs.BackSuites.{IsReadAs, simple_back, suite_from, walked_more, suite_more, Starts, starts_from, commented_back_at, header_bounded, statement_bounded, suite_node, suite_suffix}
 
 -- ---- the lines before a header
 
@@ -44,17 +44,17 @@ lines_of_first [] after e = absurd (true≢false e)
 lines_of_first (x ∷ ps) after e = ap (λ z. indented z.gap) (stated_part x)
 
 -- there is a part
-some_behind : (ps : List Part) (x : Part) (qs : List Part) → is_empty (ps ++ (x ∷ qs)) ≡ false
-some_behind [] x qs = refl
-some_behind (y ∷ ps) x qs = refl
+some_after : (ps : List Part) (x : Part) (qs : List Part) → is_empty (ps ++ (x ∷ qs)) ≡ false
+some_after [] x qs = refl
+some_after (y ∷ ps) x qs = refl
 
 -- the lines before the next header: those that are left after the suite before, and the comments above the header
 headers_before : (m : ℕ) (kind : Kind) (n : _) (r : Row_of-Branch n) → AreRead kind (heads r) → (gap : Bytes) (lines rest : Lines) → AreIndented gap lines →
     indented_lines_before (map stated (branch_parts m gap r)) (branch_lines m lines r ++ rest) ≡ lines ++ coming_header m r rest
 headers_before m kind n end_of-Branch h gap lines rest k = refl
-headers_before m kind n (more_of-Branch head size statements end_ more) h gap lines rest k =
+headers_before m kind n (more_of-Branch head size statements end more) h gap lines rest k =
     let own : Bytes = gap_to_margin m gap head.comments.before in
-    lines_of_first _ _ (some_behind (header_parts m own head) _ _)
+    lines_of_first _ _ (some_after (header_parts m own head) _ _)
     ∙ (ap indented (header_first m own head _ h.1) ∙ gap_lines m gap lines head.comments.before k h.1.before)
 
 -- up to the suite of the first header
@@ -82,10 +82,10 @@ first_margin m n (more_of-Statement x more) some h = ap (λ z. length (indent z)
 -- each header has the kind of the first
 own_kind : (n : _) (r : Row_of-Branch n) → AreHeaders (heads r) → AreRead (first_kind r) (heads r) × (is_compound (first_kind r) ≡ true) × (is_kind (first_kind r) k.Line ≡ false)
 own_kind n end_of-Branch h = absurd h
-own_kind n (more_of-Branch head size statements end_ more) h =
-    let known : IsCompound (heads (more_of-Branch head size statements end_ more)) = headers_read (heads (more_of-Branch head size statements end_ more)) h in
+own_kind n (more_of-Branch head size statements end more) h =
+    let known : IsCompound (heads (more_of-Branch head size statements end more)) = headers_read (heads (more_of-Branch head size statements end more)) h in
     let same : known.kind ≡ head.kind = sym known.each.0 in (
-      subst (λ z. AreRead z (heads (more_of-Branch head size statements end_ more))) same known.each,
+      subst (λ z. AreRead z (heads (more_of-Branch head size statements end more))) same known.each,
       ap is_compound (sym same) ∙ known.compound,
       ap (λ z. is_kind z k.Line) (sym same) ∙ known.no_line,
     )
@@ -93,7 +93,7 @@ own_kind n (more_of-Branch head size statements end_ more) h =
 -- the comments above the statement are those above its first header
 own_start : (n : _) (r : Row_of-Branch n) (left rest : Lines) → AreHeaders (heads r) → Starts r (above_first r) left rest
 own_start n end_of-Branch left rest h = absurd h
-own_start n (more_of-Branch head size statements end_ more) left rest h = refl
+own_start n (more_of-Branch head size statements end more) left rest h = refl
 
 -- ---- statements
 
@@ -121,23 +121,23 @@ mutual
       IsReadAs (walked now (map stated (statement_parts m gap r)) (statement_lines m lines r ++ rest)) (each_statement r) rest
   walked_back m n end_of-Statement h gap lines now rest bounded e = record { value = refl; left = e }
   walked_back m n (more_of-Statement x more) h gap lines now rest bounded e =
-      walked_more (stated (statement_part m gap x)) (map stated (statement_parts m (left_behind m x) more)) now (statement_lines m (left_lines m x) more ++ rest) (left_lines m x ++ coming m more rest) (coming m more rest) rest (above_of x)
+      walked_more (stated (statement_part m gap x)) (map stated (statement_parts m (left_after m x) more)) now (statement_lines m (left_lines m x) more ++ rest) (left_lines m x ++ coming m more rest) (coming m more rest) rest (above_of x)
       (level_statement x) (each_statement more)
-      (sym (same_comments now) ∙ (ap comments_in_lines e ∙ (same_comments (told_at m (above_of x)) ∙ comments_told_at m (above_of x))))
-      (statements_before m _ more h.1 (left_behind m x) (left_lines m x) rest (left_are m x h.0))
+      (sym (same_comments now) ∙ (ap comments_in_lines e ∙ (same_comments (commented_at m (above_of x)) ∙ commented_back_at m (above_of x))))
+      (statements_before m _ more h.1 (left_after m x) (left_lines m x) rest (left_are m x h.0))
       (statement_back m gap x h.0 (coming m more rest) (statement_bounded m _ more rest bounded))
-      (λ z f. walked_back m _ more h.1 (left_behind m x) (left_lines m x) z rest bounded f)
+      (λ z f. walked_back m _ more h.1 (left_after m x) (left_lines m x) z rest bounded f)
 
   branches_back : (m : ℕ) (kind : Kind) (n : _) (r : Row_of-Branch n) → AreRead kind (heads r) → AreProperBranches r → (gap : Bytes) (lines : Lines) (above : List Bytes) (left rest : Lines) → AreBounded m rest →
       Starts r above left rest → IsReadAs (branches kind [] above left (map stated (branch_parts m gap r)) (branch_lines m lines r ++ rest)) (each_branch r) rest
   branches_back m kind n end_of-Branch known h gap lines above left rest bounded e = record { value = refl; left = e }
-  branches_back m kind n (more_of-Branch head size statements end_ more) known h gap lines above left rest bounded e =
+  branches_back m kind n (more_of-Branch head size statements end more) known h gap lines above left rest bounded e =
       let inner : ℕ = m + 4 in
       let further : m ≤ inner = omega arith in
-      let own_gap : Bytes = left_statements inner [] statements ++ indented_lines inner end_ in
-      let own_lines : Lines = statement_lines inner [] statements ++ told_at inner end_ in
+      let own_gap : Bytes = left_statements inner [] statements ++ indented_lines inner end in
+      let own_lines : Lines = statement_lines inner [] statements ++ commented_at inner end in
       let own_are : AreIndented own_gap own_lines =
-      lines_appended (left_statements inner [] statements) (indented_lines inner end_) (statement_lines inner [] statements) (told_at inner end_) (statements_are inner _ statements h.1 [] [] no_lines) (comments_at inner end_ (recursion_from_All IsComment end_ h.2)) in
+      lines_appended (left_statements inner [] statements) (indented_lines inner end) (statement_lines inner [] statements) (commented_at inner end) (statements_are inner _ statements h.1 [] [] no_lines) (comments_at inner end (recursion_from_All IsComment end h.2)) in
       let ps : List Part = statement_parts inner [] statements in
       let tail : List Part = branch_parts m own_gap more in
       let after : Lines = branch_lines m own_lines more ++ rest in
@@ -145,20 +145,20 @@ mutual
       let next_bounded : AreBounded m next = header_bounded m _ more rest bounded in
       let suffix : Option Bytes = head.comments.suffix in
       let node : Node = record { kind = k.Suite; parts = newline_part suffix ∷ ps } in
-      let own : SuiteRead = ((each_statement statements, end_), from_comment next) in
+      let own : SuiteRead = ((each_statement statements, end), from_comment next) in
       let front : List Seen = map seen (before_colon (is_def head) m (gap_to_margin m gap head.comments.before) head) in
       let others : AreRead head.kind (heads more) = subst (λ z. AreRead z (heads more)) (sym known.0) known.2 in
       let suite : (stated (suite_node suffix ps)).suite (own_lines ++ next) ≡ own =
       ap (λ z. z (own_lines ++ next)) (suite_Node node)
-      ∙ (ap (λ z. suite_read (map stated ps) z) (append_assoc (statement_lines inner [] statements) (told_at inner end_) next)
-      ∙ suite_from m (map stated ps) (statement_lines inner [] statements ++ (told_at inner end_ ++ next)) (coming inner statements (told_at inner end_ ++ next)) next (each_statement statements) end_
-      (first_lines inner _ statements (told_at inner end_ ++ next) h.0 h.1) (first_margin inner _ statements h.0 h.1) next_bounded
-      (walked_back inner _ statements h.1 [] [] (coming inner statements (told_at inner end_ ++ next)) (told_at inner end_ ++ next) (told_bounded inner end_ next (bounded_further m inner next further next_bounded)) refl)) in
-      let read : IsReadAs (with_suite head.kind front above left (map stated (suite_node suffix ps ∷ tail)) after) (each_branch (more_of-Branch head size statements end_ more)) rest =
+      ∙ (ap (λ z. suite_read (map stated ps) z) (append_assoc (statement_lines inner [] statements) (commented_at inner end) next)
+      ∙ suite_from m (map stated ps) (statement_lines inner [] statements ++ (commented_at inner end ++ next)) (coming inner statements (commented_at inner end ++ next)) next (each_statement statements) end
+      (first_lines inner _ statements (commented_at inner end ++ next) h.0 h.1) (first_margin inner _ statements h.0 h.1) next_bounded
+      (walked_back inner _ statements h.1 [] [] (coming inner statements (commented_at inner end ++ next)) (commented_at inner end ++ next) (commented_bounded inner end next (bounded_further m inner next further next_bounded)) refl)) in
+      let read : IsReadAs (with_suite head.kind front above left (map stated (suite_node suffix ps ∷ tail)) after) (each_branch (more_of-Branch head size statements end more)) rest =
       suite_more head.kind front above left after (own_lines ++ next) rest (stated (suite_node suffix ps)) (map stated tail) (level_head head) own (each_branch more)
       (headers_before m head.kind _ more others own_gap own_lines rest own_are) suite
       (two (λ z w. header_form head.kind front z w) e (suite_suffix suffix ps known.1.suffix) ∙ head_read m (gap_to_margin m gap head.comments.before) head known.1)
       (branches_back m head.kind _ more others h.3 own_gap own_lines (comments_in_lines (from_comment next)) (from_comment next) rest bounded (starts_from m _ more rest)) in
-      let same = ap (λ z. branches z [] above left (map stated (branch_parts m gap (more_of-Branch head size statements end_ more))) after) (sym known.0)
+      let same = ap (λ z. branches z [] above left (map stated (branch_parts m gap (more_of-Branch head size statements end more))) after) (sym known.0)
       ∙ to_suite m (gap_to_margin m gap head.comments.before) head above left after (suite_node suffix ps) tail known.1 in
       record { value = ap (λ z. z.0) same ∙ read.value; left = ap (λ z. from_comment z.1) same ∙ read.left }

@@ -9,17 +9,17 @@ use Rattle.bz_value.specs.declared.value.Item.{Item}
 use Rattle.bz_value.specs.declared.value.Item.TheVariants as i
 use Rattle.bz_value.specs.Proper.{comments_of}
 use Rattle.bz_view.specs.View.{view_of}
-use Rattle.bz_write.specs.Drawn.{before_next, line_part, lines_from, part_of}
+use Rattle.bz_write.specs.LaidOut.{before_next, line_part, lines_from, part_of}
 use Rattle.bz_write.specs.Flags.{item_with_flags}
 use Rattle.bz_write.specs.Layout.{suffix_text}
-use Rattle.bz_write.specs.Written.{behind_item, comment_lines, gap_between, item_text, layout, text_of}
+use Rattle.bz_write.specs.Written.{past_item, comment_lines, gap_between, item_text, layout, text_of}
 use Rattle.bz_write.proofs.Made.{two}
 use Rattle.bz_tidy.specs.Syntax.{syntax_of}
 use Rattle.bz_suite.specs.declared.value.Statement.TheVariants as s
 use Rattle.bz_suite.specs.Laws.{BuildFilesSayTheSame}
 use Rattle.bz_suite.specs.View.{bzl_item}
-use Rattle.bz_indent.specs.Drawn.{bzl_lines, newline_part, simple_part}
-use Rattle.bz_indent.specs.Laws.{BuildFilesAreLaidOutTheSame, BuildItemsAreDrawnTheSame, BuildItemsAreLaidOutTheSame, BuildItemsAreLevelledTheSame}
+use Rattle.bz_indent.specs.LaidOut.{bzl_lines, newline_part, simple_part}
+use Rattle.bz_indent.specs.Laws.{BuildFilesAreLaidOutTheSame, BuildItemsHaveTheSameTree, BuildItemsAreLaidOutTheSame, BuildItemsAreLevelledTheSame}
 use Rattle.bz_indent.specs.Layout.{before_others, between_items, bzl_item_text, bzl_layout, indented_lines, simple_text}
 use Rattle.bz_indent.specs.Level.{level_item}
 use Rattle.bz_indent.specs.Syntax.{BuildItemsAreTheSameProgram}
@@ -52,15 +52,15 @@ others_same item (next ∷ items) = between_same item next
 -- ---- the text
 
 -- what follows an item is what is before it, and the layout of the rest
-behind_is : (item : Item) (items : List Item) → before_next item items ++ layout items ≡ behind_item item items
-behind_is item [] = refl
-behind_is item (next ∷ items) = refl
+after_is : (item : Item) (items : List Item) → before_next item items ++ layout items ≡ past_item item items
+after_is item [] = refl
+after_is item (next ∷ items) = refl
 
 pub laid_out_the_same : BuildItemsAreLaidOutTheSame
 laid_out_the_same [] = refl
 laid_out_the_same (item ∷ items) =
     two (λ own rest. own ++ rest) (text_same item)
-    (two (λ between rest. between ++ rest) (others_same item items) (laid_out_the_same items) ∙ behind_is item items)
+    (two (λ between rest. between ++ rest) (others_same item items) (laid_out_the_same items) ∙ after_is item items)
 
 -- so what the tree of a BUILD file says is laid out the same
 pub files_laid_out_the_same : BuildFilesSayTheSame → BuildFilesAreLaidOutTheSame
@@ -83,8 +83,8 @@ lines_same lines (i.Stmt x ∷ items) =
     two (λ line rest. line ∷ rest) (line_same lines x)
     (ap (λ between. bzl_lines between (map bzl_item items)) (others_same (i.Stmt x) items) ∙ lines_same (before_next (i.Stmt x) items) items)
 
-pub drawn_the_same : BuildItemsAreDrawnTheSame
-drawn_the_same items = ap (λ parts. record { kind = k.File; parts = parts }) (lines_same [] items)
+pub same_tree_laid_out : BuildItemsHaveTheSameTree
+same_tree_laid_out items = ap (λ parts. record { kind = k.File; parts = parts }) (lines_same [] items)
 
 -- ---- the flags
 

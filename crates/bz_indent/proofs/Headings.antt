@@ -6,7 +6,7 @@ use Rattle.bz_tree.specs.declared.kind.Kind.{Kind}
 use Rattle.bz_tree.specs.declared.kind.Kind.TheVariants as k
 use Rattle.bz_tree.specs.declared.tree.Part.{Part}
 use Rattle.bz_tree.specs.Shapes.{Shape, Fits, done, tok, sub, list, enclosed, one_keyword, is_kind, name, open_round, close_round, param, colon_mark, comma_mark, primary, expr, test}
-use Rattle.bz_tree.specs.Legal.{IsSort}
+use Rattle.bz_tree.specs.Legal.{IsNonterminal}
 use Rattle.bz_tree.specs.Suites.{def_header, for_header, test_header, else_header}
 use Rattle.bz_tree.specs.Indents.{Owned}
 use Rattle.bz_tree.proofs.Balance.{no_such}
@@ -41,26 +41,26 @@ Headings fs = AllByRecursion Heading fs
 pub no_function : (f : Form) (kind : Kind) (shape : Shape) → is_kind kind k.Def ≡ false → f.kind ≡ kind → is_kind f.kind k.Def ≡ true → shape ≡ def_header
 no_function f kind shape n e h = no_such (sym n ∙ (sym (ap (λ z. is_kind z k.Def) e) ∙ h))
 
-abbrev behind_def : Shape
-behind_def = tok name (tok open_round (enclosed param close_round (tok colon_mark done)))
+abbrev after_def : Shape
+after_def = tok name (tok open_round (enclosed param close_round (tok colon_mark done)))
 
-abbrev behind_for : Shape
-behind_for = list primary comma_mark false (tok (one_keyword (codes "in")) (sub expr (tok colon_mark done)))
+abbrev after_for : Shape
+after_for = list primary comma_mark false (tok (one_keyword (codes "in")) (sub expr (tok colon_mark done)))
 
-abbrev behind_test : Shape
-behind_test = sub test (tok colon_mark done)
+abbrev after_test : Shape
+after_test = sub test (tok colon_mark done)
 
 abbrev pub of_function : (f : Form) → IsHeader k.Def def_header f → Heading f
-of_function f h = record { kind = k.Def; word = codes "def"; rest = behind_def; proper = h; function = λ e. refl; plain = λ i d ps g. owned_shape i d behind_def refl ps g; touches = refl; no_brackets = λ e. absurd (true≢false (sym (ap (λ z. is_kind z k.Def) h.kinds) ∙ e)) }
+of_function f h = record { kind = k.Def; word = codes "def"; rest = after_def; proper = h; function = λ e. refl; plain = λ i d ps g. owned_shape i d after_def refl ps g; touches = refl; no_brackets = λ e. absurd (true≢false (sym (ap (λ z. is_kind z k.Def) h.kinds) ∙ e)) }
 
 abbrev pub of_loop : (f : Form) → IsHeader k.ForStmt for_header f → Heading f
 of_loop f h = record {
   kind = k.ForStmt;
   word = codes "for";
-  rest = behind_for;
+  rest = after_for;
   proper = h;
   function = no_function f k.ForStmt for_header refl h.kinds;
-  plain = λ i d ps g. owned_shape i d behind_for refl ps g;
+  plain = λ i d ps g. owned_shape i d after_for refl ps g;
   touches = refl;
   no_brackets = λ e. refl;
 }
@@ -70,10 +70,10 @@ abbrev pub of_test : (word : Bytes) → passes (neighbours k.IfStmt) (finals k.I
 of_test word t f h = record {
   kind = k.IfStmt;
   word = word;
-  rest = behind_test;
+  rest = after_test;
   proper = h;
   function = no_function f k.IfStmt (test_header (one_keyword word)) refl h.kinds;
-  plain = λ i d ps g. owned_shape i d behind_test refl ps g;
+  plain = λ i d ps g. owned_shape i d after_test refl ps g;
   touches = t;
   no_brackets = λ e. refl;
 }
@@ -109,7 +109,7 @@ headings (f ∷ fs) (inr (inr h)) = (of_if f h.0, alternatives_are fs h.1)
 
 -- ---- a header has a part before its bracket or colon
 
-some_first : (xs : List Expr) (b : Bool) (ps : List Part) (word : Bytes) (rest : Shape) → Fits IsSort (tok (one_keyword word) rest) (map root xs ++ (if b then mark_leaf 40 ∷ ps else mark_leaf 58 ∷ [])) → is_empty xs ≡ false
+some_first : (xs : List Expr) (b : Bool) (ps : List Part) (word : Bytes) (rest : Shape) → Fits IsNonterminal (tok (one_keyword word) rest) (map root xs ++ (if b then mark_leaf 40 ∷ ps else mark_leaf 58 ∷ [])) → is_empty xs ≡ false
 some_first [] true ps word rest h = no_such h.0
 some_first [] false ps word rest h = no_such h.0
 some_first (x ∷ xs) b ps word rest h = refl

@@ -13,7 +13,7 @@ use Rattle.bz_tree.specs.declared.tree.Part.{Part}
 use Rattle.bz_tree.specs.declared.tree.Part.TheVariants as p
 use Rattle.bz_tree.specs.Spell.{leaves_part, deepest}
 use Rattle.bz_tree.specs.Shapes.{Shape, Fits, tok, one_keyword}
-use Rattle.bz_tree.specs.Legal.{IsSort, LegalBzlPart}
+use Rattle.bz_tree.specs.Legal.{IsNonterminal, LegalBzlPart}
 use Rattle.bz_tree.specs.Indents.{first_indent, Indented, Owned, AreIndented}
 use Rattle.bz_tree.specs.Spots.{Begins}
 use Rattle.bz_tree.proofs.Balance.{no_such}
@@ -26,14 +26,14 @@ use Rattle.bz_value.specs.Empty.{is_empty}
 use Rattle.bz_value.specs.Proper.{comments_of}
 use Rattle.bz_items.specs.Characters.{Bytes, line_feed, space}
 use Rattle.bz_write.specs.Layout.{rowed}
-use Rattle.bz_write.specs.Drawn.{part_of, piece_part, drawings}
-use Rattle.bz_write.proofs.LegalParts.{Begin, drawn_good}
+use Rattle.bz_write.specs.LaidOut.{part_of, piece_part, layouts}
+use Rattle.bz_write.proofs.LegalParts.{Begin, laid_out_good}
 use Rattle.bz_suite.specs.declared.value.Statement.{Statement, Simple, Compound', Row_of-Branch, end_of-Branch, more_of-Branch, Row_of-Statement, end_of-Statement, more_of-Statement}
 use Rattle.bz_suite.specs.declared.value.BzlItem.{BzlItem}
 use Rattle.bz_suite.specs.declared.value.BzlItem.TheVariants as b
 use Rattle.bz_suite.specs.Proper.{is_simple, has_simple_kind, AreHeaders, heads, IsProperStatement, AreProperBranches, AreProperStatements, IsProperBzlItem, IsProperBzl}
 use Rattle.bz_indent.specs.Layout.{indented_line, indented_lines, before_others, between_items}
-use Rattle.bz_indent.specs.Drawn.{gap_to_margin, newline_part, header_parts, left_behind, left_branches, left_statements, first_kind, statement_part, branch_parts, statement_parts, bzl_lines, bzl_drawn}
+use Rattle.bz_indent.specs.LaidOut.{gap_to_margin, newline_part, header_parts, left_after, left_branches, left_statements, first_kind, statement_part, branch_parts, statement_parts, bzl_lines, bzl_laid_out}
 use Rattle.bz_indent.proofs.Headings.{Heading, Headings, headings, some_part}
 use Rattle.bz_tree.proofs.Suites.{indented_row}
 use Rattle.bz_value.proofs.GapComments.{all_joined}
@@ -56,14 +56,14 @@ newline_there (c ∷ text) rest = ap (λ z. is_indent c && z) (newline_there tex
     and_false true = refl
     and_false false = refl
 
-behind_newline : (text rest : Bytes) → indent (text ++ line_feed ∷ rest) ≡ indent rest
-behind_newline [] rest = refl
-behind_newline (c ∷ text) rest = rw (newline_there (c ∷ text) rest) (behind_newline text rest)
+after_newline : (text rest : Bytes) → indent (text ++ line_feed ∷ rest) ≡ indent rest
+after_newline [] rest = refl
+after_newline (c ∷ text) rest = rw (newline_there (c ∷ text) rest) (after_newline text rest)
 
 whole_line : (m : ℕ) (text : Bytes) → Whole (indented_line m text)
 whole_line m text rest =
     ap indent (append_assoc (replicate m space) (text ++ line_feed ∷ []) rest ∙ (ap (λ z. replicate m space ++ z) (append_assoc text (line_feed ∷ []) rest) ∙ sym (append_assoc (replicate m space) text (line_feed ∷ rest))))
-    ∙ behind_newline (replicate m space ++ text) rest
+    ∙ after_newline (replicate m space ++ text) rest
 
 whole_lines : (m : ℕ) (texts : List Bytes) → Whole (indented_lines m texts)
 whole_lines m [] rest = refl
@@ -87,19 +87,19 @@ whole_others x (y ∷ xs) rest = whole_between x y rest
 -- ---- what is left after statements
 
 mutual
-  whole_left : (x : Statement) (m : ℕ) → Whole (left_behind m x)
+  whole_left : (x : Statement) (m : ℕ) → Whole (left_after m x)
   whole_left (Simple x) m rest = refl
   whole_left (Compound' size own) m rest = whole_branches _ own m [] (λ t. refl) rest
 
   whole_branches : (n : _) (r : Row_of-Branch n) (m : ℕ) (lines : Bytes) → Whole lines → Whole (left_branches m lines r)
   whole_branches n end_of-Branch m lines h rest = h rest
-  whole_branches n (more_of-Branch head size statements end_ others) m lines h rest =
-      whole_branches _ others m (left_statements (m + 4) [] statements ++ indented_lines (m + 4) end_)
-      (whole_append (left_statements (m + 4) [] statements) (indented_lines (m + 4) end_) (whole_statements _ statements (m + 4) [] (λ t. refl)) (whole_lines (m + 4) end_)) rest
+  whole_branches n (more_of-Branch head size statements end others) m lines h rest =
+      whole_branches _ others m (left_statements (m + 4) [] statements ++ indented_lines (m + 4) end)
+      (whole_append (left_statements (m + 4) [] statements) (indented_lines (m + 4) end) (whole_statements _ statements (m + 4) [] (λ t. refl)) (whole_lines (m + 4) end)) rest
 
   whole_statements : (n : _) (r : Row_of-Statement n) (m : ℕ) (lines : Bytes) → Whole lines → Whole (left_statements m lines r)
   whole_statements n end_of-Statement m lines h rest = h rest
-  whole_statements n (more_of-Statement x others) m lines h rest = whole_statements _ others m (left_behind m x) (whole_left x m) rest
+  whole_statements n (more_of-Statement x others) m lines h rest = whole_statements _ others m (left_after m x) (whole_left x m) rest
 
 -- ---- margins
 
@@ -125,14 +125,14 @@ abbrev FirstAt : Bytes → List Part → Type 0
 FirstAt gap [] = ⊥
 FirstAt gap (x ∷ xs) = (l : Leaf) × (x ≡ p.Leaf l) × (l.gap ≡ gap)
 
-row_first : (kind : Kind) (open_ : Bool) (m : ℕ) (gap : Bytes) (xs : List Expr) (tail : List Part) (word : Bytes) (rest : Shape) → is_empty xs ≡ false →
-    Fits IsSort (tok (one_keyword word) rest) (map piece_part (rowed kind open_ m gap m (drawings xs)) ++ tail) → FirstAt gap (map piece_part (rowed kind open_ m gap m (drawings xs)) ++ tail)
-row_first kind open_ m gap [] tail word rest s h = absurd (true≢false s)
-row_first kind open_ m gap (Token t ∷ xs) tail word rest s h = (record { class = t.class; gap = gap; token = t.text }, refl, refl)
-row_first kind open_ m gap (Form' kind' z parts z' items end_ split open_' comments ∷ xs) tail word rest s h = no_such h.0
+row_first : (kind : Kind) (open_break : Bool) (m : ℕ) (gap : Bytes) (xs : List Expr) (tail : List Part) (word : Bytes) (rest : Shape) → is_empty xs ≡ false →
+    Fits IsNonterminal (tok (one_keyword word) rest) (map piece_part (rowed kind open_break m gap m (layouts xs)) ++ tail) → FirstAt gap (map piece_part (rowed kind open_break m gap m (layouts xs)) ++ tail)
+row_first kind open_break m gap [] tail word rest s h = absurd (true≢false s)
+row_first kind open_break m gap (Token t ∷ xs) tail word rest s h = (record { class = t.class; gap = gap; token = t.text }, refl, refl)
+row_first kind open_break m gap (Form' kind' z parts z' items end split open_break' comments ∷ xs) tail word rest s h = no_such h.0
 
 header_first : (m : ℕ) (gap : Bytes) (f : Form) → Heading f → FirstAt gap (header_parts m gap f)
-header_first m gap f h = row_first f.kind f.open_ m gap f.parts _ h.word h.rest (some_part f h) (header_fits m gap f h)
+header_first m gap f h = row_first f.kind f.open_break m gap f.parts _ h.word h.rest (some_part f h) (header_fits m gap f h)
 
 first_there : (gap : Bytes) (xs ys : List Part) → FirstAt gap xs → first_indent (flat_map leaves_part (xs ++ ys)) ≡ indent gap
 first_there gap [] ys h = absurd h
@@ -144,7 +144,7 @@ first_leaf gap ls ms h = ap (λ z. first_indent (z ++ ms)) h.2 ∙ ap indent h.3
 -- ---- the parts of a statement
 
 -- a header at its indent: its first token has that, and no other one is an elif or an else
-parts_owned : (i gap : Bytes) (xs : List Part) (word : Bytes) (rest : Shape) → indent gap ≡ i → FirstAt gap xs → Fits IsSort (tok (one_keyword word) rest) xs → AllByRecursion LegalBzlPart xs →
+parts_owned : (i gap : Bytes) (xs : List Part) (word : Bytes) (rest : Shape) → indent gap ≡ i → FirstAt gap xs → Fits IsNonterminal (tok (one_keyword word) rest) xs → AllByRecursion LegalBzlPart xs →
     ((d : ℕ) (ps : List Part) → Fits (At d) rest ps → AllByRecursion (Owned i) ps) → AllByRecursion (Owned i) xs
 parts_owned i gap [] word rest e f h l plain = absurd f
 parts_owned i gap (x ∷ xs) word rest e f h l plain =
@@ -165,12 +165,12 @@ simple_owned i _ ps h = tt
 
 expr_owned : (i : Bytes) (x : Expr) (gap : Bytes) (m : ℕ) → has_simple_kind x ≡ true → Owned i (part_of x gap m)
 expr_owned i (Token t) gap m h = no_such h
-expr_owned i (Form' kind z parts z' items end_ split open_ comments) gap m h = simple_owned i kind _ h
+expr_owned i (Form' kind z parts z' items end split open_break comments) gap m h = simple_owned i kind _ h
 
 -- the first header of a statement comes first
 branches_first : (n : _) (r : Row_of-Branch n) (m : ℕ) (lines : Bytes) → AreHeaders (heads r) → Whole lines → first_indent (flat_map leaves_part (branch_parts m lines r)) ≡ replicate m space
 branches_first n end_of-Branch m lines h w = absurd h
-branches_first n (more_of-Branch head size statements end_ rest) m lines h w =
+branches_first n (more_of-Branch head size statements end rest) m lines h w =
     let gap : Bytes = gap_to_margin m lines head.comments.before in
     let own : Headings (head ∷ heads rest) = headings (head ∷ heads rest) h in
     first_there gap (header_parts m gap head) _ (header_first m gap head own.0) ∙ gap_indent m lines head.comments.before w
@@ -182,7 +182,7 @@ mutual
   statement_indented (Simple x) h m lines w =
       let gap : Bytes = gap_to_margin m lines (comments_of x).before in
       parts_indented (replicate m space) (record { kind = k.Line; parts = part_of x gap m ∷ newline_part (comments_of x).suffix ∷ [] })
-      (first_leaf gap (leaves_part (part_of x gap m)) _ ((drawn_good Begins x h.1).stands.starts gap m) ∙ gap_indent m lines (comments_of x).before w)
+      (first_leaf gap (leaves_part (part_of x gap m)) _ ((laid_out_good Begins x h.1).stands.starts gap m) ∙ gap_indent m lines (comments_of x).before w)
       (expr_owned (replicate m space) x gap m h.0, (λ a. no_such a, tt))
   statement_indented (Compound' size own) h m lines w =
       parts_indented (replicate m space) (record { kind = first_kind own; parts = branch_parts m lines own })
@@ -190,17 +190,17 @@ mutual
 
   branches_owned : (n : _) (r : Row_of-Branch n) → Headings (heads r) → AreProperBranches r → (m : ℕ) (lines : Bytes) → Whole lines → AllByRecursion (Owned (replicate m space)) (branch_parts m lines r)
   branches_owned n end_of-Branch g h m lines w = tt
-  branches_owned n (more_of-Branch head size statements end_ rest) g h m lines w =
+  branches_owned n (more_of-Branch head size statements end rest) g h m lines w =
       let gap : Bytes = gap_to_margin m lines head.comments.before in
-      let left : Bytes = left_statements (m + 4) [] statements ++ indented_lines (m + 4) end_ in
+      let left : Bytes = left_statements (m + 4) [] statements ++ indented_lines (m + 4) end in
       all_joined (Owned (replicate m space)) (header_parts m gap head) _ (header_owned (replicate m space) m gap head g.0 (gap_indent m lines head.comments.before w)) (
         suite_owned m (newline_part head.comments.suffix ∷ statement_parts (m + 4) [] statements) (tt, statements_indented _ statements h.1 (m + 4) [] (λ t. refl)),
-        branches_owned _ rest g.1 h.3 m left (whole_append (left_statements (m + 4) [] statements) (indented_lines (m + 4) end_) (whole_statements _ statements (m + 4) [] (λ t. refl)) (whole_lines (m + 4) end_)),
+        branches_owned _ rest g.1 h.3 m left (whole_append (left_statements (m + 4) [] statements) (indented_lines (m + 4) end) (whole_statements _ statements (m + 4) [] (λ t. refl)) (whole_lines (m + 4) end)),
       )
 
   statements_indented : (n : _) (r : Row_of-Statement n) → AreProperStatements r → (m : ℕ) (lines : Bytes) → Whole lines → AreIndented (replicate m space) (statement_parts m lines r)
   statements_indented n end_of-Statement h m lines w = tt
-  statements_indented n (more_of-Statement x rest) h m lines w = (statement_indented x h.0 m lines w, statements_indented _ rest h.1 m (left_behind m x) (whole_left x m))
+  statements_indented n (more_of-Statement x rest) h m lines w = (statement_indented x h.0 m lines w, statements_indented _ rest h.1 m (left_after m x) (whole_left x m))
 
 -- ---- the file
 
@@ -210,8 +210,8 @@ lines_indented (b.Block texts ∷ xs) h lines w =
     lines_indented xs h.1 ((lines ++ indented_lines 0 texts) ++ before_others (b.Block texts) xs)
     (whole_append (lines ++ indented_lines 0 texts) (before_others (b.Block texts) xs) (whole_append lines (indented_lines 0 texts) w (whole_lines 0 texts)) (whole_others (b.Block texts) xs))
 lines_indented (b.Statement x ∷ xs) h lines w =
-    (statement_indented x h.0 0 lines w, lines_indented xs h.1 (left_behind 0 x ++ before_others (b.Statement x) xs) (whole_append (left_behind 0 x) (before_others (b.Statement x) xs) (whole_left x 0) (whole_others (b.Statement x) xs)))
+    (statement_indented x h.0 0 lines w, lines_indented xs h.1 (left_after 0 x ++ before_others (b.Statement x) xs) (whole_append (left_after 0 x) (before_others (b.Statement x) xs) (whole_left x 0) (whole_others (b.Statement x) xs)))
 
 -- the statements of the tree of the layout have their indents
-pub bzl_indented : (items : List BzlItem) → IsProperBzl items → AreIndented [] (bzl_drawn items).parts
+pub bzl_indented : (items : List BzlItem) → IsProperBzl items → AreIndented [] (bzl_laid_out items).parts
 bzl_indented items h = lines_indented items (recursion_from_All IsProperBzlItem items h) [] (λ t. refl)

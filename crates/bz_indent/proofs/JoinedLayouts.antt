@@ -6,7 +6,7 @@ use Rattle.bz_suite.specs.declared.value.BzlItem.TheVariants as b
 use Rattle.bz_indent.specs.Depths.{depth_bzl_items}
 use Rattle.bz_indent.specs.Joined.{BzlLayoutsJoin, BzlDepthsJoin}
 use Rattle.bz_indent.specs.Layout.{bzl_item_text, before_others, bzl_layout}
-use Rattle.bz_indent.proofs.Depths.{bzl_drawn_depth}
+use Rattle.bz_indent.proofs.Depths.{bzl_laid_out_depth}
 
 one_below : (x : BzlItem) (gap own more one all : Bytes) → all ≡ one ++ more → own ++ (gap ++ all) ≡ (own ++ (gap ++ one)) ++ more
 one_below x gap own more one all e = ap (λ t. own ++ (gap ++ t)) e ∙ (ap (λ t. own ++ t) (sym (append_assoc gap one more)) ∙ sym (append_assoc own (gap ++ one) more))
@@ -29,7 +29,7 @@ no_depth : (a c : ℕ) → a ≡ suc c → a ≤ 0 → ⊥
 no_depth a c e h = omega (arith, e, h)
 
 pub bzl_depths_join : BzlDepthsJoin
-bzl_depths_join front items zero h k = absurd (no_depth _ _ (bzl_drawn_depth front) h)
+bzl_depths_join front items zero h k = absurd (no_depth _ _ (bzl_laid_out_depth front) h)
 bzl_depths_join front items (suc depth) h k =
-    let w = both_depths front items depth (one_less _ _ depth (bzl_drawn_depth front) h) (one_less _ _ depth (bzl_drawn_depth items) k) in
-    omega (arith, bzl_drawn_depth (front ++ items), w)
+    let w = both_depths front items depth (one_less _ _ depth (bzl_laid_out_depth front) h) (one_less _ _ depth (bzl_laid_out_depth items) k) in
+    omega (arith, bzl_laid_out_depth (front ++ items), w)

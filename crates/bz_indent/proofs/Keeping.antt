@@ -23,8 +23,8 @@ module _ (flags : FlagsSettle) (number : Bytes → ℕ) where
 
   head_kept : (f : Form) → amount number (e.Form (level_head f)) ≡ amount number (e.Form f)
   head_kept f =
-      let new : amount number (e.Form (level_head f)) ≡ host_amount number f.comments + (total (amount number) (map with_flags f.parts) + (total (amount number) (map with_flags f.seq.items) + total number f.seq.end_)) = form_amount number (level_head f) in
-      let old : amount number (e.Form f) ≡ host_amount number f.comments + (total (amount number) f.parts + (total (amount number) f.seq.items + total number f.seq.end_)) = form_amount number f in
+      let new : amount number (e.Form (level_head f)) ≡ host_amount number f.comments + (total (amount number) (map with_flags f.parts) + (total (amount number) (map with_flags f.seq.items) + total number f.seq.end)) = form_amount number (level_head f) in
+      let old : amount number (e.Form f) ≡ host_amount number f.comments + (total (amount number) f.parts + (total (amount number) f.seq.items + total number f.seq.end)) = form_amount number f in
       let parts = exprs_kept f.parts in
       let items = exprs_kept f.seq.items in
       omega arith
@@ -36,7 +36,7 @@ module _ (flags : FlagsSettle) (number : Bytes → ℕ) where
 
     branches_kept : (n : _) (r : Row_of-Branch n) → total (branch_amount number) (each_branch r) ≡ branches_amount number r
     branches_kept n end_of-Branch = refl
-    branches_kept n (more_of-Branch head size statements end_ rest) =
+    branches_kept n (more_of-Branch head size statements end rest) =
         let here = head_kept head in
         let own = statements_kept _ statements in
         let more = branches_kept _ rest in

@@ -49,17 +49,17 @@ head_size true row body =
     omega (arith, all)
 head_size false row body = length-append row []
 
-pub def_length : (f : Form) (m : ℕ) → is_def f ≡ true → length (text_of_head m f) ≡ length (row_text f.kind f.open_ m m f.parts) + (1 + length (body_text f m 41))
+pub def_length : (f : Form) (m : ℕ) → is_def f ≡ true → length (text_of_head m f) ≡ length (row_text f.kind f.open_break m m f.parts) + (1 + length (body_text f m 41))
 unfolding params params_size
 def_length f m is =
-    head_size (is_def f) (row_text f.kind f.open_ m m f.parts) (body_text f m 41)
-    ∙ ap (λ (b : Bool). length (row_text f.kind f.open_ m m f.parts) + params_size b (body_text f m 41)) is
+    head_size (is_def f) (row_text f.kind f.open_break m m f.parts) (body_text f m 41)
+    ∙ ap (λ (b : Bool). length (row_text f.kind f.open_break m m f.parts) + params_size b (body_text f m 41)) is
 
-pub row_length : (f : Form) (m : ℕ) → is_def f ≡ false → length (text_of_head m f) ≡ length (row_text f.kind f.open_ m m f.parts) + 0
+pub row_length : (f : Form) (m : ℕ) → is_def f ≡ false → length (text_of_head m f) ≡ length (row_text f.kind f.open_break m m f.parts) + 0
 unfolding params params_size
 row_length f m is =
-    head_size (is_def f) (row_text f.kind f.open_ m m f.parts) (body_text f m 41)
-    ∙ ap (λ (b : Bool). length (row_text f.kind f.open_ m m f.parts) + params_size b (body_text f m 41)) is
+    head_size (is_def f) (row_text f.kind f.open_break m m f.parts) (body_text f m 41)
+    ∙ ap (λ (b : Bool). length (row_text f.kind f.open_break m m f.parts) + params_size b (body_text f m 41)) is
 
 pub header_length : (f : Form) (m : ℕ) → length (header_text m f) ≡ length (indented_lines m f.comments.before) + (m + (length (text_of_head m f) + (1 + (length (suffix_text f.comments.suffix) + 1))))
 header_length f m =
@@ -85,10 +85,10 @@ pub statements_next : (m : ℕ) (xs : List Statement) (k : ℕ) (d : Statement) 
     length (all_statements m (drop k xs)) ≡ length (statement_text m (get_or xs k d)) + length (all_statements m (drop (k + 1) xs))
 statements_next m xs k d h = ap (λ z. length (all_statements m z)) (drop_more xs k d h) ∙ length-append (statement_text m (get_or xs k d)) (all_statements m (drop (k + 1) xs))
 
-pub branch_length : (x : Branch) (m : ℕ) → length (branch_text m x) ≡ length (header_text m x.head) + (length (all_statements (m + 4) x.statements) + length (indented_lines (m + 4) x.end_))
+pub branch_length : (x : Branch) (m : ℕ) → length (branch_text m x) ≡ length (header_text m x.head) + (length (all_statements (m + 4) x.statements) + length (indented_lines (m + 4) x.end))
 branch_length x m =
-    length-append (header_text m x.head) (all_statements (m + 4) x.statements ++ indented_lines (m + 4) x.end_)
-    ∙ ap (λ n. length (header_text m x.head) + n) (length-append (all_statements (m + 4) x.statements) (indented_lines (m + 4) x.end_))
+    length-append (header_text m x.head) (all_statements (m + 4) x.statements ++ indented_lines (m + 4) x.end)
+    ∙ ap (λ n. length (header_text m x.head) + n) (length-append (all_statements (m + 4) x.statements) (indented_lines (m + 4) x.end))
 
 -- ---- the file
 

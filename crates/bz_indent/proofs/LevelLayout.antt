@@ -30,39 +30,39 @@ flagged_writings [] = refl
 flagged_writings (x ∷ xs) = two (λ t ts. (with_flags x, t) ∷ ts) (text_flags x) (flagged_writings xs)
 
 -- a row
-same_row : (kind : Kind) (open_ : Bool) (m n : ℕ) (xs : List Expr) → row_text kind open_ m n (map with_flags xs) ≡ row_text kind open_ m n xs
-same_row kind open_ m n xs = ap (λ z. flat_map piece_text (rowed kind open_ m [] n z)) (flagged_writings xs) ∙ ap (flat_map piece_text) (same_rowed kind open_ m [] n (writings xs))
+same_row : (kind : Kind) (open_break : Bool) (m n : ℕ) (xs : List Expr) → row_text kind open_break m n (map with_flags xs) ≡ row_text kind open_break m n xs
+same_row kind open_break m n xs = ap (λ z. flat_map piece_text (rowed kind open_break m [] n z)) (flagged_writings xs) ∙ ap (flat_map piece_text) (same_rowed kind open_break m [] n (writings xs))
 
 -- parameters, broken or not
 abbrev parameters_text : Bool → Bool → ℕ → List Bytes → List Expr → Bytes
-parameters_text broken one m end_ xs = if broken then stacked_text m 41 end_ xs else joined_text m 41 one xs
+parameters_text broken one m end xs = if broken then stacked_text m 41 end xs else joined_text m 41 one xs
 
-same_parameters : (broken one : Bool) (m : ℕ) (end_ : List Bytes) (xs : List Expr) → parameters_text broken one m end_ (map with_flags xs) ≡ parameters_text broken one m end_ xs
-same_parameters true one m end_ xs = ap (λ z. flat_map piece_text (stacked m None 41 end_ z)) (flagged_writings xs) ∙ ap (flat_map piece_text) (same_body true one m 41 end_ (writings xs))
-same_parameters false one m end_ xs = ap (λ z. flat_map piece_text (joined m [] 41 one z)) (flagged_writings xs) ∙ ap (flat_map piece_text) (same_body false one m 41 end_ (writings xs))
+same_parameters : (broken one : Bool) (m : ℕ) (end : List Bytes) (xs : List Expr) → parameters_text broken one m end (map with_flags xs) ≡ parameters_text broken one m end xs
+same_parameters true one m end xs = ap (λ z. flat_map piece_text (stacked m None 41 end z)) (flagged_writings xs) ∙ ap (flat_map piece_text) (same_body true one m 41 end (writings xs))
+same_parameters false one m end xs = ap (λ z. flat_map piece_text (joined m [] 41 one z)) (flagged_writings xs) ∙ ap (flat_map piece_text) (same_body false one m 41 end (writings xs))
 
 module _ (flags : FlagsSettle) where
   -- ---- headers
 
   -- a header, levelled, by whether it is one of a function
   abbrev leveled : Bool → Form → Form
-  leveled def f = record f { parts = map with_flags f.parts; seq = record f.seq { items = map with_flags f.seq.items; split = if def then is_broken f.kind f.seq.split f.seq.items f.seq.end_ else f.seq.split } }
+  leveled def f = record f { parts = map with_flags f.parts; seq = record f.seq { items = map with_flags f.seq.items; split = if def then is_broken f.kind f.seq.split f.seq.items f.seq.end else f.seq.split } }
 
   -- the parameters of a function
   same_brackets : (m : ℕ) (f : Form) → body_text (leveled true f) m 41 ≡ body_text f m 41
   same_brackets m f =
       let items : List Expr = map with_flags f.seq.items in
-      let broken : Bool = is_broken f.kind f.seq.split f.seq.items f.seq.end_ in
-      two (λ z w. parameters_text z (is_tuple f.kind && nat_eq w 1) m f.seq.end_ items) (flags.broken f.kind f.seq.split f.seq.items f.seq.end_) (length-map f.seq.items with_flags)
-      ∙ same_parameters broken (is_tuple f.kind && nat_eq (length f.seq.items) 1) m f.seq.end_ f.seq.items
+      let broken : Bool = is_broken f.kind f.seq.split f.seq.items f.seq.end in
+      two (λ z w. parameters_text z (is_tuple f.kind && nat_eq w 1) m f.seq.end items) (flags.broken f.kind f.seq.split f.seq.items f.seq.end) (length-map f.seq.items with_flags)
+      ∙ same_parameters broken (is_tuple f.kind && nat_eq (length f.seq.items) 1) m f.seq.end f.seq.items
 
   -- a header up to its colon
   abbrev text_by : Bool → ℕ → Form → Form → Bytes
-  text_by def m f g = row_text g.kind g.open_ m m g.parts ++ (if def then codes "(" ++ body_text f m 41 else [])
+  text_by def m f g = row_text g.kind g.open_break m m g.parts ++ (if def then codes "(" ++ body_text f m 41 else [])
 
   same_head_by : (def : Bool) (m : ℕ) (f : Form) → text_by def m (leveled def f) (leveled def f) ≡ text_by def m f f
-  same_head_by true m f = two (λ z w. z ++ (codes "(" ++ w)) (same_row f.kind f.open_ m m f.parts) (same_brackets m f)
-  same_head_by false m f = ap (λ z. z ++ []) (same_row f.kind f.open_ m m f.parts)
+  same_head_by true m f = two (λ z w. z ++ (codes "(" ++ w)) (same_row f.kind f.open_break m m f.parts) (same_brackets m f)
+  same_head_by false m f = ap (λ z. z ++ []) (same_row f.kind f.open_break m m f.parts)
 
   -- a header is written as before
   same_head : (m : ℕ) (f : Form) → text_of_head m (level_head f) ≡ text_of_head m f
@@ -85,8 +85,8 @@ module _ (flags : FlagsSettle) where
 
     same_branches : (m : ℕ) (n : _) (r : Row_of-Branch n) → all_branches m (each_branch r) ≡ branches_text m r
     same_branches m n end_of-Branch = refl
-    same_branches m n (more_of-Branch head size statements end_ rest) =
-        two (λ z w. z ++ w) (two (λ z w. z ++ (w ++ indented_lines (m + 4) end_)) (same_header m head) (same_statements (m + 4) _ statements)) (same_branches m _ rest)
+    same_branches m n (more_of-Branch head size statements end rest) =
+        two (λ z w. z ++ w) (two (λ z w. z ++ (w ++ indented_lines (m + 4) end)) (same_header m head) (same_statements (m + 4) _ statements)) (same_branches m _ rest)
 
     same_statements : (m : ℕ) (n : _) (r : Row_of-Statement n) → all_statements m (each_statement r) ≡ statements_text m r
     same_statements m n end_of-Statement = refl

@@ -4,14 +4,14 @@ use Rattle.std.proofs.lemmas.List.Elements.{All-map, All-weaker}
 use Rattle.bz_tree.specs.declared.kind.Kind.{Kind}
 use Rattle.bz_tree.specs.declared.kind.Kind.TheVariants as k
 use Rattle.bz_tree.specs.declared.tree.Part.{Part}
-use Rattle.bz_tree.specs.Legal.{IsSort}
+use Rattle.bz_tree.specs.Legal.{IsNonterminal}
 use Rattle.bz_tree.specs.Shapes.{Shape, Fits, is_kind, one_keyword}
 use Rattle.bz_tree.specs.Spots.{Spot, Begins, Within}
 use Rattle.bz_tree.specs.Suites.{def_header, for_header, test_header, else_header}
 use Rattle.bz_value.specs.declared.value.Expr.{Expr, Token, Form'}
 use Rattle.bz_value.specs.declared.value.Form.{Form}
 use Rattle.bz_value.specs.LineShapes.{line_shape}
-use Rattle.bz_value.specs.Proper.{IsComment, AreComments, behind_expr}
+use Rattle.bz_value.specs.Proper.{IsComment, AreComments, after_expr}
 use Rattle.bz_value.specs.Roots.{root, mark_leaf, each_with_comma}
 use Rattle.bz_write.specs.Layout.{is_broken}
 use Rattle.bz_write.specs.Flags.{with_flags}
@@ -26,7 +26,7 @@ use Rattle.bz_suite.specs.declared.value.BzlItem.TheVariants as b
 use Rattle.bz_suite.specs.Proper.{has_simple_kind, AreHeaderParts, AreParameters, HasNone, IsHeader, AreAlternatives, AreHeaders, heads, IsSome, IsProperStatement, AreProperBranches, AreProperStatements, IsProperBzlItem, IsProperBzl}
 use Rattle.bz_indent.specs.Layout.{is_def}
 use Rattle.bz_indent.specs.Level.{level_head, level_statement, each_branch, each_statement, level_item, level}
-use Rattle.bz_indent.proofs.Rows.{branches_behind, branches_are}
+use Rattle.bz_indent.proofs.Rows.{branches_after, branches_are}
 
 -- ---- headers
 
@@ -38,7 +38,7 @@ flagged_roots (x ∷ xs) = two (λ z w. z ∷ w) (same_root x) (flagged_roots xs
 flagged_parts : (here : Spot) (xs : List Expr) → AreHeaderParts here xs → AreHeaderParts here (map with_flags xs)
 flagged_parts here [] h = tt
 flagged_parts here (x ∷ xs) h =
-    (expr_flags line_shape here x h.0, bare_flags x h.1, subst (λ z. AreHeaderParts z (map with_flags xs)) (sym (same_spot Begins here x)) (flagged_parts (behind_expr Begins here x) xs h.2))
+    (expr_flags line_shape here x h.0, bare_flags x h.1, subst (λ z. AreHeaderParts z (map with_flags xs)) (sym (same_spot Begins here x)) (flagged_parts (after_expr Begins here x) xs h.2))
 
 flagged_parameters : (xs : List Expr) → AreParameters xs → AreParameters (map with_flags xs)
 flagged_parameters [] h = tt
@@ -46,7 +46,7 @@ flagged_parameters (x ∷ xs) h = (expr_flags line_shape Within x h.0, subst Are
 
 -- only a function has parameters
 none_level : (f : Form) → is_kind f.kind k.Def ≡ false → HasNone f → HasNone (level_head f)
-none_level f e h = (ap (map with_flags) h.0, h.1, ap (λ z. if z then is_broken f.kind f.seq.split f.seq.items f.seq.end_ else f.seq.split) e ∙ h.2)
+none_level f e h = (ap (map with_flags) h.0, h.1, ap (λ z. if z then is_broken f.kind f.seq.split f.seq.items f.seq.end else f.seq.split) e ∙ h.2)
 
 -- what is after the parts of a header
 abbrev end_of : Bool → List Part → List Part
@@ -56,7 +56,7 @@ end_of def items = if def then mark_leaf 40 ∷ (each_with_comma items ++ mark_l
 header_level : (kind : Kind) (shape : Shape) (f : Form) → IsHeader kind shape f → IsHeader kind shape (level_head f)
 header_level kind shape f h = record {
   kinds = h.kinds;
-  fits = subst (λ z. Fits IsSort shape (z ++ end_of (is_def f) (map root (map with_flags f.seq.items)))) (sym (flagged_roots f.parts)) (subst (λ z. Fits IsSort shape (map root f.parts ++ end_of (is_def f) z)) (sym (flagged_roots f.seq.items)) h.fits);
+  fits = subst (λ z. Fits IsNonterminal shape (z ++ end_of (is_def f) (map root (map with_flags f.seq.items)))) (sym (flagged_roots f.parts)) (subst (λ z. Fits IsNonterminal shape (map root f.parts ++ end_of (is_def f) z)) (sym (flagged_roots f.seq.items)) h.fits);
   parts = flagged_parts Begins f.parts h.parts;
   parameters = flagged_parameters f.seq.items h.parameters;
   ends = h.ends;
@@ -95,7 +95,7 @@ ProperList (x ∷ xs) = IsProperStatement x × ProperList xs
 -- headers with suites
 abbrev BranchesList : List Branch → Type 0
 BranchesList [] = Unit {0}
-BranchesList (x ∷ xs) = SomeList x.statements × ProperList x.statements × All IsComment x.end_ × BranchesList xs
+BranchesList (x ∷ xs) = SomeList x.statements × ProperList x.statements × All IsComment x.end × BranchesList xs
 
 -- from lists to rows
 some_from_list : (n : _) (r : Row_of-Statement n) → SomeList (items-the_row-Statement n r) → IsSome r
@@ -108,7 +108,7 @@ statements_from_list n (more_of-Statement x rest) h = (h.0, statements_from_list
 
 branches_from_list : (n : _) (r : Row_of-Branch n) → BranchesList (items-the_row-Branch n r) → AreProperBranches r
 branches_from_list n end_of-Branch h = tt
-branches_from_list n (more_of-Branch head size statements end_ rest) h = (
+branches_from_list n (more_of-Branch head size statements end rest) h = (
   some_from_list _ statements (subst SomeList (items_shown-the_row-Statement-0 size statements) h.0),
   statements_from_list _ statements (subst ProperList (items_shown-the_row-Statement-0 size statements) h.1),
   h.2,
@@ -121,17 +121,17 @@ head_of x = x.head
 
 heads_list : (n : _) (r : Row_of-Branch n) → heads r ≡ map head_of (items-the_row-Branch n r)
 heads_list n end_of-Branch = refl
-heads_list n (more_of-Branch head size statements end_ rest) = ap (λ z. head ∷ z) (heads_list _ rest)
+heads_list n (more_of-Branch head size statements end rest) = ap (λ z. head ∷ z) (heads_list _ rest)
 
 heads_level : (n : _) (r : Row_of-Branch n) → map head_of (each_branch r) ≡ map level_head (heads r)
 heads_level n end_of-Branch = refl
-heads_level n (more_of-Branch head size statements end_ rest) = ap (λ z. level_head head ∷ z) (heads_level _ rest)
+heads_level n (more_of-Branch head size statements end rest) = ap (λ z. level_head head ∷ z) (heads_level _ rest)
 
 -- a statement with suites is proper by its lists
 compound_proper : (own : List Branch) → AreHeaders (map head_of own) → BranchesList own → IsProperStatement (s.Compound own)
 compound_proper own h c = (
-  subst AreHeaders (sym (heads_list _ (branches_behind (s.Compound own)).1 ∙ ap (map head_of) (branches_are own))) h,
-  branches_from_list _ (branches_behind (s.Compound own)).1 (subst BranchesList (sym (branches_are own)) c),
+  subst AreHeaders (sym (heads_list _ (branches_after (s.Compound own)).1 ∙ ap (map head_of) (branches_are own))) h,
+  branches_from_list _ (branches_after (s.Compound own)).1 (subst BranchesList (sym (branches_are own)) c),
 )
 
 -- ---- statements
@@ -139,7 +139,7 @@ compound_proper own h c = (
 -- a simple statement keeps its kind
 simple_kind : (x : Expr) → has_simple_kind (with_flags x) ≡ has_simple_kind x
 simple_kind (Token t) = refl
-simple_kind (Form' kind s parts s' items end_ split open_ comments) = refl
+simple_kind (Form' kind s parts s' items end split open_break comments) = refl
 
 some_level : (n : _) (r : Row_of-Statement n) → IsSome r → SomeList (each_statement r)
 some_level n end_of-Statement h = h
@@ -153,7 +153,7 @@ mutual
 
   branches_level : (n : _) (r : Row_of-Branch n) → AreProperBranches r → BranchesList (each_branch r)
   branches_level n end_of-Branch h = tt
-  branches_level n (more_of-Branch head size statements end_ rest) h = (some_level _ statements h.0, statements_level _ statements h.1, h.2, branches_level _ rest h.3)
+  branches_level n (more_of-Branch head size statements end rest) h = (some_level _ statements h.0, statements_level _ statements h.1, h.2, branches_level _ rest h.3)
 
   statements_level : (n : _) (r : Row_of-Statement n) → AreProperStatements r → ProperList (each_statement r)
   statements_level n end_of-Statement h = tt

@@ -58,17 +58,17 @@ simple_parts x m comments before suffix own is is_suffix =
     simple_length x m
     ∙ two (λ a z. length (indented_lines m a) + (m + (length (text_of x m) + (length (suffix_text z) + 1)))) (ap (λ c. c.before) (sym own) ∙ sym is) (ap (λ c. c.suffix) (sym own) ∙ sym is_suffix)
 
-pub branch_parts : (x : Branch) (m inner : ℕ) (statements : List Statement) (end_ : List Bytes) → inner ≡ m + 4 → statements ≡ x.statements → end_ ≡ x.end_ →
-    length (branch_text m x) ≡ length (header_text m x.head) + (length (all_statements inner statements) + length (indented_lines inner end_))
-branch_parts x m inner statements end_ deep is is_end =
+pub branch_parts : (x : Branch) (m inner : ℕ) (statements : List Statement) (end : List Bytes) → inner ≡ m + 4 → statements ≡ x.statements → end ≡ x.end →
+    length (branch_text m x) ≡ length (header_text m x.head) + (length (all_statements inner statements) + length (indented_lines inner end))
+branch_parts x m inner statements end deep is is_end =
     branch_length x m
     ∙ ap (λ z. length (header_text m x.head) + z)
     (two (λ a b. a + b) (two (λ n z. length (all_statements n z)) (sym deep) (sym is)) (two (λ n z. length (indented_lines n z)) (sym deep) (sym is_end)))
 
 -- a header is as long as the row of its parts at least
-pub row_within : (f : Form) (m room : ℕ) → room < length (row_text f.kind f.open_ m m f.parts) → room < length (text_of_head m f)
+pub row_within : (f : Form) (m room : ℕ) → room < length (row_text f.kind f.open_break m m f.parts) → room < length (text_of_head m f)
 row_within f m room less =
-    let all : length (text_of_head m f) ≡ length (row_text f.kind f.open_ m m f.parts) + length (if is_def f then codes "(" ++ body_text f m 41 else []) = length-append _ _ in
+    let all : length (text_of_head m f) ≡ length (row_text f.kind f.open_break m m f.parts) + length (if is_def f then codes "(" ++ body_text f m 41 else []) = length-append _ _ in
     omega (arith, all, less)
 
 -- ---- one turn of each loop

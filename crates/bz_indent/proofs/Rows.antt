@@ -12,11 +12,11 @@ both f {h} {h'} {i} {i'} d e = ap (λ z. f z i) d ∙ ap (λ z. f h' z) e
 
 -- ---- the row of a statement
 
-abbrev pub branches_behind : Statement → (n : Count) × Row_of-Branch n
-branches_behind (Simple x) = (_, end_of-Branch)
-branches_behind (Compound' size own) = (_, own)
+abbrev pub branches_after : Statement → (n : Count) × Row_of-Branch n
+branches_after (Simple x) = (_, end_of-Branch)
+branches_after (Compound' size own) = (_, own)
 
-pub branches_are : (own : List Branch) → items-the_row-Branch (branches_behind (s.Compound own)).0 (branches_behind (s.Compound own)).1 ≡ own
+pub branches_are : (own : List Branch) → items-the_row-Branch (branches_after (s.Compound own)).0 (branches_after (s.Compound own)).1 ≡ own
 branches_are own = items_hidden-the_row-Branch-1 own
 
 -- ---- the layout
@@ -27,13 +27,13 @@ statements_row m n (more_of-Statement x rest) = ap (λ t. statement_text m x ++ 
 
 branches_row : (m : ℕ) (n : _) (r : Row_of-Branch n) → branches_text m r ≡ all_branches m (items-the_row-Branch n r)
 branches_row m n end_of-Branch = refl
-branches_row m n (more_of-Branch head size statements end_ rest) =
-    both (λ s t. (header_text m head ++ (s ++ indented_lines (m + 4) end_)) ++ t)
+branches_row m n (more_of-Branch head size statements end rest) =
+    both (λ s t. (header_text m head ++ (s ++ indented_lines (m + 4) end)) ++ t)
     (statements_row (m + 4) _ statements ∙ ap (all_statements (m + 4)) (sym (items_shown-the_row-Statement-0 size statements)))
     (branches_row m _ rest)
 
 pub text_Compound : (own : List Branch) (m : ℕ) → statement_text m (s.Compound own) ≡ all_branches m own
-text_Compound own m = branches_row m _ (branches_behind (s.Compound own)).1 ∙ ap (all_branches m) (branches_are own)
+text_Compound own m = branches_row m _ (branches_after (s.Compound own)).1 ∙ ap (all_branches m) (branches_are own)
 
 -- ---- the pass
 
@@ -43,10 +43,10 @@ statements_level n (more_of-Statement x rest) = ap (λ t. level_statement x ∷ 
 
 branches_level : (n : _) (r : Row_of-Branch n) → each_branch r ≡ map level_branch (items-the_row-Branch n r)
 branches_level n end_of-Branch = refl
-branches_level n (more_of-Branch head size statements end_ rest) =
-    both (λ s t. record { head = level_head head; statements = s; end_ = end_ } ∷ t)
+branches_level n (more_of-Branch head size statements end rest) =
+    both (λ s t. record { head = level_head head; statements = s; end = end } ∷ t)
     (statements_level _ statements ∙ ap (map level_statement) (sym (items_shown-the_row-Statement-0 size statements)))
     (branches_level _ rest)
 
 pub level_Compound : (own : List Branch) → level_statement (s.Compound own) ≡ s.Compound (map level_branch own)
-level_Compound own = ap (λ t. s.Compound t) (branches_level _ (branches_behind (s.Compound own)).1 ∙ ap (map level_branch) (branches_are own))
+level_Compound own = ap (λ t. s.Compound t) (branches_level _ (branches_after (s.Compound own)).1 ∙ ap (map level_branch) (branches_are own))

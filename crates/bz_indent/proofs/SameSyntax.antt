@@ -11,12 +11,12 @@ use Rattle.bz_suite.specs.declared.value.Branch.{Branch}
 use Rattle.bz_suite.specs.declared.value.BzlItem.TheVariants as b
 use Rattle.bz_indent.specs.Level.{level_head, level_statement, each_branch, each_statement}
 use Rattle.bz_indent.specs.Syntax.{head_syntax, statement_syntax, branches_syntax, statements_syntax, LevelKeepsProgram}
-use Rattle.bz_indent.proofs.Rows.{both, branches_behind, branches_are}
+use Rattle.bz_indent.proofs.Rows.{both, branches_after, branches_are}
 
 -- ---- by lists
 
 abbrev pub branch_syntax : Branch → Branch
-branch_syntax x = record { head = head_syntax x.head; statements = map statement_syntax x.statements; end_ = [] }
+branch_syntax x = record { head = head_syntax x.head; statements = map statement_syntax x.statements; end = [] }
 
 statements_row : (n : _) (r : Row_of-Statement n) → statements_syntax r ≡ map statement_syntax (items-the_row-Statement n r)
 statements_row n end_of-Statement = refl
@@ -24,13 +24,13 @@ statements_row n (more_of-Statement x rest) = ap (λ t. statement_syntax x ∷ t
 
 branches_row : (n : _) (r : Row_of-Branch n) → branches_syntax r ≡ map branch_syntax (items-the_row-Branch n r)
 branches_row n end_of-Branch = refl
-branches_row n (more_of-Branch head size statements end_ rest) =
-    both (λ own more. record { head = head_syntax head; statements = own; end_ = [] } ∷ more)
+branches_row n (more_of-Branch head size statements end rest) =
+    both (λ own more. record { head = head_syntax head; statements = own; end = [] } ∷ more)
     (statements_row _ statements ∙ ap (map statement_syntax) (sym (items_shown-the_row-Statement-0 size statements)))
     (branches_row _ rest)
 
 pub syntax_Compound : (own : List Branch) → statement_syntax (s.Compound own) ≡ s.Compound (map branch_syntax own)
-syntax_Compound own = ap (λ t. s.Compound t) (branches_row _ (branches_behind (s.Compound own)).1 ∙ ap (map branch_syntax) (branches_are own))
+syntax_Compound own = ap (λ t. s.Compound t) (branches_row _ (branches_after (s.Compound own)).1 ∙ ap (map branch_syntax) (branches_are own))
 
 -- ---- the pass
 
@@ -49,9 +49,9 @@ mutual
 
   branches_same : (n : _) (r : Row_of-Branch n) → map branch_syntax (each_branch r) ≡ branches_syntax r
   branches_same n end_of-Branch = refl
-  branches_same n (more_of-Branch head size statements end_ rest) =
-      ap (λ h. record { head = h; statements = map statement_syntax (each_statement statements); end_ = [] } ∷ map branch_syntax (each_branch rest)) (head_same head)
-      ∙ both (λ own more. record { head = head_syntax head; statements = own; end_ = [] } ∷ more) (statements_same _ statements) (branches_same _ rest)
+  branches_same n (more_of-Branch head size statements end rest) =
+      ap (λ h. record { head = h; statements = map statement_syntax (each_statement statements); end = [] } ∷ map branch_syntax (each_branch rest)) (head_same head)
+      ∙ both (λ own more. record { head = head_syntax head; statements = own; end = [] } ∷ more) (statements_same _ statements) (branches_same _ rest)
 
   statements_same : (n : _) (r : Row_of-Statement n) → map statement_syntax (each_statement r) ≡ statements_syntax r
   statements_same n end_of-Statement = refl

@@ -22,9 +22,9 @@ map_twice f once (x ∷ xs) = ap (λ y. y ∷ map f (map f xs)) (once x) ∙ ap 
 module _ (flags : FlagsSettle) where
   -- whether the parameters are split, by whether the header is one of a function
   split_twice : (def : Bool) (f : Form) →
-      (if def then is_broken f.kind (if def then is_broken f.kind f.seq.split f.seq.items f.seq.end_ else f.seq.split) (map with_flags f.seq.items) f.seq.end_ else (if def then is_broken f.kind f.seq.split f.seq.items f.seq.end_ else f.seq.split))
-      ≡ (if def then is_broken f.kind f.seq.split f.seq.items f.seq.end_ else f.seq.split)
-  split_twice true f = flags.broken f.kind f.seq.split f.seq.items f.seq.end_
+      (if def then is_broken f.kind (if def then is_broken f.kind f.seq.split f.seq.items f.seq.end else f.seq.split) (map with_flags f.seq.items) f.seq.end else (if def then is_broken f.kind f.seq.split f.seq.items f.seq.end else f.seq.split))
+      ≡ (if def then is_broken f.kind f.seq.split f.seq.items f.seq.end else f.seq.split)
+  split_twice true f = flags.broken f.kind f.seq.split f.seq.items f.seq.end
   split_twice false f = refl
 
   made : Form → List Expr → List Expr → Bool → Form
@@ -44,10 +44,10 @@ module _ (flags : FlagsSettle) where
 
     branches_twice : (n : _) (r : Row_of-Branch n) → map level_branch (each_branch r) ≡ each_branch r
     branches_twice n end_of-Branch = refl
-    branches_twice n (more_of-Branch head size statements end_ rest) =
-        ap (λ h. record { head = h; statements = map level_statement (each_statement statements); end_ = end_ } ∷ map level_branch (each_branch rest)) (head_twice head)
-        ∙ (ap (λ own. record { head = level_head head; statements = own; end_ = end_ } ∷ map level_branch (each_branch rest)) (statements_twice _ statements)
-        ∙ ap (λ own. record { head = level_head head; statements = each_statement statements; end_ = end_ } ∷ own) (branches_twice _ rest))
+    branches_twice n (more_of-Branch head size statements end rest) =
+        ap (λ h. record { head = h; statements = map level_statement (each_statement statements); end = end } ∷ map level_branch (each_branch rest)) (head_twice head)
+        ∙ (ap (λ own. record { head = level_head head; statements = own; end = end } ∷ map level_branch (each_branch rest)) (statements_twice _ statements)
+        ∙ ap (λ own. record { head = level_head head; statements = each_statement statements; end = end } ∷ own) (branches_twice _ rest))
 
     statements_twice : (n : _) (r : Row_of-Statement n) → map level_statement (each_statement r) ≡ each_statement r
     statements_twice n end_of-Statement = refl

@@ -16,11 +16,11 @@ use Rattle.bz_value.specs.declared.value.Expr.{Expr}
 use Rattle.bz_value.specs.Roots.{mark_leaf}
 use Rattle.bz_value.specs.declared.value.Form.{Form}
 use Rattle.bz_value.specs.Empty.{is_empty}
-use Rattle.bz_value.specs.Proper.{behind_expr, comments_of}
+use Rattle.bz_value.specs.Proper.{after_expr, comments_of}
 use Rattle.bz_items.specs.Characters.{Bytes, line_feed, space}
 use Rattle.bz_write.specs.Layout.{rowed, stacked, joined, suffix_text, is_broken, is_tuple}
 use Rattle.bz_write.specs.Written.{text_of}
-use Rattle.bz_write.specs.Drawn.{part_of, piece_part, drawings, drawn_body}
+use Rattle.bz_write.specs.LaidOut.{part_of, piece_part, layouts, laid_out_body}
 use Rattle.bz_write.specs.Writings.{writings, row_text, stacked_text, joined_text, body_text}
 use Rattle.bz_write.proofs.Readable.{Readable, readable}
 use Rattle.bz_write.proofs.Spelled.{both, same_rowed, same_body, row_gap, spell_expr, agree_all}
@@ -29,7 +29,7 @@ use Rattle.bz_suite.specs.declared.value.BzlItem.{BzlItem}
 use Rattle.bz_suite.specs.declared.value.BzlItem.TheVariants as b
 use Rattle.bz_suite.specs.Proper.{AreHeaders, AreHeaderParts, AreParameters, IsProperStatement, AreProperBranches, AreProperStatements, IsProperBzlItem, IsProperBzl, heads}
 use Rattle.bz_indent.specs.Layout.{indented_lines, is_def, text_of_head, statement_text, branches_text, statements_text, before_others, bzl_layout}
-use Rattle.bz_indent.specs.Drawn.{gap_to_margin, newline_part, first_kind, header_parts, left_behind, left_branches, left_statements, statement_part, branch_parts, statement_parts, bzl_lines, bzl_drawn}
+use Rattle.bz_indent.specs.LaidOut.{gap_to_margin, newline_part, first_kind, header_parts, left_after, left_branches, left_statements, statement_part, branch_parts, statement_parts, bzl_lines, bzl_laid_out}
 use Rattle.bz_indent.proofs.Headings.{Heading, Headings, headings, some_part}
 
 -- ---- rows and bodies
@@ -39,18 +39,18 @@ some_writings [] h = h
 some_writings (x ∷ xs) h = refl
 
 -- the gap before a row is before its text
-row_spelled : (kind : Kind) (open_ : Bool) (m : ℕ) (gap : Bytes) (xs : List Expr) → is_empty xs ≡ false → AllByRecursion Readable xs →
-    flat_map spell_part (map piece_part (rowed kind open_ m gap m (drawings xs))) ≡ gap ++ row_text kind open_ m m xs
-row_spelled kind open_ m gap xs s h = same_rowed kind open_ m gap m (drawings xs) (writings xs) (agree_all xs h) ∙ row_gap kind open_ gap m m (writings xs) (some_writings xs s)
+row_spelled : (kind : Kind) (open_break : Bool) (m : ℕ) (gap : Bytes) (xs : List Expr) → is_empty xs ≡ false → AllByRecursion Readable xs →
+    flat_map spell_part (map piece_part (rowed kind open_break m gap m (layouts xs))) ≡ gap ++ row_text kind open_break m m xs
+row_spelled kind open_break m gap xs s h = same_rowed kind open_break m gap m (layouts xs) (writings xs) (agree_all xs h) ∙ row_gap kind open_break gap m m (writings xs) (some_writings xs s)
 
-broken_spelled : (broken one : Bool) (m closer : ℕ) (end_ : List Bytes) (xs : List Expr) → AllByRecursion Readable xs →
-    flat_map spell_part (map piece_part (if broken then stacked m None closer end_ (drawings xs) else joined m [] closer one (drawings xs)))
-    ≡ (if broken then stacked_text m closer end_ xs else joined_text m closer one xs)
-broken_spelled true one m closer end_ xs h = same_body true one m closer end_ (drawings xs) (writings xs) (agree_all xs h)
-broken_spelled false one m closer end_ xs h = same_body false one m closer end_ (drawings xs) (writings xs) (agree_all xs h)
+broken_spelled : (broken one : Bool) (m closer : ℕ) (end : List Bytes) (xs : List Expr) → AllByRecursion Readable xs →
+    flat_map spell_part (map piece_part (if broken then stacked m None closer end (layouts xs) else joined m [] closer one (layouts xs)))
+    ≡ (if broken then stacked_text m closer end xs else joined_text m closer one xs)
+broken_spelled true one m closer end xs h = same_body true one m closer end (layouts xs) (writings xs) (agree_all xs h)
+broken_spelled false one m closer end xs h = same_body false one m closer end (layouts xs) (writings xs) (agree_all xs h)
 
-body_spelled : (f : Form) (m closer : ℕ) → AllByRecursion Readable f.seq.items → flat_map spell_part (map piece_part (drawn_body f m closer)) ≡ body_text f m closer
-body_spelled f m closer h = broken_spelled (is_broken f.kind f.seq.split f.seq.items f.seq.end_) (is_tuple f.kind && nat_eq (length f.seq.items) 1) m closer f.seq.end_ f.seq.items h
+body_spelled : (f : Form) (m closer : ℕ) → AllByRecursion Readable f.seq.items → flat_map spell_part (map piece_part (laid_out_body f m closer)) ≡ body_text f m closer
+body_spelled f m closer h = broken_spelled (is_broken f.kind f.seq.split f.seq.items f.seq.end) (is_tuple f.kind && nat_eq (length f.seq.items) 1) m closer f.seq.end f.seq.items h
 
 -- ---- headers
 
@@ -64,27 +64,27 @@ regroup a b c d = simp append_assoc
 
 header_spelled : (m : ℕ) (gap : Bytes) (f : Form) → Heading f → AllByRecursion Readable f.parts → AllByRecursion Readable f.seq.items → flat_map spell_part (header_parts m gap f) ≡ gap ++ (text_of_head m f ++ codes ":")
 header_spelled m gap f h r i =
-    flat_map-append spell_part (map piece_part (rowed f.kind f.open_ m gap m (drawings f.parts))) _
-    ∙ (both (row_spelled f.kind f.open_ m gap f.parts (some_part f h) r) (brackets_spelled (is_def f) (map piece_part (drawn_body f m 41)) (body_text f m 41) (body_spelled f m 41 i))
-    ∙ regroup gap (row_text f.kind f.open_ m m f.parts) (if is_def f then codes "(" ++ body_text f m 41 else []) (codes ":"))
+    flat_map-append spell_part (map piece_part (rowed f.kind f.open_break m gap m (layouts f.parts))) _
+    ∙ (both (row_spelled f.kind f.open_break m gap f.parts (some_part f h) r) (brackets_spelled (is_def f) (map piece_part (laid_out_body f m 41)) (body_text f m 41) (body_spelled f m 41 i))
+    ∙ regroup gap (row_text f.kind f.open_break m m f.parts) (if is_def f then codes "(" ++ body_text f m 41 else []) (codes ":"))
 
 -- a simple statement: lines, comments, margin, text, suffix
 simple_grouped : (lines above margin text suffix : Bytes) → (((lines ++ (above ++ margin)) ++ text) ++ ((suffix ++ line_feed ∷ []) ++ [])) ++ [] ≡ lines ++ (above ++ (margin ++ ((text ++ suffix) ++ line_feed ∷ [])))
 simple_grouped lines above margin text suffix = simp (append_assoc, append-nil)
 
 -- a header: lines, comments, margin, header, suffix; its statements, end comments, and what follows
-branch_grouped : (lines above margin head suffix statements end_ others : Bytes) →
-    ((lines ++ (above ++ margin)) ++ (head ++ codes ":")) ++ ((suffix ++ line_feed ∷ []) ++ ((statements ++ end_) ++ others))
-    ≡ lines ++ (((above ++ (margin ++ ((head ++ (codes ":" ++ suffix)) ++ line_feed ∷ []))) ++ (statements ++ end_)) ++ others)
-branch_grouped lines above margin head suffix statements end_ others = simp append_assoc
+branch_grouped : (lines above margin head suffix statements end others : Bytes) →
+    ((lines ++ (above ++ margin)) ++ (head ++ codes ":")) ++ ((suffix ++ line_feed ∷ []) ++ ((statements ++ end) ++ others))
+    ≡ lines ++ (((above ++ (margin ++ ((head ++ (codes ":" ++ suffix)) ++ line_feed ∷ []))) ++ (statements ++ end)) ++ others)
+branch_grouped lines above margin head suffix statements end others = simp append_assoc
 
 -- texts joined by what is known of two of them
-branch_joined : (header newline statements statements_left end_ rest rest_left statements_text rest_text : Bytes) → statements ++ statements_left ≡ statements_text → rest ++ rest_left ≡ (statements_left ++ end_) ++ rest_text →
-    (header ++ ((newline ++ statements) ++ rest)) ++ rest_left ≡ header ++ (newline ++ ((statements_text ++ end_) ++ rest_text))
-branch_joined header newline statements statements_left end_ rest rest_left statements_text rest_text e f =
+branch_joined : (header newline statements statements_left end rest rest_left statements_text rest_text : Bytes) → statements ++ statements_left ≡ statements_text → rest ++ rest_left ≡ (statements_left ++ end) ++ rest_text →
+    (header ++ ((newline ++ statements) ++ rest)) ++ rest_left ≡ header ++ (newline ++ ((statements_text ++ end) ++ rest_text))
+branch_joined header newline statements statements_left end rest rest_left statements_text rest_text e f =
     let first : (header ++ ((newline ++ statements) ++ rest)) ++ rest_left ≡ header ++ (newline ++ (statements ++ (rest ++ rest_left))) = simp append_assoc in
-    let then_ : header ++ (newline ++ (statements ++ ((statements_left ++ end_) ++ rest_text))) ≡ header ++ (newline ++ (((statements ++ statements_left) ++ end_) ++ rest_text)) = simp append_assoc in
-    first ∙ (ap (λ z. header ++ (newline ++ (statements ++ z))) f ∙ (then_ ∙ ap (λ z. header ++ (newline ++ ((z ++ end_) ++ rest_text))) e))
+    let then_ : header ++ (newline ++ (statements ++ ((statements_left ++ end) ++ rest_text))) ≡ header ++ (newline ++ (((statements ++ statements_left) ++ end) ++ rest_text)) = simp append_assoc in
+    first ∙ (ap (λ z. header ++ (newline ++ (statements ++ z))) f ∙ (then_ ∙ ap (λ z. header ++ (newline ++ ((z ++ end) ++ rest_text))) e))
 
 -- one part, what it leaves, and the rest
 next_joined : (first left rest rest_left lines text rest_text : Bytes) → first ++ left ≡ lines ++ text → rest ++ rest_left ≡ left ++ rest_text → (first ++ rest) ++ rest_left ≡ lines ++ (text ++ rest_text)
@@ -94,7 +94,7 @@ next_joined first left rest rest_left lines text rest_text e f =
 -- what is left after the branches of a statement doesn't hang on what is before it
 left_anew : (n : _) (r : Row_of-Branch n) (m : ℕ) (lines : Bytes) → AreHeaders (heads r) → left_branches m [] r ≡ left_branches m lines r
 left_anew n end_of-Branch m lines h = absurd h
-left_anew n (more_of-Branch head size statements end_ rest) m lines h = refl
+left_anew n (more_of-Branch head size statements end rest) m lines h = refl
 
 lines_joined : (first left rest_text lines text next others : Bytes) → first ++ left ≡ lines ++ text → others ≡ (left ++ next) ++ rest_text → first ++ others ≡ lines ++ (text ++ (next ++ rest_text))
 lines_joined first left rest_text lines text next others e f =
@@ -106,7 +106,7 @@ block_joined lines own next rest = simp append_assoc
 -- the parts of a header, and the parameters
 parts_readable : (here : Spot) (xs : List Expr) → AreHeaderParts here xs → AllByRecursion Readable xs
 parts_readable here [] h = tt
-parts_readable here (x ∷ xs) h = (readable here x h.0, parts_readable (behind_expr Begins here x) xs h.2)
+parts_readable here (x ∷ xs) h = (readable here x h.0, parts_readable (after_expr Begins here x) xs h.2)
 
 parameters_readable : (xs : List Expr) → AreParameters xs → AllByRecursion Readable xs
 parameters_readable [] h = tt
@@ -114,7 +114,7 @@ parameters_readable (x ∷ xs) h = (readable Within x h.0, parameters_readable x
 
 mutual
   -- what a statement spells, and what it leaves
-  statement_spelled : (x : Statement) → IsProperStatement x → (m : ℕ) (lines : Bytes) → spell_part (statement_part m lines x) ++ left_behind m x ≡ lines ++ statement_text m x
+  statement_spelled : (x : Statement) → IsProperStatement x → (m : ℕ) (lines : Bytes) → spell_part (statement_part m lines x) ++ left_after m x ≡ lines ++ statement_text m x
   statement_spelled (Simple x) h m lines =
       ap (λ z. z ++ []) (spell_Node (record { kind = k.Line; parts = part_of x (gap_to_margin m lines (comments_of x).before) m ∷ newline_part (comments_of x).suffix ∷ [] }) ∙ ap (λ z. z ++ ((suffix_text (comments_of x).suffix ++ line_feed ∷ []) ++ [])) (spell_expr x (readable Begins x h.1) (gap_to_margin m lines (comments_of x).before) m))
       ∙ simple_grouped lines (indented_lines m (comments_of x).before) (replicate m space) (text_of x m) (suffix_text (comments_of x).suffix)
@@ -124,11 +124,11 @@ mutual
 
   branches_spelled : (n : _) (r : Row_of-Branch n) → Headings (heads r) → AreProperBranches r → (m : ℕ) (lines : Bytes) → flat_map spell_part (branch_parts m lines r) ++ left_branches m lines r ≡ lines ++ branches_text m r
   branches_spelled n end_of-Branch g h m lines = sym (append-nil lines)
-  branches_spelled n (more_of-Branch head size statements end_ rest) g h m lines =
+  branches_spelled n (more_of-Branch head size statements end rest) g h m lines =
       let header : List Part = header_parts m (gap_to_margin m lines head.comments.before) head in
       let inner : List Part = statement_parts (m + 4) [] statements in
       let inner_left : Bytes = left_statements (m + 4) [] statements in
-      let left : Bytes = inner_left ++ indented_lines (m + 4) end_ in
+      let left : Bytes = inner_left ++ indented_lines (m + 4) end in
       let suite : Part = p.Node (record { kind = k.Suite; parts = newline_part head.comments.suffix ∷ inner }) in
       let others : List Part = branch_parts m left rest in
       let newline : Bytes = suffix_text head.comments.suffix ++ line_feed ∷ [] in
@@ -139,14 +139,14 @@ mutual
       ap (λ z. z ++ left_branches m left rest) (flat_map-append spell_part header (suite ∷ others))
       ∙ (ap (λ z. (z ++ (spell_part suite ++ flat_map spell_part others)) ++ left_branches m left rest) front
       ∙ (ap (λ z. ((gap_to_margin m lines head.comments.before ++ (text_of_head m head ++ codes ":")) ++ (z ++ flat_map spell_part others)) ++ left_branches m left rest) (spell_Node (record { kind = k.Suite; parts = newline_part head.comments.suffix ∷ inner }))
-      ∙ (branch_joined (gap_to_margin m lines head.comments.before ++ (text_of_head m head ++ codes ":")) newline (flat_map spell_part inner) inner_left (indented_lines (m + 4) end_) (flat_map spell_part others) (left_branches m left rest) (statements_text (m + 4) statements) (branches_text m rest) i r
-      ∙ branch_grouped lines (indented_lines m head.comments.before) (replicate m space) (text_of_head m head) (suffix_text head.comments.suffix) (statements_text (m + 4) statements) (indented_lines (m + 4) end_) (branches_text m rest))))
+      ∙ (branch_joined (gap_to_margin m lines head.comments.before ++ (text_of_head m head ++ codes ":")) newline (flat_map spell_part inner) inner_left (indented_lines (m + 4) end) (flat_map spell_part others) (left_branches m left rest) (statements_text (m + 4) statements) (branches_text m rest) i r
+      ∙ branch_grouped lines (indented_lines m head.comments.before) (replicate m space) (text_of_head m head) (suffix_text head.comments.suffix) (statements_text (m + 4) statements) (indented_lines (m + 4) end) (branches_text m rest))))
 
   statements_spelled : (n : _) (r : Row_of-Statement n) → AreProperStatements r → (m : ℕ) (lines : Bytes) → flat_map spell_part (statement_parts m lines r) ++ left_statements m lines r ≡ lines ++ statements_text m r
   statements_spelled n end_of-Statement h m lines = sym (append-nil lines)
   statements_spelled n (more_of-Statement x rest) h m lines =
-      next_joined (spell_part (statement_part m lines x)) (left_behind m x) (flat_map spell_part (statement_parts m (left_behind m x) rest)) (left_statements m (left_behind m x) rest) lines (statement_text m x) (statements_text m rest)
-      (statement_spelled x h.0 m lines) (statements_spelled _ rest h.1 m (left_behind m x))
+      next_joined (spell_part (statement_part m lines x)) (left_after m x) (flat_map spell_part (statement_parts m (left_after m x) rest)) (left_statements m (left_after m x) rest) lines (statement_text m x) (statements_text m rest)
+      (statement_spelled x h.0 m lines) (statements_spelled _ rest h.1 m (left_after m x))
 
 -- ---- the file
 
@@ -155,9 +155,9 @@ lines_spelled [] h lines = append-nil (lines ++ [])
 lines_spelled (b.Block texts ∷ xs) h lines =
     lines_spelled xs h.1 ((lines ++ indented_lines 0 texts) ++ before_others (b.Block texts) xs) ∙ block_joined lines (indented_lines 0 texts) (before_others (b.Block texts) xs) (bzl_layout xs)
 lines_spelled (b.Statement x ∷ xs) h lines =
-    lines_joined (spell_part (statement_part 0 lines x)) (left_behind 0 x) (bzl_layout xs) lines (statement_text 0 x) (before_others (b.Statement x) xs) _
-    (statement_spelled x h.0 0 lines) (lines_spelled xs h.1 (left_behind 0 x ++ before_others (b.Statement x) xs))
+    lines_joined (spell_part (statement_part 0 lines x)) (left_after 0 x) (bzl_layout xs) lines (statement_text 0 x) (before_others (b.Statement x) xs) _
+    (statement_spelled x h.0 0 lines) (lines_spelled xs h.1 (left_after 0 x ++ before_others (b.Statement x) xs))
 
 -- the tree of the layout of a proper value spells its text
-pub bzl_spelled : (items : List BzlItem) → IsProperBzl items → spell_node (bzl_drawn items) ≡ bzl_layout items
+pub bzl_spelled : (items : List BzlItem) → IsProperBzl items → spell_node (bzl_laid_out items) ≡ bzl_layout items
 bzl_spelled items h = lines_spelled items (recursion_from_All IsProperBzlItem items h) []

@@ -10,7 +10,7 @@ use Rattle.bz_tree.proofs.Spells.{node_spelled}
 use Rattle.bz_tree.proofs.Unique.{one_file}
 use Rattle.bz_suite.specs.declared.value.BzlItem.{BzlItem}
 use Rattle.bz_suite.specs.Proper.{IsProperBzl}
-use Rattle.bz_indent.specs.Drawn.{bzl_drawn}
+use Rattle.bz_indent.specs.LaidOut.{bzl_laid_out}
 use Rattle.bz_indent.specs.Layout.{bzl_layout}
 use Rattle.bz_indent.proofs.Shaped.{bzl_file}
 use Rattle.bz_indent.proofs.Indented.{bzl_indented}
@@ -18,12 +18,12 @@ use Rattle.bz_indent.proofs.Spelled.{bzl_spelled}
 use Rattle.bz_indent.proofs.StatementGaps.{bzl_gaps}
 use Rattle.bz_indent.proofs.StatementTokens.{bzl_tokens}
 
-pub bzl_too_deep : (items : List BzlItem) → IsProperBzl items → depth_limit < depth_of (bzl_drawn items) → NoBzlTree (bzl_layout items)
+pub bzl_too_deep : (items : List BzlItem) → IsProperBzl items → depth_limit < depth_of (bzl_laid_out items) → NoBzlTree (bzl_layout items)
 bzl_too_deep items h deep new reads =
-    let drawn : Node = bzl_drawn items in
-    let own : AreLeaves (leaves_of drawn) = (gaps_by_nodes drawn (bzl_file items h)).0 (bzl_gaps items h, bzl_tokens items h) in
-    let text : spell_node new ≡ spell_node drawn = reads.1 ∙ sym (bzl_spelled items h) in
-    let leaves : leaves_of new ≡ leaves_of drawn = one_lexing (leaves_of new) (leaves_of drawn) (leaves_bzl_legal new reads.0) own (sym (node_spelled new) ∙ text ∙ node_spelled drawn) in
-    let same : new ≡ drawn = one_file new drawn reads.0.file (bzl_file items h) reads.0.indents (bzl_indented items h) leaves in
-    let shallow : depth_of drawn ≤ depth_limit = subst (λ n. depth_of n ≤ depth_limit) same reads.0.depth in
+    let laid_out : Node = bzl_laid_out items in
+    let own : AreLeaves (leaves_of laid_out) = (gaps_by_nodes laid_out (bzl_file items h)).0 (bzl_gaps items h, bzl_tokens items h) in
+    let text : spell_node new ≡ spell_node laid_out = reads.1 ∙ sym (bzl_spelled items h) in
+    let leaves : leaves_of new ≡ leaves_of laid_out = one_lexing (leaves_of new) (leaves_of laid_out) (leaves_bzl_legal new reads.0) own (sym (node_spelled new) ∙ text ∙ node_spelled laid_out) in
+    let same : new ≡ laid_out = one_file new laid_out reads.0.file (bzl_file items h) reads.0.indents (bzl_indented items h) leaves in
+    let shallow : depth_of laid_out ≤ depth_limit = subst (λ n. depth_of n ≤ depth_limit) same reads.0.depth in
     omega (arith, shallow, deep)

@@ -21,7 +21,7 @@ abbrev mutual
   -- headers with their suites, which are nodes of their own
   pub depth_branches : {n : _} → Row_of-Branch n → ℕ
   depth_branches end_of-Branch = 0
-  depth_branches (more_of-Branch head size statements end_ rest) = max (max (depth_header head) (suc (depth_statements statements))) (depth_branches rest)
+  depth_branches (more_of-Branch head size statements end rest) = max (max (depth_header head) (suc (depth_statements statements))) (depth_branches rest)
 
   pub depth_statements : {n : _} → Row_of-Statement n → ℕ
   depth_statements end_of-Statement = 0

@@ -3,7 +3,7 @@ use Rattle.std.specs.Prelude.{◌≡◌, ◌≤◌, ℕ, List, [], ◌∷◌, �
 use Rattle.bz_items.specs.Characters.{Bytes}
 use Rattle.bz_tree.specs.Spell.{depth_of}
 use Rattle.bz_suite.specs.declared.value.BzlItem.{BzlItem}
-use Rattle.bz_indent.specs.Drawn.{bzl_drawn}
+use Rattle.bz_indent.specs.LaidOut.{bzl_laid_out}
 use Rattle.bz_indent.specs.Layout.{before_others, bzl_layout}
 
 -- what is between an item, where there is one, and those below
@@ -17,4 +17,4 @@ BzlLayoutsJoin = (front : List BzlItem) (item : BzlItem) (items : List BzlItem) 
 
 -- and the tree of both layouts is as deep as the deeper one
 abbrev pub BzlDepthsJoin : Type 0
-BzlDepthsJoin = (front items : List BzlItem) (depth : ℕ) → depth_of (bzl_drawn front) ≤ depth → depth_of (bzl_drawn items) ≤ depth → depth_of (bzl_drawn (front ++ items)) ≤ depth
+BzlDepthsJoin = (front items : List BzlItem) (depth : ℕ) → depth_of (bzl_laid_out front) ≤ depth → depth_of (bzl_laid_out items) ≤ depth → depth_of (bzl_laid_out (front ++ items)) ≤ depth

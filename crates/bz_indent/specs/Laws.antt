@@ -6,14 +6,14 @@ use Rattle.bz_tree.specs.Spell.{depth_of, limit, depth_limit}
 use Rattle.bz_items.specs.Characters.{Bytes}
 use Rattle.bz_value.specs.declared.value.Item.{Item}
 use Rattle.bz_view.specs.View.{view_of}
-use Rattle.bz_write.specs.Drawn.{drawn}
+use Rattle.bz_write.specs.LaidOut.{laid_out}
 use Rattle.bz_write.specs.Flags.{flags}
 use Rattle.bz_write.specs.Written.{layout}
 use Rattle.bz_suite.specs.declared.value.BzlItem.{BzlItem}
 use Rattle.bz_suite.specs.Kept.{bzl_times}
 use Rattle.bz_suite.specs.Proper.{IsProperBzl}
 use Rattle.bz_suite.specs.View.{bzl_item, bzl_view_of}
-use Rattle.bz_indent.specs.Drawn.{bzl_drawn}
+use Rattle.bz_indent.specs.LaidOut.{bzl_laid_out}
 use Rattle.bz_indent.specs.Layout.{bzl_layout}
 use Rattle.bz_indent.specs.Level.{level}
 
@@ -31,23 +31,23 @@ LevelKeepsLayout = (items : List BzlItem) → (bzl_layout (level items) ≡ bzl_
 
 -- The layout of a proper value reads as its tree, where it is within the limits of length and depth.
 abbrev pub BzlLayoutIsAccepted : Type 0
-BzlLayoutIsAccepted = (items : List BzlItem) → IsProperBzl items → length (bzl_layout items) ≤ limit → depth_of (bzl_drawn items) ≤ depth_limit → ReadsBzl (bzl_layout items) (bzl_drawn items)
+BzlLayoutIsAccepted = (items : List BzlItem) → IsProperBzl items → length (bzl_layout items) ≤ limit → depth_of (bzl_laid_out items) ≤ depth_limit → ReadsBzl (bzl_layout items) (bzl_laid_out items)
 
 -- No tree is read of the layout of a proper value whose own tree is too deep.
 abbrev pub BzlLayoutIsTooDeep : Type 0
-BzlLayoutIsTooDeep = (items : List BzlItem) → IsProperBzl items → depth_limit < depth_of (bzl_drawn items) → NoBzlTree (bzl_layout items)
+BzlLayoutIsTooDeep = (items : List BzlItem) → IsProperBzl items → depth_limit < depth_of (bzl_laid_out items) → NoBzlTree (bzl_layout items)
 
 -- What the tree of the layout of a proper value says is the value, levelled.
 abbrev pub BzlLayoutReadsBack : Type 0
-BzlLayoutReadsBack = (items : List BzlItem) → IsProperBzl items → bzl_view_of (bzl_drawn items) ≡ level items
+BzlLayoutReadsBack = (items : List BzlItem) → IsProperBzl items → bzl_view_of (bzl_laid_out items) ≡ level items
 
 -- The items of a BUILD file, as those of a .bzl file, have the layout of the BUILD file.
 abbrev pub BuildItemsAreLaidOutTheSame : Type 0
 BuildItemsAreLaidOutTheSame = (items : List Item) → bzl_layout (map bzl_item items) ≡ layout items
 
 -- Its tree is the same too.
-abbrev pub BuildItemsAreDrawnTheSame : Type 0
-BuildItemsAreDrawnTheSame = (items : List Item) → bzl_drawn (map bzl_item items) ≡ drawn items
+abbrev pub BuildItemsHaveTheSameTree : Type 0
+BuildItemsHaveTheSameTree = (items : List Item) → bzl_laid_out (map bzl_item items) ≡ laid_out items
 
 -- To level them is to settle their flags.
 abbrev pub BuildItemsAreLevelledTheSame : Type 0

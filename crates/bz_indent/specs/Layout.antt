@@ -34,7 +34,7 @@ is_def f = is_kind f.kind k.Def
 
 -- A header up to its colon. Of a Def the parameters are between brackets, laid out as the items of a sequence.
 abbrev pub text_of_head : ℕ → Form → Bytes
-text_of_head m f = row_text f.kind f.open_ m m f.parts ++ (if is_def f then codes "(" ++ body_text f m 41 else [])
+text_of_head m f = row_text f.kind f.open_break m m f.parts ++ (if is_def f then codes "(" ++ body_text f m 41 else [])
 
 -- a header with its comments
 abbrev pub header_text : ℕ → Form → Bytes
@@ -54,8 +54,8 @@ abbrev mutual
   -- each header, its suite, and the comments below that
   pub branches_text : ℕ → {n : _} → Row_of-Branch n → Bytes
   branches_text m end_of-Branch = []
-  branches_text m (more_of-Branch head size statements end_ rest) =
-      (header_text m head ++ (statements_text (m + 4) statements ++ indented_lines (m + 4) end_)) ++ branches_text m rest
+  branches_text m (more_of-Branch head size statements end rest) =
+      (header_text m head ++ (statements_text (m + 4) statements ++ indented_lines (m + 4) end)) ++ branches_text m rest
 
   pub statements_text : ℕ → {n : _} → Row_of-Statement n → Bytes
   statements_text m end_of-Statement = []
@@ -66,7 +66,7 @@ abbrev pub all_statements : ℕ → List Statement → Bytes
 all_statements m own = flat_map (statement_text m) own
 
 abbrev pub branch_text : ℕ → Branch → Bytes
-branch_text m x = header_text m x.head ++ (all_statements (m + 4) x.statements ++ indented_lines (m + 4) x.end_)
+branch_text m x = header_text m x.head ++ (all_statements (m + 4) x.statements ++ indented_lines (m + 4) x.end)
 
 abbrev pub all_branches : ℕ → List Branch → Bytes
 all_branches m own = flat_map (branch_text m) own

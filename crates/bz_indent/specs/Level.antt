@@ -11,7 +11,7 @@ use Rattle.bz_suite.specs.declared.value.BzlItem.TheVariants as b
 use Rattle.bz_indent.specs.Layout.{is_def}
 
 abbrev pub head_split : Form → Bool
-head_split f = if is_def f then is_broken f.kind f.seq.split f.seq.items f.seq.end_ else f.seq.split
+head_split f = if is_def f then is_broken f.kind f.seq.split f.seq.items f.seq.end else f.seq.split
 
 abbrev pub level_head : Form → Form
 level_head f = record f { parts = map with_flags f.parts; seq = record f.seq { items = map with_flags f.seq.items; split = head_split f } }
@@ -23,14 +23,14 @@ abbrev mutual
 
   pub each_branch : {n : _} → Row_of-Branch n → List Branch
   each_branch end_of-Branch = []
-  each_branch (more_of-Branch head size statements end_ rest) = record { head = level_head head; statements = each_statement statements; end_ = end_ } ∷ each_branch rest
+  each_branch (more_of-Branch head size statements end rest) = record { head = level_head head; statements = each_statement statements; end = end } ∷ each_branch rest
 
   pub each_statement : {n : _} → Row_of-Statement n → List Statement
   each_statement end_of-Statement = []
   each_statement (more_of-Statement x rest) = level_statement x ∷ each_statement rest
 
 abbrev pub level_branch : Branch → Branch
-level_branch x = record { head = level_head x.head; statements = map level_statement x.statements; end_ = x.end_ }
+level_branch x = record { head = level_head x.head; statements = map level_statement x.statements; end = x.end }
 
 abbrev pub level_item : BzlItem → BzlItem
 level_item (b.Block texts) = b.Block texts

@@ -1,5 +1,5 @@
 pub mod Depths
-pub mod Drawn
+pub mod LaidOut
 pub mod Joined
 pub mod Laws
 pub mod Layout

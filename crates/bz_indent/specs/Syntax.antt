@@ -14,7 +14,7 @@ use Rattle.bz_indent.specs.Level.{level}
 
 -- of a header
 abbrev pub head_syntax : Form → Form
-head_syntax f = record { kind = f.kind; parts = map syntax_of f.parts; seq = record { items = map syntax_of f.seq.items; end_ = []; split = false }; open_ = false; comments = no_comments }
+head_syntax f = record { kind = f.kind; parts = map syntax_of f.parts; seq = record { items = map syntax_of f.seq.items; end = []; split = false }; open_break = false; comments = no_comments }
 
 abbrev mutual
   pub statement_syntax : Statement → Statement
@@ -24,7 +24,7 @@ abbrev mutual
   -- of headers with their suites
   pub branches_syntax : {n : _} → Row_of-Branch n → List Branch
   branches_syntax end_of-Branch = []
-  branches_syntax (more_of-Branch head size statements end_ rest) = record { head = head_syntax head; statements = statements_syntax statements; end_ = [] } ∷ branches_syntax rest
+  branches_syntax (more_of-Branch head size statements end rest) = record { head = head_syntax head; statements = statements_syntax statements; end = [] } ∷ branches_syntax rest
 
   -- of the statements of a suite
   pub statements_syntax : {n : _} → Row_of-Statement n → List Statement

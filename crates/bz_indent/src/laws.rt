@@ -1,6 +1,6 @@
 //! Facts about the definitions, for readers and for the proofs of other crates: the functions do nothing.
 ghost use Rattle.bz_indent.specs.Joined.{BzlDepthsJoin, BzlLayoutsJoin};
-ghost use Rattle.bz_indent.specs.Laws.{BuildFilesAreLaidOutTheSame, BuildItemsAreDrawnTheSame, BuildItemsAreLaidOutTheSame, BuildItemsAreLevelledTheSame, BzlLayoutIsAccepted, BzlLayoutIsTooDeep, BzlLayoutReadsBack, LevelKeepsComments, LevelKeepsLayout, LevelStays};
+ghost use Rattle.bz_indent.specs.Laws.{BuildFilesAreLaidOutTheSame, BuildItemsHaveTheSameTree, BuildItemsAreLaidOutTheSame, BuildItemsAreLevelledTheSame, BzlLayoutIsAccepted, BzlLayoutIsTooDeep, BzlLayoutReadsBack, LevelKeepsComments, LevelKeepsLayout, LevelStays};
 ghost use Rattle.bz_indent.specs.Syntax.{BuildItemsAreTheSameProgram, LevelKeepsProgram};
 ghost use Rattle.bz_indent.specs.Worked.{WorkedBzlLayouts};
 
@@ -58,7 +58,7 @@ pub fn bzl_layouts_join()
 /// The items of a BUILD file, as those of a .bzl file, have the layout of the BUILD file: its text and its tree.
 pub fn build_items_are_laid_out_the_same()
     ensures text { BuildItemsAreLaidOutTheSame }
-    ensures tree { BuildItemsAreDrawnTheSame }
+    ensures tree { BuildItemsHaveTheSameTree }
 {}
 
 /// What the legal tree of a BUILD file says is laid out the same as a .bzl file and as a BUILD file. (Before its layout a BUILD file

@@ -9,7 +9,7 @@ use bz_items::{Memory, Text};
 use bz_suite::{Branch, BzlFile, BzlItem, Statement};
 use bz_value::{Expr, Form};
 use bz_write::{
-    NoRoom, deeper, is_close, left_behind, left_behind_body, left_behind_row, less, less_behind,
+    NoRoom, deeper_margin, is_close, left_after, left_after_body, left_after_row, less, less_after,
 };
 use std::alloc::{AllocError, Global};
 
@@ -34,12 +34,12 @@ fn less_head(alloc: Global, head: &Form, margin: usize, room: usize) -> Result<u
     ensures ok { IfOk result (λ left. length (layout.text_of_head margin head.now) + left ≡ room) }
     ensures longer { result ≡ Err NoRoom.Longer → room < length (layout.text_of_head margin head.now) }
 {
-    let left = left_behind_row(alloc, head, margin, room)?;
+    let left = left_after_row(alloc, head, margin, room)?;
     if !is_def(head) {
         return Ok(left);
     }
     let left = less(left, 1)?;
-    let left = left_behind_body(alloc, head, margin, left)?;
+    let left = left_after_body(alloc, head, margin, left)?;
     Ok(left)
 }
 
@@ -53,7 +53,7 @@ fn less_header(alloc: Global, head: &Form, margin: usize, room: usize) -> Result
     let left = less(left, margin)?;
     let left = less_head(alloc, head, margin, left)?;
     let left = less(left, 1)?;
-    let left = less_behind(left, head.comments.suffix())?;
+    let left = less_after(left, head.comments.suffix())?;
     less(left, 1)
 }
 
@@ -66,8 +66,8 @@ fn less_simple(alloc: Global, x: &Expr, margin: usize, room: usize) -> Result<us
     let comments = x.comments();
     let left = less_lines(room, comments.before(), margin)?;
     let left = less(left, margin)?;
-    let left = left_behind(alloc, x, margin, left)?;
-    let left = less_behind(left, comments.suffix())?;
+    let left = left_after(alloc, x, margin, left)?;
+    let left = less_after(left, comments.suffix())?;
     less(left, 1)
 }
 
@@ -115,10 +115,10 @@ fn less_branch(alloc: Global, branch: &Branch, margin: usize, room: usize) -> Re
     ensures ok { IfOk result (λ left. length (layout.branch_text margin branch.now) + left ≡ room) }
     ensures longer { result ≡ Err NoRoom.Longer → room < length (layout.branch_text margin branch.now) }
 {
-    let inner = deeper(margin)?;
+    let inner = deeper_margin(margin)?;
     let left = less_header(alloc, &branch.head, margin, room)?;
     let left = less_statements(alloc, branch.statements.as_slice(), inner, left)?;
-    less_lines(left, branch.end_.as_slice(), inner)
+    less_lines(left, branch.end.as_slice(), inner)
 }
 
 /// What is left of the room after the statements of a suite.
@@ -197,7 +197,7 @@ fn less_items(alloc: Global, items: &[BzlItem], room: usize) -> Result<usize, No
 }
 
 /// Whether the layout of what a .bzl file says has at most this many bytes; it is not made for it. The error: a growth was refused.
-pub fn is_layout_within(alloc: Global, file: &BzlFile, limit: usize) -> Result<bool, Memory>
+pub fn is_bzl_layout_within(alloc: Global, file: &BzlFile, limit: usize) -> Result<bool, Memory>
     ensures { IfOk result (λ within. IsTrue within ↔ (length (bzl_layout file.now.items) ≤ limit)) }
 {
     match less_items(alloc, file.items.as_slice(), limit) {

@@ -4,14 +4,14 @@ ghost use Rattle.bz_tree.specs.Legal.{ReadsBzl, NoBzlTree};
 ghost use Rattle.bz_tree.specs.Spell.{depth_of, limit, depth_limit};
 ghost use Rattle.bz_suite.specs.Proper.{IsProperBzl};
 ghost use Rattle.bz_suite.specs.View.{bzl_view_of};
-ghost use Rattle.bz_indent.specs.Drawn.{bzl_drawn};
+ghost use Rattle.bz_indent.specs.LaidOut.{bzl_laid_out};
 ghost use Rattle.bz_indent.specs.Joined.{bzl_gap_below};
 ghost use Rattle.bz_indent.specs.Layout.{bzl_layout};
 ghost use Rattle.bz_indent.specs.Level.{level};
 
 use crate::depth::are_bzl_items_within;
 use crate::laws::{bzl_layout_is_accepted, bzl_layout_is_too_deep, bzl_layout_reads_back};
-use crate::measure::is_layout_within;
+use crate::measure::is_bzl_layout_within;
 use crate::writing::{layout_text, push_below, push_items};
 use bz_items::Text;
 use bz_suite::{BzlFile, BzlItem};
@@ -21,11 +21,11 @@ use std::alloc::Global;
 
 /// Appends the layout of what a .bzl file says to a text, below an item where one is given. None: a growth was refused, or the text or
 /// the tree of the layout would be past a limit; what was appended by then is not said.
-#[tactic(auto, using(crate::proofs::Depths::bzl_drawn_depth))]
+#[tactic(auto, using(crate::proofs::Depths::bzl_laid_out_depth))]
 pub fn append_bzl(out: &mut Vec<u8>, above: &Option<BzlItem>, file: &BzlFile) -> Option<()>
     ensures text { IfSome result (λ _. out.new.items ≡ out.old.items ++ (bzl_gap_below above.now file.now.items ++ bzl_layout file.now.items)) }
     ensures short { IfSome result (λ _. length out.new.items ≤ limit) }
-    ensures shallow { IfSome result (λ _. depth_of (bzl_drawn file.now.items) ≤ depth_limit) }
+    ensures shallow { IfSome result (λ _. depth_of (bzl_laid_out file.now.items) ≤ depth_limit) }
 {
     let items = file.items.as_slice();
     if !are_bzl_items_within(items, DEPTH_LIMIT as usize - 1) {
@@ -41,11 +41,11 @@ pub fn append_bzl(out: &mut Vec<u8>, above: &Option<BzlItem>, file: &BzlFile) ->
 
 /// The layout as text, where it and its tree are within the limits; none where one is not, or a growth was refused. The depth is
 /// looked at first, since the walk that writes goes as deep as the file.
-#[tactic(auto, using(crate::proofs::Depths::bzl_drawn_depth))]
+#[tactic(auto, using(crate::proofs::Depths::bzl_laid_out_depth))]
 fn text_within(alloc: Global, file: &BzlFile) -> Option<Text>
     ensures text { IfSome result (λ text. text ≡ bzl_layout file.now.items) }
     ensures short { IfSome result (λ _. length (bzl_layout file.now.items) ≤ limit) }
-    ensures shallow { IfSome result (λ _. depth_of (bzl_drawn file.now.items) ≤ depth_limit) }
+    ensures shallow { IfSome result (λ _. depth_of (bzl_laid_out file.now.items) ≤ depth_limit) }
 {
     if !are_bzl_items_within(file.items.as_slice(), DEPTH_LIMIT as usize - 1) {
         return None;
@@ -58,12 +58,12 @@ fn text_within(alloc: Global, file: &BzlFile) -> Option<Text>
 }
 
 /// Why no text came of what a .bzl file says.
-#[tactic(auto, using(crate::proofs::Depths::bzl_drawn_depth))]
+#[tactic(auto, using(crate::proofs::Depths::bzl_laid_out_depth))]
 fn fault_of(alloc: Global, file: &BzlFile) -> SetFault
     ensures too_large { result ≡ SetFault.TooLarge → limit < length (bzl_layout file.now.items) }
-    ensures too_deep { result ≡ SetFault.TooDeep → (length (bzl_layout file.now.items) ≤ limit) × (depth_limit < depth_of (bzl_drawn file.now.items)) }
+    ensures too_deep { result ≡ SetFault.TooDeep → (length (bzl_layout file.now.items) ≤ limit) × (depth_limit < depth_of (bzl_laid_out file.now.items)) }
 {
-    match is_layout_within(alloc, file, LENGTH_LIMIT) {
+    match is_bzl_layout_within(alloc, file, LENGTH_LIMIT) {
         Ok(false) => SetFault::TooLarge,
         Ok(true) if !are_bzl_items_within(file.items.as_slice(), DEPTH_LIMIT as usize - 1) => {
             SetFault::TooDeep
@@ -76,15 +76,15 @@ fn fault_of(alloc: Global, file: &BzlFile) -> SetFault
 /// value levelled. It is measured only where no text came of it, to know the fault. Errors: `TooLarge` exactly where the text
 /// would be longer than `LENGTH_LIMIT`, else `TooDeep` exactly where its tree would be deeper than `DEPTH_LIMIT`, and then no tree
 /// is read of it where it is proper; `Memory`: a growth was refused.
-#[tactic(auto, using(crate::proofs::Depths::bzl_drawn_depth))]
+#[tactic(auto, using(crate::proofs::Depths::bzl_laid_out_depth))]
 pub fn set_bzl(alloc: Global, file: &BzlFile) -> Result<Text, SetFault>
     ensures text { IfOk result (λ text. text ≡ bzl_layout file.now.items) }
     ensures short { IfOk result (λ text. length (bzl_layout file.now.items) ≤ limit) }
-    ensures shallow { IfOk result (λ text. depth_of (bzl_drawn file.now.items) ≤ depth_limit) }
-    ensures reads { IfOk result (λ text. IsProperBzl file.now.items → ReadsBzl (bzl_layout file.now.items) (bzl_drawn file.now.items)) }
-    ensures says { IfOk result (λ text. IsProperBzl file.now.items → bzl_view_of (bzl_drawn file.now.items) ≡ level file.now.items) }
+    ensures shallow { IfOk result (λ text. depth_of (bzl_laid_out file.now.items) ≤ depth_limit) }
+    ensures reads { IfOk result (λ text. IsProperBzl file.now.items → ReadsBzl (bzl_layout file.now.items) (bzl_laid_out file.now.items)) }
+    ensures says { IfOk result (λ text. IsProperBzl file.now.items → bzl_view_of (bzl_laid_out file.now.items) ≡ level file.now.items) }
     ensures too_large { result ≡ Err SetFault.TooLarge → limit < length (bzl_layout file.now.items) }
-    ensures too_deep { result ≡ Err SetFault.TooDeep → (length (bzl_layout file.now.items) ≤ limit) × (depth_limit < depth_of (bzl_drawn file.now.items)) }
+    ensures too_deep { result ≡ Err SetFault.TooDeep → (length (bzl_layout file.now.items) ≤ limit) × (depth_limit < depth_of (bzl_laid_out file.now.items)) }
     ensures unread { result ≡ Err SetFault.TooDeep → IsProperBzl file.now.items → NoBzlTree (bzl_layout file.now.items) }
 {
     bzl_layout_is_accepted();

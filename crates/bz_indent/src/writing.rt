@@ -11,7 +11,7 @@ use bz_items::{Memory, Text};
 use bz_suite::{Branch, BzlFile, BzlItem, Statement};
 use bz_tree::LENGTH_LIMIT;
 use bz_value::{Expr, Form};
-use bz_write::{deeper, push_behind, push_body, push_expr, push_row};
+use bz_write::{deeper_margin, push_after, push_body, push_expr, push_row};
 use std::alloc::{AllocError, Global};
 
 /// Appends the spaces of a margin. The error: a growth was refused, or the text is past its limit already, so that the rest need not
@@ -60,7 +60,7 @@ fn push_header(out: &mut Vec<u8>, head: &Form, margin: usize) -> Result<(), Memo
     push_margin(out, margin)?;
     push_head(out, head, margin)?;
     out.push(b':')?;
-    push_behind(out, head.comments.suffix())?;
+    push_after(out, head.comments.suffix())?;
     out.push(b'\n')?;
     Ok(())
 }
@@ -73,7 +73,7 @@ fn push_simple(out: &mut Vec<u8>, x: &Expr, margin: usize) -> Result<(), Memory>
     push_lines(out, comments.before(), margin)?;
     push_margin(out, margin)?;
     push_expr(out, x, margin, LENGTH_LIMIT)?;
-    push_behind(out, comments.suffix())?;
+    push_after(out, comments.suffix())?;
     out.push(b'\n')?;
     Ok(())
 }
@@ -106,10 +106,10 @@ fn push_branches(out: &mut Vec<u8>, branches: &[Branch], margin: usize) -> Resul
 fn push_branch(out: &mut Vec<u8>, branch: &Branch, margin: usize) -> Result<(), Memory>
     ensures { OnOk result (out.new.items ≡ out.old.items ++ layout.branch_text margin branch.now) }
 {
-    let inner = deeper(margin)?;
+    let inner = deeper_margin(margin)?;
     push_header(out, &branch.head, margin)?;
     push_statements(out, branch.statements.as_slice(), inner)?;
-    push_lines(out, branch.end_.as_slice(), inner)
+    push_lines(out, branch.end.as_slice(), inner)
 }
 
 /// Appends the statements of a suite.

@@ -17,7 +17,7 @@ use Rattle.bz_value.specs.declared.refusal.Refusal.{Refusal}
 use Rattle.bz_value.specs.declared.refusal.Refusal.TheVariants.{Memory}
 use Rattle.bz_journal.specs.Actions.{Do, Format}
 use Rattle.bz_journal.specs.declared.action.Reply.{Reply}
-use Rattle.bz_journal.specs.Meaning.{Meaning, gives, refuses, told, written, EffectMeans, Means, Formats}
+use Rattle.bz_journal.specs.Meaning.{Meaning, gives, refuses, printed_answer, written, EffectMeans, Means, Formats}
 use Rattle.bz_journal.specs.History.{History, Answer, present, unchanged, after_text, MakesOrWants}
 
 -- ---- commands, in a history
@@ -35,9 +35,9 @@ acts_refused note operation target h current here refusal own is (inr memory) = 
 
 pub acts_same : (note : Bytes) (operation : Operation) (target : Target) (h : History) (current here : Bytes) (printed : Option Bytes) (reply : Reply) → current ≡ h.package → here ≡ present h
     → Means operation target current here (gives here printed) → reply ≡ unchanged printed → MakesOrWants (Do operation target) note h (Ok reply) h
-acts_same note operation target h current here printed reply own is means told =
+acts_same note operation target h current here printed reply own is means printed_answer =
     let same : bytes_eq (present h) (present h) ≡ true = (bytes_eq-Decides (present h) (present h)).1 refl in
-    let led : ◌≡◌ {A = Answer × History} (Ok reply, h) (after_text note h (present h) printed) = rw (same, told) in
+    let led : ◌≡◌ {A = Answer × History} (Ok reply, h) (after_text note h (present h) printed) = rw (same, printed_answer) in
     let given : Means operation target current here (gives (present h) printed) = subst (λ (text : Bytes). Means operation target current here (gives text printed)) is means in
     inl (gives (present h) printed, meant_there operation target h current here (gives (present h) printed) own is given, led)
 
@@ -50,16 +50,16 @@ acts_given note operation target h current here text printed answer after own is
 -- what an effect means on the value that was seen and the lines that were counted, it means on the text
 pub means_on : (operation : Operation) (target : Target) (current text : Bytes) (m : Meaning) (tree : Node) (value : List Item) (lines : List ℕ)
     → Reads text tree → value ≡ view_of tree → lines ≡ lines_of tree
-    → EffectMeans (effect operation target current lines value) (told operation (printed operation target current lines value)) value text m
+    → EffectMeans (effect operation target current lines value) (printed_answer operation (printed operation target current lines value)) value text m
     → Means operation target current text m
 means_on operation target current text m tree value lines reads seen counted means =
-    let on_view : EffectMeans (effect operation target current lines (view_of tree)) (told operation (printed operation target current lines (view_of tree))) (view_of tree) text m =
-    subst (λ (xs : List Item). EffectMeans (effect operation target current lines xs) (told operation (printed operation target current lines xs)) xs text m) seen means in
-    (tree, reads, subst (λ (ls : List ℕ). EffectMeans (effect operation target current ls (view_of tree)) (told operation (printed operation target current ls (view_of tree))) (view_of tree) text m) counted on_view)
+    let on_view : EffectMeans (effect operation target current lines (view_of tree)) (printed_answer operation (printed operation target current lines (view_of tree))) (view_of tree) text m =
+    subst (λ (xs : List Item). EffectMeans (effect operation target current lines xs) (printed_answer operation (printed operation target current lines xs)) xs text m) seen means in
+    (tree, reads, subst (λ (ls : List ℕ). EffectMeans (effect operation target current ls (view_of tree)) (printed_answer operation (printed operation target current ls (view_of tree))) (view_of tree) text m) counted on_view)
 
 -- what is answered of what was printed
-pub told_of : (operation : Operation) (made : Result Bytes Refusal) (out : Bytes) (answer : Option Bytes) → made ≡ Ok out → answer ≡ told operation (Ok out) → answer ≡ told operation made
-told_of operation made out answer printed_is answer_is = answer_is ∙ sym (ap (told operation) printed_is)
+pub printed_answer_of : (operation : Operation) (made : Result Bytes Refusal) (out : Bytes) (answer : Option Bytes) → made ≡ Ok out → answer ≡ printed_answer operation (Ok out) → answer ≡ printed_answer operation made
+printed_answer_of operation made out answer printed_is answer_is = answer_is ∙ sym (ap (printed_answer operation) printed_is)
 
 -- ---- formatting
 

@@ -18,14 +18,14 @@ use Rattle.bz_words.specs.declared.command.Operation.{Operation}
 use Rattle.bz_command.specs.Effect.{effect, printed}
 use Rattle.bz_value.specs.declared.refusal.Refusal.{Refusal}
 use Rattle.bz_value.specs.declared.refusal.Refusal.TheVariants.{Memory}
-use Rattle.bz_redraw.specs.Redrawn.{IsWritten}
+use Rattle.bz_redraw.specs.Relaid.{IsWritten}
 use Rattle.bz_journal.specs.Actions.{Do}
 use Rattle.bz_journal.specs.declared.action.Reply.{Reply}
-use Rattle.bz_journal.specs.Meaning.{gives, refuses, told, written, EffectMeans}
+use Rattle.bz_journal.specs.Meaning.{gives, refuses, printed_answer, written, EffectMeans}
 use Rattle.bz_journal.specs.History.{History, Answer, present, unchanged, after_meaning, after_text, MakesOrWants}
-use Rattle.bz_journal.specs.Editing.{IsLayoutOf, WrittenIsDrawn}
+use Rattle.bz_journal.specs.Editing.{IsLayoutOf, WrittenIsLaidOut}
 use Rattle.bz_journal.specs.State.{SessionState}
-use Rattle.bz_journal.proofs.Acting.{acts_refused, acts_same, meant_there, means_on, told_of}
+use Rattle.bz_journal.proofs.Acting.{acts_refused, acts_same, meant_there, means_on, printed_answer_of}
 
 -- Below, `value` is the value of the tree, and `out` what was printed of it.
 pub edited_refused : (note : Bytes) (operation : Operation) (target : Target) (h : History) (current : Bytes) (tree : Node) (value : List Item) (refusal : Refusal)
@@ -33,7 +33,7 @@ pub edited_refused : (note : Bytes) (operation : Operation) (target : Target) (h
     → (effect operation target current (lines_of tree) value ≡ Err refusal) ⊎ (refusal ≡ Memory) → MakesOrWants (Do operation target) note h (Err refusal) h
 edited_refused note operation target h current tree value refusal own is reads seen (inr memory) = acts_refused note operation target h current (spell_node tree) refusal own is (inr memory)
 edited_refused note operation target h current tree value refusal own is reads seen (inl made) =
-    let answer : Option Bytes = told operation (printed operation target current (lines_of tree) value) in
+    let answer : Option Bytes = printed_answer operation (printed operation target current (lines_of tree) value) in
     let means : EffectMeans (effect operation target current (lines_of tree) value) answer value (spell_node tree) (refuses refusal) =
     subst (λ (r : Result (List Item) Refusal). EffectMeans r answer value (spell_node tree) (refuses refusal)) (sym made) refl in
     acts_refused note operation target h current (spell_node tree) refusal own is
@@ -42,27 +42,27 @@ edited_refused note operation target h current tree value refusal own is reads s
 pub edited_same : (note : Bytes) (operation : Operation) (target : Target) (h : History) (current : Bytes) (tree : Node) (value new : List Item) (out : Bytes) (answer : Option Bytes) (reply : Reply)
     → current ≡ h.package → spell_node tree ≡ present h → Reads (spell_node tree) tree → value ≡ view_of tree
     → effect operation target current (lines_of tree) value ≡ Ok new → new ≡ value
-    → printed operation target current (lines_of tree) value ≡ Ok out → answer ≡ told operation (Ok out) → reply ≡ unchanged answer → MakesOrWants (Do operation target) note h (Ok reply) h
+    → printed operation target current (lines_of tree) value ≡ Ok out → answer ≡ printed_answer operation (Ok out) → reply ≡ unchanged answer → MakesOrWants (Do operation target) note h (Ok reply) h
 edited_same note operation target h current tree value new out answer reply own is reads seen made same printed_is answer_is replied =
-    let other : Option Bytes = told operation (printed operation target current (lines_of tree) value) in
-    let told_is : answer ≡ other = told_of operation (printed operation target current (lines_of tree) value) out answer printed_is answer_is in
+    let other : Option Bytes = printed_answer operation (printed operation target current (lines_of tree) value) in
+    let answered_is : answer ≡ other = printed_answer_of operation (printed operation target current (lines_of tree) value) out answer printed_is answer_is in
     let means : EffectMeans (effect operation target current (lines_of tree) value) other value (spell_node tree) (gives (spell_node tree) answer) =
     subst (λ (r : Result (List Item) Refusal). EffectMeans r other value (spell_node tree) (gives (spell_node tree) answer)) (sym made)
-    (inl (same, ap (gives (spell_node tree)) told_is)) in
+    (inl (same, ap (gives (spell_node tree)) answered_is)) in
     acts_same note operation target h current (spell_node tree) answer reply own is
     (means_on operation target current (spell_node tree) (gives (spell_node tree) answer) tree value (lines_of tree) reads seen refl means) replied
 
 pub edited_made : (note : Bytes) (operation : Operation) (target : Target) (h after : History) (current : Bytes) (tree : Node) (value new : List Item) (out : Bytes) (answer : Option Bytes) (reply : Answer)
     → current ≡ h.package → spell_node tree ≡ present h → Reads (spell_node tree) tree → value ≡ view_of tree
     → effect operation target current (lines_of tree) value ≡ Ok new → new ≢ value
-    → printed operation target current (lines_of tree) value ≡ Ok out → answer ≡ told operation (Ok out)
+    → printed operation target current (lines_of tree) value ≡ Ok out → answer ≡ printed_answer operation (Ok out)
     → ((reply, after) ≡ after_meaning note h (written new answer)) ⊎ ((reply ≡ Err Memory) × (after ≡ h)) → MakesOrWants (Do operation target) note h reply after
 edited_made note operation target h after current tree value new out answer reply own is reads seen made apart printed_is answer_is (inr memory) = inr (λ none. none, memory.0, memory.1)
 edited_made note operation target h after current tree value new out answer reply own is reads seen made apart printed_is answer_is (inl led) =
-    let other : Option Bytes = told operation (printed operation target current (lines_of tree) value) in
-    let told_is : answer ≡ other = told_of operation (printed operation target current (lines_of tree) value) out answer printed_is answer_is in
+    let other : Option Bytes = printed_answer operation (printed operation target current (lines_of tree) value) in
+    let answered_is : answer ≡ other = printed_answer_of operation (printed operation target current (lines_of tree) value) out answer printed_is answer_is in
     let means : EffectMeans (effect operation target current (lines_of tree) value) other value (spell_node tree) (written new answer) =
-    subst (λ (r : Result (List Item) Refusal). EffectMeans r other value (spell_node tree) (written new answer)) (sym made) (inr (apart, ap (written new) told_is)) in
+    subst (λ (r : Result (List Item) Refusal). EffectMeans r other value (spell_node tree) (written new answer)) (sym made) (inr (apart, ap (written new) answered_is)) in
     inl (
       written new answer,
       meant_there operation target h current (spell_node tree) (written new answer) own is
@@ -82,26 +82,26 @@ exchanged_length (mark ∷ marks) (old ∷ before) [] h = absurd h
 exchanged_length (mark ∷ marks) (old ∷ before) (item ∷ items) h = ap suc (exchanged_length marks before items h.1)
 
 -- of a tidy value that was taken up the tree is the layout
-pub value_taken : WrittenIsDrawn → (items : List Item) (answer : Option Bytes) (note : Bytes) (h after : History) (reply : Reply) (tree : Node)
+pub value_taken : WrittenIsLaidOut → (items : List Item) (answer : Option Bytes) (note : Bytes) (h after : History) (reply : Reply) (tree : Node)
     → IsProper items → tidied items ≡ items → h.cursor < length h.texts
     → (◌≡◌ {A = Answer × History} (Ok reply, after) (after_meaning note h (written items answer))) ⊎ ((◌≡◌ {A = Answer} (Ok reply) (Err Memory)) × (after ≡ h))
     → Reads (spell_node tree) tree → spell_node tree ≡ present after → (items ≡ view_of tree) × IsWritten (view_of tree) tree × (spell_node tree ≡ layout items)
-value_taken drawn items answer note h after reply tree proper tidy within (inr memory) reads is = let none : ◌≡◌ {A = Answer} (Ok reply) (Err Memory) = memory.0 in absurd (cc)
-value_taken drawn items answer note h after reply tree proper tidy within (inl led) reads is =
-    let laid : IsLayoutOf items tree = drawn items answer note h after reply tree proper within led (subst (λ (t : Bytes). Reads t tree) is reads) in
+value_taken laid_out items answer note h after reply tree proper tidy within (inr memory) reads is = let none : ◌≡◌ {A = Answer} (Ok reply) (Err Memory) = memory.0 in absurd (cc)
+value_taken laid_out items answer note h after reply tree proper tidy within (inl led) reads is =
+    let laid : IsLayoutOf items tree = laid_out items answer note h after reply tree proper within led (subst (λ (t : Bytes). Reads t tree) is reads) in
     (sym tidy ∙ sym laid.1, subst (λ (xs : List Item). IsWritten xs tree) (sym laid.1) laid.0, laid.2 ∙ ap layout tidy)
 
 -- of a new value, whose layout is this text, that was taken up the tree is the layout
-pub new_taken : WrittenIsDrawn → (items : List Item) (printed : Option Bytes) (note : Bytes) (h after : History) (answer : Answer) (text : Bytes) (tree : Node)
+pub new_taken : WrittenIsLaidOut → (items : List Item) (printed : Option Bytes) (note : Bytes) (h after : History) (answer : Answer) (text : Bytes) (tree : Node)
     → IsProper items → h.cursor < length h.texts → written items printed ≡ gives text printed
     → (◌≡◌ {A = Answer × History} (answer, after) (after_text note h text printed)) ⊎ ((answer ≡ Err Memory) × (after ≡ h))
     → Reads (spell_node tree) tree → spell_node tree ≡ present after → is_ok answer ≡ true → IsWritten (view_of tree) tree
-new_taken drawn items printed note h after (Ok reply) text tree proper within spelled (inr memory) reads is done = let none : ◌≡◌ {A = Answer} (Ok reply) (Err Memory) = memory.0 in absurd (cc)
-new_taken drawn items printed note h after (Ok reply) text tree proper within spelled (inl led) reads is done =
+new_taken laid_out items printed note h after (Ok reply) text tree proper within spelled (inr memory) reads is done = let none : ◌≡◌ {A = Answer} (Ok reply) (Err Memory) = memory.0 in absurd (cc)
+new_taken laid_out items printed note h after (Ok reply) text tree proper within spelled (inl led) reads is done =
     let end : ◌≡◌ {A = Answer × History} (Ok reply, after) (after_meaning note h (written items printed)) = led ∙ ap (after_meaning note h) (sym spelled) in
-    let laid : IsLayoutOf items tree = drawn items printed note h after reply tree proper within end (subst (λ (t : Bytes). Reads t tree) is reads) in
+    let laid : IsLayoutOf items tree = laid_out items printed note h after reply tree proper within end (subst (λ (t : Bytes). Reads t tree) is reads) in
     subst (λ (xs : List Item). IsWritten xs tree) (sym laid.1) laid.0
-new_taken drawn items printed note h after (Err refusal) text tree proper within spelled made reads is done = absurd (false≢true done)
+new_taken laid_out items printed note h after (Err refusal) text tree proper within spelled made reads is done = absurd (false≢true done)
 
 -- no value is kept
 pub none_seen : (kept : Option (List Item)) (tree : Node) → kept ≡ None → IfSome kept (λ items. items ≡ view_of tree)

@@ -12,7 +12,7 @@ use Rattle.bz_items.specs.Characters.{Bytes}
 use Rattle.bz_value.specs.Proper.{IsProper}
 use Rattle.bz_view.specs.View.{view_of}
 use Rattle.bz_view.specs.Laws.{ViewsAreProper}
-use Rattle.bz_write.specs.Drawn.{drawn}
+use Rattle.bz_write.specs.LaidOut.{laid_out}
 use Rattle.bz_write.specs.Laws.{LayoutIsAccepted, LayoutReadsBack}
 use Rattle.bz_tidy.specs.Laws.{ProperStays, TidySettles, TidyStays}
 use Rattle.bz_tidy.specs.Passes.{tidied}
@@ -22,14 +22,14 @@ use Rattle.bz_command.specs.Effect.{effect, printed}
 use Rattle.bz_command.specs.Laws.{EffectsStayProper}
 use Rattle.bz_value.specs.declared.refusal.Refusal.{Refusal}
 use Rattle.bz_value.specs.declared.refusal.Refusal.TheVariants.{Full, NoteTooLong}
-use Rattle.bz_redraw.specs.Redrawn.{IsWritten}
+use Rattle.bz_redraw.specs.Relaid.{IsWritten}
 use Rattle.bz_journal.specs.Actions.{Action}
 use Rattle.bz_journal.specs.Actions.{Do, Format, Undo, Redo}
 use Rattle.bz_journal.specs.declared.action.Reply.{Reply}
 use Rattle.bz_journal.specs.declared.action.Reply.TheVariants.{Changed}
-use Rattle.bz_journal.specs.Meaning.{Meaning, gives, refuses, told, written, EffectMeans}
+use Rattle.bz_journal.specs.Meaning.{Meaning, gives, refuses, printed_answer, written, EffectMeans}
 use Rattle.bz_journal.specs.History.{History, Answer, Acts, MakesOrWants, present, changed, unchanged, after_text, after_meaning, most_steps}
-use Rattle.bz_journal.specs.Editing.{IsLayoutOf, WrittenIsDrawn}
+use Rattle.bz_journal.specs.Editing.{IsLayoutOf, WrittenIsLaidOut}
 use Rattle.bz_journal.proofs.Formatting.{present_changed}
 use Rattle.bz_formatter.proofs.Writes.{IsGiven, given}
 
@@ -43,14 +43,14 @@ pub record LayoutsHold : Type 0 where
   pub stays : TidyStays
 
 -- the tree that reads as the layout of a tidy value
-pub layout_tree : LayoutsHold → (items : List Item) (text : Bytes) (printed asked : Option Bytes) (tree : Node) → IsProper items → IsGiven items text asked printed → Reads text tree
+pub layout_tree : LayoutsHold → (items : List Item) (text : Bytes) (printed requested : Option Bytes) (tree : Node) → IsProper items → IsGiven items text requested printed → Reads text tree
     → IsLayoutOf items tree
-layout_tree layers items text printed asked tree proper is reads =
+layout_tree layers items text printed requested tree proper is reads =
     let tidy : List Item = tidied items in
     let proper_tidy : IsProper tidy = layers.proper items proper in
-    let laid_reads : Reads text (drawn tidy) = subst (λ (t : Bytes). Reads t (drawn tidy)) (sym is.layout_is) (layers.accepted tidy proper_tidy is.long is.deep) in
-    let same : drawn tidy ≡ tree = layers.one text (drawn tidy) tree laid_reads reads in
-    (record { proper = proper_tidy; tidy = layers.stays items; drawn = same }, ap view_of (sym same) ∙ layers.back tidy proper_tidy ∙ layers.settled items, reads.1 ∙ is.layout_is)
+    let laid_reads : Reads text (laid_out tidy) = subst (λ (t : Bytes). Reads t (laid_out tidy)) (sym is.layout_is) (layers.accepted tidy proper_tidy is.long is.deep) in
+    let same : laid_out tidy ≡ tree = layers.one text (laid_out tidy) tree laid_reads reads in
+    (record { proper = proper_tidy; tidy = layers.stays items; laid_out = same }, ap view_of (sym same) ∙ layers.back tidy proper_tidy ∙ layers.settled items, reads.1 ∙ is.layout_is)
 
 -- the text that is present where an answer is no refusal
 text_after : (same below : Bool) (note : Bytes) (h after : History) (text : Bytes) (printed : Option Bytes) (reply : Reply) → h.cursor < length h.texts → (same ≡ true → text ≡ present h)
@@ -60,14 +60,14 @@ text_after true below note h after text printed reply within is led = is refl �
 text_after false true note h after text printed reply within is led = sym (present_changed note h text within) ∙ sym (ap (λ (z : Answer × History). present z.1) led)
 text_after false false note h after text printed reply within is led = let answer = ap (λ (z : Answer × History). z.0) led in absurd (cc)
 
-by_meaning : LayoutsHold → (m : Meaning) (items : List Item) (asked : Option Bytes) (note : Bytes) (h after : History) (reply : Reply) (tree : Node)
-    → written items asked ≡ m → IsProper items → h.cursor < length h.texts → ◌≡◌ {A = Answer × History} (Ok reply, after) (after_meaning note h m)
+by_meaning : LayoutsHold → (m : Meaning) (items : List Item) (requested : Option Bytes) (note : Bytes) (h after : History) (reply : Reply) (tree : Node)
+    → written items requested ≡ m → IsProper items → h.cursor < length h.texts → ◌≡◌ {A = Answer × History} (Ok reply, after) (after_meaning note h m)
     → Reads (present after) tree → IsLayoutOf items tree
-by_meaning layers (gives text printed) items asked note h after reply tree is proper within led reads =
+by_meaning layers (gives text printed) items requested note h after reply tree is proper within led reads =
     let there : text ≡ present after = text_after (bytes_eq text (present h)) (nat_lt h.cursor most_steps) note h after text printed reply within (bytes_eq-Decides text (present h)).0 led in
-    layout_tree layers items text printed asked tree proper (given items text asked printed is) (subst (λ (t : Bytes). Reads t tree) (sym there) reads)
-by_meaning layers (refuses refusal) items asked note h after reply tree is proper within led reads = let answer = ap (λ (z : Answer × History). z.0) led in absurd (cc)
+    layout_tree layers items text printed requested tree proper (given items text requested printed is) (subst (λ (t : Bytes). Reads t tree) (sym there) reads)
+by_meaning layers (refuses refusal) items requested note h after reply tree is proper within led reads = let answer = ap (λ (z : Answer × History). z.0) led in absurd (cc)
 
-pub written_is_drawn : LayoutsHold → WrittenIsDrawn
-written_is_drawn layers items printed note h after reply tree proper within led reads =
+pub written_is_laid_out : LayoutsHold → WrittenIsLaidOut
+written_is_laid_out layers items printed note h after reply tree proper within led reads =
     by_meaning layers (written items printed) items printed note h after reply tree refl proper within led reads

@@ -5,14 +5,14 @@ use Rattle.bz_lex.specs.declared.fault.ReadFault.{ReadFault}
 use Rattle.bz_lex.specs.declared.fault.ReadFault.TheVariants.{NotUtf8, Memory}
 use Rattle.bz_tree.specs.Spell.{limit}
 
-abbrev TellsCoding : (A : Type 0) → List ℕ → Result A ReadFault → Type 0
-TellsCoding A text answer = (at : ℕ) → ((answer ≡ Err (NotUtf8 at)) ↔ ((length text ≤ limit) × IsValidUpTo text at))
+abbrev AnswersCoding : (A : Type 0) → List ℕ → Result A ReadFault → Type 0
+AnswersCoding A text answer = (at : ℕ) → ((answer ≡ Err (NotUtf8 at)) ↔ ((length text ≤ limit) × IsValidUpTo text at))
 
-pub opened_tells : {A B : Type 0} (text : List ℕ) (tree : A) (session : B) → TellsCoding A text (Ok tree) → TellsCoding B text (Ok session)
-opened_tells text tree session tells at = (λ e. absurd (cc), λ fails. let told = (tells at).1 fails in absurd (cc))
+pub opened_answers : {A B : Type 0} (text : List ℕ) (tree : A) (session : B) → AnswersCoding A text (Ok tree) → AnswersCoding B text (Ok session)
+opened_answers text tree session answers at = (λ e. absurd (cc), λ fails. let printed_answer = (answers at).1 fails in absurd (cc))
 
-pub refused_tells : {A B : Type 0} (text : List ℕ) (tree : A) → TellsCoding A text (Ok tree) → TellsCoding B text (Err Memory)
-refused_tells text tree tells at = (λ e. absurd (cc), λ fails. let told = (tells at).1 fails in absurd (cc))
+pub refused_answers : {A B : Type 0} (text : List ℕ) (tree : A) → AnswersCoding A text (Ok tree) → AnswersCoding B text (Err Memory)
+refused_answers text tree answers at = (λ e. absurd (cc), λ fails. let printed_answer = (answers at).1 fails in absurd (cc))
 
-pub passed_tells : {A B : Type 0} (text : List ℕ) (fault : ReadFault) → TellsCoding A text (Err fault) → TellsCoding B text (Err fault)
-passed_tells text fault tells at = (λ e. (tells at).0 (cc), λ fails. let told = (tells at).1 fails in cc)
+pub passed_answers : {A B : Type 0} (text : List ℕ) (fault : ReadFault) → AnswersCoding A text (Err fault) → AnswersCoding B text (Err fault)
+passed_answers text fault answers at = (λ e. (answers at).0 (cc), λ fails. let printed_answer = (answers at).1 fails in cc)

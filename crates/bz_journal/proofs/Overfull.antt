@@ -17,7 +17,7 @@ use Rattle.bz_value.specs.declared.refusal.Refusal.{Refusal}
 use Rattle.bz_value.specs.declared.refusal.Refusal.TheVariants.{Memory, TooLarge}
 use Rattle.bz_journal.specs.Actions.{Do}
 use Rattle.bz_journal.specs.History.{History, present, MakesOrWants}
-use Rattle.bz_journal.specs.Meaning.{refuses, told, Means, EffectMeans, OverfullIsRefused}
+use Rattle.bz_journal.specs.Meaning.{refuses, printed_answer, Means, EffectMeans, OverfullIsRefused}
 use Rattle.bz_journal.proofs.Acting.{acts_refused, means_on}
 use Rattle.bz_journal.proofs.Edited.{edited_refused}
 
@@ -35,7 +35,7 @@ pub means_overfull : OverfullIsRefused → (operation : Operation) (target : Tar
     → Reads text tree → value ≡ view_of tree → lines ≡ lines_of tree
     → Overfills (effect operation target current lines value) → Means operation target current text (refuses TooLarge)
 means_overfull refused operation target current text tree value lines reads seen counted over =
-    let answer : Option Bytes = told operation (printed operation target current lines value) in
+    let answer : Option Bytes = printed_answer operation (printed operation target current lines value) in
     means_on operation target current text (refuses TooLarge) tree value lines reads seen counted
     (subst (λ (items : List Item). EffectMeans (effect operation target current lines value) answer items text (refuses TooLarge)) (sym seen)
     (refused (effect operation target current lines value) answer text tree reads over))

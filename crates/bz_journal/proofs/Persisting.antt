@@ -87,7 +87,7 @@ module _ {F : Type 0} (files : FilesOf F) (action : Action) (note file : Bytes) 
     each = λ honest resumes now stood. inl (only now stood);
     time = λ honest resumes. stays (files.moment held) (files.since held) Stands;
     kept = λ honest resumes. tt;
-    told = λ honest now stood. inl (as_before now (only now stood));
+    stored = λ honest now stood. inl (as_before now (only now stood));
     journal = λ honest. tt;
     changed = λ honest is. absurd (not_changed refusal is);
     still = tt;
@@ -107,7 +107,7 @@ module _ {F : Type 0} (files : FilesOf F) (action : Action) (note file : Bytes) 
     each = λ honest resumes now stood. inl (only now stood);
     time = λ honest resumes. stays (files.moment held) (files.since held) Stands;
     kept = λ honest resumes other. absurd (other same);
-    told = λ honest now stood. inl (as_before now (only now stood));
+    stored = λ honest now stood. inl (as_before now (only now stood));
     journal = λ honest other. absurd (other same);
     changed = λ honest is. absurd (no_fault reply (Pair p.Changed) is);
     still = λ _. refl;
@@ -127,7 +127,7 @@ module _ {F : Type 0} (files : FilesOf F) (action : Action) (note file : Bytes) 
     each = λ honest resumes now stood. inl (only now stood);
     time = λ honest resumes. stays (files.moment held) (files.since held) Stands;
     kept = λ honest resumes. tt;
-    told = λ honest now stood. inl (as_before now (only now stood));
+    stored = λ honest now stood. inl (as_before now (only now stood));
     journal = λ honest. tt;
     changed = λ honest is. absurd (not_memory (only_changed p.Memory is));
     still = tt;
@@ -139,26 +139,26 @@ module _ {F : Type 0} (files : FilesOf F) (action : Action) (note file : Bytes) 
   }
 
   -- the pair was replaced, or not both: what `keep` says of these bytes, which are the text before, the journal and the text
-  module _ (new : F) (standing told text : Bytes) (begun : standing ≡ present (session_history s)) (journal : told ≡ saved t) (written : text ≡ present (session_history t))
+  module _ (new : F) (standing stored text : Bytes) (begun : standing ≡ present (session_history s)) (journal : stored ≡ saved t) (written : text ≡ present (session_history t))
       (own : IsSavedSession t) (reply : Reply) (acted : HasActed action note s (Ok reply) t) (other : t.cursor ≢ s.cursor) where
     may : Resumes Old file (session_history s).«package» (session_history s).texts
-        → MayResume Old file standing told text (session_history s) (session_history t) t.steps
+        → MayResume Old file standing stored text (session_history s) (session_history t) t.steps
     may resumes =
-        may_resume Old file standing told text (session_history s) t begun journal written own
+        may_resume Old file standing stored text (session_history s) t begun journal written own
         (follows action note (session_history s) (session_history t) reply acted.within other acted.acts) resumes
 
     abbrev Ways : (History → History → List (List Edit) → Type 0) → Type 0
-    Ways P = (h after : History) (es : List (List Edit)) → MayResume Old file standing told text h after es → P h after es
+    Ways P = (h after : History) (es : List (List Edit)) → MayResume Old file standing stored text h after es → P h after es
 
-    saved_then : (now : Folder) → (get now (journal_name file) ≡ get Old (journal_name file)) ⊎ (get now (journal_name file) ≡ Some told)
+    saved_then : (now : Folder) → (get now (journal_name file) ≡ get Old (journal_name file)) ⊎ (get now (journal_name file) ≡ Some stored)
         → (get now (journal_name file) ≡ get Old (journal_name file)) ⊎ (get now (journal_name file) ≡ Some (saved t))
     saved_then now (inl was) = inl was
     saved_then now (inr is) = inr (is ∙ ap Some journal)
 
     module _ (time : files.honest held ≡ true → Ways (λ h after es. Elapses (files.moment held) (files.moment new) (files.since held) (files.since new)
         (λ now. (now ≡ Old) ⊎ Survives file h after Old now)))
-        (told_is : files.honest held ≡ true → (now : Folder) → files.since new (files.moment held) now
-        → (get now (journal_name file) ≡ get Old (journal_name file)) ⊎ (get now (journal_name file) ≡ Some told))
+        (stored_is : files.honest held ≡ true → (now : Folder) → files.since new (files.moment held) now
+        → (get now (journal_name file) ≡ get Old (journal_name file)) ⊎ (get now (journal_name file) ≡ Some stored))
         (count : files.faults held ≤ files.faults new) (honest_still : files.honest new ≡ files.honest held) where
       elapsed : files.honest held ≡ true → Resumes Old file (session_history s).«package» (session_history s).texts
           → Elapses (files.moment held) (files.moment new) (files.since held) (files.since new) Stands
@@ -170,17 +170,17 @@ module _ {F : Type 0} (files : FilesOf F) (action : Action) (note file : Bytes) 
           each_since (files.moment held) (files.moment new) (files.since held) (files.since new) Stands (elapsed honest resumes) (λ was stayed. inl (only was stayed)) now stood
 
       pub kept_both : (files.honest held ≡ true → Ways (λ h after es. Holds (files.folder new) file h.«package» (present after) after.texts × OthersStay file Old (files.folder new)))
-          → (files.honest held ≡ true → get (files.folder new) (journal_name file) ≡ Some told) → files.faults new ≡ files.faults held
+          → (files.honest held ≡ true → get (files.folder new) (journal_name file) ≡ Some stored) → files.faults new ≡ files.faults held
           → KeepsPair files action note file s (Ok reply) t held new
-      kept_both kept told_then steady = record {
+      kept_both kept answered_then steady = record {
         keeps = acted.acts;
         refused = tt;
         small = acted.small;
         each = passed;
         time = elapsed;
         kept = λ honest resumes _. kept honest (session_history s) (session_history t) t.steps (may resumes);
-        told = λ honest now stood. saved_then now (told_is honest now stood);
-        journal = λ honest _. told_then honest ∙ ap Some journal;
+        stored = λ honest now stood. saved_then now (stored_is honest now stood);
+        journal = λ honest _. answered_then honest ∙ ap Some journal;
         changed = λ honest is. absurd (no_fault reply (Pair p.Changed) is);
         still = λ same. absurd (other same);
         untouched = λ honest. tt;
@@ -202,7 +202,7 @@ module _ {F : Type 0} (files : FilesOf F) (action : Action) (note file : Bytes) 
         each = passed;
         time = elapsed;
         kept = λ honest resumes. tt;
-        told = λ honest now stood. saved_then now (told_is honest now stood);
+        stored = λ honest now stood. saved_then now (stored_is honest now stood);
         journal = λ honest. tt;
         changed = λ honest is there. changed honest (ap Err (only_changed fault is)) (there ∙ ap Some (sym begun));
         still = tt;

@@ -13,7 +13,7 @@ use Rattle.bz_trail.specs.Trails.{IsTree}
 use Rattle.bz_value.specs.declared.value.Item.{Item}
 use Rattle.bz_items.specs.Characters.{Bytes}
 use Rattle.bz_value.specs.Proper.{IsProper}
-use Rattle.bz_write.specs.Drawn.{drawn}
+use Rattle.bz_write.specs.LaidOut.{laid_out}
 use Rattle.bz_write.specs.Laws.{LayoutIsAccepted}
 use Rattle.bz_write.specs.Written.{layout}
 use Rattle.bz_journal.specs.declared.lines.Lines.{Lines}
@@ -77,7 +77,7 @@ across_stands at gone lines parts within =
 
 -- the tree with lines is of the same kind
 pub with_kind : (lines : Lines) (tree : Node) → (tree_with lines tree).kind ≡ tree.kind
-with_kind (l.Exchanged redrawn) tree = refl
+with_kind (l.Exchanged relaid) tree = refl
 with_kind (l.Spliced respliced) tree = refl
 
 same_node : (a b : Node) → a.kind ≡ b.kind → a.parts ≡ b.parts → a ≡ b
@@ -94,9 +94,9 @@ parts_stay one next tree here kind is_tree reads is = (
 )
 
 -- with its lines the tree is that of the layout
-pub tree_with_lines : (lines : Lines) (tree : Node) (items : List Item) → Legal tree → AreLinesOf lines tree items → tree_with lines tree ≡ drawn items
-tree_with_lines lines tree items legal are = same_node (tree_with lines tree) (drawn items) (with_kind lines tree ∙ legal.file.root) are.put
+pub tree_with_lines : (lines : Lines) (tree : Node) (items : List Item) → Legal tree → AreLinesOf lines tree items → tree_with lines tree ≡ laid_out items
+tree_with_lines lines tree items legal are = same_node (tree_with lines tree) (laid_out items) (with_kind lines tree ∙ legal.file.root) are.put
 
 pub lines_read : LayoutIsAccepted → (lines : Lines) (tree : Node) (items : List Item) → Legal tree → IsProper items → AreLinesOf lines tree items → Reads (layout items) (tree_with lines tree)
 lines_read accepted lines tree items legal proper are =
-    subst (λ (n : Node). Reads (layout items) n) (sym (tree_with_lines lines tree items legal are)) (accepted items proper are.long are.deep)
+    subst (λ (n : Node). Reads (layout items) n) (sym (tree_with_lines lines tree items legal are)) (accepted items proper are.length_bound are.deep)

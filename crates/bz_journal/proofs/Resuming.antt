@@ -124,10 +124,10 @@ is_again s small text (Err f.Version) there known = known
 
 -- ---- keeping
 
-pub may_resume : (folder : Folder) (file standing told text : Bytes) (h : History) (s : SessionState) → standing ≡ present h → told ≡ saved s → text ≡ present (session_history s)
+pub may_resume : (folder : Folder) (file standing stored text : Bytes) (h : History) (s : SessionState) → standing ≡ present h → stored ≡ saved s → text ≡ present (session_history s)
     → IsSavedSession s → FollowsKept h (session_history s) → Resumes folder file h.«package» h.texts
-    → MayResume folder file standing told text h (session_history s) s.steps
-may_resume folder file standing told text h s begun journal written own follows resumes = record {
+    → MayResume folder file standing stored text h (session_history s) s.steps
+may_resume folder file standing stored text h s begun journal written own follows resumes = record {
   resumes = resumes;
   begun = begun;
   follows = follows;

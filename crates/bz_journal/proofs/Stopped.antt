@@ -7,7 +7,7 @@ use Rattle.bz_edit.specs.declared.edit.Edit.{Edit}
 use Rattle.bz_files.specs.Folder.{Folder}
 use Rattle.bz_items.specs.Characters.{Bytes}
 use Rattle.bz_keep.specs.Pair.{journal_name}
-use Rattle.bz_keep.specs.Resuming.{Holds, IsToldBy}
+use Rattle.bz_keep.specs.Resuming.{Holds, IsRecordedBy}
 use Rattle.bz_resume.specs.declared.fault.ResumeFault.{ResumeFault}
 use Rattle.bz_resume.specs.declared.fault.ResumeFault.TheVariants as f
 use Rattle.bz_resume.specs.Journals.{Journal, stands, text_at}
@@ -33,33 +33,33 @@ there : (h : History) (text : Bytes) (at : ℕ) → stands h text ≡ Some at �
 there h text at e =
     by_tests (bytes_eq text (text_at h h.cursor)) (bytes_eq text (text_at h h.before)) h text at (bytes_eq-Decides text (text_at h h.cursor)).0 (bytes_eq-Decides text (text_at h h.before)).0 e
 
-resumes_at : (told : History) (es : List (List Edit)) (current : Bytes) (texts : List Bytes) (text : Bytes) (place : ℕ) (result : Result SessionState ResumeFault)
-    → told.«package» ≡ current → texts ≡ told.texts → stands told text ≡ Some place → IsKnownSession told es text result → ResumesAt current texts text result
-resumes_at told es current texts text place (Ok s) own are standing known = (
+resumes_at : (printed_answer : History) (es : List (List Edit)) (current : Bytes) (texts : List Bytes) (text : Bytes) (place : ℕ) (result : Result SessionState ResumeFault)
+    → printed_answer.«package» ≡ current → texts ≡ printed_answer.texts → stands printed_answer text ≡ Some place → IsKnownSession printed_answer es text result → ResumesAt current texts text result
+resumes_at printed_answer es current texts text place (Ok s) own are standing known = (
   ap (λ (h : History). h.«package») known.history ∙ own,
   ap (λ (h : History). h.texts) known.history ∙ sym are,
-  ap present known.history ∙ there told text known.at known.stands_there,
+  ap present known.history ∙ there printed_answer text known.at known.stands_there,
 )
-resumes_at told es current texts text place (Err f.Memory) own are standing known = tt
-resumes_at told es current texts text place (Err f.Stale) own are standing known = none_some place (sym known ∙ standing)
-resumes_at told es current texts text place (Err f.Damaged) own are standing known = known
-resumes_at told es current texts text place (Err f.Version) own are standing known = known
+resumes_at printed_answer es current texts text place (Err f.Memory) own are standing known = tt
+resumes_at printed_answer es current texts text place (Err f.Stale) own are standing known = none_some place (sym known ∙ standing)
+resumes_at printed_answer es current texts text place (Err f.Damaged) own are standing known = known
+resumes_at printed_answer es current texts text place (Err f.Version) own are standing known = known
 
 -- what is resumed of a file that goes on with these texts
 abbrev Known : Bytes → Bytes → Result SessionState ResumeFault → Type 0
-Known bytes text result = (told : History) (es : List (List Edit)) → Journal bytes told es → IsKnownSession told es text result
+Known bytes text result = (printed_answer : History) (es : List (List Edit)) → Journal bytes printed_answer es → IsKnownSession printed_answer es text result
 
 by_history : (folder : Folder) (file current text bytes : Bytes) (texts : List Bytes) (result : Result SessionState ResumeFault) → get folder (journal_name file) ≡ Some bytes → Known bytes text result
-    → IsToldBy folder file current text texts → ResumesAt current texts text result
+    → IsRecordedBy folder file current text texts → ResumesAt current texts text result
 by_history folder file current text bytes texts result journal known (inl none) = absurd (none_some bytes (sym none.0 ∙ journal))
-by_history folder file current text bytes texts result journal known (inr (own, told, es, place, there_is, is, called, are, standing)) =
-    resumes_at told es current texts text place result called are standing (known told es (subst (λ (b : Bytes). Journal b told es) (some_same own bytes (sym there_is ∙ journal)) is))
+by_history folder file current text bytes texts result journal known (inr (own, printed_answer, es, place, there_is, is, called, are, standing)) =
+    resumes_at printed_answer es current texts text place result called are standing (known printed_answer es (subst (λ (b : Bytes). Journal b printed_answer es) (some_same own bytes (sym there_is ∙ journal)) is))
 
 held : (folder : Folder) (file current text other bytes : Bytes) (texts : List Bytes) (result : Result SessionState ResumeFault) → get folder file ≡ Some text → get folder (journal_name file) ≡ Some bytes
     → Known bytes text result → Holds folder file current other texts → ResumesAt current texts text result
 held folder file current text other bytes texts result is journal known holds =
     by_history folder file current text bytes texts result journal known
-    (subst (λ (t : Bytes). IsToldBy folder file current t texts) (some_same other text (sym holds.holds ∙ is)) holds.history)
+    (subst (λ (t : Bytes). IsRecordedBy folder file current t texts) (some_same other text (sym holds.holds ∙ is)) holds.history)
 
 by_holds : (file : Bytes) (h after : History) (now : Folder) (text bytes : Bytes) (result : Result SessionState ResumeFault)
     → get now file ≡ Some text → get now (journal_name file) ≡ Some bytes → Known bytes text result
@@ -67,7 +67,7 @@ by_holds : (file : Bytes) (h after : History) (now : Folder) (text bytes : Bytes
     → ResumesAt h.«package» h.texts text result ⊎ ResumesAt h.«package» after.texts text result
 by_holds file h after now text bytes result is journal known (inl before) = inl (held now file h.«package» text (present h) bytes h.texts result is journal known before)
 by_holds file h after now text bytes result is journal known (inr (inl between)) = inr (held now file h.«package» text (present h) bytes after.texts result is journal known between)
-by_holds file h after now text bytes result is journal known (inr (inr behind)) = inr (held now file h.«package» text (present after) bytes after.texts result is journal known behind)
+by_holds file h after now text bytes result is journal known (inr (inr following)) = inr (held now file h.«package» text (present after) bytes after.texts result is journal known following)
 
 pub stopped_is_resumed : StoppedIsResumed
 stopped_is_resumed file h after old now text bytes result survives is journal known = by_holds file h after now text bytes result is journal known survives.holds

@@ -10,14 +10,14 @@ pub use Rattle.bz_formatter.specs.Fixed.{IsFormatted}
 pub use Rattle.bz_items.specs.Characters.{Bytes}
 pub use Rattle.bz_journal.specs.Actions.{MakesText, action_in}
 pub use Rattle.bz_journal.specs.Doing.{EndsAt, HasMade}
-pub use Rattle.bz_journal.specs.Editing.{AreFirstDigests, IsBeside, WrittenIsDrawn}
+pub use Rattle.bz_journal.specs.Editing.{AreFirstDigests, IsBeside, WrittenIsLaidOut}
 pub use Rattle.bz_journal.specs.History.{Acts, Answer, History, IsFormat, IsKept, MakesOrWants, Runs, after_meaning, after_text, changed, most_steps, note_limit, opened, present, unchanged}
 pub use Rattle.bz_journal.specs.Keeping.{HasActed, IsRefused, IsWriteOrOpen, IsWrittenSince, Keeps, KeepsPair}
 pub use Rattle.bz_journal.specs.Lasting.{AlikeActs, AlikeGoesOn, GoesOn, IsAgain, IsKnownSession, IsResumedSession, IsSavedSession, saved}
 pub use Rattle.bz_journal.specs.Lines.{AreIn, AreLinesOf, tree_with}
 pub use Rattle.bz_journal.specs.Listing.{lines_of_texts, listing, noted, text_line, text_lines_from}
 pub use Rattle.bz_journal.specs.Lookups.{AreLookupsOf}
-pub use Rattle.bz_journal.specs.Meaning.{Means, OverfullIsRefused, gives, refuses, told, written}
+pub use Rattle.bz_journal.specs.Meaning.{Means, OverfullIsRefused, gives, refuses, printed_answer, written}
 pub use Rattle.bz_journal.specs.Shown.{IsOverEven, session_history}
 pub use Rattle.bz_journal.specs.State.{SessionState, session_trail}
 pub use Rattle.bz_journal.specs.Stopping.{StoppedIsResumed}
@@ -28,7 +28,7 @@ pub use Rattle.bz_keep.specs.Resuming.{Holds, OthersStay, Resumes, Survives}
 pub use Rattle.bz_keep.specs.declared.fault.PairFault.{PairFault}
 pub use Rattle.bz_names.specs.Index.{IsIndexOf}
 pub use Rattle.bz_record.specs.Texts.{IsOtherVersion}
-pub use Rattle.bz_redraw.specs.Redrawn.{IsWritten}
+pub use Rattle.bz_redraw.specs.Relaid.{IsWritten}
 pub use Rattle.bz_resume.specs.Journals.{AreSmall, Journal, NoJournal}
 pub use Rattle.bz_resume.specs.Resumed.{IsStale, StandsFor}
 pub use Rattle.bz_tidy.specs.Passes.{tidied}

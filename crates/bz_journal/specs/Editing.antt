@@ -13,7 +13,7 @@ use Rattle.bz_write.specs.Written.{layout}
 use Rattle.bz_tidy.specs.Passes.{tidied}
 use Rattle.bz_words.specs.declared.command.Operation.{Operation}
 use Rattle.bz_words.specs.Proper.{IsProperCommand}
-use Rattle.bz_redraw.specs.Redrawn.{IsWritten}
+use Rattle.bz_redraw.specs.Relaid.{IsWritten}
 use Rattle.bz_journal.specs.Actions.{Action}
 use Rattle.bz_journal.specs.Actions.{Do, Format, Undo, Redo}
 use Rattle.bz_journal.specs.declared.action.Reply.{Reply}
@@ -29,7 +29,7 @@ pub record IsBeside (tree : Node) (beside : Beside) : Type 0 where
   pub seen : IfSome beside.value (λ items. items ≡ view_of tree)
   pub looked : AreLookupsOf beside.lookups tree
   pub written : beside.written ≡ true → IsWritten (view_of tree) tree
-  pub long : beside.written ≡ true → length (spell_node tree) ≤ beside.long
+  pub length_bound : beside.written ≡ true → length (spell_node tree) ≤ beside.length_bound
 
 -- these are the digests of the first texts
 abbrev pub AreFirstDigests : List Bytes → List Bytes → Type 0
@@ -42,8 +42,8 @@ IsLayoutOf items tree = IsWritten (tidied items) tree × (view_of tree ≡ tidie
 -- ---- laws
 
 -- Where items are written and the answer is no refusal, the tree of the present text is the layout of them tidied.
-abbrev pub WrittenIsDrawn : Type 0
-WrittenIsDrawn =
+abbrev pub WrittenIsLaidOut : Type 0
+WrittenIsLaidOut =
     (items : List Item) (printed : Option Bytes) (note : Bytes) (h after : History) (reply : Reply) (tree : Node)
     → IsProper items → h.cursor < length h.texts → ◌≡◌ {A = Answer × History} (Ok reply, after) (after_meaning note h (written items printed))
     → Reads (present after) tree → IsLayoutOf items tree

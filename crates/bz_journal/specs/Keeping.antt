@@ -48,7 +48,7 @@ pub record HasActed (action : Action) (note : Bytes) (s : SessionState) (answer 
 
 -- what is written of a session: its journal, which is one, and its present text
 pub record IsWrittenOf (t : SessionState) (w : Written) : Type 0 where
-  pub told : w.journal.items ≡ saved t
+  pub stored : w.journal.items ≡ saved t
   pub own : IsSavedSession t
   pub text : w.text.items ≡ present (session_history t)
 
@@ -75,7 +75,7 @@ pub record KeepsPair {F : Type 0} (files : FilesOf F) (action : Action) (note fi
       → Holds (files.folder new) file (session_history s).«package» (present (session_history t)) (session_history t).texts
       × OthersStay file (files.folder old) (files.folder new))
   -- The journal is as before or the session's, at every moment, and the session's where the text is another one.
-  pub told : files.honest old ≡ true → (now : Folder) → files.since new (files.moment old) now
+  pub stored : files.honest old ≡ true → (now : Folder) → files.since new (files.moment old) now
       → (get now (journal_name file) ≡ get (files.folder old) (journal_name file)) ⊎ (get now (journal_name file) ≡ Some (saved t))
   pub journal : files.honest old ≡ true → OnOk answer (t.cursor ≢ s.cursor → get (files.folder new) (journal_name file) ≡ Some (saved t))
   -- That the file holds another text is said only where it does. Nothing is replaced where the present text stays, and at every

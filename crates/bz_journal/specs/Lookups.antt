@@ -4,7 +4,7 @@ use Rattle.bz_tree.specs.declared.tree.Node.{Node}
 use Rattle.bz_tree.specs.Statements.{lines_of}
 use Rattle.bz_view.specs.View.{view_of}
 use Rattle.bz_names.specs.Index.{IsIndexOf}
-use Rattle.bz_journal.specs.declared.asking.Lookups.{Lookups}
+use Rattle.bz_journal.specs.declared.answering.Lookups.{Lookups}
 
 -- What was looked up is that of the tree: the index that of the names in its view, and the lines those of its statements.
 pub record AreLookupsOf (lookups : Lookups) (tree : Node) : Type 0 where

@@ -16,9 +16,9 @@ use Rattle.bz_command.specs.Overfull.{Overfills}
 pub use Rattle.bz_formatter.specs.Meaning.{Meaning, gives, refuses, written, Formats}
 
 -- what is answered beside the text: of a command that prints, what it prints
-abbrev pub told : Operation → Result Bytes Refusal → Option Bytes
-told operation (Err refusal) = None
-told operation (Ok text) = if prints operation then Some text else None
+abbrev pub printed_answer : Operation → Result Bytes Refusal → Option Bytes
+printed_answer operation (Err refusal) = None
+printed_answer operation (Ok text) = if prints operation then Some text else None
 
 -- What an effect on the value of a text means. Where the value is unchanged, the text is as it was and isn't formatted; a new
 -- value is written.
@@ -31,7 +31,7 @@ EffectMeans (Ok new) answer items text m = ((new ≡ items) × (m ≡ gives text
 abbrev pub Means : Operation → Target → Bytes → Bytes → Meaning → Type 0
 Means operation target current text m =
     (tree : Node) × Reads text tree
-    × EffectMeans (effect operation target current (lines_of tree) (view_of tree)) (told operation (printed operation target current (lines_of tree) (view_of tree))) (view_of tree) text m
+    × EffectMeans (effect operation target current (lines_of tree) (view_of tree)) (printed_answer operation (printed operation target current (lines_of tree) (view_of tree))) (view_of tree) text m
 
 -- An effect that is past the limit by the comments that it puts in means just that, whatever is answered beside it.
 abbrev pub OverfullIsRefused : Type 0

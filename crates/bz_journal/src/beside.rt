@@ -5,13 +5,13 @@ ghost use Rattle.bz_journal.specs.Clauses.{AreLinesOf, AreLookupsOf, EndsAt, Has
 ghost use Rattle.bz_journal.specs.Actions as a;
 
 use crate::action::{Action, Reply};
-use crate::asking::{Lookups, answer};
+use crate::answering::{Lookups, answer};
 use crate::course::{Course, MOST_NOTE, unchanged};
-use crate::laws::{overfull_is_refused, written_is_drawn};
+use crate::laws::{overfull_is_refused, written_is_laid_out};
 use crate::lines::Lines;
-use crate::meaning::{run_on_tree, told, value_of};
+use crate::meaning::{run_on_tree, printed_answer, value_of};
 use bz_command::{Extent, Spliced};
-use bz_formatter::{drawn_of, reads_back, written};
+use bz_formatter::{laid_out_of, reads_back, written};
 use bz_items::{Items, Memory, Text};
 use bz_label::Target;
 use bz_redraw::{renew, renew_spliced};
@@ -34,9 +34,9 @@ pub(crate) struct Beside {
     /// Whether the present text is known to be the layout of a tidy value.
     pub(crate) written: bool,
     /// How many bytes the present text has at most.
-    pub(crate) long: usize,
+    pub(crate) length_bound: usize,
     /// Whether the last command printed something, so that the value is worth keeping for the next one that prints.
-    pub(crate) asked: bool,
+    pub(crate) printed_last: bool,
 }
 
 impl Beside {
@@ -48,8 +48,8 @@ impl Beside {
             value: None,
             lookups: Lookups::none(),
             written: false,
-            long: LENGTH_LIMIT,
-            asked: false,
+            length_bound: LENGTH_LIMIT,
+            printed_last: false,
         }
     }
 }
@@ -63,22 +63,22 @@ fn tidy_in(
     marks: &[bool],
     file: &mut File,
     tree: &Tree,
-    long: usize,
+    length_bound: usize,
 ) -> Result<(Option<Lines>, usize), Memory>
     requires extent { IsOfExtent extent marks.now (view_of tree.now) file.old }
     requires written { IsWritten (view_of tree.now) tree.now }
-    requires long { length (spell_node tree.now) ≤ long }
+    requires length_bound { length (spell_node tree.now) ≤ length_bound }
     ensures tidy { OnOk result (file.new ≡ tidied file.old) }
     ensures lines { IfOk result (λ made. IfSome made.0 (λ lines. AreLinesOf lines tree.now file.new)) }
     ensures most { IfOk result (λ made. length (layout file.new) ≤ limit → length (layout file.new) ≤ made.1) }
 {
     match extent {
-        Extent::Marked => match renew(alloc, marks, file, tree, long)? {
-            Some(made) => Ok((Some(Lines::Exchanged(made.redrawn)), made.most)),
+        Extent::Marked => match renew(alloc, marks, file, tree, length_bound)? {
+            Some(made) => Ok((Some(Lines::Exchanged(made.relaid)), made.most)),
             None => Ok((None, LENGTH_LIMIT)),
         },
         Extent::Spliced(Spliced { from, come, .. }) => {
-            match renew_spliced(alloc, from, come, file, tree, long)? {
+            match renew_spliced(alloc, from, come, file, tree, length_bound)? {
                 Some(made) => Ok((Some(Lines::Spliced(made.respliced)), made.most)),
                 None => Ok((None, LENGTH_LIMIT)),
             }
@@ -102,7 +102,7 @@ fn take_up_whole(
     requires tidy { tidied file.now ≡ file.now }
     ensures { EndsAt (after_meaning note.now (session_history course.old) (written file.now printed)) course.old result course.new }
 {
-    let tree = drawn_of(course.alloc(), file)?;
+    let tree = laid_out_of(course.alloc(), file)?;
     course.take_up(tree, printed, note)
 }
 
@@ -154,13 +154,13 @@ fn take_up_value(
     ensures end { EndsAt (after_meaning note.now (session_history course.old) (written file printed)) course.old result course.new }
     ensures beside { IsBeside course.new.tree beside.new }
 {
-    written_is_drawn();
+    written_is_laid_out();
     let _before = course.present();
     let _items = &file.items;
     match take_up_tidied(course, &file, lines, printed, note) {
         Ok(reply) => {
             reads_back(course.present());
-            beside.long = most;
+            beside.length_bound = most;
             beside.value = Some(file);
             Ok(reply)
         }
@@ -193,7 +193,7 @@ fn take_up_made(
     tidy_stays();
     let mut file = file;
     let here = course.present();
-    match tidy_in(course.alloc(), extent, marks, &mut file, here, beside.long) {
+    match tidy_in(course.alloc(), extent, marks, &mut file, here, beside.length_bound) {
         Ok((lines, most)) => take_up_value(course, beside, file, lines, most, printed, note),
         Err(_) => {
             take_apart(file);
@@ -218,14 +218,14 @@ fn take_up_new(
     ensures end { EndsAt (after_meaning note.now (session_history course.old) (written file printed)) course.old result course.new }
     ensures beside { IsBeside course.new.tree beside.new }
 {
-    written_is_drawn();
+    written_is_laid_out();
     let _before = course.present();
     let _items = &file.items;
     match written(course.alloc(), file) {
         Ok(tree) => {
             let answer = course.take_up(tree, printed, note);
             beside.written = answer.is_ok();
-            beside.long = LENGTH_LIMIT;
+            beside.length_bound = LENGTH_LIMIT;
             reads_back(course.present());
             answer
         }
@@ -266,7 +266,7 @@ fn edit(
     let current = course.own_package().as_bytes();
     match run_on_tree(alloc, command, target, current, here, &mut file) {
         Ok(ran) => {
-            let printed = told(command, ran.printed);
+            let printed = printed_answer(command, ran.printed);
             if ran.same {
                 beside.value = if_written(beside.written, file);
                 return Ok(unchanged(printed));
@@ -297,13 +297,13 @@ fn do_command(
     ensures made { HasMade (a.Do command.now target.now) note.now course.old result course.new }
     ensures beside { IsBeside course.new.tree beside.new }
 {
-    let asks = command.prints();
-    if asks && (beside.written || beside.asked) {
+    let only_prints = command.prints();
+    if only_prints && (beside.written || beside.printed_last) {
         if let Some(answer) = answer(course, beside, command, target) {
             return answer;
         }
     }
-    beside.asked = asks;
+    beside.printed_last = only_prints;
     edit(course, beside, command, target, note)
 }
 

@@ -5,7 +5,7 @@ ghost use Rattle.std.specs.Str.{IsValidUpTo};
 ghost use Rattle.bz_journal.specs.Clauses.{Accepted, Acts, AreFirstDigests, Elapses, Folder, Holds, IsFormat, IsFormatted, IsOfText, IsOverEven, IsRefused, IsSavedSession, IsSmall, IsWriteOrOpen, IsWrittenSince, Keeps, KeepsPair, OthersStay, PairFault, Refusal, Reply, Resumes, Rises, Survives, action_in, journal_name, limit, listing, note_limit, opened, present, saved, session_history, session_trail};
 
 use crate::action::{Action, Reply};
-use crate::asking::Lookups;
+use crate::answering::Lookups;
 use crate::beside::{Beside, act};
 use crate::course::{Course, begin, text_of};
 use crate::digests::{cut_off, known, learn};
@@ -90,7 +90,7 @@ fn kept_text(kept: Option<Vec<u8>>, course: &Course) -> Result<Vec<u8>, Memory>
 fn journal_by(course: &Course, digests: &[[u8; 32]], text: &[u8]) -> Result<Vec<u8>, Memory>
     requires first { AreFirstDigests digests.now (session_history course.now).texts }
     requires text { text.now ≡ present (session_history course.now) }
-    ensures told { IfOk result (λ told. told.items ≡ saved course.now) }
+    ensures stored { IfOk result (λ stored. stored.items ≡ saved course.now) }
     ensures journal { OnOk result (IsSavedSession course.now) }
 {
     match known(digests, course) {
@@ -206,7 +206,7 @@ impl Editor {
             → OnOk result ((session_history self.new).cursor ≢ (session_history self.old).cursor
             → Holds (F.folder files.new) file.now (session_history self.old).«package» (present (session_history self.new)) (session_history self.new).texts
             × OthersStay file.now (F.folder files.old) (F.folder files.new)) }
-        ensures told { F.honest files.old ≡ true → (now : Folder) → F.since files.new (F.moment files.old) now
+        ensures stored { F.honest files.old ≡ true → (now : Folder) → F.since files.new (F.moment files.old) now
             → (get now (journal_name file.now) ≡ get (F.folder files.old) (journal_name file.now)) ⊎ (get now (journal_name file.now) ≡ Some (saved self.new)) }
         ensures journal { F.honest files.old ≡ true → OnOk result ((session_history self.new).cursor ≢ (session_history self.old).cursor
             → get (F.folder files.new) (journal_name file.now) ≡ Some (saved self.new)) }

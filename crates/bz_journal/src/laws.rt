@@ -1,6 +1,6 @@
 //! Facts about the definitions, for readers: the functions do nothing.
 
-ghost use Rattle.bz_journal.specs.Clauses.{AlikeActs, AlikeGoesOn, HasLeast, IsKept, IsSmall, OverfullIsRefused, StepsAreBetween, StepsLead, StoppedIsResumed, WorkedHistories, WrittenIsDrawn, session_history, session_trail};
+ghost use Rattle.bz_journal.specs.Clauses.{AlikeActs, AlikeGoesOn, HasLeast, IsKept, IsSmall, OverfullIsRefused, StepsAreBetween, StepsLead, StoppedIsResumed, WorkedHistories, WrittenIsLaidOut, session_history, session_trail};
 
 use crate::course::Course;
 use crate::editor::Editor;
@@ -72,8 +72,8 @@ fn course_holds(course: &Course)
 }
 
 /// Where a value is written and the answer is no refusal, the tree of the present text is the layout of the value tidied.
-pub(crate) fn written_is_drawn()
-    ensures { WrittenIsDrawn }
+pub(crate) fn written_is_laid_out()
+    ensures { WrittenIsLaidOut }
 {
     one_reading();
     layout_is_accepted();

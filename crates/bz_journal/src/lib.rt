@@ -2,7 +2,7 @@
 #![tactic(auto)]
 
 mod action;
-mod asking;
+mod answering;
 mod beside;
 mod course;
 mod digest;

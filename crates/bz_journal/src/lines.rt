@@ -4,7 +4,7 @@ ghost use Rattle.bz_journal.specs.Clauses.{AreIn, Ascend, IsTrail, IsTree, Takes
 
 use bz_edit::Step;
 use bz_items::Memory;
-use bz_redraw::{Redrawn, Respliced};
+use bz_redraw::{Relaid, Respliced};
 use bz_trail::{take_up_across, take_up_at};
 use bz_tree::{Part, Tree};
 
@@ -12,7 +12,7 @@ use bz_tree::{Part, Tree};
 #[derive(Drop)]
 pub(crate) enum Lines {
     /// Each in the place of one.
-    Exchanged(Redrawn),
+    Exchanged(Relaid),
     /// All in the place of some adjacent ones.
     Spliced(Respliced),
 }
@@ -62,8 +62,8 @@ pub(crate) fn stand_in(lines: &Lines, tree: &Tree) -> bool
 {
     let parts = tree.root.parts.as_slice();
     match lines {
-        Lines::Exchanged(redrawn) => {
-            stand_there(redrawn.places.as_slice(), redrawn.lines.as_slice(), parts)
+        Lines::Exchanged(relaid) => {
+            stand_there(relaid.places.as_slice(), relaid.lines.as_slice(), parts)
         }
         Lines::Spliced(respliced) => stand_across(
             respliced.at,
@@ -91,8 +91,8 @@ pub(crate) fn take_up_lines(
     ensures err { OnErr result ((tree.new ≡ tree.old) × (steps.new.items ≡ steps.old.items)) }
 {
     match lines {
-        Lines::Exchanged(redrawn) => {
-            let Redrawn { places, mut lines } = redrawn;
+        Lines::Exchanged(relaid) => {
+            let Relaid { places, mut lines } = relaid;
             take_up_at(tree, steps, cursor, places.as_slice(), lines.as_mut_slice())?;
             Ok(true)
         }

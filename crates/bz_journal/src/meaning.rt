@@ -1,6 +1,6 @@
 //! What a command makes of the value of a tree.
 ghost use Rattle.std.specs.Prelude.{◌≡◌, ◌⊎◌, ◌↔◌, List, Ok, Err, IfOk, IfErr, IfSome, IsTrue, OnOk, option_map};
-ghost use Rattle.bz_journal.specs.Clauses.{Bytes, IsOfExtent, Item, Overfills, Refusal, effect, lines_of, printed, told, view_of};
+ghost use Rattle.bz_journal.specs.Clauses.{Bytes, IsOfExtent, Item, Overfills, Refusal, effect, lines_of, printed, printed_answer, view_of};
 ghost use Rattle.std.specs.Option.{unwrap_or};
 
 use crate::laws::overfull_is_refused;
@@ -16,8 +16,8 @@ use bz_words::Command;
 use std::alloc::Global;
 
 /// What is answered beside the text: of a command that prints, what it prints.
-pub(crate) fn told(command: &Command, printed: Text) -> Option<Text>
-    ensures { result ≡ told command.now (Ok printed) }
+pub(crate) fn printed_answer(command: &Command, printed: Text) -> Option<Text>
+    ensures { result ≡ printed_answer command.now (Ok printed) }
 {
     if command.prints() {
         Some(printed)

@@ -17,15 +17,15 @@ present h = text_at h h.cursor
 
 -- what records the texts of a file that holds `text`: it has no journal, and these are that text alone; or its journal records a
 -- history of this package and these texts, which matches that text
-abbrev pub IsToldBy : Folder → Text → Text → Text → List Text → Type 0
-IsToldBy folder file current text texts = ((get folder (journal_name file) ≡ None) × (texts ≡ text ∷ []))
+abbrev pub IsRecordedBy : Folder → Text → Text → Text → List Text → Type 0
+IsRecordedBy folder file current text texts = ((get folder (journal_name file) ≡ None) × (texts ≡ text ∷ []))
     ⊎ ((bytes : Text) × (h : History) × (es : List (List Edit)) × (place : ℕ) × (get folder (journal_name file) ≡ Some bytes)
     × Journal bytes h es × (h.package ≡ current) × (texts ≡ h.texts) × (stands h text ≡ Some place))
 
 -- the file holds this text and goes on, in this package, with these texts
 pub record Holds (folder : Folder) (file current text : Text) (texts : List Text) : Type 0 where
   pub holds : get folder file ≡ Some text
-  pub history : IsToldBy folder file current text texts
+  pub history : IsRecordedBy folder file current text texts
 
 -- the file goes on, in this package, with these texts
 abbrev pub Resumes : Folder → Text → Text → List Text → Type 0
@@ -37,11 +37,11 @@ FollowsKept h after = (after.package ≡ h.package) × (text_at after after.befo
 
 -- An action leads from h to another history, and these are its journal and its text. The folder resumes with the texts of h, and
 -- the text at which the action was begun is its present one; the file may hold another.
-pub record MayResume (folder : Folder) (file standing told text : Text) (h after : History) (es : List (List Edit)) : Type 0 where
+pub record MayResume (folder : Folder) (file standing stored text : Text) (h after : History) (es : List (List Edit)) : Type 0 where
   pub resumes : Resumes folder file h.package h.texts
   pub begun : standing ≡ present h
   pub follows : FollowsKept h after
-  pub journal : Journal told after es
+  pub journal : Journal stored after es
   pub written : text ≡ present after
 
 -- Of a folder as it was, this one differs at most in the file, its journal, and the names under which these are written first.
@@ -58,13 +58,13 @@ pub record Survives (file : Text) (h after : History) (old now : Folder) : Type 
 
 -- A journal and then its file are given these bytes, where the file still holds the text at which that was begun. (The file's name, that
 -- text, the bytes of both, what came of it, and the files before and after.)
-pub record Replaces {F : Type 0} (files : FilesOf F) (file standing told text : Text) (answer : Result (Unit {0}) PairFault) (old new : F) : Type 0 where
+pub record Replaces {F : Type 0} (files : FilesOf F) (file standing stored text : Text) (answer : Result (Unit {0}) PairFault) (old new : F) : Type 0 where
   pub each : files.honest old ≡ true → (now : Folder) → files.since new (files.moment old) now
-      → IsKeeping (journal_name file) told file text (files.folder old) now
+      → IsKeeping (journal_name file) stored file text (files.folder old) now
   pub time : files.honest old ≡ true → Elapses (files.moment old) (files.moment new) (files.since old) (files.since new)
-      (IsChecking standing (journal_name file) told file text (files.folder old))
+      (IsChecking standing (journal_name file) stored file text (files.folder old))
   pub replaced : files.honest old ≡ true → OnOk answer
-      (SameBut (IsNew (journal_name file) file) (with_both (journal_name file) told file text (files.folder old)) (files.folder new))
+      (SameBut (IsNew (journal_name file) file) (with_both (journal_name file) stored file text (files.folder old)) (files.folder new))
   -- Only where the file holds the text is anything replaced, and only where it doesn't is that said.
   pub checked : files.honest old ≡ true → (IsOk answer) ⊎ (IsErrOf answer f.Write)
       → get (files.folder old) file ≡ Some standing

@@ -56,20 +56,20 @@ fn check_file<F: Files>(
     }
 }
 
-// Gives the journal of a file the bytes `told`, and then the file the bytes `text`, if it holds the text `standing`. Errors: `Memory`:
+// Gives the journal of a file the bytes `stored`, and then the file the bytes `text`, if it holds the text `standing`. Errors: `Memory`:
 // a growth was refused, and nothing was replaced; `Write`: it holds another text, or one of them could not be replaced.
 fn write_pair<F: Files>(
     alloc: Global,
     files: &mut F,
     file: &str,
     standing: &[u8],
-    told: &[u8],
+    stored: &[u8],
     text: &[u8],
 ) -> Result<(), PairFault>
     ensures time { F.honest files.old ≡ true → Elapses (F.moment files.old) (F.moment files.new) (F.since files.old) (F.since files.new)
-        (IsChecking standing.now (journal_name file.now) told.now file.now text.now (F.folder files.old)) }
+        (IsChecking standing.now (journal_name file.now) stored.now file.now text.now (F.folder files.old)) }
     ensures replaced { F.honest files.old ≡ true → OnOk result
-        (SameBut (IsNew (journal_name file.now) file.now) (with_both (journal_name file.now) told.now file.now text.now (F.folder files.old)) (F.folder files.new)) }
+        (SameBut (IsNew (journal_name file.now) file.now) (with_both (journal_name file.now) stored.now file.now text.now (F.folder files.old)) (F.folder files.new)) }
     ensures kinds { IfErr result (λ fault. (fault ≡ PairFault.Memory) ⊎ (fault ≡ PairFault.Write)) }
     ensures memory { IsErrOf result PairFault.Memory → files.new ≡ files.old }
     ensures cause { IsErrOf result PairFault.Write → Rises (F.faults files.old) (F.faults files.new) }
@@ -78,7 +78,7 @@ fn write_pair<F: Files>(
     ensures honest { F.honest files.new ≡ F.honest files.old }
 {
     match journal_name(alloc, file) {
-        Ok(journal) => match files.rewrite_pair(journal.as_str(), told, file, standing, text) {
+        Ok(journal) => match files.rewrite_pair(journal.as_str(), stored, file, standing, text) {
             Ok(()) => Ok(()),
             Err(_) => Err(PairFault::Write),
         },
@@ -86,7 +86,7 @@ fn write_pair<F: Files>(
     }
 }
 
-// Gives the journal of a file the bytes `told`, and then the file the bytes `text`, where it still holds the text `standing`; it is
+// Gives the journal of a file the bytes `stored`, and then the file the bytes `text`, where it still holds the text `standing`; it is
 // read for that first. Errors: `Changed`: it holds another text or isn't there; `Open`: it could not be read; `Memory`: a growth was
 // refused; at these nothing was replaced at any moment. `Write`: it changed in between, or one of the two could not be replaced.
 fn replace_pair<F: Files>(
@@ -94,18 +94,18 @@ fn replace_pair<F: Files>(
     files: &mut F,
     file: &str,
     standing: &[u8],
-    told: &[u8],
+    stored: &[u8],
     text: &[u8],
 ) -> Result<(), PairFault>
-    ensures { Replaces F.Files file.now standing.now told.now text.now result files.old files.new }
+    ensures { Replaces F.Files file.now standing.now stored.now text.now result files.old files.new }
 {
     match check_file(alloc, files, file, standing) {
-        Ok(()) => write_pair(alloc, files, file, standing, told, text),
+        Ok(()) => write_pair(alloc, files, file, standing, stored, text),
         Err(fault) => Err(fault),
     }
 }
 
-/// Keeps what an action has led to, from one history to another: gives the journal of the file with this name the bytes `told`,
+/// Keeps what an action has led to, from one history to another: gives the journal of the file with this name the bytes `stored`,
 /// the journal of the new history, and then the file its present text, `text`, where the file still holds the text `standing`,
 /// at which the action was begun. A stop at any moment leaves a file that goes on with the texts of the one history or of the
 /// other. Errors: `Changed`: the file holds another text or isn't there; `Open`: it could not be read; `Memory`: a growth was
@@ -116,24 +116,24 @@ pub fn keep<F: Files>(
     files: &mut F,
     file: &str,
     standing: &[u8],
-    told: &[u8],
+    stored: &[u8],
     text: &[u8],
 ) -> Result<(), PairFault>
-    ensures each { F.honest files.old ≡ true → (h after : History) (es : List (List Edit)) → MayResume (F.folder files.old) file.now standing.now told.now text.now h after es
+    ensures each { F.honest files.old ≡ true → (h after : History) (es : List (List Edit)) → MayResume (F.folder files.old) file.now standing.now stored.now text.now h after es
         → (now : Folder) → F.since files.new (F.moment files.old) now
         → (now ≡ F.folder files.old) ⊎ Survives file.now h after (F.folder files.old) now }
-    ensures time { F.honest files.old ≡ true → (h after : History) (es : List (List Edit)) → MayResume (F.folder files.old) file.now standing.now told.now text.now h after es
+    ensures time { F.honest files.old ≡ true → (h after : History) (es : List (List Edit)) → MayResume (F.folder files.old) file.now standing.now stored.now text.now h after es
         → Elapses (F.moment files.old) (F.moment files.new) (F.since files.old) (F.since files.new)
         (λ now. (now ≡ F.folder files.old) ⊎ Survives file.now h after (F.folder files.old) now) }
-    ensures resumes { F.honest files.old ≡ true → (h after : History) (es : List (List Edit)) → MayResume (F.folder files.old) file.now standing.now told.now text.now h after es
+    ensures resumes { F.honest files.old ≡ true → (h after : History) (es : List (List Edit)) → MayResume (F.folder files.old) file.now standing.now stored.now text.now h after es
         → (now : Folder) → F.since files.new (F.moment files.old) now
         → Resumes now file.now h.package h.texts ⊎ Resumes now file.now h.package after.texts }
-    ensures kept { F.honest files.old ≡ true → OnOk result ((h after : History) (es : List (List Edit)) → MayResume (F.folder files.old) file.now standing.now told.now text.now h after es
+    ensures kept { F.honest files.old ≡ true → OnOk result ((h after : History) (es : List (List Edit)) → MayResume (F.folder files.old) file.now standing.now stored.now text.now h after es
         → Holds (F.folder files.new) file.now h.package (present after) after.texts × OthersStay file.now (F.folder files.old) (F.folder files.new)) }
 
-    ensures told { F.honest files.old ≡ true → (now : Folder) → F.since files.new (F.moment files.old) now
-        → (get now (journal_name file.now) ≡ get (F.folder files.old) (journal_name file.now)) ⊎ (get now (journal_name file.now) ≡ Some told.now) }
-    ensures journal { F.honest files.old ≡ true → OnOk result (get (F.folder files.new) (journal_name file.now) ≡ Some told.now) }
+    ensures stored { F.honest files.old ≡ true → (now : Folder) → F.since files.new (F.moment files.old) now
+        → (get now (journal_name file.now) ≡ get (F.folder files.old) (journal_name file.now)) ⊎ (get now (journal_name file.now) ≡ Some stored.now) }
+    ensures journal { F.honest files.old ≡ true → OnOk result (get (F.folder files.new) (journal_name file.now) ≡ Some stored.now) }
 
     // Where the file holds another text, that is said, and at no moment is anything touched.
     ensures checked { F.honest files.old ≡ true → get (F.folder files.old) file.now ≢ Some standing.now
@@ -150,5 +150,5 @@ pub fn keep<F: Files>(
     ensures count { F.faults files.old ≤ F.faults files.new }
     ensures honest { F.honest files.new ≡ F.honest files.old }
 {
-    replace_pair(alloc, files, file, standing, told, text)
+    replace_pair(alloc, files, file, standing, stored, text)
 }

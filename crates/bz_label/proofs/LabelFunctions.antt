@@ -9,7 +9,7 @@ use Rattle.bz_items.specs.Characters.{Bytes}
 use Rattle.bz_label.specs.Pieces.{is_empty, last_piece, has_colon, has_slash, is_colon, is_slash, is_at, begins_with_at}
 use Rattle.bz_label.specs.Labels.{is_path, is_repository_name, IsWhole, IsPackageAlone, IsRepositoryAlone, IsColonName, IsBareName, IsLabel, whole, package_alone, repository_alone, colon_name, bare_name, IsSame, IsOwn, IsShortened, own, other}
 use Rattle.bz_label.specs.Forms.{label_of, are_whole, are_alone}
-use Rattle.bz_label.specs.Shorter.{before_colon, behind_colon, before_slashes, before_slashes_from, behind_slashes}
+use Rattle.bz_label.specs.Shorter.{before_colon, after_colon, before_slashes, before_slashes_from, after_slashes}
 use Rattle.bz_label.specs.Read.{kept_if, absolute_label, has_slashes, other_label, label_in, is_equal, are_equal, is_same, is_own, shortened}
 use Rattle.bz_label.specs.declared.form.Parts.{Parts}
 use Rattle.bz_label.specs.declared.label.Label.{Label}
@@ -17,7 +17,7 @@ use Rattle.bz_label.proofs.Equal.{equal_texts}
 use Rattle.bz_label.proofs.Paths.{joined_exact}
 use Rattle.bz_label.proofs.Readings.{label_with, same_label}
 use Rattle.bz_label.proofs.Repeats.{both_same, halves, path_present, front_colon, rest_colon, front_slashes, two_more, dropped, is_unrepeated}
-use Rattle.bz_label.proofs.Shapes.{or_none, or_right, any_at, path_colonless, package_colonless, repository_slashless, repository_holds, whole_behind, whole_from, alone_from}
+use Rattle.bz_label.proofs.Shapes.{or_none, or_right, any_at, path_colonless, package_colonless, repository_slashless, repository_holds, whole_after, whole_from, alone_from}
 use Rattle.bz_label.proofs.Shorter.{shortened_once}
 
 if_true : {A : Type 0} (b : Bool) (x y : A) → b ≡ true → (if b then x else y) ≡ x
@@ -28,7 +28,7 @@ if_false b x y h = rw h refl
 
 -- ---- a text around its first two slashes
 
-parted : (s : Bytes) → has_slashes s ≡ true → s ≡ before_slashes s ++ codes "//" ++ behind_slashes s
+parted : (s : Bytes) → has_slashes s ≡ true → s ≡ before_slashes s ++ codes "//" ++ after_slashes s
 parted [] h = absurd (true≢false (sym h))
 parted (c ∷ []) h = absurd (true≢false (sym h))
 parted (c ∷ d ∷ s) h = elim (cases_Bool (is_slash c && is_slash d)) [
@@ -55,7 +55,7 @@ unslashed (c ∷ s) h = let p : (is_slash c ≡ false) × (has_slash s ≡ false
 -- a path holds no two slashes in a row
 path_unslashed : (s : Bytes) → is_path s ≡ true → has_slashes s ≡ false
 path_unslashed s h = elim (cases_Bool (has_slashes s)) [
-  | inl w ↦ absurd (((joined_exact s).0 (and_parts _ _ h).0).single (before_slashes s) (behind_slashes s) (parted s w))
+  | inl w ↦ absurd (((joined_exact s).0 (and_parts _ _ h).0).single (before_slashes s) (after_slashes s) (parted s w))
   | inr w ↦ w
 ]
 
@@ -74,7 +74,7 @@ whole_found current text label h =
     let name = label.name in
     let rest = path ++ 58 ∷ name in
     let colonless : has_colon path ≡ false = package_colonless path h.package in
-    ap (label_in current) (whole_behind label text h) ∙ absolute current front rest (repository_slashless front h.repository)
+    ap (label_in current) (whole_after label text h) ∙ absolute current front rest (repository_slashless front h.repository)
     ∙ if_true (has_colon rest) _ _ (any_at is_colon path 58 name refl)
     ∙ both_same (λ x y. kept_if (are_whole front x y) front x y) (front_colon path name colonless) (rest_colon path name colonless)
     ∙ if_true (are_whole front path name) _ _ (and_from _ _ (and_from _ _ (repository_holds front h.repository) h.package) h.name)
@@ -132,7 +132,7 @@ absolute_holds : (current text front rest : Bytes) (label : Label) → text ≡ 
 absolute_holds current text front rest label e h = elim (cases_Bool (has_colon rest)) [
   | inl w ↦
       let path = before_colon rest in
-      let name = behind_colon rest in
+      let name = after_colon rest in
       let k : (are_whole front path name ≡ true) × (label_with front path name ≡ label) = kept_parts _ front path name label (sym (if_true (has_colon rest) _ _ w) ∙ h) in
       let named : is_path name ≡ true = (and_parts _ _ k.0).1 in
       whole (subst (IsWhole text) k.1 (whole_from text front rest path name e (halves rest (path_present name named)) k.0))
@@ -164,7 +164,7 @@ other_holds current (first ∷ rest) label h = elim (cases_Bool (is_at first)) [
 
 label_holds : (current text : Bytes) (label : Label) → label_in current text ≡ Some label → IsLabel current text label
 label_holds current text label h = elim (cases_Bool (has_slashes text)) [
-  | inl w ↦ absolute_holds current text (before_slashes text) (behind_slashes text) label (parted text w) (sym (if_true (has_slashes text) _ _ w) ∙ h)
+  | inl w ↦ absolute_holds current text (before_slashes text) (after_slashes text) label (parted text w) (sym (if_true (has_slashes text) _ _ w) ∙ h)
   | inr w ↦ other_holds current text label (sym (if_false (has_slashes text) _ _ w) ∙ h)
 ]
 
@@ -231,7 +231,7 @@ the_same current one two answer e = same_truth answer (is_same current one two) 
 -- ---- the shorter form
 
 -- where nothing is before the first two slashes and a colon after them, they are there
-slashes_first : (s : Bytes) → is_empty (before_slashes s) ≡ true → has_colon (behind_slashes s) ≡ true → has_slashes s ≡ true
+slashes_first : (s : Bytes) → is_empty (before_slashes s) ≡ true → has_colon (after_slashes s) ≡ true → has_slashes s ≡ true
 slashes_first [] e c = c
 slashes_first (a ∷ []) e c = e
 slashes_first (a ∷ b ∷ s) e c = elim (cases_Bool (is_slash a && is_slash b)) [
@@ -247,12 +247,12 @@ read_in : (current : Bytes) (read : Option Label) → option_map_or (λ (label :
 read_in current (Some label) h = (label, refl, equal_texts label.package current h)
 read_in current None h = absurd (true≢false (sym h))
 
-own_holds : (current text : Bytes) → is_own current text ≡ true → IsShortened current text (codes ":" ++ behind_colon text)
+own_holds : (current text : Bytes) → is_own current text ≡ true → IsShortened current text (codes ":" ++ after_colon text)
 own_holds current text h =
     let front = before_slashes text in
-    let rest = behind_slashes text in
+    let rest = after_slashes text in
     let path = before_colon rest in
-    let name = behind_colon rest in
+    let name = after_colon rest in
     let p = and_parts (is_empty front && has_colon rest) (option_map_or (λ (label : Label). bytes_eq label.package current) (label_in current text) false) h in
     let q = and_parts (is_empty front) (has_colon rest) p.0 in
     let slashes : has_slashes text ≡ true = slashes_first text q.0 q.1 in
@@ -264,12 +264,12 @@ own_holds current text h =
     let e : text ≡ front ++ codes "//" ++ rest = parted text slashes in
     own (label_with front path name)
     (record { written = whole_from text front rest path name e (halves rest (path_present name named)) k.0; repository = none; «package» = ap (λ (l : Label). l.package) k.1 ∙ r.2 })
-    (ap (λ z. codes ":" ++ z) (ap behind_colon (e ∙ ap (λ z. z ++ codes "//" ++ rest) none)))
+    (ap (λ z. codes ":" ++ z) (ap after_colon (e ∙ ap (λ z. z ++ codes "//" ++ rest) none)))
 
 own_found : (current text : Bytes) (label : Label) → IsOwn current text label → is_own current text ≡ true
 own_found current text label o =
     let rest = label.package ++ 58 ∷ label.name in
-    let e : text ≡ 47 ∷ 47 ∷ rest = whole_behind label text o.written ∙ ap (λ z. z ++ codes "//" ++ rest) o.repository in
+    let e : text ≡ 47 ∷ 47 ∷ rest = whole_after label text o.written ∙ ap (λ z. z ++ codes "//" ++ rest) o.repository in
     ap (is_own current) e
     ∙ and_from (has_colon rest) _ (any_at is_colon label.package 58 label.name refl)
     (ap (λ read. option_map_or (λ (l : Label). bytes_eq l.package current) read false) (ap (label_in current) (sym e) ∙ whole_found current text label o.written)

@@ -8,7 +8,7 @@ use Rattle.bz_label.specs.Pieces.{is_empty, is_slash, is_colon, is_at, has_slash
 use Rattle.bz_label.specs.Labels.{is_path, is_repository_name, IsWhole, IsPackageAlone, IsRepositoryAlone, IsColonName, IsBareName, IsLabel, IsSame, whole, package_alone, repository_alone, colon_name, bare_name}
 use Rattle.bz_label.specs.Forms.{is_repository}
 use Rattle.bz_label.specs.declared.label.Label.{Label}
-use Rattle.bz_label.proofs.Shapes.{plain_colonless, path_colonless, package_colonless, or_none, repository_holds, repository_slashless, whole_behind, whole_parts, alone_cut, any_at}
+use Rattle.bz_label.proofs.Shapes.{plain_colonless, path_colonless, package_colonless, or_none, repository_holds, repository_slashless, whole_after, whole_parts, alone_cut, any_at}
 
 -- a text of none of the forms is no label
 pub no_form : (current text : Bytes) → ((label : Label) → IsWhole text label → ⊥) → ((label : Label) → IsPackageAlone text label → ⊥) → ((label : Label) → IsRepositoryAlone text label → ⊥) → ((label : Label) → IsColonName current text label → ⊥) → ((label : Label) → IsBareName current text label → ⊥) → (label : Label) → IsLabel current text label → ⊥
@@ -49,7 +49,7 @@ slashes_there front rest = ap has_slash (append_assoc front (codes "//") rest) �
 
 pub whole_form : (text : Bytes) (label : Label) → IsWhole text label → form_of text ≡ 0
 whole_form text label h =
-    let e : text ≡ label.repository ++ codes "//" ++ (label.package ++ 58 ∷ label.name) = whole_behind label text h in
+    let e : text ≡ label.repository ++ codes "//" ++ (label.package ++ 58 ∷ label.name) = whole_after label text h in
     let begins : begins_absolute text ≡ true = ap begins_absolute e ∙ repository_begins label.repository _ (repository_holds _ h.repository) in
     let slash : has_slash text ≡ true = ap has_slash e ∙ slashes_there label.repository _ in
     let colon : has_colon text ≡ true = ap has_colon h.spelled ∙ ap has_colon (append_assoc (label.repository ++ codes "//" ++ label.package) (codes ":") label.name) ∙ any_at is_colon (label.repository ++ codes "//" ++ label.package) 58 label.name refl in
@@ -128,7 +128,7 @@ same_label one other r p n = ap (λ x. label_with x one.package one.name) r ∙ 
 pub whole_once : (text : Bytes) (one other : Label) → IsWhole text one → IsWhole text other → one ≡ other
 whole_once text one other h k =
     let parts : (one.repository ≡ other.repository) × (one.package ≡ other.package) × (one.name ≡ other.name) =
-    whole_parts text one.repository (one.package ++ 58 ∷ one.name) one.package one.name other (repository_slashless _ h.repository) (whole_behind one text h) (package_colonless one.package h.package) refl k in
+    whole_parts text one.repository (one.package ++ 58 ∷ one.name) one.package one.name other (repository_slashless _ h.repository) (whole_after one text h) (package_colonless one.package h.package) refl k in
     same_label one other parts.0 parts.1 parts.2
 
 alone_once : (text : Bytes) (one other : Label) → IsPackageAlone text one → IsPackageAlone text other → one ≡ other

@@ -10,7 +10,7 @@ use Rattle.bz_items.specs.Characters.{Bytes}
 use Rattle.bz_label.specs.Pieces.{is_empty, last_piece, has_colon, has_slash, is_colon, is_slash, is_at}
 use Rattle.bz_label.specs.Labels.{is_path, is_repository_name, IsRepeat, IsUnrepeated, repeat, stays}
 use Rattle.bz_label.specs.Forms.{is_repository, are_whole}
-use Rattle.bz_label.specs.Shorter.{before_colon, behind_colon, before_slashes, behind_slashes, is_repeated, unrepeated}
+use Rattle.bz_label.specs.Shorter.{before_colon, after_colon, before_slashes, after_slashes, is_repeated, unrepeated}
 use Rattle.bz_label.specs.declared.label.Label.{Label}
 use Rattle.bz_label.proofs.Equal.{equal_texts}
 use Rattle.bz_label.proofs.Shapes.{plain_colonless, package_colonless, repository_slashless, repository_holds, whole_from, or_none}
@@ -21,11 +21,11 @@ both_same f {h} {h'} {i} {i'} d e = ap (λ z. f z i) d ∙ ap (λ z. f h' z) e
 
 -- ---- what is around the first colon
 
-pub halves : (s : Bytes) → is_empty (behind_colon s) ≡ false → s ≡ before_colon s ++ 58 ∷ behind_colon s
+pub halves : (s : Bytes) → is_empty (after_colon s) ≡ false → s ≡ before_colon s ++ 58 ∷ after_colon s
 halves [] h = cc
 halves (c ∷ s) h = elim (cases_Bool (is_colon c)) [
   | inl w ↦ rw w (ap (λ z. z ∷ s) (eqb-true c 58 w))
-  | inr w ↦ let h' : is_empty (behind_colon s) ≡ false = rw w at h in rw w (ap (λ z. c ∷ z) (halves s h'))
+  | inr w ↦ let h' : is_empty (after_colon s) ≡ false = rw w at h in rw w (ap (λ z. c ∷ z) (halves s h'))
 ]
 
 pub path_present : (s : Bytes) → is_path s ≡ true → is_empty s ≡ false
@@ -36,7 +36,7 @@ pub front_colon : (a b : Bytes) → has_colon a ≡ false → before_colon (a ++
 front_colon [] b h = refl
 front_colon (c ∷ a) b h = let p : (is_colon c ≡ false) × (has_colon a ≡ false) = or_parts (is_colon c) (has_colon a) h in rw p.0 (ap (λ z. c ∷ z) (front_colon a b p.1))
 
-pub rest_colon : (a b : Bytes) → has_colon a ≡ false → behind_colon (a ++ 58 ∷ b) ≡ b
+pub rest_colon : (a b : Bytes) → has_colon a ≡ false → after_colon (a ++ 58 ∷ b) ≡ b
 rest_colon [] b h = refl
 rest_colon (c ∷ a) b h = let p : (is_colon c ≡ false) × (has_colon a ≡ false) = or_parts (is_colon c) (has_colon a) h in rw p.0 (rest_colon a b p.1)
 
@@ -66,12 +66,12 @@ repository_colonless (c ∷ s) h =
     let p = and_parts (is_at c) (is_empty s || is_repository_name s) h in
     or_none (is_colon c) (has_colon s) (ap is_colon (eqb-true c 64 p.0)) (name_colonless s p.1)
 
-found : (s : Bytes) → is_repeated (before_colon s) (behind_colon s) ≡ true → IsUnrepeated s (before_colon s)
+found : (s : Bytes) → is_repeated (before_colon s) (after_colon s) ≡ true → IsUnrepeated s (before_colon s)
 found s h =
     let front = before_colon s in
-    let name = behind_colon s in
+    let name = after_colon s in
     let repository = before_slashes front in
-    let path = behind_slashes front in
+    let path = after_slashes front in
     let whole = are_whole repository path name in
     let last = bytes_eq (last_piece path) name in
     let all = and_parts (whole && last) (bytes_eq front (repository ++ (codes "//" ++ path))) h in
@@ -83,7 +83,7 @@ found s h =
     (record { written = whole_from s repository (path ++ 58 ∷ name) path name text refl fits.0; name = equal_texts (last_piece path) name fits.1 })
     (spelled ∙ sym (append_assoc repository (codes "//") path))
 
-is_found : (s : Bytes) (label : Label) → IsRepeat s label → is_repeated (before_colon s) (behind_colon s) ≡ true
+is_found : (s : Bytes) (label : Label) → IsRepeat s label → is_repeated (before_colon s) (after_colon s) ≡ true
 is_found s label r =
     let repository = label.repository in
     let path = label.package in
@@ -93,17 +93,17 @@ is_found s label r =
     list_any-append is_colon (repository ++ codes "//") path ∙ or_none _ _ (list_any-append is_colon repository (codes "//") ∙ or_none _ _ (repository_colonless repository holds) refl) (package_colonless path r.written.package) in
     let e : s ≡ front ++ 58 ∷ label.name = whole_kept s label r.written in
     let f : before_colon s ≡ front = ap before_colon e ∙ front_colon front label.name colonless in
-    let n : behind_colon s ≡ label.name = ap behind_colon e ∙ rest_colon front label.name colonless in
+    let n : after_colon s ≡ label.name = ap after_colon e ∙ rest_colon front label.name colonless in
     let a : before_slashes front ≡ repository = front_slashes repository path (repository_slashless repository r.written.repository) in
-    let b : behind_slashes front ≡ path = ap (λ z. drop (length z + 2) front) a ∙ dropped repository path in
-    both_same is_repeated f n ∙ and_from (are_whole (before_slashes front) (behind_slashes front) label.name && bytes_eq (last_piece (behind_slashes front)) label.name) (bytes_eq front (before_slashes front ++ (codes "//" ++ behind_slashes front)))
+    let b : after_slashes front ≡ path = ap (λ z. drop (length z + 2) front) a ∙ dropped repository path in
+    both_same is_repeated f n ∙ and_from (are_whole (before_slashes front) (after_slashes front) label.name && bytes_eq (last_piece (after_slashes front)) label.name) (bytes_eq front (before_slashes front ++ (codes "//" ++ after_slashes front)))
     (and_from _ _
     (both_same (λ x y. are_whole x y label.name) a b ∙ and_from (is_repository repository && (is_empty path || is_path path)) (is_path label.name) (and_from _ _ holds r.written.package) r.written.name)
     ((bytes_eq-Decides _ _).1 (ap last_piece b ∙ r.name)))
     ((bytes_eq-Decides _ _).1 (append_assoc repository (codes "//") path ∙ sym (both_same (λ x y. x ++ (codes "//" ++ y)) a b)))
 
 pub is_unrepeated : (s : Bytes) → IsUnrepeated s (unrepeated s)
-is_unrepeated s = elim (cases_Bool (is_repeated (before_colon s) (behind_colon s))) [
+is_unrepeated s = elim (cases_Bool (is_repeated (before_colon s) (after_colon s))) [
   | inl w ↦ rw w (found s w)
   | inr w ↦ rw w (stays (λ label r. true≢false (sym (is_found s label r) ∙ w)) refl)
 ]
@@ -114,17 +114,17 @@ the_unrepeated s short h = unrepeated_once s short (unrepeated s) h (is_unrepeat
 
 -- ---- at a glance: a repeated name is at the end of what is before the first colon
 
-no_colon : (s : Bytes) → has_colon s ≡ false → behind_colon s ≡ []
+no_colon : (s : Bytes) → has_colon s ≡ false → after_colon s ≡ []
 no_colon [] h = refl
 no_colon (c ∷ s) h = let p : (is_colon c ≡ false) × (has_colon s ≡ false) = or_parts (is_colon c) (has_colon s) h in rw p.0 (no_colon s p.1)
 
-stays_by : (s : Bytes) → is_repeated (before_colon s) (behind_colon s) ≡ false → unrepeated s ≡ s
+stays_by : (s : Bytes) → is_repeated (before_colon s) (after_colon s) ≡ false → unrepeated s ≡ s
 stays_by s f = rw f refl
 
 nothing_repeated : (front : Bytes) → is_repeated front [] ≡ true → ⊥
 nothing_repeated front h =
     let repository = before_slashes front in
-    let path = behind_slashes front in
+    let path = after_slashes front in
     let whole = are_whole repository path [] in
     let last = bytes_eq (last_piece path) [] in
     let all = and_parts (whole && last) (bytes_eq front (repository ++ (codes "//" ++ path))) h in
@@ -137,7 +137,7 @@ last_cut path = (take (length path - suffix_len (λ x. not (is_slash x)) path) p
 at_end : (front name : Bytes) → is_repeated front name ≡ true → (before : Bytes) × (front ≡ before ++ name)
 at_end front name h =
     let repository = before_slashes front in
-    let path = behind_slashes front in
+    let path = after_slashes front in
     let whole = are_whole repository path name in
     let last = bytes_eq (last_piece path) name in
     let all = and_parts (whole && last) (bytes_eq front (repository ++ (codes "//" ++ path))) h in
@@ -148,15 +148,15 @@ at_end front name h =
     ((repository ++ codes "//") ++ cut.0, spelled ∙ (sym (append_assoc repository (codes "//") path) ∙ (ap (λ z. (repository ++ codes "//") ++ z) named ∙ sym (append_assoc (repository ++ codes "//") cut.0 name))))
 
 pub colonless_stays : (s : Bytes) → has_colon s ≡ false → unrepeated s ≡ s
-colonless_stays s h = stays_by s (elim (cases_Bool (is_repeated (before_colon s) (behind_colon s))) [
+colonless_stays s h = stays_by s (elim (cases_Bool (is_repeated (before_colon s) (after_colon s))) [
   | inl t ↦ absurd (nothing_repeated (before_colon s) (sym (ap (is_repeated (before_colon s)) (no_colon s h)) ∙ t))
   | inr f ↦ f
 ])
 
 pub other_end_stays : (s front name : Bytes) → s ≡ front ++ 58 ∷ name → has_colon front ≡ false → (r : Bool) → r ≡ ends_with nat_eq front name → r ≡ false → unrepeated s ≡ s
-other_end_stays s front name e c r w n = stays_by s (elim (cases_Bool (is_repeated (before_colon s) (behind_colon s))) [
+other_end_stays s front name e c r w n = stays_by s (elim (cases_Bool (is_repeated (before_colon s) (after_colon s))) [
   | inl t ↦
-      let same : is_repeated (before_colon s) (behind_colon s) ≡ is_repeated front name = both_same is_repeated (ap before_colon e ∙ front_colon front name c) (ap behind_colon e ∙ rest_colon front name c) in
+      let same : is_repeated (before_colon s) (after_colon s) ≡ is_repeated front name = both_same is_repeated (ap before_colon e ∙ front_colon front name c) (ap after_colon e ∙ rest_colon front name c) in
       let cut = at_end front name (sym same ∙ t) in
       absurd (true≢false (sym ((ends_is unsigned_Decides front name r w).1 cut.0 cut.1) ∙ n))
   | inr f ↦ f

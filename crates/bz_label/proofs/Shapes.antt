@@ -67,21 +67,21 @@ repository_from (first ∷ name) good =
     rw begins (named_from name (and_parts _ _ good).1)
 
 -- two slashes are cut out in one way
-pub slashes_once : (front rest before behind : Bytes) → has_slash front ≡ false → has_slash before ≡ false → front ++ 47 ∷ rest ≡ before ++ codes "//" ++ behind → (front ≡ before) × (rest ≡ 47 ∷ behind)
-slashes_once front rest before behind hf hb e = cut_once is_slash 47 47 front rest before (47 ∷ behind) refl refl hf hb (e ∙ append_assoc before (codes "//") behind)
+pub slashes_once : (front rest before following : Bytes) → has_slash front ≡ false → has_slash before ≡ false → front ++ 47 ∷ rest ≡ before ++ codes "//" ++ following → (front ≡ before) × (rest ≡ 47 ∷ following)
+slashes_once front rest before following hf hb e = cut_once is_slash 47 47 front rest before (47 ∷ following) refl refl hf hb (e ∙ append_assoc before (codes "//") following)
 
 -- what is before and after two slashes, read off the text in two ways
-both_slashes : (front rest before behind : Bytes) → has_slash front ≡ false → has_slash before ≡ false → front ++ codes "//" ++ rest ≡ before ++ codes "//" ++ behind → (front ≡ before) × (rest ≡ behind)
-both_slashes front rest before behind hf hb e =
-    let cut : (front ≡ before) × (47 ∷ rest ≡ 47 ∷ behind) = slashes_once front (47 ∷ rest) before behind hf hb (sym (append_assoc front (codes "//") rest) ∙ e) in
+both_slashes : (front rest before following : Bytes) → has_slash front ≡ false → has_slash before ≡ false → front ++ codes "//" ++ rest ≡ before ++ codes "//" ++ following → (front ≡ before) × (rest ≡ following)
+both_slashes front rest before following hf hb e =
+    let cut : (front ≡ before) × (47 ∷ rest ≡ 47 ∷ following) = slashes_once front (47 ∷ rest) before following hf hb (sym (append_assoc front (codes "//") rest) ∙ e) in
     (cut.0, cc)
 
 -- the text of a whole label, cut at its two slashes
-pub whole_behind : (label : Label) (text : Bytes) → IsWhole text label → text ≡ label.repository ++ codes "//" ++ (label.package ++ 58 ∷ label.name)
-whole_behind label text whole = whole.spelled ∙ append_assoc (label.repository ++ codes "//" ++ label.package) (codes ":") label.name ∙ append_assoc (label.repository ++ codes "//") label.package (codes ":" ++ label.name)
+pub whole_after : (label : Label) (text : Bytes) → IsWhole text label → text ≡ label.repository ++ codes "//" ++ (label.package ++ 58 ∷ label.name)
+whole_after label text whole = whole.spelled ∙ append_assoc (label.repository ++ codes "//" ++ label.package) (codes ":") label.name ∙ append_assoc (label.repository ++ codes "//") label.package (codes ":" ++ label.name)
 
 whole_cut : (text front rest : Bytes) (label : Label) → has_slash front ≡ false → text ≡ front ++ codes "//" ++ rest → IsWhole text label → (front ≡ label.repository) × (rest ≡ label.package ++ 58 ∷ label.name)
-whole_cut text front rest label hf e whole = both_slashes front rest label.repository (label.package ++ 58 ∷ label.name) hf (repository_slashless _ whole.repository) (sym e ∙ whole_behind label text whole)
+whole_cut text front rest label hf e whole = both_slashes front rest label.repository (label.package ++ 58 ∷ label.name) hf (repository_slashless _ whole.repository) (sym e ∙ whole_after label text whole)
 
 pub alone_cut : (text front rest : Bytes) (label : Label) → has_slash front ≡ false → text ≡ front ++ codes "//" ++ rest → IsPackageAlone text label → (front ≡ label.repository) × (rest ≡ label.package)
 alone_cut text front rest label hf e alone = both_slashes front rest label.repository label.package hf (repository_slashless _ alone.repository) (sym e ∙ alone.spelled)
@@ -93,8 +93,8 @@ any_at p (a ∷ xs) x ys h = or_right _ _ (any_at p xs x ys h)
 -- a text with no colon after its slashes is no whole label
 pub whole_colon : (text front rest : Bytes) (label : Label) → has_slash front ≡ false → text ≡ front ++ codes "//" ++ rest → has_colon rest ≡ false → IsWhole text label → ⊥
 whole_colon text front rest label hf e none whole =
-    let behind : rest ≡ label.package ++ 58 ∷ label.name = (whole_cut text front rest label hf e whole).1 in
-    both_ways (has_colon rest) none (ap has_colon behind ∙ any_at is_colon label.package 58 label.name refl)
+    let following : rest ≡ label.package ++ 58 ∷ label.name = (whole_cut text front rest label hf e whole).1 in
+    both_ways (has_colon rest) none (ap has_colon following ∙ any_at is_colon label.package 58 label.name refl)
 
 -- the parts of a whole label
 pub whole_parts : (text front rest path name : Bytes) (label : Label) → has_slash front ≡ false → text ≡ front ++ codes "//" ++ rest → has_colon path ≡ false → rest ≡ path ++ 58 ∷ name → IsWhole text label → (front ≡ label.repository) × (path ≡ label.package) × (name ≡ label.name)

@@ -29,12 +29,12 @@ spelled_plain text path word none (inr (inl e)) = absurd (none (path ++ codes ":
 spelled_plain text path word none (inr (inr e)) = absurd (none path e.0)
 
 -- where slashes begin it, it is the package and the word after them, or the package alone
-pub spelled_behind : (text rest path word : Bytes) → text ≡ codes "//" ++ rest → is_package path ≡ true → IsSpelled text path word → (rest ≡ path ++ codes ":" ++ word) ⊎ ((rest ≡ path) × (word ≡ last_piece path))
-spelled_behind text rest path word s good (inl e) = absurd (package_unslashed path rest word good (sym s ∙ e))
-spelled_behind text rest path word s good (inr (inl e)) =
+pub spelled_after : (text rest path word : Bytes) → text ≡ codes "//" ++ rest → is_package path ≡ true → IsSpelled text path word → (rest ≡ path ++ codes ":" ++ word) ⊎ ((rest ≡ path) × (word ≡ last_piece path))
+spelled_after text rest path word s good (inl e) = absurd (package_unslashed path rest word good (sym s ∙ e))
+spelled_after text rest path word s good (inr (inl e)) =
     let both : 47 ∷ 47 ∷ rest ≡ 47 ∷ 47 ∷ (path ++ codes ":" ++ word) = sym s ∙ e in
     inl cc
-spelled_behind text rest path word s good (inr (inr e)) =
+spelled_after text rest path word s good (inr (inr e)) =
     let both : 47 ∷ 47 ∷ rest ≡ 47 ∷ 47 ∷ path = sym s ∙ e.0 in
     inr (cc, e.1)
 
@@ -79,9 +79,9 @@ spelled_once text one word other rest good fine (inl e) (inl f) = cut_agrees tex
 spelled_once text one word other rest good fine (inl e) (inr (inl f)) = absurd (package_unslashed one (other ++ codes ":" ++ rest) word good (sym f ∙ e))
 spelled_once text one word other rest good fine (inl e) (inr (inr f)) = absurd (package_unslashed one other word good (sym f.0 ∙ e))
 spelled_once text one word other rest good fine (inr (inl e)) s =
-    halves_cut (one ++ codes ":" ++ word) one word other rest (append_assoc one (codes ":") word) (package_colonless one good) fine (spelled_behind text (one ++ codes ":" ++ word) other rest e fine s)
+    halves_cut (one ++ codes ":" ++ word) one word other rest (append_assoc one (codes ":") word) (package_colonless one good) fine (spelled_after text (one ++ codes ":" ++ word) other rest e fine s)
 spelled_once text one word other rest good fine (inr (inr e)) s =
-    let both : (one ≡ other) × (last_piece one ≡ rest) = halves_alone one other rest (package_colonless one good) (spelled_behind text one other rest e.0 fine s) in
+    let both : (one ≡ other) × (last_piece one ≡ rest) = halves_alone one other rest (package_colonless one good) (spelled_after text one other rest e.0 fine s) in
     (both.0, e.1 ∙ both.1)
 
 abbrev target_with : Bytes → Which → Target

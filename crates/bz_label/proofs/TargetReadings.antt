@@ -3,7 +3,7 @@ use Rattle.std.proofs.Common.{ℕ, Bool, true, false, not, ◌&&◌, ◌||◌, [
 use Rattle.std.proofs.lemmas.Bool.{cases_Bool, true≢false, and_parts, and_from, or_parts, eqb-true, le-leb, leb-true}
 use Rattle.bz_items.specs.Characters.{Bytes}
 use Rattle.bz_label.specs.Pieces.{is_slash, is_colon, is_present, is_joined, has_colon, last_piece}
-use Rattle.bz_label.specs.Shorter.{before_colon, behind_colon}
+use Rattle.bz_label.specs.Shorter.{before_colon, after_colon}
 use Rattle.bz_label.specs.Targets.{is_package, target_of, which_of, IsSpelled, IsTarget}
 use Rattle.bz_label.specs.TargetRead.{target_if, relative_target, absolute_target, target_in}
 use Rattle.bz_label.specs.declared.target.Target.{Target}
@@ -11,7 +11,7 @@ use Rattle.bz_label.specs.declared.target.TargetFault.{TargetFault}
 
 -- ---- cut at the first colon
 
-cut_back : (s : Bytes) → has_colon s ≡ true → s ≡ before_colon s ++ 58 ∷ behind_colon s
+cut_back : (s : Bytes) → has_colon s ≡ true → s ≡ before_colon s ++ 58 ∷ after_colon s
 cut_back [] h = absurd (true≢false (sym h))
 cut_back (c ∷ s) h = elim (cases_Bool (is_colon c)) [
   | inl w ↦ rw w (ap (λ z. z ∷ s) (eqb-true c 58 w))
@@ -22,7 +22,7 @@ front_colon : (a b : Bytes) → has_colon a ≡ false → before_colon (a ++ 58 
 front_colon [] b h = refl
 front_colon (c ∷ a) b h = let p : (is_colon c ≡ false) × (has_colon a ≡ false) = or_parts (is_colon c) (has_colon a) h in rw p.0 (ap (λ z. c ∷ z) (front_colon a b p.1))
 
-rest_colon : (a b : Bytes) → has_colon a ≡ false → behind_colon (a ++ 58 ∷ b) ≡ b
+rest_colon : (a b : Bytes) → has_colon a ≡ false → after_colon (a ++ 58 ∷ b) ≡ b
 rest_colon [] b h = refl
 rest_colon (c ∷ a) b h = let p : (is_colon c ≡ false) × (has_colon a ≡ false) = or_parts (is_colon c) (has_colon a) h in rw p.0 (rest_colon a b p.1)
 
@@ -104,33 +104,33 @@ kept path word target h = elim (cases_Bool (is_package path && nat_le (length pa
   | inr w ↦ let h' : ◌≡◌ {A = Option Target} None (Some target) = rw w at h in absurd (cc)
 ]
 
-told : (text path word : Bytes) (target : Target) → Kept path word target → IsSpelled text path word → IsTarget text target
-told text path word target k spelled = subst (IsTarget text) (sym k.is)
+answered : (text path word : Bytes) (target : Target) → Kept path word target → IsSpelled text path word → IsTarget text target
+answered text path word target k spelled = subst (IsTarget text) (sym k.is)
     (record { word = word; spelled = spelled; «package» = k.good; room = k.room; present = k.present; which = refl })
 
-relative_told : (text : Bytes) (target : Target) → relative_target text ≡ Some target → IsTarget text target
-relative_told text target h = elim (cases_Bool (has_colon text)) [
-  | inl w ↦ let h' : target_if (before_colon text) (behind_colon text) ≡ Some target = rw w at h in
-      told text (before_colon text) (behind_colon text) target (kept _ _ target h') (inl (cut_back text w ∙ sym (append_assoc (before_colon text) (codes ":") (behind_colon text))))
+relative_answered : (text : Bytes) (target : Target) → relative_target text ≡ Some target → IsTarget text target
+relative_answered text target h = elim (cases_Bool (has_colon text)) [
+  | inl w ↦ let h' : target_if (before_colon text) (after_colon text) ≡ Some target = rw w at h in
+      answered text (before_colon text) (after_colon text) target (kept _ _ target h') (inl (cut_back text w ∙ sym (append_assoc (before_colon text) (codes ":") (after_colon text))))
   | inr w ↦ let h' : ◌≡◌ {A = Option Target} None (Some target) = rw w at h in absurd (cc)
 ]
 
-absolute_told : (text rest : Bytes) (target : Target) → text ≡ codes "//" ++ rest → absolute_target rest ≡ Some target → IsTarget text target
-absolute_told text rest target is h = elim (cases_Bool (has_colon rest)) [
-  | inl w ↦ let h' : target_if (before_colon rest) (behind_colon rest) ≡ Some target = rw w at h in
-      told text (before_colon rest) (behind_colon rest) target (kept _ _ target h') (inr (inl (is ∙ ap (λ z. codes "//" ++ z) (cut_back rest w)
-      ∙ sym (append_assoc (codes "//" ++ before_colon rest) (codes ":") (behind_colon rest) ∙ append_assoc (codes "//") (before_colon rest) (58 ∷ behind_colon rest)))))
+absolute_answered : (text rest : Bytes) (target : Target) → text ≡ codes "//" ++ rest → absolute_target rest ≡ Some target → IsTarget text target
+absolute_answered text rest target is h = elim (cases_Bool (has_colon rest)) [
+  | inl w ↦ let h' : target_if (before_colon rest) (after_colon rest) ≡ Some target = rw w at h in
+      answered text (before_colon rest) (after_colon rest) target (kept _ _ target h') (inr (inl (is ∙ ap (λ z. codes "//" ++ z) (cut_back rest w)
+      ∙ sym (append_assoc (codes "//" ++ before_colon rest) (codes ":") (after_colon rest) ∙ append_assoc (codes "//") (before_colon rest) (58 ∷ after_colon rest)))))
   | inr w ↦ let h' : target_if rest (last_piece rest) ≡ Some target = sym (other_one (has_colon rest) _ _ w) ∙ h in
-      told text rest (last_piece rest) target (kept _ _ target h') (inr (inr (is, refl)))
+      answered text rest (last_piece rest) target (kept _ _ target h') (inr (inr (is, refl)))
 ]
 
-target_told : (text : Bytes) (target : Target) → target_in text ≡ Some target → IsTarget text target
-target_told [] target h = relative_told [] target h
-target_told (c ∷ []) target h = relative_told (c ∷ []) target h
-target_told (c ∷ d ∷ rest) target h = elim (cases_Bool (is_slash c && is_slash d)) [
+target_answered : (text : Bytes) (target : Target) → target_in text ≡ Some target → IsTarget text target
+target_answered [] target h = relative_answered [] target h
+target_answered (c ∷ []) target h = relative_answered (c ∷ []) target h
+target_answered (c ∷ d ∷ rest) target h = elim (cases_Bool (is_slash c && is_slash d)) [
   | inl w ↦ let h' : absolute_target rest ≡ Some target = rw w at h in
-      absolute_told (c ∷ d ∷ rest) rest target (ap (λ z. z ∷ d ∷ rest) (eqb-true c 47 (and_parts _ _ w).0) ∙ ap (λ z. 47 ∷ z ∷ rest) (eqb-true d 47 (and_parts _ _ w).1)) h'
-  | inr w ↦ let h' : relative_target (c ∷ d ∷ rest) ≡ Some target = rw w at h in relative_told (c ∷ d ∷ rest) target h'
+      absolute_answered (c ∷ d ∷ rest) rest target (ap (λ z. z ∷ d ∷ rest) (eqb-true c 47 (and_parts _ _ w).0) ∙ ap (λ z. 47 ∷ z ∷ rest) (eqb-true d 47 (and_parts _ _ w).1)) h'
+  | inr w ↦ let h' : relative_target (c ∷ d ∷ rest) ≡ Some target = rw w at h in relative_answered (c ∷ d ∷ rest) target h'
 ]
 
 pub target_none : (text : Bytes) → ((target : Target) → IsTarget text target → ⊥) → target_in text ≡ None
@@ -138,4 +138,4 @@ target_none text none = by (target_in text) refl
   where
     by : (found : Option Target) → target_in text ≡ found → target_in text ≡ None
     by None is = is
-    by (Some target) is = absurd (none target (target_told text target is))
+    by (Some target) is = absurd (none target (target_answered text target is))

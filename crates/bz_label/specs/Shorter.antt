@@ -9,9 +9,9 @@ abbrev pub before_colon : Bytes → Bytes
 before_colon [] = []
 before_colon (c ∷ s) = if is_colon c then [] else c ∷ before_colon s
 
-abbrev pub behind_colon : Bytes → Bytes
-behind_colon [] = []
-behind_colon (c ∷ s) = if is_colon c then s else behind_colon s
+abbrev pub after_colon : Bytes → Bytes
+after_colon [] = []
+after_colon (c ∷ s) = if is_colon c then s else after_colon s
 
 -- what is before the first two slashes, and after them
 abbrev mutual
@@ -23,16 +23,16 @@ abbrev mutual
   before_slashes_from c [] = c ∷ []
   before_slashes_from c (d ∷ s) = if is_slash c && is_slash d then [] else c ∷ before_slashes_from d s
 
-abbrev pub behind_slashes : Bytes → Bytes
-behind_slashes s = drop (length (before_slashes s) + 2) s
+abbrev pub after_slashes : Bytes → Bytes
+after_slashes s = drop (length (before_slashes s) + 2) s
 
 -- ..//p/x and x
 abbrev pub is_repeated : Bytes → Bytes → Bool
 is_repeated front name =
-    are_whole (before_slashes front) (behind_slashes front) name
-    && bytes_eq (last_piece (behind_slashes front)) name
-    && bytes_eq front (before_slashes front ++ (codes "//" ++ behind_slashes front))
+    are_whole (before_slashes front) (after_slashes front) name
+    && bytes_eq (last_piece (after_slashes front)) name
+    && bytes_eq front (before_slashes front ++ (codes "//" ++ after_slashes front))
 
 -- ..//p/x:x becomes ..//p/x, and ..//x:x becomes ..//x; any other text stays.
 abbrev pub unrepeated : Bytes → Bytes
-unrepeated s = if is_repeated (before_colon s) (behind_colon s) then before_colon s else s
+unrepeated s = if is_repeated (before_colon s) (after_colon s) then before_colon s else s

@@ -135,7 +135,7 @@ fn walk_cmp(first: &[u8], second: &[u8]) -> Ordering
     let mut marks = Ordering::Equal;
     let mut one = first;
     let mut other = second;
-    while let [x, behind @ ..] = one {
+    while let [x, following @ ..] = one {
         let [y, others @ ..] = other else {
             return Ordering::Greater;
         };
@@ -146,7 +146,7 @@ fn walk_cmp(first: &[u8], second: &[u8]) -> Ordering
             }
             marks = marks.then(x.cmp(y));
         }
-        one = behind;
+        one = following;
         other = others;
     }
     if other.is_empty() {

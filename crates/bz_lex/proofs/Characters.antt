@@ -19,12 +19,12 @@ EndsInAscii s = (f : List ℕ) × (b : ℕ) × (s ≡ f ++ (b ∷ [])) × (b < 1
 abbrev pub IsSealed : List ℕ → Type 0
 IsSealed s = (s ≡ []) ⊎ EndsInAscii s
 
-behind_text : (w r : List ℕ) → EndsInAscii r → EndsInAscii (w ++ r)
-behind_text w r (f, b, e, h) = (w ++ f, b, ap (λ (t : List ℕ). w ++ t) e ∙ sym (append_assoc w f (b ∷ [])), h)
+after_text : (w r : List ℕ) → EndsInAscii r → EndsInAscii (w ++ r)
+after_text w r (f, b, e, h) = (w ++ f, b, ap (λ (t : List ℕ). w ++ t) e ∙ sym (append_assoc w f (b ∷ [])), h)
 
-behind_byte : (b : ℕ) (r : List ℕ) → b < 128 → IsSealed r → EndsInAscii (b ∷ r)
-behind_byte b r h (inl e) = ([], b, ap (λ (t : List ℕ). b ∷ t) e, h)
-behind_byte b r h (inr k) = behind_text (b ∷ []) r k
+after_byte : (b : ℕ) (r : List ℕ) → b < 128 → IsSealed r → EndsInAscii (b ∷ r)
+after_byte b r h (inl e) = ([], b, ap (λ (t : List ℕ). b ∷ t) e, h)
+after_byte b r h (inr k) = after_text (b ∷ []) r k
 
 blank_ascii : (b : ℕ) → is_blank b ≡ true → b < 128
 blank_ascii b h = grind (arith, nat_tests)
@@ -32,11 +32,11 @@ blank_ascii b h = grind (arith, nat_tests)
 -- a gap that ends between two pieces is sealed
 pub gap_sealed : (n : Bool) (s : List ℕ) → IsGap n false s → IsSealed s
 gap_sealed n s (nothing e) = inl e
-gap_sealed n s (blank b r e i g) = inr (rw e (behind_byte b r (blank_ascii b i) (gap_sealed n r g)))
-gap_sealed n s (escaped r e g) = inr (rw e (behind_text (92 ∷ []) (10 ∷ r) (behind_byte 10 r (omega arith) (gap_sealed n r g))))
-gap_sealed n s (escaped_return r e g) = inr (rw e (behind_text (92 ∷ 13 ∷ []) (10 ∷ r) (behind_byte 10 r (omega arith) (gap_sealed n r g))))
-gap_sealed n s (unescaped r e i g) = inr (rw e (behind_byte 10 r (omega arith) (gap_sealed n r g)))
-gap_sealed n s (comment w r e o i g) = inr (rw e (behind_text (35 ∷ w) (10 ∷ r) (behind_byte 10 r (omega arith) (gap_sealed n r g))))
+gap_sealed n s (blank b r e i g) = inr (rw e (after_byte b r (blank_ascii b i) (gap_sealed n r g)))
+gap_sealed n s (escaped r e g) = inr (rw e (after_text (92 ∷ []) (10 ∷ r) (after_byte 10 r (omega arith) (gap_sealed n r g))))
+gap_sealed n s (escaped_return r e g) = inr (rw e (after_text (92 ∷ 13 ∷ []) (10 ∷ r) (after_byte 10 r (omega arith) (gap_sealed n r g))))
+gap_sealed n s (unescaped r e i g) = inr (rw e (after_byte 10 r (omega arith) (gap_sealed n r g)))
+gap_sealed n s (comment w r e o i g) = inr (rw e (after_text (35 ∷ w) (10 ∷ r) (after_byte 10 r (omega arith) (gap_sealed n r g))))
 gap_sealed n s (last_comment w e o i) = absurd (both_ways false refl i)
 
 -- a text whose front is sealed may be cut after that front

@@ -6,15 +6,15 @@ use Rattle.bz_token.specs.declared.class.Class.TheVariants as c
 use Rattle.bz_token.specs.Tokens.{IsToken}
 use Rattle.bz_lex.specs.declared.leaf.Leaf.{Leaf}
 use Rattle.bz_lex.specs.declared.front.Front.{Front}
-use Rattle.bz_lex.specs.Places.{Place, Fresh, Behind, Inside, Last, Over, next, May}
+use Rattle.bz_lex.specs.Places.{Place, Fresh, After, Inside, Last, Over, next, May}
 use Rattle.bz_lex.specs.Leaves.{spell_leaves, Stand, AreLeaves, NoLeaves}
-use Rattle.bz_lex.specs.Fronts.{IsFront, NoLeaf, front_leaf, behind_front}
+use Rattle.bz_lex.specs.Fronts.{IsFront, NoLeaf, front_leaf, after_front}
 use Rattle.bz_lex.proofs.Deciding.{Decided, leaf_found}
 use Rattle.bz_lex.proofs.Lists.{left, smaller, front_text, over_rest}
 use Rattle.bz_lex.proofs.Unique.{one_leaf, not_over}
 
 abbrev coming_by : (p : Place) (s : List ℕ) → Decided p s → (Place → List ℕ → List Leaf) → List Leaf
-coming_by p s (inl w) more = front_leaf w.0 s ∷ more (next p (front_leaf w.0 s)) (behind_front w.0 s)
+coming_by p s (inl w) more = front_leaf w.0 s ∷ more (next p (front_leaf w.0 s)) (after_front w.0 s)
 coming_by p s (inr none) more = []
 
 abbrev coming : ℕ → Place → List ℕ → List Leaf
@@ -25,11 +25,11 @@ coming (suc n) p s = coming_by p s (leaf_found p s) (λ q t. coming n q t)
 unfoldable pub to_come : Place → List ℕ → List Leaf
 to_come p s = coming (left p s) p s
 
-pub less : (p : Place) (s : List ℕ) (f : Front) → IsFront p f s → left (next p (front_leaf f s)) (behind_front f s) < left p s
-less p s f w = subst (λ (t : List ℕ). left (next p (front_leaf f s)) (behind_front f s) < left p t) (front_text f s w.within) (smaller p (front_leaf f s) (behind_front f s) w.may)
+pub less : (p : Place) (s : List ℕ) (f : Front) → IsFront p f s → left (next p (front_leaf f s)) (after_front f s) < left p s
+less p s f w = subst (λ (t : List ℕ). left (next p (front_leaf f s)) (after_front f s) < left p t) (front_text f s w.within) (smaller p (front_leaf f s) (after_front f s) w.may)
 
 by_same : (p : Place) (s : List ℕ) (d : Decided p s) (f g : Place → List ℕ → List Leaf) → ((q : Place) (t : List ℕ) → left q t < left p s → f q t ≡ g q t) → coming_by p s d f ≡ coming_by p s d g
-by_same p s (inl w) f g h = ap (λ (ls : List Leaf). front_leaf w.0 s ∷ ls) (h (next p (front_leaf w.0 s)) (behind_front w.0 s) (less p s w.0 w.1))
+by_same p s (inl w) f g h = ap (λ (ls : List Leaf). front_leaf w.0 s ∷ ls) (h (next p (front_leaf w.0 s)) (after_front w.0 s) (less p s w.0 w.1))
 by_same p s (inr none) f g h = refl
 
 none_left : (p : Place) (s : List ℕ) (d : Decided p s) (f : Place → List ℕ → List Leaf) → left p s ≤ 0 → coming_by p s d f ≡ []
@@ -50,20 +50,20 @@ by_left p s d e =
 
 module _ (p : Place) (s : List ℕ) where
   -- the leaf at hand, and those after it
-  pub come_first : (f : Front) → IsFront p f s → to_come p s ≡ front_leaf f s ∷ to_come (next p (front_leaf f s)) (behind_front f s)
+  pub come_first : (f : Front) → IsFront p f s → to_come p s ≡ front_leaf f s ∷ to_come (next p (front_leaf f s)) (after_front f s)
   come_first f w = by_found (leaf_found p s) refl
     where
-      by_found : (d : Decided p s) → leaf_found p s ≡ d → to_come p s ≡ front_leaf f s ∷ to_come (next p (front_leaf f s)) (behind_front f s)
+      by_found : (d : Decided p s) → leaf_found p s ≡ d → to_come p s ≡ front_leaf f s ∷ to_come (next p (front_leaf f s)) (after_front f s)
       by_found (inl x) e =
-          let o = one_leaf p (front_leaf x.0 s) (front_leaf f s) (behind_front x.0 s) (behind_front f s) x.1.may w.may (front_text x.0 s x.1.within ∙ sym (front_text f s w.within)) in
-          by_left p s (inl x) e ∙ ap (λ (l : Leaf). l ∷ to_come (next p l) (behind_front x.0 s)) o.0 ∙ ap (λ (t : List ℕ). front_leaf f s ∷ to_come (next p (front_leaf f s)) t) o.1
-      by_found (inr none) e = absurd (none (front_leaf f s) (behind_front f s) w.may (front_text f s w.within))
+          let o = one_leaf p (front_leaf x.0 s) (front_leaf f s) (after_front x.0 s) (after_front f s) x.1.may w.may (front_text x.0 s x.1.within ∙ sym (front_text f s w.within)) in
+          by_left p s (inl x) e ∙ ap (λ (l : Leaf). l ∷ to_come (next p l) (after_front x.0 s)) o.0 ∙ ap (λ (t : List ℕ). front_leaf f s ∷ to_come (next p (front_leaf f s)) t) o.1
+      by_found (inr none) e = absurd (none (front_leaf f s) (after_front f s) w.may (front_text f s w.within))
 
   pub come_none : NoLeaf p s → to_come p s ≡ []
   come_none none = by_found (leaf_found p s) refl
     where
       by_found : (d : Decided p s) → leaf_found p s ≡ d → to_come p s ≡ []
-      by_found (inl x) e = absurd (none (front_leaf x.0 s) (behind_front x.0 s) x.1.may (front_text x.0 s x.1.within))
+      by_found (inl x) e = absurd (none (front_leaf x.0 s) (after_front x.0 s) x.1.may (front_text x.0 s x.1.within))
       by_found (inr n) e = by_left p s (inr n) e
 
 -- ---- all leaves, or none
@@ -102,7 +102,7 @@ module _ (p : Place) (s : List ℕ) (f : Front) (w : IsFront p f s) where
   l = front_leaf f s
 
   abbrev t : List ℕ
-  t = behind_front f s
+  t = after_front f s
 
   tail_of : (ms : List Leaf) → All p s ms → (ns : List Leaf) × All (next p l) t ns
   tail_of [] a = absurd (not_over l t (subst (λ (q : Place). May IsToken q l t) a.0 w.may))
@@ -132,14 +132,14 @@ no_more p s h none (m ∷ ms) a = none m (spell_leaves ms) a.0.0 a.1
 
 by_place : (p : Place) (s : List ℕ) → NoLeaf p s → Comes p s []
 by_place Fresh s none = inr (no_more Fresh s (λ e. cc) none, refl)
-by_place Behind s none = inr (no_more Behind s (λ e. cc) none, refl)
+by_place After s none = inr (no_more After s (λ e. cc) none, refl)
 by_place (Inside d) s none = inr (no_more (Inside d) s (λ e. cc) none, refl)
 by_place Last s none = inr (no_more Last s (λ e. cc) none, refl)
 by_place Over s none = all_over s
 
 comes_by : (p : Place) (s : List ℕ) → Decided p s → ((q : Place) (t : List ℕ) → left q t < left p s → Comes q t (to_come q t)) → Comes p s (to_come p s)
 comes_by p s (inl x) f =
-    subst (λ (ls : List Leaf). Comes p s ls) (sym (come_first p s x.0 x.1)) (comes_more p s x.0 x.1 _ (f (next p (front_leaf x.0 s)) (behind_front x.0 s) (less p s x.0 x.1)))
+    subst (λ (ls : List Leaf). Comes p s ls) (sym (come_first p s x.0 x.1)) (comes_more p s x.0 x.1 _ (f (next p (front_leaf x.0 s)) (after_front x.0 s) (less p s x.0 x.1)))
 comes_by p s (inr none) f = subst (λ (ls : List Leaf). Comes p s ls) (sym (come_none p s none)) (by_place p s none)
 
 comes : (n : ℕ) (p : Place) (s : List ℕ) → left p s < n → Comes p s (to_come p s)

@@ -12,10 +12,10 @@ use Rattle.bz_lex.specs.declared.gap.GapState.{GapState}
 use Rattle.bz_lex.specs.declared.gap.GapState.TheVariants.{Open}
 use Rattle.bz_lex.specs.declared.front.Front.{Front}
 use Rattle.bz_lex.specs.GapStates.{gap_move, gap_state_after, Stops, is_end}
-use Rattle.bz_lex.specs.Places.{Place, Fresh, Behind, Inside, Last, Over, newlines_at}
+use Rattle.bz_lex.specs.Places.{Place, Fresh, After, Inside, Last, Over, newlines_at}
 use Rattle.bz_lex.specs.Fronts.{IsGapFront, IsFront, NoLeaf}
 use Rattle.bz_lex.proofs.Forms.{form}
-use Rattle.bz_lex.proofs.Fronts.{fresh_token, fresh_no_token, fresh_end, behind_token, behind_end, behind_line, inside_token, inside_end, last_end, last_more, broken_front}
+use Rattle.bz_lex.proofs.Fronts.{fresh_token, fresh_no_token, fresh_end, following_token, after_end, after_line, inside_token, inside_end, last_end, last_more, broken_front}
 
 -- as much of a text as a gap goes on with
 record GapAt (n : Bool) (q : GapState) (s : List ℕ) : Type 0 where
@@ -73,13 +73,13 @@ fresh_found s gap g (Some c) e = elim (token_found (drop gap.length s)) [
   | inl w ↦ inl (front w.0 gap.length w.1, fresh_token gap s c (front w.0 gap.length w.1) g e (refl, w.2))
 ]
 
-behind_found : (s : List ℕ) (gap : GapFront) → IsGapFront false gap s → (o : Option ℕ) → slice_get s gap.length ≡ o → Decided Behind s
-behind_found s gap g None e = inl (front Newline gap.length 0, behind_end gap s (front Newline gap.length 0) g e refl)
-behind_found s gap g (Some c) e = elim (cases_Bool (eqb c 10)) [
-  | inl b ↦ inl (front Newline gap.length 1, behind_line gap s (front Newline gap.length 1) g (rw (eqb-true c 10 b) at e) refl)
+after_found : (s : List ℕ) (gap : GapFront) → IsGapFront false gap s → (o : Option ℕ) → slice_get s gap.length ≡ o → Decided After s
+after_found s gap g None e = inl (front Newline gap.length 0, after_end gap s (front Newline gap.length 0) g e refl)
+after_found s gap g (Some c) e = elim (cases_Bool (eqb c 10)) [
+  | inl b ↦ inl (front Newline gap.length 1, after_line gap s (front Newline gap.length 1) g (rw (eqb-true c 10 b) at e) refl)
   | inr b ↦ elim (token_found (drop gap.length s)) [
-    | inr none ↦ inr (behind_token gap s c None g e (eqb-false c 10 b) none)
-    | inl w ↦ inl (front w.0 gap.length w.1, behind_token gap s c (Some (front w.0 gap.length w.1)) g e (eqb-false c 10 b) (refl, w.2))
+    | inr none ↦ inr (following_token gap s c None g e (eqb-false c 10 b) none)
+    | inl w ↦ inl (front w.0 gap.length w.1, following_token gap s c (Some (front w.0 gap.length w.1)) g e (eqb-false c 10 b) (refl, w.2))
   ]
 ]
 
@@ -92,7 +92,7 @@ inside_found d s gap g (Some c) e = elim (token_found (drop gap.length s)) [
 
 pub leaf_found : (p : Place) (s : List ℕ) → Decided p s
 leaf_found Fresh s = by_gap Fresh s (λ gap g. fresh_found s gap g (slice_get s gap.length) refl)
-leaf_found Behind s = by_gap Behind s (λ gap g. behind_found s gap g (slice_get s gap.length) refl)
+leaf_found After s = by_gap After s (λ gap g. after_found s gap g (slice_get s gap.length) refl)
 leaf_found (Inside d) s = by_gap (Inside d) s (λ gap g. inside_found d s gap g (slice_get s gap.length) refl)
 leaf_found Last [] = inl (front End 0 0, last_end [] (front End 0 0) refl refl)
 leaf_found Last (c ∷ s) = inr (last_more (c ∷ s) (λ e. cc))

@@ -8,7 +8,7 @@ use Rattle.bz_lex.specs.declared.leaf.Leaf.{Leaf}
 use Rattle.bz_lex.specs.declared.gap.GapState.{GapState}
 use Rattle.bz_lex.specs.declared.gap.GapState.TheVariants.{Open, Escape, EscapeReturn, Comment}
 use Rattle.bz_lex.specs.GapStates.{gap_move, gap_state_after, Stops, is_end}
-use Rattle.bz_lex.specs.Places.{Place, Fresh, Behind, Inside, Last, Over, newlines_at, May, first, later, inner, newline, no_newline, end, end_at_once}
+use Rattle.bz_lex.specs.Places.{Place, Fresh, After, Inside, Last, Over, newlines_at, May, first, later, inner, newline, no_newline, end, end_at_once}
 use Rattle.bz_lex.proofs.Gaps.{gap_after, gap_from}
 use Rattle.bz_lex.proofs.Tokens.{token_stops}
 
@@ -31,7 +31,7 @@ pub record ByNewline (q : GapState) (l : Leaf) : Type 0 where
 
 abbrev pub Form : Place → GapState → Leaf → List ℕ → Type 0
 Form Fresh q l s = ByToken q l s ⊎ Empty End q l s
-Form Behind q l s = ByToken q l s ⊎ (ByNewline q l ⊎ Empty Newline q l s)
+Form After q l s = ByToken q l s ⊎ (ByNewline q l ⊎ Empty Newline q l s)
 Form (Inside n) q l s = ByToken q l s
 Form Last q l s = (l.gap ≡ []) × Empty End q l s
 Form Over q l s = ⊥
@@ -93,10 +93,10 @@ pub may : (p : Place) (q : GapState) (l : Leaf) (s : List ℕ) → gap_state_aft
 may Fresh q l s e (inl h) = first (gap_from true false q l.gap e (rw h.closed refl)) h.token
 may Fresh q l s e (inr h) =
     rw (same_leaf l (record { class = End; gap = l.gap; token = [] }) h.class refl h.token, h.rest) (end true (gap_from true true q l.gap e h.ends))
-may Behind q l s e (inl h) = later (gap_from false false q l.gap e (rw h.closed refl)) h.token
-may Behind q l s e (inr (inl h)) =
+may After q l s e (inl h) = later (gap_from false false q l.gap e (rw h.closed refl)) h.token
+may After q l s e (inr (inl h)) =
     rw (same_leaf l (record { class = Newline; gap = l.gap; token = 10 ∷ [] }) h.class refl h.token) (newline true (gap_from false true q l.gap e h.ends))
-may Behind q l s e (inr (inr h)) =
+may After q l s e (inr (inr h)) =
     rw (same_leaf l (record { class = Newline; gap = l.gap; token = [] }) h.class refl h.token, h.rest) (no_newline true (gap_from false true q l.gap e h.ends))
 may (Inside n) q l s e h = inner (gap_from true false q l.gap e (rw h.closed refl)) h.token
 may Last q l s e h = rw (same_leaf l (record { class = End; gap = []; token = [] }) h.1.class h.0 h.1.token, h.1.rest) end_at_once

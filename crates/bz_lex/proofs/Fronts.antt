@@ -13,8 +13,8 @@ use Rattle.bz_lex.specs.declared.gap.GapState.{GapState}
 use Rattle.bz_lex.specs.declared.gap.GapState.TheVariants.{Open, Escape, EscapeReturn, Comment}
 use Rattle.bz_lex.specs.declared.front.Front.{Front}
 use Rattle.bz_lex.specs.GapStates.{gap_state_after, Stops, is_end}
-use Rattle.bz_lex.specs.Places.{Place, Fresh, Behind, Inside, Last, Over, newlines_at, end_at_once}
-use Rattle.bz_lex.specs.Fronts.{IsGapFront, front_leaf, behind_front, IsFront, NoLeaf, TellsFront}
+use Rattle.bz_lex.specs.Places.{Place, Fresh, After, Inside, Last, Over, newlines_at, end_at_once}
+use Rattle.bz_lex.specs.Fronts.{IsGapFront, front_leaf, after_front, IsFront, NoLeaf, AnswersFront}
 use Rattle.bz_lex.proofs.Gaps.{one_stop}
 use Rattle.bz_lex.proofs.Tokens.{token_holds}
 use Rattle.bz_lex.proofs.Forms.{Empty, Form, form, may}
@@ -57,9 +57,9 @@ no_leaf p q n s e h f l t m i =
 form_ends : (p : Place) (q : GapState) (l : Leaf) (t : List ℕ) → Form p q l t → is_end true q ≡ true
 form_ends Fresh q l t (inl h) = rw h.closed refl
 form_ends Fresh q l t (inr h) = h.ends
-form_ends Behind q l t (inl h) = rw h.closed refl
-form_ends Behind q l t (inr (inl h)) = h.ends
-form_ends Behind q l t (inr (inr h)) = h.ends
+form_ends After q l t (inl h) = rw h.closed refl
+form_ends After q l t (inr (inl h)) = h.ends
+form_ends After q l t (inr (inr h)) = h.ends
 form_ends (Inside n) q l t h = rw h.closed refl
 form_ends Last q l t h = h.1.ends
 form_ends Over q l t h = absurd h
@@ -69,13 +69,13 @@ broken_gap : (p : Place) (q : GapState) (n : ℕ) (s : List ℕ) → gap_state_a
 broken_gap p q n s e h b = no_leaf p q n s e h (λ l t f g i. both_ways (is_end true q) b (form_ends p q l t f))
 
 -- a leaf of the form at hand
-leaf_of : (p : Place) (gap : GapFront) (front : Front) (s : List ℕ) → IsGapFront (newlines_at p) gap s → front.gap ≡ gap.length → front.gap + front.token ≤ length s → Form p gap.state (front_leaf front s) (behind_front front s) → IsFront p front s
-leaf_of p gap front s g e w f = record { within = w; may = may p gap.state (front_leaf front s) (behind_front front s) (rw e g.taken) f }
+leaf_of : (p : Place) (gap : GapFront) (front : Front) (s : List ℕ) → IsGapFront (newlines_at p) gap s → front.gap ≡ gap.length → front.gap + front.token ≤ length s → Form p gap.state (front_leaf front s) (after_front front s) → IsFront p front s
+leaf_of p gap front s g e w f = record { within = w; may = may p gap.state (front_leaf front s) (after_front front s) (rw e g.taken) f }
 
-abbrev pub TellsToken : ℕ → List ℕ → Option Front → Type 0
-TellsToken n s r = MatchOption r (NoToken (drop n s)) (λ (front : Front). (front.gap ≡ n) × TokenAt front.class front.token (drop n s))
+abbrev pub AnswersToken : ℕ → List ℕ → Option Front → Type 0
+AnswersToken n s r = MatchOption r (NoToken (drop n s)) (λ (front : Front). (front.gap ≡ n) × TokenAt front.class front.token (drop n s))
 
-token_of : (n : ℕ) (front : Front) (s : List ℕ) → front.gap ≡ n → TokenAt front.class front.token (drop n s) → IsToken front.class (front_leaf front s).token (behind_front front s)
+token_of : (n : ℕ) (front : Front) (s : List ℕ) → front.gap ≡ n → TokenAt front.class front.token (drop n s) → IsToken front.class (front_leaf front s).token (after_front front s)
 token_of n front s e t = rw e t.1
 
 pub token_within : (n : ℕ) (front : Front) (s : List ℕ) → n ≤ length s → front.gap ≡ n → TokenAt front.class front.token (drop n s) → front.gap + front.token ≤ length s
@@ -88,7 +88,7 @@ starts : (t : List ℕ) (s : List ℕ) (n c : ℕ) → drop n s ≡ c ∷ drop (
 starts t s n c e f g = let h : c ∷ drop (suc n) s ≡ [] = sym e ∙ sym f ∙ g in cc
 
 -- what the token after the gap says, place by place
-pub inside_token : (d : ℕ) (gap : GapFront) (s : List ℕ) (c : ℕ) (r : Option Front) → IsGapFront true gap s → slice_get s gap.length ≡ Some c → TellsToken gap.length s r → TellsFront (Inside d) s r
+pub inside_token : (d : ℕ) (gap : GapFront) (s : List ℕ) (c : ℕ) (r : Option Front) → IsGapFront true gap s → slice_get s gap.length ≡ Some c → AnswersToken gap.length s r → AnswersFront (Inside d) s r
 inside_token d gap s c (Some front) g b t =
     leaf_of (Inside d) gap front s g t.0 (token_within gap.length front s g.within t.0 t.1)
     (record { closed = open_true gap.state c (drop (suc gap.length) s) (subst (Stops true gap.state) (rest_some s gap.length c b) g.stops) g.ends; token = token_of gap.length front s t.0 t.1 })
@@ -97,18 +97,18 @@ inside_token d gap s c None g b t = no_token (Inside d) gap s g (λ l t f i. f.t
 empty_form : (k : Class) (q : GapState) (l : Leaf) (t : List ℕ) (s : List ℕ) (n c : ℕ) → slice_get s n ≡ Some c → Empty k q l t → l.token ++ t ≡ drop n s → ⊥
 empty_form k q l t s n c b h i = starts (l.token ++ t) s n c (rest_some s n c b) i (rw (h.token, h.rest) refl)
 
-pub behind_token : (gap : GapFront) (s : List ℕ) (c : ℕ) (r : Option Front) → IsGapFront false gap s → slice_get s gap.length ≡ Some c → c ≢ 10 → TellsToken gap.length s r → TellsFront Behind s r
-behind_token gap s c (Some front) g b off t =
-    leaf_of Behind gap front s g t.0 (token_within gap.length front s g.within t.0 t.1)
+pub following_token : (gap : GapFront) (s : List ℕ) (c : ℕ) (r : Option Front) → IsGapFront false gap s → slice_get s gap.length ≡ Some c → c ≢ 10 → AnswersToken gap.length s r → AnswersFront After s r
+following_token gap s c (Some front) g b off t =
+    leaf_of After gap front s g t.0 (token_within gap.length front s g.within t.0 t.1)
     (inl (record { closed = open_false gap.state c (drop (suc gap.length) s) (subst (Stops false gap.state) (rest_some s gap.length c b) g.stops) g.ends off; token = token_of gap.length front s t.0 t.1 }))
-behind_token gap s c None g b off t = no_token Behind gap s g only t
+following_token gap s c None g b off t = no_token After gap s g only t
   where
-    only : (l : Leaf) (t : List ℕ) → Form Behind gap.state l t → l.token ++ t ≡ drop gap.length s → IsToken l.class l.token t
+    only : (l : Leaf) (t : List ℕ) → Form After gap.state l t → l.token ++ t ≡ drop gap.length s → IsToken l.class l.token t
     only l t (inl h) i = h.token
     only l t (inr (inl h)) i = absurd (off (let j : 10 ∷ t ≡ c ∷ drop (suc gap.length) s = sym (ap (λ (x : List ℕ). x ++ t) h.token) ∙ i ∙ rest_some s gap.length c b in cc))
     only l t (inr (inr h)) i = absurd (empty_form Newline gap.state l t s gap.length c b h i)
 
-pub fresh_token : (gap : GapFront) (s : List ℕ) (c : ℕ) (front : Front) → IsGapFront true gap s → slice_get s gap.length ≡ Some c → TellsToken gap.length s (Some front) → IsFront Fresh front s
+pub fresh_token : (gap : GapFront) (s : List ℕ) (c : ℕ) (front : Front) → IsGapFront true gap s → slice_get s gap.length ≡ Some c → AnswersToken gap.length s (Some front) → IsFront Fresh front s
 fresh_token gap s c front g b t =
     leaf_of Fresh gap front s g t.0 (token_within gap.length front s g.within t.0 t.1)
     (inl (record { closed = open_true gap.state c (drop (suc gap.length) s) (subst (Stops true gap.state) (rest_some s gap.length c b) g.stops) g.ends; token = token_of gap.length front s t.0 t.1 }))
@@ -120,9 +120,9 @@ fresh_no_token gap s c g b t = no_token Fresh gap s g only t
     only l t (inl h) i = h.token
     only l t (inr h) i = absurd (empty_form End gap.state l t s gap.length c b h i)
 
-pub fresh_told : (gap : GapFront) (s : List ℕ) (c : ℕ) (r : Option Front) → IsGapFront true gap s → slice_get s gap.length ≡ Some c → TellsToken gap.length s r → TellsFront Fresh s r
-fresh_told gap s c (Some front) g b t = fresh_token gap s c front g b t
-fresh_told gap s c None g b t = fresh_no_token gap s c g b t
+pub fresh_answered : (gap : GapFront) (s : List ℕ) (c : ℕ) (r : Option Front) → IsGapFront true gap s → slice_get s gap.length ≡ Some c → AnswersToken gap.length s r → AnswersFront Fresh s r
+fresh_answered gap s c (Some front) g b t = fresh_token gap s c front g b t
+fresh_answered gap s c None g b t = fresh_no_token gap s c g b t
 
 -- the leaves that are no token
 end_text : (s : List ℕ) (n : ℕ) → drop n s ≡ [] → n ≤ length s → n ≡ length s
@@ -133,16 +133,16 @@ fresh_end gap s front g b e =
     let r = rest_none s gap.length b in
     rw e (leaf_of Fresh gap (record { class = End; gap = gap.length; token = 0 }) s g refl (let w : gap.length ≤ length s = g.within in omega arith) (inr (record { class = refl; token = refl; rest = r; ends = g.ends })))
 
-pub behind_end : (gap : GapFront) (s : List ℕ) (front : Front) → IsGapFront false gap s → slice_get s gap.length ≡ None → front ≡ record { class = Newline; gap = gap.length; token = 0 } → IsFront Behind front s
-behind_end gap s front g b e =
+pub after_end : (gap : GapFront) (s : List ℕ) (front : Front) → IsGapFront false gap s → slice_get s gap.length ≡ None → front ≡ record { class = Newline; gap = gap.length; token = 0 } → IsFront After front s
+after_end gap s front g b e =
     let r = rest_none s gap.length b in
-    rw e (leaf_of Behind gap (record { class = Newline; gap = gap.length; token = 0 }) s g refl (let w : gap.length ≤ length s = g.within in omega arith) (inr (inr (record { class = refl; token = refl; rest = r; ends = g.ends }))))
+    rw e (leaf_of After gap (record { class = Newline; gap = gap.length; token = 0 }) s g refl (let w : gap.length ≤ length s = g.within in omega arith) (inr (inr (record { class = refl; token = refl; rest = r; ends = g.ends }))))
 
-pub behind_line : (gap : GapFront) (s : List ℕ) (front : Front) → IsGapFront false gap s → slice_get s gap.length ≡ Some 10 → front ≡ record { class = Newline; gap = gap.length; token = 1 } → IsFront Behind front s
-behind_line gap s front g b e =
+pub after_line : (gap : GapFront) (s : List ℕ) (front : Front) → IsGapFront false gap s → slice_get s gap.length ≡ Some 10 → front ≡ record { class = Newline; gap = gap.length; token = 1 } → IsFront After front s
+after_line gap s front g b e =
     let r = rest_some s gap.length 10 b in
     let w : gap.length + 1 ≤ length s = let k = slice_get_within s gap.length 10 b in omega arith in
-    rw e (leaf_of Behind gap (record { class = Newline; gap = gap.length; token = 1 }) s g refl w (inr (inl (record { class = refl; token = rw r refl; ends = g.ends }))))
+    rw e (leaf_of After gap (record { class = Newline; gap = gap.length; token = 1 }) s g refl w (inr (inl (record { class = refl; token = rw r refl; ends = g.ends }))))
 
 pub inside_end : (d : ℕ) (gap : GapFront) (s : List ℕ) → IsGapFront true gap s → slice_get s gap.length ≡ None → NoLeaf (Inside d) s
 inside_end d gap s g b = no_leaf (Inside d) gap.state gap.length s g.taken g.stops (λ l t f e i. token_holds l.class l.token t f.token (i ∙ rest_none s gap.length b))

@@ -11,7 +11,7 @@ use Rattle.bz_lex.specs.declared.gap.GapState.TheVariants.{Open}
 use Rattle.bz_lex.specs.declared.front.Front.{Front}
 use Rattle.bz_lex.specs.Gaps.{IsGap}
 use Rattle.bz_lex.specs.GapStates.{gap_state_after, Stops, is_end}
-use Rattle.bz_lex.specs.Fronts.{IsLexemeFront, front_token, behind_front}
+use Rattle.bz_lex.specs.Fronts.{IsLexemeFront, front_token, after_front}
 use Rattle.bz_lex.specs.Lexing.{AreLexemes, NoLexemes}
 use Rattle.bz_lex.specs.Stops.{LexedTo, no_token, token_more}
 use Rattle.bz_lex.proofs.Gaps.{gap_after, gap_from, one_stop}
@@ -26,27 +26,27 @@ Begun q b = ((b ≡ []) × (is_end true q ≡ true)) ⊎ ((k : Class) × (u : Li
 
 record First (s : List ℕ) : Type 0 where
   gap : List ℕ
-  behind : List ℕ
+  following : List ℕ
   state : GapState
-  parts : s ≡ gap ++ behind
+  parts : s ≡ gap ++ following
   taken : gap_state_after true Open gap ≡ Some state
-  stops : Stops true state behind
-  begun : Begun state behind
+  stops : Stops true state following
+  begun : Begun state following
 
 first : (s : List ℕ) (us : List (List ℕ)) → AreLexemes us s → First s
 first s [] h =
     let w = gap_after true true s h in
-    record { gap = s; behind = []; state = w.0; parts = sym (append-nil s); taken = w.1; stops = tt; begun = inl (refl, w.2) }
+    record { gap = s; following = []; state = w.0; parts = sym (append-nil s); taken = w.1; stops = tt; begun = inl (refl, w.2) }
 first s (u ∷ us) (k, g, r, e, i, t, m) =
     let w = gap_after true false g i in
     let o = closed_is w.0 w.2 in
-    record { gap = g; behind = u ++ r; state = Open; parts = e; taken = rw o at w.1; stops = token_stops true k u r t; begun = inr (k, u, r, us, refl, refl, t, m) }
+    record { gap = g; following = u ++ r; state = Open; parts = e; taken = rw o at w.1; stops = token_stops true k u r t; begun = inr (k, u, r, us, refl, refl, t, m) }
 
 -- the first gap as it was read
 met : (q : GapState) (n : ℕ) (s : List ℕ) (us : List (List ℕ)) → gap_state_after true Open (take n s) ≡ Some q → Stops true q (drop n s) → AreLexemes us s → Begun q (drop n s)
 met q n s us e h k =
     let f = first s us k in
-    let o = one_stop true Open f.state q f.gap f.behind (take n s) (drop n s) f.taken f.stops e h (sym f.parts ∙ sym (take-append-drop n s)) in
+    let o = one_stop true Open f.state q f.gap f.following (take n s) (drop n s) f.taken f.stops e h (sym f.parts ∙ sym (take-append-drop n s)) in
     rw (o.1, o.2) at f.begun
 
 begun_ends : (q : GapState) (b : List ℕ) → Begun q b → is_end true q ≡ true
@@ -82,29 +82,29 @@ lexeme gap s c front w e h b i f t n =
 
 -- ---- the tokens so far
 
-next_tokens : (front : Front) (s : List ℕ) (us : List (List ℕ)) → IsGap true false (take front.gap s) → IsToken front.class (front_token front s) (behind_front front s) → AreLexemes us s
-    → (vs : List (List ℕ)) × AreLexemes vs (behind_front front s)
+next_tokens : (front : Front) (s : List ℕ) (us : List (List ℕ)) → IsGap true false (take front.gap s) → IsToken front.class (front_token front s) (after_front front s) → AreLexemes us s
+    → (vs : List (List ℕ)) × AreLexemes vs (after_front front s)
 next_tokens front s us gap token k =
     let g = gap_after true false (take front.gap s) gap in
     let o = closed_is g.0 g.2 in
     let parts = take-append-drop front.token (drop front.gap s) in
-    let stops : Stops true Open (drop front.gap s) = subst (Stops true Open) parts (token_stops true front.class (front_token front s) (behind_front front s) token) in
+    let stops : Stops true Open (drop front.gap s) = subst (Stops true Open) parts (token_stops true front.class (front_token front s) (after_front front s) token) in
     by_begun (met Open front.gap s us (rw o at g.1) stops k) parts
   where
-    by_begun : Begun Open (drop front.gap s) → front_token front s ++ behind_front front s ≡ drop front.gap s → (vs : List (List ℕ)) × AreLexemes vs (behind_front front s)
-    by_begun (inl w) parts = absurd (token_holds front.class (front_token front s) (behind_front front s) token (parts ∙ w.0))
+    by_begun : Begun Open (drop front.gap s) → front_token front s ++ after_front front s ≡ drop front.gap s → (vs : List (List ℕ)) × AreLexemes vs (after_front front s)
+    by_begun (inl w) parts = absurd (token_holds front.class (front_token front s) (after_front front s) token (parts ∙ w.0))
     by_begun (inr (k, u, r, vs, i, o, m, l)) parts =
-        let one = one_token k front.class u r (front_token front s) (behind_front front s) m token (sym i ∙ sym parts) in
-        (vs, subst (AreLexemes vs) (append_cancel_left (front_token front s) r (behind_front front s) (subst (λ (x : List ℕ). x ++ r ≡ front_token front s ++ behind_front front s) one.1 (sym i ∙ sym parts))) l)
+        let one = one_token k front.class u r (front_token front s) (after_front front s) m token (sym i ∙ sym parts) in
+        (vs, subst (AreLexemes vs) (append_cancel_left (front_token front s) r (after_front front s) (subst (λ (x : List ℕ). x ++ r ≡ front_token front s ++ after_front front s) one.1 (sym i ∙ sym parts))) l)
 
 -- a token after which neither a gap nor a token begins
-pub no_rest : (front : Front) (s : List ℕ) → IsGap true false (take front.gap s) → IsToken front.class (front_token front s) (behind_front front s) → Stops true Open (behind_front front s) × (behind_front front s ≢ [])
-    → NoToken (behind_front front s) → NoLexemes s
+pub no_rest : (front : Front) (s : List ℕ) → IsGap true false (take front.gap s) → IsToken front.class (front_token front s) (after_front front s) → Stops true Open (after_front front s) × (after_front front s ≢ [])
+    → NoToken (after_front front s) → NoLexemes s
 no_rest front s gap token here none us k =
     let w = next_tokens front s us gap token k in
-    by_begun (met Open 0 (behind_front front s) w.0 refl here.0 w.1)
+    by_begun (met Open 0 (after_front front s) w.0 refl here.0 w.1)
   where
-    by_begun : Begun Open (behind_front front s) → ⊥
+    by_begun : Begun Open (after_front front s) → ⊥
     by_begun (inl w) = here.1 w.0
     by_begun (inr (k, u, r, vs, i, o, m, l)) = none k u r (sym i) m
 
@@ -119,20 +119,20 @@ pub begin : (text : List ℕ) → IsLexedTo text [] text
 begin text = record { sound = λ us h. h; complete = λ us h. (us, h); within = omega arith; lexed = no_token }
 
 -- a text by the gap, the token and what is after it
-whole : (front : Front) (s : List ℕ) → s ≡ take front.gap s ++ (front_token front s ++ behind_front front s)
+whole : (front : Front) (s : List ℕ) → s ≡ take front.gap s ++ (front_token front s ++ after_front front s)
 whole front s = sym (ap (λ (t : List ℕ). take front.gap s ++ t) (take-append-drop front.token (drop front.gap s)) ∙ take-append-drop front.gap s)
 
-unopened_at : (front : Front) (s : List ℕ) → IsLexemeFront front s → OpensString (front_token front s ++ behind_front front s) → ⊥
+unopened_at : (front : Front) (s : List ℕ) → IsLexemeFront front s → OpensString (front_token front s ++ after_front front s) → ⊥
 unopened_at front s f o = f.unopened (subst OpensString (take-append-drop front.token (drop front.gap s)) o)
 
 -- one token more
-pub lexed_more : (text rest : List ℕ) (front : Front) → LexedTo text rest → IsLexemeFront front rest → LexedTo text (behind_front front rest)
-lexed_more text rest front h f = token_more front.class (take front.gap rest) (front_token front rest) (behind_front front rest) (subst (LexedTo text) (whole front rest) h) f.gap f.token (unopened_at front rest f)
+pub lexed_more : (text rest : List ℕ) (front : Front) → LexedTo text rest → IsLexemeFront front rest → LexedTo text (after_front front rest)
+lexed_more text rest front h f = token_more front.class (take front.gap rest) (front_token front rest) (after_front front rest) (subst (LexedTo text) (whole front rest) h) f.gap f.token (unopened_at front rest f)
 
-pub go_on : (text : List ℕ) (ts : List (List ℕ)) (rest : List ℕ) (front : Front) → IsLexedTo text ts rest → IsLexemeFront front rest → IsLexedTo text (ts ++ (front_token front rest ∷ [])) (behind_front front rest)
+pub go_on : (text : List ℕ) (ts : List (List ℕ)) (rest : List ℕ) (front : Front) → IsLexedTo text ts rest → IsLexemeFront front rest → IsLexedTo text (ts ++ (front_token front rest ∷ [])) (after_front front rest)
 go_on text ts rest front h f = record {
   sound = λ us k. rw (append_assoc ts (front_token front rest ∷ []) us)
-      (h.sound (front_token front rest ∷ us) (front.class, take front.gap rest, behind_front front rest, whole front rest, f.gap, f.token, k));
+      (h.sound (front_token front rest ∷ us) (front.class, take front.gap rest, after_front front rest, whole front rest, f.gap, f.token, k));
   complete = λ us k. let w = h.complete us k in next_tokens front rest w.0 f.gap f.token w.1;
   within = let n = h.within in simp length-drop (omega arith);
   lexed = lexed_more text rest front h.lexed f;
@@ -145,12 +145,12 @@ pub no_tokens : (text : List ℕ) (ts : List (List ℕ)) (rest : List ℕ) → I
 no_tokens text ts rest h n us k = let w = h.complete us k in n w.0 w.1
 
 -- one turn of the loop
-pub next_turn : (text : List ℕ) (ts us : List (List ℕ)) (rest behind token : List ℕ) (front : Front) → IsLexedTo text ts rest → IsLexemeFront front rest → token ≡ front_token front rest → us ≡ ts ++ (token ∷ []) → behind ≡ behind_front front rest → IsLexedTo text us behind
-next_turn text ts us rest behind token front h f e i j = rw (i, e, j) (go_on text ts rest front h f)
+pub next_turn : (text : List ℕ) (ts us : List (List ℕ)) (rest following token : List ℕ) (front : Front) → IsLexedTo text ts rest → IsLexemeFront front rest → token ≡ front_token front rest → us ≡ ts ++ (token ∷ []) → following ≡ after_front front rest → IsLexedTo text us following
+next_turn text ts us rest following token front h f e i j = rw (i, e, j) (go_on text ts rest front h f)
 
-pub shorter : (rest behind : List ℕ) (front : Front) → IsLexemeFront front rest → behind ≡ behind_front front rest → length behind < length rest
-shorter rest behind front f e =
-    let n = token_length front.class (front_token front rest) (behind_front front rest) f.token in
-    let m : length (front_token front rest) + length (behind_front front rest) ≡ length rest - front.gap = sym (length-append (front_token front rest) (behind_front front rest)) ∙ ap length (take-append-drop front.token (drop front.gap rest)) ∙ length-drop front.gap rest in
+pub shorter : (rest following : List ℕ) (front : Front) → IsLexemeFront front rest → following ≡ after_front front rest → length following < length rest
+shorter rest following front f e =
+    let n = token_length front.class (front_token front rest) (after_front front rest) f.token in
+    let m : length (front_token front rest) + length (after_front front rest) ≡ length rest - front.gap = sym (length-append (front_token front rest) (after_front front rest)) ∙ ap length (take-append-drop front.token (drop front.gap rest)) ∙ length-drop front.gap rest in
     let w = f.within in
     rw e (omega arith)

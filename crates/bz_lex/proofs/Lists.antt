@@ -5,10 +5,10 @@ use Rattle.bz_token.specs.declared.class.Class.{Class}
 use Rattle.bz_token.specs.declared.class.Class.TheVariants.{Name, Keyword, Number, String, Mark, Newline, End}
 use Rattle.bz_token.specs.Tokens.{IsToken}
 use Rattle.bz_lex.specs.declared.leaf.Leaf.{Leaf}
-use Rattle.bz_lex.specs.Places.{Place, Fresh, Behind, Inside, Last, Over, is_opening, is_closing, same_depth, deeper, shallower, after_token, next, May, first, later, inner, newline, no_newline, end, end_at_once}
+use Rattle.bz_lex.specs.Places.{Place, Fresh, After, Inside, Last, Over, is_opening, is_closing, same_depth, deeper, shallower, after_token, next, May, first, later, inner, newline, no_newline, end, end_at_once}
 use Rattle.bz_lex.specs.Leaves.{spell_leaves}
 use Rattle.bz_lex.specs.declared.front.Front.{Front}
-use Rattle.bz_lex.specs.Fronts.{front_leaf, behind_front}
+use Rattle.bz_lex.specs.Fronts.{front_leaf, after_front}
 use Rattle.bz_lex.proofs.Tokens.{begins}
 
 pub spell_leaves-append : (ls ms : List Leaf) → spell_leaves (ls ++ ms) ≡ spell_leaves ls ++ spell_leaves ms
@@ -24,7 +24,7 @@ rank _ = 2
 
 rank_below : (p : Place) → rank p ≤ 2
 rank_below Fresh = omega arith
-rank_below Behind = omega arith
+rank_below After = omega arith
 rank_below (Inside n) = omega arith
 rank_below Last = omega arith
 rank_below Over = omega arith
@@ -55,7 +55,7 @@ smaller p l s end_at_once = omega arith
 
 no_over : (p : Place) → (same_depth p ≢ Over) × (deeper p ≢ Over) × (shallower p ≢ Over)
 no_over Fresh = (λ e. cc, λ e. cc, λ e. cc)
-no_over Behind = (λ e. cc, λ e. cc, λ e. cc)
+no_over After = (λ e. cc, λ e. cc, λ e. cc)
 no_over (Inside zero) = (λ e. cc, λ e. cc, λ e. cc)
 no_over (Inside (suc n)) = (λ e. cc, λ e. cc, λ e. cc)
 no_over Last = (λ e. cc, λ e. cc, λ e. cc)
@@ -77,7 +77,7 @@ no_end String t s p h e = (no_over p).0 e
 
 pub over_rest : (p : Place) (l : Leaf) (s : List ℕ) → May IsToken p l s → next p l ≡ Over → s ≡ []
 over_rest p l s (first g t) e = absurd (no_end l.class l.token s Fresh t e)
-over_rest p l s (later g t) e = absurd (no_end l.class l.token s Behind t e)
+over_rest p l s (later g t) e = absurd (no_end l.class l.token s After t e)
 over_rest p l s (inner {depth = n} g t) e = absurd (no_end l.class l.token s (Inside n) t e)
 over_rest p l s (newline u g) e = absurd (let f : Fresh ≡ Over = e in cc)
 over_rest p l s (no_newline u g) e = refl
@@ -85,5 +85,5 @@ over_rest p l s (end u g) e = refl
 over_rest p l s end_at_once e = refl
 
 -- the leaf that was read, and what is after it
-pub front_text : (front : Front) (s : List ℕ) → front.gap + front.token ≤ length s → (front_leaf front s).gap ++ ((front_leaf front s).token ++ behind_front front s) ≡ s
+pub front_text : (front : Front) (s : List ℕ) → front.gap + front.token ≤ length s → (front_leaf front s).gap ++ ((front_leaf front s).token ++ after_front front s) ≡ s
 front_text front s w = rw (take-append-drop front.token (drop front.gap s)) (take-append-drop front.gap s)

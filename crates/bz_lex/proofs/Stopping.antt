@@ -8,7 +8,7 @@ use Rattle.std.proofs.Math.Seq.{take-append_seam, drop-append_seam}
 use Rattle.bz_token.specs.Bytes.{is_blank, is_quote, is_solid}
 use Rattle.bz_token.specs.Lexemes.{is_prefix}
 use Rattle.bz_token.specs.Tokens.{IsToken, NoToken, OpensString, TokenAt}
-use Rattle.bz_token.proofs.Opening.{opens_behind_prefix}
+use Rattle.bz_token.proofs.Opening.{opens_after_prefix}
 use Rattle.bz_lex.specs.declared.fault.ReadFault.{ReadFault}
 use Rattle.bz_lex.specs.declared.front.Front.{Front}
 use Rattle.bz_lex.specs.declared.front.Reason.{Reason}
@@ -18,7 +18,7 @@ use Rattle.bz_lex.specs.declared.gap.GapFront.{GapFront}
 use Rattle.bz_lex.specs.declared.gap.GapState.{GapState}
 use Rattle.bz_lex.specs.declared.gap.GapState.TheVariants.{Open, Escape, EscapeReturn, Comment}
 use Rattle.bz_lex.specs.Faults.{fault_of, is_lexical}
-use Rattle.bz_lex.specs.Fronts.{IsLexemeStop, NoTokenFor, front_token, behind_front}
+use Rattle.bz_lex.specs.Fronts.{IsLexemeStop, NoTokenFor, front_token, after_front}
 use Rattle.bz_lex.specs.Gaps.{IsGap}
 use Rattle.bz_lex.specs.GapStates.{gap_move, gap_state_after, Stops, is_end, broken_off, and_then}
 use Rattle.bz_lex.specs.Lexing.{NoLexemes}
@@ -209,8 +209,8 @@ abbrev stop_at : Reason → ℕ → Stop
 stop_at reason at = record { reason = reason; at = at }
 
 -- a stop after a gap u, where the text is that and v
-stop_behind : (s u v : List ℕ) (at : ℕ) → s ≡ u ++ v → at ≡ length u → gap_state_after true Open u ≡ Some Open → NothingBegins v → (OpensString v → ⊥) → IsLexemeStop (stop_at r.BadCharacter at) s
-stop_behind s u v at e n g h k =
+stop_after : (s u v : List ℕ) (at : ℕ) → s ≡ u ++ v → at ≡ length u → gap_state_after true Open u ≡ Some Open → NothingBegins v → (OpensString v → ⊥) → IsLexemeStop (stop_at r.BadCharacter at) s
+stop_after s u v at e n g h k =
     let front : take at s ≡ u = rw (n, e) (take-append_seam u v) in
     let back : drop at s ≡ v = rw (n, e) (drop-append_seam u v) in
     record {
@@ -235,12 +235,12 @@ broken_stop gap s at w e h b i = by_state gap.state e h b i
     by_state Escape e h b i =
         let x = at_escape (take gap.length s) e in
         let n : length (take gap.length s) ≡ length (x.0) + 1 = ap length x.1 ∙ length-append (x.0) (92 ∷ []) in
-        stop_behind s (x.0) (92 ∷ drop gap.length s) at (sym whole ∙ ap (λ (t : List ℕ). t ++ drop gap.length s) x.1 ∙ append_assoc (x.0) (92 ∷ []) (drop gap.length s))
+        stop_after s (x.0) (92 ∷ drop gap.length s) at (sym whole ∙ ap (λ (t : List ℕ). t ++ drop gap.length s) x.1 ∙ append_assoc (x.0) (92 ∷ []) (drop gap.length s))
         (omega (arith, i, n, taken)) x.2 (escape_stops (drop gap.length s) h) (no_backslash_string (drop gap.length s))
     by_state EscapeReturn e h b i =
         let x = at_return (take gap.length s) e in
         let n : length (take gap.length s) ≡ length (x.0) + 2 = ap length x.1 ∙ length-append (x.0) (92 ∷ 13 ∷ []) in
-        stop_behind s (x.0) (92 ∷ 13 ∷ drop gap.length s) at (sym whole ∙ ap (λ (t : List ℕ). t ++ drop gap.length s) x.1 ∙ append_assoc (x.0) (92 ∷ 13 ∷ []) (drop gap.length s))
+        stop_after s (x.0) (92 ∷ 13 ∷ drop gap.length s) at (sym whole ∙ ap (λ (t : List ℕ). t ++ drop gap.length s) x.1 ∙ append_assoc (x.0) (92 ∷ 13 ∷ []) (drop gap.length s))
         (omega (arith, i, n, taken)) x.2 (return_stops (drop gap.length s) h) (no_backslash_string (13 ∷ drop gap.length s))
 
 -- ---- no token is after a gap
@@ -287,11 +287,11 @@ pub prefix_refused : (gap : GapFront) (s : List ℕ) (c : ℕ) (front : Front) �
     → slice_get s gap.length ≡ Some c → front.gap ≡ gap.length → TokenAt front.class front.token (drop gap.length s) → OpensString (drop front.gap s) → NoLexemes s
 prefix_refused gap s c front w e h b i a t o =
     let g = gap_of gap s c e h b i in
-    let token : IsToken front.class (front_token front s) (behind_front front s) = rw a t.1 in
-    let x = opens_behind_prefix front.class (front_token front s) (behind_front front s) token (subst OpensString (sym (take-append-drop front.token (drop front.gap s))) o) in
+    let token : IsToken front.class (front_token front s) (after_front front s) = rw a t.1 in
+    let x = opens_after_prefix front.class (front_token front s) (after_front front s) token (subst OpensString (sym (take-append-drop front.token (drop front.gap s))) o) in
     no_rest front s (rw a g.1) token (no_quote_gap (x.0) (x.1) x.3 x.4) x.5
   where
-    no_quote_gap : (m : ℕ) (back : List ℕ) → behind_front front s ≡ m ∷ back → is_quote m ≡ true → Stops true Open (behind_front front s) × (behind_front front s ≢ [])
+    no_quote_gap : (m : ℕ) (back : List ℕ) → after_front front s ≡ m ∷ back → is_quote m ≡ true → Stops true Open (after_front front s) × (after_front front s ≢ [])
     no_quote_gap m back is n = (rw is (quote_stops m n), λ z. let f : m ∷ back ≡ [] = sym is ∙ z in cc)
       where
         quote_stops : (m : ℕ) → is_quote m ≡ true → gap_move true Open m ≡ None
@@ -302,7 +302,7 @@ prefix_refused gap s c front w e h b i a t o =
 pub unmarked : (s t : List ℕ) (front : Front) (b : Bool) → TokenAt front.class front.token (drop front.gap s) → b ≡ false
     → ((b ≡ false) → (mark : ℕ) (back : List ℕ) → drop front.token t ≡ mark ∷ back → is_quote mark ≡ false) → t ≡ drop front.gap s → OpensString (drop front.gap s) → ⊥
 unmarked s t front b token e f i o =
-    let x = opens_behind_prefix front.class (front_token front s) (behind_front front s) token.1 (subst OpensString (sym (take-append-drop front.token (drop front.gap s))) o) in
+    let x = opens_after_prefix front.class (front_token front s) (after_front front s) token.1 (subst OpensString (sym (take-append-drop front.token (drop front.gap s))) o) in
     both_ways (is_quote (x.0)) (f e (x.0) (x.1) (ap (drop front.token) i ∙ x.3)) x.4
 
 pub no_quote_past : (s : List ℕ) (n m : ℕ) (back : List ℕ) → slice_get s n ≡ None → drop n s ≡ m ∷ back → ⊥

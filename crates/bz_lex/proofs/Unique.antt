@@ -7,7 +7,7 @@ use Rattle.bz_token.specs.Tokens.{IsToken}
 use Rattle.bz_lex.specs.declared.leaf.Leaf.{Leaf}
 use Rattle.bz_lex.specs.declared.gap.GapState.{GapState}
 use Rattle.bz_lex.specs.declared.gap.GapState.TheVariants.{Open}
-use Rattle.bz_lex.specs.Places.{Place, Fresh, Behind, Inside, Last, Over, next, newlines_at, May}
+use Rattle.bz_lex.specs.Places.{Place, Fresh, After, Inside, Last, Over, next, newlines_at, May}
 use Rattle.bz_lex.specs.Leaves.{spell_leaves, Stand}
 use Rattle.bz_lex.specs.Laws.{OneLexing}
 use Rattle.bz_lex.proofs.Gaps.{one_stop}
@@ -46,15 +46,15 @@ one_form Fresh q r l m s t g (inl h) (inl i) e = two_tokens q r l m s t g h i e
 one_form Fresh q r l m s t g (inl h) (inr i) e = absurd (token_or_empty End q r l m s t h i e)
 one_form Fresh q r l m s t g (inr h) (inl i) e = absurd (token_or_empty End r q m l t s i h (sym e))
 one_form Fresh q r l m s t g (inr h) (inr i) e = two_empty End q r l m s t g h i
-one_form Behind q r l m s t g (inl h) (inl i) e = two_tokens q r l m s t g h i e
-one_form Behind q r l m s t g (inl h) (inr (inl i)) e = absurd (token_or_line q r l m s t h i e)
-one_form Behind q r l m s t g (inl h) (inr (inr i)) e = absurd (token_or_empty Newline q r l m s t h i e)
-one_form Behind q r l m s t g (inr (inl h)) (inl i) e = absurd (token_or_line r q m l t s i h (sym e))
-one_form Behind q r l m s t g (inr (inl h)) (inr (inl i)) e = two_lines q r l m s t g h i e
-one_form Behind q r l m s t g (inr (inl h)) (inr (inr i)) e = absurd (line_or_empty Newline q r l m s t h i e)
-one_form Behind q r l m s t g (inr (inr h)) (inl i) e = absurd (token_or_empty Newline r q m l t s i h (sym e))
-one_form Behind q r l m s t g (inr (inr h)) (inr (inl i)) e = absurd (line_or_empty Newline r q m l t s i h (sym e))
-one_form Behind q r l m s t g (inr (inr h)) (inr (inr i)) e = two_empty Newline q r l m s t g h i
+one_form After q r l m s t g (inl h) (inl i) e = two_tokens q r l m s t g h i e
+one_form After q r l m s t g (inl h) (inr (inl i)) e = absurd (token_or_line q r l m s t h i e)
+one_form After q r l m s t g (inl h) (inr (inr i)) e = absurd (token_or_empty Newline q r l m s t h i e)
+one_form After q r l m s t g (inr (inl h)) (inl i) e = absurd (token_or_line r q m l t s i h (sym e))
+one_form After q r l m s t g (inr (inl h)) (inr (inl i)) e = two_lines q r l m s t g h i e
+one_form After q r l m s t g (inr (inl h)) (inr (inr i)) e = absurd (line_or_empty Newline q r l m s t h i e)
+one_form After q r l m s t g (inr (inr h)) (inl i) e = absurd (token_or_empty Newline r q m l t s i h (sym e))
+one_form After q r l m s t g (inr (inr h)) (inr (inl i)) e = absurd (line_or_empty Newline r q m l t s i h (sym e))
+one_form After q r l m s t g (inr (inr h)) (inr (inr i)) e = two_empty Newline q r l m s t g h i
 one_form (Inside n) q r l m s t g h i e = two_tokens q r l m s t g h i e
 one_form Last q r l m s t g h i e = two_empty End q r l m s t g h.1 i.1
 one_form Over q r l m s t g h i e = absurd h

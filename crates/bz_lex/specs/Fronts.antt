@@ -27,27 +27,27 @@ front_token front text = take front.token (drop front.gap text)
 abbrev pub front_leaf : Front → List ℕ → Leaf
 front_leaf front text = record { class = front.class; gap = take front.gap text; token = front_token front text }
 
-abbrev pub behind_front : Front → List ℕ → List ℕ
-behind_front front text = drop front.token (drop front.gap text)
+abbrev pub after_front : Front → List ℕ → List ℕ
+after_front front text = drop front.token (drop front.gap text)
 
 -- such a leaf is there
 pub record IsFront (place : Place) (front : Front) (text : List ℕ) : Type 0 where
   pub within : front.gap + front.token ≤ length text
-  pub may : May IsToken place (front_leaf front text) (behind_front front text)
+  pub may : May IsToken place (front_leaf front text) (after_front front text)
 
 -- none does
 abbrev pub NoLeaf : Place → List ℕ → Type 0
 NoLeaf place text = (leaf : Leaf) (rest : List ℕ) → May IsToken place leaf rest → leaf.gap ++ (leaf.token ++ rest) ≡ text → ⊥
 
 -- the leaf there, or that there is none
-abbrev pub TellsFront : Place → List ℕ → Option Front → Type 0
-TellsFront place text result = MatchOption result (NoLeaf place text) (λ front. IsFront place front text)
+abbrev pub AnswersFront : Place → List ℕ → Option Front → Type 0
+AnswersFront place text result = MatchOption result (NoLeaf place text) (λ front. IsFront place front text)
 
 -- such a token is there, after a gap with newlines
 pub record IsLexemeFront (front : Front) (text : List ℕ) : Type 0 where
   pub within : front.gap + front.token ≤ length text
   pub gap : IsGap true false (take front.gap text)
-  pub token : IsToken front.class (front_token front text) (behind_front front text)
+  pub token : IsToken front.class (front_token front text) (after_front front text)
   pub unopened : OpensString (drop front.gap text) → ⊥
 
 -- why no token is at the front of a text

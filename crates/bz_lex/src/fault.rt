@@ -71,7 +71,7 @@ impl From<AllocError> for ReadFault {
 /// The fault of this reason at the byte at `at` (past the last one: at the end), by line and column.
 pub fn fault_at(text: &[u8], at: usize, reason: Reason) -> ReadFault
     ensures kind { is_of_leaves result ≡ true }
-    ensures told { result ≡ fault_of reason (min (line_at text.now (min at (length text.now))) u32.MAX) (min (column_of text.now (min at (length text.now))) u32.MAX) }
+    ensures answered { result ≡ fault_of reason (min (line_at text.now (min at (length text.now))) u32.MAX) (min (column_of text.now (min at (length text.now))) u32.MAX) }
 {
     let (line, column) = line_and_column(text, at.min(text.len()));
     match reason {

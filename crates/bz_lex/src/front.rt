@@ -1,7 +1,7 @@
 ghost use Rattle.std.specs.Prelude.{◌≡◌, ◌↔◌, ◌∷◌, ℕ, List, IsTrue, ◌≤◌, ◌+◌, IfOk, length, drop, MatchOption, MatchResult, IfErr, true, false};
 ghost use Rattle.bz_token.specs.Tokens.{NoToken, OpensString, TokenAt};
 ghost use Rattle.bz_token.specs.Bytes.{is_quote};
-ghost use Rattle.bz_lex.specs.Fronts.{IsGapFront, IsLexemeFront, IsLexemeStop, NoTokenFor, TellsFront, front_leaf, front_token, behind_front};
+ghost use Rattle.bz_lex.specs.Fronts.{IsGapFront, IsLexemeFront, IsLexemeStop, NoTokenFor, AnswersFront, front_leaf, front_token, after_front};
 ghost use Rattle.bz_lex.specs.Gaps.{IsGap};
 ghost use Rattle.bz_lex.specs.Lexing.{NoLexemes};
 
@@ -33,8 +33,8 @@ impl Front {
         requires { self.gap + self.token ≤ length text.now }
         ensures { IfOk result (λ leaf. leaf ≡ front_leaf self text.now) }
     {
-        let (gap, behind_gap) = text.split_at(self.gap);
-        let (token, _) = behind_gap.split_at(self.token);
+        let (gap, after_gap) = text.split_at(self.gap);
+        let (token, _) = after_gap.split_at(self.token);
         Ok(Leaf {
             class: self.class,
             gap: Text::from_slice(alloc, gap)?,
@@ -53,7 +53,7 @@ impl Front {
     /// What is after the leaf.
     pub fn rest_of(self, text: &[u8]) -> &[u8]
         requires { self.gap + self.token ≤ length text.now }
-        ensures { result.now ≡ behind_front self text.now }
+        ensures { result.now ≡ after_front self text.now }
     {
         text.split_at(self.gap).1.split_at(self.token).1
     }
@@ -86,7 +86,7 @@ pub enum Reason {
 /// The leaf at the front of a text that begins at this place.
 #[inline(always)]
 pub fn leaf_front(text: &[u8], place: Place) -> Option<Front>
-    ensures { TellsFront place text.now result }
+    ensures { AnswersFront place text.now result }
 {
     let gap = gap_front(text, place.newlines());
     if let Some(_at) = gap.broken_at() {
@@ -94,7 +94,7 @@ pub fn leaf_front(text: &[u8], place: Place) -> Option<Front>
     }
     match place {
         Place::Fresh => fresh(text, gap),
-        Place::Behind => behind(text, gap),
+        Place::After => following(text, gap),
         Place::Inside(_) => inside(text, gap),
         Place::Last => last(text),
         Place::Over => None,
@@ -105,7 +105,7 @@ pub fn leaf_front(text: &[u8], place: Place) -> Option<Front>
 #[inline(always)]
 fn fresh(text: &[u8], gap: GapFront) -> Option<Front>
     requires { IsGapFront true gap text.now }
-    ensures { TellsFront Place.Fresh text.now result }
+    ensures { AnswersFront Place.Fresh text.now result }
 {
     if gap.length == text.len() {
         return Some(Front::new(Class::End, gap.length, 0));
@@ -115,9 +115,9 @@ fn fresh(text: &[u8], gap: GapFront) -> Option<Front>
 
 /// After a token of a line: a token, a newline, or the newline that is no byte.
 #[inline(always)]
-fn behind(text: &[u8], gap: GapFront) -> Option<Front>
+fn following(text: &[u8], gap: GapFront) -> Option<Front>
     requires { IsGapFront false gap text.now }
-    ensures { TellsFront Place.Behind text.now result }
+    ensures { AnswersFront Place.After text.now result }
 {
     match at(text, gap.length).copied() {
         None => Some(Front::new(Class::Newline, gap.length, 0)),
@@ -130,7 +130,7 @@ fn behind(text: &[u8], gap: GapFront) -> Option<Front>
 #[inline(always)]
 fn inside(text: &[u8], gap: GapFront) -> Option<Front>
     requires { IsGapFront true gap text.now }
-    ensures { (depth : ℕ) → TellsFront (Place.Inside depth) text.now result }
+    ensures { (depth : ℕ) → AnswersFront (Place.Inside depth) text.now result }
 {
     if gap.length == text.len() {
         return None;
@@ -140,7 +140,7 @@ fn inside(text: &[u8], gap: GapFront) -> Option<Front>
 
 /// After the newline that is no byte: the end.
 fn last(text: &[u8]) -> Option<Front>
-    ensures { TellsFront Place.Last text.now result }
+    ensures { AnswersFront Place.Last text.now result }
 {
     if text.is_empty() {
         Some(Front::new(Class::End, 0, 0))
@@ -152,7 +152,7 @@ fn last(text: &[u8]) -> Option<Front>
 /// The token at the front of a text without lines, after its gap; `None` where a gap is all that is left. A token at which a
 /// string begins that is not closed is its prefix: the tokens stop there.
 pub(crate) fn lexeme_front(text: &[u8]) -> Result<Option<Front>, Stop>
-    ensures told { MatchResult result (λ found. MatchOption found (IsGap true true text.now) (λ front. IsLexemeFront front text.now)) (λ _. NoLexemes text.now) }
+    ensures answered { MatchResult result (λ found. MatchOption found (IsGap true true text.now) (λ front. IsLexemeFront front text.now)) (λ _. NoLexemes text.now) }
     ensures stops { IfErr result (λ stop. IsLexemeStop stop text.now) }
 {
     let gap = gap_front(text, true);

@@ -9,7 +9,7 @@ pub enum Place {
     /// Before the first token of a line: at the start of the text or after a newline.
     Fresh,
     /// After a token of a line, outside brackets.
-    Behind,
+    After,
     /// Inside brackets, with this many open brackets around them.
     Inside(usize),
     /// After the newline that is no byte, at the end of the text.
@@ -58,7 +58,7 @@ impl Place {
     pub fn newlines(self) -> bool
         ensures { result ≡ newlines_at self }
     {
-        !matches!(self, Place::Behind)
+        !matches!(self, Place::After)
     }
 
     /// After a token of a line that is no bracket.
@@ -67,7 +67,7 @@ impl Place {
     {
         match self {
             Place::Inside(depth) => Place::Inside(depth),
-            _ => Place::Behind,
+            _ => Place::After,
         }
     }
 
@@ -87,9 +87,9 @@ impl Place {
         ensures { result ≡ shallower self }
     {
         match self {
-            Place::Inside(0) => Place::Behind,
+            Place::Inside(0) => Place::After,
             Place::Inside(depth) => Place::Inside(depth - 1),
-            _ => Place::Behind,
+            _ => Place::After,
         }
     }
 }

@@ -12,12 +12,12 @@ pub fn line_and_column(text: &[u8], offset: usize) -> (u32, u32)
     let newlines = before.iter().filter(|byte| **byte == b'\n').count();
     (
         one_more(newlines),
-        one_more(characters_behind_newline(before)),
+        one_more(characters_after_newline(before)),
     )
 }
 
 /// How many characters are after the last newline.
-fn characters_behind_newline(text: &[u8]) -> usize
+fn characters_after_newline(text: &[u8]) -> usize
     ensures { result ≡ count_by (λ byte. not (is_continuation byte)) (take_while (λ byte. not (is_newline byte)) (reverse text.now)) }
 {
     let backwards = text.iter().rev();

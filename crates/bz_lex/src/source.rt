@@ -1,6 +1,6 @@
 ghost use Rattle.std.specs.Prelude.{◌≡◌, ◌≢◌, ◌⊎◌, IfErr, IfSome, MatchResult, map, true};
 ghost use Rattle.bz_lex.specs.Faults.{is_lexical};
-ghost use Rattle.bz_lex.specs.Fronts.{IsLexemeFront, behind_front, front_token};
+ghost use Rattle.bz_lex.specs.Fronts.{IsLexemeFront, after_front, front_token};
 ghost use Rattle.bz_lex.specs.Lexing.{AreLexemes, NoLexemes};
 ghost use Rattle.bz_lex.specs.Stops.{IsFaultAt};
 
@@ -13,7 +13,7 @@ use std::alloc::Global;
 /// them are gaps. The errors, at the first such place: `OpenString` where a string begins that is not closed, from its
 /// prefix on, `BadCharacter` where nothing begins; `Memory`.
 pub fn lex(alloc: Global, source: &str) -> Result<Vec<&str>, ReadFault>
-    ensures told { MatchResult result (λ tokens. AreLexemes (map (λ token. token.now) tokens.items) source.now) (λ fault. (fault ≡ ReadFault.Memory) ⊎ NoLexemes source.now) }
+    ensures answered { MatchResult result (λ tokens. AreLexemes (map (λ token. token.now) tokens.items) source.now) (λ fault. (fault ≡ ReadFault.Memory) ⊎ NoLexemes source.now) }
     ensures lexical { IfErr result (λ fault. is_lexical fault ≡ true) }
     ensures placed { IfErr result (λ fault. fault ≢ ReadFault.Memory → IsFaultAt (λ _. ⊥) source.now fault) }
 {
@@ -31,7 +31,7 @@ pub fn lex(alloc: Global, source: &str) -> Result<Vec<&str>, ReadFault>
         };
         let token = token_at(rest, front);
         tokens.push(token)?;
-        rest = behind(rest, front);
+        rest = following(rest, front);
     }
 }
 
@@ -65,9 +65,9 @@ fn token_at(text: &str, front: Front) -> &str
 }
 
 /// What is after that token.
-fn behind(text: &str, front: Front) -> &str
+fn following(text: &str, front: Front) -> &str
     requires { IsLexemeFront front text.now }
-    ensures { result.now ≡ behind_front front text.now }
+    ensures { result.now ≡ after_front front text.now }
 {
     &text[front.gap + front.token..]
 }

@@ -1,5 +1,5 @@
 pub mod Apps
-pub mod AskedLemmas
+pub mod RequestedLemmas
 pub mod Counts
 pub mod GroupLemmas
 pub mod PathTexts

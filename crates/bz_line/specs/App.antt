@@ -9,8 +9,8 @@ abbrev pub keep_going_rule : Rule
 keep_going_rule = record (new_rule (codes "keep_going")) { short = Some letter_k; action = Some SetTrue }
 
 -- `-f FILE`: the operands are in a file of lines
-abbrev pub file_rule : Rule
-file_rule = record (new_rule (codes "file")) { short = Some letter_f; value_names = 1 }
+abbrev pub script_rule : Rule
+script_rule = record (new_rule (codes "file")) { short = Some letter_f; value_names = 1 }
 
 -- `--stdout`: what a file becomes goes to standard output
 abbrev pub stdout_rule : Rule
@@ -33,7 +33,7 @@ nameless = let app = new_app (codes "buildozer") in record { top = record app.to
 
 -- how lines are found and run
 abbrev pub lines_app : App
-lines_app = with_rule (with_rule nameless keep_going_rule) file_rule
+lines_app = with_rule (with_rule nameless keep_going_rule) script_rule
 
 -- and what becomes of files
 abbrev pub options_app : App

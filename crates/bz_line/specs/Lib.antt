@@ -1,5 +1,5 @@
 pub mod App
-pub mod Asked
+pub mod Requested
 pub mod Hints
 pub mod Line
 pub mod Operands

@@ -4,8 +4,8 @@ use Rattle.bz_items.specs.Characters.{Bytes}
 use Rattle.bz_words.specs.Commands.{command_of}
 use Rattle.bz_words.specs.Refused.{HasBadPattern}
 use Rattle.bz_words.specs.declared.fault.CommandFault.TheVariants.{BadPattern}
-use Rattle.bz_line.specs.Asked.{Asked, Refused, Usage, of_operand, no_command, no_target, no_line, nul, asked_by, asked_of, operand_group}
-use Rattle.bz_line.specs.Script.{line_with_nul, lines_of, lines_in, operands_in, operand_groups, script_of}
+use Rattle.bz_line.specs.Requested.{Requested, Refused, Usage, of_operand, no_command, no_target, no_line, nul, requested_by, requested_of, operand_group}
+use Rattle.bz_line.specs.Script.{line_with_nul, script_lines, lines_in, operands_in, operand_groups, script_of}
 use Rattle.bz_line.specs.declared.verb.OperandFault.{OperandFault}
 use Rattle.bz_line.specs.declared.verb.OperandFault.TheVariants.{Command}
 
@@ -15,15 +15,15 @@ IsPatternFault operand fault = (fault ≡ Command BadPattern) × HasBadPattern (
 
 -- memory aside: what the operand requests, or a pattern that is refused where nothing else is wrong
 abbrev pub IsOperandFault : Bytes → OperandFault → Type 0
-IsOperandFault operand fault = (asked_by operand ≡ Err (record { operand = operand; fault = fault })) ⊎ IsPatternFault operand fault
+IsOperandFault operand fault = (requested_by operand ≡ Err (record { operand = operand; fault = fault })) ⊎ IsPatternFault operand fault
 
 -- The first operand that is refused.
 pub record IsFirstRefused (operands : List Bytes) (refused : Refused) : Type 0 where
   pub front : List Bytes
   pub rest : List Bytes
-  pub asked : Asked
+  pub requested : Requested
   pub split : operands ≡ front ++ refused.operand ∷ rest
-  pub before : asked_of front ≡ Ok asked
+  pub before : requested_of front ≡ Ok requested
   pub fault : IsOperandFault refused.operand refused.fault
 
 -- why the operands of one line request nothing
@@ -39,11 +39,11 @@ pub record IsFirstFault (lines : List Bytes) (usage : Usage) : Type 0 where
   pub front : List Bytes
   pub line : Bytes
   pub rest : List Bytes
-  pub groups : List Asked
+  pub groups : List Requested
   pub split : lines ≡ front ++ line ∷ rest
   pub before : operand_groups front ≡ Ok groups
   pub fault : IsGroupFault (operands_in line) usage
 
 -- why the lines of a file request nothing; where none has a NUL byte, the first fault may be a pattern
 abbrev pub IsScriptFault : Bytes → Usage → Type 0
-IsScriptFault text usage = (script_of text ≡ Err usage) ⊎ ((line_with_nul (lines_of text) ≡ None) × IsFirstFault (lines_in text) usage)
+IsScriptFault text usage = (script_of text ≡ Err usage) ⊎ ((line_with_nul (script_lines text) ≡ None) × IsFirstFault (lines_in text) usage)

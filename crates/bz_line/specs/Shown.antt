@@ -1,11 +1,11 @@
 -- What was read, as contracts see it.
 use Rattle.std.specs.Prelude.{map, ◌++◌, Option, Some, None}
 use Rattle.bz_items.specs.Characters.{Bytes}
-use Rattle.bz_line.specs.Asked as a
+use Rattle.bz_line.specs.Requested as a
 use Rattle.bz_line.specs.Line as l
-use Rattle.bz_line.specs.declared.asked.Asked.{Asked}
-use Rattle.bz_line.specs.declared.asked.Asking.{Asking}
-use Rattle.bz_line.specs.declared.asked.Refused.{Refused}
+use Rattle.bz_line.specs.declared.requested.Requested.{Requested}
+use Rattle.bz_line.specs.declared.requested.Request.{Request}
+use Rattle.bz_line.specs.declared.requested.Refused.{Refused}
 use Rattle.bz_line.specs.declared.group.UsageFault.{UsageFault}
 use Rattle.bz_line.specs.declared.group.UsageFault.TheVariants as u
 use Rattle.bz_line.specs.declared.hint.Hint.{Hint}
@@ -29,11 +29,11 @@ line_usage_in f.BesideScript = Some l.beside_script
 line_usage_in f.BesideStdout = Some l.beside_stdout
 line_usage_in f.Memory = None
 
-abbrev pub asking_in : Asking → a.Asking
-asking_in asking = record { verb = asking.verb; text = asking.text.now }
+abbrev pub request_in : Request → a.Request
+request_in request = record { verb = request.verb; text = request.text.now }
 
-abbrev pub asked_in : Asked → a.Asked
-asked_in asked = record { commands = map asking_in asked.commands.items; targets = asked.targets.items }
+abbrev pub requested_in : Requested → a.Requested
+requested_in requested = record { commands = map request_in requested.commands.items; targets = requested.targets.items }
 
 abbrev pub refused_in : Refused → a.Refused
 refused_in refused = record { operand = refused.operand.now; fault = refused.fault }

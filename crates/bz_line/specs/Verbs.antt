@@ -16,13 +16,13 @@ prints (Redo count) = false
 prints Journal = true
 
 -- the table of refusals: names
-abbrev pub fault_name : OperandFault → Bytes
-fault_name Memory = codes "Memory"
-fault_name BadTarget = codes "BadTarget"
-fault_name (Command fault) = c.fault_name fault
+abbrev pub operand_fault_name : OperandFault → Bytes
+operand_fault_name Memory = codes "Memory"
+operand_fault_name BadTarget = codes "BadTarget"
+operand_fault_name (Command fault) = c.command_fault_name fault
 
 -- the table of refusals: numbers
-abbrev pub fault_number : OperandFault → ℕ
-fault_number Memory = 8
-fault_number BadTarget = 12
-fault_number (Command fault) = c.fault_number fault
+abbrev pub operand_fault_number : OperandFault → ℕ
+operand_fault_number Memory = 8
+operand_fault_number BadTarget = 12
+operand_fault_number (Command fault) = c.command_fault_number fault

@@ -6,7 +6,7 @@ use Rattle.bz_label.specs.declared.target.Which.TheVariants.{Name}
 use Rattle.bz_words.specs.declared.command.Operation.TheVariants as w
 use Rattle.bz_words.specs.declared.command.RuleOperation.TheVariants as wr
 use Rattle.bz_words.specs.declared.fault.CommandFault.TheVariants.{Unknown, Arguments}
-use Rattle.bz_line.specs.Asked.{Asked, Asking, Usage, of_operand, no_command, no_target, no_line, nul, operand_group}
+use Rattle.bz_line.specs.Requested.{Requested, Request, Usage, of_operand, no_command, no_target, no_line, nul, operand_group}
 use Rattle.bz_line.specs.Hints.{hint_for}
 use Rattle.bz_line.specs.Line.{CommandLine, Given, operands, script, of_clap, beside_script, beside_stdout, command_line_of}
 use Rattle.bz_line.specs.Operands.{operand_target, verb_of}
@@ -61,11 +61,11 @@ Journals = (command_line_of (codes "-k" ∷ codes "--quiet" ∷ codes "--journal
 abbrev meant : Bytes → Target
 meant name = record { «package» = codes "a"; which = Name name }
 
-abbrev asking : Verb → Bytes → Asking
-asking verb text = record { verb = verb; text = text }
+abbrev request : Verb → Bytes → Request
+request verb text = record { verb = verb; text = text }
 
-abbrev deleted : Bytes → Asked
-deleted name = record { commands = asking (Do (w.Rule wr.Delete)) (codes "delete") ∷ []; targets = meant name ∷ [] }
+abbrev deleted : Bytes → Requested
+deleted name = record { commands = request (Do (w.Rule wr.Delete)) (codes "delete") ∷ []; targets = meant name ∷ [] }
 
 abbrev refused : Bytes → OperandFault → Usage
 refused operand fault = of_operand (record { operand = operand; fault = fault })
@@ -73,7 +73,7 @@ refused operand fault = of_operand (record { operand = operand; fault = fault })
 -- commands and targets mixed, each in order; the first refused operand; no command; no target; no operand
 abbrev Groups : Type 0
 Groups = (operand_group (codes "//a:x" ∷ codes "undo 007" ∷ codes "a:y" ∷ codes " redo" ∷ [])
-    ≡ Ok (record { commands = asking (Undo 7) (codes "undo 007") ∷ asking (Redo 1) (codes " redo") ∷ []; targets = meant (codes "x") ∷ meant (codes "y") ∷ [] }))
+    ≡ Ok (record { commands = request (Undo 7) (codes "undo 007") ∷ request (Redo 1) (codes " redo") ∷ []; targets = meant (codes "x") ∷ meant (codes "y") ∷ [] }))
     × (operand_group (codes "delete" ∷ codes "//a:" ∷ codes "grow" ∷ []) ≡ Err (refused (codes "//a:") BadTarget))
     × (operand_group (codes "//a:x" ∷ []) ≡ Err no_command) × (operand_group (codes "delete" ∷ []) ≡ Err no_target) × (operand_group [] ≡ Err no_command)
 
@@ -117,19 +117,19 @@ Operands = (operand_target (codes "//a:x") ≡ Ok (meant (codes "x"))) × (opera
 -- the list of texts, which takes no argument and prints, and other steps of a history, which don't
 abbrev Listed : Type 0
 Listed = (verb_of (codes " journal ") ≡ Ok Journal) × (verb_of (codes "journal 1") ≡ Err (Command Arguments))
-    × (operand_group (codes "journal" ∷ codes "//a:x" ∷ []) ≡ Ok (record { commands = asking Journal (codes "journal") ∷ []; targets = meant (codes "x") ∷ [] }))
+    × (operand_group (codes "journal" ∷ codes "//a:x" ∷ []) ≡ Ok (record { commands = request Journal (codes "journal") ∷ []; targets = meant (codes "x") ∷ [] }))
     × (prints Journal ≡ true) × (prints (Undo 1) ≡ false) × (prints (Redo 1) ≡ false)
 
-abbrev tells : Bytes → Bytes → Type 0
-tells operand lines = hint_for (record { operand = operand; fault = Command Arguments }) ≡ lines
+abbrev answers : Bytes → Bytes → Type 0
+answers operand lines = hint_for (record { operand = operand; fault = Command Arguments }) ≡ lines
 
 -- the forms of a command; a name without its words; words of `fix`, one of them twice; a step of a history
 abbrev Forms : Type 0
-Forms = tells (codes "set kind") (codes "buildozer: the form is 'set ATTR VALUE..' or 'set kind KIND'\n")
-    × tells (codes " add ")
+Forms = answers (codes "set kind") (codes "buildozer: the form is 'set ATTR VALUE..' or 'set kind KIND'\n")
+    × answers (codes " add ")
     (codes "buildozer: the form is 'add ATTR VALUE..'\nbuildozer: on a command line, put a command and its words in one pair of quotation marks\n")
-    × tells (codes "fix unusedLoads unusedLoads") (codes "buildozer: the form is 'fix [unusedLoads] [movePackageToTop]'\n")
-    × tells (codes "undo 0") (codes "buildozer: the form is 'undo [N]'\n")
+    × answers (codes "fix unusedLoads unusedLoads") (codes "buildozer: the form is 'fix [unusedLoads] [movePackageToTop]'\n")
+    × answers (codes "undo 0") (codes "buildozer: the form is 'undo [N]'\n")
 
 abbrev pub WorkedCommandLines : Type 0
 WorkedCommandLines = Words × Scripts × Journals × Groups × Lines × Bytewise × Faults × Operands × Listed × Forms

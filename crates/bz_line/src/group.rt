@@ -1,12 +1,12 @@
 //! One line: its commands and its targets.
 ghost use Rattle.std.specs.Prelude.{◌≡◌, ◌≢◌, ◌⊎◌, Ok, Err, Some, None, IfOk, IfErr, IfSome, map};
 ghost use Rattle.std.specs.List.{All};
-ghost use Rattle.bz_line.specs.Asked.{operand_group, of_operand};
+ghost use Rattle.bz_line.specs.Requested.{operand_group, of_operand};
 ghost use Rattle.bz_line.specs.Paths.{HasPath};
 ghost use Rattle.bz_line.specs.Refused.{IsGroupFault};
-ghost use Rattle.bz_line.specs.Shown.{asked_in, refused_in, usage_in};
+ghost use Rattle.bz_line.specs.Shown.{requested_in, refused_in, usage_in};
 
-use crate::asked::{Asked, Refused, read_asked};
+use crate::requested::{Requested, Refused, read_requested};
 use crate::verb::OperandFault;
 use std::alloc::{AllocError, Global};
 
@@ -51,20 +51,20 @@ fn usage_fault(refused: Refused<'_>) -> UsageFault<'_>
 /// What the operands of one line request: commands and targets, at least one of each, in order. The package of each target
 /// is text in UTF-8, of at most 65,536 bytes. Errors, in this order: `Operand` where one is refused, which is the first
 /// such; `NoCommand`; `NoTarget`; and `Memory` where a growth was refused.
-pub fn read_group<'a>(alloc: Global, operands: &[&'a str]) -> Result<Asked<'a>, UsageFault<'a>>
-    ensures ok { IfOk result (λ asked. operand_group (map (λ s. s.now) operands.now) ≡ Ok (asked_in asked)) }
+pub fn read_group<'a>(alloc: Global, operands: &[&'a str]) -> Result<Requested<'a>, UsageFault<'a>>
+    ensures ok { IfOk result (λ requested. operand_group (map (λ s. s.now) operands.now) ≡ Ok (requested_in requested)) }
     ensures err { IfErr result (λ fault. IfSome (usage_in fault) (IsGroupFault (map (λ s. s.now) operands.now))) }
-    ensures paths { IfOk result (λ asked. All HasPath asked.targets.items) }
+    ensures paths { IfOk result (λ requested. All HasPath requested.targets.items) }
 {
-    let asked = match read_asked(alloc, operands) {
-        Ok(asked) => asked,
+    let requested = match read_requested(alloc, operands) {
+        Ok(requested) => requested,
         Err(refused) => return Err(usage_fault(refused)),
     };
-    if asked.commands.is_empty() {
+    if requested.commands.is_empty() {
         return Err(UsageFault::NoCommand);
     }
-    if asked.targets.is_empty() {
+    if requested.targets.is_empty() {
         return Err(UsageFault::NoTarget);
     }
-    Ok(asked)
+    Ok(requested)
 }

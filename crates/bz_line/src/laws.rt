@@ -2,6 +2,6 @@
 ghost use Rattle.bz_line.specs.Worked.{WorkedCommandLines};
 
 /// What lines of words and files of lines say, worked out by hand.
-pub fn worked_lines()
+pub fn worked_command_lines()
     ensures { WorkedCommandLines }
 {}

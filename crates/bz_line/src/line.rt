@@ -2,11 +2,11 @@
 ghost use Rattle.std.specs.Prelude.{◌≡◌, [], false, Some, Ok, Err, IfOk, IfErr, IfSome, map};
 ghost use Rattle.clap.specs.Words.{app_of, new_rule, rule_of, found_of, fault_of, matches_of, rows_of};
 ghost use Rattle.clap.specs.declared.builder.action.ArgAction.TheVariants.{SetTrue};
-ghost use Rattle.bz_line.specs.App.{nameless, buildozer_app, lines_app, options_app, keep_going_rule, file_rule, operand_rule};
+ghost use Rattle.bz_line.specs.App.{nameless, buildozer_app, lines_app, options_app, keep_going_rule, script_rule, operand_rule};
 ghost use Rattle.bz_line.specs.Line.{is_flag_set, options_of, given_of, command_line_of};
 ghost use Rattle.bz_line.specs.Shown.{given_in, line_in, line_usage_in};
 
-use bz_ports::{VERSION, text_of, texts_of};
+use bz_ports::{VERSION, argument_text, argument_texts};
 use clap::error::ErrorKind;
 use clap::{Arg, ArgAction, ArgMatches, Command};
 use std::alloc::{AllocError, Global};
@@ -80,7 +80,7 @@ fn keep_going<'a>(alloc: Global) -> Arg<'a>
 }
 
 fn file<'a>(alloc: Global) -> Arg<'a>
-    ensures rule { rule_of result ≡ file_rule }
+    ensures rule { rule_of result ≡ script_rule }
     ensures local { result.global ≡ false }
 {
     Arg::new(alloc, "file").short('f').value_name("FILE").help(
@@ -167,7 +167,7 @@ fn parse<'a, S: AsStr>(alloc: Global, words: &'a [S]) -> Result<ArgMatches<'a>, 
 fn is_flag_set(matches: &ArgMatches<'_>, id: &str) -> bool
     ensures { result ≡ is_flag_set id.now (rows_of (found_of matches.now)) }
 {
-    match text_of(matches, id) {
+    match argument_text(matches, id) {
         Some(text) => text == "true",
         None => false,
     }
@@ -188,11 +188,11 @@ fn given_of<'a>(alloc: Global, matches: &ArgMatches<'a>) -> Result<Given<'a>, Li
     ensures ok { IfOk result (λ given. given_of (rows_of (found_of matches.now)) ≡ Ok (given_in given)) }
     ensures err { IfErr result (λ fault. IfSome (line_usage_in fault) (λ usage. given_of (rows_of (found_of matches.now)) ≡ Err usage)) }
 {
-    let operands = match texts_of(alloc, matches, "operand") {
+    let operands = match argument_texts(alloc, matches, "operand") {
         Ok(operands) => operands,
         Err(_) => return Err(LineFault::Memory),
     };
-    let Some(file) = text_of(matches, "file") else {
+    let Some(file) = argument_text(matches, "file") else {
         return Ok(Given::Operands(operands));
     };
     if operands.is_empty() {

@@ -2,13 +2,13 @@
 ghost use Rattle.std.specs.Prelude.{◌≡◌, ◌<◌, [], ◌∷◌, ◌++◌, length, position, Ok, IfOk, OnOk, IfErr, IfSome, map, filter};
 ghost use Rattle.std.specs.List.{All};
 ghost use Rattle.std.specs.Str.Lines.{lines};
-ghost use Rattle.bz_line.specs.Asked.{operand_group};
+ghost use Rattle.bz_line.specs.Requested.{operand_group};
 ghost use Rattle.bz_line.specs.Paths.{HasPath};
 ghost use Rattle.bz_line.specs.Refused.{IsFirstFault, IsGroupFault, IsScriptFault};
 ghost use Rattle.bz_line.specs.Script.{has_nul, is_read, line_with_nul, operands_in, operand_groups, script_of, without_mark};
-ghost use Rattle.bz_line.specs.Shown.{asked_in, usage_in};
+ghost use Rattle.bz_line.specs.Shown.{requested_in, usage_in};
 
-use crate::asked::Asked;
+use crate::requested::Requested;
 use crate::group::{UsageFault, read_group};
 use std::alloc::{AllocError, Global};
 
@@ -42,7 +42,7 @@ fn without_mark(script: &str) -> &str
     script.strip_prefix("\u{feff}").unwrap_or(script)
 }
 
-fn lines_of<'a>(alloc: Global, script: &'a str) -> Result<Vec<&'a str>, AllocError>
+fn script_lines<'a>(alloc: Global, script: &'a str) -> Result<Vec<&'a str>, AllocError>
     ensures { IfOk result (λ all. map (λ s. s.now) all.items ≡ lines script.entry.now) }
 {
     script.lines().collect(alloc)
@@ -78,26 +78,26 @@ fn operands_in<'a>(alloc: Global, line: &'a str) -> Result<Vec<&'a str>, AllocEr
     line.split('|').collect(alloc)
 }
 
-fn read_operands<'a>(alloc: Global, line: &'a str) -> Result<Asked<'a>, UsageFault<'a>>
-    ensures ok { IfOk result (λ asked. operand_group (operands_in line.entry.now) ≡ Ok (asked_in asked)) }
+fn read_operands<'a>(alloc: Global, line: &'a str) -> Result<Requested<'a>, UsageFault<'a>>
+    ensures ok { IfOk result (λ requested. operand_group (operands_in line.entry.now) ≡ Ok (requested_in requested)) }
     ensures err { IfErr result (λ fault. IfSome (usage_in fault) (IsGroupFault (operands_in line.entry.now))) }
-    ensures paths { IfOk result (λ asked. All HasPath asked.targets.items) }
+    ensures paths { IfOk result (λ requested. All HasPath requested.targets.items) }
 {
     let operands = operands_in(alloc, line)?;
     read_group(alloc, &operands)
 }
 
-fn add<'a>(groups: &mut Vec<Asked<'a>>, group: Asked<'a>) -> Result<(), AllocError>
+fn add<'a>(groups: &mut Vec<Requested<'a>>, group: Requested<'a>) -> Result<(), AllocError>
     ensures { OnOk result (groups.new.items ≡ groups.old.items ++ group.entry ∷ []) }
 {
     groups.push(group)?;
     Ok(())
 }
 
-fn read_groups<'a>(alloc: Global, lines: &[&'a str]) -> Result<Vec<Asked<'a>>, UsageFault<'a>>
-    ensures ok { IfOk result (λ groups. operand_groups (map (λ s. s.now) lines.now) ≡ Ok (map asked_in groups.items)) }
+fn read_groups<'a>(alloc: Global, lines: &[&'a str]) -> Result<Vec<Requested<'a>>, UsageFault<'a>>
+    ensures ok { IfOk result (λ groups. operand_groups (map (λ s. s.now) lines.now) ≡ Ok (map requested_in groups.items)) }
     ensures err { IfErr result (λ fault. IfSome (usage_in fault) (IsFirstFault (map (λ s. s.now) lines.now))) }
-    ensures paths { IfOk result (λ groups. All (λ asked. All HasPath asked.targets.items) groups.items) }
+    ensures paths { IfOk result (λ groups. All (λ requested. All HasPath requested.targets.items) groups.items) }
 {
     let mut groups = Vec::new(alloc);
     for &line in lines {
@@ -112,12 +112,12 @@ fn read_groups<'a>(alloc: Global, lines: &[&'a str]) -> Result<Vec<Asked<'a>>, U
 /// passed over; `|` separates the operands of a line. Packages are as `read_group` gives them. Errors, in this order: `Nul`
 /// where some line has a NUL byte, `NoLine` where there is no line of operands, and the first line's that is refused, as
 /// `read_group` reports it; `Memory` where a growth was refused.
-pub fn read_script<'a>(alloc: Global, script: &'a str) -> Result<Vec<Asked<'a>>, UsageFault<'a>>
-    ensures ok { IfOk result (λ groups. script_of script.entry.now ≡ Ok (map asked_in groups.items)) }
+pub fn read_script<'a>(alloc: Global, script: &'a str) -> Result<Vec<Requested<'a>>, UsageFault<'a>>
+    ensures ok { IfOk result (λ groups. script_of script.entry.now ≡ Ok (map requested_in groups.items)) }
     ensures err { IfErr result (λ fault. IfSome (usage_in fault) (IsScriptFault script.entry.now)) }
-    ensures paths { IfOk result (λ groups. All (λ asked. All HasPath asked.targets.items) groups.items) }
+    ensures paths { IfOk result (λ groups. All (λ requested. All HasPath requested.targets.items) groups.items) }
 {
-    let all = lines_of(alloc, without_mark(script))?;
+    let all = script_lines(alloc, without_mark(script))?;
     if let Some(line) = line_with_nul(&all) {
         return Err(UsageFault::Nul(line));
     }

@@ -19,7 +19,7 @@ pub(crate) fn is_target(operand: &[u8]) -> bool
 /// The target of this text. Errors: `BadTarget`: it is none; `Memory`: a growth was refused.
 #[tactic(auto, using(crate::proofs::PathTexts::has_path))]
 pub(crate) fn read_target(alloc: Global, text: &str) -> Result<Target, OperandFault>
-    ensures told { (result ≡ operand_target text.now) ⊎ (result ≡ Err OperandFault.Memory) }
+    ensures answered { (result ≡ operand_target text.now) ⊎ (result ≡ Err OperandFault.Memory) }
     ensures paths { IfOk result HasPath }
 {
     match Target::read(alloc, text) {

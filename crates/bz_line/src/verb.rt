@@ -5,7 +5,7 @@ ghost use Rattle.bz_words.specs.Proper.{AreUtf8};
 ghost use Rattle.bz_words.specs.Refused.{HasBadPattern};
 ghost use Rattle.bz_line.specs.Operands.{verb_in, verb_of, by_command, count_of, history_verb_in, journal_of, steps_of};
 ghost use Rattle.bz_line.specs.Refused.{IsPatternFault};
-ghost use Rattle.bz_line.specs.Verbs.{prints, fault_name, fault_number};
+ghost use Rattle.bz_line.specs.Verbs.{prints, operand_fault_name, operand_fault_number};
 
 use bz_items::Text;
 use bz_words::{Command, CommandFault, TEXT_LIMIT, read_words};
@@ -52,7 +52,7 @@ pub enum OperandFault {
 impl OperandFault {
     /// The name by which the fault is reported.
     pub fn name(&self) -> &'static str
-        ensures { result.now ≡ fault_name self.now }
+        ensures { result.now ≡ operand_fault_name self.now }
     {
         match self {
             OperandFault::Memory => "Memory",
@@ -63,7 +63,7 @@ impl OperandFault {
 
     /// The number by which the fault is reported.
     pub fn number(&self) -> u8
-        ensures { result ≡ fault_number self.now }
+        ensures { result ≡ operand_fault_number self.now }
     {
         match self {
             OperandFault::Memory => 8,

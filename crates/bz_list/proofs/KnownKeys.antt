@@ -19,7 +19,7 @@ use Rattle.bz_attribute.proofs.KeySets.{any_map, any_like, any_inserted, equal_t
 use Rattle.bz_list.specs.declared.known.Key.{Key}
 use Rattle.bz_list.specs.contracts.known.KeyOrd.TheImpl as key_ord
 use Rattle.bz_label.specs.Tables.{is_label_attribute}
-use Rattle.bz_list.specs.KnownValues.{KnownValues, label_meant, asked, none_known, with_word}
+use Rattle.bz_list.specs.KnownValues.{KnownValues, label_meant, membership, none_known, with_word}
 use Rattle.bz_list.proofs.KnownSteps.{nothing_known, label_pushed, text_pushed}
 use Rattle.bz_attribute.specs.Sets.{texts_of}
 use Rattle.bz_list.specs.KnownKeys.{label_of_key, labels_of}
@@ -72,10 +72,10 @@ label_inserted old new key label e =
 
 pub none_kept : (current now attribute : Bytes) (is_label : Bool) (labels : BTreeSet Key) (texts : BTreeSet (Vec ℕ Global))
     → current ≡ now → is_label ≡ is_label_attribute attribute → labels.keys ≡ [] → texts.keys ≡ []
-    → asked (record { current = current; is_label = is_label; labels = labels_of labels; texts = texts_of texts }) ≡ none_known now attribute
+    → membership (record { current = current; is_label = is_label; labels = labels_of labels; texts = texts_of texts }) ≡ none_known now attribute
 none_kept current now attribute is_label labels texts here kind no_labels no_texts =
-    ap (λ keys. asked (record { current = current; is_label = is_label; labels = map label_of_key keys; texts = texts_of texts })) no_labels
-    ∙ (ap (λ keys. asked (record { current = current; is_label = is_label; labels = []; texts = map (λ (text : Vec ℕ Global). text.items) keys })) no_texts
+    ap (λ keys. membership (record { current = current; is_label = is_label; labels = map label_of_key keys; texts = texts_of texts })) no_labels
+    ∙ (ap (λ keys. membership (record { current = current; is_label = is_label; labels = []; texts = map (λ (text : Vec ℕ Global). text.items) keys })) no_texts
     ∙ (nothing_known current is_label
     ∙ (ap (λ (z : Bytes). record { current = z; is_label = is_label; is_known = λ word. false }) here
     ∙ ap (λ (z : Bool). record { current = now; is_label = z; is_known = λ word. false }) kind)))
@@ -90,12 +90,12 @@ pub label_kept : (current : Bytes) (is_label : Bool) (labels more : BTreeSet Key
     → option_map label_of_key found ≡ label_meant known.is_label known.current text
     → found ≡ Some key
     → ((label : Label) → list_any (is_equal label) (labels_of more) ≡ (is_equal label (label_of_key key) || list_any (is_equal label) (labels_of labels)))
-    → asked (kept current is_label more texts) ≡ with_word text (asked known)
+    → membership (kept current is_label more texts) ≡ with_word text (membership known)
 label_kept current is_label labels more texts known text found key view read is e =
     let meant : Some (label_of_key key) ≡ label_meant is_label current text =
     ap (option_map label_of_key) (sym is) ∙ (read ∙ ap (λ (k : KnownValues). label_meant k.is_label k.current text) (sym view)) in
     label_pushed current is_label (labels_of labels) (labels_of more) (texts_of texts) text (label_of_key key) meant e
-    ∙ ap (λ (k : KnownValues). with_word text (asked k)) view
+    ∙ ap (λ (k : KnownValues). with_word text (membership k)) view
 
 no_key : (found : Option Key) (read : Option Label) → option_map label_of_key found ≡ read → ((key : Key) → found ≡ Some key → ⊥) → None ≡ read
 no_key None read e none = e
@@ -106,9 +106,9 @@ pub text_kept : (current : Bytes) (is_label : Bool) (labels : BTreeSet Key) (tex
     → option_map label_of_key found ≡ label_meant known.is_label known.current text
     → ((key : Key) → found ≡ Some key → ⊥)
     → ((word : Bytes) → list_any (bytes_eq word) (texts_of more) ≡ (bytes_eq word text || list_any (bytes_eq word) (texts_of texts)))
-    → asked (kept current is_label labels more) ≡ with_word text (asked known)
+    → membership (kept current is_label labels more) ≡ with_word text (membership known)
 text_kept current is_label labels texts more known text found view read none e =
     let meant : None ≡ label_meant is_label current text =
     no_key found (label_meant known.is_label known.current text) read none ∙ ap (λ (k : KnownValues). label_meant k.is_label k.current text) (sym view) in
     text_pushed current is_label (labels_of labels) (texts_of texts) (texts_of more) text meant e
-    ∙ ap (λ (k : KnownValues). with_word text (asked k)) view
+    ∙ ap (λ (k : KnownValues). with_word text (membership k)) view

@@ -16,7 +16,7 @@ use Rattle.bz_attribute.specs.Lists.{body_of, items_in, are_one, is_some_item, l
 use Rattle.bz_attribute.proofs.KeySets.{equal_texts, or_group, or_none}
 use Rattle.bz_list.specs.declared.known.Chosen.TheVariants as h
 use Rattle.bz_list.specs.Listing.{chooses, with_lists}
-use Rattle.bz_list.specs.KnownValues.{mean_the_same, label_meant, is_among, KnownValues, Membership, asked, none_known, with_word, with_words, is_known_item, with_item, with_known_items}
+use Rattle.bz_list.specs.KnownValues.{mean_the_same, label_meant, is_among, KnownValues, Membership, membership, none_known, with_word, with_words, is_known_item, with_item, with_known_items}
 
 -- ---- words mean one value both ways
 
@@ -100,8 +100,8 @@ text_more labels texts more word text None e = e
 pub label_pushed : (current : Bytes) (is_label : Bool) (labels more : List Label) (texts : List Bytes) (text : Bytes) (added : Label)
     → Some added ≡ label_meant is_label current text
     → ((label : Label) → list_any (is_equal label) more ≡ (is_equal label added || list_any (is_equal label) labels))
-    → asked (record { current = current; is_label = is_label; labels = more; texts = texts })
-    ≡ with_word text (asked (record { current = current; is_label = is_label; labels = labels; texts = texts }))
+    → membership (record { current = current; is_label = is_label; labels = more; texts = texts })
+    ≡ with_word text (membership (record { current = current; is_label = is_label; labels = labels; texts = texts }))
 label_pushed current is_label labels more texts text added read e =
     ap (λ (test : Bytes → Bool). record { current = current; is_label = is_label; is_known = test })
     (fun_ext (λ word. label_more labels more texts added word text (label_meant is_label current word) e
@@ -112,8 +112,8 @@ label_pushed current is_label labels more texts text added read e =
 pub text_pushed : (current : Bytes) (is_label : Bool) (labels : List Label) (texts more : List Bytes) (text : Bytes)
     → None ≡ label_meant is_label current text
     → ((word : Bytes) → list_any (bytes_eq word) more ≡ (bytes_eq word text || list_any (bytes_eq word) texts))
-    → asked (record { current = current; is_label = is_label; labels = labels; texts = more })
-    ≡ with_word text (asked (record { current = current; is_label = is_label; labels = labels; texts = texts }))
+    → membership (record { current = current; is_label = is_label; labels = labels; texts = more })
+    ≡ with_word text (membership (record { current = current; is_label = is_label; labels = labels; texts = texts }))
 text_pushed current is_label labels texts more text read e =
     ap (λ (test : Bytes → Bool). record { current = current; is_label = is_label; is_known = test })
     (fun_ext (λ word. text_more labels texts more word text (label_meant is_label current word) (e word)
@@ -126,7 +126,7 @@ none_among word (Some label) = refl
 none_among word None = refl
 
 pub nothing_known : (current : Bytes) (is_label : Bool)
-    → asked (record { current = current; is_label = is_label; labels = []; texts = [] }) ≡ record { current = current; is_label = is_label; is_known = λ word. false }
+    → membership (record { current = current; is_label = is_label; labels = []; texts = [] }) ≡ record { current = current; is_label = is_label; is_known = λ word. false }
 nothing_known current is_label =
     ap (λ (test : Bytes → Bool). record { current = current; is_label = is_label; is_known = test })
     (fun_ext (λ word. none_among word (label_meant is_label current word)))
@@ -165,12 +165,12 @@ by_body current attribute words None = sym (none_any words)
     none_any (w ∷ ws) = none_any ws
 by_body current attribute words (Some other) = refl
 
-words_asked : (current attribute : Bytes) (words : List Bytes) (x : Expr) → is_known_item (with_words words (none_known current attribute)) x ≡ is_some_item current attribute words x
-words_asked current attribute words x =
+words_membership : (current attribute : Bytes) (words : List Bytes) (x : Expr) → is_known_item (with_words words (none_known current attribute)) x ≡ is_some_item current attribute words x
+words_membership current attribute words x =
     ap (λ (known : Membership). is_known_item known x) (words_known words (none_known current attribute))
     ∙ ap (λ (test : Bytes → Bool). option_map_or test (body_of x) false)
     (fun_ext (λ other. or_none (list_any (mean_the_same (is_label_attribute attribute) current other) words) ∙ any_alike (is_label_attribute attribute) current other words))
     ∙ by_body current attribute words (body_of x)
 
-pub chosen_words : (current attribute : Bytes) (words : List Bytes) (known : KnownValues) → asked known ≡ with_words words (none_known current attribute) → chooses (h.These known) ≡ is_some_item current attribute words
-chosen_words current attribute words known e = fun_ext (λ x. ap (λ (all : Membership). is_known_item all x) e ∙ words_asked current attribute words x)
+pub chosen_words : (current attribute : Bytes) (words : List Bytes) (known : KnownValues) → membership known ≡ with_words words (none_known current attribute) → chooses (h.These known) ≡ is_some_item current attribute words
+chosen_words current attribute words known e = fun_ext (λ x. ap (λ (all : Membership). is_known_item all x) e ∙ words_membership current attribute words x)

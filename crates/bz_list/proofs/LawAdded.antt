@@ -64,7 +64,7 @@ list_kind _ h = absurd (true≢false (sym h))
 
 no_sum : (x : Expr) → has_kind k.List x ≡ true → has_kind k.Sum x ≡ false
 no_sum (Token t) h = refl
-no_sum (Form' kind s parts s' items end_ split open_ comments) h = list_kind kind h
+no_sum (Form' kind s parts s' items end split open_break comments) h = list_kind kind h
 
 -- ---- further items at the end of the first list
 
@@ -101,10 +101,10 @@ any_longer test more (x ∷ xs) h = elim (cases_Bool (has_kind k.List x)) [
       ∙ ap (λ zs. list_any test zs || list_any test more) (sym (list_first x xs w))))
   | inr n ↦
       let rest : List Expr = on_first_that (has_kind k.List) (longer more) xs in
-      let behind : on_first_that (has_kind k.List) (longer more) (x ∷ xs) ≡ x ∷ rest = if_false (has_kind k.List x) (longer more x ∷ xs) (x ∷ rest) n in
+      let following : on_first_that (has_kind k.List) (longer more) (x ∷ xs) ≡ x ∷ rest = if_false (has_kind k.List x) (longer more x ∷ xs) (x ∷ rest) n in
       let later : is_empty (filter (has_kind k.List) xs) ≡ false =
       sym (ap (λ (zs : List Expr). is_empty zs) (if_false (has_kind k.List x) (x ∷ filter (has_kind k.List) xs) (filter (has_kind k.List) xs) n)) ∙ h in
-      ap (λ zs. list_any test (items_among zs)) behind
+      ap (λ zs. list_any test (items_among zs)) following
       ∙ (ap (list_any test) (other_first x rest n)
       ∙ (any_longer test more xs later
       ∙ ap (λ zs. list_any test zs || list_any test more) (sym (other_first x xs n))))
@@ -156,11 +156,11 @@ nothing [] h = refl
 nothing (x ∷ xs) h = absurd (true≢false (sym h))
 
 -- a sign and a list
-abbrev behind : List Expr → List Expr
-behind items = mark (codes "+") ∷ list_of items ∷ []
+abbrev following : List Expr → List Expr
+following items = mark (codes "+") ∷ list_of items ∷ []
 
-items_behind : (items : List Expr) → items_among (behind items) ≡ items
-items_behind items = append-nil (items_of (list_of items)) ∙ list_items items
+items_after : (items : List Expr) → items_among (following items) ≡ items
+items_after items = append-nil (items_of (list_of items)) ∙ list_items items
 
 no_operand : (value : Expr) → has_kind k.List value ≡ false → has_kind k.List (operand value) ≡ false
 no_operand value n = by_case (λ (x : Expr). has_kind k.List x ≡ false) (binds_looser value) (node k.Paren (mark (codes "(") ∷ value ∷ mark (codes ")") ∷ [])) value (λ b. refl) (λ b. n)
@@ -168,16 +168,16 @@ no_operand value n = by_case (λ (x : Expr). has_kind k.List x ≡ false) (binds
 items_plus : (value : Expr) (items : List Expr) → has_lists value ≡ false → items_in (plus value (list_of items)) ≡ items
 items_plus value items h =
     let n : has_kind k.List value ≡ false = no_list value h in
-    let more : List Expr → List Expr = λ parts. parts ++ behind items in
-    let ps : List Expr = operand value ∷ behind items in
+    let more : List Expr → List Expr = λ parts. parts ++ following items in
+    let ps : List Expr = operand value ∷ following items in
     by_case (λ (x : Expr). items_in x ≡ items) (has_kind k.Sum value) (on_row k.Sum more value) (node k.Sum ps)
     (λ w.
     let none : filter (has_kind k.List) (parts_of value) ≡ [] = nothing (filter (has_kind k.List) (parts_of value)) (sym (ap (λ (zs : List Expr). is_empty zs) (lists_of_sum value n w)) ∙ not_true (is_empty (lists_of value)) h) in
     ap items_in (row_changed k.Sum more value w)
     ∙ (items_of_sum value (more (parts_of value)) n w
-    ∙ (ap (flat_map items_of) (filter-append (has_kind k.List) (parts_of value) (behind items) ∙ ap (λ zs. zs ++ filter (has_kind k.List) (behind items)) none)
-    ∙ items_behind items)))
-    (λ m. ap items_among (node_parts k.Sum ps) ∙ (other_first (operand value) (behind items) (no_operand value n) ∙ items_behind items))
+    ∙ (ap (flat_map items_of) (filter-append (has_kind k.List) (parts_of value) (following items) ∙ ap (λ zs. zs ++ filter (has_kind k.List) (following items)) none)
+    ∙ items_after items)))
+    (λ m. ap items_among (node_parts k.Sum ps) ∙ (other_first (operand value) (following items) (no_operand value n) ∙ items_after items))
 
 -- ---- what was added
 

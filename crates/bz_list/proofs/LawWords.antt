@@ -8,7 +8,7 @@ use Rattle.std.proofs.lemmas.Slice.Eq.{bytes_eq-Decides}
 use Rattle.bz_label.specs.declared.label.Label.{Label}
 use Rattle.bz_label.specs.Pieces.{is_colon}
 use Rattle.bz_label.specs.Read.{are_equal, label_in, is_same, is_own, shortened}
-use Rattle.bz_label.specs.Shorter.{before_colon, behind_colon, is_repeated, unrepeated}
+use Rattle.bz_label.specs.Shorter.{before_colon, after_colon, is_repeated, unrepeated}
 use Rattle.bz_label.specs.Tables.{is_label_attribute}
 use Rattle.bz_label.proofs.LabelFunctions.{same_exactly, is_shortened}
 use Rattle.bz_label.proofs.Shorter.{shortened_same}
@@ -29,18 +29,18 @@ before_plain (byte ∷ text) h =
     let p = or_parts (is_escaped byte) (list_any is_escaped text) h in
     by_test IsPlain (is_colon byte) [] (byte ∷ before_colon text) refl (both (λ x y. x || y) p.0 (before_plain text p.1))
 
-behind_plain : (text : Bytes) → IsPlain text → IsPlain (behind_colon text)
-behind_plain [] h = refl
-behind_plain (byte ∷ text) h =
+after_plain : (text : Bytes) → IsPlain text → IsPlain (after_colon text)
+after_plain [] h = refl
+after_plain (byte ∷ text) h =
     let p = or_parts (is_escaped byte) (list_any is_escaped text) h in
-    by_test IsPlain (is_colon byte) text (behind_colon text) p.1 (behind_plain text p.1)
+    by_test IsPlain (is_colon byte) text (after_colon text) p.1 (after_plain text p.1)
 
 unrepeated_plain : (text : Bytes) → IsPlain text → IsPlain (unrepeated text)
-unrepeated_plain text h = by_test IsPlain (is_repeated (before_colon text) (behind_colon text)) (before_colon text) text (before_plain text h) h
+unrepeated_plain text h = by_test IsPlain (is_repeated (before_colon text) (after_colon text)) (before_colon text) text (before_plain text h) h
 
 shortened_plain : (current text : Bytes) → IsPlain text → IsPlain (shortened current text)
 shortened_plain current text h =
-    by_test IsPlain (is_own current text) (codes ":" ++ behind_colon text) (unrepeated text) (behind_plain text h) (unrepeated_plain text h)
+    by_test IsPlain (is_own current text) (codes ":" ++ after_colon text) (unrepeated text) (after_plain text h) (unrepeated_plain text h)
 
 word_plain : (current attribute word : Bytes) → IsPlain word → IsPlain (shortened_in current attribute word)
 word_plain current attribute word h = by_test IsPlain (is_label_attribute attribute) (shortened current word) word (shortened_plain current word h) h

@@ -16,7 +16,7 @@ use Rattle.bz_value.specs.declared.value.Expr.{Expr, Token, Form', items-the_row
 use Rattle.bz_value.specs.declared.value.Expr.TheVariants as e
 use Rattle.bz_value.specs.Comments.{HostComments}
 use Rattle.bz_items.specs.Characters.{Bytes}
-use Rattle.bz_value.specs.Proper.{ProperExpr, behind_expr}
+use Rattle.bz_value.specs.Proper.{ProperExpr, after_expr}
 use Rattle.bz_value.proofs.FormParts.{AreParts}
 use Rattle.bz_words.specs.Patterns.{substituted}
 use Rattle.bz_words.specs.Proper.{AreUtf8}
@@ -41,14 +41,14 @@ use Rattle.bz_attribute.proofs.ProperTexts.{body_utf8, shortened_utf8}
 abbrev Stands : Expr → Type 0
 Stands x = (here : Spot) × ProperExpr here x
 
-list_items : (kind : Kind) (here : Spot) (end_ : List Bytes) (split open_ : Bool) (ps xs : List Expr) → is_kind kind k.List ≡ true → AsForm here kind ps xs end_ split open_ → AreOf s.test xs
-list_items k.List here end_ split open_ ps xs is h = list_apart here end_ split open_ ps xs h
-list_items _ here end_ split open_ ps xs is h = absurd (true≢false (sym is))
+list_items : (kind : Kind) (here : Spot) (end : List Bytes) (split open_break : Bool) (ps xs : List Expr) → is_kind kind k.List ≡ true → AsForm here kind ps xs end split open_break → AreOf s.test xs
+list_items k.List here end split open_break ps xs is h = list_apart here end split open_break ps xs h
+list_items _ here end split open_break ps xs is h = absurd (true≢false (sym is))
 
 items_there : (x : Expr) → has_kind k.List x ≡ true → Stands x → AreOf s.test (items_of x)
 items_there (Token t) is h = tt
-items_there (Form' kind s parts s' items end_ split open_ comments) is h =
-    list_items kind h.0 end_ split open_ (items-the_row-Expr _ parts) (items-the_row-Expr _ items) is (opened h.0 (Form' kind s parts s' items end_ split open_ comments) h.1)
+items_there (Form' kind s parts s' items end split open_break comments) is h =
+    list_items kind h.0 end split open_break (items-the_row-Expr _ parts) (items-the_row-Expr _ items) is (opened h.0 (Form' kind s parts s' items end split open_break comments) h.1)
 
 -- the items of the lists among some expressions
 lists_items : (xs : List Expr) → AllByRecursion Stands xs → AreOf s.test (flat_map items_of (filter (has_kind k.List) xs))
@@ -60,16 +60,16 @@ lists_items (x ∷ xs) h =
 
 each_stands : (binary : Bool) (outer here : Spot) (xs : List Expr) → AreParts binary outer here xs → AllByRecursion Stands xs
 each_stands binary outer here [] h = tt
-each_stands binary outer here (x ∷ xs) h = ((here, h.0), each_stands binary outer (behind_expr outer here x) xs h.3)
+each_stands binary outer here (x ∷ xs) h = ((here, h.0), each_stands binary outer (after_expr outer here x) xs h.3)
 
-sum_parts : (kind : Kind) (here : Spot) (end_ : List Bytes) (split open_ : Bool) (ps xs : List Expr) → is_kind kind k.Sum ≡ true → AsForm here kind ps xs end_ split open_ → AllByRecursion Stands ps
-sum_parts k.Sum here end_ split open_ ps xs is h = each_stands true here here ps h.1.0
-sum_parts _ here end_ split open_ ps xs is h = absurd (true≢false (sym is))
+sum_parts : (kind : Kind) (here : Spot) (end : List Bytes) (split open_break : Bool) (ps xs : List Expr) → is_kind kind k.Sum ≡ true → AsForm here kind ps xs end split open_break → AllByRecursion Stands ps
+sum_parts k.Sum here end split open_break ps xs is h = each_stands true here here ps h.1.0
+sum_parts _ here end split open_break ps xs is h = absurd (true≢false (sym is))
 
 parts_there : (x : Expr) → has_kind k.Sum x ≡ true → Stands x → AllByRecursion Stands (parts_of x)
 parts_there (Token t) is h = tt
-parts_there (Form' kind s parts s' items end_ split open_ comments) is h =
-    sum_parts kind h.0 end_ split open_ (items-the_row-Expr _ parts) (items-the_row-Expr _ items) is (opened h.0 (Form' kind s parts s' items end_ split open_ comments) h.1)
+parts_there (Form' kind s parts s' items end split open_break comments) is h =
+    sum_parts kind h.0 end split open_break (items-the_row-Expr _ parts) (items-the_row-Expr _ items) is (opened h.0 (Form' kind s parts s' items end split open_break comments) h.1)
 
 pub value_items : (x : Expr) → IsValue x → AreOf s.test (items_in x)
 value_items x v =
@@ -102,7 +102,7 @@ is_string _ text said h = absurd (true≢false (sym h))
 
 item_is_string : (current attribute word : Bytes) (x : Expr) → is_item current attribute word x ≡ true → has_class c.String x ≡ true
 item_is_string current attribute word (Token t) h = is_string t.class t.text (are_one current attribute word) h
-item_is_string current attribute word (Form' kind s parts s' items end_ split open_ comments) h = absurd (true≢false (sym h))
+item_is_string current attribute word (Form' kind s parts s' items end split open_break comments) h = absurd (true≢false (sym h))
 
 pub replaced_item_stays : (current name old new : Bytes) → IsUtf8 new → Stays (replaced_item current name old new)
 replaced_item_stays current name old new u x =
@@ -123,7 +123,7 @@ string_body _ text inside e = absurd cc
 
 body_there : (x : Expr) (inside : Bytes) → body_of x ≡ Some inside → (has_class c.String x ≡ true) × (IsUtf8 (text_of x) → IsUtf8 inside)
 body_there (Token t) inside e = string_body t.class t.text inside e
-body_there (Form' kind s parts s' items end_ split open_ comments) inside e = absurd cc
+body_there (Form' kind s parts s' items end split open_break comments) inside e = absurd cc
 
 -- what a substitution makes of a text of characters is one
 abbrev pub KeepsText : Bytes → Bytes → Type 0
@@ -151,27 +151,27 @@ fresh_utf8 current attribute items earlier (word ∷ words) u =
     (fresh_utf8 current attribute items earlier words u.1) (u.0, fresh_utf8 current attribute items (word ∷ earlier) words u.1)
 
 -- a plain string with a shorter label
-shorter_item : (current attribute text : Bytes) (break_ : Bool) (comments : HostComments) (found : Option Bytes) → IfSome found IsUtf8
-    → IsItem s.test (e.Token (record { class = c.String; text = text; break_ = break_; comments = comments }))
+shorter_item : (current attribute text : Bytes) (line_break : Bool) (comments : HostComments) (found : Option Bytes) → IfSome found IsUtf8
+    → IsItem s.test (e.Token (record { class = c.String; text = text; line_break = line_break; comments = comments }))
     → IsItem s.test (option_map_or (λ inside. if is_label_attribute attribute && not (bytes_eq (shortened current inside) inside)
-    then with_text (quoted_of (shortened current inside)) (e.Token (record { class = c.String; text = text; break_ = break_; comments = comments }))
-    else e.Token (record { class = c.String; text = text; break_ = break_; comments = comments })) found (e.Token (record { class = c.String; text = text; break_ = break_; comments = comments })))
-shorter_item current attribute text break_ comments None u h = h
-shorter_item current attribute text break_ comments (Some inside) u h =
+    then with_text (quoted_of (shortened current inside)) (e.Token (record { class = c.String; text = text; line_break = line_break; comments = comments }))
+    else e.Token (record { class = c.String; text = text; line_break = line_break; comments = comments })) found (e.Token (record { class = c.String; text = text; line_break = line_break; comments = comments })))
+shorter_item current attribute text line_break comments None u h = h
+shorter_item current attribute text line_break comments (Some inside) u h =
     by_test (IsItem s.test) (is_label_attribute attribute && not (bytes_eq (shortened current inside) inside))
-    (e.Token (record { class = c.String; text = quoted_of (shortened current inside); break_ = break_; comments = comments }))
-    (e.Token (record { class = c.String; text = text; break_ = break_; comments = comments }))
+    (e.Token (record { class = c.String; text = quoted_of (shortened current inside); line_break = line_break; comments = comments }))
+    (e.Token (record { class = c.String; text = text; line_break = line_break; comments = comments }))
     ((quoted_string (shortened current inside) (shortened_utf8 current inside u), h.0.1, h.0.2), refl) h
 
-travelled_token : (current attribute : Bytes) (class : Class) (text : Bytes) (break_ : Bool) (comments : HostComments)
-    → IsItem s.test (e.Token (record { class = class; text = text; break_ = break_; comments = comments }))
-    → IsItem s.test (travelled current attribute (e.Token (record { class = class; text = text; break_ = break_; comments = comments })))
-travelled_token current attribute c.String text break_ comments h = shorter_item current attribute text break_ comments (body text) (body_utf8 text h.0.0.1) h
-travelled_token current attribute _ text break_ comments h = h
+travelled_token : (current attribute : Bytes) (class : Class) (text : Bytes) (line_break : Bool) (comments : HostComments)
+    → IsItem s.test (e.Token (record { class = class; text = text; line_break = line_break; comments = comments }))
+    → IsItem s.test (travelled current attribute (e.Token (record { class = class; text = text; line_break = line_break; comments = comments })))
+travelled_token current attribute c.String text line_break comments h = shorter_item current attribute text line_break comments (body text) (body_utf8 text h.0.0.1) h
+travelled_token current attribute _ text line_break comments h = h
 
 travelled_item : (current attribute : Bytes) (x : Expr) → IsItem s.test x → IsItem s.test (travelled current attribute x)
-travelled_item current attribute (Token t) h = travelled_token current attribute t.class t.text t.break_ t.comments h
-travelled_item current attribute (Form' kind s parts s' items end_ split open_ comments) h = h
+travelled_item current attribute (Token t) h = travelled_token current attribute t.class t.text t.line_break t.comments h
+travelled_item current attribute (Form' kind s parts s' items end split open_break comments) h = h
 
 pub arriving_items : (current attribute : Bytes) (there xs : List Expr) → AreOf s.test xs → AreOf s.test (arriving current attribute there xs)
 arriving_items current attribute there [] h = tt

@@ -35,8 +35,8 @@ pub record Membership : Type 0 where
   pub is_label : Bool
   pub is_known : Bytes → Bool
 
-abbrev pub asked : KnownValues → Membership
-asked known =
+abbrev pub membership : KnownValues → Membership
+membership known =
     record { current = known.current; is_label = known.is_label; is_known = λ word. is_among known.labels known.texts word (label_meant known.is_label known.current word) }
 
 abbrev pub none_known : Bytes → Bytes → Membership

@@ -8,12 +8,12 @@ use Rattle.bz_list.specs.declared.known.Chosen.TheVariants as h
 use Rattle.bz_attribute.specs.Attributes.{with_value}
 use Rattle.bz_attribute.specs.Lists.{items_in, listed}
 use Rattle.bz_list.specs.Changes.{cleared, without_items}
-use Rattle.bz_list.specs.KnownValues.{Membership, asked, is_known_item, with_known_items}
+use Rattle.bz_list.specs.KnownValues.{Membership, membership, is_known_item, with_known_items}
 
 -- whether a command is meant for an item
 abbrev pub chooses : Chosen → Expr → Bool
 chooses h.All x = true
-chooses (h.These known) x = is_known_item (asked known) x
+chooses (h.These known) x = is_known_item (membership known) x
 
 abbrev pub is_left : Chosen → Expr → Bool
 is_left chosen x = not (chooses chosen x)

@@ -10,7 +10,7 @@ ghost use Rattle.bz_attribute.specs.Attributes.{on_first_that};
 ghost use Rattle.bz_attribute.specs.Lists.{fresh, is_item as is_item_of, items_in, listed, travelled as as_travelled, with_more};
 ghost use Rattle.bz_attribute.specs.Made.{list_of as list_made, plus as sum_made, string_of as string_made};
 ghost use Rattle.bz_list.specs.Changes.{with_items_added};
-ghost use Rattle.bz_list.specs.KnownValues.{Membership, asked, new_words, new_items as items_new};
+ghost use Rattle.bz_list.specs.KnownValues.{Membership, membership, new_words, new_items as items_new};
 ghost use Rattle.bz_list.specs.Adding.{added_by, added_to, shorter, with_added};
 
 use crate::known::Known;
@@ -40,8 +40,8 @@ fn push_word(
     known: &mut Known,
     items: &mut Vec<Expr>,
 ) -> Result<(), Memory>
-    ensures { (rest : List Bytes) → OnOk result (items.new.items ++ map (string_made slot.entry.current.now slot.entry.attribute.now) (new_words (asked known.new) rest)
-        ≡ items.old.items ++ map (string_made slot.entry.current.now slot.entry.attribute.now) (new_words (asked known.old) (word.now ∷ rest))) }
+    ensures { (rest : List Bytes) → OnOk result (items.new.items ++ map (string_made slot.entry.current.now slot.entry.attribute.now) (new_words (membership known.new) rest)
+        ≡ items.old.items ++ map (string_made slot.entry.current.now slot.entry.attribute.now) (new_words (membership known.old) (word.now ∷ rest))) }
 {
     if known.has(word)? {
         return Ok(());
@@ -53,7 +53,7 @@ fn push_word(
 
 /// The strings of the words that are not known yet, each once.
 fn new_strings(slot: Slot<'_>, words: &[Text], mut known: Known) -> Result<Vec<Expr>, Memory>
-    ensures { IfOk result (λ items. items.items ≡ map (string_made slot.entry.current.now slot.entry.attribute.now) (new_words (asked known) words.now)) }
+    ensures { IfOk result (λ items. items.items ≡ map (string_made slot.entry.current.now slot.entry.attribute.now) (new_words (membership known) words.now)) }
 {
     let mut items = Vec::new(slot.alloc);
     for word in words {
@@ -104,8 +104,8 @@ fn push_item(
     known: &mut Known,
     items: &mut Vec<Expr>,
 ) -> Result<(), Memory>
-    ensures { (rest : List Value) → OnOk result (items.new.items ++ items_new slot.entry.current.now slot.entry.attribute.now (asked known.new) rest
-        ≡ items.old.items ++ items_new slot.entry.current.now slot.entry.attribute.now (asked known.old) (x ∷ rest)) }
+    ensures { (rest : List Value) → OnOk result (items.new.items ++ items_new slot.entry.current.now slot.entry.attribute.now (membership known.new) rest
+        ≡ items.old.items ++ items_new slot.entry.current.now slot.entry.attribute.now (membership known.old) (x ∷ rest)) }
 {
     match known.has_item(&x) {
         Ok(false) => {}
@@ -128,7 +128,7 @@ fn push_item(
 
 /// The items that are not known yet, each once.
 fn new_items(slot: Slot<'_>, moved: Items<Expr>, mut known: Known) -> Result<Vec<Expr>, Memory>
-    ensures { IfOk result (λ items. items.items ≡ items_new slot.entry.current.now slot.entry.attribute.now (asked known) moved) }
+    ensures { IfOk result (λ items. items.items ≡ items_new slot.entry.current.now slot.entry.attribute.now (membership known) moved) }
 {
     let mut items = Vec::new(slot.alloc);
     for x in moved.into_vec() {
@@ -139,7 +139,7 @@ fn new_items(slot: Slot<'_>, moved: Items<Expr>, mut known: Known) -> Result<Vec
 
 /// The items that are added to those that are known.
 fn added_items(slot: Slot<'_>, added: Added<'_>, known: Known) -> Result<Vec<Expr>, Memory>
-    ensures { IfOk result (λ items. items.items ≡ added_to slot.entry.current.now slot.entry.attribute.now added.entry (asked known)) }
+    ensures { IfOk result (λ items. items.items ≡ added_to slot.entry.current.now slot.entry.attribute.now added.entry (membership known)) }
 {
     match added {
         Added::Words(words) => new_strings(slot, words, known),

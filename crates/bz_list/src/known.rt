@@ -12,7 +12,7 @@ ghost use Rattle.bz_rule.specs.Values.{has_kind as is_of, items_of as items};
 ghost use Rattle.bz_attribute.specs.Lists.{items_in, is_some_item, listed};
 ghost use Rattle.bz_list.specs.Changes.{is_moved};
 ghost use Rattle.bz_list.specs.KnownKeys.{label_of_key, labels_of};
-ghost use Rattle.bz_list.specs.KnownValues.{label_meant, asked, none_known, with_word, with_words, is_known_item, with_item, with_known_items};
+ghost use Rattle.bz_list.specs.KnownValues.{label_meant, membership, none_known, with_word, with_words, is_known_item, with_item, with_known_items};
 ghost use Rattle.bz_list.specs.Listing.{chooses, with_lists};
 
 use bz_attribute::{Slot, body_of, has_kind, has_text, insert_text, items_of, operands_of};
@@ -85,7 +85,7 @@ impl Model for Known {
 impl Known {
     /// No values of the attribute.
     pub(crate) fn new(slot: Slot<'_>) -> Result<Known, Memory>
-        ensures { IfOk result (λ known. asked known ≡ none_known slot.entry.current.now slot.entry.attribute.now) }
+        ensures { IfOk result (λ known. membership known ≡ none_known slot.entry.current.now slot.entry.attribute.now) }
     {
         let alloc = slot.alloc;
         Ok(Known {
@@ -112,7 +112,7 @@ impl Known {
 
     /// Whether the word means one of them.
     pub(crate) fn has(&self, word: &[u8]) -> Result<bool, Memory>
-        ensures { IfOk result (λ found. found ≡ (asked self.now).is_known word.now) }
+        ensures { IfOk result (λ found. found ≡ (membership self.now).is_known word.now) }
     {
         match self.key_of(word)? {
             Some(key) => Ok(has_label(&self.labels, &key)),
@@ -122,7 +122,7 @@ impl Known {
 
     /// The word is one of them from now on.
     pub(crate) fn insert(&mut self, word: &[u8]) -> Result<(), Memory>
-        ensures { OnOk result (asked self.new ≡ with_word word.now (asked self.old)) }
+        ensures { OnOk result (membership self.new ≡ with_word word.now (membership self.old)) }
     {
         let Some(key) = self.key_of(word)? else {
             insert_text(self.alloc, &mut self.texts, word)?;
@@ -134,7 +134,7 @@ impl Known {
 
     /// Whether the item is a plain string that means one of them.
     pub(crate) fn has_item(&self, x: &Expr) -> Result<bool, Memory>
-        ensures { IfOk result (λ found. found ≡ is_known_item (asked self.now) x.now) }
+        ensures { IfOk result (λ found. found ≡ is_known_item (membership self.now) x.now) }
     {
         match body_of(x) {
             Some(text) => self.has(text),
@@ -144,7 +144,7 @@ impl Known {
 
     /// The item is one of them from now on, where it is a plain string.
     pub(crate) fn insert_item(&mut self, x: &Expr) -> Result<(), Memory>
-        ensures { OnOk result (asked self.new ≡ with_item x.now (asked self.old)) }
+        ensures { OnOk result (membership self.new ≡ with_item x.now (membership self.old)) }
     {
         match body_of(x) {
             Some(text) => self.insert(text),
@@ -153,7 +153,7 @@ impl Known {
     }
 
     fn insert_items(&mut self, items: &[Expr]) -> Result<(), Memory>
-        ensures { OnOk result (asked self.new ≡ with_known_items items.now (asked self.old)) }
+        ensures { OnOk result (membership self.new ≡ with_known_items items.now (membership self.old)) }
     {
         for x in items {
             self.insert_item(x)?;
@@ -163,7 +163,7 @@ impl Known {
 
     /// The items of a list.
     fn insert_list(&mut self, x: &Expr) -> Result<(), Memory>
-        ensures { OnOk result (asked self.new ≡ with_known_items (listed x.now) (asked self.old)) }
+        ensures { OnOk result (membership self.new ≡ with_known_items (listed x.now) (membership self.old)) }
     {
         if has_kind(Kind::List, x) {
             return self.insert_items(items_of(x));
@@ -173,7 +173,7 @@ impl Known {
 
     /// The items of the lists among these expressions.
     fn insert_lists(&mut self, operands: &[Expr]) -> Result<(), Memory>
-        ensures { OnOk result (asked self.new ≡ with_lists operands.now (asked self.old)) }
+        ensures { OnOk result (membership self.new ≡ with_lists operands.now (membership self.old)) }
     {
         for x in operands {
             self.insert_list(x)?;
@@ -183,14 +183,14 @@ impl Known {
 
     /// The items of the lists of a value are some of them from now on.
     pub(crate) fn insert_value(&mut self, value: &Expr) -> Result<(), Memory>
-        ensures { OnOk result (asked self.new ≡ with_known_items (items_in value.now) (asked self.old)) }
+        ensures { OnOk result (membership self.new ≡ with_known_items (items_in value.now) (membership self.old)) }
     {
         self.insert_lists(operands_of(value))?;
         Ok(())
     }
 
     fn insert_words(&mut self, words: &[Text]) -> Result<(), Memory>
-        ensures { OnOk result (asked self.new ≡ with_words words.now (asked self.old)) }
+        ensures { OnOk result (membership self.new ≡ with_words words.now (membership self.old)) }
     {
         for word in words {
             self.insert(word.as_slice())?;

@@ -29,16 +29,16 @@ module _ {K : Type 0} (eq : K → K → Bool) (test : K → Bool) (alike : (x y 
   there [] key h = absurd (true≢false (sym h))
   there (x ∷ xs) key h = there_first x xs key (eq key x) refl h (there xs key)
 
-  behind : (keys : List K) (key : K) → list_any test (keys ++ key ∷ []) ≡ (test key || list_any test keys)
-  behind [] key = refl
-  behind (x ∷ xs) key = ap (λ z. test x || z) (behind xs key) ∙ or_turn (test x) (test key) (list_any test xs)
+  following : (keys : List K) (key : K) → list_any test (keys ++ key ∷ []) ≡ (test key || list_any test keys)
+  following [] key = refl
+  following (x ∷ xs) key = ap (λ z. test x || z) (following xs key) ∙ or_turn (test x) (test key) (list_any test xs)
 
   any_inserted : (keys : List K) (key : K) → list_any test (insert_key eq keys key) ≡ (test key || list_any test keys)
   any_inserted keys key = by (list_any (eq key) keys) refl
     where
       by : (b : Bool) → list_any (eq key) keys ≡ b → list_any test (if b then keys else keys ++ key ∷ []) ≡ (test key || list_any test keys)
       by true e = there keys key e
-      by false e = behind keys key
+      by false e = following keys key
 
 -- ---- symbols
 

@@ -39,57 +39,57 @@ alias_found other to None = never (bytes_eq to other.to)
     never false = refl
 alias_found other to (Some from) = ap (λ z. z && bytes_eq from other.from) (alike to other.to) ∙ ap (λ z. bytes_eq other.to to && z) (alike from other.from)
 
-alias_told : (other : Symbol) (ps : List Expr) → is_alias_of other ps ≡ is_found other (alias_in ps)
-alias_told other [] = refl
-alias_told other (x ∷ []) = refl
-alias_told other (x ∷ y ∷ []) = refl
-alias_told other (to ∷ equals ∷ from ∷ []) = alias_found other (text_of to) (body_of from)
-alias_told other (x ∷ y ∷ z ∷ w ∷ ps) = refl
+alias_answered : (other : Symbol) (ps : List Expr) → is_alias_of other ps ≡ is_found other (alias_in ps)
+alias_answered other [] = refl
+alias_answered other (x ∷ []) = refl
+alias_answered other (x ∷ y ∷ []) = refl
+alias_answered other (to ∷ equals ∷ from ∷ []) = alias_found other (text_of to) (body_of from)
+alias_answered other (x ∷ y ∷ z ∷ w ∷ ps) = refl
 
 both_names : (other : Symbol) (text : Bytes) (b : Bool) → bytes_eq text other.to ≡ b → (b && bytes_eq other.to other.from) ≡ (b && bytes_eq other.from text)
 both_names other text true e = ap (λ z. bytes_eq z other.from) (sym ((bytes_eq-Decides text other.to).0 e)) ∙ alike text other.from
 both_names other text false e = refl
 
-plain_told : (other : Symbol) (found : Option Bytes) → (is_text other.to found && bytes_eq other.to other.from) ≡ is_found other (option_map (λ text. symbol text text) found)
-plain_told other None = refl
-plain_told other (Some text) = both_names other text (bytes_eq text other.to) refl ∙ ap (λ z. z && bytes_eq other.from text) (alike text other.to)
+plain_answered : (other : Symbol) (found : Option Bytes) → (is_text other.to found && bytes_eq other.to other.from) ≡ is_found other (option_map (λ text. symbol text text) found)
+plain_answered other None = refl
+plain_answered other (Some text) = both_names other text (bytes_eq text other.to) refl ∙ ap (λ z. z && bytes_eq other.from text) (alike text other.to)
 
-told_by : (other : Symbol) (b : Bool) (one two : Bool) (first second : Option Symbol) → one ≡ is_found other first → two ≡ is_found other second
+answered_by : (other : Symbol) (b : Bool) (one two : Bool) (first second : Option Symbol) → one ≡ is_found other first → two ≡ is_found other second
     → (if b then one else two) ≡ is_found other (if b then first else second)
-told_by other true one two first second e f = e
-told_by other false one two first second e f = f
+answered_by other true one two first second e f = e
+answered_by other false one two first second e f = f
 
-symbol_told : (other : Symbol) (x : Expr) → loads_symbol other x ≡ is_found other (symbol_in x)
-symbol_told other x =
-    told_by other (has_kind k.Alias x) (is_alias_of other (parts_of x)) (is_text other.to (body_of x) && bytes_eq other.to other.from) (alias_in (parts_of x)) (option_map (λ text. symbol text text) (body_of x))
-    (alias_told other (parts_of x)) (plain_told other (body_of x))
+symbol_answered : (other : Symbol) (x : Expr) → loads_symbol other x ≡ is_found other (symbol_in x)
+symbol_answered other x =
+    answered_by other (has_kind k.Alias x) (is_alias_of other (parts_of x)) (is_text other.to (body_of x) && bytes_eq other.to other.from) (alias_in (parts_of x)) (option_map (λ text. symbol text text) (body_of x))
+    (alias_answered other (parts_of x)) (plain_answered other (body_of x))
 
 -- ---- what is known
 
-found_told : (other : Symbol) (found : Option Symbol) (test : Test) → option_map_or (λ added. and_symbol added test) found test other ≡ (is_found other found || test other)
-found_told other None test = refl
-found_told other (Some added) test = refl
+found_answered : (other : Symbol) (found : Option Symbol) (test : Test) → option_map_or (λ added. and_symbol added test) found test other ≡ (is_found other found || test other)
+found_answered other None test = refl
+found_answered other (Some added) test = refl
 
-each_told : (other : Symbol) (xs : List Expr) (test : Test) → and_each xs test other ≡ (list_any (loads_symbol other) xs || test other)
-each_told other [] test = refl
-each_told other (x ∷ xs) test =
-    each_told other xs (and_loaded x test)
-    ∙ (ap (λ z. list_any (loads_symbol other) xs || z) (found_told other (symbol_in x) test ∙ ap (λ z. z || test other) (sym (symbol_told other x)))
+each_answered : (other : Symbol) (xs : List Expr) (test : Test) → and_each xs test other ≡ (list_any (loads_symbol other) xs || test other)
+each_answered other [] test = refl
+each_answered other (x ∷ xs) test =
+    each_answered other xs (and_loaded x test)
+    ∙ (ap (λ z. list_any (loads_symbol other) xs || z) (found_answered other (symbol_in x) test ∙ ap (λ z. z || test other) (sym (symbol_answered other x)))
     ∙ or_group (list_any (loads_symbol other) xs) (loads_symbol other x) (test other))
 
-load_told : (other : Symbol) (b : Bool) (xs : List Expr) (test : Test) → (if b then and_each xs test else test) other ≡ ((b && list_any (loads_symbol other) xs) || test other)
-load_told other true xs test = each_told other xs test
-load_told other false xs test = refl
+load_answered : (other : Symbol) (b : Bool) (xs : List Expr) (test : Test) → (if b then and_each xs test else test) other ≡ ((b && list_any (loads_symbol other) xs) || test other)
+load_answered other true xs test = each_answered other xs test
+load_answered other false xs test = refl
 
-loads_told : (other : Symbol) (path : Bytes) (items : List Item) (test : Test) → and_loads path items test other ≡ (is_loaded path items other || test other)
-loads_told other path [] test = refl
-loads_told other path (item ∷ items) test =
-    loads_told other path items (and_load path item test)
-    ∙ (ap (λ z. is_loaded path items other || z) (load_told other (is_load_from path item) (symbols_of item) test)
+loads_answered : (other : Symbol) (path : Bytes) (items : List Item) (test : Test) → and_loads path items test other ≡ (is_loaded path items other || test other)
+loads_answered other path [] test = refl
+loads_answered other path (item ∷ items) test =
+    loads_answered other path items (and_load path item test)
+    ∙ (ap (λ z. is_loaded path items other || z) (load_answered other (is_load_from path item) (symbols_of item) test)
     ∙ or_group (is_loaded path items other) (is_load_from path item && list_any (loads_symbol other) (symbols_of item)) (test other))
 
-known_told : (path : Bytes) (items : List Item) → and_loads path items (knows []) ≡ is_loaded path items
-known_told path items = fun_ext (λ other. loads_told other path items (knows []) ∙ or_none (is_loaded path items other))
+known_answered : (path : Bytes) (items : List Item) → and_loads path items (knows []) ≡ is_loaded path items
+known_answered path items = fun_ext (λ other. loads_answered other path items (knows []) ∙ or_none (is_loaded path items other))
 
 -- ---- the symbols that are not known
 
@@ -112,7 +112,7 @@ unknown_by path items earlier (first ∷ rest) =
     ∙ ap (λ (test : Test). unknown test rest) (fun_ext (λ other. or_apart (is_symbol other first) (list_any (is_symbol other) earlier) (is_loaded path items other))))
 
 pub unknown_symbols : (path : Bytes) (items : List Item) (symbols : List Symbol) → new_symbols path items [] symbols ≡ unknown (and_loads path items (knows [])) symbols
-unknown_symbols path items symbols = unknown_by path items [] symbols ∙ ap (λ (test : Test). unknown test symbols) (sym (known_told path items))
+unknown_symbols path items symbols = unknown_by path items [] symbols ∙ ap (λ (test : Test). unknown test symbols) (sym (known_answered path items))
 
 -- ---- one symbol more
 

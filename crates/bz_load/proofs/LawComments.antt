@@ -22,17 +22,17 @@ use Rattle.bz_value.proofs.Totals.{append_total, form_amount}
 use Rattle.bz_value.specs.Empty.{is_empty, is_none}
 use Rattle.bz_words.specs.Quoted.{quoted_of}
 use Rattle.bz_words.specs.declared.command.Symbol.{Symbol}
-use Rattle.bz_rule.specs.Values.{has_kind, parts_of, items_of, with_items, on_items, behind_first}
+use Rattle.bz_rule.specs.Values.{has_kind, parts_of, items_of, with_items, on_items, on_rest}
 use Rattle.bz_rule.proofs.ProperSequences.{IsItem, AreOf}
 use Rattle.bz_attribute.specs.Made.{token, node, mark, name}
 use Rattle.bz_attribute.specs.Attributes.{on_first_that, without_first}
 use Rattle.bz_attribute.proofs.FormsAgain.{if_false, made}
 use Rattle.bz_attribute.proofs.GrownArguments.{whole, row_total}
-use Rattle.bz_load.specs.Loads.{is_load_item, is_load_from, behind_path}
-use Rattle.bz_load.specs.Places.{is_block, behind_last, behind_blocks, behind_loads}
+use Rattle.bz_load.specs.Loads.{is_load_item, is_load_from, after_path}
+use Rattle.bz_load.specs.Places.{is_block, after_last, after_blocks, after_loads}
 use Rattle.bz_load.specs.NewLoad.{new_symbols, symbol_made, load_made, with_symbols, new_load}
 use Rattle.bz_load.specs.Uses.{is_used}
-use Rattle.bz_load.specs.Fixes.{is_commented, path_comments, end_of, has_own_comments, symbol_stays, is_emptied, used_alone, is_package_call, first_that, package_behind_blocks, package_moved, move_package_to_top, fix}
+use Rattle.bz_load.specs.Fixes.{is_commented, path_comments, end_of, has_own_comments, symbol_stays, is_emptied, used_alone, is_package_call, first_that, package_after_blocks, package_moved, move_package_to_top, fix}
 use Rattle.bz_load.specs.Laws.{LoadsKeepComments}
 use Rattle.bz_load.proofs.PlaceSteps.{block_no_package}
 use Rattle.bz_load.proofs.ProperLoads.{fix_keeps}
@@ -55,18 +55,18 @@ module _ (number : Bytes → ℕ) where
   abbrev host : HostComments → ℕ
   host = host_amount number
 
-  amount_told : (x : Expr) → whole number x ≡ host (comments_of x) + (total (whole number) (parts_of x) + (total (whole number) (items_of x) + total number (end_of x)))
-  amount_told (Token t) = omega arith
-  amount_told (Form' kind s parts s' items end_ split open_ comments) =
-      ap (λ a. host comments + (a + (row_amount number items + total number end_))) (row_total number _ parts)
-      ∙ ap (λ a. host comments + (total (whole number) (items-the_row-Expr _ parts) + (a + total number end_))) (row_total number _ items)
+  amount_answered : (x : Expr) → whole number x ≡ host (comments_of x) + (total (whole number) (parts_of x) + (total (whole number) (items_of x) + total number (end_of x)))
+  amount_answered (Token t) = omega arith
+  amount_answered (Form' kind s parts s' items end split open_break comments) =
+      ap (λ a. host comments + (a + (row_amount number items + total number end))) (row_total number _ parts)
+      ∙ ap (λ a. host comments + (total (whole number) (items-the_row-Expr _ parts) + (a + total number end))) (row_total number _ items)
 
   items_same : (ys : List Expr) (x : Expr) → total (whole number) ys ≡ total (whole number) (items_of x) → whole number (with_items ys x) ≡ whole number x
   items_same ys (Token t) h = refl
-  items_same ys (Form' kind s parts s' items end_ split open_ comments) h =
-      form_amount number (made kind (items-the_row-Expr _ parts) ys end_ split open_ comments)
-      ∙ (ap (λ a. host comments + (total (whole number) (items-the_row-Expr _ parts) + (a + total number end_))) h
-      ∙ sym (amount_told (Form' kind s parts s' items end_ split open_ comments)))
+  items_same ys (Form' kind s parts s' items end split open_break comments) h =
+      form_amount number (made kind (items-the_row-Expr _ parts) ys end split open_break comments)
+      ∙ (ap (λ a. host comments + (total (whole number) (items-the_row-Expr _ parts) + (a + total number end))) h
+      ∙ sym (amount_answered (Form' kind s parts s' items end split open_break comments)))
 
   -- ---- new symbols, and a new load
 
@@ -106,35 +106,35 @@ module _ (number : Bytes → ℕ) where
   abbrev file : List Item → ℕ
   file = total (item_amount number)
 
-  last_total : (test : Item → Bool) (new : Item) (xs : List Item) → file (behind_last test new xs) ≡ item_amount number new + file xs
+  last_total : (test : Item → Bool) (new : Item) (xs : List Item) → file (after_last test new xs) ≡ item_amount number new + file xs
   last_total test new [] = refl
   last_total test new (x ∷ xs) = by (list_any test (x ∷ xs)) (last_total test new xs)
     where
-      by : (b : Bool) → file (behind_last test new xs) ≡ item_amount number new + file xs
-          → file (if b then x ∷ behind_last test new xs else new ∷ x ∷ xs) ≡ item_amount number new + (item_amount number x + file xs)
+      by : (b : Bool) → file (after_last test new xs) ≡ item_amount number new + file xs
+          → file (if b then x ∷ after_last test new xs else new ∷ x ∷ xs) ≡ item_amount number new + (item_amount number x + file xs)
       by true rest = omega arith
       by false rest = refl
 
-  blocks_total : (new : Item) (xs : List Item) → file (behind_blocks new xs) ≡ item_amount number new + file xs
+  blocks_total : (new : Item) (xs : List Item) → file (after_blocks new xs) ≡ item_amount number new + file xs
   blocks_total new [] = refl
   blocks_total new (x ∷ xs) = by (is_block x) (blocks_total new xs)
     where
-      by : (b : Bool) → file (behind_blocks new xs) ≡ item_amount number new + file xs
-          → file (if b then x ∷ behind_blocks new xs else new ∷ x ∷ xs) ≡ item_amount number new + (item_amount number x + file xs)
+      by : (b : Bool) → file (after_blocks new xs) ≡ item_amount number new + file xs
+          → file (if b then x ∷ after_blocks new xs else new ∷ x ∷ xs) ≡ item_amount number new + (item_amount number x + file xs)
       by true rest = omega arith
       by false rest = refl
 
-  loads_total : (new : Item) (xs : List Item) → file (behind_loads new xs) ≡ item_amount number new + file xs
+  loads_total : (new : Item) (xs : List Item) → file (after_loads new xs) ≡ item_amount number new + file xs
   loads_total new xs = by (list_any is_load_item xs)
     where
-      by : (b : Bool) → file (if b then behind_last is_load_item new xs else behind_blocks new xs) ≡ item_amount number new + file xs
+      by : (b : Bool) → file (if b then after_last is_load_item new xs else after_blocks new xs) ≡ item_amount number new + file xs
       by true = last_total is_load_item new xs
       by false = blocks_total new xs
 
   pub new_load_same : (path : Bytes) (symbols : List Symbol) (items : List Item) → file (new_load path symbols items) ≡ file items
   new_load_same path symbols items = by (list_any (is_load_from path) items)
     where
-      by : (b : Bool) → file (if b then on_first_that (is_load_from path) (with_symbols (new_symbols path items [] symbols)) items else behind_loads (load_made path (new_symbols path items [] symbols)) items) ≡ file items
+      by : (b : Bool) → file (if b then on_first_that (is_load_from path) (with_symbols (new_symbols path items [] symbols)) items else after_loads (load_made path (new_symbols path items [] symbols)) items) ≡ file items
       by true = first_same (item_amount number) (is_load_from path) (with_symbols (new_symbols path items [] symbols)) (more_same (new_symbols path items [] symbols)) items
       by false =
           let a = loads_total (load_made path (new_symbols path items [] symbols)) items in
@@ -153,21 +153,21 @@ module _ (number : Bytes → ℕ) where
 
   token_amount : (terminals : List Terminal) (x : Expr) → has_token terminals (root x) ≡ true → whole number x ≡ host (comments_of x)
   token_amount terminals (Token t) h = refl
-  token_amount terminals (Form' kind s parts s' items end_ split open_ comments) h = absurd (true≢false (sym h))
+  token_amount terminals (Form' kind s parts s' items end split open_break comments) h = absurd (true≢false (sym h))
 
   bare_amount : (terminals : List Terminal) (x : Expr) → has_token terminals (root x) ≡ true → comments_of x ≡ no_comments → whole number x ≡ 0
   bare_amount terminals x h e = token_amount terminals x h ∙ ap host e
 
   loaded_amount : (x : Expr) → IsItem s.loaded x → is_commented (comments_of x) ≡ false → whole number x ≡ 0
   loaded_amount (Token t) h e = host_none t.comments e
-  loaded_amount (Form' kind m parts m' items end_ split open_ comments) h e =
-      let x : Expr = Form' kind m parts m' items end_ split open_ comments in
+  loaded_amount (Form' kind m parts m' items end split open_break comments) h e =
+      let x : Expr = Form' kind m parts m' items end split open_break comments in
       let a = alias_parts x h.1 h.0.0 in
       let l = bare_amount s.name a.left a.at_left a.bare_left in
       let n = bare_amount s.equals a.sign a.at_sign a.bare_sign in
       let r = bare_amount s.string a.right a.at_right a.bare_right in
       let z = host_none comments e in
-      amount_told x
+      amount_answered x
       ∙ (ap (λ ps. host comments + (total (whole number) ps + (total (whole number) (items_of x) + total number (end_of x)))) a.parts
       ∙ (ap (λ xs. host comments + (total (whole number) (a.left ∷ a.sign ∷ a.right ∷ []) + (total (whole number) xs + total number (end_of x)))) a.items
       ∙ (ap (λ ts. host comments + (total (whole number) (a.left ∷ a.sign ∷ a.right ∷ []) + (0 + total number ts))) a.ends ∙ omega arith)))
@@ -183,7 +183,7 @@ module _ (number : Bytes → ℕ) where
           omega arith
 
   abbrev kept : (Bytes → Bool) → List Expr → List Expr
-  kept used = behind_first (filter (symbol_stays used))
+  kept used = on_rest (filter (symbol_stays used))
 
   used_amount : (used : Bytes → Bool) (item : Item) → IsProperItem item → item_amount number (used_alone used item) ≡ item_amount number item
   used_amount used (i.Block lines) h = refl
@@ -204,26 +204,26 @@ module _ (number : Bytes → ℕ) where
   none_kept test [] h = refl
   none_kept test (x ∷ xs) h = let p = or_parts (test x) (list_any test xs) h in if_false (test x) _ _ p.0 ∙ none_kept test xs p.1
 
-  ends_none : (end_ : List Bytes) → not (is_empty end_) ≡ false → total number end_ ≡ 0
+  ends_none : (end : List Bytes) → not (is_empty end) ≡ false → total number end ≡ 0
   ends_none [] h = refl
-  ends_none (text ∷ end_) h = absurd (true≢false h)
+  ends_none (text ∷ end) h = absurd (true≢false h)
 
   emptied_amount : (used : Bytes → Bool) (item : Item) → IsProperItem item → is_emptied used item ≡ true → item_amount number item ≡ 0
   emptied_amount used (i.Block lines) h e = absurd (true≢false (sym e))
   emptied_amount used (i.Stmt x) h e =
-      let p = and_parts (has_kind k.Load x && not (has_own_comments x)) (not (is_empty (behind_path (items_of x))) && not (list_any (symbol_stays used) (behind_path (items_of x)))) e in
+      let p = and_parts (has_kind k.Load x && not (has_own_comments x)) (not (is_empty (after_path (items_of x))) && not (list_any (symbol_stays used) (after_path (items_of x)))) e in
       let q = and_parts (has_kind k.Load x) (not (has_own_comments x)) p.0 in
       let a = load_parts Begins x q.0 h.1 in
       let loose = or_parts (is_commented (comments_of x)) (not (is_empty (end_of x)) || path_comments (items_of x)) (not-true (has_own_comments x) q.1) in
       let ends = or_parts (not (is_empty (end_of x))) (path_comments (items_of x)) loose.1 in
-      let gone = not-true (list_any (symbol_stays used) (behind_path (items_of x))) (and_parts (not (is_empty (behind_path (items_of x)))) _ p.1).1 in
+      let gone = not-true (list_any (symbol_stays used) (after_path (items_of x))) (and_parts (not (is_empty (after_path (items_of x)))) _ p.1).1 in
       let top : host (comments_of x) ≡ 0 = host_none (comments_of x) loose.0 in
       let word : whole number a.word ≡ 0 = bare_amount (s.one_keyword (codes "load")) a.word a.at_word a.bare_word in
       let path : whole number a.path ≡ 0 = token_amount s.string a.path a.at_path ∙ host_none (comments_of a.path) (ap path_comments (sym a.items) ∙ ends.1) in
       let symbols : total (whole number) a.symbols ≡ 0 =
-      sym (kept_amount used a.symbols a.loaded) ∙ ap (total (whole number)) (none_kept (symbol_stays used) a.symbols (ap (λ xs. list_any (symbol_stays used) (behind_path xs)) (sym a.items) ∙ gone)) in
-      let end_ : total number (end_of x) ≡ 0 = ends_none (end_of x) ends.0 in
-      amount_told x
+      sym (kept_amount used a.symbols a.loaded) ∙ ap (total (whole number)) (none_kept (symbol_stays used) a.symbols (ap (λ xs. list_any (symbol_stays used) (after_path xs)) (sym a.items) ∙ gone)) in
+      let end : total number (end_of x) ≡ 0 = ends_none (end_of x) ends.0 in
+      amount_answered x
       ∙ (ap (λ ps. host (comments_of x) + (total (whole number) ps + (total (whole number) (items_of x) + total number (end_of x)))) a.parts
       ∙ (ap (λ xs. host (comments_of x) + ((whole number a.word + 0) + (total (whole number) xs + total number (end_of x)))) a.items ∙ omega arith))
 
@@ -251,12 +251,12 @@ module _ (number : Bytes → ℕ) where
       by false None rest = tt
       by false (Some new) rest = omega arith
 
-  top_total : (new : Item) (xs : List Item) → file (package_behind_blocks new xs) ≡ item_amount number new + file (without_first is_package_call xs)
+  top_total : (new : Item) (xs : List Item) → file (package_after_blocks new xs) ≡ item_amount number new + file (without_first is_package_call xs)
   top_total new [] = refl
   top_total new (x ∷ xs) = by (is_block x) refl (top_total new xs)
     where
-      by : (b : Bool) → is_block x ≡ b → file (package_behind_blocks new xs) ≡ item_amount number new + file (without_first is_package_call xs)
-          → file (if b then x ∷ package_behind_blocks new xs else new ∷ without_first is_package_call (x ∷ xs)) ≡ item_amount number new + file (without_first is_package_call (x ∷ xs))
+      by : (b : Bool) → is_block x ≡ b → file (package_after_blocks new xs) ≡ item_amount number new + file (without_first is_package_call xs)
+          → file (if b then x ∷ package_after_blocks new xs else new ∷ without_first is_package_call (x ∷ xs)) ≡ item_amount number new + file (without_first is_package_call (x ∷ xs))
       by true e rest =
           let z = ap file (if_false (is_package_call x) xs (x ∷ without_first is_package_call xs) (block_no_package x e)) in
           omega arith
@@ -267,7 +267,7 @@ module _ (number : Bytes → ℕ) where
   moved_by items None h = refl
   moved_by items (Some new) h = by (list_any is_load_item items)
     where
-      by : (b : Bool) → file (if b then behind_last is_load_item new (without_first is_package_call items) else package_behind_blocks new items) ≡ file items
+      by : (b : Bool) → file (if b then after_last is_load_item new (without_first is_package_call items) else package_after_blocks new items) ≡ file items
       by true = last_total is_load_item new (without_first is_package_call items) ∙ sym h
       by false = top_total new items ∙ sym h
 

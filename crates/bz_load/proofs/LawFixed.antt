@@ -12,9 +12,9 @@ use Rattle.bz_items.specs.Characters.{Bytes}
 use Rattle.bz_attribute.specs.Attributes.{without_first}
 use Rattle.bz_attribute.proofs.FormsAgain.{if_true, if_false}
 use Rattle.bz_load.specs.Loads.{is_load_item}
-use Rattle.bz_load.specs.Places.{is_block, behind_last}
+use Rattle.bz_load.specs.Places.{is_block, after_last}
 use Rattle.bz_load.specs.Uses.{is_used}
-use Rattle.bz_load.specs.Fixes.{is_emptied, used_alone, unused_loads, is_package_call, first_that, package_behind_blocks, package_moved, move_package_to_top, fix}
+use Rattle.bz_load.specs.Fixes.{is_emptied, used_alone, unused_loads, is_package_call, first_that, package_after_blocks, package_moved, move_package_to_top, fix}
 use Rattle.bz_load.specs.Laws.{has_second_package, loses_load, FixedAgain}
 use Rattle.bz_load.proofs.PlaceSteps.{package_no_load}
 use Rattle.bz_load.proofs.ProperLoads.{fix_keeps}
@@ -40,12 +40,12 @@ module _ (f : Item → Item) where
   left_map test same [] = refl
   left_map test same (x ∷ xs) = by_same (map f) (test (f x)) (test x) (same x) refl (ap (λ ys. f x ∷ ys) (left_map test same xs))
 
-  last_map : (test : Item → Bool) → ((x : Item) → test (f x) ≡ test x) → (new : Item) (xs : List Item) → behind_last test (f new) (map f xs) ≡ map f (behind_last test new xs)
+  last_map : (test : Item → Bool) → ((x : Item) → test (f x) ≡ test x) → (new : Item) (xs : List Item) → after_last test (f new) (map f xs) ≡ map f (after_last test new xs)
   last_map test same new [] = refl
   last_map test same new (x ∷ xs) = by_same (map f) (list_any test (map f (x ∷ xs))) (list_any test (x ∷ xs)) (any_map test same (x ∷ xs)) (ap (λ ys. f x ∷ ys) (last_map test same new xs)) refl
 
   module _ (loads : (x : Item) → is_load_item (f x) ≡ is_load_item x) (blocks : (x : Item) → is_block (f x) ≡ is_block x) (packages : (x : Item) → is_package_call (f x) ≡ is_package_call x) where
-    top_map : (new : Item) (xs : List Item) → package_behind_blocks (f new) (map f xs) ≡ map f (package_behind_blocks new xs)
+    top_map : (new : Item) (xs : List Item) → package_after_blocks (f new) (map f xs) ≡ map f (package_after_blocks new xs)
     top_map new [] = refl
     top_map new (x ∷ xs) =
         by_same (map f) (is_block (f x)) (is_block x) (blocks x) (ap (λ ys. f x ∷ ys) (top_map new xs)) (ap (λ ys. f new ∷ ys) (left_map is_package_call packages (x ∷ xs)))
@@ -54,7 +54,7 @@ module _ (f : Item → Item) where
     placed_map xs None = refl
     placed_map xs (Some new) =
         by_same (map f) (list_any is_load_item (map f xs)) (list_any is_load_item xs) (any_map is_load_item loads xs)
-        (ap (behind_last is_load_item (f new)) (left_map is_package_call packages xs) ∙ last_map is_load_item loads new (without_first is_package_call xs)) (top_map new xs)
+        (ap (after_last is_load_item (f new)) (left_map is_package_call packages xs) ∙ last_map is_load_item loads new (without_first is_package_call xs)) (top_map new xs)
 
     moved_map : (xs : List Item) → move_package_to_top (map f xs) ≡ map f (move_package_to_top xs)
     moved_map xs = ap (λ o. option_map_or (package_moved (map f xs)) o (map f xs)) (found_map is_package_call packages xs) ∙ placed_map xs (first_that is_package_call xs)

@@ -21,8 +21,8 @@ use Rattle.bz_attribute.specs.Lists.{body_of}
 use Rattle.bz_attribute.proofs.FormsAgain.{if_true, own_items, items_kind, items_filled}
 use Rattle.bz_attribute.proofs.PlainWords.{IsPlain, equal_self, body_quoted}
 use Rattle.bz_attribute.proofs.KeySets.{or_turn}
-use Rattle.bz_load.specs.Loads.{is_load_item, path_in, is_load_from, is_alias_of, loads_symbol, behind_path, symbols_of, is_loaded}
-use Rattle.bz_load.specs.Places.{is_block, behind_last, behind_blocks, behind_loads}
+use Rattle.bz_load.specs.Loads.{is_load_item, path_in, is_load_from, is_alias_of, loads_symbol, after_path, symbols_of, is_loaded}
+use Rattle.bz_load.specs.Places.{is_block, after_last, after_blocks, after_loads}
 use Rattle.bz_load.specs.NewLoad.{is_symbol, new_symbols, symbol_made, load_made, with_symbols, new_load}
 use Rattle.bz_load.specs.Laws.{becomes_plain, LoadedAgain}
 use Rattle.bz_load.proofs.KeySets.{same_symbol}
@@ -187,14 +187,14 @@ module _ (path : Bytes) (symbols : List Symbol) where
   path_kept [] h = absurd (true≢false (sym h))
   path_kept (x ∷ xs) h = h
 
-  behind_kept : (xs : List Expr) → is_text path (path_in xs) ≡ true → behind_path (xs ++ more) ≡ behind_path xs ++ more
-  behind_kept [] h = absurd (true≢false (sym h))
-  behind_kept (x ∷ xs) h = refl
+  after_kept : (xs : List Expr) → is_text path (path_in xs) ≡ true → after_path (xs ++ more) ≡ after_path xs ++ more
+  after_kept [] h = absurd (true≢false (sym h))
+  after_kept (x ∷ xs) h = refl
 
   -- a load from the path stays one, and has these symbols after its own
-  more_behind : (item : Item) → is_load_from path item ≡ true → (is_load_from path (with_symbols symbols item) ≡ true) × (symbols_of (with_symbols symbols item) ≡ symbols_of item ++ more)
-  more_behind (i.Block lines) h = absurd (true≢false (sym h))
-  more_behind (i.Stmt x) h =
+  more_after : (item : Item) → is_load_from path item ≡ true → (is_load_from path (with_symbols symbols item) ≡ true) × (symbols_of (with_symbols symbols item) ≡ symbols_of item ++ more)
+  more_after (i.Block lines) h = absurd (true≢false (sym h))
+  more_after (i.Stmt x) h =
       let p = and_parts (has_kind k.Load x) (is_text path (path_in (items_of x))) h in
       let changed : on_items k.Load (λ xs. xs ++ more) x ≡ with_items (items_of x ++ more) x = if_true (has_kind k.Load x) _ _ p.0 in
       let filled : items_of (with_items (items_of x ++ more) x) ≡ items_of x ++ more = items_filled k.Load (items_of x ++ more) x p.0 in (
@@ -202,7 +202,7 @@ module _ (path : Bytes) (symbols : List Symbol) where
             ∙ and_from (has_kind k.Load (with_items (items_of x ++ more) x)) (is_text path (path_in (items_of (with_items (items_of x ++ more) x))))
             (items_kind k.Load (items_of x ++ more) x ∙ p.0)
             (ap (λ xs. is_text path (path_in xs)) filled ∙ path_kept (items_of x) p.1),
-        ap (λ y. behind_path (items_of y)) changed ∙ (ap behind_path filled ∙ behind_kept (items_of x) p.1),
+        ap (λ y. after_path (items_of y)) changed ∙ (ap after_path filled ∙ after_kept (items_of x) p.1),
       )
 
   abbrev loads : Symbol → Item → Bool
@@ -210,31 +210,31 @@ module _ (path : Bytes) (symbols : List Symbol) where
 
   more_loads : (symbol : Symbol) → IsIn more symbol → (item : Item) → is_load_from path item ≡ true → loads symbol (with_symbols symbols item) ≡ true
   more_loads symbol e item h =
-      let w = more_behind item h in
+      let w = more_after item h in
       and_from (is_load_from path (with_symbols symbols item)) (list_any (loads_symbol symbol) (symbols_of (with_symbols symbols item))) w.0
       (ap (list_any (loads_symbol symbol)) w.1 ∙ any_back (loads_symbol symbol) (symbols_of item) more e)
 
   still_loads : (symbol : Symbol) (item : Item) → is_load_from path item ≡ true → loads symbol item ≡ true → loads symbol (with_symbols symbols item) ≡ true
   still_loads symbol item h e =
-      let w = more_behind item h in
+      let w = more_after item h in
       and_from (is_load_from path (with_symbols symbols item)) (list_any (loads_symbol symbol) (symbols_of (with_symbols symbols item))) w.0
       (ap (list_any (loads_symbol symbol)) w.1 ∙ any_front (loads_symbol symbol) (symbols_of item) more (and_parts (is_load_from path item) (list_any (loads_symbol symbol) (symbols_of item)) e).1)
 
   -- ---- a new load
 
-  block_any : (other : Item → Bool) (new : Item) (xs : List Item) → list_any other (behind_blocks new xs) ≡ (other new || list_any other xs)
+  block_any : (other : Item → Bool) (new : Item) (xs : List Item) → list_any other (after_blocks new xs) ≡ (other new || list_any other xs)
   block_any other new [] = refl
   block_any other new (x ∷ xs) = by (is_block x) (block_any other new xs)
     where
-      by : (b : Bool) → list_any other (behind_blocks new xs) ≡ (other new || list_any other xs)
-          → list_any other (if b then x ∷ behind_blocks new xs else new ∷ x ∷ xs) ≡ (other new || (other x || list_any other xs))
+      by : (b : Bool) → list_any other (after_blocks new xs) ≡ (other new || list_any other xs)
+          → list_any other (if b then x ∷ after_blocks new xs else new ∷ x ∷ xs) ≡ (other new || (other x || list_any other xs))
       by true rest = ap (λ z. other x || z) rest ∙ or_turn (other x) (other new) (list_any other xs)
       by false rest = refl
 
-  load_any : (other : Item → Bool) (new : Item) (xs : List Item) → list_any other (behind_loads new xs) ≡ (other new || list_any other xs)
+  load_any : (other : Item → Bool) (new : Item) (xs : List Item) → list_any other (after_loads new xs) ≡ (other new || list_any other xs)
   load_any other new xs = by (list_any is_load_item xs)
     where
-      by : (b : Bool) → list_any other (if b then behind_last is_load_item new xs else behind_blocks new xs) ≡ (other new || list_any other xs)
+      by : (b : Bool) → list_any other (if b then after_last is_load_item new xs else after_blocks new xs) ≡ (other new || list_any other xs)
       by true = any_placed is_load_item other new xs
       by false = block_any other new xs
 
@@ -247,7 +247,7 @@ module _ (path : Bytes) (symbols : List Symbol) where
   new_loads : IsPlain path → (symbol : Symbol) → IsIn more symbol → loads symbol (load_made path symbols) ≡ true
   new_loads h symbol e =
       and_from (is_load_from path (load_made path symbols)) (list_any (loads_symbol symbol) (symbols_of (load_made path symbols))) (new_from h)
-      (ap (λ xs. list_any (loads_symbol symbol) (behind_path xs)) (items_hidden-the_row-Expr-0 made_items) ∙ e)
+      (ap (λ xs. list_any (loads_symbol symbol) (after_path xs)) (items_hidden-the_row-Expr-0 made_items) ∙ e)
 
 -- ---- once more
 
@@ -275,16 +275,16 @@ module _ (path : Bytes) (symbols : List Symbol) (items : List Item) (plain_path 
       (all_loaded path items (Loads new) still [] symbols (λ symbol e. absurd (true≢false (sym e))) (weaker (IsIn (map symbol_made chosen)) (Loads new) added chosen all_made))
 
   by_load : (b : Bool) → list_any (is_load_from path) items ≡ b
-      → new_load path symbols (if b then on_first_that (is_load_from path) (with_symbols chosen) items else behind_loads (load_made path chosen) items)
-      ≡ (if b then on_first_that (is_load_from path) (with_symbols chosen) items else behind_loads (load_made path chosen) items)
+      → new_load path symbols (if b then on_first_that (is_load_from path) (with_symbols chosen) items else after_loads (load_made path chosen) items)
+      ≡ (if b then on_first_that (is_load_from path) (with_symbols chosen) items else after_loads (load_made path chosen) items)
   by_load true e =
       again (on_first_that (is_load_from path) (with_symbols chosen) items)
-      (first_any (is_load_from path) (is_load_from path) (with_symbols chosen) (λ x h. (more_behind path chosen x h).0) items e)
+      (first_any (is_load_from path) (is_load_from path) (with_symbols chosen) (λ x h. (more_after path chosen x h).0) items e)
       (λ symbol h. first_any (is_load_from path) (loads path chosen symbol) (with_symbols chosen) (more_loads path chosen symbol h) items e)
       (λ symbol h. still_any (is_load_from path) (loads path chosen symbol) (with_symbols chosen) (still_loads path chosen symbol) items h)
   by_load false e =
       let new : Item = load_made path chosen in
-      again (behind_loads new items)
+      again (after_loads new items)
       (load_any path chosen (is_load_from path) new items ∙ or_left (is_load_from path new) (list_any (is_load_from path) items) (new_from path chosen plain_path))
       (λ symbol h. load_any path chosen (loads path chosen symbol) new items ∙ or_left (loads path chosen symbol new) (is_loaded path items symbol) (new_loads path chosen plain_path symbol h))
       (λ symbol h. load_any path chosen (loads path chosen symbol) new items ∙ or_right (loads path chosen symbol new) (is_loaded path items symbol) h)

@@ -12,10 +12,10 @@ use Rattle.bz_value.specs.declared.value.Item.TheVariants as i
 use Rattle.bz_items.specs.Characters.{Bytes}
 use Rattle.bz_value.specs.Proper.{IsProperItem}
 use Rattle.bz_value.specs.Empty.{is_empty}
-use Rattle.bz_rule.specs.Values.{has_kind, items_of, with_items, on_items, behind_first}
+use Rattle.bz_rule.specs.Values.{has_kind, items_of, with_items, on_items, on_rest}
 use Rattle.bz_attribute.proofs.FormsAgain.{if_true, if_false, items_kind, items_filled, items_twice}
-use Rattle.bz_load.specs.Loads.{is_load_item, behind_path}
-use Rattle.bz_load.specs.Uses.{all_of, operands_in, is_used}
+use Rattle.bz_load.specs.Loads.{is_load_item, after_path}
+use Rattle.bz_load.specs.Uses.{all_of, operand_names_in, is_used}
 use Rattle.bz_load.specs.Fixes.{is_commented, path_comments, has_own_comments, symbol_stays, with_used, is_emptied, used_alone, unused_loads}
 use Rattle.bz_load.specs.Laws.{UnusedAgain}
 use Rattle.bz_load.proofs.LoadParts.{load_none}
@@ -51,7 +51,7 @@ all_pass test (x ∷ xs) h = if_true (test x) _ _ h.0 ∙ ap (λ ys. x ∷ ys) (
 -- ---- a load that keeps the symbols that are to stay
 
 abbrev kept : Test → List Expr → List Expr
-kept used = behind_first (filter (symbol_stays used))
+kept used = on_rest (filter (symbol_stays used))
 
 kept_twice : (used : Test) (xs : List Expr) → kept used (kept used xs) ≡ kept used xs
 kept_twice used [] = refl
@@ -61,14 +61,14 @@ kept_path : (used : Test) (xs : List Expr) → path_comments (kept used xs) ≡ 
 kept_path used [] = refl
 kept_path used (x ∷ xs) = refl
 
-kept_behind : (used : Test) (xs : List Expr) → behind_path (kept used xs) ≡ filter (symbol_stays used) (behind_path xs)
-kept_behind used [] = refl
-kept_behind used (x ∷ xs) = refl
+kept_after : (used : Test) (xs : List Expr) → after_path (kept used xs) ≡ filter (symbol_stays used) (after_path xs)
+kept_after used [] = refl
+kept_after used (x ∷ xs) = refl
 
 own_kept : (ys : List Expr) (x : Expr) → has_kind k.Load x ≡ true → path_comments ys ≡ path_comments (items_of x) → has_own_comments (with_items ys x) ≡ has_own_comments x
 own_kept ys (Token t) is h = refl
-own_kept ys (Form' kind s parts s' items end_ split open_ comments) is h =
-    ap (λ z. is_commented comments || (not (is_empty end_) || z)) (ap path_comments (items_hidden-the_row-Expr-0 ys) ∙ h)
+own_kept ys (Form' kind s parts s' items end split open_break comments) is h =
+    ap (λ z. is_commented comments || (not (is_empty end) || z)) (ap path_comments (items_hidden-the_row-Expr-0 ys) ∙ h)
 
 -- what is left of a load is a load that nothing goes from
 abbrev Settled : Test → Expr → Type 0
@@ -85,8 +85,8 @@ settled_load used x is own =
           ∙ (if_true (has_kind k.Load y) _ _ load
           ∙ (ap (λ zs. with_items (kept used zs) y) filled ∙ (ap (λ zs. with_items zs y) (kept_twice used (items_of x)) ∙ items_twice ys ys x))),
       ap (λ z. has_kind k.Load y && not (has_own_comments y) && z)
-          (ap (λ zs. not (is_empty (behind_path zs)) && not (list_any (symbol_stays used) (behind_path zs))) filled
-          ∙ (ap (λ zs. not (is_empty zs) && not (list_any (symbol_stays used) zs)) (kept_behind used (items_of x)) ∙ left_passes (symbol_stays used) (behind_path (items_of x))))
+          (ap (λ zs. not (is_empty (after_path zs)) && not (list_any (symbol_stays used) (after_path zs))) filled
+          ∙ (ap (λ zs. not (is_empty zs) && not (list_any (symbol_stays used) zs)) (kept_after used (items_of x)) ∙ left_passes (symbol_stays used) (after_path (items_of x))))
           ∙ never (has_kind k.Load y && not (has_own_comments y)),
     )
   where
@@ -135,7 +135,7 @@ unused_twice used (item ∷ items) = by (is_emptied used item) refl (unused_twic
 
 -- ---- the names that are used stay
 
-load_uses : (item : Item) → is_load_item item ≡ true → IsProperItem item → operands_in item ≡ []
+load_uses : (item : Item) → is_load_item item ≡ true → IsProperItem item → operand_names_in item ≡ []
 load_uses (i.Block lines) is h = refl
 load_uses (i.Stmt x) is h = load_none Begins x is h.1
 
@@ -164,25 +164,25 @@ other_stays used (i.Stmt x) h = ap i.Stmt (by (has_own_comments x))
     by true = refl
     by false = if_false (has_kind k.Load x) _ _ h
 
-pub used_same : (used : Test) (item : Item) → IsProperItem item → operands_in (used_alone used item) ≡ operands_in item
+pub used_same : (used : Test) (item : Item) → IsProperItem item → operand_names_in (used_alone used item) ≡ operand_names_in item
 used_same used item h = elim (cases_Bool (is_load_item item)) [
   | inl is ↦ load_uses (used_alone used item) (used_load used item ∙ is) (used_statement used item h) ∙ sym (load_uses item is h)
-  | inr is ↦ ap operands_in (other_stays used item is)
+  | inr is ↦ ap operand_names_in (other_stays used item is)
 ]
 
-uses_stay : (used : Test) (items : List Item) → AllByRecursion IsProperItem items → all_of (map operands_in (unused_by used items)) ≡ all_of (map operands_in items)
+uses_stay : (used : Test) (items : List Item) → AllByRecursion IsProperItem items → all_of (map operand_names_in (unused_by used items)) ≡ all_of (map operand_names_in items)
 uses_stay used [] h = refl
 uses_stay used (item ∷ items) h = by (is_emptied used item) refl (uses_stay used items h.1)
   where
     rest_of : List Item
     rest_of = filter (λ x. not (is_emptied used x)) items
 
-    by : (b : Bool) → is_emptied used item ≡ b → all_of (map operands_in (map (used_alone used) rest_of)) ≡ all_of (map operands_in items)
-        → all_of (map operands_in (map (used_alone used) (if not b then item ∷ rest_of else rest_of))) ≡ (operands_in item ++ all_of (map operands_in items))
-    by true e rest = rest ∙ ap (λ (names : List Bytes). names ++ all_of (map operands_in items)) (sym (load_uses item (emptied_load used item e) h.0))
+    by : (b : Bool) → is_emptied used item ≡ b → all_of (map operand_names_in (map (used_alone used) rest_of)) ≡ all_of (map operand_names_in items)
+        → all_of (map operand_names_in (map (used_alone used) (if not b then item ∷ rest_of else rest_of))) ≡ (operand_names_in item ++ all_of (map operand_names_in items))
+    by true e rest = rest ∙ ap (λ (names : List Bytes). names ++ all_of (map operand_names_in items)) (sym (load_uses item (emptied_load used item e) h.0))
     by false e rest =
-        ap (λ (names : List Bytes). names ++ all_of (map operands_in (map (used_alone used) rest_of))) (used_same used item h.0)
-        ∙ ap (λ (names : List Bytes). operands_in item ++ names) rest
+        ap (λ (names : List Bytes). names ++ all_of (map operand_names_in (map (used_alone used) rest_of))) (used_same used item h.0)
+        ∙ ap (λ (names : List Bytes). operand_names_in item ++ names) rest
 
 pub unused_again : UnusedAgain
 unused_again items h =

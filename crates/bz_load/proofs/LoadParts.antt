@@ -24,13 +24,13 @@ use Rattle.std.specs.Prelude.{codes}
 
 -- ---- an alias
 
-pub record IsAlias (ps xs : List Expr) (end_ : List Bytes) : Type 0 where
+pub record IsAlias (ps xs : List Expr) (end : List Bytes) : Type 0 where
   pub left : Expr
   pub sign : Expr
   pub right : Expr
   pub parts : ps ≡ left ∷ sign ∷ right ∷ []
   pub items : xs ≡ []
-  pub ends : end_ ≡ []
+  pub ends : end ≡ []
   pub at_left : has_token s.name (root left) ≡ true
   pub at_sign : has_token s.equals (root sign) ≡ true
   pub at_right : has_token s.string (root right) ≡ true
@@ -38,11 +38,11 @@ pub record IsAlias (ps xs : List Expr) (end_ : List Bytes) : Type 0 where
   pub bare_sign : comments_of sign ≡ no_comments
   pub bare_right : comments_of right ≡ no_comments
 
-alias_of : (here : Spot) (ps xs : List Expr) (end_ : List Bytes) (split open_ : Bool) → AsForm here k.Alias ps xs end_ split open_ → IsAlias ps xs end_
-alias_of here [] xs end_ split open_ h = absurd h.0
-alias_of here (p ∷ []) xs end_ split open_ h = absurd h.0.1
-alias_of here (p ∷ q ∷ []) xs end_ split open_ h = absurd h.0.1.1
-alias_of here (p ∷ q ∷ r ∷ []) [] end_ split open_ h = record {
+alias_of : (here : Spot) (ps xs : List Expr) (end : List Bytes) (split open_break : Bool) → AsForm here k.Alias ps xs end split open_break → IsAlias ps xs end
+alias_of here [] xs end split open_break h = absurd h.0
+alias_of here (p ∷ []) xs end split open_break h = absurd h.0.1
+alias_of here (p ∷ q ∷ []) xs end split open_break h = absurd h.0.1.1
+alias_of here (p ∷ q ∷ r ∷ []) [] end split open_break h = record {
   left = p;
   sign = q;
   right = r;
@@ -56,17 +56,17 @@ alias_of here (p ∷ q ∷ r ∷ []) [] end_ split open_ h = record {
   bare_sign = h.1.0.3.1;
   bare_right = h.1.0.3.3.1;
 }
-alias_of here (p ∷ q ∷ r ∷ []) (x ∷ xs) end_ split open_ h = absurd h.1.1
-alias_of here (p ∷ q ∷ r ∷ t ∷ ps) xs end_ split open_ h = absurd h.0.1.1.1
+alias_of here (p ∷ q ∷ r ∷ []) (x ∷ xs) end split open_break h = absurd h.1.1
+alias_of here (p ∷ q ∷ r ∷ t ∷ ps) xs end split open_break h = absurd h.0.1.1.1
 
-only_alias : (kind : Kind) → is_kind kind k.Alias ≡ true → (here : Spot) (ps xs : List Expr) (end_ : List Bytes) (split open_ : Bool) → AsForm here kind ps xs end_ split open_ → IsAlias ps xs end_
+only_alias : (kind : Kind) → is_kind kind k.Alias ≡ true → (here : Spot) (ps xs : List Expr) (end : List Bytes) (split open_break : Bool) → AsForm here kind ps xs end split open_break → IsAlias ps xs end
 only_alias k.Alias is = alias_of
 only_alias _ is = absurd (true≢false (sym is))
 
 pub alias_parts : (x : Expr) → has_kind k.Alias x ≡ true → ProperExpr Within x → IsAlias (parts_of x) (items_of x) (end_of x)
 alias_parts (Token t) is h = absurd (true≢false (sym is))
-alias_parts (Form' kind s parts s' items end_ split open_ comments) is h =
-    only_alias kind is Within (items-the_row-Expr _ parts) (items-the_row-Expr _ items) end_ split open_ (opened Within (Form' kind s parts s' items end_ split open_ comments) h)
+alias_parts (Form' kind s parts s' items end split open_break comments) is h =
+    only_alias kind is Within (items-the_row-Expr _ parts) (items-the_row-Expr _ items) end split open_break (opened Within (Form' kind s parts s' items end split open_break comments) h)
 
 -- ---- a load
 
@@ -81,11 +81,11 @@ pub record IsLoad (ps xs : List Expr) : Type 0 where
   pub loaded : AreOf s.loaded symbols
   pub bare_word : comments_of word ≡ no_comments
 
-load_of : (here : Spot) (ps xs : List Expr) (end_ : List Bytes) (split open_ : Bool) → AsForm here k.Load ps xs end_ split open_ → IsLoad ps xs
-load_of here [] xs end_ split open_ h = let n = lead_before k.Load [] (map root xs) h.0 in absurd (omega arith)
-load_of here (p ∷ []) [] end_ split open_ h = absurd (true≢false (sym h.0.1.1.0))
-load_of here (p ∷ []) (x ∷ xs) end_ split open_ ((w, (o, (t, inl i))), g) = absurd (true≢false (sym i.0))
-load_of here (p ∷ []) (x ∷ xs) end_ split open_ ((w, (o, (t, inr i))), g) = record {
+load_of : (here : Spot) (ps xs : List Expr) (end : List Bytes) (split open_break : Bool) → AsForm here k.Load ps xs end split open_break → IsLoad ps xs
+load_of here [] xs end split open_break h = let n = lead_before k.Load [] (map root xs) h.0 in absurd (omega arith)
+load_of here (p ∷ []) [] end split open_break h = absurd (true≢false (sym h.0.1.1.0))
+load_of here (p ∷ []) (x ∷ xs) end split open_break ((w, (o, (t, inl i))), g) = absurd (true≢false (sym i.0))
+load_of here (p ∷ []) (x ∷ xs) end split open_break ((w, (o, (t, inr i))), g) = record {
   word = p;
   path = x;
   symbols = xs;
@@ -96,16 +96,16 @@ load_of here (p ∷ []) (x ∷ xs) end_ split open_ ((w, (o, (t, inr i))), g) = 
   loaded = items_apart s.loaded s.close_round (mark_leaf 41) xs g.1.3 i.1;
   bare_word = g.0.1.0;
 }
-load_of here (p ∷ q ∷ ps) xs end_ split open_ h = let n = lead_before k.Load (map root (p ∷ q ∷ ps)) (map root xs) h.0 in absurd (omega arith)
+load_of here (p ∷ q ∷ ps) xs end split open_break h = let n = lead_before k.Load (map root (p ∷ q ∷ ps)) (map root xs) h.0 in absurd (omega arith)
 
-only_load : (kind : Kind) → is_kind kind k.Load ≡ true → (here : Spot) (ps xs : List Expr) (end_ : List Bytes) (split open_ : Bool) → AsForm here kind ps xs end_ split open_ → IsLoad ps xs
+only_load : (kind : Kind) → is_kind kind k.Load ≡ true → (here : Spot) (ps xs : List Expr) (end : List Bytes) (split open_break : Bool) → AsForm here kind ps xs end split open_break → IsLoad ps xs
 only_load k.Load is = load_of
 only_load _ is = absurd (true≢false (sym is))
 
 pub load_parts : (here : Spot) (x : Expr) → has_kind k.Load x ≡ true → ProperExpr here x → IsLoad (parts_of x) (items_of x)
 load_parts here (Token t) is h = absurd (true≢false (sym is))
-load_parts here (Form' kind s parts s' items end_ split open_ comments) is h =
-    only_load kind is here (items-the_row-Expr _ parts) (items-the_row-Expr _ items) end_ split open_ (opened here (Form' kind s parts s' items end_ split open_ comments) h)
+load_parts here (Form' kind s parts s' items end split open_break comments) is h =
+    only_load kind is here (items-the_row-Expr _ parts) (items-the_row-Expr _ items) end split open_break (opened here (Form' kind s parts s' items end split open_break comments) h)
 
 -- ---- no uses
 
@@ -126,24 +126,24 @@ word_class _ text h = refl
 
 string_none : (x : Expr) → has_token s.string (root x) ≡ true → operands x ≡ []
 string_none (Token t) h = string_class t.class t.text h
-string_none (Form' kind s parts s' items end_ split open_ comments) h = absurd (true≢false (sym h))
+string_none (Form' kind s parts s' items end split open_break comments) h = absurd (true≢false (sym h))
 
 sign_none : (x : Expr) → has_token s.equals (root x) ≡ true → operands x ≡ []
 sign_none (Token t) h = sign_class t.class t.text h
-sign_none (Form' kind s parts s' items end_ split open_ comments) h = absurd (true≢false (sym h))
+sign_none (Form' kind s parts s' items end split open_break comments) h = absurd (true≢false (sym h))
 
 word_none : (x : Expr) → has_token (s.one_keyword (codes "load")) (root x) ≡ true → operands x ≡ []
 word_none (Token t) h = word_class t.class t.text h
-word_none (Form' kind s parts s' items end_ split open_ comments) h = absurd (true≢false (sym h))
+word_none (Form' kind s parts s' items end split open_break comments) h = absurd (true≢false (sym h))
 
 -- the operands of a form, by its kind, its parts and its items
 abbrev operands_by : Kind → List Expr → List Expr → List Bytes
 operands_by kind ps xs = all_of (with_operands kind (map operands ps)) ++ all_of (map operands xs)
 
 module _ (kind : Kind) (only : (own : Kind) → is_kind own kind ≡ true → (ps xs : List Expr) → operands_by own ps xs ≡ operands_by kind ps xs) where
-  operands_told : (x : Expr) → has_kind kind x ≡ true → operands x ≡ operands_by kind (parts_of x) (items_of x)
-  operands_told (Token t) h = absurd (true≢false (sym h))
-  operands_told (Form' own s parts s' items end_ split open_ comments) h =
+  operands_answered : (x : Expr) → has_kind kind x ≡ true → operands x ≡ operands_by kind (parts_of x) (items_of x)
+  operands_answered (Token t) h = absurd (true≢false (sym h))
+  operands_answered (Form' own s parts s' items end split open_break comments) h =
       ap (λ (ps : List (List Bytes)). all_of (with_operands own ps) ++ all_of (each_operands items)) (operands_row _ parts)
       ∙ (ap (λ (xs : List (List Bytes)). all_of (with_operands own (map operands (items-the_row-Expr _ parts))) ++ all_of xs) (operands_row _ items)
       ∙ only own h (items-the_row-Expr _ parts) (items-the_row-Expr _ items))
@@ -159,7 +159,7 @@ load_alone _ is ps xs = absurd (true≢false (sym is))
 alias_none : (x : Expr) → has_kind k.Alias x ≡ true → ProperExpr Within x → operands x ≡ []
 alias_none x is h =
     let a = alias_parts x is h in
-    operands_told k.Alias alias_alone x is
+    operands_answered k.Alias alias_alone x is
     ∙ (ap (λ (ps : List Expr). operands_by k.Alias ps (items_of x)) a.parts
     ∙ (ap (λ (xs : List Expr). (operands a.sign ++ (operands a.right ++ [])) ++ all_of (map operands xs)) a.items
     ∙ (ap (λ (names : List Bytes). (names ++ (operands a.right ++ [])) ++ []) (sign_none a.sign a.at_sign)
@@ -167,7 +167,7 @@ alias_none x is h =
 
 loaded_none : (x : Expr) → IsItem s.loaded x → operands x ≡ []
 loaded_none (Token t) h = string_class t.class t.text h.1
-loaded_none (Form' kind s parts s' items end_ split open_ comments) h = alias_none (Form' kind s parts s' items end_ split open_ comments) h.1 h.0.0
+loaded_none (Form' kind s parts s' items end split open_break comments) h = alias_none (Form' kind s parts s' items end split open_break comments) h.1 h.0.0
 
 all_none : (xs : List Expr) → AreOf s.loaded xs → all_of (map operands xs) ≡ []
 all_none [] h = refl
@@ -177,7 +177,7 @@ all_none (x ∷ xs) h = ap (λ (names : List Bytes). names ++ all_of (map operan
 pub load_none : (here : Spot) (x : Expr) → has_kind k.Load x ≡ true → ProperExpr here x → operands x ≡ []
 load_none here x is h =
     let a = load_parts here x is h in
-    operands_told k.Load load_alone x is
+    operands_answered k.Load load_alone x is
     ∙ (ap (λ (ps : List Expr). operands_by k.Load ps (items_of x)) a.parts
     ∙ (ap (λ (xs : List Expr). (operands a.word ++ []) ++ all_of (map operands xs)) a.items
     ∙ (ap (λ (names : List Bytes). (names ++ []) ++ (operands a.path ++ all_of (map operands a.symbols))) (word_none a.word a.at_word)

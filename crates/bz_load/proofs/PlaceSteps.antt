@@ -11,8 +11,8 @@ use Rattle.bz_value.specs.declared.value.Item.TheVariants as i
 use Rattle.bz_attribute.specs.Attributes.{without_first}
 use Rattle.bz_attribute.proofs.ArgumentPlaces.{IsFirst, NonePasses, removed_at, later, none_later}
 use Rattle.bz_load.specs.Loads.{is_load_item}
-use Rattle.bz_load.specs.Places.{behind_last, is_block}
-use Rattle.bz_load.specs.Fixes.{is_package_call, first_that, package_behind_blocks, package_moved, move_package_to_top}
+use Rattle.bz_load.specs.Places.{after_last, is_block}
+use Rattle.bz_load.specs.Fixes.{is_package_call, first_that, package_after_blocks, package_moved, move_package_to_top}
 use Rattle.bz_attribute.proofs.FormsAgain.{if_true, if_false}
 
 -- ---- after the last one that passes
@@ -36,7 +36,7 @@ fewer test x xs zero h = tt
 fewer test x xs (suc n) h = h
 
 pub last_at : (test : Item → Bool) (new : Item) (items : List Item) (n : ℕ) → n ≤ length items → list_any test (drop n items) ≡ false → Ends test items n
-    → behind_last test new items ≡ take n items ++ new ∷ drop n items
+    → after_last test new items ≡ take n items ++ new ∷ drop n items
 last_at test new [] zero l h w = refl
 last_at test new [] (suc n) l h w = absurd (omega (arith, l))
 last_at test new (x ∷ xs) zero l h w = if_false (list_any test (x ∷ xs)) _ _ h
@@ -81,8 +81,8 @@ no_package items h = sym (ap (λ found. option_map_or (package_moved items) foun
 pub package_no_load : (item : Item) → is_package_call item ≡ true → is_load_item item ≡ false
 package_no_load (i.Block lines) h = refl
 package_no_load (i.Stmt (Token t)) h = refl
-package_no_load (i.Stmt (Form' k.Load s parts s' items end_ split open_ comments)) h = absurd (true≢false (sym h))
-package_no_load (i.Stmt (Form' _ s parts s' items end_ split open_ comments)) h = refl
+package_no_load (i.Stmt (Form' k.Load s parts s' items end split open_break comments)) h = absurd (true≢false (sym h))
+package_no_load (i.Stmt (Form' _ s parts s' items end split open_break comments)) h = refl
 
 pub loads_left : (items : List Item) → list_any is_load_item (without_first is_package_call items) ≡ list_any is_load_item items
 loads_left [] = refl
@@ -98,11 +98,11 @@ block_no_package (i.Stmt x) h = absurd (true≢false (sym h))
 
 pub record BlocksStay (items : List Item) (n : ℕ) : Type 0 where
   pub front : take n (without_first is_package_call items) ≡ take n items
-  pub behind : drop n (without_first is_package_call items) ≡ without_first is_package_call (drop n items)
+  pub following : drop n (without_first is_package_call items) ≡ without_first is_package_call (drop n items)
   pub within : n ≤ length (without_first is_package_call items)
 
 pub blocks_stay : (items : List Item) (n : ℕ) → n ≤ length items → list_all is_block (take n items) ≡ true → BlocksStay items n
-blocks_stay items zero l h = record { front = refl; behind = refl; within = omega arith }
+blocks_stay items zero l h = record { front = refl; following = refl; within = omega arith }
 blocks_stay [] (suc n) l h = absurd (omega (arith, l))
 blocks_stay (x ∷ xs) (suc n) l h =
     let p = and_parts (is_block x) (list_all is_block (take n xs)) h in
@@ -111,7 +111,7 @@ blocks_stay (x ∷ xs) (suc n) l h =
     let w : n ≤ length (without_first is_package_call xs) = rest.within in
     record {
       front = ap (take (suc n)) same ∙ ap (λ ys. x ∷ ys) rest.front;
-      behind = ap (drop (suc n)) same ∙ rest.behind;
+      following = ap (drop (suc n)) same ∙ rest.following;
       within = subst (λ ys. suc n ≤ length ys) (sym same) (omega (arith, w));
     }
 
@@ -125,19 +125,19 @@ module _ (items rest : List Item) (from : ℕ) (new : Item) (first : IsFirst is_
   any_load : list_any is_load_item items ≡ list_any is_load_item rest
   any_load = sym (loads_left items) ∙ ap (list_any is_load_item) (sym is_left)
 
-  pub behind_load : (loads : ℕ) → list_any is_load_item rest ≡ nat_lt 0 loads → 0 < loads → behind_last is_load_item new rest ≡ take loads rest ++ new ∷ drop loads rest
+  pub after_load : (loads : ℕ) → list_any is_load_item rest ≡ nat_lt 0 loads → 0 < loads → after_last is_load_item new rest ≡ take loads rest ++ new ∷ drop loads rest
       → insert rest loads new ≡ move_package_to_top items
-  behind_load loads some l place =
-      sym (moved ∙ (if_true (list_any is_load_item items) _ _ (any_load ∙ (some ∙ lt-ltb 0 loads l)) ∙ (ap (behind_last is_load_item new) (sym is_left) ∙ place)))
+  after_load loads some l place =
+      sym (moved ∙ (if_true (list_any is_load_item items) _ _ (any_load ∙ (some ∙ lt-ltb 0 loads l)) ∙ (ap (after_last is_load_item new) (sym is_left) ∙ place)))
 
-  pub behind_block : (loads blocks : ℕ) → list_any is_load_item rest ≡ nat_lt 0 loads → loads ≤ 0 → blocks ≤ length items → list_all is_block (take blocks items) ≡ true
-      → package_behind_blocks new items ≡ take blocks items ++ new ∷ without_first is_package_call (drop blocks items)
+  pub after_block : (loads blocks : ℕ) → list_any is_load_item rest ≡ nat_lt 0 loads → loads ≤ 0 → blocks ≤ length items → list_all is_block (take blocks items) ≡ true
+      → package_after_blocks new items ≡ take blocks items ++ new ∷ without_first is_package_call (drop blocks items)
       → insert rest blocks new ≡ move_package_to_top items
-  behind_block loads blocks some l within all place =
+  after_block loads blocks some l within all place =
       let stay = blocks_stay items blocks within all in
       sym (moved ∙ (if_false (list_any is_load_item items) _ _ (any_load ∙ (some ∙ none loads l)) ∙ (place
       ∙ (ap (λ ys. ys ++ new ∷ without_first is_package_call (drop blocks items)) (sym stay.front ∙ ap (take blocks) (sym is_left))
-      ∙ ap (λ ys. take blocks rest ++ new ∷ ys) (sym stay.behind ∙ ap (drop blocks) (sym is_left))))))
+      ∙ ap (λ ys. take blocks rest ++ new ∷ ys) (sym stay.following ∙ ap (drop blocks) (sym is_left))))))
     where
       none : (n : ℕ) → n ≤ 0 → nat_lt 0 n ≡ false
       none zero l = refl

@@ -14,7 +14,7 @@ use Rattle.bz_value.specs.declared.value.Item.{Item}
 use Rattle.bz_value.specs.declared.value.Item.TheVariants as i
 use Rattle.bz_value.specs.Comments.{no_comments}
 use Rattle.bz_items.specs.Characters.{Bytes}
-use Rattle.bz_value.specs.Proper.{IsComment, AreComments, behind_expr, IsProperItem}
+use Rattle.bz_value.specs.Proper.{IsComment, AreComments, after_expr, IsProperItem}
 use Rattle.bz_value.specs.Roots as r
 use Rattle.bz_value.proofs.FormParts.{AreParts, form_proper}
 use Rattle.bz_words.specs.Proper.{IsSymbol, IsAttribute, EachIs, AreSome}
@@ -23,7 +23,7 @@ use Rattle.bz_words.specs.declared.command.Symbol.{Symbol}
 use Rattle.bz_words.specs.declared.command.Fixes.{Fixes}
 use Rattle.bz_words.proofs.NameTests.{identifiers_are_names}
 use Rattle.bz_rule.specs.Rules.{is_text}
-use Rattle.bz_rule.specs.Values.{has_kind, items_of, with_items, on_items, behind_first}
+use Rattle.bz_rule.specs.Values.{has_kind, items_of, with_items, on_items, on_rest}
 use Rattle.bz_rule.proofs.ProperChanges.{by_test, by_case}
 use Rattle.bz_rule.proofs.ProperForms.{InPlace, itself}
 use Rattle.bz_rule.proofs.ProperItems.{all_joined}
@@ -33,11 +33,11 @@ use Rattle.bz_attribute.specs.Attributes.{on_first_that, without_first}
 use Rattle.bz_attribute.proofs.ProperTexts.{one_ascii}
 use Rattle.bz_attribute.proofs.ProperMade.{IsNew, token_new, quoted_string}
 use Rattle.bz_load.specs.Loads.{is_load_item, path_in, is_load_from, is_loaded}
-use Rattle.bz_load.specs.Places.{is_block, behind_last, behind_blocks, behind_loads}
+use Rattle.bz_load.specs.Places.{is_block, after_last, after_blocks, after_loads}
 use Rattle.bz_load.specs.NewLoad.{is_symbol, new_symbols, symbol_made, load_made, with_symbols, new_load}
 use Rattle.bz_load.specs.Uses.{is_used}
 use Rattle.bz_load.specs.Laws.{LoadsStayProper}
-use Rattle.bz_load.specs.Fixes.{has_own_comments, symbol_stays, with_used, is_emptied, used_alone, unused_loads, is_package_call, first_that, package_behind_blocks, package_moved, move_package_to_top, fix}
+use Rattle.bz_load.specs.Fixes.{has_own_comments, symbol_stays, with_used, is_emptied, used_alone, unused_loads, is_package_call, first_that, package_after_blocks, package_moved, move_package_to_top, fix}
 
 abbrev AreFine : List Item → Type 0
 AreFine items = AllByRecursion IsProperItem items
@@ -51,13 +51,13 @@ string_new : (word : Bytes) → IsUtf8 word → IsNew (token c.String (quoted_of
 string_new word u = let h = quoted_string word u in token_new c.String (quoted_of word) h.0 h.1
 
 -- a new part of a row before others
-new_part : (outer here : Spot) (x : Expr) (xs : List Expr) → IsNew x → AreParts false outer (behind_expr outer here x) xs → AreParts false outer here (x ∷ xs)
+new_part : (outer here : Spot) (x : Expr) (xs : List Expr) → IsNew x → AreParts false outer (after_expr outer here x) xs → AreParts false outer here (x ∷ xs)
 new_part outer here x xs n h = (n.proper here, n.comments, λ b. absurd (true≢false (sym b ∙ n.breaks)), h)
 
 alias_item : (to from : Bytes) → IsAttribute to → IsUtf8 from → IsItem s.loaded (node k.Alias (name to ∷ mark (codes "=") ∷ token c.String (quoted_of from) ∷ []))
 alias_item to from a u = (
   (
-    form_proper Within (record { kind = k.Alias; parts = name to ∷ mark (codes "=") ∷ token c.String (quoted_of from) ∷ []; seq = record { items = []; end_ = []; split = false }; open_ = false; comments = no_comments })
+    form_proper Within (record { kind = k.Alias; parts = name to ∷ mark (codes "=") ∷ token c.String (quoted_of from) ∷ []; seq = record { items = []; end = []; split = false }; open_break = false; comments = no_comments })
         (refl, (refl, (refl, tt))) (
           new_part Within Within (name to) (mark (codes "=") ∷ token c.String (quoted_of from) ∷ []) (token_new c.Name to ((identifiers_are_names to).0 a.0) a.1)
               (new_part Within Within (mark (codes "=")) (token c.String (quoted_of from) ∷ []) (token_new c.Mark (codes "=") refl (one_ascii 61 (omega arith)))
@@ -102,7 +102,7 @@ load_proper path symbols u h =
     let all : AreOf s.loaded (map symbol_made symbols) = symbol_items symbols h in
     let word = token_new c.Keyword (codes "load") refl load_coded in (
       refl,
-      form_proper Begins (record { kind = k.Load; parts = token c.Keyword (codes "load") ∷ []; seq = record { items = token c.String (quoted_of path) ∷ map symbol_made symbols; end_ = []; split = false }; open_ = false; comments = no_comments })
+      form_proper Begins (record { kind = k.Load; parts = token c.Keyword (codes "load") ∷ []; seq = record { items = token c.String (quoted_of path) ∷ map symbol_made symbols; end = []; split = false }; open_break = false; comments = no_comments })
           (refl, (refl, (refl, inr (refl, items_again s.loaded s.close_round (r.mark_leaf 41) refl (map symbol_made symbols) all))))
           ((word.proper Begins, (refl, refl), tt), ((string_new path u).proper Within, none_there, refl, each_item s.loaded s.close_round (r.mark_leaf 41) (map symbol_made symbols) all), All-nil IsComment, refl),
       none_there,
@@ -111,9 +111,9 @@ load_proper path symbols u h =
 -- ---- further symbols of a load
 
 -- where a path is first, what is put after all items is put after it
-behind_the_path : (path : Bytes) (more xs : List Expr) → is_text path (path_in xs) ≡ true → behind_first (λ ys. ys ++ more) xs ≡ xs ++ more
-behind_the_path path more [] h = absurd (true≢false (sym h))
-behind_the_path path more (x ∷ xs) h = refl
+after_the_path : (path : Bytes) (more xs : List Expr) → is_text path (path_in xs) ≡ true → on_rest (λ ys. ys ++ more) xs ≡ xs ++ more
+after_the_path path more [] h = absurd (true≢false (sym h))
+after_the_path path more (x ∷ xs) h = refl
 
 stays_statement : (x y : Expr) → InPlace x y → IsProperItem (i.Stmt x) → IsProperItem (i.Stmt y)
 stays_statement x y p w = (subst (λ b. b ≡ true) p.statement w.0, p.proper Begins w.1, subst AreComments p.comments w.2)
@@ -126,8 +126,8 @@ more_symbols path symbols h (i.Block lines) is w = w
 more_symbols path symbols h (i.Stmt x) is w =
     let more : List Expr = map symbol_made symbols in
     let p = and_parts (has_kind k.Load x) (is_text path (path_in (items_of x))) is in
-    subst (λ (ys : List Expr). IsProperItem (i.Stmt (if has_kind k.Load x then with_items ys x else x))) (behind_the_path path more (items_of x) p.1)
-    (stays_statement x (on_items k.Load (behind_first (λ ys. ys ++ more)) x) (load_in_place (λ ys. ys ++ more) (more_keeps more (symbol_items symbols h)) x) w)
+    subst (λ (ys : List Expr). IsProperItem (i.Stmt (if has_kind k.Load x then with_items ys x else x))) (after_the_path path more (items_of x) p.1)
+    (stays_statement x (on_items k.Load (on_rest (λ ys. ys ++ more)) x) (load_in_place (λ ys. ys ++ more) (more_keeps more (symbol_items symbols h)) x) w)
 
 -- ---- places
 
@@ -136,23 +136,23 @@ first_changed test change f [] h = tt
 first_changed test change f (item ∷ items) h =
     by_case AreFine (test item) (change item ∷ items) (item ∷ on_first_that test change items) (λ is. (f item is h.0, h.1)) (λ is. (h.0, first_changed test change f items h.1))
 
-last_placed : (test : Item → Bool) (new : Item) (items : List Item) → IsProperItem new → AreFine items → AreFine (behind_last test new items)
+last_placed : (test : Item → Bool) (new : Item) (items : List Item) → IsProperItem new → AreFine items → AreFine (after_last test new items)
 last_placed test new [] n h = (n, tt)
 last_placed test new (item ∷ items) n h =
-    by_test AreFine (list_any test (item ∷ items)) (item ∷ behind_last test new items) (new ∷ item ∷ items) (h.0, last_placed test new items n h.1) (n, h)
+    by_test AreFine (list_any test (item ∷ items)) (item ∷ after_last test new items) (new ∷ item ∷ items) (h.0, last_placed test new items n h.1) (n, h)
 
-block_placed : (new : Item) (items : List Item) → IsProperItem new → AreFine items → AreFine (behind_blocks new items)
+block_placed : (new : Item) (items : List Item) → IsProperItem new → AreFine items → AreFine (after_blocks new items)
 block_placed new [] n h = (n, tt)
-block_placed new (item ∷ items) n h = by_test AreFine (is_block item) (item ∷ behind_blocks new items) (new ∷ item ∷ items) (h.0, block_placed new items n h.1) (n, h)
+block_placed new (item ∷ items) n h = by_test AreFine (is_block item) (item ∷ after_blocks new items) (new ∷ item ∷ items) (h.0, block_placed new items n h.1) (n, h)
 
-load_placed : (new : Item) (items : List Item) → IsProperItem new → AreFine items → AreFine (behind_loads new items)
-load_placed new items n h = by_test AreFine (list_any is_load_item items) (behind_last is_load_item new items) (behind_blocks new items) (last_placed is_load_item new items n h) (block_placed new items n h)
+load_placed : (new : Item) (items : List Item) → IsProperItem new → AreFine items → AreFine (after_loads new items)
+load_placed new items n h = by_test AreFine (list_any is_load_item items) (after_last is_load_item new items) (after_blocks new items) (last_placed is_load_item new items n h) (block_placed new items n h)
 
 pub new_load_keeps : (path : Bytes) (symbols : List Symbol) (items : List Item) → IsUtf8 path → AreSome IsSymbol symbols → AllByRecursion IsProperItem items → AllByRecursion IsProperItem (new_load path symbols items)
 new_load_keeps path symbols items u some h =
     let chosen : List Symbol = new_symbols path items [] symbols in
     let fine : EachIs IsSymbol chosen = chosen_symbols path items [] symbols some.1 in
-    by_test AreFine (list_any (is_load_from path) items) (on_first_that (is_load_from path) (with_symbols chosen) items) (behind_loads (load_made path chosen) items)
+    by_test AreFine (list_any (is_load_from path) items) (on_first_that (is_load_from path) (with_symbols chosen) items) (after_loads (load_made path chosen) items)
     (first_changed (is_load_from path) (with_symbols chosen) (more_symbols path chosen fine) items h)
     (load_placed (load_made path chosen) items (load_proper path chosen u fine) h)
 
@@ -167,7 +167,7 @@ used_statement used (i.Block lines) h = h
 used_statement used (i.Stmt x) h =
     let change : List Expr → List Expr = filter (symbol_stays used) in
     stays_statement x (with_used used x)
-    (by_test (InPlace x) (has_own_comments x) x (on_items k.Load (behind_first change) x) (itself x) (load_in_place change (λ xs m. filtered (IsItem s.loaded) (symbol_stays used) xs m) x)) h
+    (by_test (InPlace x) (has_own_comments x) x (on_items k.Load (on_rest change) x) (itself x) (load_in_place change (λ xs m. filtered (IsItem s.loaded) (symbol_stays used) xs m) x)) h
 
 used_each : (used : Bytes → Bool) (items : List Item) → AreFine items → AreFine (map (used_alone used) items)
 used_each used [] h = tt
@@ -188,16 +188,16 @@ others_fine : (test : Item → Bool) (items : List Item) → AreFine items → A
 others_fine test [] h = tt
 others_fine test (item ∷ items) h = by_test AreFine (test item) items (item ∷ without_first test items) h.1 (h.0, others_fine test items h.1)
 
-top_placed : (new : Item) (items : List Item) → IsProperItem new → AreFine items → AreFine (package_behind_blocks new items)
+top_placed : (new : Item) (items : List Item) → IsProperItem new → AreFine items → AreFine (package_after_blocks new items)
 top_placed new [] n h = (n, tt)
 top_placed new (item ∷ items) n h =
-    by_test AreFine (is_block item) (item ∷ package_behind_blocks new items) (new ∷ without_first is_package_call (item ∷ items))
+    by_test AreFine (is_block item) (item ∷ package_after_blocks new items) (new ∷ without_first is_package_call (item ∷ items))
     (h.0, top_placed new items n h.1) (n, others_fine is_package_call (item ∷ items) h)
 
 package_placed : (items : List Item) → AreFine items → (found : Option Item) → IfSome found IsProperItem → AreFine (option_map_or (package_moved items) found items)
 package_placed items h None f = h
 package_placed items h (Some new) f =
-    by_test AreFine (list_any is_load_item items) (behind_last is_load_item new (without_first is_package_call items)) (package_behind_blocks new items)
+    by_test AreFine (list_any is_load_item items) (after_last is_load_item new (without_first is_package_call items)) (package_after_blocks new items)
     (last_placed is_load_item new (without_first is_package_call items) f (others_fine is_package_call items h)) (top_placed new items f h)
 
 package_keeps : (items : List Item) → AreFine items → AreFine (move_package_to_top items)

@@ -15,7 +15,7 @@ use Rattle.bz_rule.specs.Values.{has_kind, items_of, on_items}
 use Rattle.bz_attribute.proofs.ArgumentPlaces.{is_first, none_passes, changed_at}
 use Rattle.bz_attribute.proofs.FormsAgain.{if_true, if_false, items_changed, items_filled, items_same}
 use Rattle.bz_load.specs.Loads.{is_load_from, path_in}
-use Rattle.bz_load.specs.Places.{behind_loads}
+use Rattle.bz_load.specs.Places.{after_loads}
 use Rattle.bz_load.specs.Placed.{with_more_symbols, load_of, with_load}
 use Rattle.bz_load.proofs.PlaceSteps.{first_at, none_any}
 use Rattle.bz_load.proofs.Splices.{another, put_over}
@@ -28,7 +28,7 @@ put_there path more items at x new h is e =
     ∙ sym (if_true (list_any (is_load_from path) items) _ _ (first_at (is_load_from path) items at first) ∙ changed_at (is_load_from path) (with_more_symbols more) items at x first)
 
 pub put_new : (path : Bytes) (more : List Expr) (items new : List Item) → None ≡ position (is_load_from path) items
-    → new ≡ behind_loads (load_of path more) items → new ≡ with_load path more items
+    → new ≡ after_loads (load_of path more) items → new ≡ with_load path more items
 put_new path more items new h e = e ∙ sym (if_false (list_any (is_load_from path) items) _ _ (none_any (is_load_from path) items (none_passes (is_load_from path) items h)))
 
 -- ---- whether the items are the same
@@ -56,7 +56,7 @@ pub same_by : (path : Bytes) (more : List Expr) (items : List Item) (at : ℕ) (
 same_by path more items at x new same h is e added =
     let first = is_first (is_load_from path) items at x h in
     let from : is_load_from path x ≡ true = ap (is_load_from path) is ∙ first.passes x in (
-      λ told. ap (set items at) (e ∙ (ap (λ xs. with_more_symbols xs x) (added.0 told) ∙ (with_none x ∙ is))) ∙ set-get_or items at x,
+      λ answered. ap (set items at) (e ∙ (ap (λ xs. with_more_symbols xs x) (added.0 answered) ∙ (with_none x ∙ is))) ∙ set-get_or items at x,
       λ equal.
           let stands : new ≡ x =
           sym (get_or-set_same items at new new first.within) ∙ (ap (λ xs. get_or xs at new) equal ∙ (get_or_default items at new x first.within ∙ sym is)) in
@@ -65,7 +65,7 @@ same_by path more items at x new same h is e added =
 
 -- a load that is put in makes others of them
 pub other_by : (at : ℕ) (new : Item) (items made : List Item) → at ≤ length items → made ≡ insert items at new → IsTrue false ↔ (made ≡ items)
-other_by at new items made there is = (λ told. absurd (true≢false (sym told)), λ equal. absurd (another at new items made there is equal))
+other_by at new items made there is = (λ answered. absurd (true≢false (sym answered)), λ equal. absurd (another at new items made there is equal))
 
 -- a load that gets more symbols is in the place of the one that it was
 pub over_by : (path : Bytes) (items : List Item) (at : ℕ) (x new : Item) → Some at ≡ position (is_load_from path) items → IsSpliced at 1 1 items (set items at new)

@@ -16,7 +16,7 @@ spliced from gone come last before middle after place there count is =
     ap length is ∙ (length-append (take from before) rest ∙ (ap (λ n. n + length rest) front ∙ ap (λ n. from + n) (length-append middle (drop last before) ∙ ap (λ n. n + length (drop last before)) count))) in
     record {
       front = ap (take from) is ∙ take_at (take from before) rest from front;
-      behind =
+      following =
           ap (drop (from + come)) is
           ∙ (sym (drop-drop come from (take from before ++ rest))
           ∙ (ap (drop come) (drop_at (take from before) rest from front)

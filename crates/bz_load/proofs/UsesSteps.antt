@@ -12,7 +12,7 @@ use Rattle.bz_value.specs.declared.value.Expr.TheVariants as e
 use Rattle.bz_value.specs.declared.value.Item.{Item}
 use Rattle.bz_items.specs.Characters.{Bytes}
 use Rattle.bz_attribute.proofs.KeySets.{or_group, or_none}
-use Rattle.bz_load.specs.Uses.{all_of, behind_head, first_item, with_operands, operands, operands_in, is_used}
+use Rattle.bz_load.specs.Uses.{all_of, after_head, first_item, with_operands, operands, operand_names_in, is_used}
 use Rattle.bz_load.specs.Known.{knows_name, and_name, and_names, and_operands, and_uses}
 use Rattle.bz_load.proofs.UsesForms.{operands_Form}
 
@@ -27,17 +27,17 @@ operands_all : (xs : List Expr) (test : Test) → and_names (all_of (map operand
 operands_all [] test = refl
 operands_all (x ∷ xs) test = names_append (operands x) (all_of (map operands xs)) test ∙ operands_all xs (and_names (operands x) test)
 
-behind_map : {X Y : Type 0} (f : X → Y) (xs : List X) → behind_head (map f xs) ≡ map f (behind_head xs)
-behind_map f [] = refl
-behind_map f (x ∷ xs) = refl
+after_map : {X Y : Type 0} (f : X → Y) (xs : List X) → after_head (map f xs) ≡ map f (after_head xs)
+after_map f [] = refl
+after_map f (x ∷ xs) = refl
 
 head_map : {X Y : Type 0} (f : X → Y) (xs : List X) → first_item (map f xs) ≡ map f (first_item xs)
 head_map f [] = refl
 head_map f (x ∷ xs) = refl
 
 chosen_map : {X Y : Type 0} (f : X → Y) (a b : Bool) (xs : List X)
-    → (if a then behind_head (map f xs) else (if b then first_item (map f xs) else map f xs)) ≡ map f (if a then behind_head xs else (if b then first_item xs else xs))
-chosen_map f true b xs = behind_map f xs
+    → (if a then after_head (map f xs) else (if b then first_item (map f xs) else map f xs)) ≡ map f (if a then after_head xs else (if b then first_item xs else xs))
+chosen_map f true b xs = after_map f xs
 chosen_map f false true xs = head_map f xs
 chosen_map f false false xs = refl
 
@@ -52,15 +52,15 @@ form_names f test =
     ∙ (operands_all f.seq.items (and_names (all_of (with_operands f.kind (map operands f.parts))) test)
     ∙ ap (and_operands f.seq.items) (ap (λ xs. and_names (all_of xs) test) (operands_map f.kind f.parts) ∙ operands_all (with_operands f.kind f.parts) test)))
 
-uses_all : (items : List Item) (test : Test) → and_names (all_of (map operands_in items)) test ≡ and_uses items test
+uses_all : (items : List Item) (test : Test) → and_names (all_of (map operand_names_in items)) test ≡ and_uses items test
 uses_all [] test = refl
-uses_all (item ∷ items) test = names_append (operands_in item) (all_of (map operands_in items)) test ∙ uses_all items (and_names (operands_in item) test)
+uses_all (item ∷ items) test = names_append (operand_names_in item) (all_of (map operand_names_in items)) test ∙ uses_all items (and_names (operand_names_in item) test)
 
-names_told : (xs : List Bytes) (test : Test) (text : Bytes) → and_names xs test text ≡ (list_any (bytes_eq text) xs || test text)
-names_told [] test text = refl
-names_told (x ∷ xs) test text = names_told xs (and_name x test) text ∙ or_group (list_any (bytes_eq text) xs) (bytes_eq text x) (test text)
+names_answered : (xs : List Bytes) (test : Test) (text : Bytes) → and_names xs test text ≡ (list_any (bytes_eq text) xs || test text)
+names_answered [] test text = refl
+names_answered (x ∷ xs) test text = names_answered xs (and_name x test) text ∙ or_group (list_any (bytes_eq text) xs) (bytes_eq text x) (test text)
 
 pub names_used : (items : List Item) → and_uses items (knows_name []) ≡ is_used items
 names_used items = fun_ext (λ text.
     ap (λ (test : Test). test text) (sym (uses_all items (knows_name [])))
-    ∙ (names_told (all_of (map operands_in items)) (knows_name []) text ∙ or_none (list_any (bytes_eq text) (all_of (map operands_in items)))))
+    ∙ (names_answered (all_of (map operand_names_in items)) (knows_name []) text ∙ or_none (list_any (bytes_eq text) (all_of (map operand_names_in items)))))

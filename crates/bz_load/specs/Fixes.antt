@@ -14,11 +14,11 @@ use Rattle.bz_items.specs.Characters.{Bytes}
 use Rattle.bz_value.specs.Empty.{is_empty, is_none}
 use Rattle.bz_words.specs.declared.command.Fixes.{Fixes}
 use Rattle.bz_rule.specs.Rules.{is_rule_of_kind as is_rule_of}
-use Rattle.bz_rule.specs.Values.{has_kind, items_of, on_items, behind_first}
+use Rattle.bz_rule.specs.Values.{has_kind, items_of, on_items, on_rest}
 use Rattle.bz_rule.specs.QuoteMarks.{local_name}
 use Rattle.bz_attribute.specs.Attributes.{without_first}
-use Rattle.bz_load.specs.Loads.{is_load_item, behind_path}
-use Rattle.bz_load.specs.Places.{behind_last, is_block}
+use Rattle.bz_load.specs.Loads.{is_load_item, after_path}
+use Rattle.bz_load.specs.Places.{after_last, is_block}
 use Rattle.bz_load.specs.Uses.{is_used}
 
 -- ---- unusedLoads
@@ -32,7 +32,7 @@ path_comments (x ∷ xs) = is_commented (comments_of x)
 
 abbrev pub end_of : Expr → List Bytes
 end_of (e.Token t) = []
-end_of (Form' kind s parts s' items end_ split open_ comments) = end_
+end_of (Form' kind s parts s' items end split open_break comments) = end
 
 -- comments that are no symbol's: above the load, after it, at its end, and the path's
 abbrev pub has_own_comments : Expr → Bool
@@ -43,13 +43,13 @@ abbrev pub symbol_stays : (Bytes → Bool) → Expr → Bool
 symbol_stays is_used x = is_commented (comments_of x) || is_used (local_name x)
 
 abbrev pub with_used : (Bytes → Bool) → Expr → Expr
-with_used is_used x = if has_own_comments x then x else on_items k.Load (behind_first (filter (symbol_stays is_used))) x
+with_used is_used x = if has_own_comments x then x else on_items k.Load (on_rest (filter (symbol_stays is_used))) x
 
 -- a load that loses its last symbol
 abbrev pub is_emptied : (Bytes → Bool) → Item → Bool
 is_emptied is_used (i.Block lines) = false
 is_emptied is_used (i.Stmt x) =
-    has_kind k.Load x && not (has_own_comments x) && (not (is_empty (behind_path (items_of x))) && not (list_any (symbol_stays is_used) (behind_path (items_of x))))
+    has_kind k.Load x && not (has_own_comments x) && (not (is_empty (after_path (items_of x))) && not (list_any (symbol_stays is_used) (after_path (items_of x))))
 
 abbrev pub used_alone : (Bytes → Bool) → Item → Item
 used_alone is_used (i.Block lines) = i.Block lines
@@ -69,13 +69,13 @@ first_that test [] = None
 first_that test (item ∷ items) = if test item then Some item else first_that test items
 
 -- Without a load the comment blocks count that lead the file as it is, so what is among them goes first.
-abbrev pub package_behind_blocks : Item → List Item → List Item
-package_behind_blocks new [] = new ∷ []
-package_behind_blocks new (item ∷ items) =
-    if is_block item then item ∷ package_behind_blocks new items else new ∷ without_first is_package_call (item ∷ items)
+abbrev pub package_after_blocks : Item → List Item → List Item
+package_after_blocks new [] = new ∷ []
+package_after_blocks new (item ∷ items) =
+    if is_block item then item ∷ package_after_blocks new items else new ∷ without_first is_package_call (item ∷ items)
 
 abbrev pub package_moved : List Item → Item → List Item
-package_moved items new = if list_any is_load_item items then behind_last is_load_item new (without_first is_package_call items) else package_behind_blocks new items
+package_moved items new = if list_any is_load_item items then after_last is_load_item new (without_first is_package_call items) else package_after_blocks new items
 
 -- the first rule of kind `package` right after the last load; without a load after the leading comment blocks
 abbrev pub move_package_to_top : List Item → List Item

@@ -11,7 +11,7 @@ use Rattle.bz_rule.specs.Values.{has_kind, parts_of, text_of}
 use Rattle.bz_attribute.specs.Lists.{body_of}
 use Rattle.bz_load.specs.Loads.{is_load_from, symbols_of}
 use Rattle.bz_load.specs.NewLoad.{is_symbol}
-use Rattle.bz_load.specs.Uses.{operands, operands_in}
+use Rattle.bz_load.specs.Uses.{operands, operand_names_in}
 
 -- ---- symbols
 
@@ -69,4 +69,4 @@ and_operands (x ∷ xs) is_there = and_operands xs (and_names (operands x) is_th
 
 abbrev pub and_uses : List Item → (Bytes → Bool) → Bytes → Bool
 and_uses [] is_there = is_there
-and_uses (item ∷ items) is_there = and_uses items (and_names (operands_in item) is_there)
+and_uses (item ∷ items) is_there = and_uses items (and_names (operand_names_in item) is_there)

@@ -35,13 +35,13 @@ loads_symbol symbol x =
     if has_kind k.Alias x then is_alias_of symbol (parts_of x) else is_text symbol.to (body_of x) && bytes_eq symbol.to symbol.from
 
 -- the items after the path
-abbrev pub behind_path : List Expr → List Expr
-behind_path [] = []
-behind_path (x ∷ xs) = xs
+abbrev pub after_path : List Expr → List Expr
+after_path [] = []
+after_path (x ∷ xs) = xs
 
 abbrev pub symbols_of : Item → List Expr
 symbols_of (i.Block lines) = []
-symbols_of (i.Stmt x) = behind_path (items_of x)
+symbols_of (i.Stmt x) = after_path (items_of x)
 
 -- one of the loads from the path loads it so
 abbrev pub is_loaded : Bytes → List Item → Symbol → Bool

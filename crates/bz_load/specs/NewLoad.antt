@@ -13,7 +13,7 @@ use Rattle.bz_rule.specs.Values.{on_items}
 use Rattle.bz_attribute.specs.Made.{token, node, mark, sequence, name}
 use Rattle.bz_attribute.specs.Attributes.{on_first_that}
 use Rattle.bz_load.specs.Loads.{is_load_from, is_loaded}
-use Rattle.bz_load.specs.Places.{behind_loads}
+use Rattle.bz_load.specs.Places.{after_loads}
 
 abbrev pub is_symbol : Symbol → Symbol → Bool
 is_symbol symbol other = bytes_eq symbol.to other.to && bytes_eq symbol.from other.from
@@ -42,4 +42,4 @@ with_symbols symbols (i.Stmt x) = i.Stmt (on_items k.Load (λ items. items ++ ma
 abbrev pub new_load : Bytes → List Symbol → List Item → List Item
 new_load path symbols items =
     if list_any (is_load_from path) items then on_first_that (is_load_from path) (with_symbols (new_symbols path items [] symbols)) items
-    else behind_loads (load_made path (new_symbols path items [] symbols)) items
+    else after_loads (load_made path (new_symbols path items [] symbols)) items

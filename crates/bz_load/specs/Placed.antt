@@ -12,7 +12,7 @@ use Rattle.bz_rule.specs.Values.{on_items}
 use Rattle.bz_attribute.specs.Made.{token, sequence}
 use Rattle.bz_attribute.specs.Attributes.{on_first_that}
 use Rattle.bz_load.specs.Loads.{is_load_from}
-use Rattle.bz_load.specs.Places.{behind_loads}
+use Rattle.bz_load.specs.Places.{after_loads}
 
 abbrev pub with_more_symbols : List Expr → Item → Item
 with_more_symbols more (i.Block lines) = i.Block lines
@@ -24,4 +24,4 @@ load_of path symbols = i.Stmt (sequence k.Load (token c.Keyword (codes "load") �
 abbrev pub with_load : Bytes → List Expr → List Item → List Item
 with_load path more items =
     if list_any (is_load_from path) items then on_first_that (is_load_from path) (with_more_symbols more) items
-    else behind_loads (load_of path more) items
+    else after_loads (load_of path more) items

@@ -32,7 +32,7 @@ call kind arguments = bare (sequence k.Call (name kind ∷ []) arguments)
 
 -- a string with a comment after it
 abbrev noted : Bytes → Expr
-noted text = e.Token (record { class = c.String; text = text; break_ = false; comments = record { before = []; suffix = Some (codes "# c") } })
+noted text = e.Token (record { class = c.String; text = text; line_break = false; comments = record { before = []; suffix = Some (codes "# c") } })
 
 abbrev block : Item
 block = i.Block (codes "# b" ∷ [])
@@ -71,11 +71,11 @@ Unused =
     let path : Expr = plain (codes "\"x.bzl\"") in
     let a : Expr = plain (codes "\"a\"") in
     let b : Expr = plain (codes "\"b\"") in
-    let behind_dot : Item = bare (node k.Dot (name (codes "a") ∷ mark (codes ".") ∷ name (codes "b") ∷ [])) in
+    let after_dot : Item = bare (node k.Dot (name (codes "a") ∷ mark (codes ".") ∷ name (codes "b") ∷ [])) in
     let as_name : Item = call (codes "a") (argument_of (codes "b") (name (codes "c")) ∷ []) in
     (unused_loads (load (path ∷ a ∷ b ∷ []) ∷ call (codes "a") [] ∷ []) ≡ load (path ∷ a ∷ []) ∷ call (codes "a") [] ∷ [])
     -- a name after a dot is no use, and the name of an argument is none
-    × (unused_loads (load (path ∷ a ∷ b ∷ []) ∷ behind_dot ∷ []) ≡ load (path ∷ a ∷ []) ∷ behind_dot ∷ [])
+    × (unused_loads (load (path ∷ a ∷ b ∷ []) ∷ after_dot ∷ []) ≡ load (path ∷ a ∷ []) ∷ after_dot ∷ [])
     × (unused_loads (load (path ∷ a ∷ b ∷ []) ∷ as_name ∷ []) ≡ load (path ∷ a ∷ []) ∷ as_name ∷ [])
     -- an alias is used by its own name
     × (unused_loads (load (path ∷ alias (codes "a") (codes "\"b\"") ∷ alias (codes "b") (codes "\"a\"") ∷ []) ∷ call (codes "a") [] ∷ [])

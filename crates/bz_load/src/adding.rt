@@ -8,7 +8,7 @@ ghost use Rattle.bz_load.specs.Placed.{with_load, with_more_symbols};
 
 use crate::known::{insert_loads, unknown};
 use crate::making::load_of;
-use crate::places::insert_behind_loads;
+use crate::places::insert_after_loads;
 use crate::readings::is_load_from;
 use bz_attribute::append_to;
 use bz_items::{Items, Memory};
@@ -94,7 +94,7 @@ fn put(
         }
         None => {
             let load = load_of(alloc, path, more)?;
-            let at = insert_behind_loads(load, &mut all)?;
+            let at = insert_after_loads(load, &mut all)?;
             Ok(WithLoad {
                 items: Items::from_vec(all),
                 same: false,

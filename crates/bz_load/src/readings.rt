@@ -3,7 +3,7 @@ ghost use Rattle.std.specs.Prelude.{◌≡◌};
 ghost use Rattle.std.specs.Option.{option_copied, option_map};
 ghost use Rattle.bz_load.specs.Known.{alias_in, symbol_in};
 ghost use Rattle.bz_load.specs.KnownKeys.{symbol_of_key};
-ghost use Rattle.bz_load.specs.Loads.{behind_path as behind, is_load_item as is_any_load, is_load_from as is_from, path_in as path_of, symbols_of as symbols};
+ghost use Rattle.bz_load.specs.Loads.{after_path as following, is_load_item as is_any_load, is_load_from as is_from, path_in as path_of, symbols_of as symbols};
 
 use bz_attribute::{body_of, first_text, has_kind, items_of, parts_of};
 use bz_rule::is_text;
@@ -48,8 +48,8 @@ pub(crate) fn is_load_from(path: &[u8], item: &Item) -> bool
 }
 
 /// The items of a load after its path.
-pub(crate) fn behind_path(items: &[Expr]) -> &[Expr]
-    ensures { result.now ≡ behind items.now }
+pub(crate) fn after_path(items: &[Expr]) -> &[Expr]
+    ensures { result.now ≡ following items.now }
 {
     match items {
         [] => &[],
@@ -63,7 +63,7 @@ pub(crate) fn symbols_of(item: &Item) -> &[Expr]
 {
     match item {
         Item::Block(_) => &[],
-        Item::Stmt(x) => behind_path(items_of(x)),
+        Item::Stmt(x) => after_path(items_of(x)),
     }
 }
 

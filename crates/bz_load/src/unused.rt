@@ -2,13 +2,13 @@
 ghost use Rattle.std.specs.Prelude.{◌≡◌, ◌&&◌, OnOk, not, map};
 ghost use Rattle.std.specs.List.{filter, list_any};
 ghost use Rattle.bz_tree.specs.declared.kind.Kind.TheVariants as k;
-ghost use Rattle.bz_rule.specs.Values.{behind_first, on_items};
+ghost use Rattle.bz_rule.specs.Values.{on_rest, on_items};
 ghost use Rattle.bz_value.specs.Empty.{is_empty};
 ghost use Rattle.bz_attribute.specs.Sets.{texts_of};
 ghost use Rattle.bz_load.specs.Fixes.{end_of, is_commented as has_any, has_own_comments as has_own, is_emptied as empties, path_comments as path_has, symbol_stays as stays_by, unused_loads, used_alone as alone, with_used as used_in};
 ghost use Rattle.bz_load.specs.Known.{knows_name};
 
-use crate::readings::behind_path;
+use crate::readings::after_path;
 use crate::uses::{Names, used_names};
 use bz_attribute::{has_kind, has_text, items_of};
 use bz_items::{Items, Memory};
@@ -30,7 +30,7 @@ fn has_end(x: &Expr) -> bool
 {
     match x {
         Expr::Token(_) => false,
-        Expr::Form(form) => !form.seq.end_.is_empty(),
+        Expr::Form(form) => !form.seq.end.is_empty(),
     }
 }
 
@@ -71,7 +71,7 @@ fn keep_used(names: &Names, symbols: &mut Vec<Expr>)
 
 /// Of the items of a load the path stays, and of its symbols those that are to stay.
 fn keep_path_and_used(names: &Names, items: &mut Vec<Expr>) -> Result<(), Memory>
-    ensures { OnOk result (items.new.items ≡ behind_first (filter (stays_by (knows_name (texts_of names.now)))) items.old.items) }
+    ensures { OnOk result (items.new.items ≡ on_rest (filter (stays_by (knows_name (texts_of names.now)))) items.old.items) }
 {
     if items.is_empty() {
         return Ok(());
@@ -83,7 +83,7 @@ fn keep_path_and_used(names: &Names, items: &mut Vec<Expr>) -> Result<(), Memory
 }
 
 fn keep_in_items(names: &Names, items: &mut Items<Expr>) -> Result<(), Memory>
-    ensures { OnOk result (items.new ≡ behind_first (filter (stays_by (knows_name (texts_of names.now)))) items.old) }
+    ensures { OnOk result (items.new ≡ on_rest (filter (stays_by (knows_name (texts_of names.now)))) items.old) }
 {
     let alloc = items.alloc();
     let mut all = mem::replace(items, Items::new(alloc)).into_vec();
@@ -93,7 +93,7 @@ fn keep_in_items(names: &Names, items: &mut Items<Expr>) -> Result<(), Memory>
 }
 
 fn keep_in_load(names: &Names, x: &mut Expr) -> Result<(), Memory>
-    ensures { OnOk result (x.new ≡ on_items k.Load (behind_first (filter (stays_by (knows_name (texts_of names.now))))) x.old) }
+    ensures { OnOk result (x.new ≡ on_items k.Load (on_rest (filter (stays_by (knows_name (texts_of names.now))))) x.old) }
 {
     match x {
         Expr::Form(form) if form.kind == Kind::Load => keep_in_items(names, &mut form.seq.items),
@@ -145,7 +145,7 @@ fn is_emptied(names: &Names, item: &Item) -> bool
         Item::Stmt(x) => {
             has_kind(Kind::Load, x)
                 && !has_own_comments(x)
-                && loses_all(names, behind_path(items_of(x)))
+                && loses_all(names, after_path(items_of(x)))
         }
     }
 }

@@ -2,7 +2,7 @@
 ghost use Rattle.std.specs.Prelude.{◌≡◌, IfOk, OnOk};
 ghost use Rattle.bz_attribute.specs.Sets.{texts_of};
 ghost use Rattle.bz_load.specs.Known.{and_name, and_names, and_operands, and_uses, knows_name};
-ghost use Rattle.bz_load.specs.Uses.{is_used, operands, operands_in, with_operands};
+ghost use Rattle.bz_load.specs.Uses.{is_used, operands, operand_names_in, with_operands};
 
 use bz_attribute::insert_text;
 use bz_items::Memory;
@@ -50,7 +50,7 @@ fn insert_parts(alloc: Global, kind: Kind, parts: &[Expr], names: &mut Names) ->
 {
     match kind {
         Kind::Named | Kind::Alias => match parts {
-            [_, behind @ ..] => insert_each(alloc, behind, names),
+            [_, following @ ..] => insert_each(alloc, following, names),
             [] => Ok(()),
         },
         Kind::Dot => match parts {
@@ -72,7 +72,7 @@ fn insert_each(alloc: Global, exprs: &[Expr], names: &mut Names) -> Result<(), M
 }
 
 fn insert_item(alloc: Global, item: &Item, names: &mut Names) -> Result<(), Memory>
-    ensures { OnOk result (knows_name (texts_of names.new) ≡ and_names (operands_in item.now) (knows_name (texts_of names.old))) }
+    ensures { OnOk result (knows_name (texts_of names.new) ≡ and_names (operand_names_in item.now) (knows_name (texts_of names.old))) }
 {
     match item {
         Item::Block(_) => Ok(()),

@@ -81,10 +81,10 @@ first_place old new name key found at same first updates none =
     (first ∙ sym (ap (λ (z : List ℕ). z ++ at ∷ []) none))
 
 -- a key that is there with one place more
-pub place_behind : {S : Type 0} (old new : HashMap Numbers Numbers S) (name : Bytes) (before found : Numbers) (at : ℕ)
+pub place_after : {S : Type 0} (old new : HashMap Numbers Numbers S) (name : Bytes) (before found : Numbers) (at : ℕ)
     → Some before ≡ get_by (is_named name) old → found.items ≡ before.items ++ at ∷ [] → WritesThrough same_key (is_named name) old found new
     → AddsPlace (bytes_eq name) at old.entries new.entries
-place_behind old new name before found at there more written =
+place_after old new name before found at there more written =
     one_more old new name found at
     (written.3 (sym (ap is_some there)))
     (more ∙ ap (λ (z : List ℕ). z ++ at ∷ []) (sym (held_at name old.entries ∙ sym (ap (λ z. option_map_or (λ (v : Numbers). v.items) z []) there))))

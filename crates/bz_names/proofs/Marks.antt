@@ -31,9 +31,9 @@ places_turn items at item name old new all within is more before =
 
 -- ---- marks
 
-set_behind : {X : Type 0} (front : List X) (x y : X) (rest : List X) → slice_set (front ++ x ∷ rest) (length front) y ≡ front ++ y ∷ rest
-set_behind [] x y rest = refl
-set_behind (z ∷ front) x y rest = ap (λ zs. z ∷ zs) (set_behind front x y rest)
+set_after : {X : Type 0} (front : List X) (x y : X) (rest : List X) → slice_set (front ++ x ∷ rest) (length front) y ≡ front ++ y ∷ rest
+set_after [] x y rest = refl
+set_after (z ∷ front) x y rest = ap (λ zs. z ∷ zs) (set_after front x y rest)
 
 length_more : {X : Type 0} (front : List X) (x : X) → length (front ++ x ∷ []) ≡ length front + 1
 length_more front x = length-append front (x ∷ [])
@@ -46,8 +46,8 @@ all_marked name (item ∷ items) front = by (λ b. all_marked name items (front 
     Rest : Type 0
     Rest = (b : Bool) → marked_at (places_from (length (front ++ b ∷ [])) name items) ((front ++ b ∷ []) ++ replicate (length items) false) ≡ (front ++ b ∷ []) ++ map (has_name name) items
 
-    behind : Rest → (b : Bool) → marked_at (places_from (length front + 1) name items) (front ++ b ∷ replicate (length items) false) ≡ front ++ b ∷ map (has_name name) items
-    behind rest b =
+    following : Rest → (b : Bool) → marked_at (places_from (length front + 1) name items) (front ++ b ∷ replicate (length items) false) ≡ front ++ b ∷ map (has_name name) items
+    following rest b =
         ap (λ n. marked_at (places_from n name items) (front ++ b ∷ replicate (length items) false)) (sym (length_more front b))
         ∙ (ap (marked_at (places_from (length (front ++ b ∷ [])) name items)) (sym (append_assoc front (b ∷ []) (replicate (length items) false)))
         ∙ (rest b
@@ -55,8 +55,8 @@ all_marked name (item ∷ items) front = by (λ b. all_marked name items (front 
 
     by : Rest → (b : Bool) → marked_at (if b then length front ∷ places_from (length front + 1) name items else places_from (length front + 1) name items)
         (front ++ false ∷ replicate (length items) false) ≡ front ++ b ∷ map (has_name name) items
-    by rest true = ap (marked_at (places_from (length front + 1) name items)) (set_behind front false true (replicate (length items) false)) ∙ behind rest true
-    by rest false = behind rest false
+    by rest true = ap (marked_at (places_from (length front + 1) name items)) (set_after front false true (replicate (length items) false)) ∙ following rest true
+    by rest false = following rest false
 
 pub marks_of_index : (index : Index) (name : Bytes) (items : List Item) (count : ℕ) (places : List ℕ)
     → count ≡ index.count → places ≡ places_of name index.places → IsIndexOf index items

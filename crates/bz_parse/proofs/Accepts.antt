@@ -20,7 +20,7 @@ use Rattle.bz_tree.specs.declared.tree.Node.{Node}
 use Rattle.bz_tree.specs.declared.tree.Part.{Part}
 use Rattle.bz_tree.specs.Spell.{spell_node, leaves_part, leaves_of, limit}
 use Rattle.bz_tree.specs.Shapes.{is_one_of, has_token, end, stmt, Several, Fits, done, tok, bzl_shape}
-use Rattle.bz_tree.specs.Legal.{IsSort, IsBzlFile, IsFileOf, Legal, LegalBzl, IsBuild, Reads, ReadsBzl, NoTree, NoBzlTree}
+use Rattle.bz_tree.specs.Legal.{IsNonterminal, IsBzlFile, IsFileOf, Legal, LegalBzl, IsBuild, Reads, ReadsBzl, NoTree, NoBzlTree}
 use Rattle.bz_tree.specs.Faults.{NoFile, IsOther}
 use Rattle.bz_tree.proofs.Exact.{token_leaf}
 use Rattle.bz_tree.proofs.Spells.{node_spelled}
@@ -42,17 +42,17 @@ end_among x ls h =
         by_class c.End e = rw e refl
         by_class k e = absurd (both_ways false refl (rw e at h))
 
-end_behind : (ls ms : List Leaf) → has_end ms ≡ true → has_end (ls ++ ms) ≡ true
-end_behind [] ms h = h
-end_behind (l ∷ ls) ms h = or_right _ (has_end (ls ++ ms)) (end_behind ls ms h)
+end_after : (ls ms : List Leaf) → has_end ms ≡ true → has_end (ls ++ ms) ≡ true
+end_after [] ms h = h
+end_after (l ∷ ls) ms h = or_right _ (has_end (ls ++ ms)) (end_after ls ms h)
 
-end_in : (xs : List Part) → Several (IsSort stmt) (Fits IsSort (tok end done)) xs → has_end (flat_map leaves_part xs) ≡ true
+end_in : (xs : List Part) → Several (IsNonterminal stmt) (Fits IsNonterminal (tok end done)) xs → has_end (flat_map leaves_part xs) ≡ true
 end_in [] h = absurd h
 end_in (x ∷ xs) (inl h) = end_among x (flat_map leaves_part xs) h.0
-end_in (x ∷ xs) (inr h) = end_behind (leaves_part x) (flat_map leaves_part xs) (end_in xs h.1)
+end_in (x ∷ xs) (inr h) = end_after (leaves_part x) (flat_map leaves_part xs) (end_in xs h.1)
 
 file_end : (n : Node) → IsBzlFile n → has_end (leaves_of n) ≡ true
-file_end n h = end_in n.parts (subst (λ (kind : Kind). Fits IsSort (bzl_shape kind) n.parts) h.root h.shapes.0)
+file_end n h = end_in n.parts (subst (λ (kind : Kind). Fits IsNonterminal (bzl_shape kind) n.parts) h.root h.shapes.0)
 
 -- ---- legal trees and their leaves
 
@@ -127,8 +127,8 @@ NotUtf8Exactly result text at = (result ≡ Err (f.NotUtf8 at) → (length text 
 same_at : (X : Type 0) (n at : ℕ) (one other : Result X ReadFault) → one ≡ Err (f.NotUtf8 n) → other ≡ Err (f.NotUtf8 at) → one ≡ other → n ≡ at
 same_at X n at one other a b e = cc
 
-pub told_not_utf8 : {X : Type 0} (text : List ℕ) (n at : ℕ) → length text ≤ limit → IsValidUpTo text n → NotUtf8Exactly {X = X} (Err (f.NotUtf8 n)) text at
-told_not_utf8 {X} text n at le v =
+pub answered_not_utf8 : {X : Type 0} (text : List ℕ) (n at : ℕ) → length text ≤ limit → IsValidUpTo text n → NotUtf8Exactly {X = X} (Err (f.NotUtf8 n)) text at
+answered_not_utf8 {X} text n at le v =
     (λ e. (le, subst (IsValidUpTo text) (same_at X n at (Err (f.NotUtf8 n)) (Err (f.NotUtf8 at)) refl refl e) v), λ w. ap (λ (z : ℕ). Err (f.NotUtf8 z)) (one_valid text n at v w.1))
 
 other_not : (fault : ReadFault) (at : ℕ) → IsOther fault → fault ≡ f.NotUtf8 at → ⊥
@@ -137,8 +137,8 @@ other_not fault at h e = subst IsOther e h
 of_result : {X : Type 0} (result : Result X ReadFault) (at : ℕ) → IfErr result IsOther → result ≡ Err (f.NotUtf8 at) → ⊥
 of_result result at h e = let w = subst (λ (z : Result _ ReadFault). IfErr z IsOther) e h in w
 
-pub not_told : {X : Type 0} (result : Result X ReadFault) (text : List ℕ) (at : ℕ) → IsUtf8 text → IfErr result IsOther → NotUtf8Exactly result text at
-not_told result text at u h = (λ e. absurd (of_result result at h e), λ w. absurd (valid_text text at u w.1))
+pub not_answered : {X : Type 0} (result : Result X ReadFault) (text : List ℕ) (at : ℕ) → IsUtf8 text → IfErr result IsOther → NotUtf8Exactly result text at
+not_answered result text at u h = (λ e. absurd (of_result result at h e), λ w. absurd (valid_text text at u w.1))
 
 -- ---- BUILD files
 

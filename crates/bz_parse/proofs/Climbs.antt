@@ -12,10 +12,10 @@ use Rattle.bz_tree.specs.declared.tree.Part as p
 use Rattle.bz_tree.specs.Spell.{depth_part}
 use Rattle.bz_states.specs.declared.token.TokenSet.{TokenSet}
 use Rattle.bz_states.specs.declared.token.TokenSet.TheVariants as t
-use Rattle.bz_states.specs.declared.state.PartSort.{PartSort as Place}
-use Rattle.bz_states.specs.declared.state.PartSort.TheVariants as q
-use Rattle.bz_states.specs.declared.state.Rung.{Rung}
-use Rattle.bz_states.specs.declared.state.Rung.TheVariants as g
+use Rattle.bz_states.specs.declared.state.PartNonterminal.{PartNonterminal as Place}
+use Rattle.bz_states.specs.declared.state.PartNonterminal.TheVariants as q
+use Rattle.bz_states.specs.declared.state.Precedence.{Precedence}
+use Rattle.bz_states.specs.declared.state.Precedence.TheVariants as g
 use Rattle.bz_states.specs.declared.state.NodeState.{NodeState}
 use Rattle.bz_states.specs.declared.state.NodeState.TheVariants as s
 use Rattle.bz_states.specs.declared.state.Tail.TheVariants as in_rest
@@ -26,11 +26,11 @@ use Rattle.bz_parse.specs.declared.indented.Header.{Header}
 use Rattle.bz_states.specs.declared.state.RoundAt.TheVariants as round_at
 use Rattle.bz_states.specs.declared.state.SuffixAt.TheVariants as suffix_at
 use Rattle.bz_states.specs.declared.state.StatementAt.TheVariants as statement_at
-use Rattle.bz_tree.specs.Shapes.{Terminal, has_token, Sort, level, argument, entry, clause, first_clause, loaded, small, line, param, Shape, done, tok, list, starred, bzl_shape, name, simple, string, equals, stars, products, sums, shifts, comma_mark, open_round, open_square, open_curly}
+use Rattle.bz_tree.specs.Shapes.{Terminal, has_token, Nonterminal, level, argument, entry, clause, first_clause, loaded, small, line, param, Shape, done, tok, list, starred, bzl_shape, name, simple, string, equals, stars, products, sums, shifts, comma_mark, open_round, open_square, open_curly}
 use Rattle.bz_tree.specs.Reading.{◌>>=◌, Read, starts_with, first, with_part_first, run, finish, first_of, FoundLevel, as_kind, put_found, follow, node_part, wrap, wrap_found, infix_at, fits_in, suffixes, climb, named_tail, param_tail, token_part, reading, round, square, curly, suffix_plan, clause_plan, small_plan}
 use Rattle.bz_states.specs.Tokens.{terminals_of, token_at, Halts, Fails}
 use Rattle.bz_parse.specs.Words.{part_at, with_found, found_by, found_from}
-use Rattle.bz_states.specs.States.{sort_of, compare_tail, cond_tail, rung_of}
+use Rattle.bz_states.specs.States.{nonterminal_of, compare_tail, cond_tail, precedence_of}
 use Rattle.bz_parse.specs.Ranks.{begun_at, level_at, climbed, suffixes_at, atom_at, argument_at, param_at}
 use Rattle.bz_parse.specs.Rows.{plan_of_header, header_at, shape_of_header}
 use Rattle.bz_tree.proofs.Nested.{items_of_row}
@@ -40,7 +40,7 @@ use Rattle.bz_tree.proofs.Plans.{put_found_some, not_empty_plan, plan_exact}
 use Rattle.bz_tree.proofs.Nodes.{wrap_found_some}
 use Rattle.bz_tree.proofs.Trees.{At}
 use Rattle.bz_tree.proofs.Levels.{begins, goes}
-use Rattle.bz_tree.proofs.ExactSorts.{reading_exact}
+use Rattle.bz_tree.proofs.ExactNonterminals.{reading_exact}
 use Rattle.bz_parse.proofs.Steps.{bind_same, halts, reading_sound, token_parts}
 
 -- ---- nodes of an empty row, and of one part
@@ -113,12 +113,12 @@ one_less zero h = absurd (h refl)
 one_less (suc d) h = omega arith
 
 -- a part of a sort, by the parts inside
-pub inside : (place place' : Place) (d : ℕ) (ts : List Leaf) (o : Option (Part × List Leaf)) → place ≡ place' → (d ≡ 0 → ⊥) → part_at (suc (d - 1)) (sort_of place') ts ≡ o → part_at d (sort_of place) ts ≡ o
-inside place place' d ts o is h e = let same : d ≡ suc (d - 1) = one_less d h in ap (λ (n : ℕ). part_at n (sort_of place) ts) same ∙ ap (λ (z : Place). part_at (suc (d - 1)) (sort_of z) ts) is ∙ e
+pub inside : (place place' : Place) (d : ℕ) (ts : List Leaf) (o : Option (Part × List Leaf)) → place ≡ place' → (d ≡ 0 → ⊥) → part_at (suc (d - 1)) (nonterminal_of place') ts ≡ o → part_at d (nonterminal_of place) ts ≡ o
+inside place place' d ts o is h e = let same : d ≡ suc (d - 1) = one_less d h in ap (λ (n : ℕ). part_at n (nonterminal_of place) ts) same ∙ ap (λ (z : Place). part_at (suc (d - 1)) (nonterminal_of z) ts) is ∙ e
 
-pub part_depth : (d : ℕ) (sort : Sort) (ts rest : List Leaf) (x : Part) → part_at d sort ts ≡ Some (x, rest) → depth_part x ≤ d
+pub part_depth : (d : ℕ) (nonterminal : Nonterminal) (ts rest : List Leaf) (x : Part) → part_at d nonterminal ts ≡ Some (x, rest) → depth_part x ≤ d
 unfolding part_at
-part_depth d sort ts rest x e = (reading_sound d sort ts (x, rest) e).0.2
+part_depth d nonterminal ts rest x e = (reading_sound d nonterminal ts (x, rest) e).0.2
 
 -- ---- operators
 
@@ -141,7 +141,7 @@ prefix_is d kind r n ts = ap (λ o. cond (starts_with (first r) ts) o (climb d (
 abbrev tail_of : ℕ → List Terminal → Shape
 tail_of n operators = tok operators (list (level n) operators false done)
 
-pub level_step : (d n : ℕ) (ts : List Leaf) → level_at d (suc n) ts ≡ climbed d (rung_of n) (level_at d n) ts
+pub level_step : (d n : ℕ) (ts : List Leaf) → level_at d (suc n) ts ≡ climbed d (precedence_of n) (level_at d n) ts
 unfolding level_at begun_at found_from
 level_step d zero ts = prefix_is d k.Unary (bzl_shape k.Unary) 0 ts
 level_step d (suc zero) ts = infix_is d k.Product (tail_of 1 products) 1 ts
@@ -160,22 +160,22 @@ level_step d (suc (suc (suc (suc (suc (suc (suc (suc (suc (suc (suc (suc (suc ze
 level_step d (suc (suc (suc (suc (suc (suc (suc (suc (suc (suc (suc (suc (suc (suc n)))))))))))))) ts = refl
 
 module _ (d n : ℕ) (ts : List Leaf) (h : n ≡ 0 → ⊥) where
-  climb_by : (r : Rung) → r ≡ rung_of (n - 1) → level_at d n ts ≡ climbed d r (level_at d (n - 1)) ts
-  climb_by r e = ap (λ (m : ℕ). level_at d m ts) (one_less n h) ∙ level_step d (n - 1) ts ∙ ap (λ (z : Rung). climbed d z (level_at d (n - 1)) ts) (sym e)
+  climb_by : (r : Precedence) → r ≡ precedence_of (n - 1) → level_at d n ts ≡ climbed d r (level_at d (n - 1)) ts
+  climb_by r e = ap (λ (m : ℕ). level_at d m ts) (one_less n h) ∙ level_step d (n - 1) ts ∙ ap (λ (z : Precedence). climbed d z (level_at d (n - 1)) ts) (sym e)
 
-  pub level_same : g.Same ≡ rung_of (n - 1) → level_at d n ts ≡ level_at d (n - 1) ts
+  pub level_same : g.Same ≡ precedence_of (n - 1) → level_at d n ts ≡ level_at d (n - 1) ts
   level_same e = climb_by g.Same e
 
-  pub level_prefix : (token : TokenSet) (state : NodeState) → g.Prefix token state ≡ rung_of (n - 1) → starts_with (terminals_of token) ts ≡ true → level_at d n ts ≡ found_from d [] state ts
+  pub level_prefix : (token : TokenSet) (state : NodeState) → g.Prefix token state ≡ precedence_of (n - 1) → starts_with (terminals_of token) ts ≡ true → level_at d n ts ≡ found_from d [] state ts
   level_prefix token state e b = climb_by (g.Prefix token state) e ∙ cond-true (starts_with (terminals_of token) ts) _ _ b
 
-  pub level_other : (token : TokenSet) (state : NodeState) → g.Prefix token state ≡ rung_of (n - 1) → starts_with (terminals_of token) ts ≡ false → level_at d n ts ≡ level_at d (n - 1) ts
+  pub level_other : (token : TokenSet) (state : NodeState) → g.Prefix token state ≡ precedence_of (n - 1) → starts_with (terminals_of token) ts ≡ false → level_at d n ts ≡ level_at d (n - 1) ts
   level_other token state e b = climb_by (g.Prefix token state) e ∙ cond-false (starts_with (terminals_of token) ts) _ _ b
 
-  pub level_none : (token : TokenSet) (state : NodeState) → g.Infix token state ≡ rung_of (n - 1) → level_at d (n - 1) ts ≡ None → level_at d n ts ≡ None
+  pub level_none : (token : TokenSet) (state : NodeState) → g.Infix token state ≡ precedence_of (n - 1) → level_at d (n - 1) ts ≡ None → level_at d n ts ≡ None
   level_none token state e b = climb_by (g.Infix token state) e ∙ ap (λ (o : Option (Part × List Leaf)). o >>= λ a. begun_at d token state a.0 a.1) b
 
-  pub level_begun : (token : TokenSet) (state : NodeState) (a : Part) (rest : List Leaf) → g.Infix token state ≡ rung_of (n - 1) → level_at d (n - 1) ts ≡ Some (a, rest) → level_at d n ts ≡ begun_at d token state a rest
+  pub level_begun : (token : TokenSet) (state : NodeState) (a : Part) (rest : List Leaf) → g.Infix token state ≡ precedence_of (n - 1) → level_at d (n - 1) ts ≡ Some (a, rest) → level_at d n ts ≡ begun_at d token state a rest
   level_begun token state a rest e b = climb_by (g.Infix token state) e ∙ ap (λ (o : Option (Part × List Leaf)). o >>= λ a. begun_at d token state a.0 a.1) b
 
 module _ (d : ℕ) (token : TokenSet) (state : NodeState) (a : Part) (ts : List Leaf) where

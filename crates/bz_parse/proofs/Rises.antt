@@ -6,11 +6,11 @@ use Rattle.bz_tree.specs.declared.tree.Part.{Part}
 use Rattle.bz_states.specs.declared.token.TokenSet.{TokenSet}
 use Rattle.bz_states.specs.declared.token.TokenSet.TheVariants as t
 use Rattle.bz_states.specs.declared.state.NodeState.{NodeState}
-use Rattle.bz_states.specs.declared.state.Rung.{Rung}
-use Rattle.bz_states.specs.declared.state.Rung.TheVariants as g
+use Rattle.bz_states.specs.declared.state.Precedence.{Precedence}
+use Rattle.bz_states.specs.declared.state.Precedence.TheVariants as g
 use Rattle.bz_tree.specs.Reading.{◌>>=◌, Read, starts_with}
 use Rattle.bz_states.specs.Tokens.{terminals_of}
-use Rattle.bz_states.specs.States.{rung_of, binds, binds_at}
+use Rattle.bz_states.specs.States.{precedence_of, binds, binds_at}
 use Rattle.bz_parse.specs.Ranks.{climbed, level_at, begun_at, bound, bound_at, rising, risen_at}
 use Rattle.bz_tree.proofs.Terminals.{disjoint, disjoint_at}
 use Rattle.bz_parse.proofs.Climbs.{level_step, begun_stays}
@@ -27,26 +27,26 @@ assoc None f g = refl
 assoc (Some x) f g = refl
 
 -- whether the first leaf is one with which a node of this rank begins
-abbrev pub prefixed : Rung → List Leaf → Bool
+abbrev pub prefixed : Precedence → List Leaf → Bool
 prefixed (g.Prefix token state) ts = starts_with (terminals_of token) ts
 prefixed _ ts = false
 
-climbed_bound : (d : ℕ) (r : Rung) (next : Read Part) (ts : List Leaf) → prefixed r ts ≡ false → climbed d r next ts ≡ (next ts >>= λ a. bound d r a.0 a.1)
+climbed_bound : (d : ℕ) (r : Precedence) (next : Read Part) (ts : List Leaf) → prefixed r ts ≡ false → climbed d r next ts ≡ (next ts >>= λ a. bound d r a.0 a.1)
 climbed_bound d g.Same next ts h = sym (same_back (next ts))
 climbed_bound d (g.Prefix token state) next ts h = cond-false (starts_with (terminals_of token) ts) _ _ h ∙ sym (same_back (next ts))
 climbed_bound d (g.Infix token state) next ts h = refl
 
 -- no node of these ranks begins with the first leaf
 abbrev pub Plain : ℕ → ℕ → List Leaf → Type 0
-Plain k n ts = (j : ℕ) → k ≤ j → j < n → prefixed (rung_of j) ts ≡ false
+Plain k n ts = (j : ℕ) → k ≤ j → j < n → prefixed (precedence_of j) ts ≡ false
 
 rise : (d k m : ℕ) (ts : List Leaf) → Plain k (k + m) ts → level_at d (k + m) ts ≡ (level_at d k ts >>= λ a. rising d k m a.0 a.1)
 rise d k zero ts h = let e : k + 0 ≡ k = omega arith in ap (λ (n : ℕ). level_at d n ts) e ∙ sym (same_back (level_at d k ts))
 rise d k (suc m) ts h =
     let e : k + suc m ≡ suc k + m = omega arith in
-    let one : level_at d (suc k) ts ≡ (level_at d k ts >>= λ a. bound d (rung_of k) a.0 a.1) = level_step d k ts ∙ climbed_bound d (rung_of k) (level_at d k) ts (h k (omega arith) (omega arith)) in
+    let one : level_at d (suc k) ts ≡ (level_at d k ts >>= λ a. bound d (precedence_of k) a.0 a.1) = level_step d k ts ∙ climbed_bound d (precedence_of k) (level_at d k) ts (h k (omega arith) (omega arith)) in
     ap (λ (n : ℕ). level_at d n ts) e ∙ rise d (suc k) m ts (λ j a b. h j (omega arith) (omega arith)) ∙
-    ap (λ (o : Back). o >>= λ a. rising d (suc k) m a.0 a.1) one ∙ assoc (level_at d k ts) (λ a. bound d (rung_of k) a.0 a.1) (λ a. rising d (suc k) m a.0 a.1)
+    ap (λ (o : Back). o >>= λ a. rising d (suc k) m a.0 a.1) one ∙ assoc (level_at d k ts) (λ a. bound d (precedence_of k) a.0 a.1) (λ a. rising d (suc k) m a.0 a.1)
 
 module _ (d k n : ℕ) (ts : List Leaf) (within : k ≤ n) (plain : Plain k n ts) where
   whole : level_at d n ts ≡ (level_at d k ts >>= λ a. risen_at d k n a.0 a.1)
@@ -70,21 +70,21 @@ not_from k n b e h = let w : nat_le k n ≡ true = le-leb k n h in rw w at e
 
 -- ---- one rank
 
-stays : (d : ℕ) (r : Rung) (a : Part) (ts : List Leaf) → binds r ts ≡ false → bound d r a ts ≡ Some (a, ts)
+stays : (d : ℕ) (r : Precedence) (a : Part) (ts : List Leaf) → binds r ts ≡ false → bound d r a ts ≡ Some (a, ts)
 stays d g.Same a ts h = refl
 stays d (g.Prefix token state) a ts h = refl
 stays d (g.Infix token state) a ts h = begun_stays d token state a ts h
 
 pub bound_stays : (d k : ℕ) (a : Part) (ts : List Leaf) → binds_at k ts ≡ false → bound_at d k a ts ≡ Some (a, ts)
 unfolding bound_at
-bound_stays d k a ts h = stays d (rung_of k) a ts h
+bound_stays d k a ts h = stays d (precedence_of k) a ts h
 
-pub bound_infix : (d k : ℕ) (a : Part) (ts : List Leaf) (token : TokenSet) (state : NodeState) → g.Infix token state ≡ rung_of k → bound_at d k a ts ≡ begun_at d token state a ts
+pub bound_infix : (d k : ℕ) (a : Part) (ts : List Leaf) (token : TokenSet) (state : NodeState) → g.Infix token state ≡ precedence_of k → bound_at d k a ts ≡ begun_at d token state a ts
 unfolding bound_at
-bound_infix d k a ts token state e = ap (λ (r : Rung). bound d r a ts) (sym e)
+bound_infix d k a ts token state e = ap (λ (r : Precedence). bound d r a ts) (sym e)
 
-pub bound_other : (d k : ℕ) (a : Part) (ts : List Leaf) (r : Rung) → r ≡ rung_of k → binds r ts ≡ false → bound_at d k a ts ≡ Some (a, ts)
-bound_other d k a ts r e h = bound_stays d k a ts (ap (λ (z : Rung). binds z ts) (sym e) ∙ h)
+pub bound_other : (d k : ℕ) (a : Part) (ts : List Leaf) (r : Precedence) → r ≡ precedence_of k → binds r ts ≡ false → bound_at d k a ts ≡ Some (a, ts)
+bound_other d k a ts r e h = bound_stays d k a ts (ap (λ (z : Precedence). binds z ts) (sym e) ∙ h)
 
 pub risen_end : (d k n : ℕ) (a : Part) (ts : List Leaf) → n ≤ k → risen_at d k n a ts ≡ Some (a, ts)
 unfolding risen_at

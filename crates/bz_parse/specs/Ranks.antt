@@ -5,13 +5,13 @@ use Rattle.bz_tree.specs.declared.kind.Kind.TheVariants as k
 use Rattle.bz_tree.specs.declared.tree.Part.{Part}
 use Rattle.bz_states.specs.declared.token.TokenSet.{TokenSet}
 use Rattle.bz_states.specs.declared.state.NodeState.{NodeState}
-use Rattle.bz_states.specs.declared.state.Rung.{Rung}
-use Rattle.bz_states.specs.declared.state.Rung.TheVariants as g
+use Rattle.bz_states.specs.declared.state.Precedence.{Precedence}
+use Rattle.bz_states.specs.declared.state.Precedence.TheVariants as g
 use Rattle.bz_tree.specs.Spell.{depth_part}
 use Rattle.bz_tree.specs.Shapes.{rank}
 use Rattle.bz_tree.specs.Reading.{◌>>=◌, Read, starts_with, fits_in, atom, suffixes, climb, read_argument, read_param, reading}
 use Rattle.bz_states.specs.Tokens.{terminals_of}
-use Rattle.bz_states.specs.States.{rung_of}
+use Rattle.bz_states.specs.States.{precedence_of}
 use Rattle.bz_parse.specs.Words.{found_from}
 
 -- a part, or a node that it begins where this token is after it
@@ -26,23 +26,23 @@ fitted_at d deep ps state ts = if nat_le deep d then found_from d ps state ts el
 unfoldable pub level_at : ℕ → ℕ → Read Part
 level_at d n ts = climb d (reading d) n ts
 
-abbrev pub climbed : ℕ → Rung → Read Part → Read Part
+abbrev pub climbed : ℕ → Precedence → Read Part → Read Part
 climbed d g.Same next ts = next ts
 climbed d (g.Prefix token state) next ts = if starts_with (terminals_of token) ts then found_from d [] state ts else next ts
 climbed d (g.Infix token state) next ts = next ts >>= λ a. begun_at d token state a.0 a.1
 
 -- what the operator of a rank makes of an operand
-abbrev pub bound : ℕ → Rung → Part → Read Part
+abbrev pub bound : ℕ → Precedence → Part → Read Part
 bound d (g.Infix token state) a ts = begun_at d token state a ts
 bound d _ a ts = Some (a, ts)
 
 unfoldable pub bound_at : ℕ → ℕ → Part → Read Part
-bound_at d n a ts = bound d (rung_of n) a ts
+bound_at d n a ts = bound d (precedence_of n) a ts
 
 -- what the operators of this many ranks, from one on, make of an operand
 abbrev pub rising : ℕ → ℕ → ℕ → Part → Read Part
 rising d n zero a ts = Some (a, ts)
-rising d n (suc more) a ts = bound d (rung_of n) a ts >>= λ x. rising d (suc n) more x.0 x.1
+rising d n (suc more) a ts = bound d (precedence_of n) a ts >>= λ x. rising d (suc n) more x.0 x.1
 
 -- the expression of a rank that begins with an operand of another
 unfoldable pub risen_at : ℕ → ℕ → ℕ → Part → Read Part

@@ -6,13 +6,13 @@ use Rattle.bz_states.specs.declared.state.NodeState.{NodeState}
 use Rattle.bz_states.specs.declared.state.Move.{Move}
 use Rattle.bz_states.specs.declared.state.Move.TheVariants as m
 use Rattle.bz_tree.specs.Spell.{depth_part}
-use Rattle.bz_tree.specs.Shapes.{Sort}
+use Rattle.bz_tree.specs.Shapes.{Nonterminal}
 use Rattle.bz_tree.specs.Reading.{◌>>=◌, Read, starts_with, reading, Plan, FoundLevel, follow, wrap_found, node_part}
 use Rattle.bz_states.specs.Tokens.{terminals_of, token_at}
-use Rattle.bz_states.specs.States.{sort_of, plan_at}
+use Rattle.bz_states.specs.States.{nonterminal_of, plan_at}
 
 -- a part of a sort of at most that depth
-unfoldable pub part_at : ℕ → Sort → Read Part
+unfoldable pub part_at : ℕ → Nonterminal → Read Part
 part_at d q ts = reading d q ts
 
 -- what was read before, and what is still found
@@ -36,5 +36,5 @@ found_from d front state ts = found_by d front (plan_at state) ts
 abbrev pub read_by_move : ℕ → List Part → Move → Read Part
 read_by_move d front (m.Finish kind) ts = Some (node_part kind front, ts)
 read_by_move d front (m.Take token state) ts = token_at (terminals_of token) ts >>= λ x. found_from d (front ++ (x.0 ∷ [])) state x.1
-read_by_move d front (m.Read place state) ts = part_at d (sort_of place) ts >>= λ x. found_from d (front ++ (x.0 ∷ [])) state x.1
+read_by_move d front (m.Read place state) ts = part_at d (nonterminal_of place) ts >>= λ x. found_from d (front ++ (x.0 ∷ [])) state x.1
 read_by_move d front (m.Choose token left right) ts = if starts_with (terminals_of token) ts then found_from d front left ts else found_from d front right ts

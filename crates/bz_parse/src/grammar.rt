@@ -4,15 +4,15 @@ ghost use Rattle.bz_tree.specs.Reading.{starts_with};
 ghost use Rattle.bz_tree.specs.Spell.{deepest, depth_limit};
 ghost use Rattle.bz_states.specs.Tokens.{terminals_of, Fails};
 ghost use Rattle.bz_parse.specs.Words.{part_at, Pushes, found_from};
-ghost use Rattle.bz_states.specs.States.{sort_of};
+ghost use Rattle.bz_states.specs.States.{nonterminal_of};
 ghost use Rattle.bz_parse.specs.Ranks.{fitted_at, bound_at, level_at, RisesFrom, atom_at, argument_at, param_at};
 ghost use Rattle.bz_tree.specs.declared.tree.Part.{Part};
 
 use crate::row::{Stack, deeper};
 use bz_states::{
     ItemsAt, LAMBDA, LambdaAt, Leaves, ListedItems, Move, NOT, NodeState, PRIMARY, ParseHalt,
-    PartSort, RoundAt, Rung, StarredAt, StatementAt, SuffixAt, TEST, Tail, TokenSet, UNARY,
-    goes_on, mark_deep_part, mark_next, rung_at,
+    PartNonterminal, RoundAt, Precedence, StarredAt, StatementAt, SuffixAt, TEST, Tail, TokenSet, UNARY,
+    goes_on, mark_deep_part, mark_next, precedence_at,
 };
 use bz_tree::Kind;
 
@@ -48,8 +48,8 @@ fn follow(
         if let NodeState::Items(listed, ItemsAt::Begin) = state {
             return items_of_row(from, deep, listed, depth, stack, leaves);
         }
-        if let NodeState::Rest(kind, Tail::TokenPart(token, sort)) = state {
-            return token_and_part(from, deep, kind, token, sort, depth, stack, leaves);
+        if let NodeState::Rest(kind, Tail::TokenPart(token, nonterminal)) = state {
+            return token_and_part(from, deep, kind, token, nonterminal, depth, stack, leaves);
         }
         match state.next_move() {
             Move::Finish(kind) => {
@@ -60,8 +60,8 @@ fn follow(
                 deep = deeper(deep, stack.take(token, leaves)?);
                 state = next;
             }
-            Move::Read(sort, next) => {
-                deep = deeper(deep, part(sort, depth, stack, leaves)?);
+            Move::Read(nonterminal, next) => {
+                deep = deeper(deep, part(nonterminal, depth, stack, leaves)?);
                 state = next;
             }
             Move::Choose(token, one, other) => {
@@ -91,7 +91,7 @@ fn items_of_row(
     let row = listed.row();
     let mut deep = deep;
     'more: while !leaves.next_is(row.close) {
-        deep = deeper(deep, part(row.sort, depth, stack, leaves)?);
+        deep = deeper(deep, part(row.nonterminal, depth, stack, leaves)?);
         if !leaves.next_is(row.separator) {
             return closing_token(from, deep, row.kind, row.close, depth, stack, leaves);
         }
@@ -129,7 +129,7 @@ fn token_and_part(
     deep: u32,
     kind: Kind,
     token: TokenSet,
-    sort: PartSort,
+    nonterminal: PartNonterminal,
     depth: u32,
     stack: &mut Stack,
     leaves: &mut Leaves,
@@ -138,11 +138,11 @@ fn token_and_part(
     requires deep { deep ≡ deepest (drop from stack.old) }
     requires within { deep ≤ depth }
     requires small { depth ≤ 2 * depth_limit }
-    ensures ok { IfOk result (λ deep. Pushes (found_from depth (drop from stack.old) (NodeState.Rest kind (Tail.TokenPart token sort)) leaves.old) (take from stack.old) stack.new leaves.new deep) }
-    ensures err { Fails result (found_from depth (drop from stack.old) (NodeState.Rest kind (Tail.TokenPart token sort)) leaves.old) }
+    ensures ok { IfOk result (λ deep. Pushes (found_from depth (drop from stack.old) (NodeState.Rest kind (Tail.TokenPart token nonterminal)) leaves.old) (take from stack.old) stack.new leaves.new deep) }
+    ensures err { Fails result (found_from depth (drop from stack.old) (NodeState.Rest kind (Tail.TokenPart token nonterminal)) leaves.old) }
 {
     let front = deeper(deep, stack.take(token, leaves)?);
-    let whole = deeper(front, part(sort, depth, stack, leaves)?);
+    let whole = deeper(front, part(nonterminal, depth, stack, leaves)?);
     stack.close(kind, from)?;
     Ok(whole + 1)
 }
@@ -191,62 +191,62 @@ fn go_on(
 /// A part of this sort that is at most this deep. Returns how deep it is.
 #[cycle(parser)]
 pub(crate) fn part(
-    sort: PartSort,
+    nonterminal: PartNonterminal,
     depth: u32,
     stack: &mut Stack,
     leaves: &mut Leaves,
 ) -> Result<u32, ParseHalt>
     requires small { depth ≤ 2 * depth_limit }
-    ensures ok { IfOk result (λ deep. Pushes (part_at depth (sort_of sort) leaves.old) stack.old stack.new leaves.new deep) }
-    ensures err { Fails result (part_at depth (sort_of sort) leaves.old) }
+    ensures ok { IfOk result (λ deep. Pushes (part_at depth (nonterminal_of nonterminal) leaves.old) stack.old stack.new leaves.new deep) }
+    ensures err { Fails result (part_at depth (nonterminal_of nonterminal) leaves.old) }
 {
     if depth == 0 {
-        return leaf_of(sort, stack, leaves);
+        return leaf_of(nonterminal, stack, leaves);
     }
     let inner = depth - 1;
-    match sort {
-        PartSort::Level(n) => expression(n, inner, stack, leaves),
-        PartSort::Argument => argument(inner, stack, leaves),
-        PartSort::Loaded => {
+    match nonterminal {
+        PartNonterminal::Level(n) => expression(n, inner, stack, leaves),
+        PartNonterminal::Argument => argument(inner, stack, leaves),
+        PartNonterminal::Loaded => {
             if leaves.next_is(TokenSet::Name) {
                 begin(NodeState::Alias, inner, stack, leaves)
             } else {
                 stack.take(TokenSet::String, leaves)
             }
         }
-        PartSort::Entry => begin(NodeState::Entry, inner, stack, leaves),
-        PartSort::Clause => begin(NodeState::Clause, inner, stack, leaves),
-        PartSort::FirstClause => begin(NodeState::For, inner, stack, leaves),
-        PartSort::Small => begin(
+        PartNonterminal::Entry => begin(NodeState::Entry, inner, stack, leaves),
+        PartNonterminal::Clause => begin(NodeState::Clause, inner, stack, leaves),
+        PartNonterminal::FirstClause => begin(NodeState::For, inner, stack, leaves),
+        PartNonterminal::Small => begin(
             NodeState::Statement(StatementAt::Begin),
             inner,
             stack,
             leaves,
         ),
-        PartSort::Line => {
+        PartNonterminal::Line => {
             let statements = NodeState::Items(ListedItems::Statements, ItemsAt::Part);
             begin(statements, inner, stack, leaves)
         }
-        PartSort::Param => param(inner, stack, leaves),
+        PartNonterminal::Param => param(inner, stack, leaves),
     }
 }
 
 /// A leaf of this sort.
 #[tactic(auto, unfolding(bz_states::specs::Tokens::token_at, crate::specs::Words::part_at))]
-fn leaf_of(sort: PartSort, stack: &mut Stack, leaves: &mut Leaves) -> Result<u32, ParseHalt>
-    ensures ok { IfOk result (λ deep. Pushes (part_at 0 (sort_of sort) leaves.old) stack.old stack.new leaves.new deep) }
-    ensures err { Fails result (part_at 0 (sort_of sort) leaves.old) }
+fn leaf_of(nonterminal: PartNonterminal, stack: &mut Stack, leaves: &mut Leaves) -> Result<u32, ParseHalt>
+    ensures ok { IfOk result (λ deep. Pushes (part_at 0 (nonterminal_of nonterminal) leaves.old) stack.old stack.new leaves.new deep) }
+    ensures err { Fails result (part_at 0 (nonterminal_of nonterminal) leaves.old) }
 {
-    mark_next(sort, leaves);
+    mark_next(nonterminal, leaves);
     let at = leaves.next_at();
-    let deep = match sort {
-        PartSort::Level(_) | PartSort::Argument => stack.take(TokenSet::Simple, leaves)?,
-        PartSort::Loaded => stack.take(TokenSet::String, leaves)?,
-        PartSort::Param => stack.take(TokenSet::Name, leaves)?,
+    let deep = match nonterminal {
+        PartNonterminal::Level(_) | PartNonterminal::Argument => stack.take(TokenSet::Simple, leaves)?,
+        PartNonterminal::Loaded => stack.take(TokenSet::String, leaves)?,
+        PartNonterminal::Param => stack.take(TokenSet::Name, leaves)?,
         _ => return Err(ParseHalt::Unexpected),
     };
     if let Some(at) = at
-        && goes_on(sort, leaves)
+        && goes_on(nonterminal, leaves)
     {
         leaves.mark_too_deep(at);
     }
@@ -293,7 +293,7 @@ fn operand(n: u8, depth: u32, stack: &mut Stack, leaves: &mut Leaves) -> Result<
     if leaves.starts_from(NOT, n, TokenSet::Not) {
         let state = NodeState::Rest(
             Kind::Not,
-            Tail::TokenPart(TokenSet::Not, PartSort::Level(NOT)),
+            Tail::TokenPart(TokenSet::Not, PartNonterminal::Level(NOT)),
         );
         let deep = begin(state, depth, stack, leaves)?;
         return Ok(Begun { rank: NOT, deep });
@@ -301,7 +301,7 @@ fn operand(n: u8, depth: u32, stack: &mut Stack, leaves: &mut Leaves) -> Result<
     if leaves.starts_from(UNARY, n, TokenSet::Signs) {
         let state = NodeState::Rest(
             Kind::Unary,
-            Tail::TokenPart(TokenSet::Signs, PartSort::Level(UNARY)),
+            Tail::TokenPart(TokenSet::Signs, PartNonterminal::Level(UNARY)),
         );
         let deep = begin(state, depth, stack, leaves)?;
         return Ok(Begun { rank: UNARY, deep });
@@ -329,16 +329,16 @@ fn raised(
     ensures ok { (a : Part) → drop from stack.old ≡ a ∷ [] → IfOk result (λ after. Pushes (bound_at depth rank a leaves.old) (take from stack.old) stack.new leaves.new after) }
     ensures err { (a : Part) → drop from stack.old ≡ a ∷ [] → Fails result (bound_at depth rank a leaves.old) }
 {
-    match rung_at(rank) {
-        Rung::Infix(token, state) => {
+    match precedence_at(rank) {
+        Precedence::Infix(token, state) => {
             if leaves.next_is(token) {
                 go_on(from, deep, state, depth, stack, leaves)
             } else {
                 Ok(deep)
             }
         }
-        Rung::Prefix(_, _) => Ok(deep),
-        Rung::Same => Ok(deep),
+        Precedence::Prefix(_, _) => Ok(deep),
+        Precedence::Same => Ok(deep),
     }
 }
 

@@ -17,7 +17,7 @@ ghost use Rattle.bz_parse.specs.Rows.{PutsAll, PutsOne, plan_of_header, header_a
 use crate::grammar::part;
 use crate::row::Stack;
 use bz_lex::DEPTH_LIMIT;
-use bz_states::{HeaderAt, Leaves, Move, NodeState, ParseHalt, PartSort, TokenSet};
+use bz_states::{HeaderAt, Leaves, Move, NodeState, ParseHalt, PartNonterminal, TokenSet};
 use bz_tree::Kind;
 use std::alloc::Global;
 
@@ -97,8 +97,8 @@ fn head(which: Header, depth: u32, stack: &mut Stack, leaves: &mut Leaves) -> Re
                 stack.take(token, leaves)?;
                 state = next;
             }
-            Move::Read(sort, next) => {
-                part(sort, depth, stack, leaves)?;
+            Move::Read(nonterminal, next) => {
+                part(nonterminal, depth, stack, leaves)?;
                 state = next;
             }
             Move::Choose(token, one, other) => {
@@ -114,7 +114,7 @@ fn one_line(depth: u32, stack: &mut Stack, leaves: &mut Leaves) -> Result<(), Pa
     ensures ok { OnOk result (PutsOne (part_at depth line leaves.old) stack.old stack.new leaves.new) }
     ensures err { Fails result (part_at depth line leaves.old) }
 {
-    part(PartSort::Line, depth, stack, leaves)?;
+    part(PartNonterminal::Line, depth, stack, leaves)?;
     Ok(())
 }
 

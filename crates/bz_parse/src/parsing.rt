@@ -205,7 +205,7 @@ fn too_deep(text: &[u8], at: usize) -> ReadFault
 
 /// The fault `Unexpected` with line and column, from 1, of the byte at `at` (past the last one: of the end).
 pub fn unexpected_at(text: &[u8], at: usize) -> ReadFault
-    ensures told { result ≡ ReadFault.Unexpected (min (line_at text.now (min at (length text.now))) u32.MAX) (min (column_of text.now (min at (length text.now))) u32.MAX) }
+    ensures answered { result ≡ ReadFault.Unexpected (min (line_at text.now (min at (length text.now))) u32.MAX) (min (column_of text.now (min at (length text.now))) u32.MAX) }
 {
     let (line, column) = line_and_column(text, at.min(text.len()));
     ReadFault::Unexpected { line, column }

@@ -3,7 +3,7 @@ use Rattle.std.proofs.Common.{◌≡◌, ◌⊎◌, ◌≤◌, ◌∙◌, ◌++�
 use Rattle.std.specs.Io.KnownBytes.{Appends}
 use Rattle.std.proofs.lemmas.List.{append-nil}
 use Rattle.bz_ports.specs.Faults.{Rises, AppendsSome}
-use Rattle.bz_ports.specs.Outputs.{Writes, WritesUnlessClosed, Tells, Counts}
+use Rattle.bz_ports.specs.Outputs.{Writes, WritesUnlessClosed, Reports, Counts}
 use Rattle.bz_ports.proofs.Written.{begins, piece_written, piece_begun, all_written}
 
 -- ---- counts
@@ -51,8 +51,8 @@ writes_more false false f g h old mid new out more first last = (last.0 ∙ firs
 writes_more false true f g h old mid new out more first last =
     (subst (λ (n : ℕ). Rises n h) first.0 last.0, begun_more old mid new out more first.1 last.1)
 
-pub tells_more : (f g h : ℕ) (old mid new : Option (List ℕ)) (lines more : List (List ℕ)) → Tells f g old mid lines → Tells g h mid new more
-    → Tells f h old new (lines ++ more)
-tells_more f g h old mid new [] more first last =
-    subst (λ (n : ℕ). Tells n h old new more) first.0 (subst (λ (held : Option (List ℕ)). Tells g h held new more) first.1 last)
-tells_more f g h old mid new (line ∷ lines) more first last = (first.0, first.1, first.2, tells_more first.0 g h first.1 mid new lines more first.3 last)
+pub reports_more : (f g h : ℕ) (old mid new : Option (List ℕ)) (lines more : List (List ℕ)) → Reports f g old mid lines → Reports g h mid new more
+    → Reports f h old new (lines ++ more)
+reports_more f g h old mid new [] more first last =
+    subst (λ (n : ℕ). Reports n h old new more) first.0 (subst (λ (held : Option (List ℕ)). Reports g h held new more) first.1 last)
+reports_more f g h old mid new (line ∷ lines) more first last = (first.0, first.1, first.2, reports_more first.0 g h first.1 mid new lines more first.3 last)

@@ -85,8 +85,8 @@ piece_cut old mid now bytes left piece rest split so part =
     let within : n ≤ length piece = omega (arith, below) in
     let fits : n ≤ length left = omega (arith, within, len) in
     let front : take n left ≡ take n piece = ap (take n) split ∙ take-append-le n piece rest within in
-    let behind : length (drop n left) ≡ length left - n = length-drop n left in
-    cut_off old now bytes (drop n left) (omega (arith, behind, len, below))
+    let following : length (drop n left) ≡ length left - n = length-drop n left in
+    cut_off old now bytes (drop n left) (omega (arith, following, len, below))
     (goes_on old mid now bytes left n so fits (subst (Appends mid now) (sym front) part.appends))
 
 -- nothing is left

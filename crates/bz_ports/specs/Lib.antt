@@ -4,4 +4,4 @@ pub mod Laws
 pub mod Near
 pub mod Outputs
 pub mod Ports
-pub mod Told
+pub mod Reported

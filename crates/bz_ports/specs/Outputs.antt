@@ -11,10 +11,10 @@ Writes false faults faults' old new out = (faults' ≡ faults) × Appends old ne
 Writes true faults faults' old new out = Rises faults faults' × AppendsSome old new out
 
 -- Lines were printed one after the other, each whole unless its writing failed.
-abbrev pub Tells : ℕ → ℕ → Option Bytes → Option Bytes → List Bytes → Type 0
-Tells faults faults' old new [] = (faults' ≡ faults) × (new ≡ old)
-Tells faults faults' old new (line ∷ lines) =
-    (mid_faults : ℕ) × (mid : Option Bytes) × AppendsUnlessFailed faults mid_faults old mid line × Tells mid_faults faults' mid new lines
+abbrev pub Reports : ℕ → ℕ → Option Bytes → Option Bytes → List Bytes → Type 0
+Reports faults faults' old new [] = (faults' ≡ faults) × (new ≡ old)
+Reports faults faults' old new (line ∷ lines) =
+    (mid_faults : ℕ) × (mid : Option Bytes) × AppendsUnlessFailed faults mid_faults old mid line × Reports mid_faults faults' mid new lines
 
 -- a writer that is closed already is left as it is
 abbrev pub WritesUnlessClosed : Bool → Bool → ℕ → ℕ → Option Bytes → Option Bytes → Bytes → Type 0

@@ -9,7 +9,7 @@ mod memory;
 mod near;
 mod sink;
 mod source;
-mod told;
+mod reported;
 mod words;
 
 pub use device::Device;
@@ -19,8 +19,8 @@ pub use memory::{MemorySink, MemorySource};
 pub use near::nearest;
 pub use sink::{Sink, write_whole};
 pub use source::{InputFault, MOST, PortFault, Source, read_most};
-pub use told::{STDIN, tell, tell_clap, tell_fault, tell_named};
-pub use words::{text_of, texts_of};
+pub use reported::{STDIN, report, report_clap, report_fault, report_named};
+pub use words::{argument_text, argument_texts};
 
 /// The version of both programs, which `--version` prints.
 pub const VERSION: &str = "1.0.0";

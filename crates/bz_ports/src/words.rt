@@ -6,7 +6,7 @@ use clap::ArgMatches;
 use std::alloc::{AllocError, Global};
 
 /// The first text of an argument, if it has one.
-pub fn text_of<'a>(matches: &ArgMatches<'a>, id: &str) -> Option<&'a str>
+pub fn argument_text<'a>(matches: &ArgMatches<'a>, id: &str) -> Option<&'a str>
     ensures { option_map (λ s. s.now) result ≡ first_of id.now (rows_of (found_of matches.now)) }
 {
     matches.get_str(id)
@@ -20,7 +20,7 @@ fn slice_of<'m, 'a>(matches: &'m ArgMatches<'a>, id: &str) -> Option<&'m [&'a st
 }
 
 /// The texts of an argument, in order; none where it was not used. The error: memory was refused.
-pub fn texts_of<'a>(
+pub fn argument_texts<'a>(
     alloc: Global,
     matches: &ArgMatches<'a>,
     id: &str,

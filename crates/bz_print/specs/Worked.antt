@@ -16,7 +16,7 @@ use Rattle.bz_print.specs.Prints.{printed_value, printed_item}
 -- ---- expressions without comments
 
 abbrev token : Class → Bytes → Expr
-token class text = e.Token (record { class = class; text = text; break_ = false; comments = no_comments })
+token class text = e.Token (record { class = class; text = text; line_break = false; comments = no_comments })
 
 abbrev name : Bytes → Expr
 name text = token c.Name text
@@ -25,10 +25,10 @@ abbrev string : Bytes → Expr
 string text = token c.String text
 
 abbrev row : Kind → List Expr → Expr
-row kind parts = e.Form (record { kind = kind; parts = parts; seq = record { items = []; end_ = []; split = false }; open_ = false; comments = no_comments })
+row kind parts = e.Form (record { kind = kind; parts = parts; seq = record { items = []; end = []; split = false }; open_break = false; comments = no_comments })
 
 abbrev sequence : Kind → List Expr → List Expr → Expr
-sequence kind parts items = e.Form (record { kind = kind; parts = parts; seq = record { items = items; end_ = []; split = false }; open_ = false; comments = no_comments })
+sequence kind parts items = e.Form (record { kind = kind; parts = parts; seq = record { items = items; end = []; split = false }; open_break = false; comments = no_comments })
 
 abbrev list : List Expr → Expr
 list items = sequence k.List [] items

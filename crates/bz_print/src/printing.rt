@@ -6,7 +6,7 @@ ghost use Rattle.bz_write.specs.Written as written;
 ghost use Rattle.bz_print.specs.Prints.{missing, spaced, printed_value, without_last, printed_field, printed_fields, printed_item};
 ghost use Rattle.bz_print.specs.Steps.{seen_rule};
 
-use crate::rules::{Rule, rule_of};
+use crate::rules::{Rule, printed_rule_of};
 use crate::values::{push_space, push_value};
 use bz_items::Memory;
 use bz_rule::attribute;
@@ -121,7 +121,7 @@ pub fn push_rule(
 ) -> Result<(), Memory>
     ensures { OnOk result (out.new.items ≡ out.old.items ++ printed_item (option_map decimal line) item.now fields.now) }
 {
-    let Some(rule) = rule_of(alloc, item)? else {
+    let Some(rule) = printed_rule_of(alloc, item)? else {
         return Ok(());
     };
     let subject = Subject { line, item, rule };

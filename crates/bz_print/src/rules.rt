@@ -18,7 +18,7 @@ pub struct Rule<'a> {
 }
 
 /// The rule that an item is; `None` where it is none. The error: a growth was refused.
-pub fn rule_of(alloc: Global, item: &Item) -> Result<Option<Rule<'_>>, Memory>
+pub fn printed_rule_of(alloc: Global, item: &Item) -> Result<Option<Rule<'_>>, Memory>
     ensures { IfOk result (λ rule. option_map seen_rule rule ≡ r.rule_of item.now) }
 {
     let Some(call) = call_of(item) else {

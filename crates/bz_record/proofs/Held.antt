@@ -15,7 +15,7 @@ use Rattle.bz_tree.specs.declared.tree.Part.TheVariants as p
 use Rattle.bz_tree.proofs.Nested.{row_of, items_of_row, leaf_or_node}
 use Rattle.bz_tree.proofs.Spells.{depth_Node}
 use Rattle.bz_record.proofs.Numbers.{numbered_class_exact, numbered_kind_exact}
-use Rattle.bz_exact.proofs.Chains.{after_own, after_told, bind_some, done_exact, last_exact, same_read, so, then_exact}
+use Rattle.bz_exact.proofs.Chains.{after_own, after_answered, bind_some, done_exact, last_exact, same_read, so, then_exact}
 use Rattle.bz_exact.proofs.Counting.{number_exact}
 use Rattle.bz_exact.proofs.Formats.{field_exact, listed_exact}
 use Rattle.bz_exact.specs.Laws.{IsExact}
@@ -148,7 +148,7 @@ module _ (d : ℕ) (nodes : Reader Node) (exact : IsExact Node node_body (IsHeld
         let b = bind_some (leaf_at h.0) leaf_read (x, rest) h.2 in
         let f = same_read (p.Leaf b.0.0) x b.0.1 rest b.2 in
         let q = leaf_exact.sound h.0 b.0.0 b.0.1 b.1 in
-        let line : s ≡ codes "leaf " ++ (leaf_body b.0.0 ++ rest) = after_told (codes "leaf ") s h.0 h.1 ∙ ap (λ t. codes "leaf " ++ t) (q.1 ∙ ap (λ t. leaf_body b.0.0 ++ t) f.1) in
+        let line : s ≡ codes "leaf " ++ (leaf_body b.0.0 ++ rest) = after_answered (codes "leaf ") s h.0 h.1 ∙ ap (λ t. codes "leaf " ++ t) (q.1 ∙ ap (λ t. leaf_body b.0.0 ++ t) f.1) in
         let spelled : s ≡ part_text (p.Leaf b.0.0) ++ rest = line ∙ sym (append_assoc (codes "leaf ") (leaf_body b.0.0) rest) ∙ ap (λ t. t ++ rest) (sym (leaf_begins b.0.0)) in
         subst (λ y. IsHeld d y × (s ≡ part_text y ++ rest)) f.0 ((held_Leaf d b.0.0).1 q.0, spelled)
     | inr h ↦
@@ -156,7 +156,7 @@ module _ (d : ℕ) (nodes : Reader Node) (exact : IsExact Node node_body (IsHeld
         let b = bind_some (nodes m.0) node_read (x, rest) m.2 in
         let f = same_read (p.Node b.0.0) x b.0.1 rest b.2 in
         let q = exact.sound m.0 b.0.0 b.0.1 b.1 in
-        let line : s ≡ codes "node " ++ (node_body b.0.0 ++ rest) = after_told (codes "node ") s m.0 m.1 ∙ ap (λ t. codes "node " ++ t) (q.1 ∙ ap (λ t. node_body b.0.0 ++ t) f.1) in
+        let line : s ≡ codes "node " ++ (node_body b.0.0 ++ rest) = after_answered (codes "node ") s m.0 m.1 ∙ ap (λ t. codes "node " ++ t) (q.1 ∙ ap (λ t. node_body b.0.0 ++ t) f.1) in
         let spelled : s ≡ part_text (p.Node b.0.0) ++ rest = line ∙ sym (append_assoc (codes "node ") (node_body b.0.0) rest) ∙ ap (λ t. t ++ rest) (sym (node_begins b.0.0)) in
         subst (λ y. IsHeld d y × (s ≡ part_text y ++ rest)) f.0 ((held_Node d b.0.0).1 q.0, spelled)
   ]

@@ -6,7 +6,7 @@ use Rattle.std.specs.Str.{bytes_eq, IsUtf8, is_utf8}
 use Rattle.std.proofs.lemmas.Str.{is_utf8-from_IsUtf8, IsUtf8-from_is_utf8}
 use Rattle.std.proofs.lemmas.Bool.{false_from_ne_true}
 use Rattle.std.proofs.lemmas.Slice.Eq.{bytes_eq-Decides}
-use Rattle.bz_exact.proofs.Chains.{after_own, after_told}
+use Rattle.bz_exact.proofs.Chains.{after_own, after_answered}
 use Rattle.bz_exact.specs.Readers.{after_mark}
 
 pub is_text : (bs : List ℕ) → IsUtf8 bs → is_utf8 bs ≡ true
@@ -38,7 +38,7 @@ module _ (a b c s : List ℕ) where
 
     pub at_end : (q : List ℕ) (t : Bool) → after_mark b r ≡ Some q → t ≡ bytes_eq q c → (IsTrue t → s ≡ a ++ b ++ c) × (s ≡ a ++ b ++ c → IsTrue t)
     at_end q t e is = (
-      λ f. after_told a s r front ∙ ap (λ z. a ++ z) (after_told b r q e ∙ ap (λ z. b ++ z) ((bytes_eq-Decides q c).0 (sym is ∙ f))) ∙ sym (append_assoc a b c),
+      λ f. after_answered a s r front ∙ ap (λ z. a ++ z) (after_answered b r q e ∙ ap (λ z. b ++ z) ((bytes_eq-Decides q c).0 (sym is ∙ f))) ∙ sym (append_assoc a b c),
       λ f.
           let g = rest_is (b ++ c) (f ∙ append_assoc a b c) in
           let h = same_Some q c (sym e ∙ ap (after_mark b) g ∙ after_own b c) in

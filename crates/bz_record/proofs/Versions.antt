@@ -5,7 +5,7 @@ use Rattle.std.specs.List.{list_all}
 use Rattle.std.proofs.lemmas.Bool.{and_parts}
 use Rattle.std.proofs.lemmas.Bool.Decides.{nat_tests}
 use Rattle.std.proofs.lemmas.Option.{same_Some}
-use Rattle.bz_exact.proofs.Chains.{after_own, after_told, none_there, one_reading}
+use Rattle.bz_exact.proofs.Chains.{after_own, after_answered, none_there, one_reading}
 use Rattle.bz_exact.proofs.Lines.{line_exact}
 use Rattle.bz_exact.specs.Readers.{after_mark, ended_line_at}
 use Rattle.bz_exact.specs.Spellings.{IsLine}
@@ -41,11 +41,11 @@ module _ (mark s : List ℕ) where
     no_end e = (λ f. cc f, λ n. absurd (none_there line_exact line e n.0 n.1 (digits_in_line n.0 n.2.digits_alone) (line_is n ∙ sym (append_assoc n.0 (line_feed ∷ []) n.1))))
 
     pub ends_there : (number rest : List ℕ) (t : Bool) → ended_line_at line ≡ Some (number, rest) → (IsTrue t → IsOtherNumber number) × (IsOtherNumber number → IsTrue t) → (IsTrue t → Names) × (Names → IsTrue t)
-    ends_there number rest t e told =
+    ends_there number rest t e answered =
         let c = line_exact.sound line number rest e in
         let cut : line ≡ number ++ line_feed ∷ rest = c.1 ∙ append_assoc number (line_feed ∷ []) rest in (
-          λ f. (number, rest, told.0 f, after_told mark s line begun ∙ ap (λ z. mark ++ z) cut ∙ sym (append_assoc mark number (line_feed ∷ rest))),
+          λ f. (number, rest, answered.0 f, after_answered mark s line begun ∙ ap (λ z. mark ++ z) cut ∙ sym (append_assoc mark number (line_feed ∷ rest))),
           λ n.
               let same = one_line number n.0 rest n.1 c.0 (digits_in_line n.0 n.2.digits_alone) (sym cut ∙ line_is n) in
-              told.1 (subst IsOtherNumber (sym same) n.2),
+              answered.1 (subst IsOtherNumber (sym same) n.2),
         )

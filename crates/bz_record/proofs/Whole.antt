@@ -12,7 +12,7 @@ use Rattle.std.specs.Cmp.Derive.{both_true}
 use Rattle.hex.specs.Hex.{encode_lower}
 use Rattle.bz_tree.specs.declared.tree.Part.{Part}
 use Rattle.bz_edit.specs.declared.edit.Edit.{Edit}
-use Rattle.bz_record.specs.declared.content.Entry.{Entry}
+use Rattle.bz_record.specs.declared.content.RecordedStep.{RecordedStep}
 use Rattle.bz_record.specs.declared.content.Record.{Record}
 use Rattle.bz_record.specs.declared.content.Version.{Version}
 use Rattle.bz_record.specs.declared.content.Version.TheVariants.{One, Two}
@@ -50,7 +50,7 @@ entry_lines m a b c = simp (append_assoc, append-nil)
 
 -- ---- notes
 
-abbrev entry_of : List ℕ → List Edit → Entry
+abbrev entry_of : List ℕ → List Edit → RecordedStep
 entry_of note edits = record { note = note; edits = edits }
 
 abbrev IsName : List ℕ → Type 0
@@ -108,7 +108,7 @@ module _ (depth : ℕ) where
       (λ e h. ((h.path_length, h.path), (h.at, (h.count, ((h.held_length, h.held), refl)))))
       (mark_exact (codes "edit ") _ _ _ paths)
 
-  pub entry_exact : (v : Version) → IsExact Entry (entry_text v) (IsNotedStep v depth) (entry_at v depth)
+  pub entry_exact : (v : Version) → IsExact RecordedStep (entry_text v) (IsNotedStep v depth) (entry_at v depth)
   unfolding entry_at
   entry_exact v =
       let edits = λ (n : ℕ) (note : List ℕ). then_exact (λ t. t.edits) (flat_map edit_text) (AreAll (IsEdit depth) n) (repeated (edit_at depth) n) (λ t. []) (λ es t. t ≡ entry_of note es) (λ es s. Some (entry_of note es, s))
@@ -128,7 +128,7 @@ digest_line_exact : IsExact (List ℕ) digest_text IsDigest digest_line_at
 unfolding digest_line_at
 digest_line_exact = so (λ d. digest_lines (codes "digest ") (encode_lower d) (line_feed ∷ [])) (λ d h. h) (λ d h. h) (mark_exact (codes "digest ") _ _ digest_at digest_exact)
 
-abbrev record_of : List ℕ → List ℕ → ℕ → ℕ → List (List ℕ) → List Entry → Record
+abbrev record_of : List ℕ → List ℕ → ℕ → ℕ → List (List ℕ) → List RecordedStep → Record
 record_of name text cursor before digests steps = record { «package» = name; text = text; cursor = cursor; before = before; digests = digests; steps = steps }
 
 abbrev UpTo : ℕ → ℕ → Type 0

@@ -10,7 +10,7 @@ use Rattle.bz_tree.specs.declared.tree.Node.{Node}
 use Rattle.bz_tree.specs.declared.tree.Part.{Part}
 use Rattle.bz_tree.specs.declared.tree.Part.TheVariants as p
 use Rattle.bz_edit.specs.declared.edit.Edit.{Edit}
-use Rattle.bz_record.specs.declared.content.Entry.{Entry}
+use Rattle.bz_record.specs.declared.content.RecordedStep.{RecordedStep}
 use Rattle.bz_record.specs.declared.content.Record.{Record}
 use Rattle.bz_record.specs.declared.content.Version.{Version}
 use Rattle.bz_record.specs.declared.content.Version.TheVariants.{One, Two}
@@ -99,7 +99,7 @@ note_at Two s = do
   rest ← after_mark (line_feed ∷ []) note.1
   Some (note.0, rest)
 
-unfoldable pub entry_at : Version → ℕ → Reader Entry
+unfoldable pub entry_at : Version → ℕ → Reader RecordedStep
 entry_at v depth s = do
   begun ← after_mark (codes "step ") s
   count ← number_at line_feed begun

@@ -14,7 +14,7 @@ use Rattle.bz_tree.specs.declared.kind.Kind.{Kind}
 use Rattle.bz_tree.specs.declared.tree.Part.{Part, Row_of-Part, end_of-Part, more_of-Part, Node'}
 use Rattle.bz_tree.specs.declared.tree.Part as p
 use Rattle.bz_edit.specs.declared.edit.Edit.{Edit}
-use Rattle.bz_record.specs.declared.content.Entry.{Entry}
+use Rattle.bz_record.specs.declared.content.RecordedStep.{RecordedStep}
 use Rattle.bz_record.specs.declared.content.Record.{Record}
 use Rattle.bz_record.specs.declared.content.Version.{Version}
 use Rattle.bz_record.specs.declared.content.Version.TheVariants.{One, Two}
@@ -59,7 +59,7 @@ note_line One note = []
 note_line Two note = codes "note " ++ counted_text space note ++ line_feed ∷ []
 
 -- step E, the line of its note, then its edits
-abbrev pub entry_text : Version → Entry → List ℕ
+abbrev pub entry_text : Version → RecordedStep → List ℕ
 entry_text v t = codes "step " ++ last_number (length t.edits) ++ note_line v t.note ++ flat_map edit_text t.edits
 
 -- digest HEX
@@ -130,7 +130,7 @@ IsNote One note = note ≡ []
 IsNote Two note = (length note ≤ short_limit) × IsUtf8 note
 
 -- a note and edits that have a text
-pub record IsNotedStep (v : Version) (depth : ℕ) (t : Entry) : Type 0 where
+pub record IsNotedStep (v : Version) (depth : ℕ) (t : RecordedStep) : Type 0 where
   pub note : IsNote v t.note
   pub edits_length : length t.edits < number_limit
   pub edits : AllByRecursion (IsEdit depth) t.edits

@@ -12,7 +12,7 @@ pub enum Version {
 
 /// The edits of a step, with its note. Nothing says yet that they make one.
 #[derive(Debug, Drop)]
-pub struct Entry {
+pub struct RecordedStep {
     /// What made the step: UTF-8, of at most 65,536 bytes, and empty in version 1.
     pub note: Text,
     pub edits: Items<Edit>,
@@ -31,7 +31,7 @@ pub struct Record {
     pub before: u32,
     /// The SHA-256 digest of each text: one more than steps.
     pub digests: Items<[u8; 32]>,
-    pub steps: Items<Entry>,
+    pub steps: Items<RecordedStep>,
 }
 
 /// What a journal is to say, borrowed to be written.

@@ -5,7 +5,7 @@ ghost use Rattle.bz_exact.specs.Readers.{after_mark, listed_at, number_at, repea
 ghost use Rattle.bz_items.specs.Characters.{space};
 ghost use Rattle.bz_record.specs.Reading.{digest_line_at, edit_at, entry_at, held_at};
 
-use crate::content::{Entry, Version};
+use crate::content::{RecordedStep, Version};
 use crate::fields::{read_digest_line, read_note};
 use crate::parts::read_parts;
 use bz_edit::Edit;
@@ -76,7 +76,7 @@ fn read_entry(
     version: Version,
     depth: u32,
     input: &[u8],
-) -> Result<(Entry, &[u8]), Unread>
+) -> Result<(RecordedStep, &[u8]), Unread>
     ensures { Gives (λ x. (x.0, x.1.now)) result (entry_at version depth input.now) }
 {
     let rest = read_mark(input, b"step ")?;
@@ -85,7 +85,7 @@ fn read_entry(
     let (edits, rest) = read_edits(alloc, depth, count, rest)?;
     let note = Text::from_slice(alloc, note)?;
     let edits = Items::from_vec(edits);
-    Ok((Entry { note, edits }, rest))
+    Ok((RecordedStep { note, edits }, rest))
 }
 
 /// This many entries.
@@ -95,7 +95,7 @@ pub fn read_entries(
     depth: u32,
     count: u32,
     input: &[u8],
-) -> Result<(Vec<Entry>, &[u8]), Unread>
+) -> Result<(Vec<RecordedStep>, &[u8]), Unread>
     ensures { Gives (λ x. (x.0.items, x.1.now)) result (repeated (entry_at version depth) count input.now) }
 {
     let mut entries = Vec::new(alloc);

@@ -14,7 +14,7 @@ mod reading;
 mod version;
 mod writing;
 
-pub use content::{Content, Entry, Record, Version};
+pub use content::{Content, RecordedStep, Record, Version};
 pub use fault::RecordFault;
 pub use limits::{SHORT_LIMIT, STEP_LIMIT};
 pub use reading::read_record;

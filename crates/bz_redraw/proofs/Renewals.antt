@@ -7,17 +7,17 @@ use Rattle.bz_tree.specs.Places.{Ascend, put_all}
 use Rattle.bz_tree.specs.Spell.{spell_node, spell_part, depth_of, depth_limit, limit}
 use Rattle.bz_value.specs.declared.value.Item.{Item}
 use Rattle.bz_value.specs.Proper.{IsProper, IsProperItem}
-use Rattle.bz_write.specs.declared.marked.Redrawn.{Redrawn}
-use Rattle.bz_write.specs.Drawn.{drawn}
+use Rattle.bz_write.specs.declared.marked.Relaid.{Relaid}
+use Rattle.bz_write.specs.LaidOut.{laid_out}
 use Rattle.bz_write.specs.Exchanged.{parts_at}
-use Rattle.bz_write.specs.Laws.{RedrawnHasLength}
+use Rattle.bz_write.specs.Laws.{RelaidHasLength}
 use Rattle.bz_write.specs.Written.{layout}
 use Rattle.bz_write.proofs.PutParts.{length-put_all}
-use Rattle.bz_write.proofs.Spelled.{drawn_spelled}
+use Rattle.bz_write.proofs.Spelled.{laid_out_spelled}
 use Rattle.bz_tidy.specs.Exchanged.{item_tidied, tidied_where}
 use Rattle.bz_tidy.specs.Laws.{ProperStays}
 use Rattle.bz_tidy.specs.Passes.{tidied}
-use Rattle.bz_redraw.specs.Redrawn.{IsWritten, IsRenewed}
+use Rattle.bz_redraw.specs.Relaid.{IsWritten, IsRenewed}
 
 -- ---- items that are tidied one by one
 
@@ -44,21 +44,21 @@ where_length (mark ∷ marks) (item ∷ items) = ap suc (where_length marks item
 -- ---- lines that are laid out anew
 
 -- Lines that make the layout of the items of that of others make it of the tree that was written, if there is room for them.
-pub renewed : (law : RedrawnHasLength) (redrawn : Redrawn) (most : ℕ) (tree : Node) (before items : List Item) → IsWritten before tree → IsProper items
-    → put_all redrawn.places redrawn.lines (drawn before).parts ≡ (drawn items).parts → Ascend 0 (length (drawn items).parts) redrawn.places
-    → length redrawn.places ≡ length redrawn.lines → (length (spell_node tree) + length (flat_map spell_part redrawn.lines) ≤ most) × (most ≤ limit)
-    → depth_of (drawn items) ≤ depth_limit → IsRenewed (record { redrawn = redrawn; most = most }) tree items
-renewed law redrawn most tree before items written proper put ascend many room deep =
-    let there : put_all redrawn.places redrawn.lines tree.parts ≡ (drawn items).parts = subst (λ (n : Node). put_all redrawn.places redrawn.lines n.parts ≡ (drawn items).parts) written.drawn put in
-    let sum : length (layout items) + length (flat_map spell_part (parts_at redrawn.places (drawn before).parts)) ≡ length (layout before) + length (flat_map spell_part redrawn.lines) =
-    law before items redrawn.places redrawn.lines written.proper proper ascend many put in
-    let spelled : length (spell_node tree) ≡ length (layout before) = ap (λ (n : Node). length (spell_node n)) (sym written.drawn) ∙ ap length (drawn_spelled before written.proper) in
-    let parts : length (drawn items).parts ≡ length tree.parts = sym (ap length there) ∙ length-put_all redrawn.places redrawn.lines tree.parts in (
+pub renewed : (law : RelaidHasLength) (relaid : Relaid) (most : ℕ) (tree : Node) (before items : List Item) → IsWritten before tree → IsProper items
+    → put_all relaid.places relaid.lines (laid_out before).parts ≡ (laid_out items).parts → Ascend 0 (length (laid_out items).parts) relaid.places
+    → length relaid.places ≡ length relaid.lines → (length (spell_node tree) + length (flat_map spell_part relaid.lines) ≤ most) × (most ≤ limit)
+    → depth_of (laid_out items) ≤ depth_limit → IsRenewed (record { relaid = relaid; most = most }) tree items
+renewed law relaid most tree before items written proper put ascend many room deep =
+    let there : put_all relaid.places relaid.lines tree.parts ≡ (laid_out items).parts = subst (λ (n : Node). put_all relaid.places relaid.lines n.parts ≡ (laid_out items).parts) written.laid_out put in
+    let sum : length (layout items) + length (flat_map spell_part (parts_at relaid.places (laid_out before).parts)) ≡ length (layout before) + length (flat_map spell_part relaid.lines) =
+    law before items relaid.places relaid.lines written.proper proper ascend many put in
+    let spelled : length (spell_node tree) ≡ length (layout before) = ap (λ (n : Node). length (spell_node n)) (sym written.laid_out) ∙ ap length (laid_out_spelled before written.proper) in
+    let parts : length (laid_out items).parts ≡ length tree.parts = sym (ap length there) ∙ length-put_all relaid.places relaid.lines tree.parts in (
       record {
         put = there;
-        ascend = subst (λ n. Ascend 0 n redrawn.places) parts ascend;
+        ascend = subst (λ n. Ascend 0 n relaid.places) parts ascend;
         as_many = many;
-        long = omega (arith, sum, room.0, room.1, spelled);
+        length_bound = omega (arith, sum, room.0, room.1, spelled);
         deep = deep;
       },
       omega (arith, sum, room.0, spelled),

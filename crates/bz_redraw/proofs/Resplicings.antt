@@ -9,11 +9,11 @@ use Rattle.bz_tree.specs.Spell.{spell_node, spell_part, depth_of, depth_limit, l
 use Rattle.bz_value.specs.declared.value.Item.{Item}
 use Rattle.bz_value.specs.Proper.{IsProper}
 use Rattle.bz_write.specs.declared.spliced.Respliced.{Respliced}
-use Rattle.bz_write.specs.Drawn.{drawn}
+use Rattle.bz_write.specs.LaidOut.{laid_out}
 use Rattle.bz_write.specs.Written.{layout}
-use Rattle.bz_write.proofs.Spelled.{drawn_spelled}
+use Rattle.bz_write.proofs.Spelled.{laid_out_spelled}
 use Rattle.bz_redraw.specs.declared.splicing.RenewedWindow.{RenewedWindow}
-use Rattle.bz_redraw.specs.Redrawn.{IsWritten, IsRespliced}
+use Rattle.bz_redraw.specs.Relaid.{IsWritten, IsRespliced}
 
 -- how many bytes parts have
 abbrev size : List Part → ℕ
@@ -32,25 +32,25 @@ size_respliced at gone lines xs =
     let front : size (take at xs ++ lines) ≡ size (take at xs) + size lines = size_append (take at xs) lines in
     let one : size xs ≡ size (take at xs) + size (drop at xs) = size_cut at xs in
     let two : size (drop at xs) ≡ size (take gone (drop at xs)) + size (drop gone (drop at xs)) = size_cut gone (drop at xs) in
-    let behind : size (drop gone (drop at xs)) ≡ size (drop (at + gone) xs) = ap size (drop-drop gone at xs) in
-    omega (arith, all, front, one, two, behind)
+    let following : size (drop gone (drop at xs)) ≡ size (drop (at + gone) xs) = ap size (drop-drop gone at xs) in
+    omega (arith, all, front, one, two, following)
 
 -- Lines that make the layout of the items of that of others make it of the tree that was written, if there is room for them.
 pub respliced : (lines : Respliced) (most : ℕ) (tree : Node) (before items : List Item) → IsWritten before tree → IsProper items
-    → (take lines.at (drawn before).parts ++ lines.lines ++ drop (lines.at + lines.gone) (drawn before).parts ≡ (drawn items).parts) × (lines.at + lines.gone ≤ length tree.parts)
-    → (length (spell_node tree) + length (flat_map spell_part lines.lines) ≤ most) × (most ≤ limit) → depth_of (drawn items) ≤ depth_limit
+    → (take lines.at (laid_out before).parts ++ lines.lines ++ drop (lines.at + lines.gone) (laid_out before).parts ≡ (laid_out items).parts) × (lines.at + lines.gone ≤ length tree.parts)
+    → (length (spell_node tree) + length (flat_map spell_part lines.lines) ≤ most) × (most ≤ limit) → depth_of (laid_out items) ≤ depth_limit
     → IsRespliced lines tree items × (length (layout items) ≤ most)
 respliced lines most tree before items written proper put room deep =
-    let there : take lines.at tree.parts ++ lines.lines ++ drop (lines.at + lines.gone) tree.parts ≡ (drawn items).parts =
-    subst (λ (n : Node). take lines.at n.parts ++ lines.lines ++ drop (lines.at + lines.gone) n.parts ≡ (drawn items).parts) written.drawn put.0 in
-    let new : length (spell_node (drawn items)) ≡ length (layout items) = ap length (drawn_spelled items proper) in
-    let same : size (take lines.at tree.parts ++ lines.lines ++ drop (lines.at + lines.gone) tree.parts) ≡ length (spell_node (drawn items)) = ap size there in
+    let there : take lines.at tree.parts ++ lines.lines ++ drop (lines.at + lines.gone) tree.parts ≡ (laid_out items).parts =
+    subst (λ (n : Node). take lines.at n.parts ++ lines.lines ++ drop (lines.at + lines.gone) n.parts ≡ (laid_out items).parts) written.laid_out put.0 in
+    let new : length (spell_node (laid_out items)) ≡ length (layout items) = ap length (laid_out_spelled items proper) in
+    let same : size (take lines.at tree.parts ++ lines.lines ++ drop (lines.at + lines.gone) tree.parts) ≡ length (spell_node (laid_out items)) = ap size there in
     let most_ : size (take lines.at tree.parts ++ lines.lines ++ drop (lines.at + lines.gone) tree.parts) ≤ length (spell_node tree) + size lines.lines =
     size_respliced lines.at lines.gone lines.lines tree.parts in (
       record {
         put = there;
         there = put.1;
-        long = omega (arith, new, same, most_, room.0, room.1);
+        length_bound = omega (arith, new, same, most_, room.0, room.1);
         deep = deep;
       },
       omega (arith, new, same, most_, room.0),

@@ -6,6 +6,6 @@ mod renewing;
 mod room;
 mod splicing;
 
-pub use bz_write::{Redrawn, Respliced};
+pub use bz_write::{Relaid, Respliced};
 pub use renewing::{Renewed, renew};
 pub use splicing::{RenewedWindow, renew_spliced};

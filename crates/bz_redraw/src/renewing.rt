@@ -5,21 +5,21 @@ ghost use Rattle.bz_value.specs.declared.value.Item.{Item};
 ghost use Rattle.bz_value.specs.Exchanged.{AreExchanged};
 ghost use Rattle.bz_tidy.specs.Exchanged.{tidied_where};
 ghost use Rattle.bz_tidy.specs.Passes.{tidied};
-ghost use Rattle.bz_redraw.specs.Redrawn.{IsRenewed, IsWritten};
+ghost use Rattle.bz_redraw.specs.Relaid.{IsRenewed, IsWritten};
 
 use crate::room::most_of;
 use bz_items::{Items, Memory};
 use bz_tidy::{exchanged_tidied, proper_stays, tidy_marked};
 use bz_tree::Tree;
 use bz_value::{File, Item};
-use bz_write::{Redrawn, are_marked_shallow, are_marked_short, redraw, redrawn_has_length};
+use bz_write::{Relaid, are_marked_shallow, are_marked_short, relayout, relaid_has_length};
 use std::alloc::Global;
 use std::mem;
 
 /// Lines that are laid out anew, and how many bytes the text has at most with them.
 #[derive(Drop)]
 pub struct Renewed {
-    pub redrawn: Redrawn,
+    pub relaid: Relaid,
     /// Counted in bytes.
     pub most: usize,
 }
@@ -40,15 +40,15 @@ fn tidy_within(alloc: Global, marks: &[bool], file: &mut File) -> Result<(), Mem
 }
 
 /// The lines of the items that are marked, and their places in the tree; none where they may be past a limit there.
-fn drawn_anew(
+fn laid_out_anew(
     alloc: Global,
     marks: &[bool],
     file: &File,
     tree: &Tree,
-    long: usize,
+    length_bound: usize,
 ) -> Result<Option<Renewed>, Memory>
     requires marks { length marks.now ≡ length file.now }
-    requires long { length (spell_node tree.now) ≤ long }
+    requires length_bound { length (spell_node tree.now) ≤ length_bound }
     ensures { IfOk result (λ found. IfSome found (λ renewed. (before : List Item) → IsWritten before tree.now → AreExchanged marks.now before file.now → IsRenewed renewed tree.now file.now)) }
 {
     let _root = &tree.root;
@@ -56,30 +56,30 @@ fn drawn_anew(
     if !are_marked_short(alloc, marks, items)? || !are_marked_shallow(marks, items) {
         return Ok(None);
     }
-    redrawn_has_length();
-    let redrawn = redraw(alloc, marks, items)?;
-    match most_of(&redrawn.lines, tree, long) {
-        Some(most) => Ok(Some(Renewed { redrawn, most })),
+    relaid_has_length();
+    let relaid = relayout(alloc, marks, items)?;
+    match most_of(&relaid.lines, tree, length_bound) {
+        Some(most) => Ok(Some(Renewed { relaid, most })),
         None => Ok(None),
     }
 }
 
 /// Renews a file where marked statements of it were exchanged since its tree was written: tidies these, so that the file is tidy
-/// again, and gives their lines and places in the tree, which has at most `long` bytes. None where a limit may be passed so: the file
+/// again, and gives their lines and places in the tree, which has at most `length_bound` bytes. None where a limit may be passed so: the file
 /// is tidy then too, and its tree is to be laid out whole. The error: memory was refused; the file has no items then, or those that are tidy.
 pub fn renew(
     alloc: Global,
     marks: &[bool],
     file: &mut File,
     tree: &Tree,
-    long: usize,
+    length_bound: usize,
 ) -> Result<Option<Renewed>, Memory>
     requires marks { length marks.now ≡ length file.old }
-    requires long { length (spell_node tree.now) ≤ long }
+    requires length_bound { length (spell_node tree.now) ≤ length_bound }
     ensures tidied { OnOk result ((before : List Item) → tidied before ≡ before → AreExchanged marks.now before file.old → file.new ≡ tidied file.old) }
     ensures lines { IfOk result (λ found. IfSome found (λ renewed. (before : List Item) → IsWritten before tree.now → AreExchanged marks.now before file.old → IsRenewed renewed tree.now file.new)) }
 {
     tidy_within(alloc, marks, file)?;
     exchanged_tidied();
-    drawn_anew(alloc, marks, file, tree, long)
+    laid_out_anew(alloc, marks, file, tree, length_bound)
 }

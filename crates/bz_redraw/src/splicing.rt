@@ -5,14 +5,14 @@ ghost use Rattle.bz_value.specs.declared.value.Item.{Item};
 ghost use Rattle.bz_value.specs.Exchanged.{IsSpliced};
 ghost use Rattle.bz_write.specs.Written.{layout};
 ghost use Rattle.bz_tidy.specs.Passes.{tidied};
-ghost use Rattle.bz_redraw.specs.Redrawn.{IsRespliced, IsWritten};
+ghost use Rattle.bz_redraw.specs.Relaid.{IsRespliced, IsWritten};
 
 use crate::room::most_of;
 use bz_items::Memory;
 use bz_tidy::tidy_spliced;
 use bz_tree::Tree;
 use bz_value::File;
-use bz_write::{Respliced, is_window_shallow, is_window_short, redraw_spliced};
+use bz_write::{Respliced, is_window_shallow, is_window_short, relayout_spliced};
 use std::alloc::Global;
 
 /// Lines that are laid out anew in the place of others, and how many bytes the text has at most with them.
@@ -25,16 +25,16 @@ pub struct RenewedWindow {
 
 /// The lines of this many of the items, after the first `from` ones, and their place in the tree; none where they may be past a limit
 /// there.
-fn window_drawn(
+fn window_laid_out(
     alloc: Global,
     from: usize,
     come: usize,
     file: &File,
     tree: &Tree,
-    long: usize,
+    length_bound: usize,
 ) -> Result<Option<RenewedWindow>, Memory>
     requires held { from + come ≤ length file.now }
-    requires long { length (spell_node tree.now) ≤ long }
+    requires length_bound { length (spell_node tree.now) ≤ length_bound }
     ensures { IfOk result (λ found. IfSome found (λ renewed. (before : List Item) (gone : ℕ) → IsWritten before tree.now → IsSpliced from gone come before file.now
         → IsRespliced renewed.respliced tree.now file.now × (length (layout file.now) ≤ renewed.most))) }
 {
@@ -43,8 +43,8 @@ fn window_drawn(
     if !is_window_short(alloc, items, from, come)? || !is_window_shallow(items, from, come) {
         return Ok(None);
     }
-    let respliced = redraw_spliced(alloc, items, from, come, root.parts.len())?;
-    match most_of(&respliced.lines, tree, long) {
+    let respliced = relayout_spliced(alloc, items, from, come, root.parts.len())?;
+    match most_of(&respliced.lines, tree, length_bound) {
         Some(most) => Ok(Some(RenewedWindow { respliced, most })),
         None => Ok(None),
     }
@@ -52,7 +52,7 @@ fn window_drawn(
 
 /// Renews a file where this many of its items, after the first `from` ones, came in the place of others since its tree was written:
 /// tidies them, with the loads that they are among, so that the file is tidy again, and gives their lines and their place in the
-/// tree, which has at most `long` bytes. None where a limit may be passed so: the file is tidy then too, and its tree is to be laid out
+/// tree, which has at most `length_bound` bytes. None where a limit may be passed so: the file is tidy then too, and its tree is to be laid out
 /// whole. The error: memory was refused; the file has no items then, or those that are tidy.
 pub fn renew_spliced(
     alloc: Global,
@@ -60,14 +60,14 @@ pub fn renew_spliced(
     come: usize,
     file: &mut File,
     tree: &Tree,
-    long: usize,
+    length_bound: usize,
 ) -> Result<Option<RenewedWindow>, Memory>
     requires held { from + come ≤ length file.old }
-    requires long { length (spell_node tree.now) ≤ long }
+    requires length_bound { length (spell_node tree.now) ≤ length_bound }
     ensures tidied { OnOk result ((before : List Item) (gone : ℕ) → tidied before ≡ before → IsSpliced from gone come before file.old → file.new ≡ tidied file.old) }
     ensures lines { IfOk result (λ found. IfSome found (λ renewed. (before : List Item) (gone : ℕ) → IsWritten before tree.now → IsSpliced from gone come before file.old
         → IsRespliced renewed.respliced tree.now file.new × (length (layout file.new) ≤ renewed.most))) }
 {
     let window = tidy_spliced(alloc, file, from, come)?;
-    window_drawn(alloc, window.from, window.come, file, tree, long)
+    window_laid_out(alloc, window.from, window.come, file, tree, length_bound)
 }

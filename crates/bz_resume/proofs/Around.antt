@@ -10,7 +10,7 @@ use Rattle.bz_edit.specs.Steps.{swap_node}
 use Rattle.bz_trail.specs.Trails.{IsTree, LeadOn, steps_back, steps_forward, trees}
 use Rattle.bz_trail.proofs.Keeps.{trees_length}
 use Rattle.bz_record.specs.declared.content.Record.{Record}
-use Rattle.bz_resume.specs.Told.{AreTold, AreToldAround, IsCounted, IsToldOf, edits_of, told_trail}
+use Rattle.bz_resume.specs.Agreement.{StepsAgree, StepsAgreeAround, IsCounted, RecordAgrees, edits_of, recorded_trail}
 
 abbrev digest_of : Node → List ℕ
 digest_of n = sha256 (spell_node n)
@@ -20,7 +20,7 @@ digests_on n es = map digest_of (trees n es)
 
 -- ---- one side
 
-to_lead : (n : Node) (es : List (List Edit)) (ds : List (List ℕ)) → AreTold n es ds → LeadOn n es × (digests_on n es ≡ ds)
+to_lead : (n : Node) (es : List (List Edit)) (ds : List (List ℕ)) → StepsAgree n es ds → LeadOn n es × (digests_on n es ≡ ds)
 to_lead n [] [] h = (tt, refl)
 to_lead n [] (d ∷ ds) h = absurd h
 to_lead n (e ∷ es) [] h = absurd h
@@ -28,9 +28,9 @@ to_lead n (e ∷ es) (d ∷ ds) h =
     let r = to_lead (swap_node e n) es ds h.1 in
     ((h.0.0, r.0), ap (λ z. z ∷ digests_on (swap_node e n) es) h.0.1 ∙ ap (λ l. d ∷ l) r.1)
 
-own_told : (n : Node) (es : List (List Edit)) → LeadOn n es → AreTold n es (digests_on n es)
-own_told n [] h = tt
-own_told n (e ∷ es) h = ((h.0, refl), own_told (swap_node e n) es h.1)
+own_agrees : (n : Node) (es : List (List Edit)) → LeadOn n es → StepsAgree n es (digests_on n es)
+own_agrees n [] h = tt
+own_agrees n (e ∷ es) h = ((h.0, refl), own_agrees (swap_node e n) es h.1)
 
 -- ---- lists
 
@@ -61,9 +61,9 @@ around n back forward =
     map_twice sha256 spell_node (reverse (trees n back) ++ n ∷ trees n forward) ∙ map-append digest_of (reverse (trees n back)) (n ∷ trees n forward)
     ∙ ap (λ l. l ++ digest_of n ∷ digests_on n forward) (map_reversed digest_of (trees n back))
 
-pub to_whole : (r : Record) (n : Node) → IsTree n → IsCounted r → AreToldAround n r.cursor (edits_of r.steps) r.digests → IsToldOf r n
+pub to_whole : (r : Record) (n : Node) → IsTree n → IsCounted r → StepsAgreeAround n r.cursor (edits_of r.steps) r.digests → RecordAgrees r n
 to_whole r n tree counted h =
-    let w = told_trail r n in
+    let w = recorded_trail r n in
     let ds = r.digests in
     let back = to_lead n (steps_back w) (reverse (take r.cursor ds)) h.1 in
     let forward = to_lead n (steps_forward w) (drop (r.cursor + 1) ds) h.2 in
@@ -77,9 +77,9 @@ to_whole r n tree counted h =
           ∙ cut_at ds r.cursor [] (omega (arith, counted.0, counted.2)),
     )
 
-pub from_whole : (r : Record) (n : Node) → IsCounted r → IsToldOf r n → AreToldAround n r.cursor (edits_of r.steps) r.digests
+pub from_whole : (r : Record) (n : Node) → IsCounted r → RecordAgrees r n → StepsAgreeAround n r.cursor (edits_of r.steps) r.digests
 from_whole r n counted h =
-    let w = told_trail r n in
+    let w = recorded_trail r n in
     let ds = r.digests in
     let back = digests_on n (steps_back w) in
     let forward = digests_on n (steps_forward w) in
@@ -89,6 +89,6 @@ from_whole r n counted h =
     let front : take r.cursor ds ≡ reverse back = ap (take r.cursor) (sym is) ∙ take_at (reverse back) (digest_of n ∷ forward) r.cursor size in
     let rest : drop (r.cursor + 1) ds ≡ forward = ap (drop (r.cursor + 1)) (sym is) ∙ after_at (reverse back) (digest_of n) forward r.cursor size in (
       sym (ap (λ l. get_or l r.cursor []) (sym is) ∙ get_or_at (reverse back) (digest_of n) forward [] r.cursor size),
-      subst (AreTold n (steps_back w)) (sym (reverse-reverse back) ∙ ap reverse (sym front)) (own_told n (steps_back w) h.0.back),
-      subst (AreTold n (steps_forward w)) (sym rest) (own_told n (steps_forward w) h.0.forward),
+      subst (StepsAgree n (steps_back w)) (sym (reverse-reverse back) ∙ ap reverse (sym front)) (own_agrees n (steps_back w) h.0.back),
+      subst (StepsAgree n (steps_forward w)) (sym rest) (own_agrees n (steps_forward w) h.0.forward),
     )

@@ -2,11 +2,11 @@
 use Rattle.std.proofs.Common.{◌≡◌, List, [], ◌∷◌, length, refl, ap, arith}
 use Rattle.bz_edit.specs.declared.edit.Edit.{Edit}
 use Rattle.bz_trail.specs.Shown.{Text}
-use Rattle.bz_record.specs.declared.content.Entry.{Entry}
+use Rattle.bz_record.specs.declared.content.RecordedStep.{RecordedStep}
 use Rattle.bz_record.specs.Contents.{entries_of}
-use Rattle.bz_resume.specs.Told.{edits_of, notes_of}
+use Rattle.bz_resume.specs.Agreement.{edits_of, notes_of}
 
-pub entries_back : (es : List Entry) → entries_of (notes_of es) (edits_of es) ≡ es
+pub entries_back : (es : List RecordedStep) → entries_of (notes_of es) (edits_of es) ≡ es
 entries_back [] = refl
 entries_back (e ∷ es) = ap (λ l. e ∷ l) (entries_back es)
 

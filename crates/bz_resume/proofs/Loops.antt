@@ -10,7 +10,7 @@ use Rattle.bz_edit.specs.declared.edit.Edit.{Edit}
 use Rattle.bz_edit.specs.Steps.{swap_node}
 use Rattle.bz_trail.specs.Trails.{IsTree}
 use Rattle.bz_resume.specs.Outlines.{outline_node}
-use Rattle.bz_resume.specs.Told.{IsTold, AreTold}
+use Rattle.bz_resume.specs.Agreement.{StepAgrees, StepsAgree}
 use Rattle.bz_resume.proofs.Outlined.{one_outline}
 
 -- a text reads as a node that spells it, where the tree that it reads as has the outline of the node, and else the node is no tree
@@ -36,15 +36,15 @@ no_tree n text none is tree = none n (tree.0, sym is, subst (λ (s : List ℕ). 
 pub record IsGoing (n : Node) (es : List (List Edit)) (ds : List (List ℕ)) (i : ℕ) (m : Node) (text : List ℕ) : Type 0 where
   pub tree : IsTree m
   pub text_is : text ≡ spell_node m
-  pub left : AreTold n es ds → AreTold m (drop i es) (drop i ds)
-  pub back : AreTold m (drop i es) (drop i ds) → AreTold n es ds
+  pub left : StepsAgree n es ds → StepsAgree m (drop i es) (drop i ds)
+  pub back : StepsAgree m (drop i es) (drop i ds) → StepsAgree n es ds
 
 pub begins : (n m : Node) (es : List (List Edit)) (ds : List (List ℕ)) (text : List ℕ) → IsTree n → m ≡ n → text ≡ spell_node n → IsGoing n es ds 0 m text
 begins n m es ds text tree is shown = record {
   tree = subst IsTree (sym is) tree;
   text_is = shown ∙ ap spell_node (sym is);
-  left = λ h. subst (λ (z : Node). AreTold z es ds) (sym is) h;
-  back = λ h. subst (λ (z : Node). AreTold z es ds) is h;
+  left = λ h. subst (λ (z : Node). StepsAgree z es ds) (sym is) h;
+  back = λ h. subst (λ (z : Node). StepsAgree z es ds) is h;
 }
 
 module _ (n m : Node) (es : List (List Edit)) (ds : List (List ℕ)) (i : ℕ) (text : List ℕ) (a : List Edit) (b : List ℕ) (same : length es ≡ length ds) (lt : i < length es) (going : IsGoing n es ds i m text) where
@@ -54,29 +54,29 @@ module _ (n m : Node) (es : List (List Edit)) (ds : List (List ℕ)) (i : ℕ) (
   abbrev d : List ℕ
   d = get_or ds i b
 
-  opened : AreTold m (drop i es) (drop i ds) → IsTold e m d × AreTold (swap_node e m) (drop (i + 1) es) (drop (i + 1) ds)
+  opened : StepsAgree m (drop i es) (drop i ds) → StepAgrees e m d × StepsAgree (swap_node e m) (drop (i + 1) es) (drop (i + 1) ds)
   opened h =
-      subst (λ l. AreTold m (e ∷ drop (i + 1) es) l) (drop_more ds i b (subst (λ k. i < k) same lt)) (subst (λ l. AreTold m l (drop i ds)) (drop_more es i a lt) h)
+      subst (λ l. StepsAgree m (e ∷ drop (i + 1) es) l) (drop_more ds i b (subst (λ k. i < k) same lt)) (subst (λ l. StepsAgree m l (drop i ds)) (drop_more es i a lt) h)
 
-  closed : IsTold e m d × AreTold (swap_node e m) (drop (i + 1) es) (drop (i + 1) ds) → AreTold m (drop i es) (drop i ds)
+  closed : StepAgrees e m d × StepsAgree (swap_node e m) (drop (i + 1) es) (drop (i + 1) ds) → StepsAgree m (drop i es) (drop i ds)
   closed h =
-      subst (λ l. AreTold m l (drop i ds)) (sym (drop_more es i a lt)) (subst (λ l. AreTold m (e ∷ drop (i + 1) es) l) (sym (drop_more ds i b (subst (λ k. i < k) same lt))) h)
+      subst (λ l. StepsAgree m l (drop i ds)) (sym (drop_more es i a lt)) (subst (λ l. StepsAgree m (e ∷ drop (i + 1) es) l) (sym (drop_more ds i b (subst (λ k. i < k) same lt))) h)
 
-  pub goes_further : (m' : Node) (text' : List ℕ) → IsTold e m d → m' ≡ swap_node e m → text' ≡ spell_node m' → IsGoing n es ds (i + 1) m' text'
-  goes_further m' text' told is shown = record {
-    tree = subst IsTree (sym is) told.0.tree;
+  pub goes_further : (m' : Node) (text' : List ℕ) → StepAgrees e m d → m' ≡ swap_node e m → text' ≡ spell_node m' → IsGoing n es ds (i + 1) m' text'
+  goes_further m' text' agrees is shown = record {
+    tree = subst IsTree (sym is) agrees.0.tree;
     text_is = shown;
-    left = λ h. subst (λ (z : Node). AreTold z (drop (i + 1) es) (drop (i + 1) ds)) (sym is) (opened (going.left h)).1;
-    back = λ h. going.back (closed (told, subst (λ (z : Node). AreTold z (drop (i + 1) es) (drop (i + 1) ds)) is h));
+    left = λ h. subst (λ (z : Node). StepsAgree z (drop (i + 1) es) (drop (i + 1) ds)) (sym is) (opened (going.left h)).1;
+    back = λ h. going.back (closed (agrees, subst (λ (z : Node). StepsAgree z (drop (i + 1) es) (drop (i + 1) ds)) is h));
   }
 
-  pub stops : (IsTold e m d → ⊥) → AreTold n es ds → ⊥
+  pub stops : (StepAgrees e m d → ⊥) → StepsAgree n es ds → ⊥
   stops none h = none (opened (going.left h)).0
 
-pub ends : (n m : Node) (es : List (List Edit)) (ds : List (List ℕ)) (i : ℕ) (text : List ℕ) → length es ≡ length ds → length es ≤ i → IsGoing n es ds i m text → AreTold n es ds
+pub ends : (n m : Node) (es : List (List Edit)) (ds : List (List ℕ)) (i : ℕ) (text : List ℕ) → length es ≡ length ds → length es ≤ i → IsGoing n es ds i m text → StepsAgree n es ds
 ends n m es ds i text same past going =
-    going.back (subst (λ l. AreTold m l (drop i ds)) (sym (drop_all i es past)) (subst (λ l. AreTold m [] l) (sym (drop_all i ds (subst (λ k. k ≤ i) same past))) tt))
+    going.back (subst (λ l. StepsAgree m l (drop i ds)) (sym (drop_all i es past)) (subst (λ l. StepsAgree m [] l) (sym (drop_all i ds (subst (λ k. k ≤ i) same past))) tt))
 
 -- what is said of the tree that was read of a text is said of each that the text reads as
-pub told_of : (P : Node → Type 0) (text : List ℕ) (tree : Node) (t : Bool) → Reads text tree → (IsTrue t ↔ P tree) → (n : Node) → Reads text n → IsTrue t ↔ P n
-told_of P text tree t own told n reads = subst (λ (z : Node). IsTrue t ↔ P z) (one_tree tree n own.0 reads.0 (own.1 ∙ sym reads.1)) told
+pub agrees_of : (P : Node → Type 0) (text : List ℕ) (tree : Node) (t : Bool) → Reads text tree → (IsTrue t ↔ P tree) → (n : Node) → Reads text n → IsTrue t ↔ P n
+agrees_of P text tree t own agrees n reads = subst (λ (z : Node). IsTrue t ↔ P z) (one_tree tree n own.0 reads.0 (own.1 ∙ sym reads.1)) agrees

@@ -12,7 +12,7 @@ use Rattle.bz_edit.specs.Steps.{swap_node}
 use Rattle.bz_trail.specs.Trails.{IsTree}
 use Rattle.bz_trail.specs.Shown.{Text}
 use Rattle.bz_record.specs.declared.content.Record.{Record}
-use Rattle.bz_resume.specs.Told.{AreTold, AreToldAround, IsCounted, IsOpened, IsTold, IsToldOf, MayLead, NoneTold, edits_of, notes_of, told_trail}
+use Rattle.bz_resume.specs.Agreement.{StepsAgree, StepsAgreeAround, IsCounted, IsOpened, StepAgrees, RecordAgrees, MayLead, NoneAgrees, edits_of, notes_of, recorded_trail}
 use Rattle.bz_resume.proofs.Around.{to_whole, from_whole}
 use Rattle.bz_resume.proofs.Loops.{IsGoing, goes_further, stops}
 use Rattle.bz_resume.proofs.Paths.{trail_may}
@@ -32,43 +32,43 @@ module _ (n m : Node) (steps : List (List Edit)) (digests : List (List ℕ)) (i 
   digest_is : get_or (reverse digests) i b ≡ d
   digest_is = get_or-reverse digests i b (omega (arith, counts, same)) ∙ ap (λ k. get_or digests (k - 1 - i) b) (sym same ∙ sym counts) ∙ sym digest
 
-  there : IsTold e m d → IsTold (get_or (reverse steps) i a) m (get_or (reverse digests) i b)
-  there h = subst (λ (z : List Edit). IsTold z m (get_or (reverse digests) i b)) (sym step_is) (subst (λ (z : List ℕ). IsTold e m z) (sym digest_is) h)
+  there : StepAgrees e m d → StepAgrees (get_or (reverse steps) i a) m (get_or (reverse digests) i b)
+  there h = subst (λ (z : List Edit). StepAgrees z m (get_or (reverse digests) i b)) (sym step_is) (subst (λ (z : List ℕ). StepAgrees e m z) (sym digest_is) h)
 
-  here : IsTold (get_or (reverse steps) i a) m (get_or (reverse digests) i b) → IsTold e m d
-  here h = subst (λ (z : List ℕ). IsTold e m z) digest_is (subst (λ (z : List Edit). IsTold z m (get_or (reverse digests) i b)) step_is h)
+  here : StepAgrees (get_or (reverse steps) i a) m (get_or (reverse digests) i b) → StepAgrees e m d
+  here h = subst (λ (z : List ℕ). StepAgrees e m z) digest_is (subst (λ (z : List Edit). StepAgrees z m (get_or (reverse digests) i b)) step_is h)
 
-  pub stops_back : (IsTold e m d → ⊥) → AreTold n (reverse steps) (reverse digests) → ⊥
+  pub stops_back : (StepAgrees e m d → ⊥) → StepsAgree n (reverse steps) (reverse digests) → ⊥
   stops_back none = stops n m (reverse steps) (reverse digests) i text a b sizes within going (λ h. none (here h))
 
-  pub goes_back : (m' : Node) (text' : List ℕ) → IsTold e m d → m' ≡ swap_node e m → text' ≡ spell_node m' → IsGoing n (reverse steps) (reverse digests) (i + 1) m' text'
-  goes_back m' text' told is shown = goes_further n m (reverse steps) (reverse digests) i text a b sizes within going m' text' (there told) (is ∙ ap (λ (z : List Edit). swap_node z m) (sym step_is)) shown
+  pub goes_back : (m' : Node) (text' : List ℕ) → StepAgrees e m d → m' ≡ swap_node e m → text' ≡ spell_node m' → IsGoing n (reverse steps) (reverse digests) (i + 1) m' text'
+  goes_back m' text' agrees is shown = goes_further n m (reverse steps) (reverse digests) i text a b sizes within going m' text' (there agrees) (is ∙ ap (λ (z : List Edit). swap_node z m) (sym step_is)) shown
 
 -- ---- a record
 
-pub split_none : (r : Record) → (AllByRecursion MayLead (edits_of r.steps) → ⊥) → NoneTold r
-split_none r none n reads told = none (trail_may (told_trail r n) told.0)
+pub split_none : (r : Record) → (AllByRecursion MayLead (edits_of r.steps) → ⊥) → NoneAgrees r
+split_none r none n reads agrees = none (trail_may (recorded_trail r n) agrees.0)
 
-around_same : (n : Node) (cursor : ℕ) (es fs : List (List Edit)) (ds gs : List Text) → es ≡ fs → ds ≡ gs → AreToldAround n cursor es ds → AreToldAround n cursor fs gs
-around_same n cursor es fs ds gs e d h = subst (λ l. AreToldAround n cursor l gs) e (subst (λ l. AreToldAround n cursor es l) d h)
+around_same : (n : Node) (cursor : ℕ) (es fs : List (List Edit)) (ds gs : List Text) → es ≡ fs → ds ≡ gs → StepsAgreeAround n cursor es ds → StepsAgreeAround n cursor fs gs
+around_same n cursor es fs ds gs e d h = subst (λ l. StepsAgreeAround n cursor l gs) e (subst (λ l. StepsAgreeAround n cursor es l) d h)
 
 pub record HasOpened (r : Record) (tree : Node) : Type 0 where
   pub reads : Reads r.text tree
-  pub told : IsToldOf r tree
+  pub agrees : RecordAgrees r tree
 
-module _ (r : Record) (text : Text) (steps es : List (List Edit)) (ds : List Text) (t : Bool) (counted : IsCounted r) (text_is : text ≡ r.text) (steps_are : steps ≡ edits_of r.steps) (same : es ≡ steps) (digests_are : ds ≡ r.digests) (told : (n : Node) → Reads text n → IsTrue t ↔ AreToldAround n r.cursor es ds) where
-  pub opens_none : t ≡ false → NoneTold r
+module _ (r : Record) (text : Text) (steps es : List (List Edit)) (ds : List Text) (t : Bool) (counted : IsCounted r) (text_is : text ≡ r.text) (steps_are : steps ≡ edits_of r.steps) (same : es ≡ steps) (digests_are : ds ≡ r.digests) (agrees : (n : Node) → Reads text n → IsTrue t ↔ StepsAgreeAround n r.cursor es ds) where
+  pub opens_none : t ≡ false → NoneAgrees r
   opens_none f n reads h =
       let own : Reads text n = subst (λ (s : Text). Reads s n) (sym text_is) reads in
-      false≢true (sym f ∙ (told n own).1 (around_same n r.cursor (edits_of r.steps) es r.digests ds (sym (same ∙ steps_are)) (sym digests_are) (from_whole r n counted h)))
+      false≢true (sym f ∙ (agrees n own).1 (around_same n r.cursor (edits_of r.steps) es r.digests ds (sym (same ∙ steps_are)) (sym digests_are) (from_whole r n counted h)))
 
   pub opens : (tree : Node) → Reads text tree → t ≡ true → HasOpened r tree
   opens tree own good =
       let read : Reads r.text tree = subst (λ (s : Text). Reads s tree) text_is own in
       let is_tree : IsTree tree = (read.0, subst (λ (s : Text). length s ≤ limit) (sym read.1) read.2) in
-      record { reads = read; told = to_whole r tree is_tree counted (around_same tree r.cursor es (edits_of r.steps) ds r.digests (same ∙ steps_are) digests_are ((told tree own).0 good)) }
+      record { reads = read; agrees = to_whole r tree is_tree counted (around_same tree r.cursor es (edits_of r.steps) ds r.digests (same ∙ steps_are) digests_are ((agrees tree own).0 good)) }
 
-pub none_read : (r : Record) (text : Text) → text ≡ r.text → NoTree text → NoneTold r
+pub none_read : (r : Record) (text : Text) → text ≡ r.text → NoTree text → NoneAgrees r
 none_read r text is none n reads h = none n (subst (λ (s : Text). Reads s n) (sym is) reads)
 
 pub is_opened : (r : Record) (tree : Node) (steps : List (List Edit)) (notes : List Text) → HasOpened r tree → steps ≡ edits_of r.steps → notes ≡ notes_of r.steps
@@ -80,7 +80,7 @@ is_opened r tree steps notes h steps_are notes_are = record {
   notes = notes_are;
   cursor = refl;
   reads = h.reads;
-  told = h.told;
+  agrees = h.agrees;
 }
 
 pub one_err : {A E : Type 0} (r : Result A E) (x y : E) → r ≡ Err x → r ≡ Err y → x ≡ y

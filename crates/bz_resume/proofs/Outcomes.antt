@@ -14,7 +14,7 @@ use Rattle.bz_edit.specs.declared.edit.Edit.{Edit}
 use Rattle.bz_trail.specs.Trails.{Trail, IsTrail, IsSmall, trail_at}
 use Rattle.bz_trail.specs.Shown.{Moves, Text, texts_of}
 use Rattle.bz_trail.proofs.Keeps.{present_text, texts_length}
-use Rattle.bz_record.specs.declared.content.Entry.{Entry}
+use Rattle.bz_record.specs.declared.content.RecordedStep.{RecordedStep}
 use Rattle.bz_record.specs.declared.content.Record.{Record}
 use Rattle.bz_record.specs.declared.content.Version.{Version}
 use Rattle.bz_record.specs.declared.content.Version.TheVariants.{One, Two}
@@ -24,7 +24,7 @@ use Rattle.bz_record.proofs.Own.{own_version}
 use Rattle.bz_resume.specs.declared.resumed.Resumed.{Resumed}
 use Rattle.bz_resume.specs.Journals.{History, Journal, NoJournal, AreSmall, record_of, stands, text_at}
 use Rattle.bz_record.specs.Contents.{entries_of}
-use Rattle.bz_resume.specs.Told.{IsCounted, IsOpened, IsToldOf, NoneTold, edits_of, notes_of, standing_place, told_trail}
+use Rattle.bz_resume.specs.Agreement.{IsCounted, IsOpened, RecordAgrees, NoneAgrees, edits_of, notes_of, standing_place, recorded_trail}
 use Rattle.bz_resume.specs.Resumed.{IsResumed, IsStale, StandsFor, trail_of}
 use Rattle.bz_resume.proofs.Entries.{entries_back, entries_edits, entries_notes}
 
@@ -34,51 +34,51 @@ counted j r (v, h, e) = (h.cursor, h.before, h.digests_length)
 -- ---- a record and the journal that it is
 
 abbrev history_at : Record → Node → History
-history_at r n = record { «package» = r.package; texts = texts_of (told_trail r n); notes = notes_of r.steps; cursor = r.cursor; before = r.before }
+history_at r n = record { «package» = r.package; texts = texts_of (recorded_trail r n); notes = notes_of r.steps; cursor = r.cursor; before = r.before }
 
-record_is : (r : Record) (text : Text) (ds : List Text) (es : List Entry) → text ≡ r.text → ds ≡ r.digests → es ≡ r.steps
+record_is : (r : Record) (text : Text) (ds : List Text) (es : List RecordedStep) → text ≡ r.text → ds ≡ r.digests → es ≡ r.steps
     → (let q : Record = record { «package» = r.package; text = text; cursor = r.cursor; before = r.before; digests = ds; steps = es } in q) ≡ r
 record_is r text ds es t d e =
     ap (λ z. let q : Record = record { «package» = r.package; text = z; cursor = r.cursor; before = r.before; digests = ds; steps = es } in q) t
     ∙ ap (λ z. let q : Record = record { «package» = r.package; text = r.text; cursor = r.cursor; before = r.before; digests = z; steps = es } in q) d
     ∙ ap (λ z. let q : Record = record { «package» = r.package; text = r.text; cursor = r.cursor; before = r.before; digests = r.digests; steps = z } in q) e
 
-same_record : (r : Record) (n : Node) → Reads r.text n → IsToldOf r n → record_of (history_at r n) (edits_of r.steps) ≡ r
-same_record r n reads told =
-    record_is r (text_at (history_at r n) r.cursor) (map sha256 (texts_of (told_trail r n))) (entries_of (notes_of r.steps) (edits_of r.steps)) (present_text (told_trail r n) told.0 ∙ reads.1) told.1 (entries_back r.steps)
+same_record : (r : Record) (n : Node) → Reads r.text n → RecordAgrees r n → record_of (history_at r n) (edits_of r.steps) ≡ r
+same_record r n reads agrees =
+    record_is r (text_at (history_at r n) r.cursor) (map sha256 (texts_of (recorded_trail r n))) (entries_of (notes_of r.steps) (edits_of r.steps)) (present_text (recorded_trail r n) agrees.0 ∙ reads.1) agrees.1 (entries_back r.steps)
 
-journal_made : (j : Text) (r : Record) (n : Node) → IsRead j r → Reads r.text n → IsToldOf r n → Journal j (history_at r n) (edits_of r.steps)
-journal_made j r n (v, h, e) reads told =
-    let same = same_record r n reads told in
+journal_made : (j : Text) (r : Record) (n : Node) → IsRead j r → Reads r.text n → RecordAgrees r n → Journal j (history_at r n) (edits_of r.steps)
+journal_made j r n (v, h, e) reads agrees =
+    let same = same_record r n reads agrees in
     record {
       version = v;
       spelled = e ∙ ap (record_text v) (sym same);
       fits = subst (IsRecord v depth_limit) (sym same) h;
       noted = length-map r.steps (λ t. t.note) ∙ sym (length-map r.steps (λ t. t.edits));
-      follows = (n, told.0, refl);
+      follows = (n, agrees.0, refl);
     }
 
 record_same : (j : Text) (h : History) (es : List (List Edit)) (r : Record) → IsRead j r → Journal j h es → record_of h es ≡ r
 record_same j h es r (v, k, e) journal = (one_record journal.version v depth_limit (record_of h es) r journal.fits k (sym journal.spelled ∙ e)).1
 
-trail_told : (h : History) (es : List (List Edit)) (n : Node) → length h.notes ≡ length es → told_trail (record_of h es) n ≡ trail_at n es h.cursor
-trail_told h es n noted = ap (λ l. trail_at n l h.cursor) (entries_edits h.notes es noted)
+trail_agrees : (h : History) (es : List (List Edit)) (n : Node) → length h.notes ≡ length es → recorded_trail (record_of h es) n ≡ trail_at n es h.cursor
+trail_agrees h es n noted = ap (λ l. trail_at n l h.cursor) (entries_edits h.notes es noted)
 
-tree_told : (h : History) (es : List (List Edit)) (n : Node) → length h.notes ≡ length es → IsTrail (trail_at n es h.cursor) → texts_of (trail_at n es h.cursor) ≡ h.texts
-    → Reads (record_of h es).text n × IsToldOf (record_of h es) n
-tree_told h es n noted trail is =
+tree_agrees : (h : History) (es : List (List Edit)) (n : Node) → length h.notes ≡ length es → IsTrail (trail_at n es h.cursor) → texts_of (trail_at n es h.cursor) ≡ h.texts
+    → Reads (record_of h es).text n × RecordAgrees (record_of h es) n
+tree_agrees h es n noted trail is =
     let shown : spell_node n ≡ text_at h h.cursor = sym (present_text (trail_at n es h.cursor) trail) ∙ ap (λ l. slice_index_or l h.cursor []) is in
-    let same = trail_told h es n noted in (
+    let same = trail_agrees h es n noted in (
       (trail.tree.0, shown, subst (λ (t : Text). length t ≤ limit) shown trail.tree.1),
       (subst (λ (t : Trail). IsTrail t) (sym same) trail, ap (λ (t : Trail). map sha256 (texts_of t)) same ∙ ap (map sha256) is),
     )
 
-pub none_journal : (j : Text) (r : Record) → IsRead j r → NoneTold r → NoJournal j
+pub none_journal : (j : Text) (r : Record) → IsRead j r → NoneAgrees r → NoJournal j
 none_journal j r read none h es journal =
     let same = record_same j h es r read journal in
     let f = journal.follows in
-    let t = tree_told h es f.0 journal.noted f.1 f.2 in
-    none f.0 (subst (λ (q : Record). Reads q.text f.0) same t.0) (subst (λ (q : Record). IsToldOf q f.0) same t.1)
+    let t = tree_agrees h es f.0 journal.noted f.1 f.2 in
+    none f.0 (subst (λ (q : Record). Reads q.text f.0) same t.0) (subst (λ (q : Record). RecordAgrees q f.0) same t.1)
 
 pub no_journal : (j : Text) → ((r : Record) → IsRead j r → ⊥) → NoJournal j
 no_journal j none h es journal = none (record_of h es) (journal.version, journal.fits, journal.spelled)
@@ -88,11 +88,11 @@ not_other j h es other journal = own_version journal.version (record_of h es) (s
 
 -- ---- what the trees say
 
-pub none_read : (r : Record) → NoTree r.text → NoneTold r
-none_read r none n reads told = none n reads
+pub none_read : (r : Record) → NoTree r.text → NoneAgrees r
+none_read r none n reads agrees = none n reads
 
-pub one_told : (r : Record) (n m : Node) → Reads r.text n → Reads r.text m → n ≡ m
-one_told r n m a b = one_tree n m a.0 b.0 (a.1 ∙ sym b.1)
+pub one_agrees : (r : Record) (n m : Node) → Reads r.text n → Reads r.text m → n ≡ m
+one_agrees r n m a b = one_tree n m a.0 b.0 (a.1 ∙ sym b.1)
 
 -- ---- no bytes are two journals
 
@@ -150,7 +150,7 @@ note_two One note e = subst (IsNote Two) (sym e) (omega arith, nil_text)
     nil_text = ([], (refl, refl))
 note_two Two note h = h
 
-notes_two : (v : Version) (es : List Entry) → AllByRecursion (IsNotedStep v depth_limit) es → AllByRecursion (IsNote Two) (notes_of es)
+notes_two : (v : Version) (es : List RecordedStep) → AllByRecursion (IsNotedStep v depth_limit) es → AllByRecursion (IsNote Two) (notes_of es)
 notes_two v [] h = tt
 notes_two v (e ∷ es) h = (note_two v e.note h.0.note, notes_two v es h.1)
 
@@ -162,25 +162,25 @@ module _ (j text : Text) (r : Record) (read : IsRead j r) (s : Resumed) (opened 
   es = edits_of r.steps
 
   own : Journal j here es
-  own = journal_made j r s.tree read opened.reads opened.told
+  own = journal_made j r s.tree read opened.reads opened.agrees
 
-  trail_is : trail_of s ≡ told_trail r s.tree
+  trail_is : trail_of s ≡ recorded_trail r s.tree
   trail_is = ap (λ l. trail_at s.tree l s.cursor) opened.steps ∙ ap (λ c. trail_at s.tree es c) opened.cursor
 
   pub opened_trail : IsTrail (trail_of s)
-  opened_trail = subst (λ (t : Trail). IsTrail t) (sym trail_is) opened.told.0
+  opened_trail = subst (λ (t : Trail). IsTrail t) (sym trail_is) opened.agrees.0
 
   pub within : r.before ≤ length s.steps
   within = omega (arith, (counted j r read).1, ap length opened.steps, length-map r.steps (λ t. t.edits))
 
   placed : standing_place (texts_of (trail_of s)) s.cursor r.before text ≡ stands here text
-  placed = ap (λ (t : Trail). standing_place (texts_of t) s.cursor r.before text) trail_is ∙ ap (λ c. standing_place (texts_of (told_trail r s.tree)) c r.before text) opened.cursor
+  placed = ap (λ (t : Trail). standing_place (texts_of t) s.cursor r.before text) trail_is ∙ ap (λ c. standing_place (texts_of (recorded_trail r s.tree)) c r.before text) opened.cursor
 
   pub is_stale : standing_place (texts_of (trail_of s)) s.cursor r.before text ≡ None → IsStale j text
   is_stale e = (here, es, own, sym placed ∙ e)
 
   small_here : AreSmall here es → IsSmall (trail_of s)
-  small_here small = subst (λ (t : Trail). IsSmall t) (sym trail_is) (small s.tree opened.told.0 refl)
+  small_here small = subst (λ (t : Trail). IsSmall t) (sym trail_is) (small s.tree opened.agrees.0 refl)
 
   pub is_resumed : (tree : Node) (steps : List (List Edit)) (cursor : ℕ) → standing_place (texts_of (trail_of s)) s.cursor r.before text ≡ Some cursor → Moves (trail_of s) (trail_at tree steps cursor)
       → IsResumed j text (record { «package» = s.package; tree = tree; steps = steps; digests = s.digests; notes = s.notes; cursor = cursor })
@@ -188,7 +188,7 @@ module _ (j text : Text) (r : Record) (read : IsRead j r) (s : Resumed) (opened 
       let texts : texts_of (trail_at tree steps cursor) ≡ here.texts = moves.texts ∙ ap (λ (t : Trail). texts_of t) trail_is in
       let fits = own.fits in
       let size : length s.notes ≡ length r.steps = ap length opened.notes ∙ length-map r.steps (λ t. t.note) in
-      let many : length steps ≡ length r.steps = omega (arith, texts_length (trail_at tree steps cursor) moves.trail, texts_length (told_trail r s.tree) opened.told.0, ap length texts, length-map r.steps (λ t. t.edits)) in
+      let many : length steps ≡ length r.steps = omega (arith, texts_length (trail_at tree steps cursor) moves.trail, texts_length (recorded_trail r s.tree) opened.agrees.0, ap length texts, length-map r.steps (λ t. t.edits)) in
       let most = (record_read j r read).steps_length in
       let there = moves.trail.within in (
         here,
@@ -200,7 +200,7 @@ module _ (j text : Text) (r : Record) (read : IsRead j r) (s : Resumed) (opened 
           notes = opened.notes;
           stands_there = sym placed ∙ stood;
           trail = moves.trail;
-          digests = opened.digests ∙ sym opened.told.1;
+          digests = opened.digests ∙ sym opened.agrees.1;
           saves = record {
             package_length = subst (λ (z : Text). length z ≤ short_limit) (sym opened.package_is) fits.package_length;
             package_text = subst IsUtf8 (sym opened.package_is) fits.package_text;

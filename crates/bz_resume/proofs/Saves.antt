@@ -11,7 +11,7 @@ use Rattle.bz_edit.specs.Steps.{swap_node}
 use Rattle.bz_trail.specs.Trails.{Trail, IsTrail, IsTree, LeadOn, trail_at}
 use Rattle.bz_trail.specs.Shown.{Text, texts_of}
 use Rattle.bz_trail.proofs.Keeps.{present_text, texts_length}
-use Rattle.bz_record.specs.declared.content.Entry.{Entry}
+use Rattle.bz_record.specs.declared.content.RecordedStep.{RecordedStep}
 use Rattle.bz_record.specs.declared.content.Record.{Record}
 use Rattle.bz_record.specs.declared.content.Version.TheVariants.{Two}
 use Rattle.bz_exact.specs.Spellings.{number_limit, IsDigest}

@@ -10,7 +10,7 @@ use Rattle.bz_tree.specs.declared.tree.Node.{Node}
 use Rattle.bz_tree.specs.declared.tree.Part.{Part, Node'}
 use Rattle.bz_tree.specs.declared.tree.Part.TheVariants as p
 use Rattle.bz_tree.specs.Spell.{leaves_part, spell_node, spell_part, limit}
-use Rattle.bz_tree.specs.Legal.{Legal, Reads, IsSort}
+use Rattle.bz_tree.specs.Legal.{Legal, Reads, IsNonterminal}
 use Rattle.bz_tree.specs.Shapes.{Several, line, end}
 use Rattle.bz_tree.specs.Joined.{AreWholeLines, file_with, last_token}
 use Rattle.bz_tree.specs.Split.{bare_end}
@@ -22,11 +22,11 @@ use Rattle.bz_edit.specs.declared.edit.Edit.{Edit}
 use Rattle.bz_edit.specs.Steps.{here, if_here, below, if_below, spliced, splice_all, swap_part, swap_list, swap_node}
 use Rattle.bz_edit.proofs.Swaps.{stays, swap_none}
 use Rattle.bz_trail.specs.Trails.{IsTree}
-use Rattle.bz_resume.specs.Alone.{behind_alone, IsAlone, AreAlone, EndsLine, IsLineFeed, AreLined, IsAloneAt, IsWithin, IsTouchedAlone, IsHeldAlone, AreTouchedAlone}
+use Rattle.bz_resume.specs.Alone.{after_alone, IsAlone, AreAlone, EndsLine, IsLineFeed, AreLined, IsAloneAt, IsWithin, IsTouchedAlone, IsHeldAlone, AreTouchedAlone}
 
 -- ---- a legal file has parts that are legal by themselves
 
-node_last : (kind : _) (size : _) (row : _) → Several (IsSort line) IsLast (Node' kind size row ∷ []) → ⊥
+node_last : (kind : _) (size : _) (row : _) → Several (IsNonterminal line) IsLast (Node' kind size row ∷ []) → ⊥
 node_last kind size row (inl f) = no_such f.0
 node_last kind size row (inr f) = f.1
 
@@ -34,7 +34,7 @@ end_alone : (x : Part) → Legal (file_with (x ∷ [])) → IsAlone x
 end_alone (p.Leaf l) h = h
 end_alone (Node' kind size row) h = absurd (node_last kind size row h.file.shapes.0)
 
-line_alone : (x y : Part) (ys : List Part) → Several (IsSort line) IsLast (x ∷ y ∷ ys) → Legal (file_with (x ∷ bare_end ∷ [])) → IsAlone x
+line_alone : (x y : Part) (ys : List Part) → Several (IsNonterminal line) IsLast (x ∷ y ∷ ys) → Legal (file_with (x ∷ bare_end ∷ [])) → IsAlone x
 line_alone x y ys (inl f) h = absurd f.1
 line_alone (p.Leaf l) y ys (inr f) h = no_such f.0
 line_alone (Node' kind size row) y ys (inr f) h = h

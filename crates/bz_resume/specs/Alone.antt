@@ -11,13 +11,13 @@ use Rattle.bz_tree.specs.Split.{bare_end}
 use Rattle.bz_edit.specs.declared.edit.Edit.{Edit}
 
 -- what is after a part in a file that has it alone
-abbrev pub behind_alone : Part → List Part
-behind_alone (p.Leaf l) = []
-behind_alone (Node' k s r) = bare_end ∷ []
+abbrev pub after_alone : Part → List Part
+after_alone (p.Leaf l) = []
+after_alone (Node' k s r) = bare_end ∷ []
 
 -- the part makes a legal file by itself
 abbrev pub IsAlone : Part → Type 0
-IsAlone x = Legal (file_with (x ∷ behind_alone x))
+IsAlone x = Legal (file_with (x ∷ after_alone x))
 
 abbrev pub AreAlone : List Part → Type 0
 AreAlone xs = AllByRecursion IsAlone xs

@@ -12,7 +12,7 @@ mod resuming;
 mod saving;
 mod splitting;
 mod standing;
-mod telling;
+mod replaying;
 mod touching;
 
 pub use bz_record::Content;

@@ -3,20 +3,20 @@ ghost use Rattle.std.specs.Prelude.{◌≡◌, ◌+◌, ◌≤◌, ◌↔◌, Is
 ghost use Rattle.bz_tree.specs.declared.tree.Node.{Node};
 ghost use Rattle.bz_tree.specs.Legal.{NoTree, Reads};
 ghost use Rattle.bz_resume.specs.declared.fault.Halt.TheVariants as h;
-ghost use Rattle.bz_resume.specs.Told.{AreToldAround, IsCounted, IsOpened, NoneTold};
+ghost use Rattle.bz_resume.specs.Agreement.{StepsAgreeAround, IsCounted, IsOpened, NoneAgrees};
 
 use crate::fault::Halt;
 use crate::reading::read;
 use crate::resumed::Resumed;
 use crate::splitting::split;
-use crate::telling::{go_back, go_on, has_digest};
+use crate::replaying::{go_back, go_on, has_digest};
 use bz_edit::Step;
 use bz_items::Items;
 use bz_record::Record;
 use std::alloc::Global;
 
 /// Whether the steps before the cursor lead back from the tree of a text, and the others forward, to texts with these digests.
-fn are_told(
+fn steps_agree(
     alloc: Global,
     text: &[u8],
     cursor: usize,
@@ -25,7 +25,7 @@ fn are_told(
 ) -> Result<bool, Halt>
     requires within { cursor ≤ length steps.now }
     requires counted { length digests.now ≡ length steps.now + 1 }
-    ensures told { IfOk result (λ told. (n : Node) → Reads text.now n → IsTrue told ↔ AreToldAround n cursor steps.now digests.now) }
+    ensures agrees { IfOk result (λ agrees. (n : Node) → Reads text.now n → IsTrue agrees ↔ StepsAgreeAround n cursor steps.now digests.now) }
     ensures damaged { (result ≡ Err h.Damaged) → NoTree text.now }
 {
     if !has_digest(text, &digests[cursor]) {
@@ -41,7 +41,7 @@ fn are_told(
 pub(crate) fn open(alloc: Global, content: Record) -> Result<Resumed, Halt>
     requires { IsCounted content }
     ensures ok { IfOk result (IsOpened content) }
-    ensures damaged { (result ≡ Err h.Damaged) → NoneTold content }
+    ensures damaged { (result ≡ Err h.Damaged) → NoneAgrees content }
 {
     let Record {
         package,
@@ -53,7 +53,7 @@ pub(crate) fn open(alloc: Global, content: Record) -> Result<Resumed, Halt>
     } = content;
     let cursor = cursor as usize;
     let (notes, steps) = split(alloc, steps.into_vec())?;
-    if !are_told(
+    if !steps_agree(
         alloc,
         text.as_slice(),
         cursor,

@@ -2,12 +2,12 @@
 ghost use Rattle.std.specs.Prelude.{◌≡◌, IfOk, Err};
 ghost use Rattle.std.specs.List.{AllByRecursion};
 ghost use Rattle.bz_resume.specs.declared.fault.Halt.TheVariants as h;
-ghost use Rattle.bz_resume.specs.Told.{MayLead, are_short as short, edits_of, notes_of};
+ghost use Rattle.bz_resume.specs.Agreement.{MayLead, are_short as short, edits_of, notes_of};
 
 use crate::fault::Halt;
 use bz_edit::{Edit, Step};
 use bz_items::{Items, Text};
-use bz_record::Entry;
+use bz_record::RecordedStep;
 use bz_tree::DEPTH_LIMIT;
 use std::alloc::Global;
 
@@ -38,14 +38,14 @@ fn step_of(edits: Items<Edit>) -> Result<Step, Halt>
 }
 
 /// The notes and the steps of entries.
-pub(crate) fn split(alloc: Global, entries: Vec<Entry>) -> Result<(Vec<Text>, Vec<Step>), Halt>
+pub(crate) fn split(alloc: Global, entries: Vec<RecordedStep>) -> Result<(Vec<Text>, Vec<Step>), Halt>
     ensures ok { IfOk result (λ x. (x.0.items ≡ notes_of entries.items) × (x.1.items ≡ edits_of entries.items)) }
     ensures damaged { (result ≡ Err h.Damaged) → AllByRecursion MayLead (edits_of entries.items) → ⊥ }
 {
     let mut notes = Vec::new(alloc);
     let mut steps = Vec::new(alloc);
     'entries: for entry in entries {
-        let Entry { note, edits } = entry;
+        let RecordedStep { note, edits } = entry;
         let step = step_of(edits)?;
         notes.push(note)?;
         steps.push(step)?;

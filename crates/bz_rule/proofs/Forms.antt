@@ -8,34 +8,34 @@ use Rattle.bz_value.specs.declared.value.Form.{Form}
 use Rattle.bz_value.specs.declared.value.Expr.{Expr, Form', Row_of-Expr, end_of-Expr, more_of-Expr, items-the_row-Expr, items_hidden-the_row-Expr-0}
 use Rattle.bz_value.specs.declared.value.Expr.TheVariants as e
 use Rattle.bz_rule.specs.Rules.{form_in, joined, dotted_name, with_names}
-use Rattle.bz_rule.specs.Named.{each_named, fronts, fronts_in_row, fronts_in}
+use Rattle.bz_rule.specs.Named.{each_named, fronts, fronts_in_row, fronts_among}
 
-abbrev parts_behind : Expr → (m : Count) × Row_of-Expr m
-parts_behind (Form' kind s parts s' items end_ split open_ comments) = (_, parts)
-parts_behind (e.Token t) = (_, end_of-Expr)
+abbrev parts_after : Expr → (m : Count) × Row_of-Expr m
+parts_after (Form' kind s parts s' items end split open_break comments) = (_, parts)
+parts_after (e.Token t) = (_, end_of-Expr)
 
-abbrev items_behind : Expr → (m : Count) × Row_of-Expr m
-items_behind (Form' kind s parts s' items end_ split open_ comments) = (_, items)
-items_behind (e.Token t) = (_, end_of-Expr)
+abbrev items_after : Expr → (m : Count) × Row_of-Expr m
+items_after (Form' kind s parts s' items end split open_break comments) = (_, items)
+items_after (e.Token t) = (_, end_of-Expr)
 
 abbrev row_items : (m : Count) × Row_of-Expr m → List Expr
 row_items r = items-the_row-Expr r.0 r.1
 
-parts_are : (f : Form) → row_items (parts_behind (e.Form f)) ≡ f.parts
+parts_are : (f : Form) → row_items (parts_after (e.Form f)) ≡ f.parts
 parts_are f = items_hidden-the_row-Expr-0 f.parts
 
-items_are : (f : Form) → row_items (items_behind (e.Form f)) ≡ f.seq.items
+items_are : (f : Form) → row_items (items_after (e.Form f)) ≡ f.seq.items
 items_are f = items_hidden-the_row-Expr-0 f.seq.items
 
 abbrev found : Kind → Form → List Expr → List Expr → Option Form
 found kind f parts items =
     if nat_eq (kind_number f.kind) (kind_number kind)
-    then Some (record f { parts = parts; seq = record { items = items; end_ = f.seq.end_; split = f.seq.split } })
+    then Some (record f { parts = parts; seq = record { items = items; end = f.seq.end; split = f.seq.split } })
     else None
 
 pub form_in_Form : (kind : Kind) (f : Form) → form_in kind (e.Form f) ≡ (if nat_eq (kind_number f.kind) (kind_number kind) then Some f else None)
 form_in_Form kind f =
-    ap (λ parts. found kind f parts (row_items (items_behind (e.Form f)))) (parts_are f)
+    ap (λ parts. found kind f parts (row_items (items_after (e.Form f)))) (parts_are f)
     ∙ ap (λ items. found kind f f.parts items) (items_are f)
 
 named_row : (m : _) (r : Row_of-Expr m) → with_names r ≡ each_named (items-the_row-Expr m r)
@@ -45,11 +45,11 @@ named_row m (more_of-Expr x rest) = ap (λ t. (x, dotted_name x) ∷ t) (named_r
 pub dotted_name_Form : (f : Form) → dotted_name (e.Form f) ≡ (if nat_eq (kind_number f.kind) (kind_number k.Dot) then joined (each_named f.parts) else None)
 dotted_name_Form f =
     ap (λ names. if nat_eq (kind_number f.kind) (kind_number k.Dot) then joined names else None)
-    (named_row _ (parts_behind (e.Form f)).1 ∙ ap each_named (parts_are f))
+    (named_row _ (parts_after (e.Form f)).1 ∙ ap each_named (parts_are f))
 
-fronts_row : (m : _) (r : Row_of-Expr m) → fronts_in_row r ≡ fronts_in (items-the_row-Expr m r)
+fronts_row : (m : _) (r : Row_of-Expr m) → fronts_in_row r ≡ fronts_among (items-the_row-Expr m r)
 fronts_row m end_of-Expr = refl
 fronts_row m (more_of-Expr x rest) = refl
 
-pub fronts_Form : (f : Form) → fronts (e.Form f) ≡ suc (fronts_in f.parts)
-fronts_Form f = ap suc (fronts_row _ (parts_behind (e.Form f)).1 ∙ ap fronts_in (parts_are f))
+pub fronts_Form : (f : Form) → fronts (e.Form f) ≡ suc (fronts_among f.parts)
+fronts_Form f = ap suc (fronts_row _ (parts_after (e.Form f)).1 ∙ ap fronts_among (parts_are f))

@@ -12,15 +12,15 @@ use Rattle.bz_tree.specs.declared.kind.Kind.TheVariants as k
 use Rattle.bz_tree.specs.Kinds.{kind_number}
 use Rattle.bz_tree.specs.Shapes as s
 use Rattle.bz_tree.specs.Shapes.{has_token, is_one_of, is_kind}
-use Rattle.bz_tree.specs.Spots.{Within, Role, plain, role, behind_token}
+use Rattle.bz_tree.specs.Spots.{Within, Role, plain, role, following_token}
 use Rattle.bz_value.specs.declared.value.Form.{Form}
 use Rattle.bz_value.specs.declared.value.Expr.{Expr, Token, Form', items-the_row-Expr}
 use Rattle.bz_value.specs.declared.value.Expr.TheVariants as e
 use Rattle.bz_value.specs.Comments.{HostComments}
 use Rattle.bz_items.specs.Characters.{Bytes}
-use Rattle.bz_value.specs.Proper.{IsComment, AreComments, behind_expr, has_break, ProperExpr}
+use Rattle.bz_value.specs.Proper.{IsComment, AreComments, after_expr, has_break, ProperExpr}
 use Rattle.bz_value.specs.Roots.{root}
-use Rattle.bz_rule.specs.Rules.{is_text, text_in, value_behind, value_named, attribute}
+use Rattle.bz_rule.specs.Rules.{is_text, text_in, value_after, value_named, attribute}
 use Rattle.bz_rule.specs.Values.{with_text, on_row, on_first, on_third}
 use Rattle.bz_rule.proofs.ProperChanges.{by_test}
 use Rattle.bz_rule.proofs.ProperForms.{AsForm, opened}
@@ -41,28 +41,28 @@ equals_role : (class : Class) (text : Bytes) → is_one_of s.equals (record { cl
 equals_role c.Mark text h = ap (role c.Mark) ((bytes_eq-Decides text (codes "=")).0 (or_none _ h))
 equals_role _ text h = absurd (true≢false (sym h))
 
-behind_name : (x : Expr) → has_token s.name (root x) ≡ true → behind_expr Within Within x ≡ Within
-behind_name (Token t) h = ap (λ (r : Role). behind_token r Within Within) (name_role t.class t.text h)
-behind_name (Form' kind s parts s' items end_ split open_ comments) h = absurd (true≢false (sym h))
+after_name : (x : Expr) → has_token s.name (root x) ≡ true → after_expr Within Within x ≡ Within
+after_name (Token t) h = ap (λ (r : Role). following_token r Within Within) (name_role t.class t.text h)
+after_name (Form' kind s parts s' items end split open_break comments) h = absurd (true≢false (sym h))
 
-behind_equals : (x : Expr) → has_token s.equals (root x) ≡ true → behind_expr Within Within x ≡ Within
-behind_equals (Token t) h = ap (λ (r : Role). behind_token r Within Within) (equals_role t.class t.text h)
-behind_equals (Form' kind s parts s' items end_ split open_ comments) h = absurd (true≢false (sym h))
+after_equals : (x : Expr) → has_token s.equals (root x) ≡ true → after_expr Within Within x ≡ Within
+after_equals (Token t) h = ap (λ (r : Role). following_token r Within Within) (equals_role t.class t.text h)
+after_equals (Form' kind s parts s' items end split open_break comments) h = absurd (true≢false (sym h))
 
-value_spot : (x y : Expr) → has_token s.name (root x) ≡ true → has_token s.equals (root y) ≡ true → behind_expr Within (behind_expr Within Within x) y ≡ Within
-value_spot x y h i = ap (λ here. behind_expr Within here y) (behind_name x h) ∙ behind_equals y i
+value_spot : (x y : Expr) → has_token s.name (root x) ≡ true → has_token s.equals (root y) ≡ true → after_expr Within (after_expr Within Within x) y ≡ Within
+value_spot x y h i = ap (λ here. after_expr Within here y) (after_name x h) ∙ after_equals y i
 
 -- ---- the value of a named argument
 
 abbrev Named : List Expr → List Expr → List Bytes → Bool → Bool → Type 0
-Named ps xs end_ split open_ = AsForm Within k.Named ps xs end_ split open_
+Named ps xs end split open_break = AsForm Within k.Named ps xs end split open_break
 
 never_true : (b : Bool) → (b ≡ true → false ≡ true) → b ≡ false
 never_true true h = sym (h refl)
 never_true false h = refl
 
-third_value : (end_ : List Bytes) (split open_ : Bool) (x y v : Expr) (xs : List Expr) → Named (x ∷ y ∷ v ∷ []) xs end_ split open_ → IsValue v
-third_value end_ split open_ x y v xs h =
+third_value : (end : List Bytes) (split open_break : Bool) (x y v : Expr) (xs : List Expr) → Named (x ∷ y ∷ v ∷ []) xs end split open_break → IsValue v
+third_value end split open_break x y v xs h =
     let spot = value_spot x y h.0.0 h.0.1.0 in
     let last = h.1.0.3.3 in
     let unbroken : has_break v ≡ false = never_true (has_break v) (λ b. (last.2 b).0) in (
@@ -70,22 +70,22 @@ third_value end_ split open_ x y v xs h =
       last.1,
     )
 
-value_of_row : (name : Bytes) (end_ : List Bytes) (split open_ : Bool) (ps xs : List Expr) → Named ps xs end_ split open_ → IfSome (value_behind name ps) IsValue
-value_of_row name end_ split open_ [] xs h = tt
-value_of_row name end_ split open_ (x ∷ []) xs h = tt
-value_of_row name end_ split open_ (x ∷ y ∷ []) xs h = tt
-value_of_row name end_ split open_ (x ∷ y ∷ v ∷ []) xs h = by_test (λ (o : Option Expr). IfSome o IsValue) (is_text name (text_in c.Name x)) (Some v) None (third_value end_ split open_ x y v xs h) tt
-value_of_row name end_ split open_ (x ∷ y ∷ v ∷ w ∷ rest) xs h = tt
+value_of_row : (name : Bytes) (end : List Bytes) (split open_break : Bool) (ps xs : List Expr) → Named ps xs end split open_break → IfSome (value_after name ps) IsValue
+value_of_row name end split open_break [] xs h = tt
+value_of_row name end split open_break (x ∷ []) xs h = tt
+value_of_row name end split open_break (x ∷ y ∷ []) xs h = tt
+value_of_row name end split open_break (x ∷ y ∷ v ∷ []) xs h = by_test (λ (o : Option Expr). IfSome o IsValue) (is_text name (text_in c.Name x)) (Some v) None (third_value end split open_break x y v xs h) tt
+value_of_row name end split open_break (x ∷ y ∷ v ∷ w ∷ rest) xs h = tt
 
-value_of_form : (name : Bytes) (kind : Kind) (end_ : List Bytes) (split open_ : Bool) (comments : HostComments) (ps xs : List Expr) → AsForm Within kind ps xs end_ split open_
-    → IfSome (option_and_then (λ (argument : Form). value_behind name argument.parts) (if nat_eq (kind_number kind) (kind_number k.Named) then Some (record { kind = kind; parts = ps; seq = record { items = xs; end_ = end_; split = split }; open_ = open_; comments = comments }) else None)) IsValue
-value_of_form name k.Named end_ split open_ comments ps xs h = value_of_row name end_ split open_ ps xs h
-value_of_form name _ end_ split open_ comments ps xs h = tt
+value_of_form : (name : Bytes) (kind : Kind) (end : List Bytes) (split open_break : Bool) (comments : HostComments) (ps xs : List Expr) → AsForm Within kind ps xs end split open_break
+    → IfSome (option_and_then (λ (argument : Form). value_after name argument.parts) (if nat_eq (kind_number kind) (kind_number k.Named) then Some (record { kind = kind; parts = ps; seq = record { items = xs; end = end; split = split }; open_break = open_break; comments = comments }) else None)) IsValue
+value_of_form name k.Named end split open_break comments ps xs h = value_of_row name end split open_break ps xs h
+value_of_form name _ end split open_break comments ps xs h = tt
 
 pub named_value : (name : Bytes) (x : Expr) → IsItem s.argument x → IfSome (value_named name x) IsValue
 named_value name (Token t) h = tt
-named_value name (Form' kind s parts s' items end_ split open_ comments) h =
-    value_of_form name kind end_ split open_ comments (items-the_row-Expr _ parts) (items-the_row-Expr _ items) (opened Within (Form' kind s parts s' items end_ split open_ comments) h.0.0)
+named_value name (Form' kind s parts s' items end split open_break comments) h =
+    value_of_form name kind end split open_break comments (items-the_row-Expr _ parts) (items-the_row-Expr _ items) (opened Within (Form' kind s parts s' items end split open_break comments) h.0.0)
 
 either_value : (a b : Option Expr) → IfSome a IsValue → IfSome b IsValue → IfSome (option_or a b) IsValue
 either_value None b h i = i
@@ -98,12 +98,12 @@ attribute_value name (x ∷ xs) h = either_value (value_named name x) (attribute
 -- ---- named arguments with another value, and with another name
 
 pub value_kept : (change : Expr → Expr) → ((v : Expr) → IsValue v → IsValue (change v)) → KeepsRow k.Named (on_third change)
-value_kept change f end_ split open_ [] xs h = absurd h.0
-value_kept change f end_ split open_ (x ∷ []) xs h = absurd h.0.1
-value_kept change f end_ split open_ (x ∷ y ∷ []) xs h = absurd h.0.1.1
-value_kept change f end_ split open_ (x ∷ y ∷ v ∷ []) xs h =
+value_kept change f end split open_break [] xs h = absurd h.0
+value_kept change f end split open_break (x ∷ []) xs h = absurd h.0.1
+value_kept change f end split open_break (x ∷ y ∷ []) xs h = absurd h.0.1.1
+value_kept change f end split open_break (x ∷ y ∷ v ∷ []) xs h =
     let spot = value_spot x y h.0.0 h.0.1.0 in
-    let new = f v (third_value end_ split open_ x y v xs h) in
+    let new = f v (third_value end split open_break x y v xs h) in
     let g = h.1.0 in (
       (h.0.0, (h.0.1.0, (new.0.1, tt))),
       (
@@ -114,19 +114,19 @@ value_kept change f end_ split open_ (x ∷ y ∷ v ∷ []) xs h =
         h.1.4,
       ),
     )
-value_kept change f end_ split open_ (x ∷ y ∷ v ∷ w ∷ rest) xs h = absurd h.0.1.1.1
+value_kept change f end split open_break (x ∷ y ∷ v ∷ w ∷ rest) xs h = absurd h.0.1.1.1
 
 module _ (to : Bytes) (lexeme : IsLexeme c.Name to) (coded : IsUtf8 to) where
-  renamed : (class : Class) (text : Bytes) (break_ : Bool) (comments : HostComments) (end_ : List Bytes) (split open_ : Bool) (rest xs : List Expr)
-      → Named (e.Token (record { class = class; text = text; break_ = break_; comments = comments }) ∷ rest) xs end_ split open_
-      → Named (e.Token (record { class = class; text = to; break_ = break_; comments = comments }) ∷ rest) xs end_ split open_
-  renamed c.Name text break_ comments end_ split open_ rest xs h = ((refl, h.0.1), (((lexeme, coded), h.1.0.1, h.1.0.2, h.1.0.3), h.1.1, h.1.2, h.1.3, h.1.4))
-  renamed _ text break_ comments end_ split open_ rest xs h = absurd (true≢false (sym h.0.0))
+  renamed : (class : Class) (text : Bytes) (line_break : Bool) (comments : HostComments) (end : List Bytes) (split open_break : Bool) (rest xs : List Expr)
+      → Named (e.Token (record { class = class; text = text; line_break = line_break; comments = comments }) ∷ rest) xs end split open_break
+      → Named (e.Token (record { class = class; text = to; line_break = line_break; comments = comments }) ∷ rest) xs end split open_break
+  renamed c.Name text line_break comments end split open_break rest xs h = ((refl, h.0.1), (((lexeme, coded), h.1.0.1, h.1.0.2, h.1.0.3), h.1.1, h.1.2, h.1.3, h.1.4))
+  renamed _ text line_break comments end split open_break rest xs h = absurd (true≢false (sym h.0.0))
 
   pub name_kept : KeepsRow k.Named (on_first (with_text to))
-  name_kept end_ split open_ [] xs h = absurd h.0
-  name_kept end_ split open_ (Token t ∷ rest) xs h = renamed t.class t.text t.break_ t.comments end_ split open_ rest xs h
-  name_kept end_ split open_ (Form' kind s parts s' items e o c n ∷ rest) xs h = absurd (true≢false (sym h.0.0))
+  name_kept end split open_break [] xs h = absurd h.0
+  name_kept end split open_break (Token t ∷ rest) xs h = renamed t.class t.text t.line_break t.comments end split open_break rest xs h
+  name_kept end split open_break (Form' kind s parts s' items e o c n ∷ rest) xs h = absurd (true≢false (sym h.0.0))
 
 only_named : (change : List Expr → List Expr) → KeepsRow k.Named change → (kind : Kind) → is_kind kind k.Named ≡ true → KeepsRow kind change
 only_named change keeps k.Named is = keeps

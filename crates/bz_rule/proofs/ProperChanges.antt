@@ -35,13 +35,13 @@ EachStays change = (xs : List Expr) → EachInPlace xs (change xs)
 
 pub changed_parts : (ps : List Expr) (x : Expr) → EachInPlace (parts_of x) ps → InPlace x (with_parts ps x)
 changed_parts ps (Token t) w = itself (Token t)
-changed_parts ps (Form' kind s parts s' items end_ split open_ comments) w =
-    lists_in_place ps (items-the_row-Expr _ items) (Form' kind s parts s' items end_ split open_ comments) w (all_itself (items-the_row-Expr _ items))
+changed_parts ps (Form' kind s parts s' items end split open_break comments) w =
+    lists_in_place ps (items-the_row-Expr _ items) (Form' kind s parts s' items end split open_break comments) w (all_itself (items-the_row-Expr _ items))
 
 pub changed_items : (xs : List Expr) (x : Expr) → EachInPlace (items_of x) xs → InPlace x (with_items xs x)
 changed_items xs (Token t) w = itself (Token t)
-changed_items xs (Form' kind s parts s' items end_ split open_ comments) w =
-    lists_in_place (items-the_row-Expr _ parts) xs (Form' kind s parts s' items end_ split open_ comments) (all_itself (items-the_row-Expr _ parts)) w
+changed_items xs (Form' kind s parts s' items end split open_break comments) w =
+    lists_in_place (items-the_row-Expr _ parts) xs (Form' kind s parts s' items end split open_break comments) (all_itself (items-the_row-Expr _ parts)) w
 
 pub row_stays : (kind : Kind) (change : List Expr → List Expr) → EachStays change → Stays (on_row kind change)
 row_stays kind change h x = where_true (has_kind kind x) x (with_parts (change (parts_of x)) x) (λ is. changed_parts (change (parts_of x)) x (h (parts_of x)))
@@ -70,19 +70,19 @@ lists_stay change h x =
 abbrev pub Strung : Bytes → Type 0
 Strung t = IsString t × IsUtf8 t
 
-token_in_place : (class : Class) (old new : Bytes) (break_ : Bool) (comments : HostComments) → is_class class c.String ≡ true → (Strung old → Strung new)
-    → InPlace (e.Token (record { class = class; text = old; break_ = break_; comments = comments })) (e.Token (record { class = class; text = new; break_ = break_; comments = comments }))
-token_in_place c.String old new break_ comments is h = record {
+token_in_place : (class : Class) (old new : Bytes) (line_break : Bool) (comments : HostComments) → is_class class c.String ≡ true → (Strung old → Strung new)
+    → InPlace (e.Token (record { class = class; text = old; line_break = line_break; comments = comments })) (e.Token (record { class = class; text = new; line_break = line_break; comments = comments }))
+token_in_place c.String old new line_break comments is h = record {
   proper = λ here g. h g;
   roots = other_string old new;
   comments = refl;
   breaks = refl;
   operator = refl;
-  behind = λ outer here. refl;
+  following = λ outer here. refl;
   statement = refl;
 }
-token_in_place _ old new break_ comments is h = absurd (true≢false (sym is))
+token_in_place _ old new line_break comments is h = absurd (true≢false (sym is))
 
 pub string_in_place : (new : Bytes) (x : Expr) → has_class c.String x ≡ true → (Strung (text_of x) → Strung new) → InPlace x (with_text new x)
-string_in_place new (Token t) is h = token_in_place t.class t.text new t.break_ t.comments is h
-string_in_place new (Form' kind s parts s' items end_ split open_ comments) is h = absurd (true≢false (sym is))
+string_in_place new (Token t) is h = token_in_place t.class t.text new t.line_break t.comments is h
+string_in_place new (Form' kind s parts s' items end split open_break comments) is h = absurd (true≢false (sym is))

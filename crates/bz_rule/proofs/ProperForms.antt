@@ -3,13 +3,13 @@ use Rattle.std.proofs.Common.{Bool, true, false, not, ◌&&◌, ◌≡◌, List,
 use Rattle.std.specs.Prelude.{All}
 use Rattle.bz_tree.specs.declared.kind.Kind.{Kind}
 use Rattle.bz_tree.specs.Shapes.{Fits, shape}
-use Rattle.bz_tree.specs.Legal.{IsSort}
+use Rattle.bz_tree.specs.Legal.{IsNonterminal}
 use Rattle.bz_tree.specs.Spots.{Spot, Within}
 use Rattle.bz_value.specs.declared.value.Expr.{Expr, Token, Form', Row_of-Expr, end_of-Expr, more_of-Expr, items-the_row-Expr}
 use Rattle.bz_value.specs.declared.value.Expr.TheVariants as e
 use Rattle.bz_items.specs.Characters.{Bytes}
 use Rattle.bz_value.specs.Frames.{frame, is_binary, is_comprehension}
-use Rattle.bz_value.specs.Proper.{IsComment, AreComments, comments_of, has_break, is_operator, begins_operator, behind_expr, roots, IsEmptyRow, in_frame, ProperExpr, ProperRow, ProperHead, ProperItems, has_statement_kind}
+use Rattle.bz_value.specs.Proper.{IsComment, AreComments, comments_of, has_break, is_operator, begins_operator, after_expr, roots, IsEmptyRow, in_frame, ProperExpr, ProperRow, ProperHead, ProperItems, has_statement_kind}
 use Rattle.bz_value.specs.Roots.{root, row_in}
 use Rattle.bz_value.proofs.FormParts.{AreParts, AreHead, AreItems, IsNone, operator_first, framed, form_proper}
 use Rattle.bz_rule.specs.Values.{parts_of, items_of}
@@ -32,7 +32,7 @@ parts_list binary outer here m (more_of-Expr x rest) h = (
   h.0,
   h.1,
   λ b. (ap (λ z. binary && (is_operator x && not z)) (sym (begins_list _ rest)) ∙ (h.2 b).0, (h.2 b).1),
-  parts_list binary outer (behind_expr outer here x) _ rest h.3,
+  parts_list binary outer (after_expr outer here x) _ rest h.3,
 )
 
 head_list : (here : Spot) (m : _) (r : Row_of-Expr m) → ProperHead here r → AreHead here (items-the_row-Expr m r)
@@ -49,21 +49,21 @@ none_list m (more_of-Expr x rest) h = absurd h
 
 -- What the definition requires of a form, by its kind, its parts and its items.
 abbrev pub AsForm : Spot → Kind → List Expr → List Expr → List Bytes → Bool → Bool → Type 0
-AsForm here kind ps xs end_ split open_ =
-    Fits IsSort (shape kind) (row_in (frame kind) (map root ps) (map root xs))
+AsForm here kind ps xs end split open_break =
+    Fits IsNonterminal (shape kind) (row_in (frame kind) (map root ps) (map root xs))
     × in_frame (frame kind)
-    (AreParts (is_binary kind) here here ps × IsNone xs × (end_ ≡ []) × (split ≡ false) × (open_ ≡ true → is_comprehension kind ≡ true))
-    (AreHead here ps × AreItems xs × All IsComment end_ × (open_ ≡ false))
+    (AreParts (is_binary kind) here here ps × IsNone xs × (end ≡ []) × (split ≡ false) × (open_break ≡ true → is_comprehension kind ≡ true))
+    (AreHead here ps × AreItems xs × All IsComment end × (open_break ≡ false))
 
 -- the same of an expression, with these parts and items in place of its own
 abbrev pub AsFormWith : Spot → List Expr → List Expr → Expr → Type 0
 AsFormWith here ps xs (Token t) = Unit {0}
-AsFormWith here ps xs (Form' kind s parts s' items end_ split open_ comments) = AsForm here kind ps xs end_ split open_
+AsFormWith here ps xs (Form' kind s parts s' items end split open_break comments) = AsForm here kind ps xs end split open_break
 
 pub opened : (here : Spot) (x : Expr) → ProperExpr here x → AsFormWith here (parts_of x) (items_of x) x
 opened here (Token t) h = tt
-opened here (Form' kind s parts s' items end_ split open_ comments) h = (
-  subst (λ xs. Fits IsSort (shape kind) (row_in (frame kind) xs (map root (items-the_row-Expr _ items)))) (roots_list _ parts) (subst (λ xs. Fits IsSort (shape kind) (row_in (frame kind) (roots parts) xs)) (roots_list _ items) h.0),
+opened here (Form' kind s parts s' items end split open_break comments) h = (
+  subst (λ xs. Fits IsNonterminal (shape kind) (row_in (frame kind) xs (map root (items-the_row-Expr _ items)))) (roots_list _ parts) (subst (λ xs. Fits IsNonterminal (shape kind) (row_in (frame kind) (roots parts) xs)) (roots_list _ items) h.0),
   framed (frame kind)
       (λ g. (parts_list (is_binary kind) here here _ parts g.0, none_list _ items g.1, g.2, g.3, g.4))
       (λ g. (head_list here _ parts g.0, items_list _ items g.1, g.2, g.3))
@@ -72,7 +72,7 @@ opened here (Form' kind s parts s' items end_ split open_ comments) h = (
 
 abbrev pub with_lists : List Expr → List Expr → Expr → Expr
 with_lists ps xs (Token t) = e.Token t
-with_lists ps xs (Form' kind s parts s' items end_ split open_ comments) = e.Form (record { kind = kind; parts = ps; seq = record { items = xs; end_ = end_; split = split }; open_ = open_; comments = comments })
+with_lists ps xs (Form' kind s parts s' items end split open_break comments) = e.Form (record { kind = kind; parts = ps; seq = record { items = xs; end = end; split = split }; open_break = open_break; comments = comments })
 
 -- ---- in an expression's place
 
@@ -84,11 +84,11 @@ pub record InPlace (x y : Expr) : Type 0 where
   pub comments : comments_of x ≡ comments_of y
   pub breaks : has_break x ≡ has_break y
   pub operator : is_operator x ≡ is_operator y
-  pub behind : (outer here : Spot) → behind_expr outer here x ≡ behind_expr outer here y
+  pub following : (outer here : Spot) → after_expr outer here x ≡ after_expr outer here y
   pub statement : has_statement_kind x ≡ has_statement_kind y
 
 pub itself : (x : Expr) → InPlace x x
-itself x = record { proper = λ here h. h; roots = same_root (root x) (root x) refl; comments = refl; breaks = refl; operator = refl; behind = λ outer here. refl; statement = refl }
+itself x = record { proper = λ here h. h; roots = same_root (root x) (root x) refl; comments = refl; breaks = refl; operator = refl; following = λ outer here. refl; statement = refl }
 
 pub data EachInPlace : List Expr → List Expr → Type 0 where
   none : EachInPlace [] []
@@ -117,9 +117,9 @@ parts_in_place binary outer here xs ys (both x y xs' ys' r w) h = (
   sym r.comments ∙ h.1,
   λ b. let k = h.2 (r.breaks ∙ b) in (
     ap (λ z. binary && (z && not (operator_first ys'))) (sym r.operator) ∙ (ap (λ z. binary && (is_operator x && not z)) (sym (first_in_place xs' ys' w)) ∙ k.0),
-    sym (r.behind outer here) ∙ k.1,
+    sym (r.following outer here) ∙ k.1,
   ),
-  subst (λ z. AreParts binary outer z ys') (r.behind outer here) (parts_in_place binary outer (behind_expr outer here x) xs' ys' w h.3),
+  subst (λ z. AreParts binary outer z ys') (r.following outer here) (parts_in_place binary outer (after_expr outer here x) xs' ys' w h.3),
 )
 
 head_in_place : (here : Spot) (xs ys : List Expr) → EachInPlace xs ys → AreHead here xs → AreHead here ys
@@ -138,21 +138,21 @@ none_in_place xs ys (both x y xs' ys' r w) h = absurd h
 
 pub form_in_place : (ps xs : List Expr) (x : Expr) → ((here : Spot) → AsFormWith here (parts_of x) (items_of x) x → AsFormWith here ps xs x) → InPlace x (with_lists ps xs x)
 form_in_place ps xs (Token t) h = itself (Token t)
-form_in_place ps xs (Form' kind s parts s' items end_ split open_ comments) h = record {
+form_in_place ps xs (Form' kind s parts s' items end split open_break comments) h = record {
   proper = λ here k.
-      let g = h here (opened here (Form' kind s parts s' items end_ split open_ comments) k) in
-      form_proper here (record { kind = kind; parts = ps; seq = record { items = xs; end_ = end_; split = split }; open_ = open_; comments = comments }) g.0 g.1;
+      let g = h here (opened here (Form' kind s parts s' items end split open_break comments) k) in
+      form_proper here (record { kind = kind; parts = ps; seq = record { items = xs; end = end; split = split }; open_break = open_break; comments = comments }) g.0 g.1;
   roots = same_root _ _ refl;
   comments = refl;
   breaks = refl;
   operator = refl;
-  behind = λ outer here. refl;
+  following = λ outer here. refl;
   statement = refl;
 }
 
 lists_proper : (here : Spot) (ps xs : List Expr) (x : Expr) → EachInPlace (parts_of x) ps → EachInPlace (items_of x) xs → AsFormWith here (parts_of x) (items_of x) x → AsFormWith here ps xs x
 lists_proper here ps xs (Token t) v w h = tt
-lists_proper here ps xs (Form' kind s parts s' items end_ split open_ comments) v w h = (
+lists_proper here ps xs (Form' kind s parts s' items end split open_break comments) v w h = (
   kind_alike kind (frame kind) (map root (items-the_row-Expr _ parts)) (map root ps) (map root (items-the_row-Expr _ items)) (map root xs) (each_root _ ps v) (each_root _ xs w) h.0,
   framed (frame kind)
       (λ g. (parts_in_place (is_binary kind) here here _ ps v g.0, none_in_place _ xs w g.1, g.2, g.3, g.4))

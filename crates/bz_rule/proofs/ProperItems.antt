@@ -4,7 +4,7 @@ use Rattle.std.specs.Prelude.{if◌then◌else◌}
 use Rattle.std.specs.List.{AllByRecursion, filter}
 use Rattle.bz_tree.specs.declared.kind.Kind.{Kind}
 use Rattle.bz_tree.specs.Shapes as s
-use Rattle.bz_tree.specs.Shapes.{Sort, has_sort, is_kind}
+use Rattle.bz_tree.specs.Shapes.{Nonterminal, has_nonterminal, is_kind}
 use Rattle.bz_tree.specs.Spots.{Within}
 use Rattle.bz_value.specs.declared.value.Expr.{Expr, Token, Form', items-the_row-Expr}
 use Rattle.bz_value.specs.Comments.{no_comments}
@@ -22,37 +22,37 @@ use Rattle.bz_rule.proofs.ProperSequences.{IsItem}
 -- What may be wherever an expression is within brackets: as `InPlace`, at that spot alone.
 pub record WithinPlace (x y : Expr) : Type 0 where
   pub proper : ProperExpr Within x → ProperExpr Within y
-  pub sort : (q : Sort) → has_sort q (root x) ≡ has_sort q (root y)
+  pub nonterminal : (q : Nonterminal) → has_nonterminal q (root x) ≡ has_nonterminal q (root y)
   pub comments : comments_of x ≡ comments_of y
   pub breaks : has_break x ≡ has_break y
 
 pub within_itself : (x : Expr) → WithinPlace x x
-within_itself x = record { proper = λ h. h; sort = λ q. refl; comments = refl; breaks = refl }
+within_itself x = record { proper = λ h. h; nonterminal = λ q. refl; comments = refl; breaks = refl }
 
 pub from_in_place : (x y : Expr) → InPlace x y → WithinPlace x y
-from_in_place x y r = record { proper = r.proper Within; sort = r.roots.sort; comments = r.comments; breaks = r.breaks }
+from_in_place x y r = record { proper = r.proper Within; nonterminal = r.roots.nonterminal; comments = r.comments; breaks = r.breaks }
 
 pub form_within : (ps xs : List Expr) (x : Expr) → (AsFormWith Within (parts_of x) (items_of x) x → AsFormWith Within ps xs x) → WithinPlace x (with_lists ps xs x)
 form_within ps xs (Token t) h = within_itself (Token t)
-form_within ps xs (Form' kind s parts s' items end_ split open_ comments) h = record {
+form_within ps xs (Form' kind s parts s' items end split open_break comments) h = record {
   proper = λ k.
-      let g = h (opened Within (Form' kind s parts s' items end_ split open_ comments) k) in
-      form_proper Within (record { kind = kind; parts = ps; seq = record { items = xs; end_ = end_; split = split }; open_ = open_; comments = comments }) g.0 g.1;
-  sort = λ q. refl;
+      let g = h (opened Within (Form' kind s parts s' items end split open_break comments) k) in
+      form_proper Within (record { kind = kind; parts = ps; seq = record { items = xs; end = end; split = split }; open_break = open_break; comments = comments }) g.0 g.1;
+  nonterminal = λ q. refl;
   comments = refl;
   breaks = refl;
 }
 
 -- a change of rows that keeps forms of a kind proper within brackets
 abbrev pub KeepsRow : Kind → (List Expr → List Expr) → Type 0
-KeepsRow kind change = (end_ : List Bytes) (split open_ : Bool) (ps xs : List Expr) → AsForm Within kind ps xs end_ split open_ → AsForm Within kind (change ps) xs end_ split open_
+KeepsRow kind change = (end : List Bytes) (split open_break : Bool) (ps xs : List Expr) → AsForm Within kind ps xs end split open_break → AsForm Within kind (change ps) xs end split open_break
 
 module _ (own : Kind) (change : List Expr → List Expr) (keeps : (kind : Kind) → is_kind kind own ≡ true → KeepsRow kind change) where
   changed_row : (x : Expr) → has_kind own x ≡ true → WithinPlace x (with_parts (change (parts_of x)) x)
   changed_row (Token t) is = within_itself (Token t)
-  changed_row (Form' kind s parts s' items end_ split open_ comments) is =
-      form_within (change (items-the_row-Expr _ parts)) (items-the_row-Expr _ items) (Form' kind s parts s' items end_ split open_ comments)
-      (λ h. keeps kind is end_ split open_ (items-the_row-Expr _ parts) (items-the_row-Expr _ items) h)
+  changed_row (Form' kind s parts s' items end split open_break comments) is =
+      form_within (change (items-the_row-Expr _ parts)) (items-the_row-Expr _ items) (Form' kind s parts s' items end split open_break comments)
+      (λ h. keeps kind is end split open_break (items-the_row-Expr _ parts) (items-the_row-Expr _ items) h)
 
   pub row_within : (x : Expr) → WithinPlace x (on_row own change x)
   row_within x = row_if (has_kind own x) (changed_row x)
@@ -63,8 +63,8 @@ module _ (own : Kind) (change : List Expr → List Expr) (keeps : (kind : Kind) 
 
 -- ---- items and values
 
-pub item_within : (q : Sort) (x y : Expr) → WithinPlace x y → IsItem q x → IsItem q y
-item_within q x y r h = ((r.proper h.0.0, subst AreComments r.comments h.0.1, sym r.breaks ∙ h.0.2), sym (r.sort q) ∙ h.1)
+pub item_within : (q : Nonterminal) (x y : Expr) → WithinPlace x y → IsItem q x → IsItem q y
+item_within q x y r h = ((r.proper h.0.0, subst AreComments r.comments h.0.1, sym r.breaks ∙ h.0.2), sym (r.nonterminal q) ∙ h.1)
 
 -- the value of an attribute: as an item of a list is, without comments
 abbrev pub IsValue : Expr → Type 0

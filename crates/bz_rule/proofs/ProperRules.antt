@@ -4,7 +4,7 @@ use Rattle.std.specs.Prelude.{Option, Some, None, IfSome, option_map}
 use Rattle.std.specs.Option.{option_and_then}
 use Rattle.bz_tree.specs.declared.kind.Kind.TheVariants as k
 use Rattle.bz_tree.specs.Shapes as s
-use Rattle.bz_tree.specs.Legal.{IsSort}
+use Rattle.bz_tree.specs.Legal.{IsNonterminal}
 use Rattle.bz_tree.specs.Spots.{Spot, Begins}
 use Rattle.bz_value.specs.declared.value.Expr.{Expr, Token, Form', items-the_row-Expr}
 use Rattle.bz_value.specs.declared.value.Item.{Item}
@@ -21,7 +21,7 @@ use Rattle.bz_rule.proofs.ProperSequences.{AreOf, call_apart, call_in_place}
 
 -- what may be called: it is proper at every spot
 abbrev pub IsFunction : Expr → Type 0
-IsFunction f = ((here : Spot) → ProperExpr here f) × IsBare f × IsSort s.primary (root f)
+IsFunction f = ((here : Spot) → ProperExpr here f) × IsBare f × IsNonterminal s.primary (root f)
 
 -- how a rule is in an expression: its arguments are arguments, and others may take their place, as may another function
 record Calls (x : Expr) (with_arguments with_function : List Expr → Expr) (rule : Rule) : Type 0 where
@@ -39,38 +39,38 @@ if_some P Q f None h = tt
 if_some P Q f (Some x) h = f x h
 
 -- a call by its function and its arguments
-call_row : (y : Expr) (end_ : List Bytes) (split open_ : Bool) (comments : HostComments) (ps xs : List Expr) → AsForm Begins k.Call ps xs end_ split open_
+call_row : (y : Expr) (end : List Bytes) (split open_break : Bool) (comments : HostComments) (ps xs : List Expr) → AsForm Begins k.Call ps xs end split open_break
     → ((new : List Expr) → AreOf s.argument new → InPlace y (with_items new y))
-    → ((f : Expr) → ((here : Spot) → AsForm here k.Call ps xs end_ split open_ → AsForm here k.Call (f ∷ []) xs end_ split open_) → InPlace y (with_parts (f ∷ []) y))
-    → IfSome (option_and_then named (called (record { kind = k.Call; parts = ps; seq = record { items = xs; end_ = end_; split = split }; open_ = open_; comments = comments })))
+    → ((f : Expr) → ((here : Spot) → AsForm here k.Call ps xs end split open_break → AsForm here k.Call (f ∷ []) xs end split open_break) → InPlace y (with_parts (f ∷ []) y))
+    → IfSome (option_and_then named (called (record { kind = k.Call; parts = ps; seq = record { items = xs; end = end; split = split }; open_break = open_break; comments = comments })))
     (Calls y (λ new. with_items new y) (λ f. with_parts f y))
-call_row y end_ split open_ comments [] xs h others function = tt
-call_row y end_ split open_ comments (p ∷ []) xs h others function =
+call_row y end split open_break comments [] xs h others function = tt
+call_row y end split open_break comments (p ∷ []) xs h others function =
     any_name xs (Calls y (λ new. with_items new y) (λ f. with_parts f y))
     (λ kind. record {
-      arguments = call_apart Begins end_ split open_ (p ∷ []) xs h;
+      arguments = call_apart Begins end split open_break (p ∷ []) xs h;
       others = others;
       function = λ f c. function f (λ here a. ((c.2, a.0.1), ((c.0 here, c.1, tt), a.1.1, a.1.2, a.1.3)));
     })
     (dotted_name p)
-call_row y end_ split open_ comments (p ∷ q ∷ ps) xs h others function = tt
+call_row y end split open_break comments (p ∷ q ∷ ps) xs h others function = tt
 
 in_call : (y : Expr) → ProperExpr Begins y → IfSome (option_and_then named (option_and_then called (form_in k.Call y))) (Calls y (λ new. with_items new y) (λ f. with_parts f y))
 in_call (Token t) h = tt
-in_call (Form' k.Call s parts s' items end_ split open_ comments) h =
-    let y : Expr = Form' k.Call s parts s' items end_ split open_ comments in
-    call_row y end_ split open_ comments (items-the_row-Expr _ parts) (items-the_row-Expr _ items) (opened Begins y h)
+in_call (Form' k.Call s parts s' items end split open_break comments) h =
+    let y : Expr = Form' k.Call s parts s' items end split open_break comments in
+    call_row y end split open_break comments (items-the_row-Expr _ parts) (items-the_row-Expr _ items) (opened Begins y h)
     (λ new a. call_in_place (λ _. new) (λ xs b. a) y)
     (λ f g. form_in_place (f ∷ []) (items-the_row-Expr _ items) y g)
-in_call (Form' _ s parts s' items end_ split open_ comments) h = tt
+in_call (Form' _ s parts s' items end split open_break comments) h = tt
 
 -- a statement by its expression
-bare_row : (x : Expr) (within : List Expr → Expr) (end_ : List Bytes) (split open_ : Bool) (ps xs : List Expr) → AsForm Begins k.Bare ps xs end_ split open_
+bare_row : (x : Expr) (within : List Expr → Expr) (end : List Bytes) (split open_break : Bool) (ps xs : List Expr) → AsForm Begins k.Bare ps xs end split open_break
     → ((qs : List Expr) → EachInPlace ps qs → InPlace x (within qs))
     → IfSome (option_and_then named (option_and_then called (option_and_then (form_in k.Call) (only ps))))
     (Calls x (λ new. within (on_first (with_items new) ps)) (λ f. within (on_first (with_parts f) ps)))
-bare_row x within end_ split open_ [] xs h changed = tt
-bare_row x within end_ split open_ (y ∷ []) xs h changed =
+bare_row x within end split open_break [] xs h changed = tt
+bare_row x within end split open_break (y ∷ []) xs h changed =
     if_some (Calls y (λ new. with_items new y) (λ f. with_parts f y)) (Calls x (λ new. within (with_items new y ∷ [])) (λ f. within (with_parts f y ∷ [])))
     (λ rule c. record {
       arguments = c.arguments;
@@ -78,7 +78,7 @@ bare_row x within end_ split open_ (y ∷ []) xs h changed =
       function = λ f a. changed (with_parts (f ∷ []) y ∷ []) (both y (with_parts (f ∷ []) y) [] [] (c.function f a) none);
     })
     (option_and_then named (option_and_then called (form_in k.Call y))) (in_call y h.1.0.0)
-bare_row x within end_ split open_ (y ∷ z ∷ ps) xs h changed = tt
+bare_row x within end split open_break (y ∷ z ∷ ps) xs h changed = tt
 
 abbrev pub in_statement : (List Expr → Expr → Expr) → Expr → List Expr → Expr
 in_statement change x new = on_row k.Bare (on_first (change new)) x
@@ -88,10 +88,10 @@ IsRule x = Calls x (in_statement with_items x) (in_statement with_parts x)
 
 in_bare : (x : Expr) → ProperExpr Begins x → IfSome (rule_of (i.Stmt x)) (IsRule x)
 in_bare (Token t) h = tt
-in_bare (Form' k.Bare s parts s' items end_ split open_ comments) h =
-    let x : Expr = Form' k.Bare s parts s' items end_ split open_ comments in
-    bare_row x (λ qs. with_parts qs x) end_ split open_ (items-the_row-Expr _ parts) (items-the_row-Expr _ items) (opened Begins x h) (λ qs w. changed_parts qs x w)
-in_bare (Form' _ s parts s' items end_ split open_ comments) h = tt
+in_bare (Form' k.Bare s parts s' items end split open_break comments) h =
+    let x : Expr = Form' k.Bare s parts s' items end split open_break comments in
+    bare_row x (λ qs. with_parts qs x) end split open_break (items-the_row-Expr _ parts) (items-the_row-Expr _ items) (opened Begins x h) (λ qs w. changed_parts qs x w)
+in_bare (Form' _ s parts s' items end split open_break comments) h = tt
 
 -- ---- items of the file
 

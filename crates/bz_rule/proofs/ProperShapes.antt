@@ -8,8 +8,8 @@ use Rattle.bz_tree.specs.declared.kind.Kind.TheVariants as k
 use Rattle.bz_tree.specs.declared.tree.Part.{Part}
 use Rattle.bz_tree.specs.declared.tree.Part.TheVariants as p
 use Rattle.bz_tree.specs.Shapes as s
-use Rattle.bz_tree.specs.Shapes.{Sort, Terminal, Shape, Fits, Listed, Behind, Several, shape, has_token, has_sort, is_one_of, is_terminal, is_class}
-use Rattle.bz_tree.specs.Legal.{IsSort}
+use Rattle.bz_tree.specs.Shapes.{Nonterminal, Terminal, Shape, Fits, Listed, After, Several, shape, has_token, has_nonterminal, is_one_of, is_terminal, is_class}
+use Rattle.bz_tree.specs.Legal.{IsNonterminal}
 use Rattle.bz_items.specs.Characters.{comma}
 use Rattle.bz_value.specs.Frames.{Frame, row, sequence}
 use Rattle.bz_value.specs.Roots.{mark_leaf, each_with_comma, row_in}
@@ -29,10 +29,10 @@ abbrev pub textless : Shape → Bool
 textless s.none = true
 textless s.done = true
 textless (s.tok terminals then_) = are_textless terminals && textless then_
-textless (s.sub sort then_) = textless then_
+textless (s.sub nonterminal then_) = textless then_
 textless (s.alt left right) = textless left && textless right
-textless (s.list sort separators last then_) = are_textless separators && textless then_
-textless (s.each sort then_) = textless then_
+textless (s.list nonterminal separators last then_) = are_textless separators && textless then_
+textless (s.each nonterminal then_) = textless then_
 textless (s.times group then_) = false
 
 pub kind_textless : (kind : Kind) → textless (shape kind) ≡ true
@@ -43,10 +43,10 @@ kind_textless _ = refl
 
 pub record AlikeRoots (x y : Part) : Type 0 where
   pub token : (ts : List Terminal) → are_textless ts ≡ true → has_token ts x ≡ has_token ts y
-  pub sort : (q : Sort) → has_sort q x ≡ has_sort q y
+  pub nonterminal : (q : Nonterminal) → has_nonterminal q x ≡ has_nonterminal q y
 
 pub same_root : (x y : Part) → x ≡ y → AlikeRoots x y
-same_root x y e = record { token = λ ts h. ap (has_token ts) e; sort = λ q. ap (has_sort q) e }
+same_root x y e = record { token = λ ts h. ap (has_token ts) e; nonterminal = λ q. ap (has_nonterminal q) e }
 
 pub data Alike : List Part → List Part → Type 0 where
   over : Alike [] []
@@ -55,35 +55,35 @@ pub data Alike : List Part → List Part → Type 0 where
 abbrev Carries : (List Part → Type 0) → Type 0
 Carries K = (xs ys : List Part) → Alike xs ys → K xs → K ys
 
-module _ (q : Sort) (K : List Part → Type 0) (carries : Carries K) where
+module _ (q : Nonterminal) (K : List Part → Type 0) (carries : Carries K) where
   mutual
-    listed_alike : (ts : List Terminal) (last : Bool) → are_textless ts ≡ true → (xs ys : List Part) → Alike xs ys → Listed (IsSort q) ts last K xs → Listed (IsSort q) ts last K ys
+    listed_alike : (ts : List Terminal) (last : Bool) → are_textless ts ≡ true → (xs ys : List Part) → Alike xs ys → Listed (IsNonterminal q) ts last K xs → Listed (IsNonterminal q) ts last K ys
     listed_alike ts last n xs ys over h = absurd h
-    listed_alike ts last n xs ys (more x y xs' ys' r w) h = (sym (r.sort q) ∙ h.0, behind_alike ts last n xs' ys' w h.1)
+    listed_alike ts last n xs ys (more x y xs' ys' r w) h = (sym (r.nonterminal q) ∙ h.0, after_alike ts last n xs' ys' w h.1)
 
-    behind_alike : (ts : List Terminal) (last : Bool) → are_textless ts ≡ true → (xs ys : List Part) → Alike xs ys → Behind (IsSort q) ts last K xs → Behind (IsSort q) ts last K ys
-    behind_alike ts last n xs ys over h = carries [] [] over h
-    behind_alike ts last n xs ys (more x y xs' ys' r w) (inl h) = inl (carries (x ∷ xs') (y ∷ ys') (more x y xs' ys' r w) h)
-    behind_alike ts last n xs ys (more x y xs' ys' r w) (inr (m, inl h)) = inr (sym (r.token ts n) ∙ m, inl (listed_alike ts last n xs' ys' w h))
-    behind_alike ts last n xs ys (more x y xs' ys' r w) (inr (m, inr h)) = inr (sym (r.token ts n) ∙ m, inr (h.0, carries xs' ys' w h.1))
+    after_alike : (ts : List Terminal) (last : Bool) → are_textless ts ≡ true → (xs ys : List Part) → Alike xs ys → After (IsNonterminal q) ts last K xs → After (IsNonterminal q) ts last K ys
+    after_alike ts last n xs ys over h = carries [] [] over h
+    after_alike ts last n xs ys (more x y xs' ys' r w) (inl h) = inl (carries (x ∷ xs') (y ∷ ys') (more x y xs' ys' r w) h)
+    after_alike ts last n xs ys (more x y xs' ys' r w) (inr (m, inl h)) = inr (sym (r.token ts n) ∙ m, inl (listed_alike ts last n xs' ys' w h))
+    after_alike ts last n xs ys (more x y xs' ys' r w) (inr (m, inr h)) = inr (sym (r.token ts n) ∙ m, inr (h.0, carries xs' ys' w h.1))
 
-  several_alike : (xs ys : List Part) → Alike xs ys → Several (IsSort q) K xs → Several (IsSort q) K ys
+  several_alike : (xs ys : List Part) → Alike xs ys → Several (IsNonterminal q) K xs → Several (IsNonterminal q) K ys
   several_alike xs ys over h = carries [] [] over h
   several_alike xs ys (more x y xs' ys' r w) (inl h) = inl (carries (x ∷ xs') (y ∷ ys') (more x y xs' ys' r w) h)
-  several_alike xs ys (more x y xs' ys' r w) (inr h) = inr (sym (r.sort q) ∙ h.0, several_alike xs' ys' w h.1)
+  several_alike xs ys (more x y xs' ys' r w) (inr h) = inr (sym (r.nonterminal q) ∙ h.0, several_alike xs' ys' w h.1)
 
-fits_alike : (r : Shape) → textless r ≡ true → Carries (Fits IsSort r)
+fits_alike : (r : Shape) → textless r ≡ true → Carries (Fits IsNonterminal r)
 fits_alike s.none n xs ys w h = absurd h
 fits_alike s.done n xs ys over h = h
 fits_alike s.done n xs ys (more x y xs' ys' r w) h = absurd h
 fits_alike (s.tok ts then_) n xs ys over h = absurd h
 fits_alike (s.tok ts then_) n xs ys (more x y xs' ys' r w) h = (sym (r.token ts (and_parts _ _ n).0) ∙ h.0, fits_alike then_ (and_parts _ _ n).1 xs' ys' w h.1)
 fits_alike (s.sub q then_) n xs ys over h = absurd h
-fits_alike (s.sub q then_) n xs ys (more x y xs' ys' r w) h = (sym (r.sort q) ∙ h.0, fits_alike then_ n xs' ys' w h.1)
+fits_alike (s.sub q then_) n xs ys (more x y xs' ys' r w) h = (sym (r.nonterminal q) ∙ h.0, fits_alike then_ n xs' ys' w h.1)
 fits_alike (s.alt left right) n xs ys w (inl h) = inl (fits_alike left (and_parts _ _ n).0 xs ys w h)
 fits_alike (s.alt left right) n xs ys w (inr h) = inr (fits_alike right (and_parts _ _ n).1 xs ys w h)
-fits_alike (s.list q ts last then_) n xs ys w h = listed_alike q (Fits IsSort then_) (fits_alike then_ (and_parts _ _ n).1) ts last (and_parts _ _ n).0 xs ys w h
-fits_alike (s.each q then_) n xs ys w h = several_alike q (Fits IsSort then_) (fits_alike then_ n) xs ys w h
+fits_alike (s.list q ts last then_) n xs ys w h = listed_alike q (Fits IsNonterminal then_) (fits_alike then_ (and_parts _ _ n).1) ts last (and_parts _ _ n).0 xs ys w h
+fits_alike (s.each q then_) n xs ys w h = several_alike q (Fits IsNonterminal then_) (fits_alike then_ n) xs ys w h
 fits_alike (s.times group then_) n xs ys w h = absurd (true≢false (sym n))
 
 -- ---- a string and the same with another text
@@ -102,16 +102,16 @@ one_of (t ∷ ts) gap gap' text text' h =
     ap (λ b. b || is_one_of ts (record { class = c.String; gap = gap; token = text })) (one_terminal t gap gap' text text' (and_parts _ _ h).0)
     ∙ ap (λ b. is_terminal t (record { class = c.String; gap = gap'; token = text' }) || b) (one_of ts gap gap' text text' (and_parts _ _ h).1)
 
-sort_textless : (q : Sort) → are_textless (s.leaves_at q) ≡ true
-sort_textless (s.level n) = refl
-sort_textless s.argument = refl
-sort_textless s.loaded = refl
-sort_textless _ = refl
+nonterminal_textless : (q : Nonterminal) → are_textless (s.leaves_at q) ≡ true
+nonterminal_textless (s.level n) = refl
+nonterminal_textless s.argument = refl
+nonterminal_textless s.loaded = refl
+nonterminal_textless _ = refl
 
 pub other_string : (text text' : List ℕ) → AlikeRoots (p.Leaf (record { class = c.String; gap = []; token = text })) (p.Leaf (record { class = c.String; gap = []; token = text' }))
 other_string text text' = record {
   token = λ ts h. one_of ts [] [] text text' h;
-  sort = λ q. one_of (s.leaves_at q) [] [] text text' (sort_textless q);
+  nonterminal = λ q. one_of (s.leaves_at q) [] [] text text' (nonterminal_textless q);
 }
 
 -- ---- rows with brackets and commas put back
@@ -127,14 +127,14 @@ commas_alike : (xs ys : List Part) (closer : Part) → Alike xs ys → Alike (ea
 commas_alike xs ys closer over = more closer closer [] [] (itself closer) over
 commas_alike xs ys closer (more x y xs' ys' r w) = more x y _ _ r (more (mark_leaf comma) (mark_leaf comma) _ _ (itself (mark_leaf comma)) (commas_alike xs' ys' closer w))
 
-behind_parts : (xs ys us vs : List Part) → Alike xs ys → Alike us vs → Alike (xs ++ us) (ys ++ vs)
-behind_parts xs ys us vs over i = i
-behind_parts xs ys us vs (more x y xs' ys' r w) i = more x y _ _ r (behind_parts xs' ys' us vs w i)
+after_parts : (xs ys us vs : List Part) → Alike xs ys → Alike us vs → Alike (xs ++ us) (ys ++ vs)
+after_parts xs ys us vs over i = i
+after_parts xs ys us vs (more x y xs' ys' r w) i = more x y _ _ r (after_parts xs' ys' us vs w i)
 
 row_alike : (f : Frame) (xs ys us vs : List Part) → Alike xs ys → Alike us vs → Alike (row_in f xs us) (row_in f ys vs)
 row_alike row xs ys us vs h i = h
-row_alike (sequence opener closer) xs ys us vs h i = behind_parts xs ys _ _ h (more (mark_leaf opener) (mark_leaf opener) _ _ (itself (mark_leaf opener)) (commas_alike us vs (mark_leaf closer) i))
+row_alike (sequence opener closer) xs ys us vs h i = after_parts xs ys _ _ h (more (mark_leaf opener) (mark_leaf opener) _ _ (itself (mark_leaf opener)) (commas_alike us vs (mark_leaf closer) i))
 
 -- What is alike to the parts and items of a node fits its shape too.
-pub kind_alike : (kind : Kind) (f : Frame) (xs ys us vs : List Part) → Alike xs ys → Alike us vs → Fits IsSort (shape kind) (row_in f xs us) → Fits IsSort (shape kind) (row_in f ys vs)
+pub kind_alike : (kind : Kind) (f : Frame) (xs ys us vs : List Part) → Alike xs ys → Alike us vs → Fits IsNonterminal (shape kind) (row_in f xs us) → Fits IsNonterminal (shape kind) (row_in f ys vs)
 kind_alike kind f xs ys us vs h i = fits_alike (shape kind) (kind_textless kind) (row_in f xs us) (row_in f ys vs) (row_alike f xs ys us vs h i)

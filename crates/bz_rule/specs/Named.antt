@@ -12,12 +12,12 @@ each_named xs = map (λ x. (x, dotted_name x)) xs
 abbrev mutual
   pub fronts : Expr → ℕ
   fronts (Token t) = 0
-  fronts (Form' kind s parts s' items end_ split open_ comments) = suc (fronts_in_row parts)
+  fronts (Form' kind s parts s' items end split open_break comments) = suc (fronts_in_row parts)
 
   pub fronts_in_row : {m : _} → Row_of-Expr m → ℕ
   fronts_in_row end_of-Expr = 0
   fronts_in_row (more_of-Expr x rest) = fronts x
 
-abbrev pub fronts_in : List Expr → ℕ
-fronts_in [] = 0
-fronts_in (x ∷ xs) = fronts x
+abbrev pub fronts_among : List Expr → ℕ
+fronts_among [] = 0
+fronts_among (x ∷ xs) = fronts x

@@ -20,15 +20,15 @@ use Rattle.bz_items.specs.Characters.{Bytes, apostrophe, backslash, full_stop, q
 -- the form, where the expression is one of this kind
 abbrev pub form_in : Kind → Expr → Option Form
 form_in kind (e.Token t) = None
-form_in kind (Form' found _ parts _ items end_ split open_ comments) =
+form_in kind (Form' found _ parts _ items end split open_break comments) =
     if nat_eq (kind_number found) (kind_number kind)
-    then Some (record { kind = found; parts = items-the_row-Expr _ parts; seq = record { items = items-the_row-Expr _ items; end_ = end_; split = split }; open_ = open_; comments = comments })
+    then Some (record { kind = found; parts = items-the_row-Expr _ parts; seq = record { items = items-the_row-Expr _ items; end = end; split = split }; open_break = open_break; comments = comments })
     else None
 
 -- the text of the token, where the expression is one of this class
 abbrev pub text_in : Class → Expr → Option Bytes
 text_in class (e.Token t) = if is_class t.class class then Some t.text else None
-text_in class (Form' kind s parts s' items end_ split open_ comments) = None
+text_in class (Form' kind s parts s' items end split open_break comments) = None
 
 -- the element of a list of one
 abbrev pub only : List Expr → Option Expr
@@ -54,7 +54,7 @@ joined _ = None
 abbrev mutual
   pub dotted_name : Expr → Option Bytes
   dotted_name (e.Token t) = text_in c.Name (e.Token t)
-  dotted_name (Form' kind s parts s' items end_ split open_ comments) =
+  dotted_name (Form' kind s parts s' items end split open_break comments) =
       if nat_eq (kind_number kind) (kind_number k.Dot) then joined (with_names parts) else None
 
   -- each part with its own text
@@ -92,12 +92,12 @@ abbrev pub is_rule_of_kind : Bytes → Item → Bool
 is_rule_of_kind kind item = is_text kind (option_map (λ rule. rule.kind) (rule_of item))
 
 -- An attribute is a named argument, name = value; of several with one name the first is meant.
-abbrev pub value_behind : Bytes → List Expr → Option Expr
-value_behind name (x ∷ equals ∷ value ∷ []) = if is_text name (text_in c.Name x) then Some value else None
-value_behind name _ = None
+abbrev pub value_after : Bytes → List Expr → Option Expr
+value_after name (x ∷ equals ∷ value ∷ []) = if is_text name (text_in c.Name x) then Some value else None
+value_after name _ = None
 
 abbrev pub value_named : Bytes → Expr → Option Expr
-value_named name x = option_and_then (λ argument. value_behind name argument.parts) (form_in k.Named x)
+value_named name x = option_and_then (λ argument. value_after name argument.parts) (form_in k.Named x)
 
 abbrev pub attribute : Bytes → List Expr → Option Expr
 attribute name [] = None

@@ -12,41 +12,41 @@ use Rattle.bz_value.specs.Commented.{with_comments}
 
 abbrev pub has_kind : Kind → Expr → Bool
 has_kind kind (Token t) = false
-has_kind kind (Form' own s parts s' items end_ split open_ comments) = is_kind own kind
+has_kind kind (Form' own s parts s' items end split open_break comments) = is_kind own kind
 
 abbrev pub has_class : Class → Expr → Bool
 has_class class (Token t) = is_class t.class class
-has_class class (Form' own s parts s' items end_ split open_ comments) = false
+has_class class (Form' own s parts s' items end split open_break comments) = false
 
 -- the text of a token
 abbrev pub text_of : Expr → Bytes
 text_of (Token t) = t.text
-text_of (Form' own s parts s' items end_ split open_ comments) = []
+text_of (Form' own s parts s' items end split open_break comments) = []
 
 -- the row of a node, or what is before the bracket of a sequence
 abbrev pub parts_of : Expr → List Expr
 parts_of (Token t) = []
-parts_of (Form' own s parts s' items end_ split open_ comments) = items-the_row-Expr _ parts
+parts_of (Form' own s parts s' items end split open_break comments) = items-the_row-Expr _ parts
 
 -- the items of a sequence
 abbrev pub items_of : Expr → List Expr
 items_of (Token t) = []
-items_of (Form' own s parts s' items end_ split open_ comments) = items-the_row-Expr _ items
+items_of (Form' own s parts s' items end split open_break comments) = items-the_row-Expr _ items
 
 abbrev pub with_parts : List Expr → Expr → Expr
 with_parts xs (Token t) = e.Token t
-with_parts xs (Form' own s parts s' items end_ split open_ comments) =
-    e.Form (record { kind = own; parts = xs; seq = record { items = items-the_row-Expr _ items; end_ = end_; split = split }; open_ = open_; comments = comments })
+with_parts xs (Form' own s parts s' items end split open_break comments) =
+    e.Form (record { kind = own; parts = xs; seq = record { items = items-the_row-Expr _ items; end = end; split = split }; open_break = open_break; comments = comments })
 
 abbrev pub with_items : List Expr → Expr → Expr
 with_items xs (Token t) = e.Token t
-with_items xs (Form' own s parts s' items end_ split open_ comments) =
-    e.Form (record { kind = own; parts = items-the_row-Expr _ parts; seq = record { items = xs; end_ = end_; split = split }; open_ = open_; comments = comments })
+with_items xs (Form' own s parts s' items end split open_break comments) =
+    e.Form (record { kind = own; parts = items-the_row-Expr _ parts; seq = record { items = xs; end = end; split = split }; open_break = open_break; comments = comments })
 
 abbrev pub with_text : Bytes → Expr → Expr
 with_text text (Token t) = e.Token (record t { text = text })
-with_text text (Form' own s parts s' items end_ split open_ comments) =
-    e.Form (record { kind = own; parts = items-the_row-Expr _ parts; seq = record { items = items-the_row-Expr _ items; end_ = end_; split = split }; open_ = open_; comments = comments })
+with_text text (Form' own s parts s' items end split open_break comments) =
+    e.Form (record { kind = own; parts = items-the_row-Expr _ parts; seq = record { items = items-the_row-Expr _ items; end = end; split = split }; open_break = open_break; comments = comments })
 
 -- the comments above an expression
 abbrev pub above : Expr → List Bytes
@@ -71,9 +71,9 @@ abbrev pub on_third : {X : Type 0} → (X → X) → List X → List X
 on_third change (x ∷ y ∷ z ∷ rest) = x ∷ y ∷ change z ∷ rest
 on_third change xs = xs
 
-abbrev pub behind_first : {X : Type 0} → (List X → List X) → List X → List X
-behind_first change [] = []
-behind_first change (x ∷ xs) = x ∷ change xs
+abbrev pub on_rest : {X : Type 0} → (List X → List X) → List X → List X
+on_rest change [] = []
+on_rest change (x ∷ xs) = x ∷ change xs
 
 abbrev pub first_text : List Expr → Bytes
 first_text [] = []

@@ -1,13 +1,13 @@
 //! Letting go of values. A drop calls itself for each form in another, and the function of a call may be 32,000 names joined by
 //! dots, each in the next: more than a stack holds.
 ghost use Rattle.std.specs.Prelude.{◌≡◌, ◌<◌, IfSome};
-ghost use Rattle.bz_rule.specs.Named.{fronts, fronts_in};
+ghost use Rattle.bz_rule.specs.Named.{fronts, fronts_among};
 
 use bz_value::{Expr, File, Item};
 
 /// The first of some parts; the others are dropped.
 fn first_of(parts: Vec<Expr>) -> Option<Expr>
-    ensures { IfSome result (λ part. fronts part ≡ fronts_in parts.items) }
+    ensures { IfSome result (λ part. fronts part ≡ fronts_among parts.items) }
 {
     parts.into_iter().next()
 }

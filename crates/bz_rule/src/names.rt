@@ -3,7 +3,7 @@ ghost use Rattle.std.specs.Prelude.{◌≡◌, ◌≢◌, ◌<◌, MatchOption, 
 ghost use Rattle.bz_items.specs.Characters.{Bytes, full_stop};
 ghost use Rattle.bz_token.specs.declared.class.Class.TheVariants as c;
 ghost use Rattle.bz_rule.specs.Rules.{is_text, text_in, dotted, joined, dotted_name};
-ghost use Rattle.bz_rule.specs.Named.{each_named, fronts, fronts_in};
+ghost use Rattle.bz_rule.specs.Named.{each_named, fronts, fronts_among};
 
 use crate::parts::{is_text, text_in};
 use bz_tree::{Class, Kind};
@@ -48,7 +48,7 @@ struct Joined<'a> {
 fn cut_row(parts: &[Expr]) -> Option<Joined<'_>>
     ensures name { MatchOption result (joined (each_named parts.now) ≡ None)
         (λ names. joined (each_named parts.now) ≡ dotted (dotted_name names.front.now) (Some names.last.now)) }
-    ensures front { IfSome result (λ names. fronts names.front.now ≡ fronts_in parts.now) }
+    ensures front { IfSome result (λ names. fronts names.front.now ≡ fronts_among parts.now) }
 {
     match parts {
         [front, _, last] => match text_in(Class::Name, last) {

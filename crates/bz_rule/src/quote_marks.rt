@@ -43,10 +43,10 @@ fn unprefixed(text: &[u8]) -> &[u8]
     ensures { result.now ≡ unprefixed text.now }
 {
     let mut rest = text;
-    while let [first, behind @ ..] = rest {
+    while let [first, following @ ..] = rest {
         match *first {
             b'"' | b'\'' => return rest,
-            _ => rest = behind,
+            _ => rest = following,
         }
     }
     rest

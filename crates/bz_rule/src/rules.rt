@@ -1,7 +1,7 @@
 //! Rules: statements that call a name, or names joined by dots.
 ghost use Rattle.std.specs.Prelude.{◌≡◌, Option};
 ghost use Rattle.std.specs.Option.{option_copied, option_map};
-ghost use Rattle.bz_rule.specs.Rules.{called, call_of, is_rule_of_kind, value_behind, value_named, attribute, name_in, has_name};
+ghost use Rattle.bz_rule.specs.Rules.{called, call_of, is_rule_of_kind, value_after, value_named, attribute, name_in, has_name};
 ghost use Rattle.bz_rule.specs.Seen.{seen};
 
 use crate::names::{is_dotted, is_named};
@@ -41,8 +41,8 @@ pub fn call_of(item: &Item) -> Option<Call<'_>>
     }
 }
 
-fn value_behind<'a>(name: &[u8], row: &'a [Expr]) -> Option<&'a Expr>
-    ensures { option_copied result ≡ value_behind name.now row.now }
+fn value_after<'a>(name: &[u8], row: &'a [Expr]) -> Option<&'a Expr>
+    ensures { option_copied result ≡ value_after name.now row.now }
 {
     match row {
         [left, _, value] if is_text(name, text_in(Class::Name, left)) => Some(value),
@@ -55,7 +55,7 @@ pub fn value_named<'a>(name: &[u8], expr: &'a Expr) -> Option<&'a Expr>
     ensures { option_copied result ≡ value_named name.now expr.now }
 {
     let argument = form_in(Kind::Named, expr)?;
-    value_behind(name, argument.parts.as_slice())
+    value_after(name, argument.parts.as_slice())
 }
 
 /// The value of the first argument of this name.

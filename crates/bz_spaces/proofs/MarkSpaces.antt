@@ -8,7 +8,7 @@ use Rattle.bz_tree.specs.declared.kind.Kind.{Kind}
 use Rattle.bz_tree.specs.declared.tree.Part.{Part}
 use Rattle.bz_tree.specs.declared.tree.Part.TheVariants as p
 use Rattle.bz_tree.specs.Shapes as s
-use Rattle.bz_spaces.specs.Spaces.{lone, is_dot_terminal, is_prefix_mark, is_colon_spaced, space_behind, is_spaced_after}
+use Rattle.bz_spaces.specs.Spaces.{lone, is_dot_terminal, is_prefix_mark, is_colon_spaced, space_after, is_spaced_after}
 
 -- a comma, or a colon with a space after it
 abbrev pub is_separator : Kind → Bytes → Bool
@@ -23,11 +23,11 @@ not_first true b d h = absurd cc
 not_first false true d h = absurd cc
 not_first false false d h = refl
 
-behind_mark : (kind : Kind) (x : Part) (l : Leaf) (text : Bytes) → x ≡ p.Leaf l → l.class ≡ c.Mark → text ≡ l.token →
+after_mark : (kind : Kind) (x : Part) (l : Leaf) (text : Bytes) → x ≡ p.Leaf l → l.class ≡ c.Mark → text ≡ l.token →
     is_spaced_after kind x ≡ (bytes_eq text (codes ",") || ((bytes_eq text (codes ":") && is_colon_spaced kind) || not (is_tight kind text)))
-behind_mark kind x l text is mark has =
-    ap (λ y. is_spaced_after kind y) is ∙ (ap (λ class. space_behind kind (s.this class l.token)) mark ∙ ap (λ t. space_behind kind (s.this c.Mark t)) (sym has))
+after_mark kind x l text is mark has =
+    ap (λ y. is_spaced_after kind y) is ∙ (ap (λ class. space_after kind (s.this class l.token)) mark ∙ ap (λ t. space_after kind (s.this c.Mark t)) (sym has))
 
-pub other_behind : (kind : Kind) (x : Part) (l : Leaf) (text : Bytes) (tight : Bool) → x ≡ p.Leaf l → l.class ≡ c.Mark → text ≡ l.token → is_separator kind text ≡ false → tight ≡ is_tight kind text → not tight ≡ is_spaced_after kind x
-other_behind kind x l text tight is mark has h told =
-    ap not told ∙ sym (behind_mark kind x l text is mark has ∙ not_first (bytes_eq text (codes ",")) (bytes_eq text (codes ":") && is_colon_spaced kind) (not (is_tight kind text)) h)
+pub other_after : (kind : Kind) (x : Part) (l : Leaf) (text : Bytes) (tight : Bool) → x ≡ p.Leaf l → l.class ≡ c.Mark → text ≡ l.token → is_separator kind text ≡ false → tight ≡ is_tight kind text → not tight ≡ is_spaced_after kind x
+other_after kind x l text tight is mark has h answered =
+    ap not answered ∙ sym (after_mark kind x l text is mark has ∙ not_first (bytes_eq text (codes ",")) (bytes_eq text (codes ":") && is_colon_spaced kind) (not (is_tight kind text)) h)

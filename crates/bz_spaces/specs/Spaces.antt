@@ -40,10 +40,10 @@ is_colon_spaced k.Lambda = true
 is_colon_spaced _ = false
 
 -- One space is around operators, `=`, augmented forms and keywords, after a comma, and after the colon of an Entry and of a Lambda.
-abbrev pub space_behind : Kind → Terminal → Bool
-space_behind kind (s.this c.Mark t) = bytes_eq t (codes ",") || ((bytes_eq t (codes ":") && is_colon_spaced kind) || not (lone (s.this c.Mark t) || (is_dot_terminal (s.this c.Mark t) || is_prefix_mark kind t)))
-space_behind kind (s.this c.Keyword t) = not (bytes_eq t (codes "load"))
-space_behind kind _ = false
+abbrev pub space_after : Kind → Terminal → Bool
+space_after kind (s.this c.Mark t) = bytes_eq t (codes ",") || ((bytes_eq t (codes ":") && is_colon_spaced kind) || not (lone (s.this c.Mark t) || (is_dot_terminal (s.this c.Mark t) || is_prefix_mark kind t)))
+space_after kind (s.this c.Keyword t) = not (bytes_eq t (codes "load"))
+space_after kind _ = false
 
 abbrev pub space_before : Kind → Terminal → Bool
 space_before kind (s.this c.Mark t) = not (lone (s.this c.Mark t) || (is_dot_terminal (s.this c.Mark t) || is_prefix_mark kind t))
@@ -68,7 +68,7 @@ is_value (p.Leaf l) = is_word l.class
 is_value (Node' kind z r) = true
 
 abbrev pub is_spaced_after : Kind → Part → Bool
-is_spaced_after kind (p.Leaf l) = space_behind kind (s.this l.class l.token)
+is_spaced_after kind (p.Leaf l) = space_after kind (s.this l.class l.token)
 is_spaced_after kind (Node' k z r) = false
 
 abbrev pub is_spaced_before : Kind → Part → Bool

@@ -53,7 +53,7 @@ fn is_tight(kind: Kind, mark: &[u8]) -> bool
 }
 
 /// Whether a space is after the expression.
-fn has_space_behind(kind: Kind, expr: &Expr) -> bool
+fn has_space_after(kind: Kind, expr: &Expr) -> bool
     ensures { result ≡ spaces.is_spaced_after kind (root expr.now) }
 {
     let Expr::Token(token) = expr else {
@@ -129,7 +129,7 @@ fn is_dot(expr: &Expr) -> bool
 pub fn is_spaced(kind: Kind, left: &Expr, right: &Expr) -> bool
     ensures { result ≡ spaces.is_spaced kind (root left.now) (root right.now) }
 {
-    has_space_behind(kind, left) && !is_lone(right)
+    has_space_after(kind, left) && !is_lone(right)
         || has_space_before(kind, right)
         || is_value(left) && is_value(right)
         // `1.` is a number

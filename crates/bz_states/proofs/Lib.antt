@@ -1,3 +1,3 @@
-mod Told
+mod Answered
 mod Cutting
 mod Lines

@@ -5,7 +5,7 @@ use Rattle.bz_token.specs.declared.class.Class.TheVariants.{End}
 use Rattle.bz_token.specs.Tokens.{NoToken}
 use Rattle.bz_lex.specs.declared.front.Front.{Front}
 use Rattle.bz_lex.specs.declared.gap.GapState.{GapState}
-use Rattle.bz_lex.specs.Fronts.{IsFront, front_leaf, behind_front}
+use Rattle.bz_lex.specs.Fronts.{IsFront, front_leaf, after_front}
 use Rattle.bz_lex.specs.Gaps.{IsGap, indent}
 use Rattle.bz_lex.specs.declared.place.Place.{Place}
 use Rattle.bz_lex.specs.declared.place.Place.TheVariants.{Fresh}
@@ -23,21 +23,21 @@ leaves_split text rest _ (leaf_more p q l _ h m e) =
     (w.0 ++ (l.gap ++ l.token), w.1 ∙ ap (λ (u : List ℕ). w.0 ++ u) (sym (append_assoc l.gap l.token rest)) ∙ sym (append_assoc (w.0) (l.gap ++ l.token) rest))
 
 -- one leaf more
-pub leaves_more : (text s t : List ℕ) (p q : Place) (f : Front) → LeavesTo text p s → IsFront p f s → q ≡ next p (front_leaf f s) → t ≡ behind_front f s → LeavesTo text q t
-leaves_more text s t p q f h w e i = rw i (leaf_more p q (front_leaf f s) (behind_front f s) (subst (LeavesTo text p) (sym (front_text f s w.within)) h) w.may e)
+pub leaves_more : (text s t : List ℕ) (p q : Place) (f : Front) → LeavesTo text p s → IsFront p f s → q ≡ next p (front_leaf f s) → t ≡ after_front f s → LeavesTo text q t
+leaves_more text s t p q f h w e i = rw i (leaf_more p q (front_leaf f s) (after_front f s) (subst (LeavesTo text p) (sym (front_text f s w.within)) h) w.may e)
 
-pub rest_shorter : (text s t : List ℕ) (f : Front) → t ≡ behind_front f s → length s ≤ length text → length t ≤ length text
+pub rest_shorter : (text s t : List ℕ) (f : Front) → t ≡ after_front f s → length s ≤ length text → length t ≤ length text
 rest_shorter text s t f e le = rw (e, length-drop, length-drop) (omega arith)
 
 -- the first token of a line and its gap
 first_token : (s : List ℕ) (f : Front) → IsFront Fresh f s → f.class ≢ End → IsGap true false (take f.gap s) × (NoToken (drop f.gap s) → ⊥)
 first_token s f w no_end = by_form x.2
   where
-    x : (q : GapState) × Ended true q (take f.gap s) ((front_leaf f s).token ++ behind_front f s) × Form Fresh q (front_leaf f s) (behind_front f s)
-    x = form Fresh (front_leaf f s) (behind_front f s) w.may
+    x : (q : GapState) × Ended true q (take f.gap s) ((front_leaf f s).token ++ after_front f s) × Form Fresh q (front_leaf f s) (after_front f s)
+    x = form Fresh (front_leaf f s) (after_front f s) w.may
 
-    by_form : Form Fresh x.0 (front_leaf f s) (behind_front f s) → IsGap true false (take f.gap s) × (NoToken (drop f.gap s) → ⊥)
-    by_form (inl b) = (gap_from true false x.0 (take f.gap s) x.1.taken (rw b.closed refl), λ none. none f.class (front_leaf f s).token (behind_front f s) (take-append-drop f.token (drop f.gap s)) b.token)
+    by_form : Form Fresh x.0 (front_leaf f s) (after_front f s) → IsGap true false (take f.gap s) × (NoToken (drop f.gap s) → ⊥)
+    by_form (inl b) = (gap_from true false x.0 (take f.gap s) x.1.taken (rw b.closed refl), λ none. none f.class (front_leaf f s).token (after_front f s) (take-append-drop f.token (drop f.gap s)) b.token)
     by_form (inr e) = absurd (no_end e.class)
 
 -- the first token of a line, at a byte

@@ -5,8 +5,8 @@ use Rattle.bz_tree.specs.declared.kind.Kind.{Kind}
 use Rattle.bz_tree.specs.declared.kind.Kind.TheVariants as k
 use Rattle.bz_states.specs.declared.token.TokenSet.{TokenSet}
 use Rattle.bz_states.specs.declared.token.TokenSet.TheVariants as t
-use Rattle.bz_states.specs.declared.state.PartSort.{PartSort as Place}
-use Rattle.bz_states.specs.declared.state.PartSort.TheVariants as q
+use Rattle.bz_states.specs.declared.state.PartNonterminal.{PartNonterminal as Place}
+use Rattle.bz_states.specs.declared.state.PartNonterminal.TheVariants as q
 use Rattle.bz_states.specs.declared.state.NodeState.{NodeState}
 use Rattle.bz_states.specs.declared.state.NodeState.TheVariants as s
 use Rattle.bz_states.specs.declared.state.Tail.{Tail}
@@ -46,23 +46,23 @@ use Rattle.bz_states.specs.declared.state.OperandRow.{OperandRow}
 use Rattle.bz_states.specs.declared.state.BracketRow.{BracketRow}
 use Rattle.bz_states.specs.declared.state.Move.{Move}
 use Rattle.bz_states.specs.declared.state.Move.TheVariants as m
-use Rattle.bz_states.specs.declared.state.Rung.{Rung}
-use Rattle.bz_states.specs.declared.state.Rung.TheVariants as g
-use Rattle.bz_tree.specs.Shapes.{Terminal, Sort, rank, level, argument, entry, clause, first_clause, loaded, small, line, param, or_level, test, expr, Shape, none, done, tok, sub, alt, list, each, times, items, slice_end, starred, bzl_shape, assigns, comma_mark, colon_mark, one_keyword, open_round, close_round, open_square, close_square}
+use Rattle.bz_states.specs.declared.state.Precedence.{Precedence}
+use Rattle.bz_states.specs.declared.state.Precedence.TheVariants as g
+use Rattle.bz_tree.specs.Shapes.{Terminal, Nonterminal, rank, level, argument, entry, clause, first_clause, loaded, small, line, param, or_level, test, expr, Shape, none, done, tok, sub, alt, list, each, times, items, slice_end, starred, bzl_shape, assigns, comma_mark, colon_mark, one_keyword, open_round, close_round, open_square, close_square}
 use Rattle.bz_tree.specs.Reading.{starts, starts_with, first, first_of, Plan, finish, one, piece, choose, round, square, curly, suffix_plan, clause_plan, small_plan, more_items, clauses}
 use Rattle.bz_tree.specs.Suites.{def_header, for_header, test_header, else_header}
 use Rattle.bz_states.specs.Tokens.{terminals_of}
 
-abbrev pub sort_of : Place → Sort
-sort_of (q.Level n) = level n
-sort_of q.Argument = argument
-sort_of q.Entry = entry
-sort_of q.Clause = clause
-sort_of q.FirstClause = first_clause
-sort_of q.Loaded = loaded
-sort_of q.Small = small
-sort_of q.Line = line
-sort_of q.Param = param
+abbrev pub nonterminal_of : Place → Nonterminal
+nonterminal_of (q.Level n) = level n
+nonterminal_of q.Argument = argument
+nonterminal_of q.Entry = entry
+nonterminal_of q.Clause = clause
+nonterminal_of q.FirstClause = first_clause
+nonterminal_of q.Loaded = loaded
+nonterminal_of q.Small = small
+nonterminal_of q.Line = line
+nonterminal_of q.Param = param
 
 -- ---- what is left of the shapes of the table, further in
 
@@ -127,29 +127,29 @@ small_end = choose (finish k.Assign (tok assigns (sub expr done))) (finish k.Bar
 abbrev pub left_in_rest : Tail → Shape
 left_in_rest in_rest.Nothing = done
 left_in_rest (in_rest.Token token) = tok (terminals_of token) done
-left_in_rest (in_rest.Part sort) = sub (sort_of sort) done
-left_in_rest (in_rest.TokenPart token sort) = tok (terminals_of token) (sub (sort_of sort) done)
+left_in_rest (in_rest.Part nonterminal) = sub (nonterminal_of nonterminal) done
+left_in_rest (in_rest.TokenPart token nonterminal) = tok (terminals_of token) (sub (nonterminal_of nonterminal) done)
 left_in_rest (in_rest.Tokens token other) = tok (terminals_of token) (tok (terminals_of other) done)
 
 abbrev pub row_of_items : ListedItems → ItemRow
-row_of_items items_row.Statements = record { kind = k.Line; sort = q.Small; separator = t.Semicolon; close = t.Newline }
-row_of_items items_row.Arguments = record { kind = k.Call; sort = q.Argument; separator = t.Comma; close = t.CloseRound }
-row_of_items items_row.Loaded = record { kind = k.Load; sort = q.Loaded; separator = t.Comma; close = t.CloseRound }
-row_of_items items_row.Tuple = record { kind = k.Tuple; sort = q.Level (rank k.Lambda); separator = t.Comma; close = t.CloseRound }
-row_of_items items_row.List = record { kind = k.List; sort = q.Level (rank k.Lambda); separator = t.Comma; close = t.CloseSquare }
-row_of_items items_row.Dict = record { kind = k.Dict; sort = q.Entry; separator = t.Comma; close = t.CloseCurly }
+row_of_items items_row.Statements = record { kind = k.Line; nonterminal = q.Small; separator = t.Semicolon; close = t.Newline }
+row_of_items items_row.Arguments = record { kind = k.Call; nonterminal = q.Argument; separator = t.Comma; close = t.CloseRound }
+row_of_items items_row.Loaded = record { kind = k.Load; nonterminal = q.Loaded; separator = t.Comma; close = t.CloseRound }
+row_of_items items_row.Tuple = record { kind = k.Tuple; nonterminal = q.Level (rank k.Lambda); separator = t.Comma; close = t.CloseRound }
+row_of_items items_row.List = record { kind = k.List; nonterminal = q.Level (rank k.Lambda); separator = t.Comma; close = t.CloseSquare }
+row_of_items items_row.Dict = record { kind = k.Dict; nonterminal = q.Entry; separator = t.Comma; close = t.CloseCurly }
 
 -- the closing token; parts, at least one, and it; none or more of them
 abbrev pub closing : ItemRow → Shape
 closing row = tok (terminals_of row.close) done
 
 abbrev pub parts_of_items : ItemRow → Shape
-parts_of_items row = list (sort_of row.sort) (terminals_of row.separator) true (closing row)
+parts_of_items row = list (nonterminal_of row.nonterminal) (terminals_of row.separator) true (closing row)
 
 abbrev pub left_of_items : ItemRow → ItemsAt → Shape
 left_of_items row items_at.Begin = alt (closing row) (parts_of_items row)
 left_of_items row items_at.Part = parts_of_items row
-left_of_items row items_at.Behind = alt (tok (terminals_of row.separator) (alt (closing row) (parts_of_items row))) (closing row)
+left_of_items row items_at.After = alt (tok (terminals_of row.separator) (alt (closing row) (parts_of_items row))) (closing row)
 left_of_items row items_at.Separator = tok (terminals_of row.separator) (alt (closing row) (parts_of_items row))
 left_of_items row items_at.More = alt (closing row) (tok (terminals_of row.separator) (alt (closing row) (parts_of_items row)))
 
@@ -157,22 +157,22 @@ abbrev pub left_in_items : ListedItems → ItemsAt → Plan
 left_in_items all here = finish (row_of_items all).kind (left_of_items (row_of_items all) here)
 
 abbrev pub row_of_operands : Operands → OperandRow
-row_of_operands operands_row.Product = record { kind = k.Product; sort = q.Level (rank k.Unary); operator = t.Products }
-row_of_operands operands_row.Sum = record { kind = k.Sum; sort = q.Level (rank k.Product); operator = t.Sums }
-row_of_operands operands_row.Shift = record { kind = k.Shift; sort = q.Level (rank k.Sum); operator = t.Shifts }
-row_of_operands operands_row.BitAnd = record { kind = k.BitAnd; sort = q.Level (rank k.Shift); operator = t.Ampersand }
-row_of_operands operands_row.Xor = record { kind = k.Xor; sort = q.Level (rank k.BitAnd); operator = t.Caret }
-row_of_operands operands_row.BitOr = record { kind = k.BitOr; sort = q.Level (rank k.Xor); operator = t.Bar }
-row_of_operands operands_row.And = record { kind = k.And; sort = q.Level (rank k.Not); operator = t.And }
-row_of_operands operands_row.Or = record { kind = k.Or; sort = q.Level (rank k.And); operator = t.Or }
-row_of_operands operands_row.Row = record { kind = k.Row; sort = q.Level (rank k.Lambda); operator = t.Comma }
+row_of_operands operands_row.Product = record { kind = k.Product; nonterminal = q.Level (rank k.Unary); operator = t.Products }
+row_of_operands operands_row.Sum = record { kind = k.Sum; nonterminal = q.Level (rank k.Product); operator = t.Sums }
+row_of_operands operands_row.Shift = record { kind = k.Shift; nonterminal = q.Level (rank k.Sum); operator = t.Shifts }
+row_of_operands operands_row.BitAnd = record { kind = k.BitAnd; nonterminal = q.Level (rank k.Shift); operator = t.Ampersand }
+row_of_operands operands_row.Xor = record { kind = k.Xor; nonterminal = q.Level (rank k.BitAnd); operator = t.Caret }
+row_of_operands operands_row.BitOr = record { kind = k.BitOr; nonterminal = q.Level (rank k.Xor); operator = t.Bar }
+row_of_operands operands_row.And = record { kind = k.And; nonterminal = q.Level (rank k.Not); operator = t.And }
+row_of_operands operands_row.Or = record { kind = k.Or; nonterminal = q.Level (rank k.And); operator = t.Or }
+row_of_operands operands_row.Row = record { kind = k.Row; nonterminal = q.Level (rank k.Lambda); operator = t.Comma }
 
 abbrev pub parts_of_operands : OperandRow → Shape
-parts_of_operands row = list (sort_of row.sort) (terminals_of row.operator) false done
+parts_of_operands row = list (nonterminal_of row.nonterminal) (terminals_of row.operator) false done
 
 abbrev pub left_of_operands : OperandRow → OperandsAt → Shape
 left_of_operands row operands_at.Part = parts_of_operands row
-left_of_operands row operands_at.Behind = alt (tok (terminals_of row.operator) (parts_of_operands row)) done
+left_of_operands row operands_at.After = alt (tok (terminals_of row.operator) (parts_of_operands row)) done
 left_of_operands row operands_at.Operator = tok (terminals_of row.operator) (parts_of_operands row)
 
 abbrev pub left_in_operands : Operands → OperandsAt → Plan
@@ -185,7 +185,7 @@ left_of_clauses close clauses_at.Clause = sub clause (after_first (clauses (term
 
 abbrev pub left_of_names : NamesAt → Shape
 left_of_names names_at.Name = names
-left_of_names names_at.Behind = alt (tok comma_mark names) in_or
+left_of_names names_at.After = alt (tok comma_mark names) in_or
 left_of_names names_at.Comma = tok comma_mark names
 
 -- after the keyword of a lambda
@@ -196,7 +196,7 @@ abbrev pub left_of_lambda : LambdaAt → Shape
 left_of_lambda lambda_at.Begin = bzl_shape k.Lambda
 left_of_lambda lambda_at.Params = lambda_tail
 left_of_lambda lambda_at.Param = right lambda_tail
-left_of_lambda lambda_at.Behind = alt (tok comma_mark (right lambda_tail)) (left lambda_tail)
+left_of_lambda lambda_at.After = alt (tok comma_mark (right lambda_tail)) (left lambda_tail)
 left_of_lambda lambda_at.Comma = tok comma_mark (right lambda_tail)
 
 abbrev pub left_of_starred : StarredAt → Shape
@@ -221,11 +221,11 @@ left_of_header header_at.DefName = after_first def_header
 left_of_header header_at.DefOpen = after_first (after_first def_header)
 left_of_header header_at.Params = params
 left_of_header header_at.Param = right params
-left_of_header header_at.BehindParam = alt (tok comma_mark params) (left params)
+left_of_header header_at.AfterParam = alt (tok comma_mark params) (left params)
 left_of_header header_at.Comma = tok comma_mark params
 left_of_header header_at.For = for_header
 left_of_header header_at.Name = for_names
-left_of_header header_at.BehindName = alt (tok comma_mark for_names) in_expression
+left_of_header header_at.AfterName = alt (tok comma_mark for_names) in_expression
 left_of_header header_at.NameComma = tok comma_mark for_names
 left_of_header header_at.In = in_expression
 left_of_header header_at.InExpression = after_first in_expression
@@ -237,7 +237,7 @@ abbrev pub left_of_slice : SliceAt → Shape
 left_of_slice slice_at.Colon = tok colon_mark slice_end
 left_of_slice slice_at.End = slice_end
 left_of_slice slice_at.EndTest = right slice_end
-left_of_slice slice_at.BehindEnd = slice_stop
+left_of_slice slice_at.AfterEnd = slice_stop
 left_of_slice slice_at.SecondColon = right slice_stop
 left_of_slice slice_at.Step = after_first (right slice_stop)
 left_of_slice slice_at.StepTest = right (after_first (right slice_stop))
@@ -246,19 +246,19 @@ abbrev pub left_in_round : RoundAt → Plan
 left_in_round round_at.Open = round
 left_in_round round_at.Item = round_item
 left_in_round round_at.Test = piece test round_end
-left_in_round round_at.Behind = round_end
+left_in_round round_at.After = round_end
 
 abbrev pub row_of_brackets : SquareOrCurly → BracketRow
-row_of_brackets brackets_row.Square = record { items = items_row.List; kind = k.List; sort = q.Level (rank k.Lambda); close = t.CloseSquare; comprehension = k.ListComp }
-row_of_brackets brackets_row.Curly = record { items = items_row.Dict; kind = k.Dict; sort = q.Entry; close = t.CloseCurly; comprehension = k.DictComp }
+row_of_brackets brackets_row.Square = record { items = items_row.List; kind = k.List; nonterminal = q.Level (rank k.Lambda); close = t.CloseSquare; comprehension = k.ListComp }
+row_of_brackets brackets_row.Curly = record { items = items_row.Dict; kind = k.Dict; nonterminal = q.Entry; close = t.CloseCurly; comprehension = k.DictComp }
 
-abbrev pub behind_element : BracketRow → Plan
-behind_element row = choose (finish row.comprehension (clauses (terminals_of row.close))) (finish row.kind (more_items (sort_of row.sort) (terminals_of row.close)))
+abbrev pub after_element : BracketRow → Plan
+after_element row = choose (finish row.comprehension (clauses (terminals_of row.close))) (finish row.kind (more_items (nonterminal_of row.nonterminal) (terminals_of row.close)))
 
 abbrev pub left_of_brackets : BracketRow → BracketsAt → Plan
-left_of_brackets row brackets_at.Begin = choose (finish row.kind (tok (terminals_of row.close) done)) (piece (sort_of row.sort) (behind_element row))
-left_of_brackets row brackets_at.Element = piece (sort_of row.sort) (behind_element row)
-left_of_brackets row brackets_at.Behind = behind_element row
+left_of_brackets row brackets_at.Begin = choose (finish row.kind (tok (terminals_of row.close) done)) (piece (nonterminal_of row.nonterminal) (after_element row))
+left_of_brackets row brackets_at.Element = piece (nonterminal_of row.nonterminal) (after_element row)
+left_of_brackets row brackets_at.After = after_element row
 
 abbrev pub left_in_brackets : SquareOrCurly → BracketsAt → Plan
 left_in_brackets all here = left_of_brackets (row_of_brackets all) here
@@ -282,7 +282,7 @@ left_of_statement statement_at.Return = finish k.Return (bzl_shape k.Return)
 left_of_statement statement_at.Returned = finish k.Return (after_first (bzl_shape k.Return))
 left_of_statement statement_at.NoReturn = no_return
 left_of_statement statement_at.Expression = piece expr small_end
-left_of_statement statement_at.BehindExpression = small_end
+left_of_statement statement_at.AfterExpression = small_end
 
 abbrev pub plan_at : NodeState → Plan
 plan_at (s.Rest kind row) = finish kind (left_in_rest row)
@@ -307,51 +307,51 @@ plan_at s.Alias = finish k.Alias (bzl_shape k.Alias)
 plan_at s.Compare = finish k.Compare compare_tail
 plan_at s.NotIn = finish k.Compare (right compare_tail)
 plan_at s.Condition = finish k.Cond (after_first (bzl_shape k.Cond))
-plan_at s.BehindIf = finish k.Cond cond_tail
+plan_at s.AfterIf = finish k.Cond cond_tail
 
 -- ---- the move that a plan requires
 
 -- after a part of a list
-abbrev pub again : Sort → List Terminal → Bool → Shape → Shape
+abbrev pub again : Nonterminal → List Terminal → Bool → Shape → Shape
 again q separators true r = alt (tok separators (alt r (list q separators true r))) r
 again q separators false r = alt (tok separators (list q separators false r)) r
 
 -- what a plan begins with
-pub data AskedMove : Type 0 where
+pub data ExpectedMove : Type 0 where
   -- nothing reads it
-  never : AskedMove
+  never : ExpectedMove
   -- nothing more: a node of this kind
-  whole : Kind → AskedMove
+  whole : Kind → ExpectedMove
   -- one token of these, and then
-  one_token : List Terminal → Plan → AskedMove
+  one_token : List Terminal → Plan → ExpectedMove
   -- one part, and then
-  one_part : Sort → Plan → AskedMove
+  one_part : Nonterminal → Plan → ExpectedMove
   -- the left plan where the next token is one of these, else the right one
-  either : List Terminal → Plan → Plan → AskedMove
+  either : List Terminal → Plan → Plan → ExpectedMove
 
-abbrev pub asked_move : Plan → AskedMove
-asked_move (finish kind none) = never
-asked_move (finish kind done) = whole kind
-asked_move (finish kind (tok terminals r)) = one_token terminals (finish kind r)
-asked_move (finish kind (sub q r)) = one_part q (finish kind r)
-asked_move (finish kind (alt r r')) = either (first r) (finish kind r) (finish kind r')
-asked_move (finish kind (list q separators last r)) = one_part q (finish kind (again q separators last r))
-asked_move (finish kind (times group r)) = never
-asked_move (finish kind (each q r)) = either (starts q) (finish kind (sub q (each q r))) (finish kind r)
-asked_move (one terminals plan) = one_token terminals plan
-asked_move (piece q plan) = one_part q plan
-asked_move (choose plan plan') = either (first_of plan) plan plan'
+abbrev pub expected_move : Plan → ExpectedMove
+expected_move (finish kind none) = never
+expected_move (finish kind done) = whole kind
+expected_move (finish kind (tok terminals r)) = one_token terminals (finish kind r)
+expected_move (finish kind (sub q r)) = one_part q (finish kind r)
+expected_move (finish kind (alt r r')) = either (first r) (finish kind r) (finish kind r')
+expected_move (finish kind (list q separators last r)) = one_part q (finish kind (again q separators last r))
+expected_move (finish kind (times group r)) = never
+expected_move (finish kind (each q r)) = either (starts q) (finish kind (sub q (each q r))) (finish kind r)
+expected_move (one terminals plan) = one_token terminals plan
+expected_move (piece q plan) = one_part q plan
+expected_move (choose plan plan') = either (first_of plan) plan plan'
 
 -- the move is the one that is required
-abbrev pub Meets : AskedMove → Move → Type 0
+abbrev pub Meets : ExpectedMove → Move → Type 0
 Meets (whole kind) (m.Finish kind') = kind' ≡ kind
 Meets (one_token terminals plan) (m.Take token state) = (terminals_of token ≡ terminals) × (plan_at state ≡ plan)
-Meets (one_part q plan) (m.Read place state) = (sort_of place ≡ q) × (plan_at state ≡ plan)
+Meets (one_part q plan) (m.Read place state) = (nonterminal_of place ≡ q) × (plan_at state ≡ plan)
 Meets (either terminals plan plan') (m.Choose token state state') = (terminals_of token ≡ terminals) × (plan_at state ≡ plan) × (plan_at state' ≡ plan')
 Meets _ _ = ⊥
 
-abbrev pub Asks : Plan → Move → Type 0
-Asks plan move = Meets (asked_move plan) move
+abbrev pub Expects : Plan → Move → Type 0
+Expects plan move = Meets (expected_move plan) move
 
 -- how many choices without a leaf may come
 abbrev pub choices_in : Shape → ℕ
@@ -372,30 +372,30 @@ Few _ = Unit {0}
 
 -- ---- operators
 
-abbrev pub operator_of : Operands → Rung
+abbrev pub operator_of : Operands → Precedence
 operator_of all = g.Infix (row_of_operands all).operator (s.Operands all operands_at.Operator)
 
-abbrev pub rung_of : ℕ → Rung
-rung_of zero = g.Prefix t.Signs (s.Rest k.Unary (in_rest.TokenPart t.Signs (q.Level (rank k.Unary))))
-rung_of (suc zero) = operator_of operands_row.Product
-rung_of (suc (suc zero)) = operator_of operands_row.Sum
-rung_of (suc (suc (suc zero))) = operator_of operands_row.Shift
-rung_of (suc (suc (suc (suc zero)))) = operator_of operands_row.BitAnd
-rung_of (suc (suc (suc (suc (suc zero))))) = operator_of operands_row.Xor
-rung_of (suc (suc (suc (suc (suc (suc zero)))))) = operator_of operands_row.BitOr
-rung_of (suc (suc (suc (suc (suc (suc (suc zero))))))) = g.Infix t.Compares s.Compare
-rung_of (suc (suc (suc (suc (suc (suc (suc (suc zero)))))))) = g.Prefix t.Not (s.Rest k.Not (in_rest.TokenPart t.Not (q.Level (rank k.Not))))
-rung_of (suc (suc (suc (suc (suc (suc (suc (suc (suc zero))))))))) = operator_of operands_row.And
-rung_of (suc (suc (suc (suc (suc (suc (suc (suc (suc (suc zero)))))))))) = operator_of operands_row.Or
-rung_of (suc (suc (suc (suc (suc (suc (suc (suc (suc (suc (suc zero))))))))))) = g.Infix t.If s.Condition
-rung_of (suc (suc (suc (suc (suc (suc (suc (suc (suc (suc (suc (suc zero)))))))))))) = g.Prefix t.Lambda (s.Lambda lambda_at.Begin)
-rung_of (suc (suc (suc (suc (suc (suc (suc (suc (suc (suc (suc (suc (suc zero))))))))))))) = operator_of operands_row.Row
-rung_of _ = g.Same
+abbrev pub precedence_of : ℕ → Precedence
+precedence_of zero = g.Prefix t.Signs (s.Rest k.Unary (in_rest.TokenPart t.Signs (q.Level (rank k.Unary))))
+precedence_of (suc zero) = operator_of operands_row.Product
+precedence_of (suc (suc zero)) = operator_of operands_row.Sum
+precedence_of (suc (suc (suc zero))) = operator_of operands_row.Shift
+precedence_of (suc (suc (suc (suc zero)))) = operator_of operands_row.BitAnd
+precedence_of (suc (suc (suc (suc (suc zero))))) = operator_of operands_row.Xor
+precedence_of (suc (suc (suc (suc (suc (suc zero)))))) = operator_of operands_row.BitOr
+precedence_of (suc (suc (suc (suc (suc (suc (suc zero))))))) = g.Infix t.Compares s.Compare
+precedence_of (suc (suc (suc (suc (suc (suc (suc (suc zero)))))))) = g.Prefix t.Not (s.Rest k.Not (in_rest.TokenPart t.Not (q.Level (rank k.Not))))
+precedence_of (suc (suc (suc (suc (suc (suc (suc (suc (suc zero))))))))) = operator_of operands_row.And
+precedence_of (suc (suc (suc (suc (suc (suc (suc (suc (suc (suc zero)))))))))) = operator_of operands_row.Or
+precedence_of (suc (suc (suc (suc (suc (suc (suc (suc (suc (suc (suc zero))))))))))) = g.Infix t.If s.Condition
+precedence_of (suc (suc (suc (suc (suc (suc (suc (suc (suc (suc (suc (suc zero)))))))))))) = g.Prefix t.Lambda (s.Lambda lambda_at.Begin)
+precedence_of (suc (suc (suc (suc (suc (suc (suc (suc (suc (suc (suc (suc (suc zero))))))))))))) = operator_of operands_row.Row
+precedence_of _ = g.Same
 
 -- whether the next leaf is such an operator
-abbrev pub binds : Rung → List Leaf → Bool
+abbrev pub binds : Precedence → List Leaf → Bool
 binds (g.Infix token state) ts = starts_with (terminals_of token) ts
 binds _ ts = false
 
 abbrev pub binds_at : ℕ → List Leaf → Bool
-binds_at n ts = binds (rung_of n) ts
+binds_at n ts = binds (precedence_of n) ts

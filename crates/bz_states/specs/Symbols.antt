@@ -65,8 +65,8 @@ example y.Caret = mark (codes "^")
 example y.Shift = mark (codes "<<")
 
 -- the symbol says of each set of tokens whether the first of these leaves is one of them
-abbrev pub TellsFirst : Symbol → List Leaf → Type 0
-TellsFirst symbol leaves = (token : TokenSet) → is_one_of (terminals_of token) (example symbol) ≡ starts_with (terminals_of token) leaves
+abbrev pub DecidesFirst : Symbol → List Leaf → Type 0
+DecidesFirst symbol leaves = (token : TokenSet) → is_one_of (terminals_of token) (example symbol) ≡ starts_with (terminals_of token) leaves
 
 -- a text that the grammar requires, and what it is
 pub record SymbolEntry : Type 0 where

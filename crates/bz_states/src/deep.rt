@@ -1,7 +1,7 @@
 //! Where a text nests too deep. It is reported with the fault; no clause speaks of the place.
 ghost use Rattle.std.specs.Prelude.{◌≡◌};
 
-use crate::state::{LAMBDA, NOT, PartSort, Rung, UNARY, rung_at};
+use crate::state::{LAMBDA, NOT, PartNonterminal, Precedence, UNARY, precedence_at};
 use crate::token::{Leaves, TokenSet};
 use bz_tree::{Part, first_of};
 
@@ -34,11 +34,11 @@ pub fn deeper_at(parts: &[Part], limit: u32) -> Option<usize> {
 }
 
 /// Marks the next leaf where it begins a node of this sort, for which there is no room.
-pub fn mark_next(sort: PartSort, leaves: &mut Leaves)
+pub fn mark_next(nonterminal: PartNonterminal, leaves: &mut Leaves)
     ensures { leaves.new ≡ leaves.old }
 {
     if let Some(at) = leaves.next_at()
-        && begins_node(sort, leaves)
+        && begins_node(nonterminal, leaves)
     {
         leaves.mark_too_deep(at);
     }
@@ -81,16 +81,16 @@ fn first_gap(parts: &[Part]) -> usize {
 }
 
 /// Whether a node of this sort begins with the next leaf and not with a leaf of it.
-fn begins_node(sort: PartSort, leaves: &Leaves) -> bool {
-    match sort {
-        PartSort::Level(n) => begins_level(n, leaves),
-        PartSort::Argument => leaves.next_is(TokenSet::Stars) || begins_level(LAMBDA, leaves),
-        PartSort::Loaded => leaves.next_is(TokenSet::Name),
-        PartSort::Entry => leaves.next_is(TokenSet::Simple) || begins_level(LAMBDA, leaves),
-        PartSort::Clause => leaves.next_is(TokenSet::Clauses),
-        PartSort::FirstClause => leaves.next_is(TokenSet::For),
-        PartSort::Small | PartSort::Line => leaves.next_is(TokenSet::Statements),
-        PartSort::Param => leaves.next_is(TokenSet::Stars),
+fn begins_node(nonterminal: PartNonterminal, leaves: &Leaves) -> bool {
+    match nonterminal {
+        PartNonterminal::Level(n) => begins_level(n, leaves),
+        PartNonterminal::Argument => leaves.next_is(TokenSet::Stars) || begins_level(LAMBDA, leaves),
+        PartNonterminal::Loaded => leaves.next_is(TokenSet::Name),
+        PartNonterminal::Entry => leaves.next_is(TokenSet::Simple) || begins_level(LAMBDA, leaves),
+        PartNonterminal::Clause => leaves.next_is(TokenSet::Clauses),
+        PartNonterminal::FirstClause => leaves.next_is(TokenSet::For),
+        PartNonterminal::Small | PartNonterminal::Line => leaves.next_is(TokenSet::Statements),
+        PartNonterminal::Param => leaves.next_is(TokenSet::Stars),
     }
 }
 
@@ -104,11 +104,11 @@ fn begins_level(n: u8, leaves: &Leaves) -> bool {
 }
 
 /// Whether a node of this sort goes on with the next leaf after a leaf of it.
-pub fn goes_on(sort: PartSort, leaves: &Leaves) -> bool {
-    match sort {
-        PartSort::Level(n) => level_goes_on(n, leaves),
-        PartSort::Argument => leaves.next_is(TokenSet::Equals) || level_goes_on(LAMBDA, leaves),
-        PartSort::Param => leaves.next_is(TokenSet::Equals),
+pub fn goes_on(nonterminal: PartNonterminal, leaves: &Leaves) -> bool {
+    match nonterminal {
+        PartNonterminal::Level(n) => level_goes_on(n, leaves),
+        PartNonterminal::Argument => leaves.next_is(TokenSet::Equals) || level_goes_on(LAMBDA, leaves),
+        PartNonterminal::Param => leaves.next_is(TokenSet::Equals),
         _ => false,
     }
 }
@@ -118,7 +118,7 @@ fn level_goes_on(n: u8, leaves: &Leaves) -> bool {
         return true;
     }
     for rank in 0..n {
-        if let Rung::Infix(token, _) = rung_at(rank)
+        if let Precedence::Infix(token, _) = precedence_at(rank)
             && leaves.next_is(token)
         {
             return true;

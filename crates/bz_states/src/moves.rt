@@ -1,9 +1,9 @@
 //! What comes next in headers, slices and statements: the longest rows of the table, beside those of src/state.rt.
 ghost use Rattle.bz_tree.specs.Reading.{finish};
-ghost use Rattle.bz_states.specs.States.{left_of_header, left_of_slice, left_of_statement, Asks, Few};
+ghost use Rattle.bz_states.specs.States.{left_of_header, left_of_slice, left_of_statement, Expects, Few};
 
 use crate::state::{
-    EXPRESSION, HeaderAt, ItemsAt, ListedItems, Move, NodeState, PRIMARY, PartSort, SliceAt,
+    EXPRESSION, HeaderAt, ItemsAt, ListedItems, Move, NodeState, PRIMARY, PartNonterminal, SliceAt,
     StatementAt, TEST, Tail,
 };
 use crate::token::TokenSet;
@@ -11,7 +11,7 @@ use bz_tree::Kind;
 
 impl HeaderAt {
     pub(crate) fn next(self) -> Move
-        ensures asks { Asks (finish Kind.Suite (left_of_header self)) result }
+        ensures expects { Expects (finish Kind.Suite (left_of_header self)) result }
         ensures few { Few result }
     {
         let close = NodeState::Rest(
@@ -31,10 +31,10 @@ impl HeaderAt {
                 NodeState::Header(HeaderAt::Param),
             ),
             HeaderAt::Param => Move::Read(
-                PartSort::Param,
-                NodeState::Header(HeaderAt::BehindParam),
+                PartNonterminal::Param,
+                NodeState::Header(HeaderAt::AfterParam),
             ),
-            HeaderAt::BehindParam => Move::Choose(
+            HeaderAt::AfterParam => Move::Choose(
                 TokenSet::Comma,
                 NodeState::Header(HeaderAt::Comma),
                 close,
@@ -42,10 +42,10 @@ impl HeaderAt {
             HeaderAt::Comma => Move::Take(TokenSet::Comma, NodeState::Header(HeaderAt::Params)),
             HeaderAt::For => Move::Take(TokenSet::For, NodeState::Header(HeaderAt::Name)),
             HeaderAt::Name => Move::Read(
-                PartSort::Level(PRIMARY),
-                NodeState::Header(HeaderAt::BehindName),
+                PartNonterminal::Level(PRIMARY),
+                NodeState::Header(HeaderAt::AfterName),
             ),
-            HeaderAt::BehindName => Move::Choose(
+            HeaderAt::AfterName => Move::Choose(
                 TokenSet::Comma,
                 NodeState::Header(HeaderAt::NameComma),
                 NodeState::Header(HeaderAt::In),
@@ -71,7 +71,7 @@ impl HeaderAt {
 
 impl SliceAt {
     pub(crate) fn next(self) -> Move
-        ensures asks { Asks (finish Kind.Slice (left_of_slice self)) result }
+        ensures expects { Expects (finish Kind.Slice (left_of_slice self)) result }
         ensures few { Few result }
     {
         let close = NodeState::Rest(Kind::Slice, Tail::Token(TokenSet::CloseSquare));
@@ -79,11 +79,11 @@ impl SliceAt {
             SliceAt::Colon => Move::Take(TokenSet::Colon, NodeState::Slice(SliceAt::End)),
             SliceAt::End => Move::Choose(
                 TokenSet::SliceStops,
-                NodeState::Slice(SliceAt::BehindEnd),
+                NodeState::Slice(SliceAt::AfterEnd),
                 NodeState::Slice(SliceAt::EndTest),
             ),
-            SliceAt::EndTest => Move::Read(TEST, NodeState::Slice(SliceAt::BehindEnd)),
-            SliceAt::BehindEnd => Move::Choose(
+            SliceAt::EndTest => Move::Read(TEST, NodeState::Slice(SliceAt::AfterEnd)),
+            SliceAt::AfterEnd => Move::Choose(
                 TokenSet::CloseSquare,
                 close,
                 NodeState::Slice(SliceAt::SecondColon),
@@ -101,7 +101,7 @@ impl SliceAt {
 
 impl StatementAt {
     pub(crate) fn next(self) -> Move
-        ensures asks { Asks (left_of_statement self) result }
+        ensures expects { Expects (left_of_statement self) result }
         ensures few { Few result }
     {
         match self {
@@ -143,9 +143,9 @@ impl StatementAt {
             ),
             StatementAt::Expression => Move::Read(
                 EXPRESSION,
-                NodeState::Statement(StatementAt::BehindExpression),
+                NodeState::Statement(StatementAt::AfterExpression),
             ),
-            StatementAt::BehindExpression => Move::Choose(
+            StatementAt::AfterExpression => Move::Choose(
                 TokenSet::Assigns,
                 NodeState::Rest(Kind::Assign, Tail::TokenPart(TokenSet::Assigns, EXPRESSION)),
                 NodeState::Rest(Kind::Bare, Tail::Nothing),

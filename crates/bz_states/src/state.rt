@@ -1,14 +1,14 @@
 //! The table of the grammar: what comes next inside a node.
 ghost use Rattle.std.specs.Prelude.{◌≡◌};
 ghost use Rattle.bz_tree.specs.Reading.{finish};
-ghost use Rattle.bz_states.specs.States.{rung_of, operator_of, plan_at, left_in_rest, row_of_items, row_of_operands, row_of_brackets, left_in_items, left_in_operands, left_of_clauses, left_of_names, left_of_lambda, left_of_starred, left_in_round, left_in_brackets, left_of_suffix, Asks, Few};
+ghost use Rattle.bz_states.specs.States.{precedence_of, operator_of, plan_at, left_in_rest, row_of_items, row_of_operands, row_of_brackets, left_in_items, left_in_operands, left_of_clauses, left_of_names, left_of_lambda, left_of_starred, left_in_round, left_in_brackets, left_of_suffix, Expects, Few};
 
 use crate::token::TokenSet;
 use bz_tree::Kind;
 
 /// The alternatives of the grammar that make no node.
 #[derive(Clone, Copy)]
-pub enum PartSort {
+pub enum PartNonterminal {
     /// An expression of this rank or a lower one.
     Level(u8),
     Argument,
@@ -56,10 +56,10 @@ pub const LAMBDA: u8 = 13;
 const ROW: u8 = 14;
 
 /// An expression that no comma joins outside brackets.
-pub const TEST: PartSort = PartSort::Level(LAMBDA);
+pub const TEST: PartNonterminal = PartNonterminal::Level(LAMBDA);
 
 /// Any expression.
-pub(crate) const EXPRESSION: PartSort = PartSort::Level(ROW);
+pub(crate) const EXPRESSION: PartNonterminal = PartNonterminal::Level(ROW);
 
 /// Where the parser is in a node: what is left to read of it.
 #[derive(Clone, Copy)]
@@ -95,7 +95,7 @@ pub enum NodeState {
     NotIn,
     /// A condition from its `if` on, and after it.
     Condition,
-    BehindIf,
+    AfterIf,
 }
 
 /// Tokens and parts, one after the other.
@@ -103,8 +103,8 @@ pub enum NodeState {
 pub enum Tail {
     Nothing,
     Token(TokenSet),
-    Part(PartSort),
-    TokenPart(TokenSet, PartSort),
+    Part(PartNonterminal),
+    TokenPart(TokenSet, PartNonterminal),
     Tokens(TokenSet, TokenSet),
 }
 
@@ -123,7 +123,7 @@ pub enum ListedItems {
 #[derive(Clone, Copy)]
 pub struct ItemRow {
     pub kind: Kind,
-    pub sort: PartSort,
+    pub nonterminal: PartNonterminal,
     pub separator: TokenSet,
     pub close: TokenSet,
 }
@@ -136,7 +136,7 @@ pub enum ItemsAt {
     /// One at least.
     Part,
     /// After a part: a separator or the closing token.
-    Behind,
+    After,
     Separator,
     /// The same as after a part, where the closing token is looked for first.
     More,
@@ -160,7 +160,7 @@ pub enum Operands {
 #[derive(Clone, Copy)]
 pub(crate) struct OperandRow {
     pub kind: Kind,
-    pub sort: PartSort,
+    pub nonterminal: PartNonterminal,
     pub operator: TokenSet,
 }
 
@@ -168,7 +168,7 @@ pub(crate) struct OperandRow {
 #[derive(Clone, Copy)]
 pub enum OperandsAt {
     Part,
-    Behind,
+    After,
     Operator,
 }
 
@@ -184,7 +184,7 @@ pub enum ClausesAt {
 #[derive(Clone, Copy)]
 pub enum NamesAt {
     Name,
-    Behind,
+    After,
     Comma,
 }
 
@@ -194,7 +194,7 @@ pub enum LambdaAt {
     Begin,
     Params,
     Param,
-    Behind,
+    After,
     Comma,
 }
 
@@ -214,11 +214,11 @@ pub enum HeaderAt {
     DefOpen,
     Params,
     Param,
-    BehindParam,
+    AfterParam,
     Comma,
     For,
     Name,
-    BehindName,
+    AfterName,
     NameComma,
     In,
     InExpression,
@@ -234,7 +234,7 @@ pub enum SliceAt {
     Colon,
     End,
     EndTest,
-    BehindEnd,
+    AfterEnd,
     SecondColon,
     Step,
     StepTest,
@@ -246,7 +246,7 @@ pub enum RoundAt {
     Open,
     Item,
     Test,
-    Behind,
+    After,
 }
 
 /// What brackets hold that may be a comprehension.
@@ -261,7 +261,7 @@ pub enum SquareOrCurly {
 pub(crate) struct BracketRow {
     pub items: ListedItems,
     pub kind: Kind,
-    pub sort: PartSort,
+    pub nonterminal: PartNonterminal,
     pub close: TokenSet,
     pub comprehension: Kind,
 }
@@ -271,7 +271,7 @@ pub(crate) struct BracketRow {
 pub enum BracketsAt {
     Begin,
     Element,
-    Behind,
+    After,
 }
 
 /// What may be after a primary.
@@ -298,7 +298,7 @@ pub enum StatementAt {
     Returned,
     NoReturn,
     Expression,
-    BehindExpression,
+    AfterExpression,
 }
 
 /// What to do in a state.
@@ -309,7 +309,7 @@ pub enum Move {
     /// One token, and then.
     Take(TokenSet, NodeState),
     /// One part, and then.
-    Read(PartSort, NodeState),
+    Read(PartNonterminal, NodeState),
     /// The first state where the next leaf is this token, else the second.
     Choose(TokenSet, NodeState, NodeState),
 }
@@ -319,7 +319,7 @@ impl NodeState {
     /// instructions of a reading, for an eighth of a KiB of stack a level of the parser.
     #[inline(always)]
     pub fn next_move(self) -> Move
-        ensures asks { Asks (plan_at self) result }
+        ensures expects { Expects (plan_at self) result }
         ensures few { Few result }
     {
         match self {
@@ -347,7 +347,7 @@ impl NodeState {
             NodeState::Clause => Move::Choose(
                 TokenSet::For,
                 NodeState::For,
-                NodeState::Rest(Kind::If, Tail::TokenPart(TokenSet::If, PartSort::Level(OR))),
+                NodeState::Rest(Kind::If, Tail::TokenPart(TokenSet::If, PartNonterminal::Level(OR))),
             ),
             NodeState::For => Move::Take(TokenSet::For, NodeState::Names(NamesAt::Name)),
             NodeState::Entry => Move::Read(
@@ -365,7 +365,7 @@ impl NodeState {
                 TokenSet::Orders,
                 NodeState::Rest(
                     Kind::Compare,
-                    Tail::TokenPart(TokenSet::Orders, PartSort::Level(BIT_OR)),
+                    Tail::TokenPart(TokenSet::Orders, PartNonterminal::Level(BIT_OR)),
                 ),
                 NodeState::NotIn,
             ),
@@ -373,12 +373,12 @@ impl NodeState {
                 TokenSet::Not,
                 NodeState::Rest(
                     Kind::Compare,
-                    Tail::TokenPart(TokenSet::In, PartSort::Level(BIT_OR)),
+                    Tail::TokenPart(TokenSet::In, PartNonterminal::Level(BIT_OR)),
                 ),
             ),
-            NodeState::Condition => Move::Take(TokenSet::If, NodeState::BehindIf),
-            NodeState::BehindIf => Move::Read(
-                PartSort::Level(OR),
+            NodeState::Condition => Move::Take(TokenSet::If, NodeState::AfterIf),
+            NodeState::AfterIf => Move::Read(
+                PartNonterminal::Level(OR),
                 NodeState::Rest(Kind::Cond, Tail::TokenPart(TokenSet::Else, TEST)),
             ),
         }
@@ -387,16 +387,16 @@ impl NodeState {
 
 impl Tail {
     fn next(self, kind: Kind) -> Move
-        ensures asks { Asks (finish kind (left_in_rest self)) result }
+        ensures expects { Expects (finish kind (left_in_rest self)) result }
         ensures few { Few result }
     {
         match self {
             Tail::Nothing => Move::Finish(kind),
             Tail::Token(token) => Move::Take(token, NodeState::Rest(kind, Tail::Nothing)),
-            Tail::Part(sort) => Move::Read(sort, NodeState::Rest(kind, Tail::Nothing)),
-            Tail::TokenPart(token, sort) => Move::Take(
+            Tail::Part(nonterminal) => Move::Read(nonterminal, NodeState::Rest(kind, Tail::Nothing)),
+            Tail::TokenPart(token, nonterminal) => Move::Take(
                 token,
-                NodeState::Rest(kind, Tail::Part(sort)),
+                NodeState::Rest(kind, Tail::Part(nonterminal)),
             ),
             Tail::Tokens(token, other) => Move::Take(
                 token,
@@ -411,22 +411,22 @@ impl ListedItems {
     pub fn row(self) -> ItemRow
         ensures { result ≡ row_of_items self }
     {
-        let (kind, sort, separator, close) = match self {
+        let (kind, nonterminal, separator, close) = match self {
             ListedItems::Statements => (
                 Kind::Line,
-                PartSort::Small,
+                PartNonterminal::Small,
                 TokenSet::Semicolon,
                 TokenSet::Newline,
             ),
             ListedItems::Arguments => (
                 Kind::Call,
-                PartSort::Argument,
+                PartNonterminal::Argument,
                 TokenSet::Comma,
                 TokenSet::CloseRound,
             ),
             ListedItems::Loaded => (
                 Kind::Load,
-                PartSort::Loaded,
+                PartNonterminal::Loaded,
                 TokenSet::Comma,
                 TokenSet::CloseRound,
             ),
@@ -434,14 +434,14 @@ impl ListedItems {
             ListedItems::List => (Kind::List, TEST, TokenSet::Comma, TokenSet::CloseSquare),
             ListedItems::Dict => (
                 Kind::Dict,
-                PartSort::Entry,
+                PartNonterminal::Entry,
                 TokenSet::Comma,
                 TokenSet::CloseCurly,
             ),
         };
         ItemRow {
             kind,
-            sort,
+            nonterminal,
             separator,
             close,
         }
@@ -450,7 +450,7 @@ impl ListedItems {
 
 impl ItemsAt {
     fn next(self, items: ListedItems) -> Move
-        ensures asks { Asks (left_in_items items self) result }
+        ensures expects { Expects (left_in_items items self) result }
         ensures few { Few result }
     {
         let row = items.row();
@@ -461,8 +461,8 @@ impl ItemsAt {
                 close,
                 NodeState::Items(items, ItemsAt::Part),
             ),
-            ItemsAt::Part => Move::Read(row.sort, NodeState::Items(items, ItemsAt::Behind)),
-            ItemsAt::Behind => Move::Choose(
+            ItemsAt::Part => Move::Read(row.nonterminal, NodeState::Items(items, ItemsAt::After)),
+            ItemsAt::After => Move::Choose(
                 row.separator,
                 NodeState::Items(items, ItemsAt::Separator),
                 close,
@@ -484,20 +484,20 @@ impl Operands {
     fn row(self) -> OperandRow
         ensures { result ≡ row_of_operands self }
     {
-        let (kind, sort, operator) = match self {
-            Operands::Product => (Kind::Product, PartSort::Level(UNARY), TokenSet::Products),
-            Operands::Sum => (Kind::Sum, PartSort::Level(PRODUCT), TokenSet::Sums),
-            Operands::Shift => (Kind::Shift, PartSort::Level(SUM), TokenSet::Shifts),
-            Operands::BitAnd => (Kind::BitAnd, PartSort::Level(SHIFT), TokenSet::Ampersand),
-            Operands::Xor => (Kind::Xor, PartSort::Level(BIT_AND), TokenSet::Caret),
-            Operands::BitOr => (Kind::BitOr, PartSort::Level(XOR), TokenSet::Bar),
-            Operands::And => (Kind::And, PartSort::Level(NOT), TokenSet::And),
-            Operands::Or => (Kind::Or, PartSort::Level(AND), TokenSet::Or),
+        let (kind, nonterminal, operator) = match self {
+            Operands::Product => (Kind::Product, PartNonterminal::Level(UNARY), TokenSet::Products),
+            Operands::Sum => (Kind::Sum, PartNonterminal::Level(PRODUCT), TokenSet::Sums),
+            Operands::Shift => (Kind::Shift, PartNonterminal::Level(SUM), TokenSet::Shifts),
+            Operands::BitAnd => (Kind::BitAnd, PartNonterminal::Level(SHIFT), TokenSet::Ampersand),
+            Operands::Xor => (Kind::Xor, PartNonterminal::Level(BIT_AND), TokenSet::Caret),
+            Operands::BitOr => (Kind::BitOr, PartNonterminal::Level(XOR), TokenSet::Bar),
+            Operands::And => (Kind::And, PartNonterminal::Level(NOT), TokenSet::And),
+            Operands::Or => (Kind::Or, PartNonterminal::Level(AND), TokenSet::Or),
             Operands::Row => (Kind::Row, TEST, TokenSet::Comma),
         };
         OperandRow {
             kind,
-            sort,
+            nonterminal,
             operator,
         }
     }
@@ -505,16 +505,16 @@ impl Operands {
 
 impl OperandsAt {
     fn next(self, operands: Operands) -> Move
-        ensures asks { Asks (left_in_operands operands self) result }
+        ensures expects { Expects (left_in_operands operands self) result }
         ensures few { Few result }
     {
         let row = operands.row();
         match self {
             OperandsAt::Part => Move::Read(
-                row.sort,
-                NodeState::Operands(operands, OperandsAt::Behind),
+                row.nonterminal,
+                NodeState::Operands(operands, OperandsAt::After),
             ),
-            OperandsAt::Behind => Move::Choose(
+            OperandsAt::After => Move::Choose(
                 row.operator,
                 NodeState::Operands(operands, OperandsAt::Operator),
                 NodeState::Rest(row.kind, Tail::Nothing),
@@ -529,38 +529,38 @@ impl OperandsAt {
 
 impl ClausesAt {
     fn next(self, kind: Kind, close: TokenSet) -> Move
-        ensures asks { Asks (finish kind (left_of_clauses close self)) result }
+        ensures expects { Expects (finish kind (left_of_clauses close self)) result }
         ensures few { Few result }
     {
         let further = NodeState::Clauses(kind, close, ClausesAt::Further);
         match self {
-            ClausesAt::First => Move::Read(PartSort::FirstClause, further),
+            ClausesAt::First => Move::Read(PartNonterminal::FirstClause, further),
             ClausesAt::Further => Move::Choose(
                 TokenSet::Clauses,
                 NodeState::Clauses(kind, close, ClausesAt::Clause),
                 NodeState::Rest(kind, Tail::Token(close)),
             ),
-            ClausesAt::Clause => Move::Read(PartSort::Clause, further),
+            ClausesAt::Clause => Move::Read(PartNonterminal::Clause, further),
         }
     }
 }
 
 impl NamesAt {
     fn next(self) -> Move
-        ensures asks { Asks (finish Kind.For (left_of_names self)) result }
+        ensures expects { Expects (finish Kind.For (left_of_names self)) result }
         ensures few { Few result }
     {
         match self {
             NamesAt::Name => Move::Read(
-                PartSort::Level(PRIMARY),
-                NodeState::Names(NamesAt::Behind),
+                PartNonterminal::Level(PRIMARY),
+                NodeState::Names(NamesAt::After),
             ),
-            NamesAt::Behind => Move::Choose(
+            NamesAt::After => Move::Choose(
                 TokenSet::Comma,
                 NodeState::Names(NamesAt::Comma),
                 NodeState::Rest(
                     Kind::For,
-                    Tail::TokenPart(TokenSet::In, PartSort::Level(OR)),
+                    Tail::TokenPart(TokenSet::In, PartNonterminal::Level(OR)),
                 ),
             ),
             NamesAt::Comma => Move::Take(TokenSet::Comma, NodeState::Names(NamesAt::Name)),
@@ -570,7 +570,7 @@ impl NamesAt {
 
 impl LambdaAt {
     fn next(self) -> Move
-        ensures asks { Asks (finish Kind.Lambda (left_of_lambda self)) result }
+        ensures expects { Expects (finish Kind.Lambda (left_of_lambda self)) result }
         ensures few { Few result }
     {
         let body = NodeState::Rest(Kind::Lambda, Tail::TokenPart(TokenSet::Colon, TEST));
@@ -581,8 +581,8 @@ impl LambdaAt {
                 body,
                 NodeState::Lambda(LambdaAt::Param),
             ),
-            LambdaAt::Param => Move::Read(PartSort::Param, NodeState::Lambda(LambdaAt::Behind)),
-            LambdaAt::Behind => Move::Choose(
+            LambdaAt::Param => Move::Read(PartNonterminal::Param, NodeState::Lambda(LambdaAt::After)),
+            LambdaAt::After => Move::Choose(
                 TokenSet::Comma,
                 NodeState::Lambda(LambdaAt::Comma),
                 body,
@@ -594,7 +594,7 @@ impl LambdaAt {
 
 impl StarredAt {
     fn next(self) -> Move
-        ensures asks { Asks (finish Kind.Param (left_of_starred self)) result }
+        ensures expects { Expects (finish Kind.Param (left_of_starred self)) result }
         ensures few { Few result }
     {
         match self {
@@ -618,7 +618,7 @@ impl StarredAt {
 
 impl RoundAt {
     fn next(self) -> Move
-        ensures asks { Asks (left_in_round self) result }
+        ensures expects { Expects (left_in_round self) result }
         ensures few { Few result }
     {
         match self {
@@ -628,8 +628,8 @@ impl RoundAt {
                 NodeState::Rest(Kind::Tuple, Tail::Token(TokenSet::CloseRound)),
                 NodeState::Round(RoundAt::Test),
             ),
-            RoundAt::Test => Move::Read(TEST, NodeState::Round(RoundAt::Behind)),
-            RoundAt::Behind => Move::Choose(
+            RoundAt::Test => Move::Read(TEST, NodeState::Round(RoundAt::After)),
+            RoundAt::After => Move::Choose(
                 TokenSet::CloseRound,
                 NodeState::Rest(Kind::Paren, Tail::Token(TokenSet::CloseRound)),
                 NodeState::Items(ListedItems::Tuple, ItemsAt::Separator),
@@ -646,14 +646,14 @@ impl SquareOrCurly {
             SquareOrCurly::Square => BracketRow {
                 items: ListedItems::List,
                 kind: Kind::List,
-                sort: TEST,
+                nonterminal: TEST,
                 close: TokenSet::CloseSquare,
                 comprehension: Kind::ListComp,
             },
             SquareOrCurly::Curly => BracketRow {
                 items: ListedItems::Dict,
                 kind: Kind::Dict,
-                sort: PartSort::Entry,
+                nonterminal: PartNonterminal::Entry,
                 close: TokenSet::CloseCurly,
                 comprehension: Kind::DictComp,
             },
@@ -663,7 +663,7 @@ impl SquareOrCurly {
 
 impl BracketsAt {
     fn next(self, brackets: SquareOrCurly) -> Move
-        ensures asks { Asks (left_in_brackets brackets self) result }
+        ensures expects { Expects (left_in_brackets brackets self) result }
         ensures few { Few result }
     {
         let row = brackets.row();
@@ -674,10 +674,10 @@ impl BracketsAt {
                 NodeState::Brackets(brackets, BracketsAt::Element),
             ),
             BracketsAt::Element => Move::Read(
-                row.sort,
-                NodeState::Brackets(brackets, BracketsAt::Behind),
+                row.nonterminal,
+                NodeState::Brackets(brackets, BracketsAt::After),
             ),
-            BracketsAt::Behind => Move::Choose(
+            BracketsAt::After => Move::Choose(
                 TokenSet::For,
                 NodeState::Clauses(row.comprehension, row.close, ClausesAt::First),
                 NodeState::Items(row.items, ItemsAt::More),
@@ -688,7 +688,7 @@ impl BracketsAt {
 
 impl SuffixAt {
     fn next(self) -> Move
-        ensures asks { Asks (left_of_suffix self) result }
+        ensures expects { Expects (left_of_suffix self) result }
         ensures few { Few result }
     {
         match self {
@@ -730,7 +730,7 @@ impl SuffixAt {
 
 /// What makes an expression of a rank from those of the rank below.
 #[derive(Clone, Copy)]
-pub enum Rung {
+pub enum Precedence {
     /// Nothing does.
     Same,
     /// This token in front; a node that begins so.
@@ -740,15 +740,15 @@ pub enum Rung {
 }
 
 /// What makes an expression of the rank above this one from those of this one.
-pub fn rung_at(rank: u8) -> Rung
-    ensures { result ≡ rung_of rank }
+pub fn precedence_at(rank: u8) -> Precedence
+    ensures { result ≡ precedence_of rank }
 {
     match rank {
-        PRIMARY => Rung::Prefix(
+        PRIMARY => Precedence::Prefix(
             TokenSet::Signs,
             NodeState::Rest(
                 Kind::Unary,
-                Tail::TokenPart(TokenSet::Signs, PartSort::Level(UNARY)),
+                Tail::TokenPart(TokenSet::Signs, PartNonterminal::Level(UNARY)),
             ),
         ),
         UNARY => operator(Operands::Product),
@@ -757,28 +757,28 @@ pub fn rung_at(rank: u8) -> Rung
         SHIFT => operator(Operands::BitAnd),
         BIT_AND => operator(Operands::Xor),
         XOR => operator(Operands::BitOr),
-        BIT_OR => Rung::Infix(TokenSet::Compares, NodeState::Compare),
-        COMPARE => Rung::Prefix(
+        BIT_OR => Precedence::Infix(TokenSet::Compares, NodeState::Compare),
+        COMPARE => Precedence::Prefix(
             TokenSet::Not,
             NodeState::Rest(
                 Kind::Not,
-                Tail::TokenPart(TokenSet::Not, PartSort::Level(NOT)),
+                Tail::TokenPart(TokenSet::Not, PartNonterminal::Level(NOT)),
             ),
         ),
         NOT => operator(Operands::And),
         AND => operator(Operands::Or),
-        OR => Rung::Infix(TokenSet::If, NodeState::Condition),
-        CONDITION => Rung::Prefix(TokenSet::Lambda, NodeState::Lambda(LambdaAt::Begin)),
+        OR => Precedence::Infix(TokenSet::If, NodeState::Condition),
+        CONDITION => Precedence::Prefix(TokenSet::Lambda, NodeState::Lambda(LambdaAt::Begin)),
         LAMBDA => operator(Operands::Row),
-        _ => Rung::Same,
+        _ => Precedence::Same,
     }
 }
 
 /// Operands with their operator between two of them.
-fn operator(operands: Operands) -> Rung
+fn operator(operands: Operands) -> Precedence
     ensures { result ≡ operator_of operands }
 {
-    Rung::Infix(
+    Precedence::Infix(
         operands.row().operator,
         NodeState::Operands(operands, OperandsAt::Operator),
     )

@@ -9,8 +9,8 @@ ghost use Rattle.bz_states.specs.declared.token.TokenSet.TheVariants as t;
 ghost use Rattle.bz_tree.specs.declared.tree.Part.TheVariants as p;
 ghost use Rattle.bz_tree.specs.Spell.{limit};
 ghost use Rattle.bz_lex.proofs.Coming.{to_come};
-ghost use Rattle.bz_lex.specs.Fronts.{TellsFront};
-ghost use Rattle.bz_states.specs.Symbols.{example, TellsFirst};
+ghost use Rattle.bz_lex.specs.Fronts.{AnswersFront};
+ghost use Rattle.bz_states.specs.Symbols.{example, DecidesFirst};
 ghost use Rattle.bz_states.specs.Tokens.{terminals_of, token_at, Fails};
 ghost use Rattle.bz_states.specs.States.{binds_at};
 
@@ -259,9 +259,9 @@ impl<'a> Model for Leaves<'a> {
     ghost use Rattle.bz_lex.specs.declared.leaf.Leaf.{Leaf};
     ghost use Rattle.bz_lex.specs.contracts.leaf.Leaf as e;
     ghost use Rattle.bz_lex.specs.Places.{open_brackets};
-    ghost use Rattle.bz_lex.specs.Fronts.{TellsFront};
+    ghost use Rattle.bz_lex.specs.Fronts.{AnswersFront};
     ghost use Rattle.bz_lex.proofs.Coming.{to_come};
-    ghost use Rattle.bz_states.specs.Symbols.{TellsFirst};
+    ghost use Rattle.bz_states.specs.Symbols.{DecidesFirst};
 
     ghost Value = { List Leaf };
 
@@ -269,7 +269,7 @@ impl<'a> Model for Leaves<'a> {
 
     ghost view = { λ leaves. to_come leaves.place leaves.rest.now };
 
-    ghost invariant = { λ leaves. TellsFront leaves.place leaves.rest.now leaves.next × TellsFirst leaves.symbol (to_come leaves.place leaves.rest.now) × (open_brackets leaves.place + length leaves.rest.now < 2 ^ 64) };
+    ghost invariant = { λ leaves. AnswersFront leaves.place leaves.rest.now leaves.next × DecidesFirst leaves.symbol (to_come leaves.place leaves.rest.now) × (open_brackets leaves.place + length leaves.rest.now < 2 ^ 64) };
 }
 
 impl<'a> Leaves<'a> {
@@ -484,8 +484,8 @@ impl<'a> Leaves<'a> {
 /// What the token of the next leaf is, where a text goes on so at a place.
 #[inline(always)]
 fn symbol_at(next: Option<Front>, rest: &[u8], place: Place) -> Symbol
-    requires { TellsFront place rest.now next }
-    ensures { TellsFirst result (to_come place rest.now) }
+    requires { AnswersFront place rest.now next }
+    ensures { DecidesFirst result (to_come place rest.now) }
 {
     match next {
         Some(front) => Symbol::of(front.class, front.token_of(rest)),
@@ -495,7 +495,7 @@ fn symbol_at(next: Option<Front>, rest: &[u8], place: Place) -> Symbol
 
 /// The indent of the next leaf, where a text goes on so at a place.
 fn indent_at(next: Option<Front>, rest: &[u8], place: Place) -> &[u8]
-    requires { TellsFront place rest.now next }
+    requires { AnswersFront place rest.now next }
     ensures { result.now ≡ first_indent (to_come place rest.now) }
 {
     match next {

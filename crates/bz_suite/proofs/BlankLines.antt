@@ -16,7 +16,7 @@ use Rattle.bz_view.specs.View.{Seen, last_gap}
 use Rattle.bz_suite.specs.declared.value.Statement.{Statement}
 use Rattle.bz_suite.specs.declared.value.Statement.TheVariants as s
 use Rattle.bz_suite.specs.declared.value.Branch.{Branch}
-use Rattle.bz_suite.specs.View.{Read, Stated, stated, stated_row, indented_comments, indented_lines_before, after_first_line, end_comments, behind_end, is_taken_line, line_read, walked, margin_of, suite_read, head, branches, with_suite, is_compound, compound_read, statement_read, suite_in}
+use Rattle.bz_suite.specs.View.{ReadStatements, Stated, stated, stated_row, indented_comments, indented_lines_before, after_first_line, end_comments, after_end, is_taken_line, line_read, walked, margin_of, suite_read, head, branches, with_suite, is_compound, compound_read, statement_read, suite_in}
 use Rattle.bz_suite.proofs.KeptBranches.{Lines}
 use Rattle.bz_suite.proofs.Lined.{plain_lines, comments_append}
 
@@ -27,7 +27,7 @@ Blank lines = AllByRecursion (λ l. l.line.comment ≡ None) lines
 abbrev pub More : Lines → Lines → Type 0
 More a b = (bs : Lines) × Blank bs × (a ≡ b ++ bs)
 
-abbrev pub Alike : {X : Type 0} → Read X → Read X → Type 0
+abbrev pub Alike : {X : Type 0} → ReadStatements X → ReadStatements X → Type 0
 Alike a b = (a.0 ≡ b.0) × More a.1 b.1
 
 more_same : (a : Lines) → More a a
@@ -55,25 +55,25 @@ none_blank (l ∷ lines) h = let w = some_or_none l.line.comment (indented_comme
 
 -- ---- end comments
 
-blank_taken : (m : ℕ) (bs : Lines) → Blank bs → (end_comments m bs ≡ []) × (behind_end m bs ≡ [])
+blank_taken : (m : ℕ) (bs : Lines) → Blank bs → (end_comments m bs ≡ []) × (after_end m bs ≡ [])
 blank_taken m [] h = (refl, refl)
 blank_taken m (b ∷ bs) h =
     let all = blank_taken m bs h.1 in
     let taken : is_taken_line m b.indent b.line.comment ≡ true = ap (is_taken_line m b.indent) h.0 in
     (cond-true _ _ _ taken ∙ (ap (λ o. (as_list o ++ []) ++ end_comments m bs) h.0 ∙ all.0), cond-true _ _ _ taken ∙ all.1)
 
-ends_step : (t : Bool) (m : ℕ) (x : IndentedGapLine) (b bs : Lines) → Blank bs → (end_comments m (b ++ bs) ≡ end_comments m b) × More (behind_end m (b ++ bs)) (behind_end m b)
+ends_step : (t : Bool) (m : ℕ) (x : IndentedGapLine) (b bs : Lines) → Blank bs → (end_comments m (b ++ bs) ≡ end_comments m b) × More (after_end m (b ++ bs)) (after_end m b)
     → ((if t then indented_comments (x ∷ []) ++ end_comments m (b ++ bs) else []) ≡ (if t then indented_comments (x ∷ []) ++ end_comments m b else []))
-    × More (if t then behind_end m (b ++ bs) else x ∷ (b ++ bs)) (if t then behind_end m b else x ∷ b)
+    × More (if t then after_end m (b ++ bs) else x ∷ (b ++ bs)) (if t then after_end m b else x ∷ b)
 ends_step true m x b bs h w = (ap (λ t. indented_comments (x ∷ []) ++ t) w.0, w.1)
 ends_step false m x b bs h w = (refl, (bs, h, refl))
 
-ends_joined : (m : ℕ) (b bs : Lines) → Blank bs → (end_comments m (b ++ bs) ≡ end_comments m b) × More (behind_end m (b ++ bs)) (behind_end m b)
+ends_joined : (m : ℕ) (b bs : Lines) → Blank bs → (end_comments m (b ++ bs) ≡ end_comments m b) × More (after_end m (b ++ bs)) (after_end m b)
 ends_joined m [] bs h = let all = blank_taken m bs h in (all.0, ([], tt, all.1))
 ends_joined m (x ∷ b) bs h = ends_step (is_taken_line m x.indent x.line.comment) m x b bs h (ends_joined m b bs h)
 
-ends_alike : (m : ℕ) (a b : Lines) → More a b → (end_comments m a ≡ end_comments m b) × More (behind_end m a) (behind_end m b)
-ends_alike m a b (bs, h, e) = subst (λ z. (end_comments m z ≡ end_comments m b) × More (behind_end m z) (behind_end m b)) (sym e) (ends_joined m b bs h)
+ends_alike : (m : ℕ) (a b : Lines) → More a b → (end_comments m a ≡ end_comments m b) × More (after_end m a) (after_end m b)
+ends_alike m a b (bs, h, e) = subst (λ z. (end_comments m z ≡ end_comments m b) × More (after_end m z) (after_end m b)) (sym e) (ends_joined m b bs h)
 
 -- ---- parts
 
@@ -89,7 +89,7 @@ before_alike : (xs : List Stated) (a b : Lines) → More a b → More (indented_
 before_alike [] a b m = m
 before_alike (x ∷ xs) a b m = more_same (indented_lines_before (x ∷ xs) a)
 
-alike_by : {X : Type 0} (t : Bool) (v w v' w' : Read X) → Alike v v' → Alike w w' → Alike (if t then v else w) (if t then v' else w')
+alike_by : {X : Type 0} (t : Bool) (v w v' w' : ReadStatements X) → Alike v v' → Alike w w' → Alike (if t then v else w) (if t then v' else w')
 alike_by true v w v' w' e f = e
 alike_by false v w v' w' e f = f
 
@@ -119,7 +119,7 @@ suite_alike xs a b h i =
     (ap₂ pair all.0 ends.0, ends.1)
 
 abbrev branch_of : Form → (List Statement × List Bytes) → Branch
-branch_of f own = record { head = f; statements = own.0; end_ = own.1 }
+branch_of f own = record { head = f; statements = own.0; end = own.1 }
 
 mutual
   branches_alike : (kind : Kind) (ps : List Seen) (above : List Bytes) (l m : Lines) (xs : List Stated) (a b : Lines) → AllCalm xs → More l m → More a b → Alike (branches kind ps above l xs a) (branches kind ps above m xs b)
@@ -141,9 +141,9 @@ mutual
 compound_alike : (kind : Kind) (xs : List Stated) (above : List Bytes) (a b : Lines) → AllCalm xs → More a b → Alike (compound_read kind xs above a) (compound_read kind xs above b)
 compound_alike kind xs above a b h i = let all = branches_alike kind [] above a b xs a b h i i in (ap (λ r. s.Compound r ∷ []) all.0, all.1)
 
-calm_behind : (xs : List Stated) → AllCalm xs → AllCalm (drop 1 xs)
-calm_behind [] h = tt
-calm_behind (x ∷ xs) h = h.1
+calm_after : (xs : List Stated) → AllCalm xs → AllCalm (drop 1 xs)
+calm_after [] h = tt
+calm_after (x ∷ xs) h = h.1
 
 -- ---- nodes
 
@@ -155,7 +155,7 @@ statement_alike kind xs h above a b i =
 suite_in_alike : (kind : Kind) (xs : List Stated) → AllCalm xs → (a b : Lines) → More a b → Alike (suite_in kind xs a) (suite_in kind xs b)
 suite_in_alike kind xs h a b i =
     alike_by (is_kind kind k.Line) _ _ _ _ (refl, (line_alike (map (λ x. x.part) xs) [] a b i).1)
-    (alike_by (is_kind kind k.Suite) (suite_read (drop 1 xs) a) (([], []), a) (suite_read (drop 1 xs) b) (([], []), b) (suite_alike (drop 1 xs) a b (calm_behind xs h) i) (refl, i))
+    (alike_by (is_kind kind k.Suite) (suite_read (drop 1 xs) a) (([], []), a) (suite_read (drop 1 xs) b) (([], []), b) (suite_alike (drop 1 xs) a b (calm_after xs h) i) (refl, i))
 
 mutual
   part_calm : (x : Part) → Calm (stated x)

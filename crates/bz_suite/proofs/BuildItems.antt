@@ -10,9 +10,9 @@ use Rattle.bz_tree.specs.declared.tree.Node.{Node}
 use Rattle.bz_tree.specs.declared.tree.Part.{Part, Node'}
 use Rattle.bz_tree.specs.declared.tree.Part.TheVariants as p
 use Rattle.bz_tree.specs.Kinds.{kind_number}
-use Rattle.bz_tree.specs.Legal.{IsSort, IsBuildPart}
+use Rattle.bz_tree.specs.Legal.{IsNonterminal, IsBuildPart}
 use Rattle.bz_tree.specs.Shapes as s
-use Rattle.bz_tree.specs.Shapes.{Fits, shape, sort_has_kind}
+use Rattle.bz_tree.specs.Shapes.{Fits, shape, nonterminal_has_kind}
 use Rattle.bz_tree.specs.Spots.{Begins, Spot, Within}
 use Rattle.bz_tree.proofs.Balance.{no_such}
 use Rattle.bz_tree.proofs.Newer.{AllBuild, build_node}
@@ -22,7 +22,7 @@ use Rattle.bz_value.specs.declared.value.Item.TheVariants as i
 use Rattle.bz_value.specs.Counted.{one_if, item_amount}
 use Rattle.bz_value.specs.Frames.{Frame, row, sequence, frame, is_binary, is_statement}
 use Rattle.bz_value.specs.LineShapes.{line_shape}
-use Rattle.bz_value.specs.Proper.{IsEmptyRow, IsProperItem, ProperBy, ProperHeadBy, ProperItemsBy, ProperRowBy, behind_expr, has_statement_kind, in_frame, roots}
+use Rattle.bz_value.specs.Proper.{IsEmptyRow, IsProperItem, ProperBy, ProperHeadBy, ProperItemsBy, ProperRowBy, after_expr, has_statement_kind, in_frame, roots}
 use Rattle.bz_value.specs.Roots.{root, row_in}
 use Rattle.bz_value.proofs.FormParts.{framed}
 use Rattle.bz_value.proofs.Wider.{line_expr}
@@ -35,7 +35,7 @@ use Rattle.bz_suite.specs.View.{bzl_item}
 -- ---- shapes
 
 -- what has a shape in BUILD files is of a kind before Def
-older : (kind : Kind) (xs : List Part) → Fits IsSort (shape kind) xs → kind_number kind < kind_number k.Def
+older : (kind : Kind) (xs : List Part) → Fits IsNonterminal (shape kind) xs → kind_number kind < kind_number k.Def
 older k.Def xs h = absurd h
 older k.Param xs h = absurd h
 older k.IfStmt xs h = absurd h
@@ -47,20 +47,20 @@ older k.Lambda xs h = absurd h
 older _ xs h = omega arith
 
 -- of the statements only a Line is
-line_kind : (kind : Kind) → sort_has_kind s.stmt kind ≡ true → kind_number kind < kind_number k.Def → sort_has_kind s.line kind ≡ true
+line_kind : (kind : Kind) → nonterminal_has_kind s.stmt kind ≡ true → kind_number kind < kind_number k.Def → nonterminal_has_kind s.line kind ≡ true
 line_kind k.Line e lt = refl
 line_kind k.Def e lt = absurd (omega (arith, lt))
 line_kind k.IfStmt e lt = absurd (omega (arith, lt))
 line_kind k.ForStmt e lt = absurd (omega (arith, lt))
 line_kind _ e lt = no_such e
 
-file_narrow : (xs : List Part) → AllBuild xs → Fits IsSort (line_shape k.File) xs → Fits IsSort (shape k.File) xs
+file_narrow : (xs : List Part) → AllBuild xs → Fits IsNonterminal (line_shape k.File) xs → Fits IsNonterminal (shape k.File) xs
 file_narrow [] u h = h
 file_narrow (x ∷ xs) u (inl h) = inl h
 file_narrow (p.Leaf l ∷ xs) u (inr h) = no_such h.0
 file_narrow (Node' kind size own ∷ xs) u (inr h) = inr (line_kind kind h.0 u.0.0, file_narrow xs u.1 h.1)
 
-shape_narrow : (kind : Kind) (parts items : List Part) → kind_number kind < kind_number k.Def → AllBuild parts → Fits IsSort (line_shape kind) (row_in (frame kind) parts items) → Fits IsSort (shape kind) (row_in (frame kind) parts items)
+shape_narrow : (kind : Kind) (parts items : List Part) → kind_number kind < kind_number k.Def → AllBuild parts → Fits IsNonterminal (line_shape kind) (row_in (frame kind) parts items) → Fits IsNonterminal (shape kind) (row_in (frame kind) parts items)
 shape_narrow k.File parts items lt u h = file_narrow parts u h
 shape_narrow k.Def parts items lt u h = absurd (omega (arith, lt))
 shape_narrow k.Param parts items lt u h = absurd (omega (arith, lt))
@@ -76,7 +76,7 @@ shape_narrow _ parts items lt u h = h
 
 root_build : (x : Expr) → IsBuildExpr x → IsBuildPart (root x)
 root_build (Token t) b = tt
-root_build (Form' kind s parts s' items end_ split open_ comments) b =
+root_build (Form' kind s parts s' items end split open_break comments) b =
     let n : Node = record { kind = kind; parts = [] } in
     build_node (p.Node n) n refl b.0 tt
 
@@ -89,7 +89,7 @@ roots_build m (more_of-Expr x rest) b = (root_build x b.0, roots_build _ rest b.
 mutual
   narrow_expr : (here : Spot) (x : Expr) → ProperBy line_shape here x → IsBuildExpr x → ProperBy shape here x
   narrow_expr here (Token t) h b = h
-  narrow_expr here (Form' kind s parts s' items end_ split open_ comments) h b = (
+  narrow_expr here (Form' kind s parts s' items end split open_break comments) h b = (
     shape_narrow kind (roots parts) (roots items) b.0 (roots_build _ parts b.1) h.0,
     framed (frame kind)
         (λ g. (narrow_row (is_binary kind) here here _ parts g.0 b.1, g.1, g.2, g.3, g.4))
@@ -99,7 +99,7 @@ mutual
 
   narrow_row : (binary : Bool) (outer here : Spot) (m : _) (r : Row_of-Expr m) → ProperRowBy line_shape binary outer here r → AreBuildExprs r → ProperRowBy shape binary outer here r
   narrow_row binary outer here m end_of-Expr h b = tt
-  narrow_row binary outer here m (more_of-Expr x rest) h b = (narrow_expr here x h.0 b.0, h.1, h.2, narrow_row binary outer (behind_expr outer here x) _ rest h.3 b.1)
+  narrow_row binary outer here m (more_of-Expr x rest) h b = (narrow_expr here x h.0 b.0, h.1, h.2, narrow_row binary outer (after_expr outer here x) _ rest h.3 b.1)
 
   narrow_head : (here : Spot) (m : _) (r : Row_of-Expr m) → ProperHeadBy line_shape here r → AreBuildExprs r → ProperHeadBy shape here r
   narrow_head here m end_of-Expr h b = tt
@@ -122,7 +122,7 @@ none_build m (more_of-Expr x rest) h = absurd h
 mutual
   build_expr : (here : Spot) (x : Expr) → ProperBy shape here x → IsBuildExpr x
   build_expr here (Token t) h = tt
-  build_expr here (Form' kind s parts s' items end_ split open_ comments) h =
+  build_expr here (Form' kind s parts s' items end split open_break comments) h =
       let w : AreBuildExprs parts × AreBuildExprs items = of_both (frame kind) (AreBuildExprs parts × AreBuildExprs items) (
       framed (frame kind)
       (λ g. (build_row (is_binary kind) here here _ parts g.0, none_build _ items g.1))
@@ -132,7 +132,7 @@ mutual
 
   build_row : (binary : Bool) (outer here : Spot) (m : _) (r : Row_of-Expr m) → ProperRowBy shape binary outer here r → AreBuildExprs r
   build_row binary outer here m end_of-Expr h = tt
-  build_row binary outer here m (more_of-Expr x rest) h = (build_expr here x h.0, build_row binary outer (behind_expr outer here x) _ rest h.3)
+  build_row binary outer here m (more_of-Expr x rest) h = (build_expr here x h.0, build_row binary outer (after_expr outer here x) _ rest h.3)
 
   build_head : (here : Spot) (m : _) (r : Row_of-Expr m) → ProperHeadBy shape here r → AreBuildExprs r
   build_head here m end_of-Expr h = tt
@@ -160,11 +160,11 @@ statement_kind _ e lt = no_such e
 
 is_simple_one : (x : Expr) → has_statement_kind x ≡ true → has_simple_kind x ≡ true
 is_simple_one (Token t) e = no_such e
-is_simple_one (Form' kind s parts s' items end_ split open_ comments) e = simple_kind kind e
+is_simple_one (Form' kind s parts s' items end split open_break comments) e = simple_kind kind e
 
 is_statement_one : (x : Expr) → has_simple_kind x ≡ true → IsBuildExpr x → has_statement_kind x ≡ true
 is_statement_one (Token t) e b = no_such e
-is_statement_one (Form' kind s parts s' items end_ split open_ comments) e b = statement_kind kind e b.0
+is_statement_one (Form' kind s parts s' items end split open_break comments) e b = statement_kind kind e b.0
 
 -- ---- items
 

@@ -21,14 +21,14 @@ taken_more [] n y l e = absurd (omega arith)
 taken_more (x ∷ ps) zero y l e = ap (λ z. seen z ∷ []) e
 taken_more (x ∷ ps) (suc n) y l e = ap (λ t. seen x ∷ t) (taken_more ps n y (omega arith) e)
 
-got_behind : (ps : List Part) (from n at : ℕ) (d : Part) → from + n ≡ at → get_or ps at d ≡ get_or (drop from ps) n d
-got_behind ps zero n at d e = ap (λ k. get_or ps k d) (let o : at ≡ n = omega (arith, e) in o)
-got_behind [] (suc from) zero zero d e = refl
-got_behind [] (suc from) zero (suc at) d e = refl
-got_behind [] (suc from) (suc n) zero d e = refl
-got_behind [] (suc from) (suc n) (suc at) d e = refl
-got_behind (x ∷ ps) (suc from) n zero d e = absurd (omega (arith, e))
-got_behind (x ∷ ps) (suc from) n (suc at) d e = got_behind ps from n at d (omega (arith, e))
+got_after : (ps : List Part) (from n at : ℕ) (d : Part) → from + n ≡ at → get_or ps at d ≡ get_or (drop from ps) n d
+got_after ps zero n at d e = ap (λ k. get_or ps k d) (let o : at ≡ n = omega (arith, e) in o)
+got_after [] (suc from) zero zero d e = refl
+got_after [] (suc from) zero (suc at) d e = refl
+got_after [] (suc from) (suc n) zero d e = refl
+got_after [] (suc from) (suc n) (suc at) d e = refl
+got_after (x ∷ ps) (suc from) n zero d e = absurd (omega (arith, e))
+got_after (x ∷ ps) (suc from) n (suc at) d e = got_after ps from n at d (omega (arith, e))
 
 -- a part that is no colon belongs to the header
 not_colon : (b : Bool) → b ≡ false → {X : Type 0} → (x y : X) → (if b then x else y) ≡ y
@@ -49,7 +49,7 @@ no_colon_at ps from at y is kind above left after le lt here colon fails h =
     let n : ℕ = at - from in
     let sum : from + n ≡ at = omega (arith, le) in
     let short : n < length (drop from ps) = subst (λ k. n < k) (sym (length-drop from ps)) (let o : n < length ps - from = omega (arith, le, lt) in o) in
-    let got : y ≡ get_or (drop from ps) n y = here ∙ got_behind ps from n at y sum in
+    let got : y ≡ get_or (drop from ps) n y = here ∙ got_after ps from n at y sum in
     let up : suc n ≡ at + 1 - from = omega (arith, le) in
     h ∙ (ap (λ t. branches kind (map seen (take n (drop from ps))) above left (map stated t) after) (part_here ps at y lt here)
     ∙ (one_more kind (map seen (take n (drop from ps))) above left after y (map stated (drop (at + 1) ps)) (sym colon ∙ fails)

@@ -18,7 +18,7 @@ use Rattle.bz_suite.specs.declared.value.BzlItem.{BzlItem}
 use Rattle.bz_suite.specs.declared.value.BzlItem.TheVariants as b
 use Rattle.bz_suite.specs.declared.value.Statement.{Statement}
 use Rattle.bz_suite.specs.Joined.{lines_after, lines_at_end, first_lines, EndsWithStatement, BeginsBare, EndsInNewline, EndsInLine, BzlViewsJoin}
-use Rattle.bz_suite.specs.View.{Read, stated, indented_comments, indented_lines_before, bzl_item, block_items, bzl_items, bzl_view_of}
+use Rattle.bz_suite.specs.View.{ReadStatements, stated, indented_comments, indented_lines_before, bzl_item, block_items, bzl_items, bzl_view_of}
 use Rattle.bz_suite.proofs.BlankLines.{Blank, Alike, before_blank, none_blank}
 use Rattle.bz_suite.proofs.KeptBranches.{Lines}
 use Rattle.bz_suite.proofs.Lined.{plain_lines, lines_are}
@@ -55,7 +55,7 @@ same_items l m (p.Leaf e ∷ xs) h i = ap (λ own. map bzl_item own ++ bzl_items
 same_items l m (Node' kind size row ∷ xs) h i =
     let v = none_grouped l h in
     let w = none_grouped m i in
-    let read : List Bytes → Read (List Statement) = λ above. (stated (Node' kind size row)).statement above (before xs) in
+    let read : List Bytes → ReadStatements (List Statement) = λ above. (stated (Node' kind size row)).statement above (before xs) in
     ap₂ (λ front above. map bzl_item front ++ (map b.Statement (read above).0 ++ bzl_items (read above).1 xs)) (v.front ∙ sym w.front) (v.last ∙ sym w.last)
 
 same_after : (l m : Lines) (x : Part) (after : Lines) → Blank l → Blank m → lines_after l x after ≡ lines_after m x after
@@ -83,7 +83,7 @@ one_joined lines (p.Leaf l) e ys n left h =
 one_joined lines (Node' kind size row) e ys n left h =
     let front : List BzlItem = block_items (all_but_last (groups_of (plain_lines lines))) in
     let above : List Bytes = last_group (groups_of (plain_lines lines)) in
-    let read : Lines → Read (List Statement) = λ after. (stated (Node' kind size row)).statement above after in
+    let read : Lines → ReadStatements (List Statement) = λ after. (stated (Node' kind size row)).statement above after in
     let own : List BzlItem = map b.Statement (read (indented e.gap)).0 in
     let w : Alike (read (before ys)) (read (indented e.gap)) = before_blank (Node' kind size row) above (before ys) (indented e.gap) h (ap indented n) in
     let blank : Blank (read (before ys)).1 = after_blank lines (Node' kind size row) (before ys) (indented e.gap) h (ap indented n) left in
@@ -101,7 +101,7 @@ items_joined lines (p.Leaf l) (x ∷ xs) e ys n left h =
     ap (λ z. own ++ z) (items_joined [] x xs e ys n left h) ∙ sym (append_assoc own (bzl_items [] (x ∷ (xs ++ p.Leaf e ∷ []))) (bzl_items (before ys) ys))
 items_joined lines (Node' kind size row) (x ∷ xs) e ys n left h =
     let front : List BzlItem = block_items (all_but_last (groups_of (plain_lines lines))) in
-    let read : Read (List Statement) = (stated (Node' kind size row)).statement (last_group (groups_of (plain_lines lines))) (before (x ∷ (xs ++ ys))) in
+    let read : ReadStatements (List Statement) = (stated (Node' kind size row)).statement (last_group (groups_of (plain_lines lines))) (before (x ∷ (xs ++ ys))) in
     let own : List BzlItem = map b.Statement read.0 in
     let one : List BzlItem = bzl_items read.1 (x ∷ (xs ++ p.Leaf e ∷ [])) in
     let two : List BzlItem = bzl_items (before ys) ys in
@@ -135,10 +135,10 @@ last_both (l ∷ []) [] h g = h
 last_both (l ∷ []) (m ∷ ms) h g = g
 last_both (l ∷ m ∷ ls) ms h g = last_both (m ∷ ls) ms h g
 
-last_behind : (ls : List Leaf) (l : Leaf) → last_token (ls ++ l ∷ []) ≡ l.token
-last_behind [] l = refl
-last_behind (m ∷ []) l = refl
-last_behind (m ∷ n ∷ ls) l = last_behind (n ∷ ls) l
+last_after : (ls : List Leaf) (l : Leaf) → last_token (ls ++ l ∷ []) ≡ l.token
+last_after [] l = refl
+last_after (m ∷ []) l = refl
+last_after (m ∷ n ∷ ls) l = last_after (n ∷ ls) l
 
 whole_both : (xs ys : List Part) → AreWholeLines xs → AreWholeLines ys → AreWholeLines (xs ++ ys)
 whole_both xs ys h g = subst (λ ls. last_token ls ≡ 10 ∷ []) (sym (flat_map-append leaves_part xs ys)) (last_both (flat_map leaves_part xs) (flat_map leaves_part ys) h g)
@@ -162,7 +162,7 @@ whole_by_last : (front : List Part) (x : Part) → EndsInNewline x → AreWholeL
 whole_by_last front x (before_last, l, leaves, token) =
     let own : List Leaf = flat_map leaves_part front in
     ap last_token (flat_map-append leaves_part front (x ∷ []) ∙ (ap (λ ls. own ++ ls) (append-nil (leaves_part x) ∙ leaves) ∙ sym (append_assoc own before_last (l ∷ []))))
-    ∙ (last_behind (own ++ before_last) l ∙ token)
+    ∙ (last_after (own ++ before_last) l ∙ token)
 
 pub in_line : (parts front rest : List Part) (x y : Part) → parts ≡ rest ++ y ∷ [] → rest ≡ front ++ x ∷ [] → ((e : Leaf) × (y ≡ p.Leaf e) × (e.gap ≡ [])) → EndsInNewline x → EndsInLine parts
 in_line parts front rest x y i j (e, is, none) h = (rest, e, i ∙ ap (λ z. rest ++ z ∷ []) is, subst AreWholeLines (sym j) (whole_by_last front x h), none)

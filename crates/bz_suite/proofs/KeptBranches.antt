@@ -7,8 +7,8 @@ use Rattle.bz_tree.specs.declared.kind.Kind.{Kind}
 use Rattle.bz_tree.specs.declared.kind.Kind.TheVariants as k
 use Rattle.bz_tree.specs.declared.tree.Part.{Part}
 use Rattle.bz_tree.specs.Shapes as s
-use Rattle.bz_tree.specs.Shapes.{Terminal, Fits, Times, sort_has_kind, has_token, is_kind, no_more, once_more, tok, sub, owned, done, bzl_shape}
-use Rattle.bz_tree.specs.Legal.{IsSort}
+use Rattle.bz_tree.specs.Shapes.{Terminal, Fits, Times, nonterminal_has_kind, has_token, is_kind, no_more, once_more, tok, sub, owned, done, bzl_shape}
+use Rattle.bz_tree.specs.Legal.{IsNonterminal}
 use Rattle.bz_tree.specs.Spots.{Begins, Along, BzlStands, AtLeaves, AtParts}
 use Rattle.bz_tree.proofs.Balance.{no_such}
 use Rattle.bz_value.specs.declared.value.Expr.TheVariants as e
@@ -64,13 +64,13 @@ abbrev pub else_word : List Terminal
 else_word = s.one_keyword (codes "else")
 
 abbrev pub Elif : List Part → Type 0
-Elif xs = Fits IsSort (tok elif_word (sub s.test owned)) xs
+Elif xs = Fits IsNonterminal (tok elif_word (sub s.test owned)) xs
 
 abbrev pub Else : List Part → Type 0
-Else xs = Fits IsSort (s.alt (tok else_word owned) done) xs
+Else xs = Fits IsNonterminal (s.alt (tok else_word owned) done) xs
 
-pub behind_word : (ts : List Terminal) (x : Part) (xs : List Part) → plain_tokens ts ≡ true → has_token ts x ≡ true → AtParts BzlStands Begins Begins (x ∷ xs) → AtParts BzlStands Begins Along xs
-behind_word ts x xs h i at_ = subst (λ z. AtParts BzlStands Begins z xs) (token_goes ts x h i Begins Begins) at_.1
+pub after_word : (ts : List Terminal) (x : Part) (xs : List Part) → plain_tokens ts ≡ true → has_token ts x ≡ true → AtParts BzlStands Begins Begins (x ∷ xs) → AtParts BzlStands Begins Along xs
+after_word ts x xs h i at_ = subst (λ z. AtParts BzlStands Begins z xs) (token_goes ts x h i Begins Begins) at_.1
 
 module _ (number : Bytes → ℕ) where
   -- ---- headers
@@ -112,7 +112,7 @@ module _ (number : Bytes → ℕ) where
   SuiteKept x = (after : Lines) → suffix_amount number (stated x).suffix + (stated_amount number ((stated x).suite after).0.0 + (total number ((stated x).suite after).0.1 + lines_amount number ((stated x).suite after).1)) ≡ part_amount number x + lines_amount number after
 
   abbrev pub AsSuite : Part → Type 0
-  AsSuite x = IsSort s.suite x → AtLeaves BzlStands Along x → SuiteKept x
+  AsSuite x = IsNonterminal s.suite x → AtLeaves BzlStands Along x → SuiteKept x
 
   -- of further headers of a statement, where these lines are left of what is before them
   abbrev BranchesKept : Kind → List Part → Type 0
@@ -173,13 +173,13 @@ module _ (number : Bytes → ℕ) where
 
   -- ---- if, elif, else
 
-  if_kept : (word x mark own : Part) (back : List Part) → InHeader word → IsSort s.test x → has_token s.colon_mark mark ≡ true → IsSort s.suite own → Known (word ∷ x ∷ mark ∷ own ∷ back) → AtParts BzlStands Begins Along (x ∷ mark ∷ own ∷ back)
+  if_kept : (word x mark own : Part) (back : List Part) → InHeader word → IsNonterminal s.test x → has_token s.colon_mark mark ≡ true → IsNonterminal s.suite own → Known (word ∷ x ∷ mark ∷ own ∷ back) → AtParts BzlStands Begins Along (x ∷ mark ∷ own ∷ back)
       → BranchesKept k.IfStmt back → HeadersKept k.IfStmt word (x ∷ mark ∷ own ∷ back)
   if_kept word x mark own back n h i j g at_ b =
       let headed : Headed (FitsHeader (sub s.test (tok s.colon_mark done))) back (x ∷ mark ∷ own ∷ back) = test_headed x mark own back h i j at_ in
       headed_kept k.IfStmt (FitsHeader (sub s.test (tok s.colon_mark done))) word back (x ∷ mark ∷ own ∷ back) headed n g (λ w. row_head_kept k.IfStmt (word ∷ headed.front) w) b
 
-  else_kept : (word mark own : Part) → InHeader word → has_token s.colon_mark mark ≡ true → IsSort s.suite own → Known (word ∷ mark ∷ own ∷ []) → AtParts BzlStands Begins Along (mark ∷ own ∷ []) → HeadersKept k.IfStmt word (mark ∷ own ∷ [])
+  else_kept : (word mark own : Part) → InHeader word → has_token s.colon_mark mark ≡ true → IsNonterminal s.suite own → Known (word ∷ mark ∷ own ∷ []) → AtParts BzlStands Begins Along (mark ∷ own ∷ []) → HeadersKept k.IfStmt word (mark ∷ own ∷ [])
   else_kept word mark own n h i g at_ =
       let headed : Headed None_before [] (mark ∷ own ∷ []) = colon_headed mark own [] h i at_ in
       headed_kept k.IfStmt None_before word [] (mark ∷ own ∷ []) headed n g (λ w. row_head_kept k.IfStmt (word ∷ headed.front) w) (none_left k.IfStmt)
@@ -190,7 +190,7 @@ module _ (number : Bytes → ℕ) where
   last_kept (x ∷ []) (inl h) g at_ = absurd h.1
   last_kept (x ∷ mark ∷ []) (inl h) g at_ = absurd h.1.1
   last_kept (x ∷ mark ∷ own ∷ []) (inl h) g at_ =
-      further k.IfStmt x (mark ∷ own ∷ []) (else_kept x mark own (token_in else_word x refl refl h.0) h.1.0 h.1.1.0 g (behind_word else_word x (mark ∷ own ∷ []) refl h.0 at_))
+      further k.IfStmt x (mark ∷ own ∷ []) (else_kept x mark own (token_in else_word x refl refl h.0) h.1.0 h.1.1.0 g (after_word else_word x (mark ∷ own ∷ []) refl h.0 at_))
   last_kept (x ∷ mark ∷ own ∷ y ∷ xs) (inl h) g at_ = absurd h.1.1.1
 
   branches_kept : (xs : List Part) → Times Elif Else xs → Known xs → AtParts BzlStands Begins Begins xs → BranchesKept k.IfStmt xs
@@ -203,8 +203,8 @@ module _ (number : Bytes → ℕ) where
   branches_kept xs (once_more (word ∷ x ∷ mark ∷ own ∷ []) back e h t) g at_ =
       let zs : List Part = word ∷ x ∷ mark ∷ own ∷ back in
       let known : Known zs = subst Known e g in
-      let there : AtParts BzlStands Begins Along (x ∷ mark ∷ own ∷ back) = behind_word elif_word word (x ∷ mark ∷ own ∷ back) refl h.0 (subst (AtParts BzlStands Begins Begins) e at_) in
-      let rest : BranchesKept k.IfStmt back = branches_kept back t (known_parts (word ∷ x ∷ mark ∷ own ∷ []) back known).1 (test_headed x mark own back h.1.0 h.1.1.0 h.1.1.1.0 there).behind in
+      let there : AtParts BzlStands Begins Along (x ∷ mark ∷ own ∷ back) = after_word elif_word word (x ∷ mark ∷ own ∷ back) refl h.0 (subst (AtParts BzlStands Begins Begins) e at_) in
+      let rest : BranchesKept k.IfStmt back = branches_kept back t (known_parts (word ∷ x ∷ mark ∷ own ∷ []) back known).1 (test_headed x mark own back h.1.0 h.1.1.0 h.1.1.1.0 there).following in
       subst (BranchesKept k.IfStmt) (sym e) (further k.IfStmt word (x ∷ mark ∷ own ∷ back) (if_kept word x mark own back (token_in elif_word word refl refl h.0) h.1.0 h.1.1.0 h.1.1.1.0 known there rest))
 
   -- ---- statements with suites
@@ -213,23 +213,23 @@ module _ (number : Bytes → ℕ) where
   Compound_kept kind [] = ⊥
   Compound_kept kind (x ∷ xs) = HeadersKept kind x xs
 
-  if_statement : (xs : List Part) → Fits IsSort (bzl_shape k.IfStmt) xs → Known xs → AtParts BzlStands Begins Begins xs → Compound_kept k.IfStmt xs
+  if_statement : (xs : List Part) → Fits IsNonterminal (bzl_shape k.IfStmt) xs → Known xs → AtParts BzlStands Begins Begins xs → Compound_kept k.IfStmt xs
   if_statement [] h g at_ = absurd h
   if_statement (word ∷ []) h g at_ = absurd h.1
   if_statement (word ∷ x ∷ []) h g at_ = absurd h.1.1
   if_statement (word ∷ x ∷ mark ∷ []) h g at_ = absurd h.1.1.1
   if_statement (word ∷ x ∷ mark ∷ own ∷ back) h g at_ =
-      let there : AtParts BzlStands Begins Along (x ∷ mark ∷ own ∷ back) = behind_word (s.one_keyword (codes "if")) word (x ∷ mark ∷ own ∷ back) refl h.0 at_ in
-      let rest : BranchesKept k.IfStmt back = branches_kept back h.1.1.1.1 (known_parts (word ∷ x ∷ mark ∷ own ∷ []) back g).1 (test_headed x mark own back h.1.0 h.1.1.0 h.1.1.1.0 there).behind in
+      let there : AtParts BzlStands Begins Along (x ∷ mark ∷ own ∷ back) = after_word (s.one_keyword (codes "if")) word (x ∷ mark ∷ own ∷ back) refl h.0 at_ in
+      let rest : BranchesKept k.IfStmt back = branches_kept back h.1.1.1.1 (known_parts (word ∷ x ∷ mark ∷ own ∷ []) back g).1 (test_headed x mark own back h.1.0 h.1.1.0 h.1.1.1.0 there).following in
       if_kept word x mark own back (token_in (s.one_keyword (codes "if")) word refl refl h.0) h.1.0 h.1.1.0 h.1.1.1.0 g there rest
 
   abbrev ForParts : List Part → Type 0
   ForParts front = FitsHeader (s.list s.primary s.comma_mark false (tok (s.one_keyword (codes "in")) (sub s.expr (tok s.colon_mark done)))) front
 
-  for_statement : (xs : List Part) → Fits IsSort (bzl_shape k.ForStmt) xs → Known xs → AtParts BzlStands Begins Begins xs → Compound_kept k.ForStmt xs
+  for_statement : (xs : List Part) → Fits IsNonterminal (bzl_shape k.ForStmt) xs → Known xs → AtParts BzlStands Begins Begins xs → Compound_kept k.ForStmt xs
   for_statement [] h g at_ = absurd h
   for_statement (word ∷ xs) h g at_ =
-      let headed : Headed ForParts [] xs = for_headed xs h.1 (behind_word (s.one_keyword (codes "for")) word xs refl h.0 at_) in
+      let headed : Headed ForParts [] xs = for_headed xs h.1 (after_word (s.one_keyword (codes "for")) word xs refl h.0 at_) in
       headed_kept k.ForStmt ForParts word [] xs headed (token_in (s.one_keyword (codes "for")) word refl refl h.0) g (λ w. row_head_kept k.ForStmt (word ∷ headed.front) w) (none_left k.ForStmt)
 
   bracket_at : (front : List Part) → Named front → TokenAt 1 front
@@ -238,13 +238,13 @@ module _ (number : Bytes → ℕ) where
   parameters_paired : (front : List Part) → Named front → Paired (drop 2 front)
   parameters_paired front w = subst (λ zs. Paired (drop 2 zs)) (sym w.cut) w.parameters.paired
 
-  def_statement : (xs : List Part) → Fits IsSort (bzl_shape k.Def) xs → Known xs → AtParts BzlStands Begins Begins xs → Compound_kept k.Def xs
+  def_statement : (xs : List Part) → Fits IsNonterminal (bzl_shape k.Def) xs → Known xs → AtParts BzlStands Begins Begins xs → Compound_kept k.Def xs
   def_statement [] h g at_ = absurd h
   def_statement (word ∷ xs) h g at_ =
-      let headed : Headed Named [] xs = def_headed xs h.1 (behind_word (s.one_keyword (codes "def")) word xs refl h.0 at_) in
+      let headed : Headed Named [] xs = def_headed xs h.1 (after_word (s.one_keyword (codes "def")) word xs refl h.0 at_) in
       headed_kept k.Def Named word [] xs headed (token_in (s.one_keyword (codes "def")) word refl refl h.0) g (λ w. def_head_kept (word ∷ headed.front) w (bracket_at headed.front headed.such) (parameters_paired headed.front headed.such)) (none_left k.Def)
 
-  pub compound_kept : (kind : Kind) (xs : List Part) → sort_has_kind s.stmt kind ≡ true → is_kind kind k.Line ≡ false → Fits IsSort (bzl_shape kind) xs → Known xs → AtParts BzlStands Begins Begins xs → Compound_kept kind xs
+  pub compound_kept : (kind : Kind) (xs : List Part) → nonterminal_has_kind s.stmt kind ≡ true → is_kind kind k.Line ≡ false → Fits IsNonterminal (bzl_shape kind) xs → Known xs → AtParts BzlStands Begins Begins xs → Compound_kept kind xs
   compound_kept k.Def xs h i f g at_ = def_statement xs f g at_
   compound_kept k.IfStmt xs h i f g at_ = if_statement xs f g at_
   compound_kept k.ForStmt xs h i f g at_ = for_statement xs f g at_

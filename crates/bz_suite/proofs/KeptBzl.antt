@@ -6,7 +6,7 @@ use Rattle.bz_tree.specs.declared.tree.Part.{Part, Node'}
 use Rattle.bz_tree.specs.declared.tree.Part.TheVariants as p
 use Rattle.bz_tree.specs.Shapes as s
 use Rattle.bz_tree.specs.Shapes.{Fits, Several, bzl_shape, tok, done}
-use Rattle.bz_tree.specs.Legal.{IsSort, LegalBzlPart}
+use Rattle.bz_tree.specs.Legal.{IsNonterminal, LegalBzlPart}
 use Rattle.bz_tree.specs.Spots.{Begins, BzlStands, AtParts}
 use Rattle.bz_tree.proofs.Balance.{no_such}
 use Rattle.bz_value.specs.Counted.{total, one_if}
@@ -19,9 +19,9 @@ use Rattle.bz_view.proofs.Sums.{all_blocks, front_blocks, part_amount, leaf_amou
 use Rattle.bz_suite.specs.declared.value.Statement.{Statement}
 use Rattle.bz_suite.specs.declared.value.BzlItem.TheVariants as b
 use Rattle.bz_suite.specs.Kept.{bzl_item_amount, BzlCommentsKept}
-use Rattle.bz_suite.specs.View.{Read, stated, indented_lines_before, block_items, bzl_items}
+use Rattle.bz_suite.specs.View.{ReadStatements, stated, indented_lines_before, block_items, bzl_items}
 use Rattle.bz_suite.proofs.KeptBranches.{before_amount}
-use Rattle.bz_suite.proofs.HeadParts.{behind_stmt}
+use Rattle.bz_suite.proofs.HeadParts.{after_stmt}
 use Rattle.bz_suite.proofs.KeptSuites.{AsStatement, part_read}
 use Rattle.bz_suite.proofs.KeptValues.{lines_amount, indented_amount, block_amount, statements_as_items}
 use Rattle.bz_suite.proofs.Lined.{plain_lines}
@@ -32,7 +32,7 @@ module _ (number : Bytes → ℕ) where
   all_read (x ∷ xs) h = ((part_read number x h.0).0, all_read xs h.1)
 
   -- statements and the end, where these lines are before the first of them
-  file_kept : (lines : List IndentedGapLine) (xs : List Part) → Several (IsSort s.stmt) (Fits IsSort (tok s.end done)) xs → AllByRecursion (AsStatement number) xs → AtParts BzlStands Begins Begins xs →
+  file_kept : (lines : List IndentedGapLine) (xs : List Part) → Several (IsNonterminal s.stmt) (Fits IsNonterminal (tok s.end done)) xs → AllByRecursion (AsStatement number) xs → AtParts BzlStands Begins Begins xs →
       before_amount number xs [] + total (bzl_item_amount number) (bzl_items lines xs) ≡ lines_amount number lines + total (part_amount number) xs
   file_kept lines [] h w at_ = absurd h
   file_kept lines (p.Leaf l ∷ []) (inl h) w at_ =
@@ -49,8 +49,8 @@ module _ (number : Bytes → ℕ) where
   file_kept lines (Node' kind n r ∷ xs) (inr h) w at_ =
       let groups : List (List Bytes) = groups_of (plain_lines lines) in
       let after : List IndentedGapLine = indented_lines_before (map stated xs) [] in
-      let own : Read (List Statement) = (stated (Node' kind n r)).statement (last_group groups) after in
-      let there : AtParts BzlStands Begins Begins xs = subst (λ z. AtParts BzlStands Begins z xs) (behind_stmt (Node' kind n r) Begins Begins h.0) at_.1 in
+      let own : ReadStatements (List Statement) = (stated (Node' kind n r)).statement (last_group groups) after in
+      let there : AtParts BzlStands Begins Begins xs = subst (λ z. AtParts BzlStands Begins z xs) (after_stmt (Node' kind n r) Begins Begins h.0) at_.1 in
       let gap = indented_amount number (seen (Node' kind n r)).gap in
       let one = w.0 h.0 at_.0 (last_group groups) after in
       let more = file_kept own.1 xs h.1 w.1 there in
@@ -63,7 +63,7 @@ module _ (number : Bytes → ℕ) where
 
 pub bzl_comments_kept : BzlCommentsKept
 bzl_comments_kept n h text =
-    let fits : Fits IsSort (bzl_shape k.File) n.parts = subst (λ kd. Fits IsSort (bzl_shape kd) n.parts) h.file.root h.file.shapes.0 in
+    let fits : Fits IsNonterminal (bzl_shape k.File) n.parts = subst (λ kd. Fits IsNonterminal (bzl_shape kd) n.parts) h.file.root h.file.shapes.0 in
     let all = file_kept (one_if text) (indented_lines_before (map stated n.parts) []) n.parts fits (all_read (one_if text) n.parts h.file.shapes.1) h.gaps in
     let leaves = parts_leaves (one_if text) n.parts in
     omega arith

@@ -14,15 +14,15 @@ use Rattle.bz_tree.specs.declared.kind.Kind.TheVariants as k
 use Rattle.bz_tree.specs.declared.tree.Part.{Part, Row_of-Part, end_of-Part, more_of-Part, Node', items-the_row-Part}
 use Rattle.bz_tree.specs.declared.tree.Part.TheVariants as p
 use Rattle.bz_tree.specs.Shapes as s
-use Rattle.bz_tree.specs.Shapes.{Sort, Terminal, Fits, bzl_shape, has_token, is_one_of, is_terminal, leaves_at, colon_mark}
-use Rattle.bz_tree.specs.Legal.{IsSort, LegalBzlPart, LegalBzlRow}
-use Rattle.bz_tree.specs.Spots.{Spot, Begins, Along, role, behind_token, behind_part, BzlGapStands, BzlStands, AtLeaves, AtRow}
-use Rattle.bz_tree.proofs.Balance.{no_such, same_class, inner_sort}
+use Rattle.bz_tree.specs.Shapes.{Nonterminal, Terminal, Fits, bzl_shape, has_token, is_one_of, is_terminal, leaves_at, colon_mark}
+use Rattle.bz_tree.specs.Legal.{IsNonterminal, LegalBzlPart, LegalBzlRow}
+use Rattle.bz_tree.specs.Spots.{Spot, Begins, Along, role, following_token, after_part, BzlGapStands, BzlStands, AtLeaves, AtRow}
+use Rattle.bz_tree.proofs.Balance.{no_such, same_class, inner_nonterminal}
 use Rattle.bz_items.specs.Characters.{Bytes, line_feed}
 use Rattle.bz_value.specs.Frames.{frame}
 use Rattle.bz_value.specs.Gaps.{in_comment, as_list, all_in}
 use Rattle.bz_view.specs.View.{seen, seen_row, seen_node, first_seen_gap}
-use Rattle.bz_view.proofs.InnerParts.{ends_line, is_inner, inner_kind, inner_tokens, every, every_part, token_inner, sort_inner}
+use Rattle.bz_view.proofs.InnerParts.{ends_line, is_inner, inner_kind, inner_tokens, every, every_part, token_inner, nonterminal_inner}
 use Rattle.bz_view.proofs.KeptParts.{KeptPart, AllKept, held, node_kept}
 use Rattle.bz_view.proofs.Pairs.{BracketedIn, node_bracketed}
 use Rattle.bz_view.proofs.QuietGaps.{Silent, along_silent, blank_silent}
@@ -37,7 +37,7 @@ gap_silent c.Newline gap e h = no_such e
 gap_silent c.End gap e h = no_such e
 gap_silent _ gap e h = along_silent gap h
 
-kind_inner : (kind : Kind) → inner_kind kind ≡ true → every inner_tokens inner_sort (bzl_shape kind) ≡ true
+kind_inner : (kind : Kind) → inner_kind kind ≡ true → every inner_tokens inner_nonterminal (bzl_shape kind) ≡ true
 kind_inner k.File h = no_such h
 kind_inner k.Line h = no_such h
 kind_inner k.Def h = no_such h
@@ -46,8 +46,8 @@ kind_inner k.ForStmt h = no_such h
 kind_inner k.Suite h = no_such h
 kind_inner _ h = refl
 
-inner_parts : (kind : Kind) → inner_kind kind ≡ true → (xs : List Part) → Fits IsSort (bzl_shape kind) xs → AllByRecursion (λ x. is_inner x ≡ true) xs
-inner_parts kind h xs i = every_part (λ x. is_inner x ≡ true) inner_tokens inner_sort token_inner sort_inner (bzl_shape kind) (kind_inner kind h) xs i
+inner_parts : (kind : Kind) → inner_kind kind ≡ true → (xs : List Part) → Fits IsNonterminal (bzl_shape kind) xs → AllByRecursion (λ x. is_inner x ≡ true) xs
+inner_parts kind h xs i = every_part (λ x. is_inner x ≡ true) inner_tokens inner_nonterminal token_inner nonterminal_inner (bzl_shape kind) (kind_inner kind h) xs i
 
 mutual
   pub part_silent : (x : Part) → LegalBzlPart x → Silent BzlStands x
@@ -90,17 +90,17 @@ pub newline_comment : (x : Part) → has_token s.newline x ≡ true → AtLeaves
 newline_comment (p.Leaf l) i h = newline_gap l.class l.gap (newline_class l i) h
 newline_comment (Node' kind n r) i h = no_such i
 
-newline_role : (class : Class) (token : Bytes) (outer here : Spot) → class ≡ c.Newline → behind_token (role class token) outer here ≡ Begins
-newline_role class token outer here e = ap (λ z. behind_token (role z token) outer here) e
+newline_role : (class : Class) (token : Bytes) (outer here : Spot) → class ≡ c.Newline → following_token (role class token) outer here ≡ Begins
+newline_role class token outer here e = ap (λ z. following_token (role z token) outer here) e
 
 -- after it a line begins
-pub newline_ends : (x : Part) (outer here : Spot) → has_token s.newline x ≡ true → behind_part outer here x ≡ Begins
+pub newline_ends : (x : Part) (outer here : Spot) → has_token s.newline x ≡ true → after_part outer here x ≡ Begins
 newline_ends (p.Leaf l) outer here i = newline_role l.class l.token outer here (newline_class l i)
 newline_ends (Node' kind n r) outer here i = no_such i
 
 -- ---- no comment of a part is lost or doubled
 
-bracketed : (kind : Kind) (xs : List Part) → Fits IsSort (bzl_shape kind) xs → BracketedIn (frame kind) kind xs
+bracketed : (kind : Kind) (xs : List Part) → Fits IsNonterminal (bzl_shape kind) xs → BracketedIn (frame kind) kind xs
 bracketed k.Call xs h = node_bracketed k.Call xs h
 bracketed k.Load xs h = node_bracketed k.Load xs h
 bracketed k.Tuple xs h = node_bracketed k.Tuple xs h
@@ -154,13 +154,13 @@ pub token_plain : (ts : List Terminal) (x : Part) → no_colons ts ≡ true → 
 token_plain ts (p.Leaf l) h i = leaf_plain ts l h i
 token_plain ts (Node' kind n r) h i = refl
 
-leaves_plain : (a : Sort) → no_colons (leaves_at a) ≡ true
+leaves_plain : (a : Nonterminal) → no_colons (leaves_at a) ≡ true
 leaves_plain (s.level n) = refl
 leaves_plain _ = refl
 
-pub sort_plain : (a : Sort) (x : Part) → IsSort a x → NoColon x
-sort_plain a (p.Leaf l) i = leaf_plain (leaves_at a) l (leaves_plain a) i
-sort_plain a (Node' kind n r) i = refl
+pub nonterminal_plain : (a : Nonterminal) (x : Part) → IsNonterminal a x → NoColon x
+nonterminal_plain a (p.Leaf l) i = leaf_plain (leaves_at a) l (leaves_plain a) i
+nonterminal_plain a (Node' kind n r) i = refl
 
 pub colon_is : (x : Part) → has_token colon_mark x ≡ true → (stated x).is_colon ≡ true
 colon_is (p.Leaf l) h = h

@@ -6,8 +6,8 @@ use Rattle.bz_tree.specs.declared.kind.Kind.TheVariants as k
 use Rattle.bz_tree.specs.declared.tree.Part.{Part, Row_of-Part, end_of-Part, more_of-Part, Node', items-the_row-Part}
 use Rattle.bz_tree.specs.declared.tree.Part.TheVariants as p
 use Rattle.bz_tree.specs.Shapes as s
-use Rattle.bz_tree.specs.Shapes.{Fits, Several, done, bzl_shape, sort_has_kind, has_token, is_kind}
-use Rattle.bz_tree.specs.Legal.{IsSort, LegalBzlPart, LegalBzlRow}
+use Rattle.bz_tree.specs.Shapes.{Fits, Several, done, bzl_shape, nonterminal_has_kind, has_token, is_kind}
+use Rattle.bz_tree.specs.Legal.{IsNonterminal, LegalBzlPart, LegalBzlRow}
 use Rattle.bz_tree.specs.Spell.{leaves_row}
 use Rattle.bz_tree.specs.Spots.{Spot, Begins, Along, BzlStands, AtLeaves, AtParts}
 use Rattle.bz_tree.proofs.Balance.{no_such, parts_of_row}
@@ -18,7 +18,7 @@ use Rattle.bz_value.specs.Gaps.{all_in}
 use Rattle.bz_value.specs.Indented.{IndentedGapLine, indented}
 use Rattle.bz_value.proofs.Totals.{append_total}
 use Rattle.bz_view.specs.View.{seen, seen_row, seen_node, first_seen_gap, last_gap}
-use Rattle.bz_view.proofs.InnerParts.{sort_inner}
+use Rattle.bz_view.proofs.InnerParts.{nonterminal_inner}
 use Rattle.bz_view.proofs.KeptFiles.{statements_kept}
 use Rattle.bz_view.proofs.KeptParts.{AllKept, token_part}
 use Rattle.bz_view.proofs.Pairs.{listed_paired, token}
@@ -27,21 +27,21 @@ use Rattle.bz_view.proofs.SeenParts.{node_gap, seen_rows}
 use Rattle.bz_view.proofs.Sums.{gap_amount, suffix_total, leaves_amount, part_amount, row_leaves}
 use Rattle.bz_suite.specs.declared.value.Statement.{Statement}
 use Rattle.bz_suite.specs.Kept.{statement_amount}
-use Rattle.bz_suite.specs.View.{Read, SuiteRead, stated, stated_row, indented_lines_before, line_read, after_first_line, walked, margin_of, suite_read, suite_in, suffix_before, only_comment, statement_read, compound_read, branches, indented_comments, end_comments, behind_end, is_taken_line}
+use Rattle.bz_suite.specs.View.{ReadStatements, SuiteRead, stated, stated_row, indented_lines_before, line_read, after_first_line, walked, margin_of, suite_read, suite_in, suffix_before, only_comment, statement_read, compound_read, branches, indented_comments, end_comments, after_end, is_taken_line}
 use Rattle.bz_suite.proofs.KeptBranches.{Lines, Known, AsSuite, before_amount, Compound_kept, compound_kept}
 use Rattle.bz_suite.proofs.KeptGaps.{parts_silent, parts_kept, newline_comment, newline_ends}
-use Rattle.bz_suite.proofs.HeadParts.{behind_stmt}
-use Rattle.bz_suite.proofs.KeptValues.{stated_amount, compound_amount, simple_amount, lines_amount, lines_append, indented_amount, behind_amount}
+use Rattle.bz_suite.proofs.HeadParts.{after_stmt}
+use Rattle.bz_suite.proofs.KeptValues.{stated_amount, compound_amount, simple_amount, lines_amount, lines_append, indented_amount, after_amount}
 use Rattle.bz_suite.proofs.Parts.{part_of, parts_seen, stated_rows}
 
 module _ (number : Bytes → ℕ) where
   -- What is read of a part, or of the parts in it, as a statement: what is in it and in the lines left is what is above
   -- it, in the gaps of its leaves, the first one aside, and in the lines after it.
-  abbrev Reads : Bytes → (List Bytes → Lines → Read (List Statement)) → ℕ → Type 0
+  abbrev Reads : Bytes → (List Bytes → Lines → ReadStatements (List Statement)) → ℕ → Type 0
   Reads gap read own = (above : List Bytes) (after : Lines) → gap_amount number gap + (stated_amount number (read above after).0 + lines_amount number (read above after).1) ≡ total number above + (own + lines_amount number after)
 
   abbrev pub AsStatement : Part → Type 0
-  AsStatement x = IsSort s.stmt x → AtLeaves BzlStands Begins x → Reads (seen x).gap (stated x).statement (part_amount number x)
+  AsStatement x = IsNonterminal s.stmt x → AtLeaves BzlStands Begins x → Reads (seen x).gap (stated x).statement (part_amount number x)
 
   -- The same as a suite, with the suffix of its header.
   abbrev Ends : Option Bytes → (Lines → SuiteRead) → ℕ → Type 0
@@ -55,25 +55,25 @@ module _ (number : Bytes → ℕ) where
   line_kept (x ∷ y ∷ xs) h g q above after =
       let made = statements_kept number above x y xs g (listed_paired s.semicolon s.newline s.small (x ∷ y ∷ xs) h) q in
       let simple = simple_amount number above (map seen (x ∷ y ∷ xs)) in
-      let behind = behind_amount number (last_gap (map seen (x ∷ y ∷ xs))) in
+      let following = after_amount number (last_gap (map seen (x ∷ y ∷ xs))) in
       let both = lines_append number (after_first_line (indented (last_gap (map seen (x ∷ y ∷ xs))))) after in
       omega arith
 
   -- in the place of a suite nothing is before it
   first_silent : (xs : List Part) → Statements xs → AllByRecursion (Silent BzlStands) xs → AtParts BzlStands Along Along xs → gap_amount number (first_seen_gap (map seen xs)) ≡ 0
   first_silent [] h g at_ = absurd h
-  first_silent (x ∷ xs) h g at_ = ap (total number) (g.0 (sort_inner s.small x refl h.0) at_.0)
+  first_silent (x ∷ xs) h g at_ = ap (total number) (g.0 (nonterminal_inner s.small x refl h.0) at_.0)
 
   -- ---- statements one after the other
 
   abbrev Statement_parts : List Part → Type 0
-  Statement_parts xs = AllByRecursion (λ x. IsSort s.stmt x) xs
+  Statement_parts xs = AllByRecursion (λ x. IsNonterminal s.stmt x) xs
 
   walked_kept : (outer : Spot) (lines : Lines) (xs : List Part) (after : Lines) → Statement_parts xs → AllByRecursion AsStatement xs → AtParts BzlStands outer Begins xs →
       before_amount number xs after + (stated_amount number (walked lines (map stated xs) after).0 + lines_amount number (walked lines (map stated xs) after).1) ≡ lines_amount number lines + (total (part_amount number) xs + lines_amount number after)
   walked_kept outer lines [] after h w at_ = omega arith
   walked_kept outer lines (x ∷ xs) after h w at_ =
-      let there : AtParts BzlStands outer Begins xs = subst (λ z. AtParts BzlStands outer z xs) (behind_stmt x outer Begins h.0) at_.1 in
+      let there : AtParts BzlStands outer Begins xs = subst (λ z. AtParts BzlStands outer z xs) (after_stmt x outer Begins h.0) at_.1 in
       let gap = ap (λ s. lines_amount number (indented s.gap)) (part_of x) ∙ indented_amount number (seen x).gap in
       let one = w.0 h.0 at_.0 (indented_comments lines) (indented_lines_before (map stated xs) after) in
       let left : Lines = ((stated x).statement (indented_comments lines) (indented_lines_before (map stated xs) after)).1 in
@@ -83,8 +83,8 @@ module _ (number : Bytes → ℕ) where
 
   -- ---- suites
 
-  ends_step : (b : Bool) (m : ℕ) (x : IndentedGapLine) (xs : Lines) → total number (end_comments m xs) + lines_amount number (behind_end m xs) ≡ lines_amount number xs
-      → total number (if b then indented_comments (x ∷ []) ++ end_comments m xs else []) + lines_amount number (if b then behind_end m xs else x ∷ xs) ≡ lines_amount number (x ∷ xs)
+  ends_step : (b : Bool) (m : ℕ) (x : IndentedGapLine) (xs : Lines) → total number (end_comments m xs) + lines_amount number (after_end m xs) ≡ lines_amount number xs
+      → total number (if b then indented_comments (x ∷ []) ++ end_comments m xs else []) + lines_amount number (if b then after_end m xs else x ∷ xs) ≡ lines_amount number (x ∷ xs)
   ends_step true m x xs h =
       let both = append_total number (indented_comments (x ∷ [])) (end_comments m xs) in
       let one = lines_append number (x ∷ []) xs in
@@ -92,7 +92,7 @@ module _ (number : Bytes → ℕ) where
   ends_step false m x xs h = omega arith
 
   -- the end comments of a suite, and what is left after them
-  ends_kept : (m : ℕ) (xs : Lines) → total number (end_comments m xs) + lines_amount number (behind_end m xs) ≡ lines_amount number xs
+  ends_kept : (m : ℕ) (xs : Lines) → total number (end_comments m xs) + lines_amount number (after_end m xs) ≡ lines_amount number xs
   ends_kept m [] = refl
   ends_kept m (x ∷ xs) = ends_step (is_taken_line m x.indent x.line.comment) m x xs (ends_kept m xs)
 
@@ -113,7 +113,7 @@ module _ (number : Bytes → ℕ) where
       let compound = compound_amount number (branches kind [] above after (map stated (x ∷ xs)) after).0 in
       omega arith
 
-  node_reads : (kind : Kind) (xs : List Part) → sort_has_kind s.stmt kind ≡ true → Fits IsSort (bzl_shape kind) xs → Known number xs → AtParts BzlStands Begins Begins xs → Reads (first_seen_gap (map seen xs)) (statement_read kind (map stated xs)) (total (part_amount number) xs)
+  node_reads : (kind : Kind) (xs : List Part) → nonterminal_has_kind s.stmt kind ≡ true → Fits IsNonterminal (bzl_shape kind) xs → Known number xs → AtParts BzlStands Begins Begins xs → Reads (first_seen_gap (map seen xs)) (statement_read kind (map stated xs)) (total (part_amount number) xs)
   node_reads k.Line xs h f g at_ = λ above after.
       ap (λ ss. gap_amount number (first_seen_gap (map seen xs)) + (stated_amount number (line_read ss above after).0 + lines_amount number (line_read ss above after).1)) (parts_seen xs)
       ∙ line_kept xs f g.kept (quiet_where BzlStands Begins Begins xs refl f g.silent at_) above after
@@ -129,12 +129,12 @@ module _ (number : Bytes → ℕ) where
       let first = first_silent xs f g.silent at_ in
       omega arith
 
-  several_stmts : (xs : List Part) → Several (IsSort s.stmt) (Fits IsSort done) xs → Statement_parts xs
+  several_stmts : (xs : List Part) → Several (IsNonterminal s.stmt) (Fits IsNonterminal done) xs → Statement_parts xs
   several_stmts [] h = tt
   several_stmts (x ∷ xs) (inl h) = absurd h
   several_stmts (x ∷ xs) (inr h) = (h.0, several_stmts xs h.1)
 
-  suite_ends : (xs : List Part) → Fits IsSort (bzl_shape k.Suite) xs → AllByRecursion AsStatement xs → AtParts BzlStands Along Along xs → Ends (suffix_before k.Suite (map stated xs)) (suite_in k.Suite (map stated xs)) (total (part_amount number) xs)
+  suite_ends : (xs : List Part) → Fits IsNonterminal (bzl_shape k.Suite) xs → AllByRecursion AsStatement xs → AtParts BzlStands Along Along xs → Ends (suffix_before k.Suite (map stated xs)) (suite_in k.Suite (map stated xs)) (total (part_amount number) xs)
   suite_ends [] f w at_ after = absurd f
   suite_ends (mark ∷ []) f w at_ after = absurd f.1
   suite_ends (mark ∷ x ∷ xs) f w at_ after =
@@ -144,7 +144,7 @@ module _ (number : Bytes → ℕ) where
       let newline = token_part number mark (token s.newline mark f.0) in
       omega arith
 
-  node_ends : (kind : Kind) (xs : List Part) → sort_has_kind s.suite kind ≡ true → Fits IsSort (bzl_shape kind) xs → Known number xs → AllByRecursion AsStatement xs → AtParts BzlStands Along Along xs
+  node_ends : (kind : Kind) (xs : List Part) → nonterminal_has_kind s.suite kind ≡ true → Fits IsNonterminal (bzl_shape kind) xs → Known number xs → AllByRecursion AsStatement xs → AtParts BzlStands Along Along xs
       → Ends (suffix_before kind (map stated xs)) (suite_in kind (map stated xs)) (total (part_amount number) xs)
   node_ends k.Line xs h f g w at_ = line_ends xs f g at_
   node_ends k.Suite xs h f g w at_ = suite_ends xs f w at_

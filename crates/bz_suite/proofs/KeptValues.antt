@@ -7,7 +7,7 @@ use Rattle.bz_value.specs.declared.value.Item.{Item}
 use Rattle.bz_value.specs.declared.value.Item.TheVariants as i
 use Rattle.bz_value.specs.Counted.{total, amount, item_amount}
 use Rattle.bz_items.specs.Characters.{Bytes}
-use Rattle.bz_value.specs.Gaps.{comments_in, after_first_comment as behind_first_line}
+use Rattle.bz_value.specs.Gaps.{comments_in, after_first_comment as past_first_indented_line}
 use Rattle.bz_value.specs.Indented.{IndentedGapLine, indented}
 use Rattle.bz_view.specs.View.{Seen, statements_in, statement_in, blocks}
 use Rattle.bz_view.proofs.KeptFiles.{left_amount}
@@ -33,7 +33,7 @@ module _ (number : Bytes → ℕ) where
 
   -- a header with its suite
   abbrev pub branch_amount : Branch → ℕ
-  branch_amount x = amount number (e.Form x.head) + (stated_amount x.statements + total number x.end_)
+  branch_amount x = amount number (e.Form x.head) + (stated_amount x.statements + total number x.end)
 
   statements_total : (m : _) (r : Row_of-Statement m) → statements_amount number r ≡ stated_amount (items-the_row-Statement m r)
   statements_total m end_of-Statement = refl
@@ -41,7 +41,7 @@ module _ (number : Bytes → ℕ) where
 
   branches_total : (m : _) (r : Row_of-Branch m) → branches_amount number r ≡ total branch_amount (items-the_row-Branch m r)
   branches_total m end_of-Branch = refl
-  branches_total m (more_of-Branch head size statements end_ rest) =
+  branches_total m (more_of-Branch head size statements end rest) =
       let own = statements_total _ statements ∙ ap stated_amount (sym (items_shown-the_row-Statement-0 size statements)) in
       let more = branches_total _ rest in
       omega arith
@@ -89,10 +89,10 @@ module _ (number : Bytes → ℕ) where
   pub indented_amount : (gap : Bytes) → lines_amount (indented gap) ≡ gap_amount number gap
   indented_amount gap = ap (λ ls. total number (comments_in ls)) (lines_are gap)
 
-  first_gone : (lines : List IndentedGapLine) → plain_lines (after_first_line lines) ≡ behind_first_line (plain_lines lines)
+  first_gone : (lines : List IndentedGapLine) → plain_lines (after_first_line lines) ≡ past_first_indented_line (plain_lines lines)
   first_gone [] = refl
   first_gone (line ∷ lines) = refl
 
   -- and those after the first line of one
-  pub behind_amount : (gap : Bytes) → lines_amount (after_first_line (indented gap)) ≡ left_amount number gap
-  behind_amount gap = ap (λ ls. total number (comments_in ls)) (first_gone (indented gap) ∙ ap behind_first_line (lines_are gap))
+  pub after_amount : (gap : Bytes) → lines_amount (after_first_line (indented gap)) ≡ left_amount number gap
+  after_amount gap = ap (λ ls. total number (comments_in ls)) (first_gone (indented gap) ∙ ap past_first_indented_line (lines_are gap))

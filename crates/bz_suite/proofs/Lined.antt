@@ -2,8 +2,8 @@
 use Rattle.std.proofs.Common.{ℕ, suc, Bool, true, false, ◌≡◌, ◌||◌, List, [], ◌∷◌, ◌++◌, Some, None, refl, sym, ap, ◌∙◌, map, nat_eq, if◌then◌else◌, append_assoc}
 use Rattle.std.proofs.lemmas.List.{map-append}
 use Rattle.bz_items.specs.Characters.{Bytes, backslash, line_feed, number_sign, space, tab}
-use Rattle.bz_value.specs.Gaps.{GapLine, CommentRest, trimmed, lines_of, in_comment, behind_backslash, comments_in, all_in, as_list}
-use Rattle.bz_value.specs.Indented.{IndentedGapLine, indented, indented_from, indented_behind}
+use Rattle.bz_value.specs.Gaps.{GapLine, CommentRest, trimmed, lines_of, in_comment, after_backslash, comments_in, all_in, as_list}
+use Rattle.bz_value.specs.Indented.{IndentedGapLine, indented, indented_from, indented_after}
 use Rattle.bz_suite.specs.View.{indented_comments}
 
 abbrev pub plain_lines : List IndentedGapLine → List GapLine
@@ -19,8 +19,8 @@ test_rest false x y r s e f = f
 
 record Lined (g : Bytes) : Type 0 where
   here : (n : ℕ) → plain_lines (indented_from n g) ≡ lines_of g
-  comment : plain_lines (indented_behind g) ≡ (in_comment g).lines
-  escaped : plain_lines (indented_behind g) ≡ behind_backslash g
+  comment : plain_lines (indented_after g) ≡ (in_comment g).lines
+  escaped : plain_lines (indented_after g) ≡ after_backslash g
 
 lined : (g : Bytes) → Lined g
 lined [] = record { here = λ n. refl; comment = refl; escaped = refl }

@@ -9,7 +9,7 @@ use Rattle.bz_tree.specs.declared.tree.Part.{Part, Node'}
 use Rattle.bz_tree.specs.declared.tree.Part.TheVariants as p
 use Rattle.bz_tree.specs.Shapes as s
 use Rattle.bz_tree.specs.Shapes.{Fits, Several, bzl_shape, tok, done}
-use Rattle.bz_tree.specs.Legal.{IsSort, LegalBzlPart}
+use Rattle.bz_tree.specs.Legal.{IsNonterminal, LegalBzlPart}
 use Rattle.bz_tree.specs.Spell.{leaves_part, leaves_of}
 use Rattle.bz_tree.specs.Spots.{Begins, BzlStands, AtParts}
 use Rattle.bz_tree.proofs.Balance.{no_such}
@@ -23,8 +23,8 @@ use Rattle.bz_suite.specs.declared.value.BzlItem.{BzlItem}
 use Rattle.bz_suite.specs.declared.value.BzlItem.TheVariants as b
 use Rattle.bz_suite.specs.Laws.{BzlViewIsProper}
 use Rattle.bz_suite.specs.Proper.{IsProperBzlItem}
-use Rattle.bz_suite.specs.View.{Read, stated, indented_lines_before, block_items, bzl_items, bzl_view_of}
-use Rattle.bz_suite.proofs.HeadParts.{behind_stmt}
+use Rattle.bz_suite.specs.View.{ReadStatements, stated, indented_lines_before, block_items, bzl_items, bzl_view_of}
+use Rattle.bz_suite.proofs.HeadParts.{after_stmt}
 use Rattle.bz_suite.proofs.KeptBranches.{Lines}
 use Rattle.bz_suite.proofs.Lined.{plain_lines}
 use Rattle.bz_suite.proofs.ProperBranches.{AllKnown, before_lines}
@@ -40,7 +40,7 @@ abbrev AreProperItems : List BzlItem → Type 0
 AreProperItems items = AllByRecursion IsProperBzlItem items
 
 -- statements and the end, where these lines are before the first of them
-items_proper : (lines : Lines) (xs : List Part) → AreFineLines lines → Several (IsSort s.stmt) (Fits IsSort (tok s.end done)) xs → AllKnown xs → AtParts BzlStands Begins Begins xs → AreProperItems (bzl_items lines xs)
+items_proper : (lines : Lines) (xs : List Part) → AreFineLines lines → Several (IsNonterminal s.stmt) (Fits IsNonterminal (tok s.end done)) xs → AllKnown xs → AtParts BzlStands Begins Begins xs → AreProperItems (bzl_items lines xs)
 items_proper lines [] f h g at_ = tt
 items_proper lines (p.Leaf l ∷ []) f (inl h) g at_ =
     let groups : List (List Bytes) = groups_of (plain_lines lines) in
@@ -52,8 +52,8 @@ items_proper lines (Node' kind n r ∷ xs) f (inr h) g at_ =
     let groups : List (List Bytes) = groups_of (plain_lines lines) in
     let fine : Groups groups = groups_fine (plain_lines lines) f in
     let after : Lines = indented_lines_before (map stated xs) [] in
-    let read : Read (List Statement) = (stated (Node' kind n r)).statement (last_group groups) after in
-    let there : AtParts BzlStands Begins Begins xs = subst (λ z. AtParts BzlStands Begins z xs) (behind_stmt (Node' kind n r) Begins Begins h.0) at_.1 in
+    let read : ReadStatements (List Statement) = (stated (Node' kind n r)).statement (last_group groups) after in
+    let there : AtParts BzlStands Begins Begins xs = subst (λ z. AtParts BzlStands Begins z xs) (after_stmt (Node' kind n r) Begins Begins h.0) at_.1 in
     let one : AreSome read.0 × AreFineLines read.1 = g.0.statement h.0 at_.0 (last_group groups) after (groups_last groups fine) (before_lines xs [] g.1 tt) in
     all_joined IsProperBzlItem (block_items (all_but_last groups)) (map b.Statement read.0 ++ bzl_items read.1 xs) (blocks_proper (all_but_last groups) (groups_front groups fine))
     (all_joined IsProperBzlItem (map b.Statement read.0) (bzl_items read.1 xs) (statements_proper read.0 one.0.1) (items_proper read.1 xs one.1 h.1 g.1 there))
@@ -67,6 +67,6 @@ all_known (x ∷ xs) h v u =
 
 pub bzl_view_proper : BzlViewIsProper
 bzl_view_proper n h =
-    let fits : Fits IsSort (bzl_shape k.File) n.parts = subst (λ kd. Fits IsSort (bzl_shape kd) n.parts) h.file.root h.file.shapes.0 in
+    let fits : Fits IsNonterminal (bzl_shape k.File) n.parts = subst (λ kd. Fits IsNonterminal (bzl_shape kd) n.parts) h.file.root h.file.shapes.0 in
     let known : AllKnown n.parts = all_known n.parts h.file.shapes.1 (lexed (leaves_of n) h.tokens) h.coded in
     All-from_recursion IsProperBzlItem (bzl_view_of n) (items_proper (indented_lines_before (map stated n.parts) []) n.parts (before_lines n.parts [] known tt) fits known h.gaps)

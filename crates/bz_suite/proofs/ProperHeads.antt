@@ -9,8 +9,8 @@ use Rattle.bz_tree.specs.declared.kind.Kind.TheVariants as k
 use Rattle.bz_tree.specs.declared.tree.Part.{Part}
 use Rattle.bz_tree.specs.Shapes as s
 use Rattle.bz_tree.specs.Shapes.{Shape, Fits, has_token, is_kind}
-use Rattle.bz_tree.specs.Legal.{IsSort}
-use Rattle.bz_tree.specs.Spots.{Spot, Begins, Within, behind_part, BzlStands, AtParts}
+use Rattle.bz_tree.specs.Legal.{IsNonterminal}
+use Rattle.bz_tree.specs.Spots.{Spot, Begins, Within, after_part, BzlStands, AtParts}
 use Rattle.bz_tree.specs.Suites.{def_header}
 use Rattle.bz_tree.proofs.Balance.{no_such}
 use Rattle.bz_value.specs.declared.value.Expr.{Expr}
@@ -23,10 +23,10 @@ use Rattle.bz_value.specs.Roots.{root, each_with_comma}
 use Rattle.bz_value.specs.Roots as r
 use Rattle.bz_value.proofs.FormParts.{AreItemsBy}
 use Rattle.bz_value.proofs.GapComments.{Group, all_joined}
-use Rattle.bz_value.proofs.Rooted.{Same, more, fits_same, itself, same_itself, commas_same, behind_same_parts, places}
+use Rattle.bz_value.proofs.Rooted.{Same, more, fits_same, itself, same_itself, commas_same, after_same_parts, places}
 use Rattle.bz_view.specs.View.{Seen, seen, loose_in, row_exprs}
 use Rattle.bz_view.proofs.InnerParts.{token_opens}
-use Rattle.bz_view.proofs.SeenParts.{AllTold, in_told, comments_made, no_break_made, root_made, behind_made}
+use Rattle.bz_view.proofs.SeenParts.{AllDecoded, in_decoded, comments_made, no_break_made, root_made, after_made}
 use Rattle.bz_view.proofs.ProperParts.{FoundProper, found_proper, row_roots}
 use Rattle.bz_view.proofs.RowParts.{AllFit}
 use Rattle.bz_view.proofs.SequenceParts.{Alternate}
@@ -37,8 +37,8 @@ use Rattle.bz_suite.proofs.HeadParts.{FitsHeader, with_colon, closed_row, Named}
 -- ---- comments in the parts of a header
 
 -- above a header and in its parts
-before_fine : (above : List Bytes) (ss : List Seen) → Group above → AllTold ss → All IsComment (above ++ loose_in ss)
-before_fine above ss a t = All-from_recursion IsComment (above ++ loose_in ss) (all_joined IsComment above (loose_in ss) a (in_told ss t))
+before_fine : (above : List Bytes) (ss : List Seen) → Group above → AllDecoded ss → All IsComment (above ++ loose_in ss)
+before_fine above ss a t = All-from_recursion IsComment (above ++ loose_in ss) (all_joined IsComment above (loose_in ss) a (in_decoded ss t))
 
 -- ---- the parts of a header
 
@@ -49,8 +49,8 @@ row_parts inside newline here (x ∷ xs) h at_ = (
   (comments_made x no_comments false, no_break_made x no_comments),
   subst
       (λ z. AreHeaderParts z (row_exprs false false (if inside then newline else has_newline (seen x).gap) (map seen xs)))
-      (sym (behind_made Begins here x no_comments false))
-      (row_parts false (if inside then newline else has_newline (seen x).gap) (behind_part Begins here x) xs h.1 at_.1),
+      (sym (after_made Begins here x no_comments false))
+      (row_parts false (if inside then newline else has_newline (seen x).gap) (after_part Begins here x) xs h.1 at_.1),
 )
 
 -- ---- headers
@@ -61,7 +61,7 @@ HeadProper kind shape xs = (above : List Bytes) (suffix : Option Bytes) → Grou
 
 -- what is known of all parts of a header
 pub record HeadKnown (xs : List Part) : Type 0 where
-  pub told : AllTold (map seen xs)
+  pub decoded : AllDecoded (map seen xs)
   pub fit : AllFit line_shape xs
   pub there : AtParts BzlStands Begins Begins xs
 
@@ -73,13 +73,13 @@ row_proper kind shape xs e h g above suffix a m =
     let ends : header_end f ≡ r.mark_leaf 58 ∷ [] = cond-false (is_kind kind k.Def) _ _ e in
     record {
       kinds = refl;
-      fits = subst (λ back. Fits IsSort shape (map root f.parts ++ back)) (sym ends) (fits_same shape (with_colon xs) (with_colon (map root f.parts)) (behind_same_parts xs (map root f.parts) (r.mark_leaf 58 ∷ []) (r.mark_leaf 58 ∷ []) (row_roots false false false xs) (same_itself (r.mark_leaf 58 ∷ []))) h);
+      fits = subst (λ back. Fits IsNonterminal shape (map root f.parts ++ back)) (sym ends) (fits_same shape (with_colon xs) (with_colon (map root f.parts)) (after_same_parts xs (map root f.parts) (r.mark_leaf 58 ∷ []) (r.mark_leaf 58 ∷ []) (row_roots false false false xs) (same_itself (r.mark_leaf 58 ∷ []))) h);
       parts = row_parts false false Begins xs g.fit g.there;
       parameters = tt;
       ends = All-from_recursion IsComment [] tt;
       bare = λ i. (refl, refl, refl);
       not_open = refl;
-      comments = (before_fine above (map seen xs) a g.told, m);
+      comments = (before_fine above (map seen xs) a g.decoded, m);
     }
 
 pub if_proper : (shape : Shape) (xs : List Part) → FitsHeader shape xs → HeadKnown xs → HeadProper k.IfStmt shape xs
@@ -96,12 +96,12 @@ parameters_of (x ∷ xs) h = (h.0, h.1, h.2, parameters_of xs h.3)
 
 -- def, a name and parameters
 named_proper : (word name opener : Part) (ps : List Part) → has_token (s.one_keyword (codes "def")) word ≡ true → has_token s.name name ≡ true → has_token s.open_round opener ≡ true
-    → Alternate ps → Fits IsSort (s.enclosed s.param s.close_round (s.tok s.colon_mark s.done)) (closed_row ps) → HeadKnown (word ∷ name ∷ opener ∷ ps) → HeadProper k.Def def_header (word ∷ name ∷ opener ∷ ps)
+    → Alternate ps → Fits IsNonterminal (s.enclosed s.param s.close_round (s.tok s.colon_mark s.done)) (closed_row ps) → HeadKnown (word ∷ name ∷ opener ∷ ps) → HeadProper k.Def def_header (word ∷ name ∷ opener ∷ ps)
 named_proper word name opener ps h i j alternate fits g above suffix a m =
     let ss : List Seen = map seen (word ∷ name ∷ opener ∷ ps) in
     let f : Form = def_head ss above suffix in
     let there : AtParts BzlStands Begins Within ps = subst (λ z. AtParts BzlStands Begins z ps) (token_opens s.open_round opener Begins _ refl j) g.there.1.1.1 in
-    let inside : FoundProper line_shape ps (map seen ps) = found_proper line_shape Begins ps g.told.1.1.1 g.fit.1.1.1 there alternate in
+    let inside : FoundProper line_shape ps (map seen ps) = found_proper line_shape Begins ps g.decoded.1.1.1 g.fit.1.1.1 there alternate in
     let same : Same (word ∷ name ∷ r.mark_leaf 40 ∷ closed_row ps) (map root f.parts ++ header_end f) =
     more word _ _ _ (root_made word no_comments false) (
     more name _ _ _ (root_made name no_comments false) (
@@ -111,13 +111,13 @@ named_proper word name opener ps h i j alternate fits g above suffix a m =
       fits = fits_same def_header (word ∷ name ∷ r.mark_leaf 40 ∷ closed_row ps) (map root f.parts ++ header_end f) same (h, (i, (refl, fits)));
       parts = row_parts false false Begins (word ∷ name ∷ []) (g.fit.0, (g.fit.1.0, tt)) (g.there.0, (g.there.1.0, tt));
       parameters = parameters_of f.seq.items inside.items.0;
-      ends = All-from_recursion IsComment f.seq.end_ inside.items.1;
+      ends = All-from_recursion IsComment f.seq.end inside.items.1;
       bare = λ e. no_such (sym e);
       not_open = refl;
-      comments = (before_fine above (take 3 ss) a (g.told.0, (g.told.1.0, (g.told.1.1.0, tt))), m);
+      comments = (before_fine above (take 3 ss) a (g.decoded.0, (g.decoded.1.0, (g.decoded.1.1.0, tt))), m);
     }
 
 pub def_proper : (word : Part) (front : List Part) → has_token (s.one_keyword (codes "def")) word ≡ true → Named front → HeadKnown (word ∷ front) → HeadProper k.Def def_header (word ∷ front)
 def_proper word front h w g =
     subst (λ xs. HeadProper k.Def def_header (word ∷ xs)) (sym w.cut)
-    (named_proper word w.name w.opener w.behind h w.named w.opens w.parameters.alternate w.parameters.fits (subst (λ xs. HeadKnown (word ∷ xs)) w.cut g))
+    (named_proper word w.name w.opener w.following h w.named w.opens w.parameters.alternate w.parameters.fits (subst (λ xs. HeadKnown (word ∷ xs)) w.cut g))

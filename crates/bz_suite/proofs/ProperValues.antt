@@ -32,7 +32,7 @@ AreSome xs = HasSome xs × AllByRecursion IsProperStatement xs
 
 -- a header's suite
 abbrev pub HasSuite : Branch → Type 0
-HasSuite x = AreSome x.statements × All IsComment x.end_
+HasSuite x = AreSome x.statements × All IsComment x.end
 
 some_row : (m : _) (r : Row_of-Statement m) → HasSome (items-the_row-Statement m r) → IsSome r
 some_row m end_of-Statement h = absurd h
@@ -44,13 +44,13 @@ statements_row m (more_of-Statement x rest) h = (h.0, statements_row _ rest h.1)
 
 branches_row : (m : _) (r : Row_of-Branch m) → AllByRecursion HasSuite (items-the_row-Branch m r) → AreProperBranches r
 branches_row m end_of-Branch h = tt
-branches_row m (more_of-Branch head size statements end_ rest) h =
+branches_row m (more_of-Branch head size statements end rest) h =
     let own : AreSome (items-the_row-Statement _ statements) = subst AreSome (items_shown-the_row-Statement-0 size statements) h.0.0 in
     (some_row _ statements own.0, statements_row _ statements own.1, h.0.1, branches_row _ rest h.1)
 
 heads_row : (m : _) (r : Row_of-Branch m) → heads r ≡ map (λ x. x.head) (items-the_row-Branch m r)
 heads_row m end_of-Branch = refl
-heads_row m (more_of-Branch head size statements end_ rest) = ap (λ (fs : List Form). head ∷ fs) (heads_row _ rest)
+heads_row m (more_of-Branch head size statements end rest) = ap (λ (fs : List Form). head ∷ fs) (heads_row _ rest)
 
 pub compound_proper : (xs : List Branch) → AreHeaders (map (λ x. x.head) xs) → AllByRecursion HasSuite xs → IsProperStatement (s.Compound xs)
 compound_proper xs h i =

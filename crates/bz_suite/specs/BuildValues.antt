@@ -10,7 +10,7 @@ use Rattle.bz_value.specs.declared.value.Item.TheVariants as i
 abbrev mutual
   pub IsBuildExpr : Expr → Type 0
   IsBuildExpr (Token t) = Unit {0}
-  IsBuildExpr (Form' kind s parts s' items end_ split open_ comments) = (kind_number kind < kind_number k.Def) × AreBuildExprs parts × AreBuildExprs items
+  IsBuildExpr (Form' kind s parts s' items end split open_break comments) = (kind_number kind < kind_number k.Def) × AreBuildExprs parts × AreBuildExprs items
 
   pub AreBuildExprs : {m : _} → Row_of-Expr m → Type 0
   AreBuildExprs end_of-Expr = Unit {0}

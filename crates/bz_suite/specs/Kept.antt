@@ -20,8 +20,8 @@ abbrev mutual
   -- of headers: the comments of each header, those in its suite, and its end comments
   pub branches_amount : (Bytes → ℕ) → {m : _} → Row_of-Branch m → ℕ
   branches_amount number end_of-Branch = 0
-  branches_amount number (more_of-Branch head size statements end_ rest) =
-      amount number (e.Form head) + (statements_amount number statements + total number end_) + branches_amount number rest
+  branches_amount number (more_of-Branch head size statements end rest) =
+      amount number (e.Form head) + (statements_amount number statements + total number end) + branches_amount number rest
 
   -- of the statements of a suite
   pub statements_amount : (Bytes → ℕ) → {m : _} → Row_of-Statement m → ℕ

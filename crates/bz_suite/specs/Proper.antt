@@ -4,13 +4,13 @@ use Rattle.bz_tree.specs.declared.kind.Kind.{Kind}
 use Rattle.bz_tree.specs.declared.kind.Kind.TheVariants as k
 use Rattle.bz_tree.specs.declared.tree.Part.{Part}
 use Rattle.bz_tree.specs.Shapes.{Shape, Fits, is_kind, one_keyword}
-use Rattle.bz_tree.specs.Legal.{IsSort}
+use Rattle.bz_tree.specs.Legal.{IsNonterminal}
 use Rattle.bz_tree.specs.Spots.{Spot, Begins, Within}
 use Rattle.bz_tree.specs.Suites.{def_header, for_header, test_header, else_header}
 use Rattle.bz_value.specs.declared.value.Expr.{Expr, Token, Form'}
 use Rattle.bz_value.specs.declared.value.Form.{Form}
 use Rattle.bz_value.specs.LineShapes.{line_shape}
-use Rattle.bz_value.specs.Proper.{IsComment, AreComments, IsBare, ProperBy, behind_expr, comments_of, has_break}
+use Rattle.bz_value.specs.Proper.{IsComment, AreComments, IsBare, ProperBy, after_expr, comments_of, has_break}
 use Rattle.bz_value.specs.Roots.{root, mark_leaf, each_with_comma}
 use Rattle.bz_suite.specs.declared.value.Statement.{Statement, Simple, Compound', Row_of-Branch, end_of-Branch, more_of-Branch, Row_of-Statement, end_of-Statement, more_of-Statement}
 use Rattle.bz_suite.specs.declared.value.BzlItem.{BzlItem}
@@ -28,14 +28,14 @@ is_simple _ = false
 
 abbrev pub has_simple_kind : Expr → Bool
 has_simple_kind (Token t) = false
-has_simple_kind (Form' kind s parts s' items end_ split open_ comments) = is_simple kind
+has_simple_kind (Form' kind s parts s' items end split open_break comments) = is_simple kind
 
 -- ---- headers
 
 -- the parts of a header, from one on that is here
 abbrev pub AreHeaderParts : Spot → List Expr → Type 0
 AreHeaderParts here [] = Unit {0}
-AreHeaderParts here (x ∷ xs) = ProperBy line_shape here x × IsBare x × AreHeaderParts (behind_expr Begins here x) xs
+AreHeaderParts here (x ∷ xs) = ProperBy line_shape here x × IsBare x × AreHeaderParts (after_expr Begins here x) xs
 
 abbrev pub AreParameters : List Expr → Type 0
 AreParameters [] = Unit {0}
@@ -47,18 +47,18 @@ header_end f = if is_kind f.kind k.Def then mark_leaf 40 ∷ (each_with_comma (m
 
 -- only a function has parameters
 abbrev pub HasNone : Form → Type 0
-HasNone f = (f.seq.items ≡ []) × (f.seq.end_ ≡ []) × (f.seq.split ≡ false)
+HasNone f = (f.seq.items ≡ []) × (f.seq.end ≡ []) × (f.seq.split ≡ false)
 
 -- A header of a kind has this shape, with its brackets and commas put back; its parts and its parameters are proper; only
 -- parameters and the header itself have comments.
 pub record IsHeader (kind : Kind) (shape : Shape) (f : Form) : Type 0 where
   pub kinds : f.kind ≡ kind
-  pub fits : Fits IsSort shape (map root f.parts ++ header_end f)
+  pub fits : Fits IsNonterminal shape (map root f.parts ++ header_end f)
   pub parts : AreHeaderParts Begins f.parts
   pub parameters : AreParameters f.seq.items
-  pub ends : All IsComment f.seq.end_
+  pub ends : All IsComment f.seq.end
   pub bare : is_kind f.kind k.Def ≡ false → HasNone f
-  pub not_open : f.open_ ≡ false
+  pub not_open : f.open_break ≡ false
   pub comments : AreComments f.comments
 
 -- elif, elif, .., perhaps else
@@ -78,7 +78,7 @@ AreHeaders (f ∷ fs) =
 
 abbrev pub heads : {m : _} → Row_of-Branch m → List Form
 heads end_of-Branch = []
-heads (more_of-Branch head size statements end_ rest) = head ∷ heads rest
+heads (more_of-Branch head size statements end rest) = head ∷ heads rest
 
 -- ---- statements
 
@@ -94,7 +94,7 @@ abbrev mutual
   -- headers with suites: each suite has a statement
   pub AreProperBranches : {m : _} → Row_of-Branch m → Type 0
   AreProperBranches end_of-Branch = Unit {0}
-  AreProperBranches (more_of-Branch head size statements end_ rest) = IsSome statements × AreProperStatements statements × All IsComment end_ × AreProperBranches rest
+  AreProperBranches (more_of-Branch head size statements end rest) = IsSome statements × AreProperStatements statements × All IsComment end × AreProperBranches rest
 
   pub AreProperStatements : {m : _} → Row_of-Statement m → Type 0
   AreProperStatements end_of-Statement = Unit {0}

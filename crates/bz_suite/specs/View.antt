@@ -42,19 +42,19 @@ end_comments margin [] = []
 end_comments margin (l ∷ lines) = if is_taken_line margin l.indent l.line.comment then indented_comments (l ∷ []) ++ end_comments margin lines else []
 
 -- what is left of the lines after them
-abbrev pub behind_end : ℕ → List IndentedGapLine → List IndentedGapLine
-behind_end margin [] = []
-behind_end margin (l ∷ lines) = if is_taken_line margin l.indent l.line.comment then behind_end margin lines else l ∷ lines
+abbrev pub after_end : ℕ → List IndentedGapLine → List IndentedGapLine
+after_end margin [] = []
+after_end margin (l ∷ lines) = if is_taken_line margin l.indent l.line.comment then after_end margin lines else l ∷ lines
 
 -- ---- parts
 
 -- What statements were read, and the lines that are left of those after them.
-abbrev pub Read : Type 0 → Type 0
-Read X = X × List IndentedGapLine
+abbrev pub ReadStatements : Type 0 → Type 0
+ReadStatements X = X × List IndentedGapLine
 
 -- the statements of a suite, and its end comments
 abbrev pub SuiteRead : Type 0
-SuiteRead = Read (List Statement × List Bytes)
+SuiteRead = ReadStatements (List Statement × List Bytes)
 
 -- A part that was read: as a part of a row; whether it is a colon; as a suite its header's suffix; as a statement, by the
 -- comments above it and the lines after it; as a suite, by the lines after it.
@@ -62,7 +62,7 @@ pub record Stated : Type 0 where
   pub part : Seen
   pub is_colon : Bool
   pub suffix : Option Bytes
-  pub statement : List Bytes → List IndentedGapLine → Read (List Statement)
+  pub statement : List Bytes → List IndentedGapLine → ReadStatements (List Statement)
   pub suite : List IndentedGapLine → SuiteRead
 
 -- the lines right before the first of these parts; where there is none, those that are after all
@@ -78,17 +78,17 @@ simple_statements (i.Block texts ∷ items) = simple_statements items
 simple_statements (i.Stmt x ∷ items) = s.Simple x ∷ simple_statements items
 
 -- What is in the gap of a Newline after its first line is before what follows.
-abbrev pub line_read : List Seen → List Bytes → List IndentedGapLine → Read (List Statement)
+abbrev pub line_read : List Seen → List Bytes → List IndentedGapLine → ReadStatements (List Statement)
 line_read ss above after = (simple_statements (statements_in above ss), after_first_line (indented (last_gap ss)) ++ after)
 
 -- ---- statements one after the other
 
 -- above: the lines before the first of them; after: those after the last
-abbrev pub walked : List IndentedGapLine → List Stated → List IndentedGapLine → Read (List Statement)
+abbrev pub walked : List IndentedGapLine → List Stated → List IndentedGapLine → ReadStatements (List Statement)
 walked above [] after = ([], above)
 walked above (x ∷ xs) after =
-    let one : Read (List Statement) = x.statement (indented_comments above) (indented_lines_before xs after) in
-    let more : Read (List Statement) = walked one.1 xs after in
+    let one : ReadStatements (List Statement) = x.statement (indented_comments above) (indented_lines_before xs after) in
+    let more : ReadStatements (List Statement) = walked one.1 xs after in
     (one.0 ++ more.0, more.1)
 
 -- ---- suites
@@ -100,8 +100,8 @@ margin_of xs = length (indent (first_seen_gap (map (λ x. x.part) xs)))
 -- the statements after a suite's newline
 abbrev pub suite_read : List Stated → List IndentedGapLine → SuiteRead
 suite_read xs after =
-    let all : Read (List Statement) = walked (indented_lines_before xs []) xs after in
-    ((all.0, end_comments (margin_of xs) all.1), behind_end (margin_of xs) all.1)
+    let all : ReadStatements (List Statement) = walked (indented_lines_before xs []) xs after in
+    ((all.0, end_comments (margin_of xs) all.1), after_end (margin_of xs) all.1)
 
 -- ---- headers
 
@@ -115,8 +115,8 @@ abbrev pub def_head : List Seen → List Bytes → Option Bytes → Form
 def_head ss above suffix = record {
   kind = k.Def;
   parts = map plain (take 2 ss);
-  seq = record { items = (items_in (all_in (first_seen_gap (drop 3 ss))) (drop 3 ss)).0; end_ = (items_in (all_in (first_seen_gap (drop 3 ss))) (drop 3 ss)).1; split = is_split (drop 3 ss) };
-  open_ = false;
+  seq = record { items = (items_in (all_in (first_seen_gap (drop 3 ss))) (drop 3 ss)).0; end = (items_in (all_in (first_seen_gap (drop 3 ss))) (drop 3 ss)).1; split = is_split (drop 3 ss) };
+  open_break = false;
   comments = record { before = above ++ loose_in (take 3 ss); suffix = suffix };
 }
 
@@ -124,8 +124,8 @@ abbrev pub row_head : Kind → List Seen → List Bytes → Option Bytes → For
 row_head kind ss above suffix = record {
   kind = kind;
   parts = row_exprs false false false ss;
-  seq = record { items = []; end_ = []; split = false };
-  open_ = false;
+  seq = record { items = []; end = []; split = false };
+  open_break = false;
   comments = record { before = above ++ loose_in ss; suffix = suffix };
 }
 
@@ -135,29 +135,29 @@ head kind ss above suffix = if is_kind kind k.Def then def_head ss above suffix 
 -- The headers of a statement, each with its suite. parts: those of the header so far; above: the comments above the header;
 -- left: the lines that are left where no header follows.
 abbrev mutual
-  pub branches : Kind → List Seen → List Bytes → List IndentedGapLine → List Stated → List IndentedGapLine → Read (List Branch)
+  pub branches : Kind → List Seen → List Bytes → List IndentedGapLine → List Stated → List IndentedGapLine → ReadStatements (List Branch)
   branches kind parts above left [] after = ([], left)
   branches kind parts above left (x ∷ xs) after =
       if x.is_colon then with_suite kind parts above left xs after else branches kind (parts ++ x.part ∷ []) above left xs after
 
-  pub with_suite : Kind → List Seen → List Bytes → List IndentedGapLine → List Stated → List IndentedGapLine → Read (List Branch)
+  pub with_suite : Kind → List Seen → List Bytes → List IndentedGapLine → List Stated → List IndentedGapLine → ReadStatements (List Branch)
   with_suite kind parts above left [] after = ([], left)
   with_suite kind parts above left (x ∷ xs) after =
       let own : SuiteRead = x.suite (indented_lines_before xs after) in
-      let more : Read (List Branch) = branches kind [] (indented_comments own.1) own.1 xs after in
-      (record { head = head kind parts above x.suffix; statements = own.0.0; end_ = own.0.1 } ∷ more.0, more.1)
+      let more : ReadStatements (List Branch) = branches kind [] (indented_comments own.1) own.1 xs after in
+      (record { head = head kind parts above x.suffix; statements = own.0.0; end = own.0.1 } ∷ more.0, more.1)
 
 -- ---- parts of each kind
 
 abbrev pub is_compound : Kind → Bool
 is_compound kind = is_kind kind k.Def || (is_kind kind k.IfStmt || is_kind kind k.ForStmt)
 
-abbrev pub compound_read : Kind → List Stated → List Bytes → List IndentedGapLine → Read (List Statement)
+abbrev pub compound_read : Kind → List Stated → List Bytes → List IndentedGapLine → ReadStatements (List Statement)
 compound_read kind xs above after =
-    let all : Read (List Branch) = branches kind [] above after xs after in
+    let all : ReadStatements (List Branch) = branches kind [] above after xs after in
     (s.Compound all.0 ∷ [], all.1)
 
-abbrev pub statement_read : Kind → List Stated → List Bytes → List IndentedGapLine → Read (List Statement)
+abbrev pub statement_read : Kind → List Stated → List Bytes → List IndentedGapLine → ReadStatements (List Statement)
 statement_read kind xs above after =
     if is_kind kind k.Line then line_read (map (λ x. x.part) xs) above after
     else (if is_compound kind then compound_read kind xs above after else ([], after))
@@ -211,7 +211,7 @@ bzl_items lines [] = []
 bzl_items lines (p.Leaf l ∷ xs) = block_items (groups_of (map (λ l. l.line) lines)) ++ bzl_items [] xs
 bzl_items lines (Node' kind size row ∷ xs) =
     let groups : List (List Bytes) = groups_of (map (λ l. l.line) lines) in
-    let own : Read (List Statement) = (stated (Node' kind size row)).statement (last_group groups) (indented_lines_before (map stated xs) []) in
+    let own : ReadStatements (List Statement) = (stated (Node' kind size row)).statement (last_group groups) (indented_lines_before (map stated xs) []) in
     block_items (all_but_last groups) ++ (map b.Statement own.0 ++ bzl_items own.1 xs)
 
 -- what a .bzl file's tree says

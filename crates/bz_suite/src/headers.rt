@@ -91,7 +91,7 @@ fn suffix_of(alloc: Global, suite: &Node) -> Result<Option<Text>, Memory>
 }
 
 /// The parts after the first.
-pub fn behind_first(parts: &[Part]) -> &[Part]
+pub fn after_first_part(parts: &[Part]) -> &[Part]
     ensures { result.now ≡ drop 1 parts.now }
 {
     match parts {
@@ -111,12 +111,12 @@ fn def_head(
 {
     let mut before = above;
     let words = head_of(alloc, parts, 2, &mut before)?;
-    let seq = seq_of(alloc, behind_first(parts), 2)?;
+    let seq = seq_of(alloc, after_first_part(parts), 2)?;
     Ok(Form {
         kind: Kind::Def,
         parts: words,
         seq,
-        open_: false,
+        open_break: false,
         comments: Comments::new(alloc, before, suffix)?,
     })
 }
@@ -138,10 +138,10 @@ fn row_head(
         parts: row,
         seq: Seq {
             items: Items::new(alloc),
-            end_: Items::new(alloc),
+            end: Items::new(alloc),
             split: false,
         },
-        open_: false,
+        open_break: false,
         comments: Comments::new(alloc, before, suffix)?,
     })
 }

@@ -1,7 +1,7 @@
 //! Lines of a text that are before a part of a tree: those of two gaps that follow each other.
 ghost use Rattle.std.specs.Prelude.{◌≡◌, ◌↔◌, ◌++◌, [], IfOk, OnOk, IsTrue};
 ghost use Rattle.bz_value.specs.Indented.{indented};
-ghost use Rattle.bz_suite.specs.View.{behind_end, after_first_line, indented_comments, end_comments};
+ghost use Rattle.bz_suite.specs.View.{after_end, after_first_line, indented_comments, end_comments};
 
 use bz_items::{Items, Memory, Text};
 use bz_value::{first_indented_line, push_all};
@@ -15,7 +15,7 @@ pub struct Rest<'a> {
 }
 
 /// The lines of one gap.
-pub fn only(gap: &[u8]) -> Rest<'_>
+pub fn rest_of_gap(gap: &[u8]) -> Rest<'_>
     ensures { indented result.left.now ++ indented result.gap.now ≡ indented gap.now }
 {
     Rest { left: &[], gap }
@@ -32,7 +32,7 @@ pub fn comments(alloc: Global, rest: Rest<'_>) -> Result<Items<Text>, Memory>
 }
 
 /// The gap after its first line.
-pub fn behind_first_line(gap: &[u8]) -> &[u8]
+pub fn past_first_indented_line(gap: &[u8]) -> &[u8]
     ensures { indented result.now ≡ after_first_line (indented gap.now) }
 {
     match first_indented_line(gap) {
@@ -60,10 +60,10 @@ fn take_end_of<'a>(
     alloc: Global,
     margin: usize,
     gap: &'a [u8],
-    end_: &mut Items<Text>,
+    end: &mut Items<Text>,
 ) -> Result<&'a [u8], Memory>
-    ensures end_ { OnOk result (end_.new ≡ end_.old ++ end_comments margin (indented gap.now)) }
-    ensures rest { IfOk result (λ rest. indented rest.now ≡ behind_end margin (indented gap.now)) }
+    ensures end { OnOk result (end.new ≡ end.old ++ end_comments margin (indented gap.now)) }
+    ensures rest { IfOk result (λ rest. indented rest.now ≡ after_end margin (indented gap.now)) }
 {
     let mut rest = gap;
     while let Some(first) = first_indented_line(rest) {
@@ -71,7 +71,7 @@ fn take_end_of<'a>(
             if first.indent < margin {
                 return Ok(rest);
             }
-            end_.push(Text::from_slice(alloc, comment)?)?;
+            end.push(Text::from_slice(alloc, comment)?)?;
         }
         rest = first.line.rest;
     }
@@ -84,18 +84,18 @@ pub fn take_end<'a>(
     alloc: Global,
     margin: usize,
     rest: Rest<'a>,
-    end_: &mut Items<Text>,
+    end: &mut Items<Text>,
 ) -> Result<Rest<'a>, Memory>
-    ensures end_ { OnOk result (end_.new ≡ end_.old ++ end_comments margin (indented rest.entry.left.now ++ indented rest.entry.gap.now)) }
-    ensures rest { IfOk result (λ behind. indented behind.left.now ++ indented behind.gap.now ≡ behind_end margin (indented rest.entry.left.now ++ indented rest.entry.gap.now)) }
+    ensures end { OnOk result (end.new ≡ end.old ++ end_comments margin (indented rest.entry.left.now ++ indented rest.entry.gap.now)) }
+    ensures rest { IfOk result (λ following. indented following.left.now ++ indented following.gap.now ≡ after_end margin (indented rest.entry.left.now ++ indented rest.entry.gap.now)) }
 {
-    let left = take_end_of(alloc, margin, rest.left, end_)?;
+    let left = take_end_of(alloc, margin, rest.left, end)?;
     if !says_nothing(left) {
         return Ok(Rest {
             left,
             gap: rest.gap,
         });
     }
-    let gap = take_end_of(alloc, margin, rest.gap, end_)?;
+    let gap = take_end_of(alloc, margin, rest.gap, end)?;
     Ok(Rest { left: &[], gap })
 }

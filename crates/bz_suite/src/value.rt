@@ -12,13 +12,13 @@ pub enum Statement {
 
 /// A header (`def`, `for`, `if`, `elif`, `else`, up to its colon) with its suite. `head`: of `def` the word, the name and the
 /// parameters as a sequence; of the others the row of their parts; with the comments above the header and on its line.
-/// `statements`: those of the suite. `end_`: the comments below the last one.
+/// `statements`: those of the suite. `end`: the comments below the last one.
 #[cycle(statement)]
 #[derive(Drop)]
 pub struct Branch {
     pub head: Form,
     pub statements: Items<Statement>,
-    pub end_: Items<Text>,
+    pub end: Items<Text>,
 }
 
 /// An item of a .bzl file: comment lines on their own, or a statement.

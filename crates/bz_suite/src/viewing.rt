@@ -8,8 +8,8 @@ ghost use Rattle.bz_suite.specs.Joined.{lines_after, lines_at_end};
 ghost use Rattle.bz_suite.specs.View.{bzl_items, bzl_view_of, block_items, branches, bzl_item, compound_read, line_read, indented_lines_before, margin_of, simple_statements, stated, statement_read, suite_in, walked};
 ghost use Rattle.bz_value.specs.Gaps.{groups_of, all_but_last, last_group};
 
-use crate::headers::{behind_first, colon_from, head, is_compound, is_kind, suffix_before};
-use crate::rest::{Rest, behind_first_line, comments, is_spent, only, take_end};
+use crate::headers::{after_first_part, colon_from, head, is_compound, is_kind, suffix_before};
+use crate::rest::{Rest, past_first_indented_line, comments, is_spent, rest_of_gap, take_end};
 use crate::value::{Branch, BzlFile, BzlItem, Statement};
 use bz_items::{Items, Memory, Text};
 use bz_tree::{BzlTree, Kind, Node, Part};
@@ -40,7 +40,7 @@ fn margin_of(parts: &[Part]) -> usize
 }
 
 /// The gap of the part with this index; past the last part the one after all of them.
-fn gap_behind<'a>(parts: &'a [Part], at: usize, after: &'a [u8]) -> &'a [u8]
+fn gap_after<'a>(parts: &'a [Part], at: usize, after: &'a [u8]) -> &'a [u8]
     ensures { indented result.now ≡ indented_lines_before (map stated (drop at parts.now)) (indented after.now) }
 {
     match parts.get(at) {
@@ -76,7 +76,7 @@ fn push_line<'a>(
     push_statements(alloc, parts, above, &mut items)?;
     push_simple(items, out)?;
     Ok(Rest {
-        left: behind_first_line(gap_of_last(parts)),
+        left: past_first_indented_line(gap_of_last(parts)),
         gap: after,
     })
 }
@@ -94,7 +94,7 @@ fn push_statement<'a>(
     ensures rest { IfOk result (λ rest. indented rest.left.now ++ indented rest.gap.now ≡ ((stated part.now).statement above (indented after.now)).1) }
 {
     match part {
-        Part::Leaf(_) => Ok(only(after)),
+        Part::Leaf(_) => Ok(rest_of_gap(after)),
         Part::Node(node) => {
             let rest = push_node(alloc, node, above, after, out)?;
             Ok(rest)
@@ -123,7 +123,7 @@ fn push_node<'a>(
         let rest = push_compound(alloc, node.kind, parts, above, after, out)?;
         return Ok(rest);
     }
-    Ok(only(after))
+    Ok(rest_of_gap(after))
 }
 
 /// Appends a statement with suites.
@@ -159,7 +159,7 @@ fn push_branches<'a>(
     ensures rest { IfOk result (λ rest. indented rest.left.now ++ indented rest.gap.now ≡ (branches kind [] above (indented after.now) (map stated parts.now) (indented after.now)).1) }
 {
     let mut above = above;
-    let mut rest = only(after);
+    let mut rest = rest_of_gap(after);
     let mut from = 0;
     while let Some(colon) = colon_from(parts, from) {
         let Some(suite) = parts.get(colon + 1) else {
@@ -168,13 +168,13 @@ fn push_branches<'a>(
         let suffix = suffix_before(alloc, suite)?;
         let head = head(alloc, kind, &parts[from..colon], above, suffix)?;
         let mut statements = Items::new(alloc);
-        let mut end_ = Items::new(alloc);
-        let behind = gap_behind(parts, colon + 2, after);
-        rest = push_suite(alloc, suite, behind, &mut statements, &mut end_)?;
+        let mut end = Items::new(alloc);
+        let following = gap_after(parts, colon + 2, after);
+        rest = push_suite(alloc, suite, following, &mut statements, &mut end)?;
         own.push(Branch {
             head,
             statements,
-            end_,
+            end,
         })?;
         above = comments(alloc, rest)?;
         from = colon + 2;
@@ -190,16 +190,16 @@ fn push_suite<'a>(
     part: &'a Part,
     after: &'a [u8],
     statements: &mut Items<Statement>,
-    end_: &mut Items<Text>,
+    end: &mut Items<Text>,
 ) -> Result<Rest<'a>, Memory>
     ensures statements { OnOk result (statements.new ≡ statements.old ++ ((stated part.now).suite (indented after.now)).0.0) }
-    ensures end_ { OnOk result (end_.new ≡ end_.old ++ ((stated part.now).suite (indented after.now)).0.1) }
+    ensures end { OnOk result (end.new ≡ end.old ++ ((stated part.now).suite (indented after.now)).0.1) }
     ensures rest { IfOk result (λ rest. indented rest.left.now ++ indented rest.gap.now ≡ ((stated part.now).suite (indented after.now)).1) }
 {
     match part {
-        Part::Leaf(_) => Ok(only(after)),
+        Part::Leaf(_) => Ok(rest_of_gap(after)),
         Part::Node(node) => {
-            let rest = push_suite_of(alloc, node, after, statements, end_)?;
+            let rest = push_suite_of(alloc, node, after, statements, end)?;
             Ok(rest)
         }
     }
@@ -212,10 +212,10 @@ fn push_suite_of<'a>(
     node: &'a Node,
     after: &'a [u8],
     statements: &mut Items<Statement>,
-    end_: &mut Items<Text>,
+    end: &mut Items<Text>,
 ) -> Result<Rest<'a>, Memory>
     ensures statements { OnOk result (statements.new ≡ statements.old ++ (suite_in node.now.kind (map stated node.now.parts) (indented after.now)).0.0) }
-    ensures end_ { OnOk result (end_.new ≡ end_.old ++ (suite_in node.now.kind (map stated node.now.parts) (indented after.now)).0.1) }
+    ensures end { OnOk result (end.new ≡ end.old ++ (suite_in node.now.kind (map stated node.now.parts) (indented after.now)).0.1) }
     ensures rest { IfOk result (λ rest. indented rest.left.now ++ indented rest.gap.now ≡ (suite_in node.now.kind (map stated node.now.parts) (indented after.now)).1) }
 {
     let parts = node.parts.as_slice();
@@ -224,11 +224,11 @@ fn push_suite_of<'a>(
         return Ok(rest);
     }
     if !is_kind(node.kind, Kind::Suite) {
-        return Ok(only(after));
+        return Ok(rest_of_gap(after));
     }
-    let own = behind_first(parts);
+    let own = after_first_part(parts);
     let rest = push_all_statements(alloc, own, after, statements)?;
-    let rest = take_end(alloc, margin_of(own), rest, end_)?;
+    let rest = take_end(alloc, margin_of(own), rest, end)?;
     Ok(rest)
 }
 
@@ -243,11 +243,11 @@ fn push_all_statements<'a>(
     ensures out { OnOk result (out.new ≡ out.old ++ (walked (indented_lines_before (map stated parts.now) []) (map stated parts.now) (indented after.now)).0) }
     ensures rest { IfOk result (λ rest. indented rest.left.now ++ indented rest.gap.now ≡ (walked (indented_lines_before (map stated parts.now) []) (map stated parts.now) (indented after.now)).1) }
 {
-    let mut rest = only(gap_at(parts, 0));
+    let mut rest = rest_of_gap(gap_at(parts, 0));
     for at in 0..parts.len() {
         let above = comments(alloc, rest)?;
-        let behind = gap_behind(parts, at + 1, after);
-        rest = push_statement(alloc, &parts[at], above, behind, out)?;
+        let following = gap_after(parts, at + 1, after);
+        rest = push_statement(alloc, &parts[at], above, following, out)?;
     }
     Ok(rest)
 }
@@ -331,7 +331,7 @@ pub fn items_of(alloc: Global, parts: &[Part]) -> Result<(Items<BzlItem>, bool),
     ensures left { IfOk result (λ seen. IsTrue seen.1 → lines_at_end (indented_lines_before (map stated parts.now) []) parts.now ≡ []) }
 {
     let mut items = Items::new(alloc);
-    let mut rest = only(gap_at(parts, 0));
+    let mut rest = rest_of_gap(gap_at(parts, 0));
     let mut spent = true;
     for at in 0..parts.len() {
         spent = is_spent(rest);
@@ -339,7 +339,7 @@ pub fn items_of(alloc: Global, parts: &[Part]) -> Result<(Items<BzlItem>, bool),
             alloc,
             rest,
             &parts[at],
-            gap_behind(parts, at + 1, &[]),
+            gap_after(parts, at + 1, &[]),
             &mut items,
         )?;
     }
@@ -362,7 +362,7 @@ fn push_part<'a>(
     match part {
         Part::Leaf(_) => {
             push_end(alloc, rest, items)?;
-            Ok(only(&[]))
+            Ok(rest_of_gap(&[]))
         }
         Part::Node(_) => {
             let last = push_blocks(alloc, rest, items)?;

@@ -6,7 +6,7 @@ use Rattle.bz_value.specs.declared.value.Expr.{Expr}
 use Rattle.bz_value.specs.declared.value.Item.{Item}
 use Rattle.bz_value.specs.declared.value.Item.TheVariants as i
 use Rattle.bz_items.specs.Characters.{Bytes}
-use Rattle.bz_rule.specs.Values.{has_kind, above, on_first, on_third, behind_first, on_lists}
+use Rattle.bz_rule.specs.Values.{has_kind, above, on_first, on_third, on_rest, on_lists}
 use Rattle.bz_tidy.specs.Orders.{sort_by}
 use Rattle.bz_tidy.specs.Marks.{any_marked, leave_alone}
 use Rattle.bz_tidy.specs.Lists.{settled_list}
@@ -43,7 +43,7 @@ pub arguments_above : SameAbove arguments_in
 arguments_above = rule_above (λ kind. sort_by argument_precedes)
 
 pub symbols_above : SameAbove symbols_in
-symbols_above = above_within the_items k.Load (λ x. behind_first (sort_by symbol_precedes))
+symbols_above = above_within the_items k.Load (λ x. on_rest (sort_by symbol_precedes))
 
 pub composed_above : (f g : Expr → Expr) → SameAbove f → SameAbove g → SameAbove (λ x. g (f x))
 composed_above f g a b x = b (f x) ∙ a x

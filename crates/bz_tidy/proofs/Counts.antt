@@ -19,14 +19,14 @@ use Rattle.bz_items.specs.Characters.{Bytes}
 use Rattle.bz_value.specs.Proper.{comments_of}
 use Rattle.bz_value.specs.Empty.{is_empty, is_none}
 use Rattle.bz_write.specs.Flags.{settled_split, with_flags, each_with_flags, item_with_flags}
-use Rattle.bz_rule.specs.Values.{has_kind, has_class, text_of, parts_of, above, with_above, on_items, on_row, on_first, on_third, behind_first, first_text, on_lists}
+use Rattle.bz_rule.specs.Values.{has_kind, has_class, text_of, parts_of, above, with_above, on_items, on_row, on_first, on_third, on_rest, first_text, on_lists}
 use Rattle.bz_tidy.specs.Orders.{insert_by, sort_by}
 use Rattle.bz_tidy.specs.Marks.{is_marked, any_marked, leave_alone, keep_sorted, keep_marks, other_comments}
 use Rattle.bz_tidy.specs.Lists.{is_taken, precedes, has_no_comment, without_repeats, in_order, without_marks, marked_by, sorted, settled_list}
 use Rattle.bz_tidy.specs.Passes.{on_statement, taken, on_taken, rule_kind, of_rule, on_call, on_rule_arguments, on_attribute, quoted, each_quoted, quotes, labelled, labelled_value, labels_in, labels, sorted_value, in_assign, lists_in, lists, argument_precedes, arguments_in, arguments, symbol_precedes, symbols_in, symbols, load_precedes, loads, tidied}
 use Rattle.bz_tidy.proofs.Keeping.{both}
 use Rattle.bz_tidy.proofs.Sorting.{sort_all, sort_total}
-use Rattle.bz_tidy.proofs.Parts.{Place, the_parts, the_items, made, parts_behind, items_behind, parts_are, items_are}
+use Rattle.bz_tidy.proofs.Parts.{Place, the_parts, the_items, made, parts_after, items_after, parts_are, items_are}
 use Rattle.bz_tidy.proofs.Listed.{unrepeated_all}
 use Rattle.bz_tidy.proofs.SameLists.{IsText, class_above, all_texts}
 use Rattle.bz_tidy.proofs.Levels.{within, at_kind, at_other}
@@ -54,9 +54,9 @@ module _ {X : Type 0} (number : X → ℕ) where
   third_total g h (x ∷ y ∷ []) = refl
   third_total g h (x ∷ y ∷ z ∷ zs) = ap (λ a. number x + (number y + (a + total number zs))) (h z)
 
-  pub behind_total : (g : List X → List X) → SameTotal g → SameTotal (behind_first g)
-  behind_total g h [] = refl
-  behind_total g h (x ∷ xs) = ap (λ a. number x + a) (h xs)
+  pub after_total : (g : List X → List X) → SameTotal g → SameTotal (on_rest g)
+  after_total g h [] = refl
+  after_total g h (x ∷ xs) = ap (λ a. number x + a) (h xs)
 
   pub append_total : (xs ys : List X) → total number (xs ++ ys) ≡ total number xs + total number ys
   append_total [] ys = omega arith
@@ -81,11 +81,11 @@ module _ (number : Bytes → ℕ) where
   row_total s end_of-Expr = refl
   row_total s (more_of-Expr x rest) = ap (λ a. amount number x + a) (row_total _ rest)
 
-  amount_Form : (f : Form) → amount number (e.Form f) ≡ host_amount number f.comments + (total whole f.parts + (total whole f.seq.items + total number f.seq.end_))
+  amount_Form : (f : Form) → amount number (e.Form f) ≡ host_amount number f.comments + (total whole f.parts + (total whole f.seq.items + total number f.seq.end))
   amount_Form f =
-      both (λ a b. host_amount number f.comments + (a + (b + total number f.seq.end_)))
-      (row_total _ (parts_behind (e.Form f)).1 ∙ ap (total whole) (parts_are f))
-      (row_total _ (items_behind (e.Form f)).1 ∙ ap (total whole) (items_are f))
+      both (λ a b. host_amount number f.comments + (a + (b + total number f.seq.end)))
+      (row_total _ (parts_after (e.Form f)).1 ∙ ap (total whole) (parts_are f))
+      (row_total _ (items_after (e.Form f)).1 ∙ ap (total whole) (items_are f))
 
   -- at a place: what has the same sum there has the same sum
   abbrev Counts : Place → Type 0
@@ -93,15 +93,15 @@ module _ (number : Bytes → ℕ) where
 
   parts_count : Counts the_parts
   parts_count ys (Token t) h = refl
-  parts_count ys (Form' kind s parts s' items end_ split open_ comments) h =
-      amount_Form (made kind ys (items-the_row-Expr _ items) end_ split open_ comments)
-      ∙ both (λ a b. host_amount number comments + (a + (b + total number end_))) (h ∙ sym (row_total _ parts)) (sym (row_total _ items))
+  parts_count ys (Form' kind s parts s' items end split open_break comments) h =
+      amount_Form (made kind ys (items-the_row-Expr _ items) end split open_break comments)
+      ∙ both (λ a b. host_amount number comments + (a + (b + total number end))) (h ∙ sym (row_total _ parts)) (sym (row_total _ items))
 
   items_count : Counts the_items
   items_count ys (Token t) h = refl
-  items_count ys (Form' kind s parts s' items end_ split open_ comments) h =
-      amount_Form (made kind (items-the_row-Expr _ parts) ys end_ split open_ comments)
-      ∙ both (λ a b. host_amount number comments + (a + (b + total number end_))) (sym (row_total _ parts)) (h ∙ sym (row_total _ items))
+  items_count ys (Form' kind s parts s' items end split open_break comments) h =
+      amount_Form (made kind (items-the_row-Expr _ parts) ys end split open_break comments)
+      ∙ both (λ a b. host_amount number comments + (a + (b + total number end))) (sym (row_total _ parts)) (h ∙ sym (row_total _ items))
 
   within_amount : (place : Place) → Counts place → (kind : Kind) (d : Expr → List Expr → List Expr) → ((x : Expr) → SameTotal whole (d x)) → Same whole (within place kind d)
   within_amount place count kind d h x = elim (cases_Bool (has_kind kind x)) [
@@ -119,9 +119,9 @@ module _ (number : Bytes → ℕ) where
   mutual
     quoted_amount : Same whole quoted
     quoted_amount (Token t) = refl
-    quoted_amount (Form' kind s parts s' items end_ split open_ comments) =
-        amount_Form (made kind (each_quoted parts) (each_quoted items) end_ split open_ comments)
-        ∙ both (λ a b. host_amount number comments + (a + (b + total number end_))) (quoted_row_amount _ parts) (quoted_row_amount _ items)
+    quoted_amount (Form' kind s parts s' items end split open_break comments) =
+        amount_Form (made kind (each_quoted parts) (each_quoted items) end split open_break comments)
+        ∙ both (λ a b. host_amount number comments + (a + (b + total number end))) (quoted_row_amount _ parts) (quoted_row_amount _ items)
 
     quoted_row_amount : (s : _) (r : Row_of-Expr s) → total whole (each_quoted r) ≡ row_amount number r
     quoted_row_amount s end_of-Expr = refl
@@ -130,9 +130,9 @@ module _ (number : Bytes → ℕ) where
   mutual
     pub flags_amount : Same whole with_flags
     flags_amount (Token t) = refl
-    flags_amount (Form' kind s parts s' items end_ split open_ comments) =
-        amount_Form (made kind (each_with_flags parts) (each_with_flags items) end_ (settled_split (frame kind) kind split (items-the_row-Expr _ items) end_) open_ comments)
-        ∙ both (λ a b. host_amount number comments + (a + (b + total number end_))) (flags_row_amount _ parts) (flags_row_amount _ items)
+    flags_amount (Form' kind s parts s' items end split open_break comments) =
+        amount_Form (made kind (each_with_flags parts) (each_with_flags items) end (settled_split (frame kind) kind split (items-the_row-Expr _ items) end) open_break comments)
+        ∙ both (λ a b. host_amount number comments + (a + (b + total number end))) (flags_row_amount _ parts) (flags_row_amount _ items)
 
     flags_row_amount : (s : _) (r : Row_of-Expr s) → total whole (each_with_flags r) ≡ row_amount number r
     flags_row_amount s end_of-Expr = refl
@@ -143,16 +143,16 @@ module _ (number : Bytes → ℕ) where
     | inl w ↦ rw w refl
     | inr w ↦ rw w refl
   ]
-  labelled_amount (Form' kind s parts s' items end_ split open_ comments) = refl
+  labelled_amount (Form' kind s parts s' items end split open_break comments) = refl
 
   -- ---- one list
   text_amount : (x : Expr) → IsText x → amount number x ≡ host_amount number (comments_of x)
   text_amount (Token t) h = refl
-  text_amount (Form' kind s parts s' items end_ split open_ comments) h = cc
+  text_amount (Form' kind s parts s' items end split open_break comments) h = cc
 
   above_amount : (a : List Bytes) (x : Expr) → IsText x → amount number (with_above a x) ≡ total number a + suffix_amount number (comments_of x).suffix
   above_amount a (Token t) h = refl
-  above_amount a (Form' kind s parts s' items end_ split open_ comments) h = cc
+  above_amount a (Form' kind s parts s' items end split open_break comments) h = cc
 
   bare_host : (before : List Bytes) (suffix : Option Bytes) → (is_empty before && is_none suffix) ≡ true → total number before + suffix_amount number suffix ≡ 0
   bare_host [] None h = refl
@@ -266,7 +266,7 @@ module _ (number : Bytes → ℕ) where
   arguments_amount = rule_amount (λ kind. sort_by argument_precedes) (λ kind. sort_total argument_precedes whole)
 
   symbols_amount : Same whole symbols_in
-  symbols_amount = items_amount_within k.Load (λ x. behind_first (sort_by symbol_precedes)) (λ x. behind_total whole (sort_by symbol_precedes) (sort_total symbol_precedes whole))
+  symbols_amount = items_amount_within k.Load (λ x. on_rest (sort_by symbol_precedes)) (λ x. after_total whole (sort_by symbol_precedes) (sort_total symbol_precedes whole))
 
   -- ---- the file
 

@@ -19,10 +19,10 @@ module _ {X : Type 0} (lt : X → X → Bool) where
   sort_length [] = refl
   sort_length (x ∷ xs) = insert_length x (sort_by lt xs) ∙ ap suc (sort_length xs)
 
-module _ {X : Type 0} (lt : X → X → Bool) (bar : X) (before : (x : X) → lt bar x ≡ false) (behind : (x : X) → lt x bar ≡ false) where
+module _ {X : Type 0} (lt : X → X → Bool) (bar : X) (before : (x : X) → lt bar x ≡ false) (following : (x : X) → lt x bar ≡ false) where
   insert_bar : (ys : List X) → insert_by lt bar ys ≡ bar ∷ ys
   insert_bar [] = refl
-  insert_bar (y ∷ ys) = rw (behind y) refl
+  insert_bar (y ∷ ys) = rw (following y) refl
 
   insert_front : (x : X) (xs ys : List X) → insert_by lt x (xs ++ bar ∷ ys) ≡ insert_by lt x xs ++ bar ∷ ys
   insert_front x [] ys = rw (before x) refl

@@ -71,9 +71,9 @@ module _ {X : Type 0} where
   unchanged (y ∷ xs) x zero h = refl
   unchanged (y ∷ xs) x (suc i) h = unchanged xs x i (omega arith)
 
-  all_behind : (P : X → Type 0) (xs : List X) (x : X) → AllByRecursion P xs → P x → AllByRecursion P (xs ++ x ∷ [])
-  all_behind P [] x h p = (p, tt)
-  all_behind P (y ∷ xs) x h p = (h.0, all_behind P xs x h.1 p)
+  all_after : (P : X → Type 0) (xs : List X) (x : X) → AllByRecursion P xs → P x → AllByRecursion P (xs ++ x ∷ [])
+  all_after P [] x h p = (p, tt)
+  all_after P (y ∷ xs) x h p = (h.0, all_after P xs x h.1 p)
 
 length_pushed : (kept : List Expr) (x : Expr) → length (kept ++ x ∷ []) ≡ length kept + 1
 length_pushed kept x = length-append kept (x ∷ [])
@@ -201,7 +201,7 @@ pub turn_new : (all kept : List Expr) (places : List ℕ) (rest : List Expr) (x 
 turn_new all kept places rest x f k = record {
   earlier = text_of x ∷ k.earlier;
   goes = kept_goes kept rest all k.earlier x (ap (λ z. has_no_comment x && z) (stands_earlier kept places k.earlier x k.within k.sees.0 ∙ f) ∙ and_none (has_no_comment x)) k.goes;
-  within = all_behind (λ place. place < length (kept ++ x ∷ [])) (tied_places kept x places) (length kept)
+  within = all_after (λ place. place < length (kept ++ x ∷ [])) (tied_places kept x places) (length kept)
       (within_more kept x (tied_places kept x places) (within_tied kept (ties_last kept x) places k.within)) (omega (arith, length_pushed kept x));
   sees = all_new kept places k.earlier x k.within k.sees.0 rest k.rises.0 k.sees.1;
   rises = k.rises.1;

@@ -9,16 +9,16 @@ use Rattle.bz_value.specs.declared.value.Item.TheVariants as i
 use Rattle.bz_value.specs.Exchanged.{is_bare_statement, is_bare, IsExchanged, AreExchanged}
 use Rattle.bz_items.specs.Characters.{Bytes}
 use Rattle.bz_write.specs.Flags.{with_flags, item_with_flags, flags}
-use Rattle.bz_rule.specs.Values.{has_kind, above, on_first, on_third, behind_first, on_lists}
+use Rattle.bz_rule.specs.Values.{has_kind, above, on_first, on_third, on_rest, on_lists}
 use Rattle.std.proofs.lemmas.Bool.{and_left, and_right}
-use Rattle.bz_tidy.specs.Changes.{changed}
+use Rattle.bz_tidy.specs.Changes.{after_passes}
 use Rattle.bz_tidy.specs.Exchanged.{item_tidied, tidied_where, ExchangedTidied}
 use Rattle.bz_tidy.specs.Lists.{settled_list}
 use Rattle.bz_tidy.specs.Marks.{any_marked, leave_alone}
 use Rattle.bz_tidy.specs.Orders.{sort_by}
 use Rattle.bz_tidy.specs.Passes.{on_statement, taken, on_taken, on_call, on_rule_arguments, on_attribute, quoted, labelled_value, labels_in, sorted_value, in_assign, lists_in, argument_precedes, arguments_in, symbol_precedes, is_loose_load, is_run_load, load_precedes, loads, tidied}
 use Rattle.bz_tidy.proofs.Composed.{five_composed}
-use Rattle.bz_tidy.proofs.Keeping.{both, same_first, same_behind}
+use Rattle.bz_tidy.proofs.Keeping.{both, same_first, same_after}
 use Rattle.bz_tidy.proofs.Levels.{kind_within}
 use Rattle.bz_tidy.proofs.Parts.{the_parts, the_items, kind_flags}
 use Rattle.bz_tidy.proofs.Settling.{IsFixed, tidied_fixed, statements_fixed, load_one_way}
@@ -28,7 +28,7 @@ use Rattle.bz_tidy.proofs.Sorting.{Starts, Ordered, ordered_stays, sort_ordered}
 
 kind_quoted : (kind : Kind) (x : Expr) → has_kind kind (quoted x) ≡ has_kind kind x
 kind_quoted kind (Token t) = refl
-kind_quoted kind (Form' own s parts s' items end_ split open_ comments) = refl
+kind_quoted kind (Form' own s parts s' items end split open_break comments) = refl
 
 either_kind : (kind : Kind) (b : Bool) (y z x : Expr) → has_kind kind y ≡ has_kind kind x → has_kind kind z ≡ has_kind kind x → has_kind kind (if b then y else z) ≡ has_kind kind x
 either_kind kind true y z x h h' = h
@@ -43,24 +43,24 @@ lists_kept kind x =
     (kind_within the_parts k.Assign kind (on_third (on_lists (settled_list (above x) false))) x)
     (rule_kept (λ own. map (on_attribute (sorted_value own))) kind x)
 
-changed_kept : (kind : Kind) (x : Expr) → has_kind kind (changed x) ≡ has_kind kind x
+changed_kept : (kind : Kind) (x : Expr) → has_kind kind (after_passes x) ≡ has_kind kind x
 changed_kept kind x =
-    kind_within the_items k.Load kind (behind_first (sort_by symbol_precedes)) (arguments_in (lists_in (labels_in (quoted x))))
+    kind_within the_items k.Load kind (on_rest (sort_by symbol_precedes)) (arguments_in (lists_in (labels_in (quoted x))))
     ∙ (rule_kept (λ own. sort_by argument_precedes) kind (lists_in (labels_in (quoted x)))
     ∙ (lists_kept kind (labels_in (quoted x)) ∙ (rule_kept (λ own. map (on_attribute labelled_value)) kind (quoted x) ∙ kind_quoted kind x)))
 
-pub taken_kept : (kind : Kind) (x : Expr) → has_kind kind (taken changed x) ≡ has_kind kind x
-taken_kept kind x = either_kind kind (any_marked leave_alone (above x)) x (changed x) x refl (changed_kept kind x)
+pub taken_kept : (kind : Kind) (x : Expr) → has_kind kind (taken after_passes x) ≡ has_kind kind x
+taken_kept kind x = either_kind kind (any_marked leave_alone (above x)) x (after_passes x) x refl (changed_kept kind x)
 
 -- ---- bare statements stay ones
 
 bare_has : (x : Expr) → is_bare_statement x ≡ has_kind k.Bare x
 bare_has (Token t) = refl
-bare_has (Form' kind s parts s' items end_ split open_ comments) = refl
+bare_has (Form' kind s parts s' items end split open_break comments) = refl
 
 bare_kept : (item : Item) → is_bare (item_tidied item) ≡ is_bare item
 bare_kept (i.Block lines) = refl
-bare_kept (i.Stmt x) = bare_has (with_flags (taken changed x)) ∙ (kind_flags k.Bare (taken changed x) ∙ (taken_kept k.Bare x ∙ sym (bare_has x)))
+bare_kept (i.Stmt x) = bare_has (with_flags (taken after_passes x)) ∙ (kind_flags k.Bare (taken after_passes x) ∙ (taken_kept k.Bare x ∙ sym (bare_has x)))
 
 -- ---- none of them is compared
 
@@ -70,21 +70,21 @@ no_load_kind _ h = refl
 
 no_load : (x : Expr) → is_bare_statement x ≡ true → has_kind k.Load x ≡ false
 no_load (Token t) h = refl
-no_load (Form' kind s parts s' items end_ split open_ comments) h = no_load_kind kind h
+no_load (Form' kind s parts s' items end split open_break comments) h = no_load_kind kind h
 
-no_run : (item : Item) → is_bare item ≡ true → is_run_load (on_statement (taken changed) item) ≡ false
+no_run : (item : Item) → is_bare item ≡ true → is_run_load (on_statement (taken after_passes) item) ≡ false
 no_run (i.Block lines) h = refl
-no_run (i.Stmt x) h = and_left (has_kind k.Load (taken changed x)) _ (taken_kept k.Load x ∙ no_load x h)
+no_run (i.Stmt x) h = and_left (has_kind k.Load (taken after_passes x)) _ (taken_kept k.Load x ∙ no_load x h)
 
 pub never_before : (x y : Item) → is_run_load x ≡ false → load_precedes x y ≡ false
 never_before (i.Block lines) y h = refl
 never_before (i.Stmt x) (i.Block lines) h = refl
 never_before (i.Stmt x) (i.Stmt y) h = and_left (is_loose_load x && is_loose_load y) _ (and_left (is_loose_load x) (is_loose_load y) h)
 
-pub never_behind : (x y : Item) → is_run_load y ≡ false → load_precedes x y ≡ false
-never_behind (i.Block lines) y h = refl
-never_behind (i.Stmt x) (i.Block lines) h = refl
-never_behind (i.Stmt x) (i.Stmt y) h = and_left (is_loose_load x && is_loose_load y) _ (and_right (is_loose_load x) (is_loose_load y) h)
+pub never_after : (x y : Item) → is_run_load y ≡ false → load_precedes x y ≡ false
+never_after (i.Block lines) y h = refl
+never_after (i.Stmt x) (i.Block lines) h = refl
+never_after (i.Stmt x) (i.Stmt y) h = and_left (is_loose_load x && is_loose_load y) _ (and_right (is_loose_load x) (is_loose_load y) h)
 
 -- ---- items that are the same or are not compared stay in order
 
@@ -97,7 +97,7 @@ AreAlike (x ∷ xs) (y ∷ ys) = IsAlike x y × AreAlike xs ys
 AreAlike _ _ = ⊥
 
 pair_stays : (x y x' y' : Item) → IsAlike x y → IsAlike x' y' → load_precedes x' x ≡ false → load_precedes y' y ≡ false
-pair_stays x y x' y' (inr n) a h = never_behind y' y n
+pair_stays x y x' y' (inr n) a h = never_after y' y n
 pair_stays x y x' y' (inl e) (inr n) h = never_before y' y n
 pair_stays x y x' y' (inl e) (inl e') h = both load_precedes e' e ∙ h
 
@@ -115,31 +115,31 @@ order_stays (x ∷ xs) (y ∷ ys) a h = (starts_stay x y xs ys a.0 a.1 h.0, orde
 
 -- ---- exchanged items
 
-one_alike : (mark : Bool) (old item : Item) → on_statement (taken changed) old ≡ old → IsExchanged mark old item → IsAlike old (on_statement (taken changed) item)
+one_alike : (mark : Bool) (old item : Item) → on_statement (taken after_passes) old ≡ old → IsExchanged mark old item → IsAlike old (on_statement (taken after_passes) item)
 one_alike true old item e h = inr (no_run item h.1)
-one_alike false old item e h = inl (ap (on_statement (taken changed)) (sym h) ∙ e)
+one_alike false old item e h = inl (ap (on_statement (taken after_passes)) (sym h) ∙ e)
 
-are_alike : (marks : List Bool) (before items : List Item) → on_taken changed before ≡ before → AreExchanged marks before items → AreAlike before (on_taken changed items)
+are_alike : (marks : List Bool) (before items : List Item) → on_taken after_passes before ≡ before → AreExchanged marks before items → AreAlike before (on_taken after_passes items)
 are_alike [] [] [] e h = tt
 are_alike (mark ∷ marks) (old ∷ before) (item ∷ items) e h = (
-  one_alike mark old item (same_first (on_statement (taken changed) old) old (on_taken changed before) before e) h.0,
-  are_alike marks before items (same_behind (on_statement (taken changed) old) old (on_taken changed before) before e) h.1,
+  one_alike mark old item (same_first (on_statement (taken after_passes) old) old (on_taken after_passes before) before e) h.0,
+  are_alike marks before items (same_after (on_statement (taken after_passes) old) old (on_taken after_passes before) before e) h.1,
 )
 are_alike [] [] (item ∷ items) e h = absurd h
 are_alike [] (old ∷ before) items e h = absurd h
 are_alike (mark ∷ marks) [] items e h = absurd h
 are_alike (mark ∷ marks) (old ∷ before) [] e h = absurd h
 
-one_tidied : (mark : Bool) (old item : Item) → on_statement (taken changed) old ≡ old → item_with_flags old ≡ old → IsExchanged mark old item → item_tidied item ≡ (if mark then item_tidied item else item)
+one_tidied : (mark : Bool) (old item : Item) → on_statement (taken after_passes) old ≡ old → item_with_flags old ≡ old → IsExchanged mark old item → item_tidied item ≡ (if mark then item_tidied item else item)
 one_tidied true old item e f h = refl
 one_tidied false old item e f h = ap item_tidied (sym h) ∙ (ap item_with_flags e ∙ (f ∙ h))
 
-each_tidied : (marks : List Bool) (before items : List Item) → on_taken changed before ≡ before → flags before ≡ before → AreExchanged marks before items → flags (on_taken changed items) ≡ tidied_where marks items
+each_tidied : (marks : List Bool) (before items : List Item) → on_taken after_passes before ≡ before → flags before ≡ before → AreExchanged marks before items → flags (on_taken after_passes items) ≡ tidied_where marks items
 each_tidied [] [] [] e f h = refl
 each_tidied (mark ∷ marks) (old ∷ before) (item ∷ items) e f h =
     both (λ z zs. z ∷ zs)
-    (one_tidied mark old item (same_first (on_statement (taken changed) old) old (on_taken changed before) before e) (same_first (item_with_flags old) old (flags before) before f) h.0)
-    (each_tidied marks before items (same_behind (on_statement (taken changed) old) old (on_taken changed before) before e) (same_behind (item_with_flags old) old (flags before) before f) h.1)
+    (one_tidied mark old item (same_first (on_statement (taken after_passes) old) old (on_taken after_passes before) before e) (same_first (item_with_flags old) old (flags before) before f) h.0)
+    (each_tidied marks before items (same_after (on_statement (taken after_passes) old) old (on_taken after_passes before) before e) (same_after (item_with_flags old) old (flags before) before f) h.1)
 each_tidied [] [] (item ∷ items) e f h = absurd h
 each_tidied [] (old ∷ before) items e f h = absurd h
 each_tidied (mark ∷ marks) [] items e f h = absurd h
@@ -148,10 +148,10 @@ each_tidied (mark ∷ marks) (old ∷ before) [] e f h = absurd h
 pub marked_tidied : (marks : List Bool) (before items : List Item) → tidied before ≡ before → AreExchanged marks before items → tidied items ≡ tidied_where marks items
 marked_tidied marks before items t h =
     let fixed : IsFixed before = subst IsFixed t (tidied_fixed before) in
-    let each : on_taken changed before ≡ before = sym (five_composed before) ∙ statements_fixed before fixed in
+    let each : on_taken after_passes before ≡ before = sym (five_composed before) ∙ statements_fixed before fixed in
     let ordered : Ordered load_precedes before = subst (Ordered load_precedes) fixed.by_loads (sort_ordered load_precedes load_one_way before) in
-    let stay : loads (on_taken changed items) ≡ on_taken changed items =
-    ordered_stays load_precedes (on_taken changed items) (order_stays before (on_taken changed items) (are_alike marks before items each h) ordered) in
+    let stay : loads (on_taken after_passes items) ≡ on_taken after_passes items =
+    ordered_stays load_precedes (on_taken after_passes items) (order_stays before (on_taken after_passes items) (are_alike marks before items each h) ordered) in
     ap (λ z. flags (loads z)) (five_composed items) ∙ (ap flags stay ∙ each_tidied marks before items each fixed.by_flags h)
 
 one_still : (mark : Bool) (old item : Item) → IsExchanged mark old item → IsExchanged mark old (if mark then item_tidied item else item)

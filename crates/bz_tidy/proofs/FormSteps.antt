@@ -12,7 +12,7 @@ use Rattle.bz_items.specs.Characters.{Bytes}
 use Rattle.bz_write.specs.Flags.{settled_split, with_flags, each_with_flags}
 use Rattle.bz_write.specs.Layout.{is_broken}
 use Rattle.bz_rule.specs.Values.{parts_of, items_of, with_parts, with_items, on_row, on_items}
-use Rattle.bz_rule.specs.Named.{fronts, fronts_in}
+use Rattle.bz_rule.specs.Named.{fronts, fronts_among}
 use Rattle.bz_rule.proofs.Forms.{fronts_Form}
 use Rattle.bz_tidy.specs.Passes.{quoted, each_quoted}
 
@@ -25,11 +25,11 @@ abbrev listed : Row → List Expr
 listed r = items-the_row-Expr r.0 r.1
 
 abbrev part_row : Expr → Row
-part_row (Form' kind s parts s' items end_ split open_ comments) = (_, parts)
+part_row (Form' kind s parts s' items end split open_break comments) = (_, parts)
 part_row (Token t) = (_, end_of-Expr)
 
 abbrev item_row : Expr → Row
-item_row (Form' kind s parts s' items end_ split open_ comments) = (_, items)
+item_row (Form' kind s parts s' items end split open_break comments) = (_, items)
 item_row (Token t) = (_, end_of-Expr)
 
 part_list : (f : Form) → listed (part_row (e.Form f)) ≡ f.parts
@@ -41,7 +41,7 @@ item_list f = items_hidden-the_row-Expr-0 f.seq.items
 -- ---- changes of lists
 
 abbrev pub in_form : Form → List Expr → List Expr → Bool → Expr
-in_form f parts items split = e.Form (record { kind = f.kind; parts = parts; seq = record { items = items; end_ = f.seq.end_; split = split }; open_ = f.open_; comments = f.comments })
+in_form f parts items split = e.Form (record { kind = f.kind; parts = parts; seq = record { items = items; end = f.seq.end; split = split }; open_break = f.open_break; comments = f.comments })
 
 pub parts_Form : (f : Form) → parts_of (e.Form f) ≡ f.parts
 parts_Form f = part_list f
@@ -80,17 +80,17 @@ flags_row : (n : _) (r : Row_of-Expr n) → each_with_flags r ≡ map with_flags
 flags_row n end_of-Expr = refl
 flags_row n (more_of-Expr x rest) = ap (λ xs. with_flags x ∷ xs) (flags_row _ rest)
 
-pub flags_Form : (f : Form) → with_flags (e.Form f) ≡ in_form f (map with_flags f.parts) (map with_flags f.seq.items) (settled_split (frame f.kind) f.kind f.seq.split f.seq.items f.seq.end_)
+pub flags_Form : (f : Form) → with_flags (e.Form f) ≡ in_form f (map with_flags f.parts) (map with_flags f.seq.items) (settled_split (frame f.kind) f.kind f.seq.split f.seq.items f.seq.end)
 flags_Form f =
-    ap (λ parts. in_form f parts (each_with_flags (item_row (e.Form f)).1) (settled_split (frame f.kind) f.kind f.seq.split (listed (item_row (e.Form f))) f.seq.end_)) (flags_row _ (part_row (e.Form f)).1 ∙ ap (map with_flags) (part_list f))
-    ∙ (ap (λ items. in_form f (map with_flags f.parts) items (settled_split (frame f.kind) f.kind f.seq.split (listed (item_row (e.Form f))) f.seq.end_)) (flags_row _ (item_row (e.Form f)).1 ∙ ap (map with_flags) (item_list f))
-    ∙ ap (λ items. in_form f (map with_flags f.parts) (map with_flags f.seq.items) (settled_split (frame f.kind) f.kind f.seq.split items f.seq.end_)) (item_list f))
+    ap (λ parts. in_form f parts (each_with_flags (item_row (e.Form f)).1) (settled_split (frame f.kind) f.kind f.seq.split (listed (item_row (e.Form f))) f.seq.end)) (flags_row _ (part_row (e.Form f)).1 ∙ ap (map with_flags) (part_list f))
+    ∙ (ap (λ items. in_form f (map with_flags f.parts) items (settled_split (frame f.kind) f.kind f.seq.split (listed (item_row (e.Form f))) f.seq.end)) (flags_row _ (item_row (e.Form f)).1 ∙ ap (map with_flags) (item_list f))
+    ∙ ap (λ items. in_form f (map with_flags f.parts) (map with_flags f.seq.items) (settled_split (frame f.kind) f.kind f.seq.split items f.seq.end)) (item_list f))
 
-split_of : (f : Frame) (kind : Kind) (split : Bool) (items : List Expr) (end_ : List Bytes) → settled_split f kind split items end_ ≡ (if has_brackets f then is_broken kind split items end_ else split)
-split_of row kind split items end_ = refl
-split_of (sequence opener closer) kind split items end_ = refl
+split_of : (f : Frame) (kind : Kind) (split : Bool) (items : List Expr) (end : List Bytes) → settled_split f kind split items end ≡ (if has_brackets f then is_broken kind split items end else split)
+split_of row kind split items end = refl
+split_of (sequence opener closer) kind split items end = refl
 
-pub split_by_kind : (kind : Kind) (split : Bool) (items : List Expr) (end_ : List Bytes) → settled_split (frame kind) kind split items end_ ≡ (if has_brackets (frame kind) then is_broken kind split items end_ else split)
+pub split_by_kind : (kind : Kind) (split : Bool) (items : List Expr) (end : List Bytes) → settled_split (frame kind) kind split items end ≡ (if has_brackets (frame kind) then is_broken kind split items end else split)
 split_by_kind kind = split_of (frame kind) kind
 
 -- ---- what stays
@@ -101,15 +101,15 @@ quoted_stays f parts items =
     ∙ ap (λ (ps : List Expr). in_form f ps (map quoted f.seq.items) f.seq.split) parts
     ∙ ap (λ (xs : List Expr). in_form f f.parts xs f.seq.split) (ap (map quoted) items ∙ sym items)
 
-split_stays : (kind : Kind) (split : Bool) (items : List Expr) (end_ : List Bytes) → kind ≡ k.Dot → settled_split (frame kind) kind split items end_ ≡ split
-split_stays kind split items end_ is = ap (λ (own : Kind). settled_split (frame own) own split items end_) is
+split_stays : (kind : Kind) (split : Bool) (items : List Expr) (end : List Bytes) → kind ≡ k.Dot → settled_split (frame kind) kind split items end ≡ split
+split_stays kind split items end is = ap (λ (own : Kind). settled_split (frame own) own split items end) is
 
 pub flags_stay : (f : Form) → f.kind ≡ k.Dot → map with_flags f.parts ≡ f.parts → f.seq.items ≡ [] → with_flags (e.Form f) ≡ e.Form f
 flags_stay f kind parts items =
     flags_Form f
-    ∙ ap (λ (ps : List Expr). in_form f ps (map with_flags f.seq.items) (settled_split (frame f.kind) f.kind f.seq.split f.seq.items f.seq.end_)) parts
-    ∙ ap (λ (xs : List Expr). in_form f f.parts xs (settled_split (frame f.kind) f.kind f.seq.split f.seq.items f.seq.end_)) (ap (map with_flags) items ∙ sym items)
-    ∙ ap (λ (split : Bool). in_form f f.parts f.seq.items split) (split_stays f.kind f.seq.split f.seq.items f.seq.end_ kind)
+    ∙ ap (λ (ps : List Expr). in_form f ps (map with_flags f.seq.items) (settled_split (frame f.kind) f.kind f.seq.split f.seq.items f.seq.end)) parts
+    ∙ ap (λ (xs : List Expr). in_form f f.parts xs (settled_split (frame f.kind) f.kind f.seq.split f.seq.items f.seq.end)) (ap (map with_flags) items ∙ sym items)
+    ∙ ap (λ (split : Bool). in_form f f.parts f.seq.items split) (split_stays f.kind f.seq.split f.seq.items f.seq.end kind)
 
-pub fronts_of_Form : (f : Form) → fronts (e.Form f) ≡ suc (fronts_in f.parts)
+pub fronts_of_Form : (f : Form) → fronts (e.Form f) ≡ suc (fronts_among f.parts)
 fronts_of_Form = fronts_Form

@@ -11,7 +11,7 @@ use Rattle.bz_value.specs.declared.value.Item.TheVariants as i
 use Rattle.bz_value.specs.Comments.{HostComments}
 use Rattle.bz_value.specs.Frames.{Frame, row, sequence, frame}
 use Rattle.bz_items.specs.Characters.{Bytes}
-use Rattle.bz_write.specs.Layout.{has_comments, has_named, is_named, is_listed, is_call}
+use Rattle.bz_write.specs.Layout.{has_comments, has_named, is_named_argument, is_listed, is_call}
 use Rattle.bz_value.specs.Empty.{is_empty, is_none}
 use Rattle.bz_write.specs.Flags.{settled_split, with_flags, each_with_flags, item_with_flags, flags}
 use Rattle.bz_rule.specs.Values.{text_of, parts_of, items_of, with_above}
@@ -28,18 +28,18 @@ labelled_settles (Token t) = elim (cases_Bool (is_class t.class c.String)) [
   | inl w ↦ rw (w, w) (ap (λ z. e.Token (record t { text = z })) (string_settles t.text))
   | inr w ↦ rw (w, w) refl
 ]
-labelled_settles (Form' kind s parts s' items end_ split open_ comments) = refl
+labelled_settles (Form' kind s parts s' items end split open_break comments) = refl
 
 pub flags_keep_labelled : Keeps with_flags labelled
 flags_keep_labelled (Token t) h = h
-flags_keep_labelled (Form' kind s parts s' items end_ split open_ comments) h = refl
+flags_keep_labelled (Form' kind s parts s' items end split open_break comments) h = refl
 
 pub under_labelled : (lines : List Bytes) (x : Expr) → labelled (with_above lines x) ≡ with_above lines (labelled x)
 under_labelled lines (Token t) = elim (cases_Bool (is_class t.class c.String)) [
   | inl w ↦ rw w refl
   | inr w ↦ rw w refl
 ]
-under_labelled lines (Form' kind s parts s' items end_ split open_ comments) = refl
+under_labelled lines (Form' kind s parts s' items end split open_break comments) = refl
 
 pub labelled_keeps_quoted : Keeps labelled quoted
 labelled_keeps_quoted (Token t) h = elim (cases_Bool (is_class t.class c.String)) [
@@ -48,7 +48,7 @@ labelled_keeps_quoted (Token t) h = elim (cases_Bool (is_class t.class c.String)
       rw (w, w) (ap (λ z. e.Token (record t { text = z })) (string_keeps t.text (ap text_of h')))
   | inr w ↦ rw w h
 ]
-labelled_keeps_quoted (Form' kind s parts s' items end_ split open_ comments) h = h
+labelled_keeps_quoted (Form' kind s parts s' items end split open_break comments) h = h
 
 -- ---- double quote marks everywhere
 
@@ -58,9 +58,9 @@ mutual
     | inl w ↦ rw w (ap (λ z. e.Token (record t { text = z })) (double_settles t.text))
     | inr w ↦ rw w refl
   ]
-  quoted_settles (Form' kind s parts s' items end_ split open_ comments) =
-      quoted_Form (made kind (each_quoted parts) (each_quoted items) end_ split open_ comments)
-      ∙ both (λ p i. e.Form (made kind p i end_ split open_ comments)) (row_settles _ parts) (row_settles _ items)
+  quoted_settles (Form' kind s parts s' items end split open_break comments) =
+      quoted_Form (made kind (each_quoted parts) (each_quoted items) end split open_break comments)
+      ∙ both (λ p i. e.Form (made kind p i end split open_break comments)) (row_settles _ parts) (row_settles _ items)
 
   row_settles : (m : _) (r : Row_of-Expr m) → map quoted (each_quoted r) ≡ each_quoted r
   row_settles m end_of-Expr = refl
@@ -68,9 +68,9 @@ mutual
 
 -- ---- flags
 
-same_named : (x : Expr) → is_named (with_flags x) ≡ is_named x
+same_named : (x : Expr) → is_named_argument (with_flags x) ≡ is_named_argument x
 same_named (Token t) = refl
-same_named (Form' kind s parts s' items end_ split open_ comments) = refl
+same_named (Form' kind s parts s' items end split open_break comments) = refl
 
 same_length : (xs : List Expr) → length (map with_flags xs) ≡ length xs
 same_length [] = refl
@@ -97,21 +97,21 @@ settled false false false true true = refl
 settled false false false true false = refl
 settled false false false false n = refl
 
-pub same_split : (f : Frame) (kind : Kind) (split : Bool) (xs : List Expr) (end_ : List Bytes) → settled_split f kind (settled_split f kind split xs end_) (map with_flags xs) end_ ≡ settled_split f kind split xs end_
-same_split row kind split xs end_ = refl
-same_split (sequence opener closer) kind split xs end_ =
+pub same_split : (f : Frame) (kind : Kind) (split : Bool) (xs : List Expr) (end : List Bytes) → settled_split f kind (settled_split f kind split xs end) (map with_flags xs) end ≡ settled_split f kind split xs end
+same_split row kind split xs end = refl
+same_split (sequence opener closer) kind split xs end =
     rw (same_comments xs, same_length xs, same_has_named xs, same_empty xs)
-    (settled (has_comments xs) (not (is_empty end_)) (nat_le 2 (length xs) && (is_listed kind || (is_call kind && has_named xs))) split (not (is_empty xs)))
+    (settled (has_comments xs) (not (is_empty end)) (nat_le 2 (length xs) && (is_listed kind || (is_call kind && has_named xs))) split (not (is_empty xs)))
 
 mutual
   pub flags_settle : Settles with_flags
   flags_settle (Token t) = refl
-  flags_settle (Form' kind s parts s' items end_ split open_ comments) =
-      let flag : Bool = settled_split (frame kind) kind split (items-the_row-Expr _ items) end_ in
-      flags_Form (made kind (each_with_flags parts) (each_with_flags items) end_ flag open_ comments)
-      ∙ (ap (λ z. e.Form (made kind (map with_flags (each_with_flags parts)) (map with_flags (each_with_flags items)) end_ z open_ comments))
-      (ap (λ z. settled_split (frame kind) kind flag z end_) (flags_row _ items) ∙ same_split (frame kind) kind split (items-the_row-Expr _ items) end_)
-      ∙ both (λ p i. e.Form (made kind p i end_ flag open_ comments)) (row_settle _ parts) (row_settle _ items))
+  flags_settle (Form' kind s parts s' items end split open_break comments) =
+      let flag : Bool = settled_split (frame kind) kind split (items-the_row-Expr _ items) end in
+      flags_Form (made kind (each_with_flags parts) (each_with_flags items) end flag open_break comments)
+      ∙ (ap (λ z. e.Form (made kind (map with_flags (each_with_flags parts)) (map with_flags (each_with_flags items)) end z open_break comments))
+      (ap (λ z. settled_split (frame kind) kind flag z end) (flags_row _ items) ∙ same_split (frame kind) kind split (items-the_row-Expr _ items) end)
+      ∙ both (λ p i. e.Form (made kind p i end flag open_break comments)) (row_settle _ parts) (row_settle _ items))
 
   row_settle : (m : _) (r : Row_of-Expr m) → map with_flags (each_with_flags r) ≡ each_with_flags r
   row_settle m end_of-Expr = refl
@@ -133,12 +133,12 @@ rest_fixed x xs h = cc
 mutual
   pub flags_keep_quoted : Keeps with_flags quoted
   flags_keep_quoted (Token t) h = h
-  flags_keep_quoted (Form' kind s parts s' items end_ split open_ comments) h =
-      let flag : Bool = settled_split (frame kind) kind split (items-the_row-Expr _ items) end_ in
-      quoted_Form (made kind (each_with_flags parts) (each_with_flags items) end_ flag open_ comments)
-      ∙ both (λ p i. e.Form (made kind p i end_ flag open_ comments))
-      (row_keep _ parts (sym (parts_quoted (Form' kind s parts s' items end_ split open_ comments)) ∙ ap parts_of h))
-      (row_keep _ items (sym (items_quoted (Form' kind s parts s' items end_ split open_ comments)) ∙ ap items_of h))
+  flags_keep_quoted (Form' kind s parts s' items end split open_break comments) h =
+      let flag : Bool = settled_split (frame kind) kind split (items-the_row-Expr _ items) end in
+      quoted_Form (made kind (each_with_flags parts) (each_with_flags items) end flag open_break comments)
+      ∙ both (λ p i. e.Form (made kind p i end flag open_break comments))
+      (row_keep _ parts (sym (parts_quoted (Form' kind s parts s' items end split open_break comments)) ∙ ap parts_of h))
+      (row_keep _ items (sym (items_quoted (Form' kind s parts s' items end split open_break comments)) ∙ ap items_of h))
 
   row_keep : (m : _) (r : Row_of-Expr m) → map quoted (items-the_row-Expr m r) ≡ items-the_row-Expr m r → map quoted (each_with_flags r) ≡ each_with_flags r
   row_keep m end_of-Expr h = refl

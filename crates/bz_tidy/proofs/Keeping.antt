@@ -1,7 +1,7 @@
 -- Changes that keep what a pass leaves as it is. A pass stays where a later change keeps it: so passes in turn settle.
 use Rattle.std.proofs.Common.{Bool, List, [], ◌∷◌, ◌≡◌, refl, ap, ◌∙◌, map, if◌then◌else◌, inl, inr}
 use Rattle.std.proofs.lemmas.Bool.{cases_Bool}
-use Rattle.bz_rule.specs.Values.{on_first, on_third, behind_first}
+use Rattle.bz_rule.specs.Values.{on_first, on_third, on_rest}
 
 abbrev pub Keeps : {X : Type 0} → (X → X) → (X → X) → Type 0
 Keeps {X} change pass = (x : X) → pass x ≡ x → pass (change x) ≡ change x
@@ -16,13 +16,13 @@ module _ {X : Type 0} where
   pub same_first : (x y : X) (xs ys : List X) → x ∷ xs ≡ y ∷ ys → x ≡ y
   same_first x y xs ys e = cc
 
-  pub same_behind : (x y : X) (xs ys : List X) → x ∷ xs ≡ y ∷ ys → xs ≡ ys
-  same_behind x y xs ys e = cc
+  pub same_after : (x y : X) (xs ys : List X) → x ∷ xs ≡ y ∷ ys → xs ≡ ys
+  same_after x y xs ys e = cc
 
   -- ---- lists
   pub map_keeps : (f p : X → X) → Keeps f p → Keeps (map f) (map p)
   map_keeps f p h [] e = refl
-  map_keeps f p h (x ∷ xs) e = both (λ z zs. z ∷ zs) (h x (same_first (p x) x (map p xs) xs e)) (map_keeps f p h xs (same_behind (p x) x (map p xs) xs e))
+  map_keeps f p h (x ∷ xs) e = both (λ z zs. z ∷ zs) (h x (same_first (p x) x (map p xs) xs e)) (map_keeps f p h xs (same_after (p x) x (map p xs) xs e))
 
   pub map_settles : (p : X → X) → Settles p → Settles (map p)
   map_settles p h [] = refl
@@ -38,7 +38,7 @@ module _ {X : Type 0} where
 
   pub first_keeps_map : (f q : X → X) → Keeps f q → Keeps (on_first f) (map q)
   first_keeps_map f q h [] e = refl
-  first_keeps_map f q h (x ∷ xs) e = both (λ z zs. z ∷ zs) (h x (same_first (q x) x (map q xs) xs e)) (same_behind (q x) x (map q xs) xs e)
+  first_keeps_map f q h (x ∷ xs) e = both (λ z zs. z ∷ zs) (h x (same_first (q x) x (map q xs) xs e)) (same_after (q x) x (map q xs) xs e)
 
   pub map_keeps_first : (q p : X → X) → Keeps q p → Keeps (map q) (on_first p)
   map_keeps_first q p h [] e = refl
@@ -49,7 +49,7 @@ module _ {X : Type 0} where
   third_keeps f p h (x ∷ []) e = refl
   third_keeps f p h (x ∷ y ∷ []) e = refl
   third_keeps f p h (x ∷ y ∷ z ∷ zs) e =
-      ap (λ v. x ∷ y ∷ v ∷ zs) (h z (same_first (p z) z zs zs (same_behind y y (p z ∷ zs) (z ∷ zs) (same_behind x x (y ∷ p z ∷ zs) (y ∷ z ∷ zs) e))))
+      ap (λ v. x ∷ y ∷ v ∷ zs) (h z (same_first (p z) z zs zs (same_after y y (p z ∷ zs) (z ∷ zs) (same_after x x (y ∷ p z ∷ zs) (y ∷ z ∷ zs) e))))
 
   pub third_settles : (p : X → X) → Settles p → Settles (on_third p)
   third_settles p h [] = refl
@@ -62,30 +62,30 @@ module _ {X : Type 0} where
   third_keeps_map f q h (x ∷ []) e = e
   third_keeps_map f q h (x ∷ y ∷ []) e = e
   third_keeps_map f q h (x ∷ y ∷ z ∷ zs) e =
-      let a : map q (y ∷ z ∷ zs) ≡ y ∷ z ∷ zs = same_behind (q x) x (map q (y ∷ z ∷ zs)) (y ∷ z ∷ zs) e in
-      let b : map q (z ∷ zs) ≡ z ∷ zs = same_behind (q y) y (map q (z ∷ zs)) (z ∷ zs) a in
+      let a : map q (y ∷ z ∷ zs) ≡ y ∷ z ∷ zs = same_after (q x) x (map q (y ∷ z ∷ zs)) (y ∷ z ∷ zs) e in
+      let b : map q (z ∷ zs) ≡ z ∷ zs = same_after (q y) y (map q (z ∷ zs)) (z ∷ zs) a in
       both (λ v vs. v ∷ vs) (same_first (q x) x (map q (y ∷ z ∷ zs)) (y ∷ z ∷ zs) e)
       (both (λ v vs. v ∷ vs) (same_first (q y) y (map q (z ∷ zs)) (z ∷ zs) a)
-      (both (λ v vs. v ∷ vs) (h z (same_first (q z) z (map q zs) zs b)) (same_behind (q z) z (map q zs) zs b)))
+      (both (λ v vs. v ∷ vs) (h z (same_first (q z) z (map q zs) zs b)) (same_after (q z) z (map q zs) zs b)))
 
   pub map_keeps_third : (q p : X → X) → Keeps q p → Keeps (map q) (on_third p)
   map_keeps_third q p h [] e = refl
   map_keeps_third q p h (x ∷ []) e = refl
   map_keeps_third q p h (x ∷ y ∷ []) e = refl
   map_keeps_third q p h (x ∷ y ∷ z ∷ zs) e =
-      ap (λ v. q x ∷ q y ∷ v ∷ map q zs) (h z (same_first (p z) z zs zs (same_behind y y (p z ∷ zs) (z ∷ zs) (same_behind x x (y ∷ p z ∷ zs) (y ∷ z ∷ zs) e))))
+      ap (λ v. q x ∷ q y ∷ v ∷ map q zs) (h z (same_first (p z) z zs zs (same_after y y (p z ∷ zs) (z ∷ zs) (same_after x x (y ∷ p z ∷ zs) (y ∷ z ∷ zs) e))))
 
-  pub behind_settles : (g : List X → List X) → Settles g → Settles (behind_first g)
-  behind_settles g h [] = refl
-  behind_settles g h (x ∷ xs) = ap (λ z. x ∷ z) (h xs)
+  pub after_settles : (g : List X → List X) → Settles g → Settles (on_rest g)
+  after_settles g h [] = refl
+  after_settles g h (x ∷ xs) = ap (λ z. x ∷ z) (h xs)
 
-  pub behind_keeps_map : (g : List X → List X) (q : X → X) → Keeps g (map q) → Keeps (behind_first g) (map q)
-  behind_keeps_map g q h [] e = refl
-  behind_keeps_map g q h (x ∷ xs) e = both (λ z zs. z ∷ zs) (same_first (q x) x (map q xs) xs e) (h xs (same_behind (q x) x (map q xs) xs e))
+  pub after_keeps_map : (g : List X → List X) (q : X → X) → Keeps g (map q) → Keeps (on_rest g) (map q)
+  after_keeps_map g q h [] e = refl
+  after_keeps_map g q h (x ∷ xs) e = both (λ z zs. z ∷ zs) (same_first (q x) x (map q xs) xs e) (h xs (same_after (q x) x (map q xs) xs e))
 
-  pub map_keeps_behind : (q : X → X) (g : List X → List X) → Keeps (map q) g → Keeps (map q) (behind_first g)
-  map_keeps_behind q g h [] e = refl
-  map_keeps_behind q g h (x ∷ xs) e = ap (λ z. q x ∷ z) (h xs (same_behind x x (g xs) xs e))
+  pub map_keeps_after : (q : X → X) (g : List X → List X) → Keeps (map q) g → Keeps (map q) (on_rest g)
+  map_keeps_after q g h [] e = refl
+  map_keeps_after q g h (x ∷ xs) e = ap (λ z. q x ∷ z) (h xs (same_after x x (g xs) xs e))
 
   -- ---- by a test
   pub test_keeps : (t : X → Bool) (f g p r : X → X) → ((x : X) → t (f x) ≡ t x) → ((x : X) → t (g x) ≡ t x) → Keeps f p → Keeps g r → Keeps (λ x. if t x then f x else g x) (λ x. if t x then p x else r x)

@@ -25,7 +25,7 @@ use Rattle.bz_rule.specs.QuoteMarks.{between}
 use Rattle.bz_tidy.specs.Marks.{keep_marks, other_comments}
 use Rattle.bz_tidy.specs.Lists.{above_first, has_above, is_taken, precedes, has_no_comment, without_repeats, in_order, without_marks, marked_by, sorted, settled_list}
 use Rattle.bz_tidy.specs.Sorted.{is_passed}
-use Rattle.bz_tidy.proofs.Keeping.{Keeps, Settles, both, same_first, same_behind}
+use Rattle.bz_tidy.proofs.Keeping.{Keeps, Settles, both, same_first, same_after}
 use Rattle.bz_tidy.proofs.Sorting.{sort_all, Ordered, Starts, ordered_stays, sort_ordered, sort_map}
 
 pub order : IsStrictWeakOrder precedes
@@ -119,7 +119,7 @@ fine_stays (x ∷ xs) f = rw (none_precedes x xs f.rising.0) (fine_in_order (x �
 
 pub text_above : (a : List Bytes) (x : Expr) → text_of (with_above a x) ≡ text_of x
 text_above a (Token t) = refl
-text_above a (Form' own s parts s' items end_ split open_ comments) = refl
+text_above a (Form' own s parts s' items end split open_break comments) = refl
 
 after_above : (a : List Bytes) (x : Expr) (xs : List Expr) → After x xs → After (with_above a x) xs
 after_above a x [] h = tt
@@ -149,8 +149,8 @@ Climbs [] = Unit {0}
 Climbs (x ∷ []) = Unit {0}
 Climbs (x ∷ y ∷ ys) = (precedes x y ≡ true) × Climbs (y ∷ ys)
 
-one_behind : (k : ℕ) → suc k + 1 ≡ suc (k + 1)
-one_behind k = omega arith
+one_after : (k : ℕ) → suc k + 1 ≡ suc (k + 1)
+one_after k = omega arith
 
 climbs : (xs : List Expr) → AllAdjacentBelow (λ x y. true ≡ precedes x y) xs (length xs) → Climbs xs
 climbs [] h = tt
@@ -158,7 +158,7 @@ climbs (x ∷ []) h = tt
 climbs (x ∷ y ∷ ys) h = (
   sym (h 0 x (omega arith)),
   climbs (y ∷ ys) (λ k d l.
-      subst (λ i. true ≡ precedes (get_or (y ∷ ys) k d) (get_or (x ∷ y ∷ ys) i d)) (one_behind k) (h (suc k) d (omega arith))),
+      subst (λ i. true ≡ precedes (get_or (y ∷ ys) k d) (get_or (x ∷ y ∷ ys) i d)) (one_after k) (h (suc k) d (omega arith))),
 )
 
 climbs_ordered : (xs : List Expr) → Climbs xs → Ordered precedes xs
@@ -228,7 +228,7 @@ rising_settled outside b xs h = elim (cases_Bool (is_taken outside b xs)) [
 
 own_above : (x : Expr) → with_above (above x) x ≡ x
 own_above (Token t) = refl
-own_above (Form' kind s parts s' items end_ split open_ comments) = refl
+own_above (Form' kind s parts s' items end split open_break comments) = refl
 
 marked_by_none : (xs : List Expr) → marked_by [] xs ≡ xs
 marked_by_none [] = refl
@@ -284,7 +284,7 @@ module _ (P : Expr → Type 0) (anyway : (a : List Bytes) (x : Expr) → P x →
 
 each_fixed : (p : Expr → Expr) (xs : List Expr) → map p xs ≡ xs → AllByRecursion (λ x. p x ≡ x) xs
 each_fixed p [] e = tt
-each_fixed p (x ∷ xs) e = (same_first (p x) x (map p xs) xs e, each_fixed p xs (same_behind (p x) x (map p xs) xs e))
+each_fixed p (x ∷ xs) e = (same_first (p x) x (map p xs) xs e, each_fixed p xs (same_after (p x) x (map p xs) xs e))
 
 fixed_each : (p : Expr → Expr) (xs : List Expr) → AllByRecursion (λ x. p x ≡ x) xs → map p xs ≡ xs
 fixed_each p [] h = refl

@@ -43,14 +43,14 @@ none_before x (y ∷ ys) h = let h' = or_parts (precedes y x) (list_any (λ z. p
 -- where one precedes an item, the first one does
 record FirstBefore (x : Expr) (ys : List Expr) : Type 0 where
   first : Expr
-  behind : List Expr
-  is : ys ≡ first ∷ behind
+  following : List Expr
+  is : ys ≡ first ∷ following
   precede : precedes first x ≡ true
 
 first_before : (x : Expr) (ys : List Expr) → Rises ys → list_any (λ y. precedes y x) ys ≡ true → FirstBefore x ys
 first_before x [] r h = absurd (true≢false (sym h))
 first_before x (y ∷ ys) r h = elim (cases_Bool (precedes y x)) [
-  | inl t ↦ record { first = y; behind = ys; is = refl; precede = t }
+  | inl t ↦ record { first = y; following = ys; is = refl; precede = t }
   | inr f ↦ absurd (true≢false (sym h ∙ or_from (precedes y x) (list_any (λ z. precedes z x) ys) f (none_precedes x ys (after_too y x ys f r.0))))
 ]
 
@@ -137,15 +137,15 @@ pub marks_move : (x : Expr) (xs : List Expr) → MovesMarks x xs
 marks_move x xs = elim (cases_Bool (list_any (λ y. precedes y x) xs)) [
   | inl t ↦
       let b : FirstBefore x (sort_by precedes xs) = first_before x (sort_by precedes xs) (rises (sort_by precedes xs) (sort_ordered precedes order.one_way xs)) (any_sort (λ y. precedes y x) xs ∙ t) in
-      let p : Placed x (text_of b.first ∷ []) b.behind = placed x (text_of b.first ∷ []) b.behind (or_from (bytes_eq (text_of x) (text_of b.first)) false (differs b.first x b.precede) refl) in
+      let p : Placed x (text_of b.first ∷ []) b.following = placed x (text_of b.first ∷ []) b.following (or_from (bytes_eq (text_of x) (text_of b.first)) false (differs b.first x b.precede) refl) in
       record {
         front = b.first ∷ p.front;
         rest = p.rest;
-        placed = one_stays x b.first xs b.behind b.is b.precede ∙ ap (λ zs. b.first ∷ zs) p.marked;
+        placed = one_stays x b.first xs b.following b.is b.precede ∙ ap (λ zs. b.first ∷ zs) p.marked;
         before = and_from (precedes b.first x) (list_all (λ z. precedes z x) p.front) b.precede p.before;
         moved =
             gives_marks x xs t
-            ∙ ap (marked_by (keep_marks (above x))) (one_stays (without_marks x) b.first xs b.behind b.is (same_before b.first x ∙ b.precede) ∙ ap (λ zs. b.first ∷ zs) p.bare);
+            ∙ ap (marked_by (keep_marks (above x))) (one_stays (without_marks x) b.first xs b.following b.is (same_before b.first x ∙ b.precede) ∙ ap (λ zs. b.first ∷ zs) p.bare);
       }
   | inr f ↦ record {
     front = [];

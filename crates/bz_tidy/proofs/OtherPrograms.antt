@@ -8,7 +8,7 @@ use Rattle.bz_value.specs.declared.value.Item.{Item}
 use Rattle.bz_token.specs.declared.class.Class.TheVariants as c
 use Rattle.bz_value.specs.Comments.{no_comments}
 use Rattle.bz_items.specs.Characters.{Bytes}
-use Rattle.bz_rule.specs.Values.{behind_first, items_of, on_items, parts_of, text_of}
+use Rattle.bz_rule.specs.Values.{on_rest, items_of, on_items, parts_of, text_of}
 use Rattle.bz_tree.specs.declared.kind.Kind.TheVariants as k
 use Rattle.bz_tidy.specs.Orders.{sort_by}
 use Rattle.bz_tidy.specs.Passes.{argument_precedes, arguments_in, loads, on_rule_arguments, on_taken, symbol_precedes, symbols_in}
@@ -27,14 +27,14 @@ unmoved before after h quoted labels lists arguments symbols own =
     let sorts : h.arguments.change ≡ sort_by argument_precedes = fun_ext (λ xs. (sorting_is_the_one.2 xs (h.arguments.change xs)).0 (h.arguments.each xs)) in
     let arranged : h.arranged ≡ before = h.arguments.same ∙ ap (λ g. on_taken (on_rule_arguments (λ kind. g)) h.listed) sorts ∙ ap (on_taken arguments_in) listed ∙ arguments in
     let names : h.symbols.change ≡ sort_by symbol_precedes = fun_ext (λ xs. (sorting_is_the_one.1 xs (h.symbols.change xs)).0 (h.symbols.each xs)) in
-    let named : h.named ≡ before = h.symbols.same ∙ ap (λ g. on_taken (on_items k.Load (behind_first g)) h.arranged) names ∙ ap (on_taken symbols_in) arranged ∙ symbols in
+    let named : h.named ≡ before = h.symbols.same ∙ ap (λ g. on_taken (on_items k.Load (on_rest g)) h.arranged) names ∙ ap (on_taken symbols_in) arranged ∙ symbols in
     let loaded : h.loaded ≡ before = (sorting_is_the_one.3 h.named h.loaded).0 h.loads ∙ ap loads named ∙ own in
     h.flags ∙ ap program loaded
 
 -- ---- the texts of one argument
 
 abbrev first_of : List Expr → Expr
-first_of [] = e.Token (record { class = c.Name; text = []; break_ = false; comments = no_comments })
+first_of [] = e.Token (record { class = c.Name; text = []; line_break = false; comments = no_comments })
 first_of (x ∷ xs) = x
 
 abbrev third_of : List Expr → Expr
@@ -55,17 +55,17 @@ byte_at_first : Bytes → ℕ
 byte_at_first [] = 0
 byte_at_first (x ∷ xs) = x
 
-byte_behind : Bytes → ℕ
-byte_behind [] = 0
-byte_behind (x ∷ xs) = byte_at_first xs
+byte_after : Bytes → ℕ
+byte_after [] = 0
+byte_after (x ∷ xs) = byte_at_first xs
 
 pub other_name : codes "b" ≡ codes "a" → ⊥
 unfolding byte_at_first
 other_name h = let differ : ◌≡◌ {A = ℕ} 98 97 = ap byte_at_first h in absurd (omega arith)
 
 pub other_body : codes "\"b\"" ≡ codes "\"a\"" → ⊥
-unfolding byte_behind byte_at_first
-other_body h = let differ : ◌≡◌ {A = ℕ} 98 97 = ap byte_behind h in absurd (omega arith)
+unfolding byte_after byte_at_first
+other_body h = let differ : ◌≡◌ {A = ℕ} 98 97 = ap byte_after h in absurd (omega arith)
 
 -- ---- a string in double quote marks stays
 

@@ -18,7 +18,7 @@ use Rattle.bz_tidy.proofs.RuleKinds.{same_kind}
 
 pub differ : (a b : Kind) → nat_eq (kind_number a) (kind_number b) ≡ false → (x : Expr) → has_kind a x ≡ true → has_kind b x ≡ false
 differ a b d (Token t) h = refl
-differ a b d (Form' own s parts s' items end_ split open_ comments) h = ap (λ n. nat_eq n (kind_number b)) (exact_unsigned_eq (kind_number own) (kind_number a) h) ∙ d
+differ a b d (Form' own s parts s' items end split open_break comments) h = ap (λ n. nat_eq n (kind_number b)) (exact_unsigned_eq (kind_number own) (kind_number a) h) ∙ d
 
 -- ---- in the calls of rules
 

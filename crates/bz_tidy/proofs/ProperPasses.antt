@@ -61,8 +61,8 @@ mutual
     | inl w ↦ rw w (string_in_place (with_double t.text) (Token t) w (double_string t.text))
     | inr w ↦ rw w (itself (Token t))
   ]
-  quoted_stays (Form' kind s parts s' items end_ split open_ comments) =
-      lists_in_place (each_quoted parts) (each_quoted items) (Form' kind s parts s' items end_ split open_ comments) (each_quoted_stays _ parts) (each_quoted_stays _ items)
+  quoted_stays (Form' kind s parts s' items end split open_break comments) =
+      lists_in_place (each_quoted parts) (each_quoted items) (Form' kind s parts s' items end split open_break comments) (each_quoted_stays _ parts) (each_quoted_stays _ items)
 
   each_quoted_stays : (m : _) (r : Row_of-Expr m) → EachInPlace (items-the_row-Expr m r) (each_quoted r)
   each_quoted_stays m end_of-Expr = none

@@ -3,7 +3,7 @@ use Rattle.std.proofs.Common.{Bool, not, List, [], ◌∷◌, ◌++◌}
 use Rattle.std.specs.Prelude.{All}
 use Rattle.std.specs.List.{AllByRecursion, filter, list_any}
 use Rattle.std.proofs.lemmas.List.Elements.{All-from_recursion, recursion_from_All, All-append}
-use Rattle.bz_tree.specs.Shapes.{Sort}
+use Rattle.bz_tree.specs.Shapes.{Nonterminal}
 use Rattle.bz_value.specs.declared.value.Expr.{Expr, Token, Form'}
 use Rattle.bz_value.specs.Comments.{HostComments}
 use Rattle.bz_value.specs.Commented.{with_comments}
@@ -29,26 +29,26 @@ all_in_order : (P : Expr → Type 0) (xs : List Expr) → AllByRecursion P xs �
 all_in_order P xs h = unrepeated_all P [] (sort_by precedes xs) (sort_all precedes P xs h)
 
 -- an item with other comments
-with_item : (sort : Sort) (x : Expr) (comments : HostComments) → AreComments comments → IsItem sort x → IsItem sort (with_comments x comments)
-with_item sort (Token t) comments c h = ((h.0.0, c, h.0.2), h.1)
-with_item sort (Form' kind s parts s' items end_ split open_ old) comments c h = ((h.0.0, c, h.0.2), h.1)
+with_item : (nonterminal : Nonterminal) (x : Expr) (comments : HostComments) → AreComments comments → IsItem nonterminal x → IsItem nonterminal (with_comments x comments)
+with_item nonterminal (Token t) comments c h = ((h.0.0, c, h.0.2), h.1)
+with_item nonterminal (Form' kind s parts s' items end split open_break old) comments c h = ((h.0.0, c, h.0.2), h.1)
 
-above_item : (sort : Sort) (x : Expr) (comments : List Bytes) → All IsComment comments → IsItem sort x → IsItem sort (with_above comments x)
-above_item sort x comments c h = with_item sort x (record (comments_of x) { before = comments }) (c, h.0.1.1) h
+above_item : (nonterminal : Nonterminal) (x : Expr) (comments : List Bytes) → All IsComment comments → IsItem nonterminal x → IsItem nonterminal (with_above comments x)
+above_item nonterminal x comments c h = with_item nonterminal x (record (comments_of x) { before = comments }) (c, h.0.1.1) h
 
-unmarked_item : (sort : Sort) (x : Expr) → IsItem sort x → IsItem sort (without_marks x)
-unmarked_item sort x h = above_item sort x (other_comments (above x)) (some_filtered IsComment (λ c. not (is_marked keep_sorted c)) (above x) h.0.1.0) h
+unmarked_item : (nonterminal : Nonterminal) (x : Expr) → IsItem nonterminal x → IsItem nonterminal (without_marks x)
+unmarked_item nonterminal x h = above_item nonterminal x (other_comments (above x)) (some_filtered IsComment (λ c. not (is_marked keep_sorted c)) (above x) h.0.1.0) h
 
-marked_items : (sort : Sort) (marks : List Bytes) (xs : List Expr) → All IsComment marks → AreOf sort xs → AreOf sort (marked_by marks xs)
-marked_items sort marks [] c h = tt
-marked_items sort marks (x ∷ xs) c h = (above_item sort x (marks ++ above x) (All-append IsComment marks (above x) c h.0.0.1.0) h.0, h.1)
+marked_items : (nonterminal : Nonterminal) (marks : List Bytes) (xs : List Expr) → All IsComment marks → AreOf nonterminal xs → AreOf nonterminal (marked_by marks xs)
+marked_items nonterminal marks [] c h = tt
+marked_items nonterminal marks (x ∷ xs) c h = (above_item nonterminal x (marks ++ above x) (All-append IsComment marks (above x) c h.0.0.1.0) h.0, h.1)
 
-sorted_items : (sort : Sort) → Keeps sort sorted
-sorted_items sort [] h = tt
-sorted_items sort (x ∷ xs) h =
-    by_test (AreOf sort) (list_any (λ y. precedes y x) xs) (marked_by (keep_marks (above x)) (in_order (without_marks x ∷ xs))) (in_order (x ∷ xs))
-    (marked_items sort (keep_marks (above x)) (in_order (without_marks x ∷ xs)) (some_filtered IsComment (is_marked keep_sorted) (above x) h.0.0.1.0) (all_in_order (IsItem sort) (without_marks x ∷ xs) (unmarked_item sort x h.0, h.1)))
-    (all_in_order (IsItem sort) (x ∷ xs) h)
+sorted_items : (nonterminal : Nonterminal) → Keeps nonterminal sorted
+sorted_items nonterminal [] h = tt
+sorted_items nonterminal (x ∷ xs) h =
+    by_test (AreOf nonterminal) (list_any (λ y. precedes y x) xs) (marked_by (keep_marks (above x)) (in_order (without_marks x ∷ xs))) (in_order (x ∷ xs))
+    (marked_items nonterminal (keep_marks (above x)) (in_order (without_marks x ∷ xs)) (some_filtered IsComment (is_marked keep_sorted) (above x) h.0.0.1.0) (all_in_order (IsItem nonterminal) (without_marks x ∷ xs) (unmarked_item nonterminal x h.0, h.1)))
+    (all_in_order (IsItem nonterminal) (x ∷ xs) h)
 
-pub settled_items : (sort : Sort) (outside : List Bytes) (by_table : Bool) → Keeps sort (settled_list outside by_table)
-settled_items sort outside by_table xs h = by_test (AreOf sort) (is_taken outside by_table xs) (sorted xs) xs (sorted_items sort xs h) h
+pub settled_items : (nonterminal : Nonterminal) (outside : List Bytes) (by_table : Bool) → Keeps nonterminal (settled_list outside by_table)
+settled_items nonterminal outside by_table xs h = by_test (AreOf nonterminal) (is_taken outside by_table xs) (sorted xs) xs (sorted_items nonterminal xs h) h

@@ -13,7 +13,7 @@ use Rattle.std.proofs.lemmas.Str.{IsUtf8-append, IsUtf8-from_ascii, IsUtf8-take,
 use Rattle.bz_token.specs.Bytes.{is_quote}
 use Rattle.bz_token.specs.Lexemes.{IsShort, short_end, short_plain, short_taken, short_line, IsLong, long_end, long_plain, IsQuoted, single, triple, is_prefix}
 use Rattle.bz_label.specs.Pieces.{is_colon}
-use Rattle.bz_label.specs.Shorter.{before_colon, behind_colon, is_repeated, unrepeated}
+use Rattle.bz_label.specs.Shorter.{before_colon, after_colon, is_repeated, unrepeated}
 use Rattle.bz_items.specs.Characters.{Bytes, apostrophe, backslash, quotation_mark}
 use Rattle.bz_rule.specs.Rules.{inner, is_plain_in}
 use Rattle.bz_tidy.specs.Strings.{has_character, begins_single, in_double, with_double, shorter_string}
@@ -27,8 +27,8 @@ cut_before front c rest l u =
     let seam = IsCharBoundary-before_ascii (front ++ c ∷ rest) (length front) (omega (arith, length-append front (c ∷ rest))) (omega (arith, get_or-append_seam front c rest 0)) in
     subst IsUtf8 (take_at front (c ∷ rest) (length front) refl) (IsUtf8-take (front ++ c ∷ rest) (length front) u seam)
 
-behind_first : (c : ℕ) (s : Bytes) → c < 128 → IsUtf8 (c ∷ s) → IsUtf8 s
-behind_first c s l u = IsUtf8-drop (c ∷ s) 1 u (IsCharBoundary-after_ascii (c ∷ s) 0 u (omega arith) l)
+after_first : (c : ℕ) (s : Bytes) → c < 128 → IsUtf8 (c ∷ s) → IsUtf8 s
+after_first c s l u = IsUtf8-drop (c ∷ s) 1 u (IsCharBoundary-after_ascii (c ∷ s) 0 u (omega arith) l)
 
 ascii_at : (c : ℕ) → c < 128 → (i : ℕ) → get_or (c ∷ []) i 0 < 128
 ascii_at c h zero = h
@@ -39,10 +39,10 @@ ascii_text c l = IsUtf8-from_ascii (c ∷ []) (ascii_at c l)
 
 -- what is between ASCII bytes
 core_once : (m : ℕ) (s : Bytes) → m < 128 → IsUtf8 (m ∷ (s ++ m ∷ [])) → IsUtf8 s
-core_once m s l u = cut_before s m [] l (behind_first m (s ++ m ∷ []) l u)
+core_once m s l u = cut_before s m [] l (after_first m (s ++ m ∷ []) l u)
 
 core_thrice : (m : ℕ) (s : Bytes) → m < 128 → IsUtf8 (m ∷ m ∷ m ∷ (s ++ m ∷ m ∷ m ∷ [])) → IsUtf8 s
-core_thrice m s l u = cut_before s m (m ∷ m ∷ []) l (behind_first m _ l (behind_first m _ l (behind_first m _ l u)))
+core_thrice m s l u = cut_before s m (m ∷ m ∷ []) l (after_first m _ l (after_first m _ l (after_first m _ l u)))
 
 within_marks : (m s : Bytes) → IsUtf8 m → IsUtf8 s → IsUtf8 (m ++ (s ++ m))
 within_marks m s h i = IsUtf8-append m (s ++ m) h (IsUtf8-append s m i h)
@@ -182,7 +182,7 @@ abbrev Body : ℕ → Bytes → Type 0
 Body m s = IsShort m s × IsUtf8 s
 
 shorter_body : (m : ℕ) (b : Bytes) → list_any (is_barred m) b ≡ false → Body m b → Body m (unrepeated b)
-shorter_body m b f h = elim (cases_Bool (is_repeated (before_colon b) (behind_colon b))) [
+shorter_body m b f h = elim (cases_Bool (is_repeated (before_colon b) (after_colon b))) [
   | inl w ↦ rw w (short_front m b f h.0, coded_front [] b h.1)
   | inr w ↦ rw w h
 ]
@@ -198,12 +198,12 @@ same_first : (c d : ℕ) (s t : Bytes) → c ∷ s ≡ d ∷ t → c ≡ d
 unfolding first_byte
 same_first c d s t e = ap first_byte e
 
-same_behind : (c d : ℕ) (s t : Bytes) → c ∷ s ≡ d ∷ t → s ≡ t
-same_behind c d s t e = ap (drop 1) e
+same_after : (c d : ℕ) (s t : Bytes) → c ∷ s ≡ d ∷ t → s ≡ t
+same_after c d s t e = ap (drop 1) e
 
 -- a body that is not empty does not begin with its mark
 begins_free : (m k : ℕ) (s b : Bytes) → k ≡ m → k ∷ s ≡ b ++ m ∷ [] → list_any (is_barred m) b ≡ false → s ≡ []
-begins_free m k s [] a e f = same_behind k m s [] e
+begins_free m k s [] a e f = same_after k m s [] e
 begins_free m k s (c ∷ b) a e f =
     let c_is : c ≡ m = sym (same_first k c s (b ++ m ∷ []) e) ∙ a in
     let other : nat_eq c m ≡ false = (or_parts (nat_eq c m) (nat_eq c backslash) (or_parts (is_barred m c) (list_any (is_barred m) b) f).0).0 in
@@ -215,12 +215,12 @@ never_empty c s e = let n : suc (length s) ≡ 0 = ap length e in absurd (omega 
 body_short : (m : ℕ) (q b : Bytes) → q ≡ m ∷ (b ++ m ∷ []) → list_any (is_barred m) b ≡ false → IsQuoted q → IsShort m b
 body_short m q b e f (single k r a i) =
     let k_is : k ≡ m = same_first k m (r ++ k ∷ []) (b ++ m ∷ []) e in
-    let rest : r ++ k ∷ [] ≡ b ++ m ∷ [] = same_behind k m (r ++ k ∷ []) (b ++ m ∷ []) e in
+    let rest : r ++ k ∷ [] ≡ b ++ m ∷ [] = same_after k m (r ++ k ∷ []) (b ++ m ∷ []) e in
     let same : r ≡ b = append_cancel_right r b (m ∷ []) (ap (λ z. r ++ z ∷ []) (sym k_is) ∙ rest) in
     subst (λ z. IsShort m z) same (subst (λ z. IsShort z r) k_is i)
 body_short m q b e f (triple k r a i) =
     let k_is : k ≡ m = same_first k m (k ∷ k ∷ (r ++ k ∷ k ∷ k ∷ [])) (b ++ m ∷ []) e in
-    let rest : k ∷ k ∷ (r ++ k ∷ k ∷ k ∷ []) ≡ b ++ m ∷ [] = same_behind k m (k ∷ k ∷ (r ++ k ∷ k ∷ k ∷ [])) (b ++ m ∷ []) e in
+    let rest : k ∷ k ∷ (r ++ k ∷ k ∷ k ∷ []) ≡ b ++ m ∷ [] = same_after k m (k ∷ k ∷ (r ++ k ∷ k ∷ k ∷ [])) (b ++ m ∷ []) e in
     absurd (never_empty k (r ++ k ∷ k ∷ k ∷ []) (begins_free m k (k ∷ (r ++ k ∷ k ∷ k ∷ [])) b k_is rest f))
 
 prefix_free : (p q s : Bytes) (m : ℕ) → m ∷ s ≡ p ++ q → is_quote m ≡ true → is_prefix p ≡ true → p ≡ []

@@ -15,13 +15,13 @@ use Rattle.bz_tidy.proofs.Parts.{made}
 
 same_text : (x : Expr) → text_in c.Name (with_flags x) ≡ text_in c.Name x
 same_text (Token t) = refl
-same_text (Form' kind s parts s' items end_ split open_ comments) = refl
+same_text (Form' kind s parts s' items end split open_break comments) = refl
 
 mutual
   same_name : (x : Expr) → dotted_name (with_flags x) ≡ dotted_name x
   same_name (Token t) = refl
-  same_name (Form' kind s parts s' items end_ split open_ comments) =
-      dotted_name_Form (made kind (each_with_flags parts) (each_with_flags items) end_ (settled_split (frame kind) kind split (items-the_row-Expr _ items) end_) open_ comments)
+  same_name (Form' kind s parts s' items end split open_break comments) =
+      dotted_name_Form (made kind (each_with_flags parts) (each_with_flags items) end (settled_split (frame kind) kind split (items-the_row-Expr _ items) end) open_break comments)
       ∙ ap (λ z. if nat_eq (kind_number kind) (kind_number k.Dot) then z else None) (same_joined _ parts)
 
   same_joined : (m : _) (r : Row_of-Expr m) → joined (each_named (each_with_flags r)) ≡ joined (with_names r)

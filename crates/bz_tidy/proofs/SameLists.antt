@@ -52,9 +52,9 @@ moved earlier t ss u (inl (inl e)) = inr (inl e)
 moved earlier t ss u (inl (inr i)) = inl i
 moved earlier t ss u (inr i) = inr (inr i)
 
-behind_kept : (earlier : List Bytes) (t : Bytes) (ss gone : List Bytes) → AllByRecursion (λ u. In (t ∷ earlier) u ⊎ In ss u) gone → AllByRecursion (λ u. In earlier u ⊎ In (t ∷ ss) u) gone
-behind_kept earlier t ss [] h = tt
-behind_kept earlier t ss (u ∷ us) h = (moved earlier t ss u h.0, behind_kept earlier t ss us h.1)
+after_kept : (earlier : List Bytes) (t : Bytes) (ss gone : List Bytes) → AllByRecursion (λ u. In (t ∷ earlier) u ⊎ In ss u) gone → AllByRecursion (λ u. In earlier u ⊎ In (t ∷ ss) u) gone
+after_kept earlier t ss [] h = tt
+after_kept earlier t ss (u ∷ us) h = (moved earlier t ss u h.0, after_kept earlier t ss us h.1)
 
 dropped : (earlier : List Bytes) (x : Expr) (xs ys : List Expr) → In earlier (text_of x) → Leaves earlier xs ys → Leaves earlier (x ∷ xs) ys
 dropped earlier x xs ys i l = record {
@@ -69,7 +69,7 @@ kept : (earlier : List Bytes) (x : Expr) (xs ys : List Expr) → Leaves (text_of
 kept earlier x xs ys l = record {
   gone = l.gone;
   same = IsPermutation-cons (text_of x) (texts xs) (texts ys ++ l.gone) l.same;
-  repeats = behind_kept earlier (text_of x) (texts ys) l.gone l.repeats;
+  repeats = after_kept earlier (text_of x) (texts ys) l.gone l.repeats;
 }
 
 unrepeated_leaves : (earlier : List Bytes) (xs : List Expr) → Leaves earlier xs (without_repeats earlier xs)
@@ -123,7 +123,7 @@ IsText x = has_class c.String x ≡ true
 
 pub class_above : (a : List Bytes) (x : Expr) → IsText x → IsText (with_above a x)
 class_above a (Token t) h = h
-class_above a (Form' kind s parts s' items end_ split open_ comments) h = h
+class_above a (Form' kind s parts s' items end split open_break comments) h = h
 
 pub all_texts : (xs : List Expr) → list_all (has_class c.String) xs ≡ true → AllByRecursion IsText xs
 all_texts [] h = tt

@@ -21,8 +21,8 @@ use Rattle.bz_tidy.proofs.TheOne.{sorting_is_the_one}
 mutual
   quoted_strings : (x : Expr) → quoted x ≡ on_strings with_double x
   quoted_strings (Token t) = refl
-  quoted_strings (Form' kind s parts s' items end_ split open_ comments) =
-      both (λ p i. e.Form (record { kind = kind; parts = p; seq = record { items = i; end_ = end_; split = split }; open_ = open_; comments = comments })) (each_strings _ parts) (each_strings _ items)
+  quoted_strings (Form' kind s parts s' items end split open_break comments) =
+      both (λ p i. e.Form (record { kind = kind; parts = p; seq = record { items = i; end = end; split = split }; open_break = open_break; comments = comments })) (each_strings _ parts) (each_strings _ items)
 
   each_strings : (m : _) (r : Row_of-Expr m) → each_quoted r ≡ each_on_strings with_double r
   each_strings m end_of-Expr = refl

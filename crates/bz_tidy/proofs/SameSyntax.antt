@@ -10,7 +10,7 @@ use Rattle.bz_value.specs.Frames.{frame}
 use Rattle.bz_write.specs.Flags.{settled_split, with_flags, each_with_flags, flags}
 use Rattle.bz_tidy.specs.Syntax.{syntax_of, each_syntax, program}
 use Rattle.bz_tidy.proofs.Keeping.{both}
-use Rattle.bz_tidy.proofs.Parts.{made, parts_behind, items_behind, parts_are, items_are}
+use Rattle.bz_tidy.proofs.Parts.{made, parts_after, items_after, parts_are, items_are}
 
 syntax_row : (m : _) (r : Row_of-Expr m) → each_syntax r ≡ map syntax_of (items-the_row-Expr m r)
 syntax_row m end_of-Expr = refl
@@ -19,14 +19,14 @@ syntax_row m (more_of-Expr x rest) = ap (λ z. syntax_of x ∷ z) (syntax_row _ 
 pub syntax_Form : (f : Form) → syntax_of (e.Form f) ≡ e.Form (made f.kind (map syntax_of f.parts) (map syntax_of f.seq.items) [] false false no_comments)
 syntax_Form f =
     both (λ p i. e.Form (made f.kind p i [] false false no_comments))
-    (syntax_row _ (parts_behind (e.Form f)).1 ∙ ap (map syntax_of) (parts_are f))
-    (syntax_row _ (items_behind (e.Form f)).1 ∙ ap (map syntax_of) (items_are f))
+    (syntax_row _ (parts_after (e.Form f)).1 ∙ ap (map syntax_of) (parts_are f))
+    (syntax_row _ (items_after (e.Form f)).1 ∙ ap (map syntax_of) (items_are f))
 
 mutual
   pub flags_syntax : (x : Expr) → syntax_of (with_flags x) ≡ syntax_of x
   flags_syntax (Token t) = refl
-  flags_syntax (Form' kind s parts s' items end_ split open_ comments) =
-      syntax_Form (made kind (each_with_flags parts) (each_with_flags items) end_ (settled_split (frame kind) kind split (items-the_row-Expr _ items) end_) open_ comments)
+  flags_syntax (Form' kind s parts s' items end split open_break comments) =
+      syntax_Form (made kind (each_with_flags parts) (each_with_flags items) end (settled_split (frame kind) kind split (items-the_row-Expr _ items) end) open_break comments)
       ∙ both (λ p i. e.Form (made kind p i [] false false no_comments)) (row_syntax _ parts) (row_syntax _ items)
 
   row_syntax : (m : _) (r : Row_of-Expr m) → map syntax_of (each_with_flags r) ≡ each_syntax r

@@ -15,14 +15,14 @@ use Rattle.bz_value.specs.declared.value.Item.TheVariants as i
 use Rattle.bz_items.specs.Characters.{Bytes}
 use Rattle.bz_value.specs.Empty.{is_empty}
 use Rattle.bz_write.specs.Flags.{with_flags, item_with_flags, flags}
-use Rattle.bz_rule.specs.Values.{has_kind, text_of, parts_of, items_of, above, with_parts, on_first, on_third, behind_first, first_text, on_lists}
+use Rattle.bz_rule.specs.Values.{has_kind, text_of, parts_of, items_of, above, with_parts, on_first, on_third, on_rest, first_text, on_lists}
 use Rattle.bz_tidy.specs.Orders.{sort_by}
 use Rattle.bz_rule.specs.QuoteMarks.{between}
 use Rattle.bz_tidy.specs.Marks.{any_marked, leave_alone}
 use Rattle.bz_tidy.specs.Lists.{settled_list}
 use Rattle.bz_tidy.specs.Passes.{on_statement, taken, on_taken, on_call, on_rule_arguments, on_attribute, quoted, quotes, labelled, labelled_value, labels_in, labels, sorted_value, in_assign, lists_in, lists, argument_order, argument_name, argument_precedes, arguments_in, arguments, symbol_precedes, symbols_in, symbols, path_group, path_order, path_of, is_loose_load, load_precedes, loads, tidied}
 use Rattle.bz_rule.specs.QuoteMarks.{local_name}
-use Rattle.bz_tidy.proofs.Keeping.{Keeps, Settles, both, map_keeps, map_settles, third_settles, third_keeps_map, map_keeps_third, behind_settles, behind_keeps_map, map_keeps_behind, test_keeps, test_settles, keeps_tested, tested_keeps}
+use Rattle.bz_tidy.proofs.Keeping.{Keeps, Settles, both, map_keeps, map_settles, third_settles, third_keeps_map, map_keeps_third, after_settles, after_keeps_map, map_keeps_after, test_keeps, test_settles, keeps_tested, tested_keeps}
 use Rattle.bz_tidy.proofs.Sorting.{sort_settles, sort_keeps, map_keeps_sort}
 use Rattle.bz_tidy.proofs.Parts.{the_parts, the_items, kind_flags, class_flags, text_flags, comments_flags, above_flags, under_flags, under_quoted, items_flags}
 use Rattle.bz_tidy.proofs.Levels.{kind_within, above_put, within_settles, within_quoted, flags_within, within_other}
@@ -147,13 +147,13 @@ pub symbol_order : IsStrictWeakOrder symbol_precedes
 symbol_order = ranks_by nat_list_cmp_total local_name
 
 abbrev loaded : List Expr → List Expr
-loaded = behind_first (sort_by symbol_precedes)
+loaded = on_rest (sort_by symbol_precedes)
 
 symbols_settle : Settles symbols_in
-symbols_settle = within_settles the_items k.Load (λ x. loaded) (λ x t. refl) (λ x. behind_settles (sort_by symbol_precedes) (sort_settles symbol_precedes symbol_order.one_way))
+symbols_settle = within_settles the_items k.Load (λ x. loaded) (λ x t. refl) (λ x. after_settles (sort_by symbol_precedes) (sort_settles symbol_precedes symbol_order.one_way))
 
 quoted_symbols : Keeps symbols_in quoted
-quoted_symbols = within_quoted the_items k.Load (λ x. loaded) (λ x. behind_keeps_map (sort_by symbol_precedes) quoted (sort_keeps symbol_precedes quoted))
+quoted_symbols = within_quoted the_items k.Load (λ x. loaded) (λ x. after_keeps_map (sort_by symbol_precedes) quoted (sort_keeps symbol_precedes quoted))
 
 labels_symbols : Keeps symbols_in labels_in
 labels_symbols = within_other the_items the_parts k.Load k.Bare (differ k.Load k.Bare refl) (λ x. loaded) (λ x. on_first (on_call (λ kind. shorter_labels)))
@@ -173,7 +173,7 @@ same_local x =
     ∙ both (λ s t. if has_kind k.Alias x then s else between t) (first_part_flags x) (text_flags x)
 
 symbols_flags : Keeps with_flags symbols_in
-symbols_flags = flags_within the_items k.Load (λ x. loaded) (λ x. refl) (λ x. map_keeps_behind with_flags (sort_by symbol_precedes) (map_keeps_sort symbol_precedes with_flags (λ y z. both (λ a b. is_lt (bytes_order a b)) (same_local y) (same_local z))))
+symbols_flags = flags_within the_items k.Load (λ x. loaded) (λ x. refl) (λ x. map_keeps_after with_flags (sort_by symbol_precedes) (map_keeps_sort symbol_precedes with_flags (λ y z. both (λ a b. is_lt (bytes_order a b)) (same_local y) (same_local z))))
 
 -- ---- statements that are taken
 

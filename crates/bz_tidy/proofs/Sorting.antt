@@ -4,7 +4,7 @@ use Rattle.std.proofs.lemmas.Bool.{cases_Bool}
 use Rattle.std.specs.List.{AllByRecursion}
 use Rattle.bz_value.specs.Counted.{total}
 use Rattle.bz_tidy.specs.Orders.{insert_by, sort_by}
-use Rattle.bz_tidy.proofs.Keeping.{Keeps, Settles, both, same_first, same_behind}
+use Rattle.bz_tidy.proofs.Keeping.{Keeps, Settles, both, same_first, same_after}
 
 module _ {X : Type 0} (lt : X → X → Bool) where
   -- ---- what holds of each item
@@ -62,13 +62,13 @@ module _ {X : Type 0} (lt : X → X → Bool) where
   insert_fixed : (p : X → X) (x : X) (xs : List X) → p x ≡ x → map p xs ≡ xs → map p (insert_by lt x xs) ≡ insert_by lt x xs
   insert_fixed p x [] a b = ap (λ z. z ∷ []) a
   insert_fixed p x (y ∷ ys) a b = elim (cases_Bool (lt y x)) [
-    | inl t ↦ rw t (both (λ z zs. z ∷ zs) (same_first (p y) y (map p ys) ys b) (insert_fixed p x ys a (same_behind (p y) y (map p ys) ys b)))
+    | inl t ↦ rw t (both (λ z zs. z ∷ zs) (same_first (p y) y (map p ys) ys b) (insert_fixed p x ys a (same_after (p y) y (map p ys) ys b)))
     | inr f ↦ rw f (both (λ z zs. z ∷ zs) a b)
   ]
 
   pub sort_keeps : (p : X → X) → Keeps (sort_by lt) (map p)
   sort_keeps p [] e = refl
-  sort_keeps p (x ∷ xs) e = insert_fixed p x (sort_by lt xs) (same_first (p x) x (map p xs) xs e) (sort_keeps p xs (same_behind (p x) x (map p xs) xs e))
+  sort_keeps p (x ∷ xs) e = insert_fixed p x (sort_by lt xs) (same_first (p x) x (map p xs) xs e) (sort_keeps p xs (same_after (p x) x (map p xs) xs e))
 
   -- ---- changes that the order does not see
   module _ (g : X → X) (unseen : (x y : X) → lt (g x) (g y) ≡ lt x y) where

@@ -12,20 +12,20 @@ use Rattle.bz_value.specs.Exchanged.{IsSpliced}
 use Rattle.bz_value.specs.Proper.{IsProper, IsProperItem}
 use Rattle.bz_write.specs.Flags.{flags, item_with_flags}
 use Rattle.bz_rule.specs.Values.{above}
-use Rattle.bz_tidy.specs.Changes.{changed}
+use Rattle.bz_tidy.specs.Changes.{after_passes}
 use Rattle.bz_tidy.specs.Exchanged.{item_tidied}
 use Rattle.bz_tidy.specs.Marks.{any_marked, leave_alone}
 use Rattle.bz_tidy.specs.Passes.{arguments_in, is_run_load, labels_in, lists_in, load_precedes, loads, on_statement, on_taken, quoted, symbols_in, taken, tidied}
 use Rattle.bz_tidy.specs.Spliced.{StandsApart, begins_with_load, ends_with_load, tidied_within}
 use Rattle.bz_tidy.proofs.Composed.{SameAbove, arguments_above, composed_above, either_above, five_composed, labels_above, lists_above, quoted_above, symbols_above}
 use Rattle.bz_tidy.proofs.Cut.{sort_cut, sort_length}
-use Rattle.bz_tidy.proofs.Exchanging.{never_before, never_behind, taken_kept}
+use Rattle.bz_tidy.proofs.Exchanging.{never_before, never_after, taken_kept}
 use Rattle.bz_tidy.proofs.Keeping.{both}
 use Rattle.bz_tidy.proofs.ProperPasses.{tidied_proper}
 
 -- ---- what is sorted stays so under the passes over statements
 
-changed_above : SameAbove changed
+changed_above : SameAbove after_passes
 changed_above =
     composed_above (λ x. arguments_in (lists_in (labels_in (quoted x)))) symbols_in
     (composed_above (λ x. lists_in (labels_in (quoted x))) arguments_in
@@ -33,39 +33,39 @@ changed_above =
     arguments_above)
     symbols_above
 
-taken_above : SameAbove (taken changed)
-taken_above x = either_above (any_marked leave_alone (above x)) x (changed x) x refl (changed_above x)
+taken_above : SameAbove (taken after_passes)
+taken_above x = either_above (any_marked leave_alone (above x)) x (after_passes x) x refl (changed_above x)
 
-run_kept : (item : Item) → is_run_load (on_statement (taken changed) item) ≡ is_run_load item
+run_kept : (item : Item) → is_run_load (on_statement (taken after_passes) item) ≡ is_run_load item
 run_kept (i.Block lines) = refl
 run_kept (i.Stmt x) = both (λ a b. a && b) (taken_kept k.Load x) (ap is_empty (taken_above x))
 
 -- ---- an item that is not sorted cuts
 
-in_two : (items : List Item) → tidied items ≡ flags (loads (on_taken changed items))
+in_two : (items : List Item) → tidied items ≡ flags (loads (on_taken after_passes items))
 in_two items = ap (λ z. flags (loads z)) (five_composed items)
 
 cut_at : (front rest : List Item) (bar : Item) → is_run_load bar ≡ false → tidied (front ++ bar ∷ rest) ≡ tidied front ++ item_tidied bar ∷ tidied rest
 cut_at front rest bar n =
-    let new : Item = on_statement (taken changed) bar in
+    let new : Item = on_statement (taken after_passes) bar in
     let alone : is_run_load new ≡ false = run_kept bar ∙ n in
-    let cut : loads (on_taken changed (front ++ bar ∷ rest)) ≡ loads (on_taken changed front) ++ new ∷ loads (on_taken changed rest) =
-    ap loads (map-append (on_statement (taken changed)) front (bar ∷ rest))
-    ∙ sort_cut load_precedes new (λ x. never_before new x alone) (λ x. never_behind x new alone) (on_taken changed front) (on_taken changed rest) in
+    let cut : loads (on_taken after_passes (front ++ bar ∷ rest)) ≡ loads (on_taken after_passes front) ++ new ∷ loads (on_taken after_passes rest) =
+    ap loads (map-append (on_statement (taken after_passes)) front (bar ∷ rest))
+    ∙ sort_cut load_precedes new (λ x. never_before new x alone) (λ x. never_after x new alone) (on_taken after_passes front) (on_taken after_passes rest) in
     in_two (front ++ bar ∷ rest)
     ∙ (ap flags cut
-    ∙ (map-append item_with_flags (loads (on_taken changed front)) (new ∷ loads (on_taken changed rest))
+    ∙ (map-append item_with_flags (loads (on_taken after_passes front)) (new ∷ loads (on_taken after_passes rest))
     ∙ both (λ z zs. z ++ item_tidied bar ∷ zs) (sym (in_two front)) (sym (in_two rest))))
 
-cut_behind : (front rest : List Item) (bar : Item) → is_run_load bar ≡ false → tidied ((front ++ bar ∷ []) ++ rest) ≡ tidied (front ++ bar ∷ []) ++ tidied rest
-cut_behind front rest bar n =
+cut_after : (front rest : List Item) (bar : Item) → is_run_load bar ≡ false → tidied ((front ++ bar ∷ []) ++ rest) ≡ tidied (front ++ bar ∷ []) ++ tidied rest
+cut_after front rest bar n =
     ap tidied (append_assoc front (bar ∷ []) rest)
     ∙ (cut_at front rest bar n
     ∙ (sym (append_assoc (tidied front) (item_tidied bar ∷ []) (tidied rest))
     ∙ ap (λ z. z ++ tidied rest) (sym (cut_at front [] bar n))))
 
 cut_from : (front : List Item) (x : Item) (xs rest : List Item) → ends_with_load (x ∷ xs) ≡ false → tidied ((front ++ x ∷ xs) ++ rest) ≡ tidied (front ++ x ∷ xs) ++ tidied rest
-cut_from front x [] rest n = cut_behind front rest x n
+cut_from front x [] rest n = cut_after front rest x n
 cut_from front x (y ∷ ys) rest n = subst (λ z. tidied (z ++ rest) ≡ tidied z ++ tidied rest) (append_assoc front (x ∷ []) (y ∷ ys)) (cut_from (front ++ x ∷ []) y ys rest n)
 
 cut_last : (xs rest : List Item) → ends_with_load xs ≡ false → tidied (xs ++ rest) ≡ tidied xs ++ tidied rest
@@ -84,8 +84,8 @@ in_three front middle back n m = cut_first (front ++ middle) back m ∙ ap (λ z
 tidied_length : (items : List Item) → length (tidied items) ≡ length items
 tidied_length items =
     ap length (in_two items)
-    ∙ (length-map (loads (on_taken changed items)) item_with_flags
-    ∙ (sort_length load_precedes (on_taken changed items) ∙ length-map items (on_statement (taken changed))))
+    ∙ (length-map (loads (on_taken after_passes items)) item_with_flags
+    ∙ (sort_length load_precedes (on_taken after_passes items) ∙ length-map items (on_statement (taken after_passes))))
 
 -- ---- lists in three parts
 
@@ -114,8 +114,8 @@ module _ {X : Type 0} where
     put_front =
         ap (take from) (append_assoc (take from xs) new (drop (from + come) xs)) ∙ take_at (take from xs) (new ++ drop (from + come) xs) from front_length
 
-    pub put_behind : drop (from + come) (take from xs ++ new ++ drop (from + come) xs) ≡ drop (from + come) xs
-    put_behind = drop_at (take from xs ++ new) (drop (from + come) xs) (from + come) both_length
+    pub put_after : drop (from + come) (take from xs ++ new ++ drop (from + come) xs) ≡ drop (from + come) xs
+    put_after = drop_at (take from xs ++ new) (drop (from + come) xs) (from + come) both_length
 
     pub put_length : length (take from xs ++ new ++ drop (from + come) xs) ≡ length xs
     put_length = omega (arith, length-append (take from xs ++ new) (drop (from + come) xs), both_length, length-drop (from + come) xs, within)
@@ -140,11 +140,11 @@ within_tidied from gone come before items t h w =
     let middle : List Item = take come (drop from items) in
     let old : List Item = take gone (drop from before) in
     let back : List Item = drop (from + come) items in
-    let own : front ++ old ++ back ≡ before = both (λ z zs. z ++ old ++ zs) h.front h.behind ∙ the_parts from gone before in
+    let own : front ++ old ++ back ≡ before = both (λ z zs. z ++ old ++ zs) h.front h.following ∙ the_parts from gone before in
     let tidy : tidied (front ++ old ++ back) ≡ front ++ old ++ back = subst (λ z. tidied z ≡ z) (sym own) t in
-    let sides : (tidied front ≡ front) × (tidied back ≡ back) = sides_stay front old back w.before w.behind tidy in
+    let sides : (tidied front ≡ front) × (tidied back ≡ back) = sides_stay front old back w.before w.following tidy in
     both (λ z zs. z ++ tidied middle ++ zs) (sym sides.0) (sym sides.1)
-    ∙ (sym (in_three front middle back w.before w.behind) ∙ ap tidied (the_parts from come items))
+    ∙ (sym (in_three front middle back w.before w.following) ∙ ap tidied (the_parts from come items))
 
 middle_length : (from come : ℕ) (items : List Item) → from + come ≤ length items → length (tidied (take come (drop from items))) ≡ come
 middle_length from come items h = tidied_length (take come (drop from items)) ∙ length-take-le come (drop from items) (omega (arith, length-drop from items, h))
@@ -167,7 +167,7 @@ spliced_still from gone come before items h =
     let many : length new ≡ come = middle_length from come items h.held in
     record {
       front = put_front from come items new h.held many ∙ h.front;
-      behind = put_behind from come items new h.held many ∙ h.behind;
+      following = put_after from come items new h.held many ∙ h.following;
       within = h.within;
       held = omega (arith, put_length from come items new h.held many, h.held);
     }
@@ -181,9 +181,9 @@ spliced_wider from gone come start wide before items h a b d =
     let old : (from + gone) + more ≡ start + (gone + (wide - come)) = omega (arith, a, b) in
     record {
       front = sym (take-take start from items a) ∙ (ap (take start) h.front ∙ take-take start from before a);
-      behind = ap (λ n. drop n items) (sym new)
-          ∙ (sym (drop-drop more (from + come) items) ∙ (ap (drop more) h.behind ∙ (drop-drop more (from + gone) before ∙ ap (λ n. drop n before) old)));
-      within = omega (arith, a, b, d, h.within, h.held, ap length h.behind, length-drop (from + come) items, length-drop (from + gone) before);
+      following = ap (λ n. drop n items) (sym new)
+          ∙ (sym (drop-drop more (from + come) items) ∙ (ap (drop more) h.following ∙ (drop-drop more (from + gone) before ∙ ap (λ n. drop n before) old)));
+      within = omega (arith, a, b, d, h.within, h.held, ap length h.following, length-drop (from + come) items, length-drop (from + gone) before);
       held = d;
     }
 
@@ -199,6 +199,6 @@ whole_between start stop items a b n m =
     let sum : start + (stop - start) ≡ stop = omega (arith, a) in
     record {
       before = n;
-      behind = ap (λ z. begins_with_load (drop z items)) sum ∙ m;
+      following = ap (λ z. begins_with_load (drop z items)) sum ∙ m;
       within = omega (arith, sum, b);
     }

@@ -12,7 +12,7 @@ use denote.Param.Members.{Mut}
 use Rattle.std.proofs.lemmas.List.Sorted.{answers_always}
 use Rattle.bz_tidy.specs.Orders.{insert_by, sort_by}
 use Rattle.bz_tidy.specs.Rising.{NoneBefore, Rises}
-use Rattle.bz_tidy.proofs.Keeping.{same_first, same_behind}
+use Rattle.bz_tidy.proofs.Keeping.{same_first, same_after}
 
 module _ {X : Type 0} where
   same_both : {x y : X} {xs ys : List X} → x ≡ y → xs ≡ ys → x ∷ xs ≡ y ∷ ys
@@ -44,7 +44,7 @@ module _ {X : Type 0} (lt : X → X → Bool) (o : IsStrictWeakOrder lt) where
 
   cancel : (p : X → Bool) (x : X) (xs ys : List X) → filter p (x ∷ xs) ≡ filter p (x ∷ ys) → filter p xs ≡ filter p ys
   cancel p x xs ys e = elim (cases_Bool (p x)) [
-    | inl t ↦ let e' : x ∷ filter p xs ≡ x ∷ filter p ys = rw t at e in same_behind x x (filter p xs) (filter p ys) e'
+    | inl t ↦ let e' : x ∷ filter p xs ≡ x ∷ filter p ys = rw t at e in same_after x x (filter p xs) (filter p ys) e'
     | inr f ↦ let e' : filter p xs ≡ filter p ys = rw f at e in e'
   ]
 

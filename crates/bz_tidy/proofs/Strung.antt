@@ -12,10 +12,10 @@ use Rattle.bz_rule.specs.Rules.{inner, is_plain_in, body}
 use Rattle.bz_label.specs.Pieces.{is_empty, last_piece, is_joined, is_present, has_slash, is_at, is_colon}
 use Rattle.bz_label.specs.Labels.{is_barred, is_plain, is_path, is_repository_name}
 use Rattle.bz_label.specs.Forms.{is_repository, are_whole}
-use Rattle.bz_label.specs.Shorter.{before_colon, behind_colon, before_slashes, behind_slashes, is_repeated, unrepeated}
+use Rattle.bz_label.specs.Shorter.{before_colon, after_colon, before_slashes, after_slashes, is_repeated, unrepeated}
 use Rattle.bz_tidy.specs.Strings.{has_character, begins_single, in_double, with_double, shorter_string}
 use Rattle.bz_rule.specs.QuoteMarks.{begins_thrice, marks_of}
-use Rattle.bz_tidy.proofs.Keeping.{Keeps, Settles, same_first, same_behind}
+use Rattle.bz_tidy.proofs.Keeping.{Keeps, Settles, same_first, same_after}
 use Rattle.bz_tidy.proofs.ProperStrings.{same_byte}
 
 same_text : (one other : Bytes) → bytes_eq one other ≡ true → one ≡ other
@@ -58,8 +58,8 @@ no_colon (c ∷ s) = elim (cases_Bool (is_colon c)) [
 ]
 
 pub unrepeated_settles : Settles unrepeated
-unrepeated_settles s = elim (cases_Bool (is_repeated (before_colon s) (behind_colon s))) [
-  | inl w ↦ rw w (elim (cases_Bool (is_repeated (before_colon (before_colon s)) (behind_colon (before_colon s)))) [
+unrepeated_settles s = elim (cases_Bool (is_repeated (before_colon s) (after_colon s))) [
+  | inl w ↦ rw w (elim (cases_Bool (is_repeated (before_colon (before_colon s)) (after_colon (before_colon s)))) [
     | inl v ↦ rw v (no_colon s)
     | inr v ↦ rw v refl
   ])
@@ -103,33 +103,33 @@ repository_free q (c ∷ s) b h =
 
 front_free : (q : ℕ) (front name : Bytes) → Barred q → is_repeated front name ≡ true → (has_character q front ≡ false) × (has_character q name ≡ false)
 front_free q front name b h =
-    let whole = are_whole (before_slashes front) (behind_slashes front) name in
-    let last = bytes_eq (last_piece (behind_slashes front)) name in
-    let again = bytes_eq front (before_slashes front ++ (codes "//" ++ behind_slashes front)) in
+    let whole = are_whole (before_slashes front) (after_slashes front) name in
+    let last = bytes_eq (last_piece (after_slashes front)) name in
+    let again = bytes_eq front (before_slashes front ++ (codes "//" ++ after_slashes front)) in
     let w : whole ≡ true = (and_parts whole last (and_parts (whole && last) again h).0).0 in
-    let spelled : front ≡ before_slashes front ++ (codes "//" ++ behind_slashes front) = same_text front _ (and_parts (whole && last) again h).1 in
+    let spelled : front ≡ before_slashes front ++ (codes "//" ++ after_slashes front) = same_text front _ (and_parts (whole && last) again h).1 in
     let repository = is_repository (before_slashes front) in
-    let path = is_empty (behind_slashes front) || is_path (behind_slashes front) in
+    let path = is_empty (after_slashes front) || is_path (after_slashes front) in
     let r : has_character q (before_slashes front) ≡ false = repository_free q (before_slashes front) b (and_parts repository path (and_parts (repository && path) (is_path name) w).0).0 in
-    let k : has_character q (behind_slashes front) ≡ false = maybe_path_free q (behind_slashes front) b.barred (and_parts repository path (and_parts (repository && path) (is_path name) w).0).1 in (
+    let k : has_character q (after_slashes front) ≡ false = maybe_path_free q (after_slashes front) b.barred (and_parts repository path (and_parts (repository && path) (is_path name) w).0).1 in (
       ap (has_character q) spelled
-          ∙ (list_any-append (λ c. nat_eq c q) (before_slashes front) (codes "//" ++ behind_slashes front)
-          ∙ or_from (has_character q (before_slashes front)) (has_character q (codes "//" ++ behind_slashes front)) r (or_from (nat_eq 47 q) (has_character q (47 ∷ behind_slashes front)) b.slash (or_from (nat_eq 47 q) (has_character q (behind_slashes front)) b.slash k))),
+          ∙ (list_any-append (λ c. nat_eq c q) (before_slashes front) (codes "//" ++ after_slashes front)
+          ∙ or_from (has_character q (before_slashes front)) (has_character q (codes "//" ++ after_slashes front)) r (or_from (nat_eq 47 q) (has_character q (47 ∷ after_slashes front)) b.slash (or_from (nat_eq 47 q) (has_character q (after_slashes front)) b.slash k))),
       path_free q name b.barred (and_parts (repository && path) (is_path name) w).1,
     )
 
-halves_free : (q : ℕ) (s : Bytes) → Barred q → has_character q (before_colon s) ≡ false → has_character q (behind_colon s) ≡ false → has_character q s ≡ false
+halves_free : (q : ℕ) (s : Bytes) → Barred q → has_character q (before_colon s) ≡ false → has_character q (after_colon s) ≡ false → has_character q s ≡ false
 halves_free q [] b f n = refl
 halves_free q (c ∷ s) b f n = elim (cases_Bool (is_colon c)) [
   | inl w ↦ let n' : has_character q s ≡ false = rw w at n in or_from (nat_eq c q) (has_character q s) (ap (λ z. nat_eq z q) (same_byte c 58 w) ∙ b.colon) n'
   | inr w ↦
       let f' : (nat_eq c q || has_character q (before_colon s)) ≡ false = rw w at f in
-      let n' : has_character q (behind_colon s) ≡ false = rw w at n in
+      let n' : has_character q (after_colon s) ≡ false = rw w at n in
       or_from (nat_eq c q) (has_character q s) (or_parts (nat_eq c q) (has_character q (before_colon s)) f').0 (halves_free q s b (or_parts (nat_eq c q) (has_character q (before_colon s)) f').1 n')
 ]
 
-repeat_free : (q : ℕ) (s : Bytes) → Barred q → is_repeated (before_colon s) (behind_colon s) ≡ true → has_character q s ≡ false
-repeat_free q s b h = let f = front_free q (before_colon s) (behind_colon s) b h in halves_free q s b f.0 f.1
+repeat_free : (q : ℕ) (s : Bytes) → Barred q → is_repeated (before_colon s) (after_colon s) ≡ true → has_character q s ≡ false
+repeat_free q s b h = let f = front_free q (before_colon s) (after_colon s) b h in halves_free q s b f.0 f.1
 
 barred_quote : Barred quotation_mark
 barred_quote = record { barred = refl; colon = refl; slash = refl; at_sign = refl }
@@ -161,7 +161,7 @@ body_text text label e = elim (cases_Bool (is_plain_in quotation_mark text || is
 same_label : (q p : ℕ) (one other : Bytes) → in_marks q one ≡ in_marks p other → one ≡ other
 same_label q p one other e =
     let mark : q ≡ p = same_first q p (one ++ q ∷ []) (other ++ p ∷ []) e in
-    append_cancel_right one other (p ∷ []) (ap (λ z. one ++ z ∷ []) (sym mark) ∙ same_behind q p (one ++ q ∷ []) (other ++ p ∷ []) e)
+    append_cancel_right one other (p ∷ []) (ap (λ z. one ++ z ∷ []) (sym mark) ∙ same_after q p (one ++ q ∷ []) (other ++ p ∷ []) e)
 
 -- ---- strings whose label is shorter
 
@@ -189,7 +189,7 @@ pub string_settles : Settles shorter_string
 string_settles text = by_settles text (body text) refl
 
 -- a repeat in single quote marks would have taken double ones
-no_repeat_left : (q : ℕ) (label : Bytes) → nat_eq q apostrophe ≡ true → is_free (in_marks q label) ≡ false → is_repeated (before_colon label) (behind_colon label) ≡ true → ⊥
+no_repeat_left : (q : ℕ) (label : Bytes) → nat_eq q apostrophe ≡ true → is_free (in_marks q label) ≡ false → is_repeated (before_colon label) (after_colon label) ≡ true → ⊥
 no_repeat_left q label m h r =
     let is : q ≡ apostrophe = same_byte q apostrophe m in
     let free : (p : ℕ) → Barred p → nat_eq apostrophe p ≡ false → has_character p (in_marks q label) ≡ false =
@@ -200,7 +200,7 @@ no_repeat_left q label m h r =
 
 shorter_in : (q : ℕ) (label : Bytes) → with_double (in_marks q label) ≡ in_marks q label → with_double (in_marks q (unrepeated label)) ≡ in_marks q (unrepeated label)
 shorter_in q label d = elim (cases_Bool (nat_eq q apostrophe)) [
-  | inl m ↦ elim (cases_Bool (is_repeated (before_colon label) (behind_colon label))) [
+  | inl m ↦ elim (cases_Bool (is_repeated (before_colon label) (after_colon label))) [
     | inl r ↦ absurd (no_repeat_left q label m (held (in_marks q label) m d) r)
     | inr r ↦ let same : unrepeated label ≡ label = rw r refl in rw same d
   ]

@@ -71,11 +71,11 @@ module _ {X : Type 0} (p : X → Bool) (lt : X → X → Bool) (o : IsStrictWeak
   bar_before : (bar : X) → p bar ≡ false → (x : X) → compared p lt bar x ≡ false
   bar_before bar f x = and_left (p bar && p x) (lt bar x) (and_left (p bar) (p x) f)
 
-  bar_behind : (bar : X) → p bar ≡ false → (x : X) → compared p lt x bar ≡ false
-  bar_behind bar f x = and_left (p x && p bar) (lt x bar) (and_right (p x) (p bar) f)
+  bar_after : (bar : X) → p bar ≡ false → (x : X) → compared p lt x bar ≡ false
+  bar_after bar f x = and_left (p x && p bar) (lt x bar) (and_right (p x) (p bar) f)
 
   cut_at : (run rest : List X) (bar : X) → p bar ≡ false → sort_by (compared p lt) (run ++ bar ∷ rest) ≡ sort_by (compared p lt) run ++ bar ∷ sort_by (compared p lt) rest
-  cut_at run rest bar f = sort_cut (compared p lt) bar (bar_before bar f) (bar_behind bar f) run rest
+  cut_at run rest bar f = sort_cut (compared p lt) bar (bar_before bar f) (bar_after bar f) run rest
 
   runs_once : (xs ys : List X) → IsSortingByRuns p lt xs ys → ys ≡ sort_by (compared p lt) xs
   runs_once xs ys (one_run a h) = run_once xs ys a h

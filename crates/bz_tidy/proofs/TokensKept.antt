@@ -21,16 +21,16 @@ use Rattle.bz_value.specs.declared.value.Item.TheVariants as i
 use Rattle.bz_value.specs.Comments.{no_comments}
 use Rattle.bz_value.specs.Counted.{total}
 use Rattle.bz_items.specs.Characters.{Bytes}
-use Rattle.bz_rule.specs.Values.{has_kind, has_class, parts_of, above, on_items, on_row, on_first, on_third, behind_first, first_text, on_lists}
+use Rattle.bz_rule.specs.Values.{has_kind, has_class, parts_of, above, on_items, on_row, on_first, on_third, on_rest, first_text, on_lists}
 use Rattle.bz_tidy.specs.Lists.{is_taken}
 use Rattle.bz_tidy.specs.Marks.{any_marked, leave_alone}
 use Rattle.bz_tidy.specs.Passes.{on_statement, taken, on_taken, rule_kind, of_rule, on_call, on_rule_arguments, on_attribute}
 use Rattle.bz_tidy.specs.Programs.{KeptProgramsKeepTokens, KeepsProgram, IsSameList, on_strings, each_on_strings, on_string, on_labels, on_list_values}
 use Rattle.bz_tidy.specs.Sorting.{IsSortingByRuns, one_run, next_run}
 use Rattle.bz_tidy.specs.Syntax.{syntax_of, each_syntax, program, token_sum, row_token_sum, one_if_token}
-use Rattle.bz_tidy.proofs.Counts.{Same, SameTotal, map_total, first_total, third_total, behind_total, append_total, either_total}
+use Rattle.bz_tidy.proofs.Counts.{Same, SameTotal, map_total, first_total, third_total, after_total, append_total, either_total}
 use Rattle.bz_tidy.proofs.Keeping.{both}
-use Rattle.bz_tidy.proofs.Parts.{Place, the_parts, the_items, made, parts_behind, items_behind, parts_are, items_are}
+use Rattle.bz_tidy.proofs.Parts.{Place, the_parts, the_items, made, parts_after, items_after, parts_are, items_are}
 use Rattle.bz_tidy.proofs.Levels.{within, at_kind, at_other}
 use Rattle.bz_tidy.proofs.SameLists.{all_texts}
 
@@ -48,9 +48,9 @@ module _ {X : Type 0} (number : X → ℕ) where
   runs_total p lt xs ys (one_run a h) = permuted_total xs ys h.same
   runs_total p lt xs ys (next_run run ordered bar rest others d e a h f more) =
       let moved : total number ordered ≡ total number run = permuted_total run ordered h.same in
-      let behind : total number others ≡ total number rest = runs_total p lt rest others more in
+      let following : total number others ≡ total number rest = runs_total p lt rest others more in
       ap (total number) e ∙ (append_total number ordered (bar ∷ others)
-      ∙ (both (λ m n. m + n) moved (ap (λ n. number bar + n) behind) ∙ (sym (append_total number run (bar ∷ rest)) ∙ ap (total number) (sym d))))
+      ∙ (both (λ m n. m + n) moved (ap (λ n. number bar + n) following) ∙ (sym (append_total number run (bar ∷ rest)) ∙ ap (total number) (sym d))))
 
 module _ (number : Class → Bytes → ℕ) (nothing : (text : Bytes) → number c.String text ≡ 0) where
   abbrev whole : Expr → ℕ
@@ -65,8 +65,8 @@ module _ (number : Class → Bytes → ℕ) (nothing : (text : Bytes) → number
   sum_Form : (f : Form) → token_sum number (e.Form f) ≡ total whole f.parts + total whole f.seq.items
   sum_Form f =
       both (λ a b. a + b)
-      (row_total _ (parts_behind (e.Form f)).1 ∙ ap (total whole) (parts_are f))
-      (row_total _ (items_behind (e.Form f)).1 ∙ ap (total whole) (items_are f))
+      (row_total _ (parts_after (e.Form f)).1 ∙ ap (total whole) (parts_are f))
+      (row_total _ (items_after (e.Form f)).1 ∙ ap (total whole) (items_are f))
 
   -- at a place: what has the same sum there has the same sum
   abbrev Counts : Place → Type 0
@@ -74,13 +74,13 @@ module _ (number : Class → Bytes → ℕ) (nothing : (text : Bytes) → number
 
   parts_count : Counts the_parts
   parts_count ys (Token t) h = refl
-  parts_count ys (Form' kind s parts s' items end_ split open_ comments) h =
-      sum_Form (made kind ys (items-the_row-Expr _ items) end_ split open_ comments) ∙ both (λ a b. a + b) (h ∙ sym (row_total _ parts)) (sym (row_total _ items))
+  parts_count ys (Form' kind s parts s' items end split open_break comments) h =
+      sum_Form (made kind ys (items-the_row-Expr _ items) end split open_break comments) ∙ both (λ a b. a + b) (h ∙ sym (row_total _ parts)) (sym (row_total _ items))
 
   items_count : Counts the_items
   items_count ys (Token t) h = refl
-  items_count ys (Form' kind s parts s' items end_ split open_ comments) h =
-      sum_Form (made kind (items-the_row-Expr _ parts) ys end_ split open_ comments) ∙ both (λ a b. a + b) (sym (row_total _ parts)) (h ∙ sym (row_total _ items))
+  items_count ys (Form' kind s parts s' items end split open_break comments) h =
+      sum_Form (made kind (items-the_row-Expr _ parts) ys end split open_break comments) ∙ both (λ a b. a + b) (sym (row_total _ parts)) (h ∙ sym (row_total _ items))
 
   within_sum : (place : Place) → Counts place → (kind : Kind) (d : Expr → List Expr → List Expr) → ((x : Expr) → SameTotal whole (d x)) → Same whole (within place kind d)
   within_sum place count kind d h x = elim (cases_Bool (has_kind kind x)) [
@@ -102,7 +102,7 @@ module _ (number : Class → Bytes → ℕ) (nothing : (text : Bytes) → number
 
   text_sum : (x : Expr) → has_class c.String x ≡ true → whole x ≡ 0
   text_sum (Token t) is = no_string t.class t.text is
-  text_sum (Form' kind s parts s' items end_ split open_ comments) is = absurd (true≢false (sym is))
+  text_sum (Form' kind s parts s' items end split open_break comments) is = absurd (true≢false (sym is))
 
   texts_sum : (xs : List Expr) → AllByRecursion (λ x. has_class c.String x ≡ true) xs → total whole xs ≡ 0
   texts_sum [] h = refl
@@ -114,8 +114,8 @@ module _ (number : Class → Bytes → ℕ) (nothing : (text : Bytes) → number
       | inl w ↦ rw w (no_string t.class (change t.text) w ∙ sym (no_string t.class t.text w))
       | inr w ↦ rw w refl
     ]
-    strings_sum change (Form' kind s parts s' items end_ split open_ comments) =
-        sum_Form (made kind (each_on_strings change parts) (each_on_strings change items) end_ split open_ comments)
+    strings_sum change (Form' kind s parts s' items end split open_break comments) =
+        sum_Form (made kind (each_on_strings change parts) (each_on_strings change items) end split open_break comments)
         ∙ both (λ a b. a + b) (each_strings_sum change _ parts) (each_strings_sum change _ items)
 
     each_strings_sum : (change : Bytes → Bytes) (s : _) (r : Row_of-Expr s) → total whole (each_on_strings change r) ≡ row_token_sum number r
@@ -127,7 +127,7 @@ module _ (number : Class → Bytes → ℕ) (nothing : (text : Bytes) → number
     | inl w ↦ rw w (no_string t.class (change t.text) w ∙ sym (no_string t.class t.text w))
     | inr w ↦ rw w refl
   ]
-  string_sum change (Form' kind s parts s' items end_ split open_ comments) = refl
+  string_sum change (Form' kind s parts s' items end split open_break comments) = refl
 
   -- a list that is to be sorted has strings alone
   list_sum : (taken : Bool) (old new : List Expr) → (taken ≡ true → AllByRecursion (λ x. has_class c.String x ≡ true) old) → IsSameList taken old new → total whole new ≡ total whole old
@@ -172,8 +172,8 @@ module _ (number : Class → Bytes → ℕ) (nothing : (text : Bytes) → number
       (rule_sum (λ kind. map (on_attribute (λ name outside. on_lists (change outside (is_sorted kind name))))) (λ kind. map_total whole (on_attribute (λ name outside. on_lists (change outside (is_sorted kind name))))
       (attribute_sum (λ name outside. on_lists (change outside (is_sorted kind name))) (λ name a. lists_sum (change a (is_sorted kind name)) (h a (is_sorted kind name))))) x)
 
-  symbols_sum : (change : List Expr → List Expr) → SameTotal whole change → Same whole (on_items k.Load (behind_first change))
-  symbols_sum change h = items_sum_within k.Load (λ x. behind_first change) (λ x. behind_total whole change h)
+  symbols_sum : (change : List Expr → List Expr) → SameTotal whole change → Same whole (on_items k.Load (on_rest change))
+  symbols_sum change h = items_sum_within k.Load (λ x. on_rest change) (λ x. after_total whole change h)
 
   -- ---- the file
 
@@ -191,7 +191,7 @@ module _ (number : Class → Bytes → ℕ) (nothing : (text : Bytes) → number
   mutual
     syntax_sum : (x : Expr) → whole (syntax_of x) ≡ whole x
     syntax_sum (Token t) = refl
-    syntax_sum (Form' kind s parts s' items end_ split open_ comments) =
+    syntax_sum (Form' kind s parts s' items end split open_break comments) =
         sum_Form (made kind (each_syntax parts) (each_syntax items) [] false false no_comments) ∙ both (λ a b. a + b) (each_syntax_sum _ parts) (each_syntax_sum _ items)
 
     each_syntax_sum : (s : _) (r : Row_of-Expr s) → total whole (each_syntax r) ≡ row_token_sum number r

@@ -34,5 +34,5 @@ rule_change (r.Values change) kind = map (on_attribute (value_change change kind
 rule_change r.Order kind = sort_by argument_precedes
 
 -- the passes over one statement
-abbrev pub changed : Expr → Expr
-changed x = symbols_in (arguments_in (lists_in (labels_in (quoted x))))
+abbrev pub after_passes : Expr → Expr
+after_passes x = symbols_in (arguments_in (lists_in (labels_in (quoted x))))

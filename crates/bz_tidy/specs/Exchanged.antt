@@ -3,12 +3,12 @@ use Rattle.std.specs.Prelude.{◌≡◌, Bool, List, [], ◌∷◌, if◌then◌
 use Rattle.bz_value.specs.declared.value.Item.{Item}
 use Rattle.bz_value.specs.Exchanged.{AreExchanged}
 use Rattle.bz_write.specs.Flags.{item_with_flags}
-use Rattle.bz_tidy.specs.Changes.{changed}
+use Rattle.bz_tidy.specs.Changes.{after_passes}
 use Rattle.bz_tidy.specs.Passes.{on_statement, taken, tidied}
 
 -- an item by itself: what the passes make of a statement, with its flags settled
 abbrev pub item_tidied : Item → Item
-item_tidied item = item_with_flags (on_statement (taken changed) item)
+item_tidied item = item_with_flags (on_statement (taken after_passes) item)
 
 -- the marked items tidied one by one; the others stay
 abbrev pub tidied_where : List Bool → List Item → List Item

@@ -27,7 +27,7 @@ TidySettles = (items : List Item) → IsSettled (tidied items)
 -- as before.
 pub record FlagsSettle : Type 0 where
   pub once : (x : Expr) → with_flags (with_flags x) ≡ with_flags x
-  pub broken : (kind : Kind) (split : Bool) (xs : List Expr) (end_ : List Bytes) → is_broken kind (is_broken kind split xs end_) (map with_flags xs) end_ ≡ is_broken kind split xs end_
+  pub broken : (kind : Kind) (split : Bool) (xs : List Expr) (end : List Bytes) → is_broken kind (is_broken kind split xs end) (map with_flags xs) end ≡ is_broken kind split xs end
   pub comments : (number : Bytes → ℕ) (x : Expr) → amount number (with_flags x) ≡ amount number x
 
 -- Each comment is in the tidy file as often as before.

@@ -16,7 +16,7 @@ use Rattle.bz_items.specs.Characters.{Bytes}
 use Rattle.bz_rule.specs.Rules.{dotted_name}
 use Rattle.bz_value.specs.Empty.{is_empty}
 use Rattle.bz_write.specs.Flags.{flags}
-use Rattle.bz_rule.specs.Values.{has_kind, has_class, text_of, parts_of, items_of, with_text, above, on_row, on_items, on_first, on_third, behind_first, first_text, on_lists}
+use Rattle.bz_rule.specs.Values.{has_kind, has_class, text_of, parts_of, items_of, with_text, above, on_row, on_items, on_first, on_third, on_rest, first_text, on_lists}
 use Rattle.bz_tidy.specs.Orders.{sort_by}
 use Rattle.bz_tidy.specs.Strings.{with_double, shorter_string}
 use Rattle.bz_rule.specs.QuoteMarks.{between, local_name}
@@ -61,8 +61,8 @@ on_attribute change x = on_row k.Named (on_third (change (first_text (parts_of x
 abbrev mutual
   pub quoted : Expr → Expr
   quoted (Token t) = e.Token (record t { text = if is_class t.class c.String then with_double t.text else t.text })
-  quoted (Form' kind s parts s' items end_ split open_ comments) =
-      e.Form (record { kind = kind; parts = each_quoted parts; seq = record { items = each_quoted items; end_ = end_; split = split }; open_ = open_; comments = comments })
+  quoted (Form' kind s parts s' items end split open_break comments) =
+      e.Form (record { kind = kind; parts = each_quoted parts; seq = record { items = each_quoted items; end = end; split = split }; open_break = open_break; comments = comments })
 
   pub each_quoted : {n : _} → Row_of-Expr n → List Expr
   each_quoted end_of-Expr = []
@@ -127,7 +127,7 @@ abbrev pub symbol_precedes : Expr → Expr → Bool
 symbol_precedes x y = is_lt (bytes_order (local_name x) (local_name y))
 
 abbrev pub symbols_in : Expr → Expr
-symbols_in = on_items k.Load (behind_first (sort_by symbol_precedes))
+symbols_in = on_items k.Load (on_rest (sort_by symbol_precedes))
 
 abbrev pub symbols : List Item → List Item
 symbols = on_taken symbols_in

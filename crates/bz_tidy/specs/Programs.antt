@@ -14,7 +14,7 @@ use Rattle.bz_value.specs.declared.value.Item.{Item}
 use Rattle.bz_items.specs.Characters.{Bytes, apostrophe, backslash, quotation_mark}
 use Rattle.bz_rule.specs.QuoteMarks.{is_quote_mark}
 use Rattle.bz_rule.specs.Rules.{inner, is_plain_in}
-use Rattle.bz_rule.specs.Values.{above, behind_first, has_class, has_kind, on_items, on_lists, on_row, on_third, text_of, with_text}
+use Rattle.bz_rule.specs.Values.{above, on_rest, has_class, has_kind, on_items, on_lists, on_row, on_third, text_of, with_text}
 use Rattle.bz_tidy.specs.Lists.{is_taken}
 use Rattle.bz_tidy.specs.Passes.{is_run_load, name_precedes, on_attribute, on_rule_arguments, on_taken, path_precedes, symbol_precedes, tidied}
 use Rattle.bz_tidy.specs.Sorting.{IsSorting, IsSortingByRuns}
@@ -33,8 +33,8 @@ abbrev mutual
   -- the texts of the strings of an expression
   pub on_strings : (Bytes → Bytes) → Expr → Expr
   on_strings change (Token t) = e.Token (record t { text = if is_class t.class c.String then change t.text else t.text })
-  on_strings change (Form' kind s parts s' items end_ split open_ comments) =
-      e.Form (record { kind = kind; parts = each_on_strings change parts; seq = record { items = each_on_strings change items; end_ = end_; split = split }; open_ = open_; comments = comments })
+  on_strings change (Form' kind s parts s' items end split open_break comments) =
+      e.Form (record { kind = kind; parts = each_on_strings change parts; seq = record { items = each_on_strings change items; end = end; split = split }; open_break = open_break; comments = comments })
 
   pub each_on_strings : {n : _} → (Bytes → Bytes) → Row_of-Expr n → List Expr
   each_on_strings change end_of-Expr = []
@@ -108,7 +108,7 @@ HaveOtherArguments = IsChangedAt (λ change. on_taken (on_rule_arguments (λ kin
 
 -- The symbols of a load are sorted, after its path.
 abbrev pub HaveOtherSymbols : List Item → List Item → Type 0
-HaveOtherSymbols = IsChangedAt (λ change. on_taken (on_items k.Load (behind_first change))) (IsSorting symbol_precedes)
+HaveOtherSymbols = IsChangedAt (λ change. on_taken (on_items k.Load (on_rest change))) (IsSorting symbol_precedes)
 
 -- ---- all in turn
 

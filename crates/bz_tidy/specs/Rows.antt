@@ -17,11 +17,11 @@ use Rattle.bz_tidy.specs.Programs.{IsSameLabel, IsSameString, KeepsProgram}
 use Rattle.bz_tidy.specs.Syntax.{program, token_times}
 
 abbrev token : Class → Bytes → Expr
-token class text = e.Token (record { class = class; text = text; break_ = false; comments = no_comments })
+token class text = e.Token (record { class = class; text = text; line_break = false; comments = no_comments })
 
 abbrev under_comments : List Bytes → Kind → Bool → List Expr → List Expr → Expr
 under_comments before kind split parts items =
-    e.Form (record { kind = kind; parts = parts; seq = record { items = items; end_ = []; split = split }; open_ = false; comments = record { before = before; suffix = None } })
+    e.Form (record { kind = kind; parts = parts; seq = record { items = items; end = []; split = split }; open_break = false; comments = record { before = before; suffix = None } })
 
 -- a node of a row of parts, and one with a sequence
 abbrev node : Kind → List Expr → Expr
@@ -58,10 +58,10 @@ Loads = (tidied (three_loads (codes "# keep here" ∷ [])) ≡ three_loads (code
     × (tidied (three_loads []) ≡ load [] (path (codes "\"A.bzl\"")) ∷ load [] (path (codes "\"B.bzl\"")) ∷ load [] (path (codes "\"C.bzl\"")) ∷ [])
 
 abbrev with_suffix : Bytes → Bytes → Expr
-with_suffix text suffix = e.Token (record { class = c.String; text = text; break_ = false; comments = record { before = []; suffix = Some suffix } })
+with_suffix text suffix = e.Token (record { class = c.String; text = text; line_break = false; comments = record { before = []; suffix = Some suffix } })
 
 abbrev under : List Bytes → Bytes → Expr
-under before text = e.Token (record { class = c.String; text = text; break_ = false; comments = record { before = before; suffix = None } })
+under before text = e.Token (record { class = c.String; text = text; line_break = false; comments = record { before = before; suffix = None } })
 
 abbrev calling : Bytes → Bytes → List Expr → List Item
 calling kind name items = statement [] kind (argument name (sequence k.List true [] items) ∷ []) ∷ []

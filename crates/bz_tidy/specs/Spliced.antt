@@ -18,7 +18,7 @@ ends_with_load (item ∷ next ∷ items) = ends_with_load (next ∷ items)
 -- nor the one after them is sorted with its neighbours.
 pub record StandsApart (from come : ℕ) (items : List Item) : Type 0 where
   pub before : ends_with_load (take from items) ≡ false
-  pub behind : begins_with_load (drop (from + come) items) ≡ false
+  pub following : begins_with_load (drop (from + come) items) ≡ false
   pub within : from + come ≤ length items
 
 -- these items tidied as if they were alone; the others stay

@@ -12,9 +12,9 @@ use Rattle.bz_value.specs.Counted.{total}
 
 abbrev mutual
   pub syntax_of : Expr → Expr
-  syntax_of (Token t) = e.Token (record { class = t.class; text = t.text; break_ = false; comments = no_comments })
-  syntax_of (Form' kind s parts s' items end_ split open_ comments) =
-      e.Form (record { kind = kind; parts = each_syntax parts; seq = record { items = each_syntax items; end_ = []; split = false }; open_ = false; comments = no_comments })
+  syntax_of (Token t) = e.Token (record { class = t.class; text = t.text; line_break = false; comments = no_comments })
+  syntax_of (Form' kind s parts s' items end split open_break comments) =
+      e.Form (record { kind = kind; parts = each_syntax parts; seq = record { items = each_syntax items; end = []; split = false }; open_break = false; comments = no_comments })
 
   pub each_syntax : {n : _} → Row_of-Expr n → List Expr
   each_syntax end_of-Expr = []
@@ -30,7 +30,7 @@ program (i.Stmt x ∷ items) = syntax_of x ∷ program items
 abbrev mutual
   pub token_sum : (Class → Bytes → ℕ) → Expr → ℕ
   token_sum number (Token t) = number t.class t.text
-  token_sum number (Form' kind s parts s' items end_ split open_ comments) = row_token_sum number parts + row_token_sum number items
+  token_sum number (Form' kind s parts s' items end split open_break comments) = row_token_sum number parts + row_token_sum number items
 
   pub row_token_sum : {n : _} → (Class → Bytes → ℕ) → Row_of-Expr n → ℕ
   row_token_sum number end_of-Expr = 0

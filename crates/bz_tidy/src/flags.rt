@@ -12,7 +12,7 @@ use bz_write::is_broken;
 /// Whether a sequence is broken; what has no sequence keeps its flag.
 #[tactic(auto, using(crate::proofs::FormSteps::split_by_kind))]
 fn settled_split(form: &Form) -> bool
-    ensures { result ≡ settled_split (frame form.now.kind) form.now.kind form.now.seq.split form.now.seq.items form.now.seq.end_ }
+    ensures { result ≡ settled_split (frame form.now.kind) form.now.kind form.now.seq.split form.now.seq.items form.now.seq.end }
 {
     if is_sequence(form.kind) {
         is_broken(form)

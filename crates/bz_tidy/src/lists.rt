@@ -108,11 +108,11 @@ fn split_marks(alloc: Global, comments: &[Text]) -> Result<Split, Memory>
     Ok(split)
 }
 
-fn push_copies(comments: &[Text], behind: &mut Items<Text>) -> Result<(), Memory>
-    ensures { OnOk result (behind.new ≡ behind.old ++ comments.now) }
+fn push_copies(comments: &[Text], following: &mut Items<Text>) -> Result<(), Memory>
+    ensures { OnOk result (following.new ≡ following.old ++ comments.now) }
 {
     for comment in comments {
-        behind.push(comment.copy()?)?;
+        following.push(comment.copy()?)?;
     }
     Ok(())
 }

@@ -10,11 +10,11 @@ fn begins(mark: &[u8], text: &[u8]) -> bool
 {
     let mut left = mark;
     let mut rest = text;
-    while let [wanted, wanted_behind @ ..] = left {
+    while let [wanted, wanted_after @ ..] = left {
         match rest {
-            [first, behind @ ..] if first.to_ascii_lowercase() == *wanted => {
-                left = wanted_behind;
-                rest = behind;
+            [first, following @ ..] if first.to_ascii_lowercase() == *wanted => {
+                left = wanted_after;
+                rest = following;
             }
             _ => return false,
         }
@@ -27,11 +27,11 @@ pub(crate) fn is_marked(mark: &[u8], comment: &[u8]) -> bool
     ensures { result ≡ marked mark.now comment.now }
 {
     let mut rest = comment;
-    while let [_, behind @ ..] = rest {
+    while let [_, following @ ..] = rest {
         if begins(mark, rest) {
             return true;
         }
-        rest = behind;
+        rest = following;
     }
     false
 }

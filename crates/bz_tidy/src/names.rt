@@ -2,7 +2,7 @@
 //! and there may be too many of them, each in the next, for a walk that calls itself.
 ghost use Rattle.std.specs.Prelude.{◌≡◌, ◌<◌, IsTrue, IfSome, map};
 ghost use Rattle.bz_write.specs.Flags.{with_flags};
-ghost use Rattle.bz_rule.specs.Named.{fronts, fronts_in};
+ghost use Rattle.bz_rule.specs.Named.{fronts, fronts_among};
 ghost use Rattle.bz_tidy.specs.Passes.{quoted};
 
 use bz_tree::{Class, Kind};
@@ -23,7 +23,7 @@ fn is_plain(x: &Expr) -> bool
 fn front_in(parts: &[Expr]) -> Option<&Expr>
     ensures quotes { IfSome result (λ front. quoted front.now ≡ front.now → map quoted parts.now ≡ parts.now) }
     ensures flags { IfSome result (λ front. with_flags front.now ≡ front.now → map with_flags parts.now ≡ parts.now) }
-    ensures smaller { IfSome result (λ front. fronts front.now ≡ fronts_in parts.now) }
+    ensures smaller { IfSome result (λ front. fronts front.now ≡ fronts_among parts.now) }
 {
     match parts {
         [front, dot, last] if is_plain(dot) && is_plain(last) => Some(front),

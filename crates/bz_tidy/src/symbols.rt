@@ -4,7 +4,7 @@ ghost use Rattle.bz_label.specs.Keys.{bytes_order};
 ghost use Rattle.bz_tidy.specs.Orders.{sort_by};
 ghost use Rattle.bz_tidy.specs.Passes.{symbol_precedes};
 ghost use Rattle.bz_rule.specs.QuoteMarks.{local_name as name_in_file};
-ghost use Rattle.bz_rule.specs.Values.{behind_first};
+ghost use Rattle.bz_rule.specs.Values.{on_rest};
 
 use bz_items::{Items, Memory};
 use bz_rule::local_name;
@@ -26,7 +26,7 @@ fn sort_all(alloc: Global, symbols: &mut [Expr]) -> Result<(), Memory>
 }
 
 fn sort_rest(alloc: Global, items: &mut [Expr]) -> Result<(), Memory>
-    ensures { OnOk result (items.new ≡ behind_first (sort_by symbol_precedes) items.old) }
+    ensures { OnOk result (items.new ≡ on_rest (sort_by symbol_precedes) items.old) }
 {
     match items {
         [] => Ok(()),
@@ -37,7 +37,7 @@ fn sort_rest(alloc: Global, items: &mut [Expr]) -> Result<(), Memory>
 /// Sorts the items of a load after its path by local name; equal ones stay in their old order. The error: a growth was
 /// refused; the items are then as before.
 pub(crate) fn sort_symbols(items: &mut Items<Expr>) -> Result<(), Memory>
-    ensures { OnOk result (items.new ≡ behind_first (sort_by symbol_precedes) items.old) }
+    ensures { OnOk result (items.new ≡ on_rest (sort_by symbol_precedes) items.old) }
 {
     let alloc = items.alloc();
     sort_rest(alloc, items.as_mut_slice())?;

@@ -5,7 +5,7 @@ ghost use Rattle.bz_items.specs.Characters.{Bytes};
 ghost use Rattle.bz_write.specs.Flags.{IsSettled, flags, item_with_flags};
 ghost use Rattle.bz_tidy.specs.Passes.{on_statement, on_taken, symbols_in, taken, tidied};
 ghost use Rattle.bz_tidy.specs.Programs.{KeepsProgram};
-ghost use Rattle.bz_tidy.specs.Changes.{changed};
+ghost use Rattle.bz_tidy.specs.Changes.{after_passes};
 
 use crate::flags::settle;
 use crate::labels::shorten_in;
@@ -39,7 +39,7 @@ fn sort_symbols_in(x: &mut Expr) -> Result<(), Memory>
 
 /// The passes over a statement.
 fn change_statement(alloc: Global, x: &mut Expr) -> Result<(), Memory>
-    ensures { OnOk result (x.new ≡ changed x.old) }
+    ensures { OnOk result (x.new ≡ after_passes x.old) }
 {
     quote(alloc, x)?;
     shorten_in(alloc, x)?;
@@ -50,7 +50,7 @@ fn change_statement(alloc: Global, x: &mut Expr) -> Result<(), Memory>
 
 /// The passes over an item: a statement marked `buildifier: leave-alone` and what is no statement stay.
 pub(crate) fn change_item(alloc: Global, item: &mut Item) -> Result<(), Memory>
-    ensures { OnOk result (item.new ≡ on_statement (taken changed) item.old) }
+    ensures { OnOk result (item.new ≡ on_statement (taken after_passes) item.old) }
 {
     match item {
         Item::Block(_) => Ok(()),
@@ -64,7 +64,7 @@ pub(crate) fn change_item(alloc: Global, item: &mut Item) -> Result<(), Memory>
 }
 
 fn change_all(alloc: Global, items: &mut [Item]) -> Result<(), Memory>
-    ensures { OnOk result (items.new ≡ on_taken changed items.old) }
+    ensures { OnOk result (items.new ≡ on_taken after_passes items.old) }
 {
     for item in items.iter_mut() {
         change_item(alloc, item)?;

@@ -134,8 +134,8 @@ last_step (c ∷ t) b p q e =
     let x = last_step t c (w.0) q w.2 in
     (b ∷ x.0, x.1, x.2, ap (λ (s : List ℕ). b ∷ s) x.3, x.4)
 
-behind_ascii : (f : List ℕ) (a : ℕ) (t r : List ℕ) (b : ℕ) → t ≡ f ++ (a ∷ []) → a < 128 → IsUtf8 (t ++ (b ∷ r)) → 128 ≤ b → b < 192 → ⊥
-behind_ascii f a t r b e n u l m =
+after_ascii : (f : List ℕ) (a : ℕ) (t r : List ℕ) (b : ℕ) → t ≡ f ++ (a ∷ []) → a < 128 → IsUtf8 (t ++ (b ∷ r)) → 128 ≤ b → b < 192 → ⊥
+after_ascii f a t r b e n u l m =
     let s = t ++ (b ∷ r) in
     let long : length t ≡ length f + 1 = ap length e ∙ length-append f (a ∷ []) in
     let parts : s ≡ f ++ (a ∷ b ∷ r) = rw e (append_assoc f (a ∷ []) (b ∷ r)) in
@@ -155,7 +155,7 @@ not_inside c (a ∷ t) r b h u l m =
     let w = state_of c (a ∷ t) h.lexeme in
     let x = last_step t a Start (w.0) w.2 in
     elim (last_byte (x.2) (w.0) (x.1) (w.1) x.4 w.3) [
-      | inl n ↦ behind_ascii (x.0) (x.1) (a ∷ t) r b x.3 n u l m
+      | inl n ↦ after_ascii (x.0) (x.1) (a ∷ t) r b x.3 n u l m
       | inr n ↦
           let y : is_high b ≡ true = le-leb 128 b l in
           let z : eqb b 239 ≡ false = ne_eqb b 239 (λ e. absurd (omega arith)) in

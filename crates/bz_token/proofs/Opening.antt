@@ -11,7 +11,7 @@ use Rattle.bz_token.specs.declared.state.State.TheVariants.{Start, Word, PrefixR
 use Rattle.bz_token.specs.declared.state.Quote.{Quote}
 use Rattle.bz_token.specs.declared.state.Quote.TheVariants.{Single, Double}
 use Rattle.bz_token.specs.Bytes.{among, is_digit, is_hexadecimal, is_octal, is_e, is_x, is_o, is_sign, is_high, is_letter, is_quote}
-use Rattle.bz_token.specs.Laws.{OpensBehindPrefix}
+use Rattle.bz_token.specs.Laws.{OpensAfterPrefix}
 use Rattle.bz_token.specs.Lexemes.{prefixes, is_prefix, IsString}
 use Rattle.bz_token.specs.Machine.{after, and_next}
 use Rattle.bz_token.specs.Scanner.{lone_marks, operator_marks, mark_start, number_start, text_start, word_move, quote_byte, move, ends, reads, keyword_or_name, before_third, is_in_string}
@@ -230,26 +230,26 @@ mark_begins q b o u n k h =
       ]
     ]
 
-behind_both : (r u : List ℕ) → is_prefix (r ++ []) ≡ true → is_in_string (last_state PrefixBoth u) ≡ true → Marked r u
-behind_both r [] y h = absurd (both_ways false refl h)
-behind_both r (b ∷ u) y h = ([], b, u, refl, y, mark_begins PrefixBoth b (word_move b) u refl (quiet_word b) h)
+after_both : (r u : List ℕ) → is_prefix (r ++ []) ≡ true → is_in_string (last_state PrefixBoth u) ≡ true → Marked r u
+after_both r [] y h = absurd (both_ways false refl h)
+after_both r (b ∷ u) y h = ([], b, u, refl, y, mark_begins PrefixBoth b (word_move b) u refl (quiet_word b) h)
 
 one_more : (a c b : ℕ) (u : List ℕ) → b ≡ c → Marked (a ∷ c ∷ []) u → Marked (a ∷ []) (b ∷ u)
 one_more a c b u e w = (c ∷ w.0, w.1, w.2, rw (e, w.3) refl, w.4, w.5)
 
-behind_r : (u : List ℕ) → is_in_string (last_state PrefixR u) ≡ true → Marked (114 ∷ []) u
-behind_r [] h = absurd (both_ways false refl h)
-behind_r (b ∷ u) h =
+after_r : (u : List ℕ) → is_in_string (last_state PrefixR u) ≡ true → Marked (114 ∷ []) u
+after_r [] h = absurd (both_ways false refl h)
+after_r (b ∷ u) h =
     elim (cases_Bool (eqb b 98)) [
-      | inl e ↦ one_more 114 98 b u (eqb-true b 98 e) (behind_both (114 ∷ 98 ∷ []) u refl (rw e at h))
+      | inl e ↦ one_more 114 98 b u (eqb-true b 98 e) (after_both (114 ∷ 98 ∷ []) u refl (rw e at h))
       | inr e ↦ ([], b, u, refl, refl, mark_begins PrefixR b (word_move b) u refl (quiet_word b) (rw e at h))
     ]
 
-behind_b : (u : List ℕ) → is_in_string (last_state PrefixB u) ≡ true → Marked (98 ∷ []) u
-behind_b [] h = absurd (both_ways false refl h)
-behind_b (b ∷ u) h =
+after_b : (u : List ℕ) → is_in_string (last_state PrefixB u) ≡ true → Marked (98 ∷ []) u
+after_b [] h = absurd (both_ways false refl h)
+after_b (b ∷ u) h =
     elim (cases_Bool (eqb b 114)) [
-      | inl e ↦ one_more 98 114 b u (eqb-true b 114 e) (behind_both (98 ∷ 114 ∷ []) u refl (rw e at h))
+      | inl e ↦ one_more 98 114 b u (eqb-true b 114 e) (after_both (98 ∷ 114 ∷ []) u refl (rw e at h))
       | inr e ↦ ([], b, u, refl, refl, mark_begins PrefixB b (word_move b) u refl (quiet_word b) (rw e at h))
     ]
 
@@ -267,35 +267,35 @@ either_quiet : (o p : Option State) → goes_to quiet o ≡ true → goes_to qui
 either_quiet None p h k = k
 either_quiet (Some r) p h k = h
 
-behind_letter : (a b : ℕ) (u : List ℕ) → b ≡ a → Marked (a ∷ []) u → Marked [] (b ∷ u)
-behind_letter a b u e w = (a ∷ w.0, w.1, w.2, rw (e, w.3) refl, w.4, w.5)
+after_letter : (a b : ℕ) (u : List ℕ) → b ≡ a → Marked (a ∷ []) u → Marked [] (b ∷ u)
+after_letter a b u e w = (a ∷ w.0, w.1, w.2, rw (e, w.3) refl, w.4, w.5)
 
 abbrev letter_start : ℕ → Option State
 letter_start b = if eqb b 239 then Some High else (if is_letter b then Some Word else None)
 
-behind_start : (b : ℕ) (u : List ℕ) → is_in_string (or_stay Start (text_start b) (λ r. last_state r u)) ≡ true → Marked [] (b ∷ u)
-behind_start b u h =
+after_start : (b : ℕ) (u : List ℕ) → is_in_string (or_stay Start (text_start b) (λ r. last_state r u)) ≡ true → Marked [] (b ∷ u)
+after_start b u h =
     elim (cases_Bool (eqb b 114)) [
-      | inl e ↦ behind_letter 114 b u (eqb-true b 114 e) (behind_r u (rw e at h))
+      | inl e ↦ after_letter 114 b u (eqb-true b 114 e) (after_r u (rw e at h))
       | inr e ↦ elim (cases_Bool (eqb b 98)) [
-        | inl f ↦ behind_letter 98 b u (eqb-true b 98 f) (behind_b u (rw (e, f) at h))
+        | inl f ↦ after_letter 98 b u (eqb-true b 98 f) (after_b u (rw (e, f) at h))
         | inr f ↦ ([], b, u, refl, refl, mark_begins Start b (letter_start b) u refl (chosen quiet ((eqb b 239, Some High) ∷ (is_letter b, Some Word) ∷ []) refl) (rw (e, f) at h))
       ]
     ]
 
 marked : (s : List ℕ) → is_in_string (last_state Start s) ≡ true → Marked [] s
 marked [] h = absurd (both_ways false refl h)
-marked (b ∷ u) h = behind_start b u (not_quiet (option_or (mark_start b) (number_start b)) (text_start b) u (either_quiet (mark_start b) (number_start b) (quiet_marks b) (quiet_numbers b)) h)
+marked (b ∷ u) h = after_start b u (not_quiet (option_or (mark_start b) (number_start b)) (text_start b) u (either_quiet (mark_start b) (number_start b) (quiet_marks b) (quiet_numbers b)) h)
 
 -- ---- no string is the token there
 
-behind_closed : (u : List ℕ) → is_in_string (last_state Closed u) ≡ false
-behind_closed [] = refl
-behind_closed (b ∷ u) = refl
+after_closed : (u : List ℕ) → is_in_string (last_state Closed u) ≡ false
+after_closed [] = refl
+after_closed (b ∷ u) = refl
 
-behind_empty : (m : Quote) (u : List ℕ) → ((back : List ℕ) → u ≡ quote_byte m ∷ back → ⊥) → is_in_string (last_state (Empty m) u) ≡ false
-behind_empty m [] h = refl
-behind_empty m (b ∷ u) h =
+after_empty : (m : Quote) (u : List ℕ) → ((back : List ℕ) → u ≡ quote_byte m ∷ back → ⊥) → is_in_string (last_state (Empty m) u) ≡ false
+after_empty m [] h = refl
+after_empty m (b ∷ u) h =
     elim (cases_Bool (eqb b (quote_byte m))) [
       | inl e ↦ absurd (h u (ap (λ (x : ℕ). x ∷ u) (eqb-true b (quote_byte m) e)))
       | inr e ↦ rw e refl
@@ -304,10 +304,10 @@ behind_empty m (b ∷ u) h =
 closed : (t r : List ℕ) → IsToken v.String t r → is_in_string (last_state Start (t ++ r)) ≡ false
 closed t r h =
     elim (string_state t h.lexeme) [
-      | inl e ↦ rw (last_append Start Closed t r e) (behind_closed r)
+      | inl e ↦ rw (last_append Start Closed t r e) (after_closed r)
       | inr y ↦
           let e : after move Start t ≡ Some (Empty (y.1)) = rw y.3 (empty_state (y.1) (y.0) y.2) in
-          rw (last_append Start (Empty (y.1)) t r e) (behind_empty (y.1) r (λ back is. h.no_third (y.0) (quote_byte (y.1)) back y.2 (quote_is (y.1)) y.3 is))
+          rw (last_append Start (Empty (y.1)) t r e) (after_empty (y.1) r (λ back is. h.no_third (y.0) (quote_byte (y.1)) back y.2 (quote_is (y.1)) y.3 is))
     ]
 
 pub opens : (s : List ℕ) → is_in_string (last_state Start s) ≡ true → OpensString s
@@ -332,8 +332,8 @@ string_at t u q e k stops = record {
 }
 
 -- the state after a prefix and a mark
-behind_mark : (s p : List ℕ) (m : ℕ) (back : List ℕ) → s ≡ p ++ (m ∷ back) → is_prefix p ≡ true → (w : (q : Quote) × (m ≡ quote_byte q)) → last_state Start s ≡ last_state (Opened (w.0)) back
-behind_mark s p m back is y w =
+after_mark : (s p : List ℕ) (m : ℕ) (back : List ℕ) → s ≡ p ++ (m ∷ back) → is_prefix p ≡ true → (w : (q : Quote) × (m ≡ quote_byte q)) → last_state Start s ≡ last_state (Opened (w.0)) back
+after_mark s p m back is y w =
     let front : s ≡ (p ++ (quote_byte (w.0) ∷ [])) ++ back = is ∙ ap (λ (x : ℕ). p ++ (x ∷ back)) w.1 ∙ sym (append_assoc p (quote_byte (w.0) ∷ []) back) in
     rw front (last_append Start (Opened (w.0)) (p ++ (quote_byte (w.0) ∷ [])) back (prefix_opens (w.0) p y))
 
@@ -341,7 +341,7 @@ pub opened : (s : List ℕ) → OpensString s → is_in_string (last_state Start
 opened s o =
     let (p, m, back, is, y, n) = o.marked in
     let w = quote_of m n in
-    let within : inside (last_state Start s) ≡ true = rw (behind_mark s p m back is y w) (stays inside inside_more (Opened (w.0)) back refl) in
+    let within : inside (last_state Start s) ≡ true = rw (after_mark s p m back is y w) (stays inside inside_more (Opened (w.0)) back refl) in
     elim (cases_Bool (is_in_string (last_state Start s))) [
       | inl h ↦ h
       | inr h ↦ let x = taken Start s in absurd (o.unclosed (x.0) (x.1) (sym x.2) (string_at (x.0) (x.1) (last_state Start s) x.3 (closed_ends (last_state Start s) within h) x.4))
@@ -349,8 +349,8 @@ opened s o =
 
 -- ---- byte by byte
 
-pub told : (s : List ℕ) (b : Bool) → b ≡ is_in_string (last_state Start s) → (IsTrue b → OpensString s) × (OpensString s → IsTrue b)
-told s b e = (λ h. opens s (sym e ∙ h), λ o. e ∙ opened s o)
+pub answered : (s : List ℕ) (b : Bool) → b ≡ is_in_string (last_state Start s) → (IsTrue b → OpensString s) × (OpensString s → IsTrue b)
+answered s b e = (λ h. opens s (sym e ∙ h), λ o. e ∙ opened s o)
 
 pub stuck : (s : List ℕ) (q : State) (i : ℕ) → i < length s → move q (get_or s i 0) ≡ None → last_state q (drop i s) ≡ q
 stuck s q i lt e = rw (drop-cons s i 0 lt, e) refl
@@ -394,10 +394,10 @@ no_token_at m back n o d u w e k =
 opens_at_mark : (s p : List ℕ) (m : ℕ) (back : List ℕ) → OpensString s → s ≡ p ++ (m ∷ back) → is_prefix p ≡ true → is_quote m ≡ true → OpensString (m ∷ back)
 opens_at_mark s p m back o is y n =
     let q = quote_of m n in
-    opens (m ∷ back) (ap is_in_string (behind_mark (m ∷ back) [] m back refl refl q ∙ sym (behind_mark s p m back is y q)) ∙ opened s o)
+    opens (m ∷ back) (ap is_in_string (after_mark (m ∷ back) [] m back refl refl q ∙ sym (after_mark s p m back is y q)) ∙ opened s o)
 
-pub opens_behind_prefix : OpensBehindPrefix
-opens_behind_prefix c t r h o =
+pub opens_after_prefix : OpensAfterPrefix
+opens_after_prefix c t r h o =
     let (p, m, back, is, y, n) = o.marked in
     elim (longer t r p (m ∷ back) is) [
       | inl le ↦

@@ -85,9 +85,9 @@ short_parts m b s (short_taken {b = a} {s = u} h) = inr (inl (refl, a, u, refl, 
 short_parts m b s (short_line {s = u} h) = inr (inr (refl, u, refl, h))
 
 -- the text after one more character
-behind : (a : ℕ) (u cs : List ℕ) → encodes cs ≡ a ∷ u → (c : ℕ) × (ds : List ℕ) × (t : List ℕ) × (cs ≡ c ∷ ds) × BytesOf c a t × (u ≡ t ++ encodes ds)
-behind a u [] e = absurd cc
-behind a u (c ∷ cs) e =
+following : (a : ℕ) (u cs : List ℕ) → encodes cs ≡ a ∷ u → (c : ℕ) × (ds : List ℕ) × (t : List ℕ) × (cs ≡ c ∷ ds) × BytesOf c a t × (u ≡ t ++ encodes ds)
+following a u [] e = absurd cc
+following a u (c ∷ cs) e =
     let w = bytes_of c in
     let x = w.2 in
     let f : w.0 ∷ (w.1 ++ encodes cs) ≡ a ∷ u = sym (ap (λ (s : List ℕ). s ++ encodes cs) x.0) ∙ e in
@@ -110,7 +110,7 @@ short_from zero m (c ∷ cs) (b ∷ s) l q e h = absurd (omega arith)
 short_from (suc n) m cs (b ∷ s) l q e h =
     elim (short_parts m b s h) [
       | inl p ↦
-          let w = behind b s cs e in
+          let w = following b s cs e in
           let k : length cs ≡ length (w.0 ∷ w.1) = ap length w.3 in
           let i = drop_short m (w.2) (encodes (w.1)) w.4.1 (subst (IsShort m) w.5 p.1) in
           let j = short_from n m (w.1) (encodes (w.1)) (omega arith) q refl i in
@@ -118,7 +118,7 @@ short_from (suc n) m cs (b ∷ s) l q e h =
       | inr p ↦ elim p [
         | inl y ↦
             let x = ascii_head 92 s cs (omega arith) (e ∙ ap (λ (d : ℕ). d ∷ s) y.0) in
-            let w = behind (y.1) (y.2) (x.0) (x.2 ∙ y.3) in
+            let w = following (y.1) (y.2) (x.0) (x.2 ∙ y.3) in
             let k : length cs ≡ length (92 ∷ x.0) = ap length x.1 in
             let o : length (x.0) ≡ length (w.0 ∷ w.1) = ap length w.3 in
             let i = drop_short m (w.2) (encodes (w.1)) w.4.1 (subst (IsShort m) w.5 y.4) in
@@ -196,7 +196,7 @@ long_from zero m (c ∷ cs) s l q e h = absurd (omega arith)
 long_from (suc n) m cs s l q e long_end = rw (nothing_of cs e) long_end
 long_from (suc n) m cs s l q e (long_plain k b v t g h) =
     let z = marks_head k m (b ∷ v) cs (quote_low m q) e in
-    let w = behind b v (z.0) z.2 in
+    let w = following b v (z.0) z.2 in
     let o : length cs ≡ length (replicate k m ++ z.0) = ap length z.1 in
     let r : length (z.0) ≡ length (w.0 ∷ w.1) = ap length w.3 in
     let i = drop_long m (w.2) (encodes (w.1)) q w.4.1 (subst (IsLong m) w.5 h) in
@@ -205,7 +205,7 @@ long_from (suc n) m cs s l q e (long_plain k b v t g h) =
 long_from (suc n) m cs s l q e (long_taken k b v t h) =
     let z = marks_head k m (92 ∷ b ∷ v) cs (quote_low m q) e in
     let x = ascii_head 92 (b ∷ v) (z.0) (omega arith) z.2 in
-    let w = behind b v (x.0) x.2 in
+    let w = following b v (x.0) x.2 in
     let o : length cs ≡ length (replicate k m ++ z.0) = ap length z.1 in
     let r : length (z.0) ≡ length (92 ∷ x.0) = ap length x.1 in
     let y : length (x.0) ≡ length (w.0 ∷ w.1) = ap length w.3 in

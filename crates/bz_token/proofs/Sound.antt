@@ -15,7 +15,7 @@ use Rattle.bz_token.specs.Machine.{after, and_next}
 use Rattle.bz_token.specs.Scanner.{lone_marks, operator_marks, mark_start, number_start, text_start, quote_or_word, doubled_move, quote_byte, move, ends, reads, keyword_or_name}
 use Rattle.bz_token.proofs.Strings.{quote_is}
 use Rattle.bz_token.proofs.Tables.{one_of}
-use Rattle.bz_token.proofs.Taken.{ended_reads, operator_reads, star_reads, bang_reads, doubled_reads, IsFraction, BehindDigit, whole_reads, BehindZero, zero_reads, point_reads, EndsShort, short_reads, EndsLong, long_reads, high_reads, three_letters, word_reads}
+use Rattle.bz_token.proofs.Taken.{ended_reads, operator_reads, star_reads, bang_reads, doubled_reads, IsFraction, AfterDigit, whole_reads, AfterZero, zero_reads, point_reads, EndsShort, short_reads, EndsLong, long_reads, high_reads, three_letters, word_reads}
 
 -- the class of a text after a state, if there is one
 abbrev from : Option State → List ℕ → Option Class
@@ -91,12 +91,12 @@ mark_sound k b s h =
 -- ---- numbers
 
 -- a first digit and what is after it
-from_digit : (b : ℕ) (s : List ℕ) → is_digit b ≡ true → BehindDigit s → IsNumber (b ∷ s)
+from_digit : (b : ℕ) (s : List ℕ) → is_digit b ≡ true → AfterDigit s → IsNumber (b ∷ s)
 from_digit b s y (d, e, is, h, inl (inl z)) = rw (is, z, append-nil) (whole (b ∷ d) (y, h))
 from_digit b s y (d, e, is, h, inl (inr x)) = rw is (scaled (b ∷ d) e (y, h) x)
 from_digit b s y (d, e, is, h, inr (f, i, (g, x, j, m, n))) = rw (is, i, j) (pointed (b ∷ d) g x (y, h) m n)
 
-from_zero : (s : List ℕ) → BehindZero s → IsNumber (48 ∷ s)
+from_zero : (s : List ℕ) → AfterZero s → IsNumber (48 ∷ s)
 from_zero [] h = whole (48 ∷ []) (refl, tt)
 from_zero (b ∷ s) (inl h) = from_digit 48 (b ∷ s) refl h
 from_zero (b ∷ s) (inr (inl (x, h))) = hexadecimal x h

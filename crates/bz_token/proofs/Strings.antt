@@ -46,8 +46,8 @@ returned q (b ∷ t) h =
       | inr e ↦ rw e (rw e at h)
     ]
 
-behind_backslash : (q : Quote) (b : ℕ) (t : List ℕ) → after move (Short q) t ≡ Some Closed → after move (ShortTaken q) (b ∷ t) ≡ Some Closed
-behind_backslash q b t h = elim (cases_Bool (eqb b 13)) [ inl e ↦ rw e (returned q t h) | inr e ↦ rw e h ]
+after_backslash : (q : Quote) (b : ℕ) (t : List ℕ) → after move (Short q) t ≡ Some Closed → after move (ShortTaken q) (b ∷ t) ≡ Some Closed
+after_backslash q b t h = elim (cases_Bool (eqb b 13)) [ inl e ↦ rw e (returned q t h) | inr e ↦ rw e h ]
 
 shorts : (q : Quote) (s : List ℕ) → IsShort (quote_byte q) s → after move (Short q) (s ++ (quote_byte q ∷ [])) ≡ Some Closed
 shorts q s short_end = rw (itself q) refl
@@ -56,7 +56,7 @@ shorts q s (short_plain {b = b} {s = u} n h) =
     let y = or_parts (eqb b 10) (eqb b 92 || false) x.1 in
     let z = or_parts (eqb b 92) false y.1 in
     rw (x.0, z.0, y.0) (shorts q u h)
-shorts q s (short_taken {b = b} {s = u} h) = rw (no_backslash q) (behind_backslash q b (u ++ (quote_byte q ∷ [])) (shorts q u h))
+shorts q s (short_taken {b = b} {s = u} h) = rw (no_backslash q) (after_backslash q b (u ++ (quote_byte q ∷ [])) (shorts q u h))
 shorts q s (short_line {s = u} h) = rw (no_backslash q) (shorts q u h)
 
 -- a string with pieces is read after its first mark as further on

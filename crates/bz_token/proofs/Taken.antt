@@ -108,10 +108,10 @@ fraction_reads k (b ∷ s) h =
     ]
 
 -- what is after the first digit: digits, and perhaps a point and what is after it, or an exponent
-abbrev pub BehindDigit : List ℕ → Type 0
-BehindDigit s = (d : List ℕ) × (e : List ℕ) × (s ≡ d ++ e) × Each is_digit d × (MayBeExponent e ⊎ ((f : List ℕ) × (e ≡ 46 ∷ f) × IsFraction f))
+abbrev pub AfterDigit : List ℕ → Type 0
+AfterDigit s = (d : List ℕ) × (e : List ℕ) × (s ≡ d ++ e) × Each is_digit d × (MayBeExponent e ⊎ ((f : List ℕ) × (e ≡ 46 ∷ f) × IsFraction f))
 
-pub whole_reads : (k : Class) (s : List ℕ) → reads Whole s ≡ Some k → (k ≡ v.Number) × BehindDigit s
+pub whole_reads : (k : Class) (s : List ℕ) → reads Whole s ≡ Some k → (k ≡ v.Number) × AfterDigit s
 whole_reads k [] h = (sym (same_Some v.Number k h), ([], [], refl, tt, inl (inl refl)))
 whole_reads k (b ∷ s) h =
     elim (cases_Bool (is_digit b)) [
@@ -161,11 +161,11 @@ oct_mark_reads k (b ∷ s) h =
     ]
 
 -- what is after a first 0: more than after another digit
-abbrev pub BehindZero : List ℕ → Type 0
-BehindZero [] = Unit {0}
-BehindZero (b ∷ s) = BehindDigit (b ∷ s) ⊎ (((is_x b ≡ true) × SomeOf is_hexadecimal s) ⊎ ((is_o b ≡ true) × SomeOf is_octal s))
+abbrev pub AfterZero : List ℕ → Type 0
+AfterZero [] = Unit {0}
+AfterZero (b ∷ s) = AfterDigit (b ∷ s) ⊎ (((is_x b ≡ true) × SomeOf is_hexadecimal s) ⊎ ((is_o b ≡ true) × SomeOf is_octal s))
 
-pub zero_reads : (k : Class) (s : List ℕ) → reads Zero s ≡ Some k → (k ≡ v.Number) × BehindZero s
+pub zero_reads : (k : Class) (s : List ℕ) → reads Zero s ≡ Some k → (k ≡ v.Number) × AfterZero s
 zero_reads k [] h = (sym (same_Some v.Number k h), tt)
 zero_reads k (b ∷ s) h =
     elim (cases_Bool (is_digit b)) [

@@ -52,5 +52,5 @@ abbrev pub ClassOfNumber : Type 0
 ClassOfNumber = (class : Class) → class_of (class_number class) ≡ Some class
 
 -- A token at which a string begins that is not closed is its prefix: after it is a quotation mark, and no token begins there.
-abbrev pub OpensBehindPrefix : Type 0
-OpensBehindPrefix = (c : Class) (t r : List ℕ) → IsToken c t r → OpensString (t ++ r) → (mark : ℕ) × (back : List ℕ) × (is_prefix t ≡ true) × (r ≡ mark ∷ back) × (is_quote mark ≡ true) × NoToken r
+abbrev pub OpensAfterPrefix : Type 0
+OpensAfterPrefix = (c : Class) (t r : List ℕ) → IsToken c t r → OpensString (t ++ r) → (mark : ℕ) × (back : List ℕ) × (is_prefix t ≡ true) × (r ≡ mark ∷ back) × (is_quote mark ≡ true) × NoToken r

@@ -10,5 +10,5 @@ pub use class::Class;
 pub use scan::{Found, opens_string, token};
 pub use theorems::{
     begins, by_characters, class_of_number, cuts, each_keyword, each_mark, each_number, one_token,
-    opens_behind_prefix, separated, single,
+    opens_after_prefix, separated, single,
 };

@@ -1,5 +1,5 @@
 ghost use Rattle.bz_token.specs.Characters.{ByCharacters};
-ghost use Rattle.bz_token.specs.Laws.{OneToken, Begins, Separated, Single, EachMark, EachKeyword, EachNumber, Cuts, ClassOfNumber, OpensBehindPrefix};
+ghost use Rattle.bz_token.specs.Laws.{OneToken, Begins, Separated, Single, EachMark, EachKeyword, EachNumber, Cuts, ClassOfNumber, OpensAfterPrefix};
 
 /// No text begins with two tokens: neither of two classes nor of two lengths.
 pub fn one_token()
@@ -52,6 +52,6 @@ pub fn class_of_number()
 {}
 
 /// A token at which a string begins that is not closed is its prefix: after it is a quotation mark, and no token begins there.
-pub fn opens_behind_prefix()
-    ensures { OpensBehindPrefix }
+pub fn opens_after_prefix()
+    ensures { OpensAfterPrefix }
 {}

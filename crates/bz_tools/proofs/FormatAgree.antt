@@ -18,14 +18,14 @@ use Rattle.bz_format.specs.Formatted.{bzl_formatted, formatted_tree}
 use Rattle.bz_tree.specs.Legal.{ReadsBzl}
 use Rattle.bz_ports.specs.Exits.{first_cut}
 use Rattle.bz_ports.specs.Ports.{IsInput}
-use Rattle.bz_ports.specs.Told.{stdin, fault_line}
+use Rattle.bz_ports.specs.Reported.{stdin, fault_line}
 use Rattle.bz_ports.specs.declared.exit.Cut.{Cut}
 use Rattle.bz_ports.specs.declared.exit.Cut.TheVariants as c
 use Rattle.bz_tools.specs.Modes as m
 use Rattle.bz_tools.specs.FileKinds.{FormatsAs, is_bzl}
 use Rattle.bz_tools.specs.FormatRun.{Effect, Run, FilesFormatted, InputStep, input_unread, input_without_memory, input_unformatted, input_printed, FormatOutcome, FormatOutcomeOf, RunOf, IsFormatUsageLine, no_word_line, begun, grown, out_after, worse, output_effect, input_out, text_status, refused}
 use Rattle.bz_tools.specs.FormatExact.{ExactStep, exact_absent, exact_unformatted, exact_formatted, Exact}
-use Rattle.bz_tools.specs.FormatAgree.{AreAlike, SameReports, Agree, OutcomesAgree}
+use Rattle.bz_tools.specs.FormatAgree.{LinesAreAlike, SameReports, Agree, OutcomesAgree}
 use Rattle.bz_tools.specs.declared.file_type.FileType.{FileType}
 use Rattle.bz_tools.specs.declared.mode.Mode.{Mode}
 use Rattle.bz_tools.proofs.FormatWhole.{exact_run}
@@ -103,8 +103,8 @@ more_reports (line ∷ lines) (other ∷ others) more others' same again = (same
 same_effect : (one other : Effect) → other ≡ one → Alike one other
 same_effect one other same = subst (λ (e : Effect). Alike one e) (sym same) (record { out = refl; lines = same_reports one.lines; status = refl; cut = refl; closes = refl })
 
-not_wanting : (name : Bytes) → (refused name f.Memory).cut ≡ c.Whole → ⊥
-not_wanting name is = cc is
+not_memory_effect : (name : Bytes) → (refused name f.Memory).cut ≡ c.Whole → ⊥
+not_memory_effect name is = cc is
 
 same_refusal : OneEach → (bzl : Bool) (text name : Bytes) (fault other : FormatFault) → FormatsAs bzl text (Err fault) → FormatsAs bzl text (Err other)
     → (refused name fault).cut ≡ c.Whole → (refused name other).cut ≡ c.Whole → Alike (refused name fault) (refused name other)
@@ -118,16 +118,16 @@ same_refusal laws bzl text name f.TooLarge (f.Unread other) one two whole whole'
 same_refusal laws bzl text name f.TooDeep (f.Unread other) one two whole whole' = absurd (unread_or_deep bzl text other two one)
 same_refusal laws bzl text name f.TooLarge f.TooDeep one two whole whole' = absurd (large_or_deep laws bzl text one two)
 same_refusal laws bzl text name f.TooDeep f.TooLarge one two whole whole' = absurd (large_or_deep laws bzl text two one)
-same_refusal laws bzl text name f.Memory other one two whole whole' = absurd (not_wanting name whole)
-same_refusal laws bzl text name (f.Unread fault) f.Memory one two whole whole' = absurd (not_wanting name whole')
-same_refusal laws bzl text name f.TooLarge f.Memory one two whole whole' = absurd (not_wanting name whole')
-same_refusal laws bzl text name f.TooDeep f.Memory one two whole whole' = absurd (not_wanting name whole')
+same_refusal laws bzl text name f.Memory other one two whole whole' = absurd (not_memory_effect name whole)
+same_refusal laws bzl text name (f.Unread fault) f.Memory one two whole whole' = absurd (not_memory_effect name whole')
+same_refusal laws bzl text name f.TooLarge f.Memory one two whole whole' = absurd (not_memory_effect name whole')
+same_refusal laws bzl text name f.TooDeep f.Memory one two whole whole' = absurd (not_memory_effect name whole')
 
 not_both : OneEach → (bzl : Bool) (text name new : Bytes) (fault : FormatFault) → FormatsAs bzl text (Ok new) → FormatsAs bzl text (Err fault) → (refused name fault).cut ≡ c.Whole → ⊥
-not_both laws bzl text name new (f.Unread fault) formats told whole = unread_or_ok bzl text new fault told formats
-not_both laws bzl text name new f.TooLarge formats told whole = ok_or_large laws bzl text new formats told
-not_both laws bzl text name new f.TooDeep formats told whole = ok_or_deep laws bzl text new formats told
-not_both laws bzl text name new f.Memory formats told whole = not_wanting name whole
+not_both laws bzl text name new (f.Unread fault) formats reported whole = unread_or_ok bzl text new fault reported formats
+not_both laws bzl text name new f.TooLarge formats reported whole = ok_or_large laws bzl text new formats reported
+not_both laws bzl text name new f.TooDeep formats reported whole = ok_or_deep laws bzl text new formats reported
+not_both laws bzl text name new f.Memory formats reported whole = not_memory_effect name whole
 
 -- by effects that are these
 alike_as : (one other one' other' : Effect) → one' ≡ one → other' ≡ other → Alike one other → Alike one' other'

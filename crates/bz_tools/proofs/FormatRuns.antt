@@ -96,7 +96,7 @@ files_outcome words line known folder after run read some runs = inr (rw (read) 
 pub usage_outcome : (words : List (List ℕ)) (usage : m.FormatUsage) (line : List ℕ) (known : Option (List ℕ)) (folder : Folder)
     → m.format_line words ≡ Err usage → IsFormatUsageLine usage line
     → FormatOutcome words known folder (record begun { lines = line ∷ []; status = 2 }) folder
-usage_outcome words usage line known folder read told = inr (rw (read) (line, told, refl, refl))
+usage_outcome words usage line known folder read reported = inr (rw (read) (line, reported, refl, refl))
 
 -- a list of names that its test finds empty
 pub no_names : (items names : List (Bor (List ℕ))) (empty : Bool) → names ≡ items → empty ≡ (length names == 0) → empty ≡ true

@@ -64,7 +64,7 @@ ok_of_front bzl (Some all) front new read formats = go (cut_at_limit all)
     go (inr long) = absurd (long_front all long (subst (λ (text : List ℕ). length text ≤ limit) read (short_ok bzl front new formats)))
 
 -- what is reported of the front of a longer text is reported of the text
-longer : (bzl : Bool) (all : List ℕ) → limit < length all → (told : FormatFault) → FormatsAs bzl (take (limit + 1) all) (Err told) → FormatsAs bzl all (Err told)
+longer : (bzl : Bool) (all : List ℕ) → limit < length all → (reported : FormatFault) → FormatsAs bzl (take (limit + 1) all) (Err reported) → FormatsAs bzl all (Err reported)
 longer false all long (f.Unread fault) of_front =
     ((λ accepted. let le = within_limit all accepted in omega (arith, le, long)), fault_of_front all fault long of_front.1)
 longer false all long f.TooLarge of_front = absurd (long_front all long of_front.1.2)

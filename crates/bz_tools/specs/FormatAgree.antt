@@ -5,20 +5,20 @@ use Rattle.bz_items.specs.Characters.{Bytes}
 use Rattle.bz_files.specs.Folder.{Folder, IsAside, SameFolders}
 use Rattle.bz_lex.specs.declared.fault.ReadFault.{ReadFault}
 use Rattle.bz_ports.specs.declared.exit.Cut.TheVariants as c
-use Rattle.bz_ports.specs.Told.{fault_line}
+use Rattle.bz_ports.specs.Reported.{fault_line}
 use Rattle.bz_tools.specs.FormatRun.{Run, FormatOutcome}
 use Rattle.bz_tools.specs.Modes.{clap_fault, format_line}
 
 -- Two lines are the same, or both report a fault of the same file: of a text that is not accepted it is not fixed which.
-abbrev pub AreAlike : Bytes → Bytes → Type 0
-AreAlike line other = (other ≡ line) ⊎ ((name : Bytes) × (fault other_fault : ReadFault) × (line ≡ fault_line name fault) × (other ≡ fault_line name other_fault))
+abbrev pub LinesAreAlike : Bytes → Bytes → Type 0
+LinesAreAlike line other = (other ≡ line) ⊎ ((name : Bytes) × (fault other_fault : ReadFault) × (line ≡ fault_line name fault) × (other ≡ fault_line name other_fault))
 
 -- as many lines, each like the other's
 abbrev pub SameReports : List Bytes → List Bytes → Type 0
 SameReports [] [] = Unit {0}
 SameReports [] (line ∷ lines) = ⊥
 SameReports (line ∷ lines) [] = ⊥
-SameReports (line ∷ lines) (other ∷ others) = AreAlike line other × SameReports lines others
+SameReports (line ∷ lines) (other ∷ others) = LinesAreAlike line other × SameReports lines others
 
 -- Two runs write the same, report the same, and end alike.
 pub record Agree (one other : Run) : Type 0 where

@@ -13,7 +13,7 @@ use Rattle.bz_ports.specs.Exits.{first_cut}
 use Rattle.bz_ports.specs.Faults.{Rises}
 use Rattle.bz_ports.specs.Near.{nearest}
 use Rattle.bz_ports.specs.Ports.{IsInput}
-use Rattle.bz_ports.specs.Told.{stdin, named_line, fault_line}
+use Rattle.bz_ports.specs.Reported.{stdin, named_line, fault_line}
 use Rattle.bz_tools.specs.declared.file_type.FileType.{FileType}
 use Rattle.bz_tools.specs.declared.mode.Mode.{Mode}
 use Rattle.bz_tools.specs.declared.mode.Mode.TheVariants.{Fix, Check, PrintIfChanged}
@@ -44,8 +44,8 @@ report_effect line status cut = record { out = []; lines = line ∷ []; status =
 abbrev pub unopened : Bytes → Cut → Effect
 unopened name cut = report_effect (named_line name (codes "cannot open")) 3 cut
 
-abbrev pub wanting : Bytes → Effect
-wanting name = report_effect (named_line name (codes "Memory")) 3 c.Memory
+abbrev pub memory_effect : Bytes → Effect
+memory_effect name = report_effect (named_line name (codes "Memory")) 3 c.Memory
 
 abbrev pub unwritten : Bytes → Effect
 unwritten name = report_effect (named_line name (codes "cannot write")) 3 c.Files
@@ -55,7 +55,7 @@ abbrev pub refused : Bytes → FormatFault → Effect
 refused name (f.Unread fault) = report_effect (fault_line name fault) 1 c.Whole
 refused name f.TooLarge = report_effect (named_line name (codes "TooLarge")) 3 c.Whole
 refused name f.TooDeep = report_effect (named_line name (codes "TooDeep")) 3 c.Whole
-refused name f.Memory = wanting name
+refused name f.Memory = memory_effect name
 
 -- ---- the modes
 
@@ -98,7 +98,7 @@ Rewrites name text new folder effect after =
 
 -- a file that is not read
 abbrev pub unread_file : Bytes → FileFault → Effect
-unread_file name file.Memory = wanting name
+unread_file name file.Memory = memory_effect name
 unread_file name file.Absent = unopened name c.Whole
 unread_file name file.Open = unopened name c.Files
 unread_file name file.Write = unopened name c.Files
@@ -108,7 +108,7 @@ unread_file name file.Write = unopened name c.Files
 pub data FileStep (mode : Mode) (file_type : FileType) (name : Bytes) (closed : Bool) (folder : Folder) (effect : Effect) (after : Folder) : Type 0 where
   unread : (fault : FileFault) → (fault ≡ file.Absent → get folder name ≡ None) → effect ≡ unread_file name fault → after ≡ folder
       → FileStep mode file_type name closed folder effect after
-  without_memory : effect ≡ wanting name → after ≡ folder → FileStep mode file_type name closed folder effect after
+  without_memory : effect ≡ memory_effect name → after ≡ folder → FileStep mode file_type name closed folder effect after
   unformatted : (text : Bytes) (fault : FormatFault) → get folder name ≡ Some text → FormatsAs (is_bzl file_type name) text (Err fault) → effect ≡ refused name fault
       → after ≡ folder → FileStep mode file_type name closed folder effect after
   kept : (text new : Bytes) → get folder name ≡ Some text → FormatsAs (is_bzl file_type name) text (Ok new) → is_rewritten mode text new ≡ false
@@ -121,7 +121,7 @@ pub data FileStep (mode : Mode) (file_type : FileType) (name : Bytes) (closed : 
 
 pub data InputStep (mode : Mode) (file_type : FileType) (known : Option Bytes) (effect : Effect) : Type 0 where
   input_unread : effect ≡ unopened stdin c.Read → InputStep mode file_type known effect
-  input_without_memory : effect ≡ wanting stdin → InputStep mode file_type known effect
+  input_without_memory : effect ≡ memory_effect stdin → InputStep mode file_type known effect
   input_unformatted : (text : Bytes) (fault : FormatFault) → IsInput known text → FormatsAs (is_bzl file_type stdin) text (Err fault) → effect ≡ refused stdin fault
       → InputStep mode file_type known effect
   input_printed : (text new : Bytes) → IsInput known text → FormatsAs (is_bzl file_type stdin) text (Ok new)

@@ -16,15 +16,15 @@ mode_rule = record (new_rule (codes "mode")) { long = Some (codes "mode"); value
 abbrev pub type_rule : Rule
 type_rule = record (new_rule (codes "type")) { long = Some (codes "type"); value_names = 1 }
 
-abbrev pub file_rule : Rule
-file_rule = record (new_rule (codes "file")) { action = Some Append; value_names = 1 }
+abbrev pub files_rule : Rule
+files_rule = record (new_rule (codes "file")) { action = Some Append; value_names = 1 }
 
 -- the words are those after the program's own name, and `--version` is one
 abbrev pub nameless_buildifier : App
 nameless_buildifier = let app = new_app (codes "buildifier") in record { top = record app.top { no_binary_name = true; has_version = true }; subs = [] }
 
 abbrev pub buildifier_app : App
-buildifier_app = with_rule (with_rule (with_rule nameless_buildifier mode_rule) type_rule) file_rule
+buildifier_app = with_rule (with_rule (with_rule nameless_buildifier mode_rule) type_rule) files_rule
 
 -- ---- what the words say
 

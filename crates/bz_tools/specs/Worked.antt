@@ -3,7 +3,7 @@ use Rattle.std.specs.Prelude.{◌≡◌, [], ◌∷◌, codes, Ok, Err, true, fa
 use Rattle.bz_lex.specs.declared.fault.ReadFault.TheVariants.{Unexpected}
 use Rattle.bz_files.specs.declared.files.FileFault.TheVariants.{Absent}
 use Rattle.bz_formatter.specs.declared.formatter.FormatFault.TheVariants.{Unread, TooLarge}
-use Rattle.bz_ports.specs.Told.{stdin}
+use Rattle.bz_ports.specs.Reported.{stdin}
 use Rattle.bz_tools.specs.FormatRun.{file_out, input_out, is_rewritten, text_status, worse, refused, unread_file, unwritten, unprinted}
 use Rattle.bz_tools.specs.FileKinds.{is_bzl}
 use Rattle.bz_tools.specs.Modes.{format_line, no_mode, no_type, clap_fault}
@@ -31,12 +31,12 @@ Formats = (file_out Check (codes "BUILD") (codes "x( )\n") (codes "x()\n") ≡ c
 abbrev FileKinds : Type 0
 FileKinds = (is_bzl Auto (codes "a/b.bzl") ≡ true) × (is_bzl Auto (codes "bzl") ≡ false) × (is_bzl Auto stdin ≡ false) × (is_bzl Bzl stdin ≡ true) × (is_bzl Build (codes "b.bzl") ≡ false)
 
-abbrev FormatTold : Type 0
-FormatTold = ((refused (codes "a/BUILD") (Unread (Unexpected 1 7))).lines ≡ codes "a/BUILD:1:7: Unexpected\n" ∷ [])
+abbrev FormatReported : Type 0
+FormatReported = ((refused (codes "a/BUILD") (Unread (Unexpected 1 7))).lines ≡ codes "a/BUILD:1:7: Unexpected\n" ∷ [])
     × ((refused stdin TooLarge).lines ≡ codes "<stdin>: TooLarge\n" ∷ [])
     × ((unread_file (codes "BUILD") Absent).lines ≡ codes "BUILD: cannot open\n" ∷ [])
     × ((unwritten (codes "BUILD")).lines ≡ codes "BUILD: cannot write\n" ∷ [])
     × ((unprinted (codes "x")).lines ≡ codes "<stdout>: cannot write\n" ∷ [])
 
 abbrev pub WorkedFormats : Type 0
-WorkedFormats = FormatLines × Formats × FileKinds × FormatTold
+WorkedFormats = FormatLines × Formats × FileKinds × FormatReported

@@ -1,8 +1,8 @@
 //! What becomes of a text that buildifier reads, and of a run over several.
 ghost use Rattle.std.specs.Prelude.{◌≡◌, ◌⊎◌, ◌||◌, ◌∷◌, ◌++◌, [], false, codes, IfOk, OnOk};
 ghost use Rattle.bz_ports.specs.Exits.{first_cut};
-ghost use Rattle.bz_ports.specs.Outputs.{Tells, Counts, WritesUnlessClosed};
-ghost use Rattle.bz_ports.specs.Told.{stdin, named_line};
+ghost use Rattle.bz_ports.specs.Outputs.{Reports, Counts, WritesUnlessClosed};
+ghost use Rattle.bz_ports.specs.Reported.{stdin, named_line};
 ghost use Rattle.bz_tools.specs.FormatRun.{Prints, IsCutBy, unread_file, refused, file_out, input_out, is_rewritten, text_status, worse};
 ghost use Rattle.bz_tools.specs.FormatRun as r;
 ghost use Rattle.bz_tools.specs.FormatShown.{effect_seen};
@@ -12,7 +12,7 @@ use crate::{Cut, Sink};
 use bz_files::FileFault;
 use bz_formatter::FormatFault;
 use bz_items::{Memory, Text};
-use bz_ports::{STDIN, first_cut, tell_fault, tell_named, write_whole};
+use bz_ports::{STDIN, first_cut, report_fault, report_named, write_whole};
 use std::alloc::Global;
 
 /// What becomes of one text.
@@ -83,9 +83,9 @@ pub(crate) fn grown(progress: Progress, effect: Effect) -> Progress
 /// A failure, or a file that is absent, is reported.
 pub(crate) fn fail<'a, E: Sink>(err: &mut E, name: &'a str, word: &'a str, cut: Cut) -> Effect
     ensures effect { result ≡ record { status = 3; cut = cut; closes = false } }
-    ensures told { Tells (E.faults err.old) (E.faults err.new) (E.contents err.old) (E.contents err.new) (named_line name.entry.now word.entry.now ∷ []) }
+    ensures reported { Reports (E.faults err.old) (E.faults err.new) (E.contents err.old) (E.contents err.new) (named_line name.entry.now word.entry.now ∷ []) }
 {
-    tell_named(err, name, word);
+    report_named(err, name, word);
     Effect {
         status: FAILED,
         cut,
@@ -96,7 +96,7 @@ pub(crate) fn fail<'a, E: Sink>(err: &mut E, name: &'a str, word: &'a str, cut: 
 /// Reports why a file was not read.
 pub(crate) fn unread_file<E: Sink>(err: &mut E, name: &str, fault: FileFault) -> Effect
     ensures effect { result ≡ effect_seen (unread_file name.now fault) }
-    ensures told { Tells (E.faults err.old) (E.faults err.new) (E.contents err.old) (E.contents err.new) (unread_file name.now fault).lines }
+    ensures reported { Reports (E.faults err.old) (E.faults err.new) (E.contents err.old) (E.contents err.new) (unread_file name.now fault).lines }
 {
     match fault {
         FileFault::Memory => fail(err, name, "Memory", Cut::Memory),
@@ -108,11 +108,11 @@ pub(crate) fn unread_file<E: Sink>(err: &mut E, name: &str, fault: FileFault) ->
 /// Reports why a text has no formatted text.
 pub(crate) fn refused<E: Sink>(err: &mut E, name: &str, fault: &FormatFault) -> Effect
     ensures effect { result ≡ effect_seen (refused name.now fault.now) }
-    ensures told { Tells (E.faults err.old) (E.faults err.new) (E.contents err.old) (E.contents err.new) (refused name.now fault.now).lines }
+    ensures reported { Reports (E.faults err.old) (E.faults err.new) (E.contents err.old) (E.contents err.new) (refused name.now fault.now).lines }
 {
     match fault {
         FormatFault::Unread(fault) => {
-            tell_fault(err, name, fault);
+            report_fault(err, name, fault);
             Effect {
                 status: REFUSED,
                 cut: Cut::Whole,
@@ -194,7 +194,7 @@ pub(crate) fn print<W: Sink, E: Sink>(
 ) -> Effect
     ensures step { (effect : r.Effect) × Prints closed text.now status effect × (result ≡ effect_seen effect)
         × WritesUnlessClosed closed effect.closes (W.faults out.old) (W.faults out.new) (W.contents out.old) (W.contents out.new) effect.out
-        × Tells (E.faults err.old) (E.faults err.new) (E.contents err.old) (E.contents err.new) effect.lines }
+        × Reports (E.faults err.old) (E.faults err.new) (E.contents err.old) (E.contents err.new) effect.lines }
     ensures cut { IsCutBy result.cut 0 0 (W.faults out.old) (W.faults out.new) }
     ensures counts { Counts (W.faults out.old) (W.faults out.new) }
 {

@@ -1,12 +1,12 @@
 //! The words of buildifier's line.
 ghost use Rattle.std.specs.Prelude.{◌≡◌, [], false, Ok, Err, IfOk, IfErr, IfSome, map};
 ghost use Rattle.clap.specs.Words.{app_of, rule_of, found_of, fault_of, matches_of, rows_of};
-ghost use Rattle.bz_tools.specs.Modes.{nameless_buildifier, buildifier_app, mode_rule, type_rule, file_rule, format_line};
+ghost use Rattle.bz_tools.specs.Modes.{nameless_buildifier, buildifier_app, mode_rule, type_rule, files_rule, format_line};
 ghost use Rattle.bz_tools.specs.FormatShown.{seen_line, usage_of};
 
 use crate::file_type::FileType;
 use crate::mode::Mode;
-use bz_ports::{VERSION, text_of, texts_of};
+use bz_ports::{VERSION, argument_text, argument_texts};
 use clap::error::ErrorKind;
 use clap::{Arg, ArgAction, ArgMatches, Command};
 use std::alloc::{AllocError, Global};
@@ -69,7 +69,7 @@ fn file_type<'a>(alloc: Global) -> Arg<'a>
 }
 
 fn file<'a>(alloc: Global) -> Arg<'a>
-    ensures rule { rule_of result ≡ file_rule }
+    ensures rule { rule_of result ≡ files_rule }
     ensures local { result.global ≡ false }
 {
     Arg::new(alloc, "file")
@@ -123,15 +123,15 @@ pub(crate) fn read_format_line<'a, S: AsStr>(
     ensures err { IfErr result (λ fault. IfSome (usage_of fault) (λ usage. format_line (map S.text words.entry.now) ≡ Err usage)) }
 {
     let matches = parse(alloc, words)?;
-    let name = text_of(&matches, "mode").unwrap_or("fix");
+    let name = argument_text(&matches, "mode").unwrap_or("fix");
     let Some(mode) = Mode::called(name) else {
         return Err(FormatUsage::NoMode(name));
     };
-    let type_name = text_of(&matches, "type").unwrap_or("auto");
+    let type_name = argument_text(&matches, "type").unwrap_or("auto");
     let Some(file_type) = FileType::called(type_name) else {
         return Err(FormatUsage::NoType(type_name));
     };
-    match texts_of(alloc, &matches, "file") {
+    match argument_texts(alloc, &matches, "file") {
         Ok(files) => Ok(FormatLine {
             mode,
             file_type,

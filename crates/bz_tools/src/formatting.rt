@@ -2,8 +2,8 @@
 ghost use Rattle.std.specs.Prelude.{◌≡◌, ◌≢◌, ◌⊎◌, ◌≤◌, [], ◌∷◌, List, ℕ, true, false, IfOk, OnOk, OnErr, IsErr, Some, codes, map, option_map};
 ghost use Rattle.std.specs.FinMap.{get};
 ghost use Rattle.bz_ports.specs.Faults.{Rises, AppendsUnlessFailed};
-ghost use Rattle.bz_ports.specs.Outputs.{Tells, Counts, Writes, WritesUnlessClosed};
-ghost use Rattle.bz_ports.specs.Told.{stdin, named_line};
+ghost use Rattle.bz_ports.specs.Outputs.{Reports, Counts, Writes, WritesUnlessClosed};
+ghost use Rattle.bz_ports.specs.Reported.{stdin, named_line};
 ghost use Rattle.bz_tools.specs.Modes as m;
 ghost use Rattle.bz_tools.specs.Modes.{format_line};
 ghost use Rattle.bz_tools.specs.FileKinds.{FormatsAs, is_bzl};
@@ -23,7 +23,7 @@ use bz_files::Files;
 use bz_format::format_bzl;
 use bz_formatter::{FormatFault, format};
 use bz_items::Text;
-use bz_ports::{InputFault, MOST, STDIN, read_most, tell, tell_clap};
+use bz_ports::{InputFault, MOST, STDIN, read_most, report, report_clap};
 use std::alloc::{AllocError, Global};
 use std::convert::AsStr;
 
@@ -40,7 +40,7 @@ fn rewrite<F: Files, E: Sink>(
 ) -> Effect
     ensures step { F.honest files.old ≡ true → (effect : r.Effect) × Rewrites name.now text.now new.now (F.folder files.old) effect (F.folder files.new)
         × (result ≡ effect_seen effect)
-        × Tells (E.faults err.old) (E.faults err.new) (E.contents err.old) (E.contents err.new) effect.lines }
+        × Reports (E.faults err.old) (E.faults err.new) (E.contents err.old) (E.contents err.new) effect.lines }
     ensures open { result.closes ≡ false }
     ensures status { result.cut ≢ Cut.Whole → result.status ≡ 3 }
     ensures cut { ((result.cut ≡ Cut.Whole) × (F.faults files.new ≡ F.faults files.old))
@@ -88,7 +88,7 @@ fn file_effect<F: Files, W: Sink, E: Sink>(
     ensures step { F.honest files.old ≡ true → (effect : r.Effect) × FileStep mode file_type name.now closed (F.folder files.old) effect (F.folder files.new)
         × (result ≡ effect_seen effect)
         × WritesUnlessClosed closed effect.closes (W.faults out.old) (W.faults out.new) (W.contents out.old) (W.contents out.new) effect.out
-        × Tells (E.faults err.old) (E.faults err.new) (E.contents err.old) (E.contents err.new) effect.lines }
+        × Reports (E.faults err.old) (E.faults err.new) (E.contents err.old) (E.contents err.new) effect.lines }
     ensures status { result.cut ≢ Cut.Whole → result.status ≡ 3 }
     ensures cut { IsCutBy result.cut (F.faults files.old) (F.faults files.new) (W.faults out.old) (W.faults out.new) }
     ensures files { Counts (F.faults files.old) (F.faults files.new) }
@@ -126,7 +126,7 @@ fn input_effect<R: Source, W: Sink, E: Sink>(
     ensures step { (effect : r.Effect) × InputStep mode file_type (R.remaining input.old) effect
         × (result ≡ effect_seen effect)
         × Writes effect.closes (W.faults out.old) (W.faults out.new) (W.contents out.old) (W.contents out.new) effect.out
-        × Tells (E.faults err.old) (E.faults err.new) (E.contents err.old) (E.contents err.new) effect.lines }
+        × Reports (E.faults err.old) (E.faults err.new) (E.contents err.old) (E.contents err.new) effect.lines }
     ensures status { result.cut ≢ Cut.Whole → result.status ≡ 3 }
     ensures files { result.cut ≢ Cut.Files }
     ensures unwritten { result.cut ≡ Cut.Read → out.new ≡ out.old }
@@ -165,7 +165,7 @@ fn run_files<F: Files, W: Sink, E: Sink>(
     ensures runs { F.honest files.old ≡ true → (run : r.Run) × (result ≡ progress_of run)
         × r.FilesFormatted mode file_type (map (λ name. name.now) names.now) begun (F.folder files.old) run (F.folder files.new)
         × Writes run.closed (W.faults out.old) (W.faults out.new) (W.contents out.old) (W.contents out.new) run.out
-        × Tells (E.faults err.old) (E.faults err.new) (E.contents err.old) (E.contents err.new) run.lines }
+        × Reports (E.faults err.old) (E.faults err.new) (E.contents err.old) (E.contents err.new) run.lines }
     ensures status { result.cut ≢ Cut.Whole → result.status ≡ 3 }
     ensures cut { IsCutBy result.cut (F.faults files.old) (F.faults files.new) (W.faults out.old) (W.faults out.new) }
     ensures honest { F.honest files.new ≡ F.honest files.old }
@@ -188,12 +188,12 @@ fn run_files<F: Files, W: Sink, E: Sink>(
 }
 
 // Reports that an option has no such word, and the one that is near, if one is.
-fn tell_no_word<'a, E: Sink>(err: &mut E, option: &'a str, name: &'a str, near: Option<&'a str>)
+fn report_no_word<'a, E: Sink>(err: &mut E, option: &'a str, name: &'a str, near: Option<&'a str>)
     ensures { AppendsUnlessFailed (E.faults err.old) (E.faults err.new) (E.contents err.old) (E.contents err.new)
         (no_word_line option.entry.now name.entry.now (option_map (λ s. s.now) near.entry)) }
 {
     match near {
-        Some(word) => tell(
+        Some(word) => report(
             err,
             &[
                 "buildifier: no ",
@@ -207,13 +207,13 @@ fn tell_no_word<'a, E: Sink>(err: &mut E, option: &'a str, name: &'a str, near: 
                 "'?\n",
             ],
         ),
-        None => tell(err, &["buildifier: no ", option, ": ", name, "\n"]),
+        None => report(err, &["buildifier: no ", option, ": ", name, "\n"]),
     }
 }
 
 // Reports why the words are no line of the program's. The error: memory was refused, to the words, to the text of a fault
 // that clap finds or to the search for a word that is near; nothing is then printed.
-fn tell_unusable<E: Sink>(
+fn report_unusable<E: Sink>(
     alloc: Global,
     err: &mut E,
     fault: &FormatUsage<'_>,
@@ -223,13 +223,13 @@ fn tell_unusable<E: Sink>(
     ensures err { OnErr result (err.new ≡ err.old) }
 {
     match fault {
-        FormatUsage::Line(error) => tell_clap(alloc, err, error),
+        FormatUsage::Line(error) => report_clap(alloc, err, error),
         FormatUsage::NoMode(name) => {
-            tell_no_word(err, "mode", name, Mode::near(alloc, name)?);
+            report_no_word(err, "mode", name, Mode::near(alloc, name)?);
             Ok(())
         }
         FormatUsage::NoType(name) => {
-            tell_no_word(err, "type", name, FileType::near(alloc, name)?);
+            report_no_word(err, "type", name, FileType::near(alloc, name)?);
             Ok(())
         }
         FormatUsage::Memory => Err(AllocError),
@@ -237,9 +237,9 @@ fn tell_unusable<E: Sink>(
 }
 
 // Memory was refused before anything was done, which is reported.
-fn wanting<E: Sink>(err: &mut E) -> Exit
+fn memory_exit<E: Sink>(err: &mut E) -> Exit
     ensures exit { result ≡ record { status = 3; cut = Cut.Memory } }
-    ensures told { Tells (E.faults err.old) (E.faults err.new) (E.contents err.old) (E.contents err.new) (named_line (codes "buildifier") (codes "Memory") ∷ []) }
+    ensures reported { Reports (E.faults err.old) (E.faults err.new) (E.contents err.old) (E.contents err.new) (named_line (codes "buildifier") (codes "Memory") ∷ []) }
 {
     let Effect { status, cut, .. } = fail(err, "buildifier", "Memory", Cut::Memory);
     Exit { status, cut }
@@ -251,14 +251,14 @@ fn unusable<E: Sink>(alloc: Global, fault: &FormatUsage<'_>, err: &mut E) -> Exi
         × AppendsUnlessFailed (E.faults err.old) (E.faults err.new) (E.contents err.old) (E.contents err.new) line
         × (result ≡ record { status = 2; cut = Cut.Whole }))
         ⊎ ((result ≡ record { status = 3; cut = Cut.Memory })
-        × Tells (E.faults err.old) (E.faults err.new) (E.contents err.old) (E.contents err.new) (named_line (codes "buildifier") (codes "Memory") ∷ [])) }
+        × Reports (E.faults err.old) (E.faults err.new) (E.contents err.old) (E.contents err.new) (named_line (codes "buildifier") (codes "Memory") ∷ [])) }
 {
-    match tell_unusable(alloc, err, fault) {
+    match report_unusable(alloc, err, fault) {
         Ok(()) => Exit {
             status: USAGE,
             cut: Cut::Whole,
         },
-        Err(_) => wanting(err),
+        Err(_) => memory_exit(err),
     }
 }
 
@@ -285,7 +285,7 @@ pub fn buildifier<S: AsStr, R: Source, W: Sink, E: Sink, F: Files>(
         → (run : r.Run) × FormatOutcome (map S.text words.now) (R.remaining input.old) (F.folder files.old) run (F.folder files.new)
         × (result ≡ record { status = run.status; cut = run.cut })
         × Writes run.closed (W.faults out.old) (W.faults out.new) (W.contents out.old) (W.contents out.new) run.out
-        × Tells (E.faults err.old) (E.faults err.new) (E.contents err.old) (E.contents err.new) run.lines }
+        × Reports (E.faults err.old) (E.faults err.new) (E.contents err.old) (E.contents err.new) run.lines }
     ensures status { result.cut ≢ Cut.Whole → result.status ≡ 3 }
 
     // Words that are no line of the program's leave all as it was; named files leave the input unread; without them no

@@ -83,10 +83,10 @@ small_passed n (e ∷ es) back forward s h k =
 
 -- ---- what is the same on both sides of a move over steps
 
-pub record AreKept (n : Node) (back forward : List (List Edit)) (m : Node) (behind ahead : List (List Edit)) : Type 0 where
-  pub sides : AreSides m behind ahead
-  pub trees_are : trees_around behind m ahead ≡ trees_around back n forward
-  pub small_sides : AreSteps n back → AreSteps n forward → AreSteps m behind × AreSteps m ahead
+pub record AreKept (n : Node) (back forward : List (List Edit)) (m : Node) (following ahead : List (List Edit)) : Type 0 where
+  pub sides : AreSides m following ahead
+  pub trees_are : trees_around following m ahead ≡ trees_around back n forward
+  pub small_sides : AreSteps n back → AreSteps n forward → AreSteps m following × AreSteps m ahead
 
 pub passed : (n : Node) (es back forward : List (List Edit)) → AreSides n (es ++ back) forward → AreKept n (es ++ back) forward (reached n es) back (reverse (crossed n es) ++ forward)
 passed n es back forward s =

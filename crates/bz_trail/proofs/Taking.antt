@@ -28,8 +28,8 @@ new_leads x y h k fine other =
 abbrev pub taken_up : Trail → Node → Trail
 taken_up w next = record { tree = next; steps = take w.cursor w.steps ++ step w.tree next ∷ []; cursor = w.cursor + 1 }
 
-behind_new : {X : Type 0} (xs : List X) (x : X) (n : ℕ) → n ≤ length xs → reverse (take (n + 1) (take n xs ++ x ∷ [])) ≡ x ∷ reverse (take n xs)
-behind_new xs x n h =
+after_new : {X : Type 0} (xs : List X) (x : X) (n : ℕ) → n ≤ length xs → reverse (take (n + 1) (take n xs ++ x ∷ [])) ≡ x ∷ reverse (take n xs)
+after_new xs x n h =
     let size : length (take n xs) ≡ n = length-take-le n xs h in
     ap reverse (take_all (n + 1) (take n xs ++ x ∷ []) (omega (arith, size, length-append (take n xs) (x ∷ [])))) ∙ reverse-append (take n xs) (x ∷ [])
 
@@ -69,7 +69,7 @@ texts_after : (w : Trail) (next : Node) → w.cursor ≤ length w.steps → swap
 texts_after w next h leads =
     let s = step w.tree next in
     let around : trees_around (steps_back (taken_up w next)) next (steps_forward (taken_up w next)) ≡ reverse (trees next (s ∷ steps_back w)) ++ next ∷ [] =
-    ap (λ l. trees_around l next (steps_forward (taken_up w next))) (behind_new w.steps s w.cursor h) ∙ ap (trees_around (s ∷ steps_back w) next) (ahead_new w.steps s w.cursor h) in
+    ap (λ l. trees_around l next (steps_forward (taken_up w next))) (after_new w.steps s w.cursor h) ∙ ap (trees_around (s ∷ steps_back w) next) (ahead_new w.steps s w.cursor h) in
     let back : reverse (trees next (s ∷ steps_back w)) ≡ reverse (trees w.tree (steps_back w)) ++ w.tree ∷ [] =
     ap (λ (z : Node). reverse (z ∷ trees z (steps_back w))) leads ∙ reverse_onto (trees w.tree (steps_back w)) w.tree [] in
     ap (map spell_node) (around ∙ ap (λ l. l ++ next ∷ []) back) ∙ map-append spell_node (reverse (trees w.tree (steps_back w)) ++ w.tree ∷ []) (next ∷ [])
@@ -80,7 +80,7 @@ taken w next h k fine other =
     let s = step w.tree next in
     let v = taken_up w next in
     let l = least_of w.tree next h.tree k in
-    let back : steps_back v ≡ s ∷ steps_back w = behind_new w.steps s w.cursor h.within in
+    let back : steps_back v ≡ s ∷ steps_back w = after_new w.steps s w.cursor h.within in
     let on : steps_forward v ≡ [] = ahead_new w.steps s w.cursor h.within in
     let size : length (take w.cursor w.steps) ≡ w.cursor = length-take-le w.cursor w.steps h.within in
     record {

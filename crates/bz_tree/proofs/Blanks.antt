@@ -14,13 +14,13 @@ blank_at (b ∷ s) zero lt h = (and_parts (is_indent b) (are_indents s) h).0
 blank_at (b ∷ s) (suc n) lt h = blank_at s n (omega (arith, lt)) (and_parts (is_indent b) (are_indents s) h).1
 
 -- blanks after what is none
-blanks_behind : (s : List ℕ) (n : ℕ) → n < length s → is_indent (get_or s n 0) ≡ false → are_indents (drop (suc n) s) ≡ true → drop (suc n) s ≡ indent s
-blanks_behind [] n lt h g = absurd (omega (arith, lt))
-blanks_behind (b ∷ s) zero lt h g = all_blank s g ∙ sym (cond-false (are_indents (b ∷ s)) (b ∷ s) (indent s) (ap (λ (t : Bool). t && are_indents s) h))
-blanks_behind (b ∷ s) (suc n) lt h g =
+blanks_after : (s : List ℕ) (n : ℕ) → n < length s → is_indent (get_or s n 0) ≡ false → are_indents (drop (suc n) s) ≡ true → drop (suc n) s ≡ indent s
+blanks_after [] n lt h g = absurd (omega (arith, lt))
+blanks_after (b ∷ s) zero lt h g = all_blank s g ∙ sym (cond-false (are_indents (b ∷ s)) (b ∷ s) (indent s) (ap (λ (t : Bool). t && are_indents s) h))
+blanks_after (b ∷ s) (suc n) lt h g =
     elim (cases_Bool (are_indents (b ∷ s))) [
       | inl e ↦ absurd (both_ways (is_indent (get_or s n 0)) h (blank_at s n (omega (arith, lt)) (and_parts (is_indent b) (are_indents s) e).1))
-      | inr e ↦ blanks_behind s n (omega (arith, lt)) h g ∙ sym (cond-false (are_indents (b ∷ s)) (b ∷ s) (indent s) e)
+      | inr e ↦ blanks_after s n (omega (arith, lt)) h g ∙ sym (cond-false (are_indents (b ∷ s)) (b ∷ s) (indent s) e)
     ]
 
 not_blank : (b : ℕ) → (b ≡ 32 → ⊥) → (b ≡ 9 → ⊥) → is_indent b ≡ false
@@ -36,7 +36,7 @@ not_blank b h g =
 pub blanks_from : (s : List ℕ) (at : ℕ) → 1 ≤ at → at ≤ length s → (get_or s (at - 1) 0 ≡ 32 → ⊥) → (get_or s (at - 1) 0 ≡ 9 → ⊥) → are_indents (drop at s) ≡ true → drop at s ≡ indent s
 blanks_from s at pos le h g e =
     let up : suc (at - 1) ≡ at = omega (arith, pos) in
-    ap (λ (n : ℕ). drop n s) (sym up) ∙ blanks_behind s (at - 1) (omega (arith, pos, le)) (not_blank (get_or s (at - 1) 0) h g) (ap (λ (n : ℕ). are_indents (drop n s)) up ∙ e)
+    ap (λ (n : ℕ). drop n s) (sym up) ∙ blanks_after s (at - 1) (omega (arith, pos, le)) (not_blank (get_or s (at - 1) 0) h g) (ap (λ (n : ℕ). are_indents (drop n s)) up ∙ e)
 
 pub blanks_whole : (s : List ℕ) (at : ℕ) → at ≤ 0 → are_indents (drop at s) ≡ true → s ≡ indent s
 blanks_whole s zero le e = all_blank s e

@@ -7,10 +7,10 @@ use Rattle.bz_token.specs.declared.class.Class.{Class}
 use Rattle.bz_token.specs.declared.class.Class.TheVariants as c
 use Rattle.bz_lex.specs.declared.leaf.Leaf.{Leaf}
 use Rattle.bz_lex.specs.declared.place.Place.{Place}
-use Rattle.bz_lex.specs.declared.place.Place.TheVariants.{Fresh, Behind, Inside, Last, Over}
+use Rattle.bz_lex.specs.declared.place.Place.TheVariants.{Fresh, After, Inside, Last, Over}
 use Rattle.bz_lex.specs.Gaps.{is_flush, is_indent, are_indents, indent}
 use Rattle.bz_lex.specs.Places as z
-use Rattle.bz_lex.specs.Places.{next, behind_newline, same_depth, deeper, shallower, is_opening, is_closing}
+use Rattle.bz_lex.specs.Places.{next, after_newline, same_depth, deeper, shallower, is_opening, is_closing}
 use Rattle.bz_tree.specs.declared.kind.Kind.{Kind}
 use Rattle.bz_tree.specs.declared.kind.Kind.TheVariants as k
 use Rattle.bz_tree.specs.declared.tree.Node.{Node}
@@ -19,11 +19,11 @@ use Rattle.bz_tree.specs.declared.tree.Part.TheVariants as v
 use Rattle.bz_tree.specs.Spell.{leaves_part, leaves_of, deepest}
 use Rattle.bz_tree.specs.Kinds.{kind_number}
 use Rattle.bz_tree.specs.Shapes as s
-use Rattle.bz_tree.specs.Shapes.{Sort, Terminal, Shape, Fits, Listed, Several, shape, bzl_shape, is_kind, has_token, is_one_of, is_terminal, sort_has_kind, leaves_at}
+use Rattle.bz_tree.specs.Shapes.{Nonterminal, Terminal, Shape, Fits, Listed, Several, shape, bzl_shape, is_kind, has_token, is_one_of, is_terminal, nonterminal_has_kind, leaves_at}
 use Rattle.bz_tree.specs.Reading.{starts, starts_with}
 use Rattle.bz_tree.specs.Spots.{Spot, Begins, Within, Along, GapStands, Stands, BzlGapStands, BzlStands}
 use Rattle.bz_tree.specs.Indents.{first_indent, Indented, AreIndented}
-use Rattle.bz_tree.specs.Legal.{IsSort, LegalPart, LegalRow, IsFile, LegalBzlPart, LegalBzlRow, IsBzlFile, IsBuildPart, IsBuildRow, IsBuild}
+use Rattle.bz_tree.specs.Legal.{IsNonterminal, LegalPart, LegalRow, IsFile, LegalBzlPart, LegalBzlRow, IsBzlFile, IsBuildPart, IsBuildRow, IsBuild}
 use Rattle.bz_tree.specs.Laws.{LegalByLines}
 use Rattle.bz_tree.proofs.Nested.{leaf_or_node}
 use Rattle.bz_tree.proofs.Spells.{leaves_Node}
@@ -31,7 +31,7 @@ use Rattle.bz_tree.proofs.Exact.{token_leaf}
 use Rattle.bz_tree.proofs.Trees.{At, join, bzl_shapes_of}
 use Rattle.bz_tree.proofs.Levels.{begins}
 use Rattle.bz_tree.proofs.Flat.{spot_of, Flat, spot_newline}
-use Rattle.bz_tree.proofs.Balance.{no_such, same_class, inner_sort, not_file, not_lines, leaves_rows, Legals, legal_row, file_at}
+use Rattle.bz_tree.proofs.Balance.{no_such, same_class, inner_nonterminal, not_file, not_lines, leaves_rows, Legals, legal_row, file_at}
 use Rattle.bz_tree.proofs.Suites.{owned_shape, indented_parts, parts_indented}
 use Rattle.bz_tree.proofs.Newer.{AllBuild, row_build}
 
@@ -103,13 +103,13 @@ abbrev quiet : Shape → Bool
 quiet s.none = true
 quiet s.done = true
 quiet (s.tok ts r) = all_quiet ts && quiet r
-quiet (s.sub a r) = inner_sort a && quiet r
+quiet (s.sub a r) = inner_nonterminal a && quiet r
 quiet (s.alt r r') = quiet r && quiet r'
-quiet (s.list a ts last r) = inner_sort a && (all_quiet ts && quiet r)
-quiet (s.each a r) = inner_sort a && quiet r
+quiet (s.list a ts last r) = inner_nonterminal a && (all_quiet ts && quiet r)
+quiet (s.each a r) = inner_nonterminal a && quiet r
 quiet (s.times group r) = false
 
-kind_quiet : (a : Sort) (kind : Kind) → inner_sort a ≡ true → sort_has_kind a kind ≡ true → quiet (bzl_shape kind) ≡ true
+kind_quiet : (a : Nonterminal) (kind : Kind) → inner_nonterminal a ≡ true → nonterminal_has_kind a kind ≡ true → quiet (bzl_shape kind) ≡ true
 kind_quiet a k.File h i = no_such (sym (not_file a) ∙ i)
 kind_quiet a k.Line h i = no_such (sym (not_lines a k.Line refl h) ∙ i)
 kind_quiet a k.Def h i = no_such (sym (not_lines a k.Def refl h) ∙ i)
@@ -118,14 +118,14 @@ kind_quiet a k.ForStmt h i = no_such (sym (not_lines a k.ForStmt refl h) ∙ i)
 kind_quiet a k.Suite h i = no_such (sym (not_lines a k.Suite refl h) ∙ i)
 kind_quiet a _ h i = refl
 
-sort_quiet : (a : Sort) → inner_sort a ≡ true → all_quiet (leaves_at a) ≡ true
-sort_quiet s.line h = no_such h
-sort_quiet s.stmt h = no_such h
-sort_quiet s.suite h = no_such h
-sort_quiet _ h = refl
+nonterminal_quiet : (a : Nonterminal) → inner_nonterminal a ≡ true → all_quiet (leaves_at a) ≡ true
+nonterminal_quiet s.line h = no_such h
+nonterminal_quiet s.stmt h = no_such h
+nonterminal_quiet s.suite h = no_such h
+nonterminal_quiet _ h = refl
 
 abbrev Will : Part → Type 0
-Will x = (a : Sort) → inner_sort a ≡ true → IsSort a x → LegalBzlPart x → Quiet (leaves_part x)
+Will x = (a : Nonterminal) → inner_nonterminal a ≡ true → IsNonterminal a x → LegalBzlPart x → Quiet (leaves_part x)
 
 abbrev Wills : List Part → Type 0
 Wills xs = AllByRecursion Will xs
@@ -133,41 +133,41 @@ Wills xs = AllByRecursion Will xs
 abbrev all_leaves : List Part → List Leaf
 all_leaves xs = flat_map leaves_part xs
 
-module _ (G : List Leaf → Type 0) (more : (ls ms : List Leaf) → Quiet ls → G ms → G (ls ++ ms)) (a : Sort) (inner : inner_sort a ≡ true) (K : List Part → Type 0)
+module _ (G : List Leaf → Type 0) (more : (ls ms : List Leaf) → Quiet ls → G ms → G (ls ++ ms)) (a : Nonterminal) (inner : inner_nonterminal a ≡ true) (K : List Part → Type 0)
     (rest : (xs : List Part) → Wills xs → Legals xs → K xs → G (all_leaves xs)) where
   mutual
-    listed : (ts : List Terminal) (last : Bool) → all_quiet ts ≡ true → (xs : List Part) → Wills xs → Legals xs → Listed (IsSort a) ts last K xs → G (all_leaves xs)
+    listed : (ts : List Terminal) (last : Bool) → all_quiet ts ≡ true → (xs : List Part) → Wills xs → Legals xs → Listed (IsNonterminal a) ts last K xs → G (all_leaves xs)
     listed ts last o [] w g h = absurd h
-    listed ts last o (x ∷ xs) w g h = more (leaves_part x) (all_leaves xs) (w.0 a inner h.0 g.0) (behind ts last o xs w.1 g.1 h.1)
+    listed ts last o (x ∷ xs) w g h = more (leaves_part x) (all_leaves xs) (w.0 a inner h.0 g.0) (following ts last o xs w.1 g.1 h.1)
 
-    behind : (ts : List Terminal) (last : Bool) → all_quiet ts ≡ true → (xs : List Part) → Wills xs → Legals xs → s.Behind (IsSort a) ts last K xs → G (all_leaves xs)
-    behind ts last o [] w g h = rest [] w g h
-    behind ts last o (x ∷ xs) w g (inl h) = rest (x ∷ xs) w g h
-    behind ts last o (x ∷ xs) w g (inr (m, inl h)) = more (leaves_part x) (all_leaves xs) (token_quiet ts x o m) (listed ts last o xs w.1 g.1 h)
-    behind ts last o (x ∷ xs) w g (inr (m, inr h)) = more (leaves_part x) (all_leaves xs) (token_quiet ts x o m) (rest xs w.1 g.1 h.1)
+    following : (ts : List Terminal) (last : Bool) → all_quiet ts ≡ true → (xs : List Part) → Wills xs → Legals xs → s.After (IsNonterminal a) ts last K xs → G (all_leaves xs)
+    following ts last o [] w g h = rest [] w g h
+    following ts last o (x ∷ xs) w g (inl h) = rest (x ∷ xs) w g h
+    following ts last o (x ∷ xs) w g (inr (m, inl h)) = more (leaves_part x) (all_leaves xs) (token_quiet ts x o m) (listed ts last o xs w.1 g.1 h)
+    following ts last o (x ∷ xs) w g (inr (m, inr h)) = more (leaves_part x) (all_leaves xs) (token_quiet ts x o m) (rest xs w.1 g.1 h.1)
 
-  several : (xs : List Part) → Wills xs → Legals xs → Several (IsSort a) K xs → G (all_leaves xs)
+  several : (xs : List Part) → Wills xs → Legals xs → Several (IsNonterminal a) K xs → G (all_leaves xs)
   several [] w g h = rest [] w g h
   several (x ∷ xs) w g (inl h) = rest (x ∷ xs) w g h
   several (x ∷ xs) w g (inr h) = more (leaves_part x) (all_leaves xs) (w.0 a inner h.0 g.0) (several xs w.1 g.1 h.1)
 
-quiet_row : (r : Shape) → quiet r ≡ true → (xs : List Part) → Wills xs → Legals xs → Fits IsSort r xs → Quiet (all_leaves xs)
+quiet_row : (r : Shape) → quiet r ≡ true → (xs : List Part) → Wills xs → Legals xs → Fits IsNonterminal r xs → Quiet (all_leaves xs)
 quiet_row s.none b xs w g h = absurd h
 quiet_row s.done b [] w g h = tt
 quiet_row s.done b (x ∷ xs) w g h = absurd h
 quiet_row (s.tok ts r) b [] w g h = absurd h
 quiet_row (s.tok ts r) b (x ∷ xs) w g h = let o = and_parts (all_quiet ts) (quiet r) b in quiet_both (leaves_part x) (all_leaves xs) (token_quiet ts x o.0 h.0) (quiet_row r o.1 xs w.1 g.1 h.1)
 quiet_row (s.sub a r) b [] w g h = absurd h
-quiet_row (s.sub a r) b (x ∷ xs) w g h = let o = and_parts (inner_sort a) (quiet r) b in quiet_both (leaves_part x) (all_leaves xs) (w.0 a o.0 h.0 g.0) (quiet_row r o.1 xs w.1 g.1 h.1)
+quiet_row (s.sub a r) b (x ∷ xs) w g h = let o = and_parts (inner_nonterminal a) (quiet r) b in quiet_both (leaves_part x) (all_leaves xs) (w.0 a o.0 h.0 g.0) (quiet_row r o.1 xs w.1 g.1 h.1)
 quiet_row (s.alt r r') b xs w g (inl h) = quiet_row r (and_parts (quiet r) (quiet r') b).0 xs w g h
 quiet_row (s.alt r r') b xs w g (inr h) = quiet_row r' (and_parts (quiet r) (quiet r') b).1 xs w g h
-quiet_row (s.list a ts last r) b xs w g h = let o = and_parts (inner_sort a) _ b in let u = and_parts (all_quiet ts) (quiet r) o.1 in listed Quiet quiet_both a o.0 (Fits IsSort r) (λ ys. quiet_row r u.1 ys) ts last u.0 xs w g h
-quiet_row (s.each a r) b xs w g h = let o = and_parts (inner_sort a) (quiet r) b in several Quiet quiet_both a o.0 (Fits IsSort r) (λ ys. quiet_row r o.1 ys) xs w g h
+quiet_row (s.list a ts last r) b xs w g h = let o = and_parts (inner_nonterminal a) _ b in let u = and_parts (all_quiet ts) (quiet r) o.1 in listed Quiet quiet_both a o.0 (Fits IsNonterminal r) (λ ys. quiet_row r u.1 ys) ts last u.0 xs w g h
+quiet_row (s.each a r) b xs w g h = let o = and_parts (inner_nonterminal a) (quiet r) b in several Quiet quiet_both a o.0 (Fits IsNonterminal r) (λ ys. quiet_row r o.1 ys) xs w g h
 quiet_row (s.times group r) b xs w g h = no_such b
 
 mutual
   quiet_part : (x : Part) → Will x
-  quiet_part (v.Leaf leaf) a i h g = (one_quiet (leaves_at a) leaf (sort_quiet a i) h, tt)
+  quiet_part (v.Leaf leaf) a i h g = (one_quiet (leaves_at a) leaf (nonterminal_quiet a i) h, tt)
   quiet_part (Node' kind z r) a i h g = subst Quiet (sym (leaves_rows _ r)) (quiet_row (bzl_shape kind) (kind_quiet a kind i h) (items-the_row-Part _ r) (quiet_parts _ r) (legal_row _ r g.1) g.0)
 
   quiet_parts : (m : _) (r : Row_of-Part m) → Wills (items-the_row-Part m r)
@@ -190,13 +190,13 @@ line_more ls ms q (ns, l, e, h, i) = (ls ++ ns, l, ap (λ (u : List Leaf). ls ++
 is_newline : (l : Leaf) → is_one_of s.newline l ≡ true → l.class ≡ c.Newline
 is_newline l h = elim (or_cases _ _ h) [ inl i ↦ same_class l.class c.Newline i | inr i ↦ no_such i ]
 
-line_end : (xs : List Part) → Wills xs → Legals xs → Fits IsSort (s.tok s.newline s.done) xs → LineLeaves (all_leaves xs)
+line_end : (xs : List Part) → Wills xs → Legals xs → Fits IsNonterminal (s.tok s.newline s.done) xs → LineLeaves (all_leaves xs)
 line_end [] w g h = absurd h
 line_end (x ∷ y ∷ xs) w g h = absurd h.1
 line_end (x ∷ []) w g h = let t = token_leaf s.newline x h.0 in rw t.1 ([], t.0, refl, tt, is_newline t.0 t.2)
 
-line_leaves : (xs : List Part) → Legals xs → Fits IsSort (bzl_shape k.Line) xs → LineLeaves (all_leaves xs)
-line_leaves xs g h = listed LineLeaves line_more s.small refl (Fits IsSort (s.tok s.newline s.done)) line_end s.semicolon true refl xs (all_will xs) g h
+line_leaves : (xs : List Part) → Legals xs → Fits IsNonterminal (bzl_shape k.Line) xs → LineLeaves (all_leaves xs)
+line_leaves xs g h = listed LineLeaves line_more s.small refl (Fits IsNonterminal (s.tok s.newline s.done)) line_end s.semicolon true refl xs (all_will xs) g h
 
 -- ---- where lines begin
 
@@ -208,7 +208,7 @@ abbrev F : Spot → Leaf → Type 0
 F here l = Flush here l.class l.gap
 
 abbrev inside : Place → Bool
-inside Behind = true
+inside After = true
 inside (Inside n) = true
 inside _ = false
 
@@ -236,13 +236,13 @@ next_inside p c.Mark token h = cond_inside (is_opening token) _ _ (deeper_inside
 next_inside p _ token h = same_inside p
 
 inside_any : (p : Place) (l : Leaf) → inside p ≡ true → F (spot_of p) l
-inside_any Behind l h = tt
+inside_any After l h = tt
 inside_any (Inside n) l h = tt
 inside_any _ l h = no_such h
 
-flat_line : (p : Place) → inside p ≡ true → (ls : List Leaf) → Quiet ls → (l : Leaf) → l.class ≡ c.Newline → (rest : List Leaf) → Flat F p (ls ++ l ∷ rest) ↔ Flat F (behind_newline l.token) rest
+flat_line : (p : Place) → inside p ≡ true → (ls : List Leaf) → Quiet ls → (l : Leaf) → l.class ≡ c.Newline → (rest : List Leaf) → Flat F p (ls ++ l ∷ rest) ↔ Flat F (after_newline l.token) rest
 flat_line p i [] q l e rest =
-    let there : next p l ≡ behind_newline l.token = ap (λ class. z.after_token class l.token p) e in
+    let there : next p l ≡ after_newline l.token = ap (λ class. z.after_token class l.token p) e in
     ((λ h. subst (λ place. Flat F place rest) there h.1), (λ h. (inside_any p l i, subst (λ place. Flat F place rest) (sym there) h)))
 flat_line p i (m ∷ ls) q l e rest =
     let w = flat_line (next p m) (next_inside p m.class m.token q.0) ls q.1 l e rest in
@@ -264,13 +264,13 @@ line_here p b (m ∷ ls) q l e o rest =
     let w = flat_line (next p m) (next_inside p m.class m.token q.0) ls q.1 l e rest in
     let text : (ls ++ l ∷ []) ++ rest ≡ ls ++ l ∷ rest = append_assoc ls (l ∷ []) rest in
     record {
-      place = behind_newline l.token;
+      place = after_newline l.token;
       begins_there = spot_newline l.token;
       to = λ h. (let f : Flush Begins m.class m.gap = subst (λ (here : Spot). F here m) b h.0 in none_flush m.gap (f q.0), w.0 (subst (Flat F (next p m)) text h.1));
       from = λ g h. (subst (λ (here : Spot). F here m) (sym b) (λ _. flush_none m.gap g), subst (Flat F (next p m)) (sym text) (w.1 h));
     }
 
-line_kind : (kind : Kind) → sort_has_kind s.stmt kind ≡ true → kind_number kind < kind_number k.Def → kind ≡ k.Line
+line_kind : (kind : Kind) → nonterminal_has_kind s.stmt kind ≡ true → kind_number kind < kind_number k.Def → kind ≡ k.Line
 line_kind k.Line h g = refl
 line_kind k.Def h g = absurd (omega (arith, g))
 line_kind k.IfStmt h g = absurd (omega (arith, g))
@@ -279,12 +279,12 @@ line_kind _ h g = no_such h
 
 -- the line of a node
 module _ (n : Node) (kind : n.kind ≡ k.Line) (legal : LegalBzlPart (v.Node n)) where
-  line_fits : Fits IsSort (bzl_shape k.Line) n.parts
-  line_fits = subst (λ kd. Fits IsSort (bzl_shape kd) n.parts) kind (bzl_shapes_of n legal).0
+  line_fits : Fits IsNonterminal (bzl_shape k.Line) n.parts
+  line_fits = subst (λ kd. Fits IsNonterminal (bzl_shape kd) n.parts) kind (bzl_shapes_of n legal).0
 
   line_starts : starts_with (starts s.stmt) (leaves_of n) ≡ true
   line_starts =
-      let here : At (deepest (v.Node n ∷ [])) s.stmt (v.Node n) = (subst (λ kd. sort_has_kind s.stmt kd ≡ true) (sym kind) refl, legal, omega arith) in
+      let here : At (deepest (v.Node n ∷ [])) s.stmt (v.Node n) = (subst (λ kd. nonterminal_has_kind s.stmt kd ≡ true) (sym kind) refl, legal, omega arith) in
       ap (starts_with (starts s.stmt)) (sym (append-nil (leaves_part (v.Node n)) ∙ leaves_Node n)) ∙ begins _ s.stmt (v.Node n) [] here
 
   node_here : (p : Place) → spot_of p ≡ Begins → (rest : List Leaf) → LineHere p (leaves_of n) rest
@@ -304,21 +304,21 @@ end_flush : (p : Place) (l : Leaf) → l.class ≡ c.End → F (spot_of p) l
 end_flush Fresh l e = λ h. no_such (sym (ap quiet_class e) ∙ h)
 end_flush Last l e = λ h. no_such (sym (ap quiet_class e) ∙ h)
 end_flush Over l e = λ h. no_such (sym (ap quiet_class e) ∙ h)
-end_flush Behind l e = tt
+end_flush After l e = tt
 end_flush (Inside n) l e = tt
 
 is_end : (l : Leaf) → is_one_of s.end l ≡ true → l.class ≡ c.End
 is_end l h = elim (or_cases _ _ h) [ inl i ↦ same_class l.class c.End i | inr i ↦ no_such i ]
 
-lines_same : (p : Place) → spot_of p ≡ Begins → (ps : List Part) → Several (IsSort s.stmt) (Fits IsSort (s.tok s.end s.done)) ps → Legals ps → AllBuild ps → SameLines p ps
+lines_same : (p : Place) → spot_of p ≡ Begins → (ps : List Part) → Several (IsNonterminal s.stmt) (Fits IsNonterminal (s.tok s.end s.done)) ps → Legals ps → AllBuild ps → SameLines p ps
 lines_same p b [] h g u = absurd h
 lines_same p b (x ∷ []) (inl h) g u = let t = token_leaf s.end x h.0 in rw t.1 ((λ _. (tt, tt)), (λ _. (end_flush p t.0 (is_end t.0 t.2), tt)))
 lines_same p b (x ∷ y ∷ ys) (inl h) g u = absurd h.1
 lines_same p b (x ∷ xs) (inr h) g u =
     elim (leaf_or_node x) [
-      | inl (l, is) ↦ no_such (let e : IsSort s.stmt (v.Leaf l) = rw is at h.0 in e)
+      | inl (l, is) ↦ no_such (let e : IsNonterminal s.stmt (v.Leaf l) = rw is at h.0 in e)
       | inr (n, is) ↦
-          let e : IsSort s.stmt (v.Node n) = rw is at h.0 in
+          let e : IsNonterminal s.stmt (v.Node n) = rw is at h.0 in
           let build : IsBuildPart (v.Node n) = rw is at u.0 in
           let legal : LegalBzlPart (v.Node n) = rw is at g.0 in
           let kind : n.kind ≡ k.Line = line_kind n.kind e build.0 in
@@ -328,25 +328,25 @@ lines_same p b (x ∷ xs) (inr h) g u =
           rw is ((λ f. let t = here.to (subst (Flat F p) text f) in (line_indented n kind legal t.0, w.0 t.1)), (λ a. subst (Flat F p) (sym text) (here.from (indented_parts [] n a.0).0 (w.1 a.1))))
     ]
 
-only_lines : (K : List Part → Type 0) (ps : List Part) → Several (IsSort s.stmt) K ps → AllBuild ps → Several (IsSort s.line) K ps
+only_lines : (K : List Part → Type 0) (ps : List Part) → Several (IsNonterminal s.stmt) K ps → AllBuild ps → Several (IsNonterminal s.line) K ps
 only_lines K [] h u = h
 only_lines K (x ∷ xs) (inl h) u = inl h
 only_lines K (v.Leaf l ∷ xs) (inr h) u = no_such h.0
-only_lines K (Node' kind size row ∷ xs) (inr h) u = inr (subst (λ kd. sort_has_kind s.line kd ≡ true) (sym (line_kind kind h.0 u.0.0)) refl, only_lines K xs h.1 u.1)
+only_lines K (Node' kind size row ∷ xs) (inr h) u = inr (subst (λ kd. nonterminal_has_kind s.line kd ≡ true) (sym (line_kind kind h.0 u.0.0)) refl, only_lines K xs h.1 u.1)
 
 -- ---- the shapes of BUILD files
 
-line_statement : (x : Part) → IsSort s.line x → IsSort s.stmt x
+line_statement : (x : Part) → IsNonterminal s.line x → IsNonterminal s.stmt x
 line_statement (v.Leaf l) h = no_such h
 line_statement (Node' kind size row) h = or_left (is_kind kind k.Line) _ h
 
-lines_statements : (K : List Part → Type 0) (ps : List Part) → Several (IsSort s.line) K ps → Several (IsSort s.stmt) K ps
+lines_statements : (K : List Part → Type 0) (ps : List Part) → Several (IsNonterminal s.line) K ps → Several (IsNonterminal s.stmt) K ps
 lines_statements K [] h = h
 lines_statements K (x ∷ xs) (inl h) = inl h
 lines_statements K (x ∷ xs) (inr h) = inr (line_statement x h.0, lines_statements K xs h.1)
 
-wide_fits : (kind : Kind) (xs : List Part) → Fits IsSort (shape kind) xs → Fits IsSort (bzl_shape kind) xs
-wide_fits k.File xs h = lines_statements (Fits IsSort (s.tok s.end s.done)) xs h
+wide_fits : (kind : Kind) (xs : List Part) → Fits IsNonterminal (shape kind) xs → Fits IsNonterminal (bzl_shape kind) xs
+wide_fits k.File xs h = lines_statements (Fits IsNonterminal (s.tok s.end s.done)) xs h
 wide_fits k.Def xs h = absurd h
 wide_fits k.Param xs h = absurd h
 wide_fits k.IfStmt xs h = absurd h
@@ -357,7 +357,7 @@ wide_fits k.Flow xs h = absurd h
 wide_fits k.Lambda xs h = absurd h
 wide_fits _ xs h = h
 
-old_kind : (kind : Kind) (xs : List Part) → Fits IsSort (shape kind) xs → kind_number kind < kind_number k.Def
+old_kind : (kind : Kind) (xs : List Part) → Fits IsNonterminal (shape kind) xs → kind_number kind < kind_number k.Def
 old_kind k.Def xs h = absurd h
 old_kind k.Param xs h = absurd h
 old_kind k.IfStmt xs h = absurd h
@@ -368,8 +368,8 @@ old_kind k.Flow xs h = absurd h
 old_kind k.Lambda xs h = absurd h
 old_kind _ xs h = omega arith
 
-narrow_fits : (kind : Kind) (xs : List Part) → kind_number kind < kind_number k.Def → AllBuild xs → Fits IsSort (bzl_shape kind) xs → Fits IsSort (shape kind) xs
-narrow_fits k.File xs lt b h = only_lines (Fits IsSort (s.tok s.end s.done)) xs h b
+narrow_fits : (kind : Kind) (xs : List Part) → kind_number kind < kind_number k.Def → AllBuild xs → Fits IsNonterminal (bzl_shape kind) xs → Fits IsNonterminal (shape kind) xs
+narrow_fits k.File xs lt b h = only_lines (Fits IsNonterminal (s.tok s.end s.done)) xs h b
 narrow_fits k.Def xs lt b h = absurd (omega (arith, lt))
 narrow_fits k.Param xs lt b h = absurd (omega (arith, lt))
 narrow_fits k.IfStmt xs lt b h = absurd (omega (arith, lt))
@@ -453,7 +453,7 @@ flat_one p (l ∷ ls) h f = (gap_whole l.class (spot_of p) l.gap h.0 f.0, flat_o
 
 module _ (n : Node) (file : IsBzlFile n) (build : IsBuild n) where
   file_lines : SameLines Fresh n.parts
-  file_lines = lines_same Fresh refl n.parts (subst (λ kd. Fits IsSort (bzl_shape kd) n.parts) file.root file.shapes.0) file.shapes.1 build
+  file_lines = lines_same Fresh refl n.parts (subst (λ kd. Fits IsNonterminal (bzl_shape kd) n.parts) file.root file.shapes.0) file.shapes.1 build
 
 pub legal_by_lines : LegalByLines
 legal_by_lines n = (

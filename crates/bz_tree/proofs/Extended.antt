@@ -12,7 +12,7 @@ use Rattle.bz_token.specs.Scanner.{move, is_in_string, quote_byte}
 use Rattle.bz_token.specs.Tokens.{IsToken, NoToken, OpensString}
 use Rattle.bz_token.proofs.Fronts.{some_next}
 use Rattle.bz_token.proofs.Laws.{state_of}
-use Rattle.bz_token.proofs.Opening.{last_state, told, opens_behind_prefix}
+use Rattle.bz_token.proofs.Opening.{last_state, answered, opens_after_prefix}
 use Rattle.bz_token.proofs.Strings.{quote_of}
 use Rattle.bz_lex.specs.declared.leaf.Leaf.{Leaf}
 use Rattle.bz_lex.specs.declared.place.Place.{Place}
@@ -65,7 +65,7 @@ line_opens t q e =
     let w = some_next (move v.0 10) Some q v.2 in
     let here : w.0 ≡ q = same_Some w.0 q w.2 in
     let within : is_in_string q ≡ true = subst (λ z. is_in_string z ≡ true) here (subst (λ z. is_within z ≡ true) w.1 (within_line v.0)) in
-    (told (t ++ 10 ∷ []) true (sym within ∙ ap is_in_string (sym (last_after Start q (t ++ 10 ∷ []) e)))).0 refl
+    (answered (t ++ 10 ∷ []) true (sym within ∙ ap is_in_string (sym (last_after Start q (t ++ 10 ∷ []) e)))).0 refl
 
 -- ---- one token
 
@@ -147,9 +147,9 @@ begins_some p l s m back (end u g) y is nt = nothing_there true u l.gap m back g
 begins_some p l s m back end_at_once y is nt = absurd cc
 
 pub not_open : (class : Class) (token : List ℕ) (p : Place) (ls : List Leaf) → IsToken class token (spell_leaves ls) → Stand (May IsToken) p ls → OpensString (token ++ spell_leaves ls) → ⊥
-not_open class token p [] t h o = let w = opens_behind_prefix class token [] t o in let i : [] ≡ w.0 ∷ w.1 = w.3 in absurd cc
+not_open class token p [] t h o = let w = opens_after_prefix class token [] t o in let i : [] ≡ w.0 ∷ w.1 = w.3 in absurd cc
 not_open class token p (l ∷ ls) t h o =
-    let w = opens_behind_prefix class token (spell_leaves (l ∷ ls)) t o in
+    let w = opens_after_prefix class token (spell_leaves (l ∷ ls)) t o in
     begins_some p l (spell_leaves ls) w.0 w.1 h.0 w.4 w.3 (subst NoToken w.3 w.5)
 
 -- ---- one leaf

@@ -6,7 +6,7 @@ use Rattle.bz_tree.specs.declared.kind.Kind.{Kind}
 use Rattle.bz_tree.specs.declared.kind.Kind.TheVariants as k
 use Rattle.bz_tree.specs.declared.tree.Part.{Part}
 use Rattle.bz_tree.specs.Spell.{leaves_part}
-use Rattle.bz_tree.specs.Shapes.{Terminal, Sort, clause, small, entry, primary, test, sort_has_kind, Shape, done, tok, sub, alt, items, Fits, bzl_shape, open_square, close_square, open_curly, close_curly}
+use Rattle.bz_tree.specs.Shapes.{Terminal, Nonterminal, clause, small, entry, primary, test, nonterminal_has_kind, Shape, done, tok, sub, alt, items, Fits, bzl_shape, open_square, close_square, open_curly, close_curly}
 use Rattle.bz_tree.specs.Reading.{Read, Plan, finish, one, piece, choose, FoundLevel, follow, node_part, wrap_found, round, square, curly, suffix_plan, clause_plan, small_plan, more_items}
 use Rattle.bz_tree.proofs.Exact.{Exact}
 use Rattle.bz_tree.proofs.Nodes.{node_leaves, wrap_found_some}
@@ -22,7 +22,7 @@ Each F (one s plan) = Each F plan
 Each F (piece q plan) = Each F plan
 Each F (choose left right) = Each F left × Each F right
 
-pub each_found : (P : Sort → Part → Type 0) (F : Kind → Type 0) (plan : Plan) (kind : Kind) (ps : List Part) → Finds P plan kind ps → Each F plan → F kind
+pub each_found : (P : Nonterminal → Part → Type 0) (F : Kind → Type 0) (plan : Plan) (kind : Kind) (ps : List Part) → Finds P plan kind ps → Each F plan → F kind
 each_found P F (finish k r) kind ps h e = rw h.0 e
 each_found P F (one s plan) kind [] h e = absurd h
 each_found P F (one s plan) kind (x ∷ ps) h e = each_found P F plan kind ps h.1 e
@@ -33,12 +33,12 @@ each_found P F (choose left right) kind ps (inr h) e = each_found P F right kind
 
 -- ---- a list, and the same from its second part on
 
-module _ (P : Sort → Part → Type 0) (sort : Sort) (opening closing : List Terminal) where
+module _ (P : Nonterminal → Part → Type 0) (nonterminal : Nonterminal) (opening closing : List Terminal) where
   abbrev Unrolled : Shape
-  Unrolled = tok opening (alt (tok closing done) (sub sort (more_items sort closing)))
+  Unrolled = tok opening (alt (tok closing done) (sub nonterminal (more_items nonterminal closing)))
 
   abbrev Rolled : Shape
-  Rolled = tok opening (items sort closing)
+  Rolled = tok opening (items nonterminal closing)
 
   unroll : (ps : List Part) → Fits P Rolled ps → Fits P Unrolled ps
   unroll [] h = absurd h
@@ -61,10 +61,10 @@ module _ (P : Sort → Part → Type 0) (sort : Sort) (opening closing : List Te
 
 -- ---- the families
 
-module _ (P : Sort → Part → Type 0) where
+module _ (P : Nonterminal → Part → Type 0) where
   -- the kind has this sort, and what the plan requires on the way to it is its shape, both ways
-  abbrev pub Agrees : Sort → Plan → Kind → Type 0
-  Agrees sort plan kind = (sort_has_kind sort kind ≡ true) × ((ps : List Part) → Fits P (shape_in kind plan) ps → Fits P (bzl_shape kind) ps)
+  abbrev pub Agrees : Nonterminal → Plan → Kind → Type 0
+  Agrees nonterminal plan kind = (nonterminal_has_kind nonterminal kind ≡ true) × ((ps : List Part) → Fits P (shape_in kind plan) ps → Fits P (bzl_shape kind) ps)
 
   pub round_agrees : Each (Agrees primary round) round
   round_agrees = ((refl, λ ps h. h), ((refl, λ ps h. h), (refl, λ ps h. h)))
@@ -118,12 +118,12 @@ module _ (P : Sort → Part → Type 0) where
   pub finds_slice : (ps : List Part) → Fits P (bzl_shape k.Slice) ps → Finds P (piece primary suffix_plan) k.Slice ps
   finds_slice ps h = plan_of_shape P (piece primary suffix_plan) k.Slice ps h
 
-  pub finds_clause : (kind : Kind) (ps : List Part) → sort_has_kind clause kind ≡ true → Fits P (bzl_shape kind) ps → Finds P clause_plan kind ps
+  pub finds_clause : (kind : Kind) (ps : List Part) → nonterminal_has_kind clause kind ≡ true → Fits P (bzl_shape kind) ps → Finds P clause_plan kind ps
   finds_clause k.For ps e h = plan_of_shape P clause_plan k.For ps h
   finds_clause k.If ps e h = plan_of_shape P clause_plan k.If ps h
   finds_clause kind ps e h = absurd (both_ways false refl e)
 
-  pub finds_small : (kind : Kind) (ps : List Part) → sort_has_kind small kind ≡ true → Fits P (bzl_shape kind) ps → Finds P small_plan kind ps
+  pub finds_small : (kind : Kind) (ps : List Part) → nonterminal_has_kind small kind ≡ true → Fits P (bzl_shape kind) ps → Finds P small_plan kind ps
   finds_small k.Bare ps e h = plan_of_shape P small_plan k.Bare ps h
   finds_small k.Assign ps e h = plan_of_shape P small_plan k.Assign ps h
   finds_small k.Load ps e h = plan_of_shape P small_plan k.Load ps h
@@ -133,7 +133,7 @@ module _ (P : Sort → Part → Type 0) where
 
 -- ---- reading a node by a plan
 
-module _ (P : Sort → Part → Type 0) (plan : Plan) (inner : Sort → Read Part) (g : List Terminal)
+module _ (P : Nonterminal → Part → Type 0) (plan : Plan) (inner : Nonterminal → Read Part) (g : List Terminal)
     (exact : Exact FoundLevel found_leaves (λ x. Finds P plan x.0 x.1) g (follow inner plan)) where
   abbrev pub MadeBy : Part → Type 0
   MadeBy y = (x : FoundLevel) × (y ≡ node_part x.0 x.1) × Finds P plan x.0 x.1
@@ -150,7 +150,7 @@ module _ (P : Sort → Part → Type 0) (plan : Plan) (inner : Sort → Read Par
   }
 
 -- a node that a plan made is legal where its parts are
-pub made_at : (d : ℕ) (sort : Sort) (plan : Plan) → Each (Agrees (At d) sort plan) plan → (kind : Kind) (ps : List Part) → Finds (At d) plan kind ps → At (suc d) sort (node_part kind ps)
-made_at d sort plan agrees kind ps h =
-    let a = each_found (At d) (Agrees (At d) sort plan) plan kind ps h agrees in
-    made_node d sort kind ps a.0 (a.1 ps (shape_of_plan (At d) plan kind ps h))
+pub made_at : (d : ℕ) (nonterminal : Nonterminal) (plan : Plan) → Each (Agrees (At d) nonterminal plan) plan → (kind : Kind) (ps : List Part) → Finds (At d) plan kind ps → At (suc d) nonterminal (node_part kind ps)
+made_at d nonterminal plan agrees kind ps h =
+    let a = each_found (At d) (Agrees (At d) nonterminal plan) plan kind ps h agrees in
+    made_node d nonterminal kind ps a.0 (a.1 ps (shape_of_plan (At d) plan kind ps h))

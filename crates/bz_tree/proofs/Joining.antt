@@ -20,7 +20,7 @@ use Rattle.bz_tree.specs.Spell.{spell_part, spell_node, leaves_part, leaves_of, 
 use Rattle.bz_tree.specs.Shapes as s
 use Rattle.bz_tree.specs.Shapes.{Fits, Several, bzl_shape}
 use Rattle.bz_tree.specs.Indents.{AreIndented}
-use Rattle.bz_tree.specs.Legal.{IsSort, LegalBzlPart, IsBzlFile, LegalBzl, IsBuild, IsBuildPart}
+use Rattle.bz_tree.specs.Legal.{IsNonterminal, LegalBzlPart, IsBzlFile, LegalBzl, IsBuild, IsBuildPart}
 use Rattle.bz_tree.specs.Laws.{IsLegalByLeaves}
 use Rattle.bz_tree.specs.Joined.{last_token, AreWholeLines, file_with, LinesJoin, BzlLinesJoin}
 use Rattle.bz_tree.proofs.Balance.{no_such, same_class}
@@ -83,7 +83,7 @@ end_nothing p e s end_at_once i = refl
 -- ---- lists of parts
 
 abbrev Ending : List Part → Type 0
-Ending xs = Several (IsSort s.stmt) (Fits IsSort (s.tok s.end s.done)) xs
+Ending xs = Several (IsNonterminal s.stmt) (Fits IsNonterminal (s.tok s.end s.done)) xs
 
 fits_joined : (xs : List Part) (e : Part) (ys : List Part) → Ending (xs ++ e ∷ []) → Ending ys → Ending (xs ++ ys)
 fits_joined [] e ys h k = k
@@ -113,7 +113,7 @@ depth_joined d (x ∷ xs) e ys h k = let w = depth_joined d xs e ys (omega arith
 -- ---- trees
 
 file_fits : (n : Node) → IsBzlFile n → Ending n.parts
-file_fits n h = subst (λ kd. Fits IsSort (bzl_shape kd) n.parts) h.root h.shapes.0
+file_fits n h = subst (λ kd. Fits IsNonterminal (bzl_shape kd) n.parts) h.root h.shapes.0
 
 module _ (n m : Node) (xs : List Part) (e : Leaf) (is : n.parts ≡ xs ++ p.Leaf e ∷ []) (whole : AreWholeLines xs) (none : e.gap ≡ []) where
   abbrev both : Node

@@ -8,13 +8,13 @@ use Rattle.bz_tree.specs.declared.tree.Node.{Node}
 use Rattle.bz_tree.specs.declared.tree.Part.{Part}
 use Rattle.bz_tree.specs.declared.tree.Part.TheVariants as v
 use Rattle.bz_tree.specs.Spell.{leaves_part, depth_part}
-use Rattle.bz_tree.specs.Shapes.{Terminal, Sort, level, argument, entry, clause, first_clause, loaded, small, line, param, stmt, suite, sort_has_kind, rank, is_expression, leaves_at, Shape, none, done, tok, sub, alt, list, each, times, Fits, bzl_shape, simple, name, string, equals, assigns, open_round, open_square, open_curly}
+use Rattle.bz_tree.specs.Shapes.{Terminal, Nonterminal, level, argument, entry, clause, first_clause, loaded, small, line, param, stmt, suite, nonterminal_has_kind, rank, is_expression, leaves_at, Shape, none, done, tok, sub, alt, list, each, times, Fits, bzl_shape, simple, name, string, equals, assigns, open_round, open_square, open_curly}
 use Rattle.bz_tree.specs.Reading.{Read, starts_with, starts, starts_level, own_token, first, kind_at, shape_at, suffix_plan, first_of, node_part, by_shape, infix_at, prefix_at, fits_in}
 use Rattle.bz_tree.proofs.Nested.{leaf_or_node}
 use Rattle.bz_tree.proofs.Spells.{leaves_Node, depth_Node}
 use Rattle.bz_tree.proofs.Terminals.{disjoint, disjoint_at, subset, subset_at, starts-append_left, starts-append_right, stops_right}
 use Rattle.bz_tree.proofs.Exact.{Exact}
-use Rattle.bz_tree.proofs.Shapes.{nullable, go, by_table, tells, not_empty, run_exact}
+use Rattle.bz_tree.proofs.Shapes.{nullable, go, by_table, is_deterministic, not_empty, run_exact}
 use Rattle.bz_tree.proofs.Trees.{At, legal_node, node_fits}
 use Rattle.bz_tree.proofs.Nodes.{exact_like, Begun, Wrapped, infix_exact, prefix_exact}
 
@@ -58,60 +58,60 @@ full_expression k.Bare e = refl
 full_expression _ e = refl
 
 -- what is in a node of a kind that a sort has begins as the sort does
-sort_first : (q : Sort) (kind : Kind) (ts : List Leaf) → sort_has_kind q kind ≡ true → starts_with (first (bzl_shape kind)) ts ≡ true → starts_with (starts q) ts ≡ true
-sort_first (level n) kind ts e h =
+nonterminal_first : (q : Nonterminal) (kind : Kind) (ts : List Leaf) → nonterminal_has_kind q kind ≡ true → starts_with (first (bzl_shape kind)) ts ≡ true → starts_with (starts q) ts ≡ true
+nonterminal_first (level n) kind ts e h =
     let w = and_parts (is_expression kind) (leb (rank kind) n) e in
     up_to (rank kind) n ts (leb-true (rank kind) n w.1) (subset_at (first (bzl_shape kind)) (starts_level (rank kind)) ts (own_first kind w.0) h)
-sort_first argument k.Named ts e h = subset_at (first (bzl_shape k.Named)) (starts argument) ts refl h
-sort_first argument k.Star ts e h = subset_at (first (bzl_shape k.Star)) (starts argument) ts refl h
-sort_first argument k.File ts e h = no e
-sort_first argument k.Line ts e h = no e
-sort_first argument k.Bare ts e h = no e
-sort_first argument k.Assign ts e h = no e
-sort_first argument k.Load ts e h = no e
-sort_first argument k.Alias ts e h = no e
-sort_first argument k.Entry ts e h = no e
-sort_first argument k.For ts e h = no e
-sort_first argument k.If ts e h = no e
-sort_first argument k.Row ts e h = no e
-sort_first argument k.Def ts e h = no e
-sort_first argument k.Param ts e h = no e
-sort_first argument k.IfStmt ts e h = no e
-sort_first argument k.ForStmt ts e h = no e
-sort_first argument k.Suite ts e h = no e
-sort_first argument k.Return ts e h = no e
-sort_first argument k.Flow ts e h = no e
-sort_first argument kind ts e h = subset_at (first (bzl_shape kind)) (starts argument) ts refl h
-sort_first entry k.Entry ts e h = h
-sort_first entry kind ts e h = no e
-sort_first clause k.For ts e h = subset_at (first (bzl_shape k.For)) (starts clause) ts refl h
-sort_first clause k.If ts e h = subset_at (first (bzl_shape k.If)) (starts clause) ts refl h
-sort_first clause kind ts e h = no e
-sort_first first_clause k.For ts e h = h
-sort_first first_clause kind ts e h = no e
-sort_first loaded k.Alias ts e h = subset_at (first (bzl_shape k.Alias)) (starts loaded) ts refl h
-sort_first loaded kind ts e h = no e
-sort_first small k.Bare ts e h = subset_at (first (bzl_shape k.Bare)) (starts small) ts refl h
-sort_first small k.Assign ts e h = subset_at (first (bzl_shape k.Assign)) (starts small) ts refl h
-sort_first small k.Load ts e h = subset_at (first (bzl_shape k.Load)) (starts small) ts refl h
-sort_first small k.Return ts e h = subset_at (first (bzl_shape k.Return)) (starts small) ts refl h
-sort_first small k.Flow ts e h = subset_at (first (bzl_shape k.Flow)) (starts small) ts refl h
-sort_first small kind ts e h = no e
-sort_first line k.Line ts e h = h
-sort_first line kind ts e h = no e
-sort_first param k.Param ts e h = subset_at (first (bzl_shape k.Param)) (starts param) ts refl h
-sort_first param kind ts e h = no e
-sort_first stmt k.Line ts e h = subset_at (first (bzl_shape k.Line)) (starts stmt) ts refl h
-sort_first stmt k.Def ts e h = subset_at (first (bzl_shape k.Def)) (starts stmt) ts refl h
-sort_first stmt k.IfStmt ts e h = subset_at (first (bzl_shape k.IfStmt)) (starts stmt) ts refl h
-sort_first stmt k.ForStmt ts e h = subset_at (first (bzl_shape k.ForStmt)) (starts stmt) ts refl h
-sort_first stmt kind ts e h = no e
-sort_first suite k.Suite ts e h = subset_at (first (bzl_shape k.Suite)) (starts suite) ts refl h
-sort_first suite k.Line ts e h = subset_at (first (bzl_shape k.Line)) (starts suite) ts refl h
-sort_first suite kind ts e h = no e
+nonterminal_first argument k.Named ts e h = subset_at (first (bzl_shape k.Named)) (starts argument) ts refl h
+nonterminal_first argument k.Star ts e h = subset_at (first (bzl_shape k.Star)) (starts argument) ts refl h
+nonterminal_first argument k.File ts e h = no e
+nonterminal_first argument k.Line ts e h = no e
+nonterminal_first argument k.Bare ts e h = no e
+nonterminal_first argument k.Assign ts e h = no e
+nonterminal_first argument k.Load ts e h = no e
+nonterminal_first argument k.Alias ts e h = no e
+nonterminal_first argument k.Entry ts e h = no e
+nonterminal_first argument k.For ts e h = no e
+nonterminal_first argument k.If ts e h = no e
+nonterminal_first argument k.Row ts e h = no e
+nonterminal_first argument k.Def ts e h = no e
+nonterminal_first argument k.Param ts e h = no e
+nonterminal_first argument k.IfStmt ts e h = no e
+nonterminal_first argument k.ForStmt ts e h = no e
+nonterminal_first argument k.Suite ts e h = no e
+nonterminal_first argument k.Return ts e h = no e
+nonterminal_first argument k.Flow ts e h = no e
+nonterminal_first argument kind ts e h = subset_at (first (bzl_shape kind)) (starts argument) ts refl h
+nonterminal_first entry k.Entry ts e h = h
+nonterminal_first entry kind ts e h = no e
+nonterminal_first clause k.For ts e h = subset_at (first (bzl_shape k.For)) (starts clause) ts refl h
+nonterminal_first clause k.If ts e h = subset_at (first (bzl_shape k.If)) (starts clause) ts refl h
+nonterminal_first clause kind ts e h = no e
+nonterminal_first first_clause k.For ts e h = h
+nonterminal_first first_clause kind ts e h = no e
+nonterminal_first loaded k.Alias ts e h = subset_at (first (bzl_shape k.Alias)) (starts loaded) ts refl h
+nonterminal_first loaded kind ts e h = no e
+nonterminal_first small k.Bare ts e h = subset_at (first (bzl_shape k.Bare)) (starts small) ts refl h
+nonterminal_first small k.Assign ts e h = subset_at (first (bzl_shape k.Assign)) (starts small) ts refl h
+nonterminal_first small k.Load ts e h = subset_at (first (bzl_shape k.Load)) (starts small) ts refl h
+nonterminal_first small k.Return ts e h = subset_at (first (bzl_shape k.Return)) (starts small) ts refl h
+nonterminal_first small k.Flow ts e h = subset_at (first (bzl_shape k.Flow)) (starts small) ts refl h
+nonterminal_first small kind ts e h = no e
+nonterminal_first line k.Line ts e h = h
+nonterminal_first line kind ts e h = no e
+nonterminal_first param k.Param ts e h = subset_at (first (bzl_shape k.Param)) (starts param) ts refl h
+nonterminal_first param kind ts e h = no e
+nonterminal_first stmt k.Line ts e h = subset_at (first (bzl_shape k.Line)) (starts stmt) ts refl h
+nonterminal_first stmt k.Def ts e h = subset_at (first (bzl_shape k.Def)) (starts stmt) ts refl h
+nonterminal_first stmt k.IfStmt ts e h = subset_at (first (bzl_shape k.IfStmt)) (starts stmt) ts refl h
+nonterminal_first stmt k.ForStmt ts e h = subset_at (first (bzl_shape k.ForStmt)) (starts stmt) ts refl h
+nonterminal_first stmt kind ts e h = no e
+nonterminal_first suite k.Suite ts e h = subset_at (first (bzl_shape k.Suite)) (starts suite) ts refl h
+nonterminal_first suite k.Line ts e h = subset_at (first (bzl_shape k.Line)) (starts suite) ts refl h
+nonterminal_first suite kind ts e h = no e
 
 -- only a File may be empty, which no sort has
-full_kind : (q : Sort) (kind : Kind) → sort_has_kind q kind ≡ true → nullable (bzl_shape kind) ≡ false
+full_kind : (q : Nonterminal) (kind : Kind) → nonterminal_has_kind q kind ≡ true → nullable (bzl_shape kind) ≡ false
 full_kind (level n) k.File e = no e
 full_kind argument k.File e = no e
 full_kind entry k.File e = no e
@@ -125,7 +125,7 @@ full_kind stmt k.File e = no e
 full_kind suite k.File e = no e
 full_kind q kind e = refl
 
-leaf_first : (q : Sort) (l : Leaf) (rest : List Leaf) → starts_with (leaves_at q) (l ∷ rest) ≡ true → starts_with (starts q) (l ∷ rest) ≡ true
+leaf_first : (q : Nonterminal) (l : Leaf) (rest : List Leaf) → starts_with (leaves_at q) (l ∷ rest) ≡ true → starts_with (starts q) (l ∷ rest) ≡ true
 leaf_first (level n) l rest h = up_to 0 n (l ∷ rest) (omega arith) (starts-append_left simple (open_round ++ (open_square ++ open_curly)) (l ∷ rest) h)
 leaf_first argument l rest h = subset_at simple (starts argument) (l ∷ rest) refl h
 leaf_first loaded l rest h = subset_at string (starts loaded) (l ∷ rest) refl h
@@ -138,10 +138,10 @@ leaf_first param l rest h = subset_at name (starts param) (l ∷ rest) refl h
 leaf_first stmt l rest h = no h
 leaf_first suite l rest h = no h
 
-pub no_node : (q : Sort) (n : Node) → At 0 q (v.Node n) → ⊥
+pub no_node : (q : Nonterminal) (n : Node) → At 0 q (v.Node n) → ⊥
 no_node q n h = omega (arith, h.2, depth_Node n)
 
-pub begins : (d : ℕ) (q : Sort) (x : Part) (rest : List Leaf) → At d q x → starts_with (starts q) (leaves_part x ++ rest) ≡ true
+pub begins : (d : ℕ) (q : Nonterminal) (x : Part) (rest : List Leaf) → At d q x → starts_with (starts q) (leaves_part x ++ rest) ≡ true
 begins zero q x rest h =
     elim (leaf_or_node x) [
       | inl (l, is) ↦ rw is (let g : At zero q (v.Leaf l) = rw is at h in leaf_first q l rest g.0)
@@ -153,7 +153,7 @@ begins (suc d) q x rest h =
       | inr (n, is) ↦
           let h' : At (suc d) q (v.Node n) = rw is at h in
           let f = node_fits d q n h' in
-          rw is (sort_first q n.kind (leaves_part (v.Node n) ++ rest) h'.0 (rw leaves_Node (not_empty (At d) (begins d) (bzl_shape n.kind) n.parts rest f (full_kind q n.kind h'.0))))
+          rw is (nonterminal_first q n.kind (leaves_part (v.Node n) ++ rest) h'.0 (rw leaves_Node (not_empty (At d) (begins d) (bzl_shape n.kind) n.parts rest f (full_kind q n.kind h'.0))))
     ]
 
 -- ---- what may continue a part
@@ -166,7 +166,7 @@ abbrev pub goes_level : ℕ → List Terminal
 goes_level zero = first_of suffix_plan
 goes_level (suc n) = first (tail_of (shape_at n)) ++ goes_level n
 
-abbrev pub goes : Sort → List Terminal
+abbrev pub goes : Nonterminal → List Terminal
 goes (level n) = goes_level n
 goes argument = equals ++ goes_level 13
 goes entry = goes_level 13
@@ -181,9 +181,9 @@ goes suite = []
 
 -- the conditions on a level's shape
 abbrev pub fine : ℕ → Shape → Bool
-fine n (tok s r) = disjoint (starts_level n) s && (tells goes r && (subset (go goes r) (goes_level (suc n)) && subset (goes_level n) (goes_level (suc n))))
+fine n (tok s r) = disjoint (starts_level n) s && (is_deterministic goes r && (subset (go goes r) (goes_level (suc n)) && subset (goes_level n) (goes_level (suc n))))
 fine n (sub (level m) r) =
-    eqb m n && (disjoint (first r) (goes_level n) && (not (nullable r) && (tells goes r && (subset (go goes r) (goes_level (suc n)) && (subset (first r) (goes_level (suc n)) && subset (goes_level n) (goes_level (suc n)))))))
+    eqb m n && (disjoint (first r) (goes_level n) && (not (nullable r) && (is_deterministic goes r && (subset (go goes r) (goes_level (suc n)) && (subset (first r) (goes_level (suc n)) && subset (goes_level n) (goes_level (suc n)))))))
 fine n done = true
 fine n _ = false
 
@@ -273,7 +273,7 @@ rank_of_kind (suc (suc (suc (suc (suc (suc (suc (suc (suc (suc (suc (suc zero)))
 rank_of_kind (suc (suc (suc (suc (suc (suc (suc (suc (suc (suc (suc (suc (suc zero))))))))))))) h = (refl, refl, refl)
 rank_of_kind (suc (suc (suc (suc (suc (suc (suc (suc (suc (suc (suc (suc (suc (suc n)))))))))))))) h = absurd (both_ways true h refl)
 
-pub made_node : (d : ℕ) (q : Sort) (kind : Kind) (ps : List Part) → sort_has_kind q kind ≡ true → Fits (At d) (bzl_shape kind) ps → At (suc d) q (node_part kind ps)
+pub made_node : (d : ℕ) (q : Nonterminal) (kind : Kind) (ps : List Part) → nonterminal_has_kind q kind ≡ true → Fits (At d) (bzl_shape kind) ps → At (suc d) q (node_part kind ps)
 made_node d q kind ps s h = let n : Node = record { kind = kind; parts = ps } in legal_node d q n s h
 
 pub level_node : (d n : ℕ) (ps : List Part) → nullable (shape_at n) ≡ false → Fits (At d) (shape_at n) ps → At (suc d) (level (suc n)) (node_part (kind_at n) ps)
@@ -292,17 +292,17 @@ level_begun : (d n : ℕ) (r : Shape) (x : Part) (ps : List Part) → x ≡ node
 level_begun d n r x [] is h = absurd h
 level_begun d n r x (a ∷ ps) is h = (a, ps, is, (h.0.0, h.0.1, omega (arith, h.0.2)), le-leb (depth_part a) d h.0.2, h.1)
 
-module _ (d : ℕ) (inner : Sort → Read Part) (exact : (q : Sort) → by_table q ≡ true → Exact Part leaves_part (At d q) (goes q) (inner q)) where
+module _ (d : ℕ) (inner : Nonterminal → Read Part) (exact : (q : Nonterminal) → by_table q ≡ true → Exact Part leaves_part (At d q) (goes q) (inner q)) where
   abbrev Level : ℕ → Read Part → Type 0
   Level n next = Exact Part leaves_part (At (suc d) (level n)) (goes_level n) next
 
   level_infix : (n : ℕ) (r : Shape) (next : Read Part) → shape_at n ≡ sub (level n) r
-      → (disjoint (first r) (goes_level n) && (not (nullable r) && (tells goes r && (subset (go goes r) (goes_level (suc n)) && (subset (first r) (goes_level (suc n)) && subset (goes_level n) (goes_level (suc n))))))) ≡ true
+      → (disjoint (first r) (goes_level n) && (not (nullable r) && (is_deterministic goes r && (subset (go goes r) (goes_level (suc n)) && (subset (first r) (goes_level (suc n)) && subset (goes_level n) (goes_level (suc n))))))) ≡ true
       → Level n next → Level (suc n) (infix_at (kind_at n) (fits_in d) r inner next)
   level_infix n r next e f x =
       let f1 = and_parts (disjoint (first r) (goes_level n)) _ f in
       let f2 = and_parts (not (nullable r)) _ f1.1 in
-      let f3 = and_parts (tells goes r) _ f2.1 in
+      let f3 = and_parts (is_deterministic goes r) _ f2.1 in
       let f4 = and_parts (subset (go goes r) (goes_level (suc n))) _ f3.1 in
       let f5 = and_parts (subset (first r) (goes_level (suc n))) (subset (goes_level n) (goes_level (suc n))) f4.1 in
       let T = Fits (At d) r in
@@ -314,11 +314,11 @@ module _ (d : ℕ) (inner : Sort → Read Part) (exact : (q : Sort) → by_table
       (λ ps rest h. not_empty (At d) (begins d) r ps rest h (not-true (nullable r) f2.0)) f1.0 f5.1 f4.0 f5.0)
 
   level_prefix : (n : ℕ) (s : List Terminal) (r : Shape) (next : Read Part) → shape_at n ≡ tok s r
-      → (disjoint (starts_level n) s && (tells goes r && (subset (go goes r) (goes_level (suc n)) && subset (goes_level n) (goes_level (suc n))))) ≡ true
+      → (disjoint (starts_level n) s && (is_deterministic goes r && (subset (go goes r) (goes_level (suc n)) && subset (goes_level n) (goes_level (suc n))))) ≡ true
       → Level n next → Level (suc n) (prefix_at (kind_at n) (tok s r) inner next)
   level_prefix n s r next e f x =
       let f1 = and_parts (disjoint (starts_level n) s) _ f in
-      let f2 = and_parts (tells goes r) _ f1.1 in
+      let f2 = and_parts (is_deterministic goes r) _ f1.1 in
       let f3 = and_parts (subset (go goes r) (goes_level (suc n))) (subset (goes_level n) (goes_level (suc n))) f2.1 in
       let T = Fits (At d) (tok s r) in
       let xT = run_exact (At d) (begins d) goes inner exact (tok s r) f2.0 in

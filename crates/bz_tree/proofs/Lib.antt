@@ -10,7 +10,7 @@ pub mod Trees
 pub mod Levels
 pub mod Families
 pub mod Primary
-pub mod ExactSorts
+pub mod ExactNonterminals
 pub mod Ended
 pub mod Suites
 pub mod Flat

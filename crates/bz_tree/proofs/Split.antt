@@ -16,8 +16,8 @@ use Rattle.bz_tree.specs.declared.tree.Part.{Part, Node'}
 use Rattle.bz_tree.specs.declared.tree.Part.TheVariants as p
 use Rattle.bz_tree.specs.Spell.{leaves_part, leaves_of, deepest}
 use Rattle.bz_tree.specs.Shapes.{Several, Fits, line, end, tok, done}
-use Rattle.bz_tree.specs.Spots.{Begins, AtParts, Stands, TokenStands, AreTokens, behind_part}
-use Rattle.bz_tree.specs.Legal.{IsSort, IsFile, Legal, LegalPart}
+use Rattle.bz_tree.specs.Spots.{Begins, AtParts, Stands, TokenStands, AreTokens, after_part}
+use Rattle.bz_tree.specs.Legal.{IsNonterminal, IsFile, Legal, LegalPart}
 use Rattle.bz_tree.specs.Joined.{file_with}
 use Rattle.bz_tree.specs.Split.{bare_end, LinesSplit}
 use Rattle.bz_tree.proofs.Spells.{spell_leaves-append}
@@ -57,22 +57,22 @@ leaves_both (x ∷ xs) ys = ap (λ t. leaves_part x ++ t) (leaves_both xs ys) �
 
 -- the end of a file
 abbrev pub IsLast : List Part → Type 0
-IsLast = Fits IsSort (tok end done)
+IsLast = Fits IsNonterminal (tok end done)
 
 abbrev pub AreLines : List Part → Type 0
-AreLines = AllByRecursion (IsSort line)
+AreLines = AllByRecursion (IsNonterminal line)
 
-pub lines_front : (xs : List Part) (y : Part) (ys : List Part) → Several (IsSort line) IsLast (xs ++ y ∷ ys) → AreLines xs × Several (IsSort line) IsLast (y ∷ ys)
+pub lines_front : (xs : List Part) (y : Part) (ys : List Part) → Several (IsNonterminal line) IsLast (xs ++ y ∷ ys) → AreLines xs × Several (IsNonterminal line) IsLast (y ∷ ys)
 lines_front [] y ys h = (tt, h)
 lines_front (x ∷ []) y ys (inl h) = absurd h.1
 lines_front (x ∷ z ∷ xs) y ys (inl h) = absurd h.1
 lines_front (x ∷ xs) y ys (inr h) = let w = lines_front xs y ys h.1 in ((h.0, w.0), w.1)
 
-pub lines_whole : (xs ys : List Part) → AreLines xs → Several (IsSort line) IsLast ys → Several (IsSort line) IsLast (xs ++ ys)
+pub lines_whole : (xs ys : List Part) → AreLines xs → Several (IsNonterminal line) IsLast ys → Several (IsNonterminal line) IsLast (xs ++ ys)
 lines_whole [] ys h g = g
 lines_whole (x ∷ xs) ys h g = inr (h.0, lines_whole xs ys h.1 g)
 
-some_leaf : (xs : List Part) → Several (IsSort line) IsLast xs → flat_map leaves_part xs ≡ [] → ⊥
+some_leaf : (xs : List Part) → Several (IsNonterminal line) IsLast xs → flat_map leaves_part xs ≡ [] → ⊥
 some_leaf [] h e = absurd h
 some_leaf (x ∷ xs) (inl h) e =
     let t = token_leaf end x h.0 in
@@ -82,18 +82,18 @@ some_leaf (x ∷ xs) (inr h) e = some_leaf xs h.1 (none_in (leaves_part x) (flat
 
 -- ---- gaps
 
-pub begins_behind : (x : Part) → IsSort line x → behind_part Begins Begins x ≡ Begins
-begins_behind (p.Leaf l) h = no_such h
-begins_behind (Node' kind size row) h = rw (same_kind kind k.Line (eqb-true _ _ h)) refl
+pub begins_after : (x : Part) → IsNonterminal line x → after_part Begins Begins x ≡ Begins
+begins_after (p.Leaf l) h = no_such h
+begins_after (Node' kind size row) h = rw (same_kind kind k.Line (eqb-true _ _ h)) refl
 
 pub gaps_front : (xs ys zs : List Part) → AreLines xs → AtParts Stands Begins Begins (xs ++ ys) → AtParts Stands Begins Begins zs → AtParts Stands Begins Begins (xs ++ zs)
 gaps_front [] ys zs h g f = f
 gaps_front (x ∷ xs) ys zs h g f =
-    (g.0, subst (λ here. AtParts Stands Begins here (xs ++ zs)) (sym (begins_behind x h.0)) (gaps_front xs ys zs h.1 (subst (λ here. AtParts Stands Begins here (xs ++ ys)) (begins_behind x h.0) g.1) f))
+    (g.0, subst (λ here. AtParts Stands Begins here (xs ++ zs)) (sym (begins_after x h.0)) (gaps_front xs ys zs h.1 (subst (λ here. AtParts Stands Begins here (xs ++ ys)) (begins_after x h.0) g.1) f))
 
 pub gaps_back : (xs ys : List Part) → AreLines xs → AtParts Stands Begins Begins (xs ++ ys) → AtParts Stands Begins Begins ys
 gaps_back [] ys h g = g
-gaps_back (x ∷ xs) ys h g = gaps_back xs ys h.1 (subst (λ here. AtParts Stands Begins here (xs ++ ys)) (begins_behind x h.0) g.1)
+gaps_back (x ∷ xs) ys h g = gaps_back xs ys h.1 (subst (λ here. AtParts Stands Begins here (xs ++ ys)) (begins_after x h.0) g.1)
 
 -- ---- tokens: what was the longest lexeme before a text is so before its front
 
@@ -107,41 +107,41 @@ before_front class token rest more h = record {
   no_third = λ prefix mark back good quote is third. h.no_third prefix mark (back ++ more) good quote is (ap (λ t. t ++ more) third);
 }
 
-module _ (leaves behind : List Leaf) (some : behind ≡ [] → ⊥) where
+module _ (leaves following : List Leaf) (some : following ≡ [] → ⊥) where
   ends_here : spell_leaves (leaves ++ last_leaf ∷ []) ≡ spell_leaves leaves
   ends_here = spell_leaves-append leaves (last_leaf ∷ []) ∙ append-nil (spell_leaves leaves)
 
-  shorter : (class : Class) (token : List ℕ) → IsToken class token (spell_leaves (leaves ++ behind)) → IsToken class token (spell_leaves (leaves ++ last_leaf ∷ []))
-  shorter class token h = subst (IsToken class token) (sym ends_here) (before_front class token (spell_leaves leaves) (spell_leaves behind) (subst (IsToken class token) (spell_leaves-append leaves behind) h))
+  shorter : (class : Class) (token : List ℕ) → IsToken class token (spell_leaves (leaves ++ following)) → IsToken class token (spell_leaves (leaves ++ last_leaf ∷ []))
+  shorter class token h = subst (IsToken class token) (sym ends_here) (before_front class token (spell_leaves leaves) (spell_leaves following) (subst (IsToken class token) (spell_leaves-append leaves following) h))
 
-  front_none : spell_leaves (leaves ++ behind) ≡ [] → spell_leaves (leaves ++ last_leaf ∷ []) ≡ []
-  front_none e = ends_here ∙ nothing_front (spell_leaves leaves) (spell_leaves behind) (sym (spell_leaves-append leaves behind) ∙ e)
+  front_none : spell_leaves (leaves ++ following) ≡ [] → spell_leaves (leaves ++ last_leaf ∷ []) ≡ []
+  front_none e = ends_here ∙ nothing_front (spell_leaves leaves) (spell_leaves following) (sym (spell_leaves-append leaves following) ∙ e)
 
-  token_front : (class : Class) (token : List ℕ) → TokenStands class token (leaves ++ behind) → TokenStands class token (leaves ++ last_leaf ∷ [])
+  token_front : (class : Class) (token : List ℕ) → TokenStands class token (leaves ++ following) → TokenStands class token (leaves ++ last_leaf ∷ [])
   token_front c.Newline token (inl h) = inl h
   token_front c.Newline token (inr h) = inr (h.0, front_none h.1)
-  token_front c.End token h = absurd (some (none_in leaves behind h.1))
+  token_front c.End token h = absurd (some (none_in leaves following h.1))
   token_front c.Name token h = shorter c.Name token h
   token_front c.Keyword token h = shorter c.Keyword token h
   token_front c.Number token h = shorter c.Number token h
   token_front c.String token h = shorter c.String token h
   token_front c.Mark token h = shorter c.Mark token h
 
-tokens_front : (leaves behind : List Leaf) → (behind ≡ [] → ⊥) → AreTokens (leaves ++ behind) → AreTokens (leaves ++ last_leaf ∷ [])
-tokens_front [] behind some h = ((refl, refl), tt)
-tokens_front (l ∷ leaves) behind some h = (token_front leaves behind some l.class l.token h.0, tokens_front leaves behind some h.1)
+tokens_front : (leaves following : List Leaf) → (following ≡ [] → ⊥) → AreTokens (leaves ++ following) → AreTokens (leaves ++ last_leaf ∷ [])
+tokens_front [] following some h = ((refl, refl), tt)
+tokens_front (l ∷ leaves) following some h = (token_front leaves following some l.class l.token h.0, tokens_front leaves following some h.1)
 
-pub tokens_back : (leaves behind : List Leaf) → AreTokens (leaves ++ behind) → AreTokens behind
-tokens_back [] behind h = h
-tokens_back (l ∷ leaves) behind h = tokens_back leaves behind h.1
+pub tokens_back : (leaves following : List Leaf) → AreTokens (leaves ++ following) → AreTokens following
+tokens_back [] following h = h
+tokens_back (l ∷ leaves) following h = tokens_back leaves following h.1
 
 -- ---- files
 
 module _ (xs : List Part) (y : Part) (ys : List Part) (h : Legal (file_with (xs ++ y ∷ ys))) where
-  abbrev behind_leaves : List Leaf
-  behind_leaves = flat_map leaves_part (y ∷ ys)
+  abbrev after_leaves : List Leaf
+  after_leaves = flat_map leaves_part (y ∷ ys)
 
-  rows : AreLines xs × Several (IsSort line) IsLast (y ∷ ys)
+  rows : AreLines xs × Several (IsNonterminal line) IsLast (y ∷ ys)
   rows = lines_front xs y ys h.file.shapes.0
 
   parts_front : AllByRecursion LegalPart (xs ++ bare_end ∷ [])
@@ -150,29 +150,29 @@ module _ (xs : List Part) (y : Part) (ys : List Part) (h : Legal (file_with (xs 
   gap_end : AtParts Stands Begins Begins (bare_end ∷ [])
   gap_end = ((true, nothing refl), tt)
 
-  tokens : AreTokens (flat_map leaves_part xs ++ behind_leaves)
+  tokens : AreTokens (flat_map leaves_part xs ++ after_leaves)
   tokens = subst AreTokens (leaves_both xs (y ∷ ys)) h.tokens
 
-  coded : AllByRecursion IsCodedLeaf (flat_map leaves_part xs ++ behind_leaves)
+  coded : AllByRecursion IsCodedLeaf (flat_map leaves_part xs ++ after_leaves)
   coded = subst (AllByRecursion IsCodedLeaf) (leaves_both xs (y ∷ ys)) h.coded
 
   in_front : Legal (file_with (xs ++ bare_end ∷ []))
   in_front = record {
     file = record { root = refl; shapes = (lines_whole xs (bare_end ∷ []) rows.0 (inl (refl, tt)), parts_front) };
     gaps = gaps_front xs (y ∷ ys) (bare_end ∷ []) rows.0 h.gaps gap_end;
-    tokens = subst AreTokens (sym (leaves_both xs (bare_end ∷ []))) (tokens_front (flat_map leaves_part xs) behind_leaves (some_leaf (y ∷ ys) rows.1) tokens);
-    coded = subst (AllByRecursion IsCodedLeaf) (sym (leaves_both xs (bare_end ∷ []))) (all_both IsCodedLeaf (flat_map leaves_part xs) (last_leaf ∷ []) (all_front IsCodedLeaf (flat_map leaves_part xs) behind_leaves coded) ((IsUtf8-nil, IsUtf8-nil), tt));
+    tokens = subst AreTokens (sym (leaves_both xs (bare_end ∷ []))) (tokens_front (flat_map leaves_part xs) after_leaves (some_leaf (y ∷ ys) rows.1) tokens);
+    coded = subst (AllByRecursion IsCodedLeaf) (sym (leaves_both xs (bare_end ∷ []))) (all_both IsCodedLeaf (flat_map leaves_part xs) (last_leaf ∷ []) (all_front IsCodedLeaf (flat_map leaves_part xs) after_leaves coded) ((IsUtf8-nil, IsUtf8-nil), tt));
     depth = omega (arith, h.depth, deepest_both xs (y ∷ ys), deepest_both xs (bare_end ∷ []));
   }
 
-  behind : Legal (file_with (y ∷ ys))
-  behind = record {
+  following : Legal (file_with (y ∷ ys))
+  following = record {
     file = record { root = refl; shapes = (rows.1, all_back LegalPart xs (y ∷ ys) h.file.shapes.1) };
     gaps = gaps_back xs (y ∷ ys) rows.0 h.gaps;
-    tokens = tokens_back (flat_map leaves_part xs) behind_leaves tokens;
-    coded = all_back IsCodedLeaf (flat_map leaves_part xs) behind_leaves coded;
+    tokens = tokens_back (flat_map leaves_part xs) after_leaves tokens;
+    coded = all_back IsCodedLeaf (flat_map leaves_part xs) after_leaves coded;
     depth = omega (arith, h.depth, deepest_both xs (y ∷ ys));
   }
 
 pub lines_split : LinesSplit
-lines_split xs y ys h = (in_front xs y ys h, behind xs y ys h)
+lines_split xs y ys h = (in_front xs y ys h, following xs y ys h)

@@ -13,7 +13,7 @@ use Rattle.bz_tree.specs.declared.tree.Node.{Node}
 use Rattle.bz_tree.specs.declared.tree.Part.{Part, Row_of-Part, end_of-Part, more_of-Part, items-the_row-Part}
 use Rattle.bz_tree.specs.declared.tree.Part.TheVariants as v
 use Rattle.bz_tree.specs.Spell.{leaves_part, leaves_of, depth_of}
-use Rattle.bz_tree.specs.Shapes.{Terminal, is_one_of, has_token, Sort, level, stmt, suite, line, test, newline, end, colon_mark, one_keyword, leaves_at, sort_has_kind, Shape, none, done, tok, sub, alt, list, each, times, Listed, Behind, Several, Times, no_more, once_more, Fits, bzl_shape, owned, branches}
+use Rattle.bz_tree.specs.Shapes.{Terminal, is_one_of, has_token, Nonterminal, level, stmt, suite, line, test, newline, end, colon_mark, one_keyword, leaves_at, nonterminal_has_kind, Shape, none, done, tok, sub, alt, list, each, times, Listed, After, Several, Times, no_more, once_more, Fits, bzl_shape, owned, branches}
 use Rattle.bz_tree.specs.Legal.{IsBzlFile}
 use Rattle.bz_tree.specs.Indents.{alternatives, first_indent, Indented, Owner, Owned, AllIndented, AreIndented}
 use Rattle.bz_tree.specs.Reading.{◌>>=◌, Read, starts_with, starts, first, with_part_first, run, wrap, node_part, reading}
@@ -23,12 +23,12 @@ use Rattle.bz_tree.proofs.Numbers.{same_kind}
 use Rattle.bz_tree.proofs.Spells.{leaves_Node}
 use Rattle.bz_tree.proofs.Terminals.{disjoint, disjoint_at, disjoint-one_of, subset_at, starts-append_left, starts-append_right, full_front}
 use Rattle.bz_tree.proofs.Exact.{all_leaves, leaves_join, token_leaf, bind_some, put_some, if_some, cond_parts, Exact}
-use Rattle.bz_tree.proofs.Shapes.{by_table, nullable, tells, go, not_empty, run_exact}
+use Rattle.bz_tree.proofs.Shapes.{by_table, nullable, is_deterministic, go, not_empty, run_exact}
 use Rattle.bz_tree.proofs.Nodes.{node_leaves, wrap_some}
 use Rattle.bz_tree.proofs.Trees.{At, join, split, node_fits}
 use Rattle.bz_tree.proofs.Levels.{no, no_node, begins, goes, made_node}
 use Rattle.bz_tree.proofs.Primary.{starts_none}
-use Rattle.bz_tree.proofs.ExactSorts.{reading_exact}
+use Rattle.bz_tree.proofs.ExactNonterminals.{reading_exact}
 use Rattle.bz_tree.proofs.Ended.{then_sub, Ends, And, split_sub, join_sub, test_split, test_join}
 
 -- ---- indents
@@ -135,17 +135,17 @@ parts_suite i ps c more h = let n : Node = record { kind = k.Suite; parts = ps }
 
 -- ---- what is in lines and headers has no rule of indent
 
-no_suite : (q : Sort) → by_table q ≡ true → sort_has_kind q k.Suite ≡ false
+no_suite : (q : Nonterminal) → by_table q ≡ true → nonterminal_has_kind q k.Suite ≡ false
 no_suite stmt h = no h
 no_suite suite h = no h
 no_suite (level n) h = refl
 no_suite _ h = refl
 
-owned_kind : (i : List ℕ) (q : Sort) (kind : Kind) (ps : List Part) → sort_has_kind q k.Suite ≡ false → sort_has_kind q kind ≡ true → Owned i (node_part kind ps)
-owned_kind i q k.Suite ps h g = absurd (both_ways (sort_has_kind q k.Suite) h g)
+owned_kind : (i : List ℕ) (q : Nonterminal) (kind : Kind) (ps : List Part) → nonterminal_has_kind q k.Suite ≡ false → nonterminal_has_kind q kind ≡ true → Owned i (node_part kind ps)
+owned_kind i q k.Suite ps h g = absurd (both_ways (nonterminal_has_kind q k.Suite) h g)
 owned_kind i q _ ps h g = tt
 
-plain_leaves : (q : Sort) → disjoint (leaves_at q) alternatives ≡ true
+plain_leaves : (q : Nonterminal) → disjoint (leaves_at q) alternatives ≡ true
 plain_leaves (level n) = refl
 plain_leaves _ = refl
 
@@ -155,7 +155,7 @@ owned_leaf i s x d h =
     subst (Owned i) (sym w.1) (λ e. absurd (both_ways (is_one_of alternatives w.0) (disjoint-one_of w.0 s alternatives d w.2) e))
 
 module _ (i : List ℕ) (d : ℕ) where
-  owned_part : (q : Sort) (x : Part) → by_table q ≡ true → At d q x → Owned i x
+  owned_part : (q : Nonterminal) (x : Part) → by_table q ≡ true → At d q x → Owned i x
   owned_part q x b h =
       elim (leaf_or_node x) [
         | inl (l, is) ↦ rw is (let g : At d q (v.Leaf l) = rw is at h in λ e. absurd (both_ways (is_one_of alternatives l) (disjoint-one_of l (leaves_at q) alternatives (plain_leaves q) g.0) e))
@@ -172,17 +172,17 @@ module _ (i : List ℕ) (d : ℕ) where
   plain (each q r) = by_table q && plain r
   plain (times group r) = false
 
-  module _ (q : Sort) (b : by_table q ≡ true) (K : List Part → Type 0) (rest : (ps : List Part) → K ps → AllOwned i ps) where
+  module _ (q : Nonterminal) (b : by_table q ≡ true) (K : List Part → Type 0) (rest : (ps : List Part) → K ps → AllOwned i ps) where
     mutual
       owned_listed : (sep : List Terminal) (last : Bool) → disjoint sep alternatives ≡ true → (ps : List Part) → Listed (At d q) sep last K ps → AllOwned i ps
       owned_listed sep last o [] h = absurd h
-      owned_listed sep last o (x ∷ ps) h = (owned_part q x b h.0, owned_behind sep last o ps h.1)
+      owned_listed sep last o (x ∷ ps) h = (owned_part q x b h.0, owned_after sep last o ps h.1)
 
-      owned_behind : (sep : List Terminal) (last : Bool) → disjoint sep alternatives ≡ true → (ps : List Part) → Behind (At d q) sep last K ps → AllOwned i ps
-      owned_behind sep last o [] h = tt
-      owned_behind sep last o (x ∷ ps) (inl h) = rest (x ∷ ps) h
-      owned_behind sep last o (x ∷ ps) (inr (m, inl h)) = (owned_leaf i sep x o m, owned_listed sep last o ps h)
-      owned_behind sep last o (x ∷ ps) (inr (m, inr (e, h))) = (owned_leaf i sep x o m, rest ps h)
+      owned_after : (sep : List Terminal) (last : Bool) → disjoint sep alternatives ≡ true → (ps : List Part) → After (At d q) sep last K ps → AllOwned i ps
+      owned_after sep last o [] h = tt
+      owned_after sep last o (x ∷ ps) (inl h) = rest (x ∷ ps) h
+      owned_after sep last o (x ∷ ps) (inr (m, inl h)) = (owned_leaf i sep x o m, owned_listed sep last o ps h)
+      owned_after sep last o (x ∷ ps) (inr (m, inr (e, h))) = (owned_leaf i sep x o m, rest ps h)
 
     owned_several : (ps : List Part) → Several (At d q) K ps → AllOwned i ps
     owned_several [] h = tt
@@ -278,14 +278,14 @@ full_row : (d : ℕ) (r : Shape) (ps : List Part) → nullable r ≡ false → F
 full_row d r ps n h = full_front (first r) (all_leaves ps) (not_empty (At d) (begins d) r ps [] h n)
 
 -- the parts of a statement or suite of a kind
-node_of : (d : ℕ) (q : Sort) (x : Part) → ((l : Leaf) → is_one_of (leaves_at q) l ≡ false) → At (suc d) q x → (n : Node) × (x ≡ v.Node n) × (sort_has_kind q n.kind ≡ true) × Fits (At d) (bzl_shape n.kind) n.parts
+node_of : (d : ℕ) (q : Nonterminal) (x : Part) → ((l : Leaf) → is_one_of (leaves_at q) l ≡ false) → At (suc d) q x → (n : Node) × (x ≡ v.Node n) × (nonterminal_has_kind q n.kind ≡ true) × Fits (At d) (bzl_shape n.kind) n.parts
 node_of d q x none_is h =
     elim (leaf_or_node x) [
       | inl (l, is) ↦ let g : At (suc d) q (v.Leaf l) = rw is at h in absurd (both_ways (is_one_of (leaves_at q) l) (none_is l) g.0)
       | inr (n, is) ↦ let g : At (suc d) q (v.Node n) = rw is at h in (n, is, g.0, node_fits d q n g)
     ]
 
-made_statement : (d : ℕ) (i : List ℕ) (kind : Kind) (ps : List Part) (ts rest : List Leaf) → sort_has_kind stmt kind ≡ true → nullable (bzl_shape kind) ≡ false → Fits (At d) (bzl_shape kind) ps → AllOwned i ps → first_indent ts ≡ i → ts ≡ all_leaves ps ++ rest → GoodStatement (suc d) i (node_part kind ps) × (ts ≡ leaves_part (node_part kind ps) ++ rest)
+made_statement : (d : ℕ) (i : List ℕ) (kind : Kind) (ps : List Part) (ts rest : List Leaf) → nonterminal_has_kind stmt kind ≡ true → nullable (bzl_shape kind) ≡ false → Fits (At d) (bzl_shape kind) ps → AllOwned i ps → first_indent ts ≡ i → ts ≡ all_leaves ps ++ rest → GoodStatement (suc d) i (node_part kind ps) × (ts ≡ leaves_part (node_part kind ps) ++ rest)
 made_statement d i kind ps ts rest s n f o is e =
     let there : first_indent (all_leaves ps) ≡ i = sym (front_indent (all_leaves ps) rest (full_row d (bzl_shape kind) ps n f)) ∙ (sym (ap first_indent e) ∙ is) in
     ((made_node d stmt kind ps s f, parts_indented i (record { kind = kind; parts = ps }) there o), e ∙ ap (λ (u : List Leaf). u ++ rest) (sym (node_leaves kind ps)))
@@ -315,16 +315,16 @@ joined d i r ps e (hs, x, is, h, g) = subst (Fits (At d) (then_sub suite r)) (sy
 module _ (d : ℕ) (i : List ℕ) (suite_read : Read Part)
     (sound : (us : List Leaf) (z : Part × List Leaf) → suite_read us ≡ Some z → GoodSuite d i z.0 × (us ≡ leaves_part z.0 ++ z.1))
     (complete : (x : Part) (rest : List Leaf) → GoodSuite d i x → NoDeeper i rest → suite_read (leaves_part x ++ rest) ≡ Some (x, rest)) where
-  header_exact : (r : Shape) → tells goes r ≡ true → go goes r ≡ [] → Exact (List Part) all_leaves (Fits (At d) r) [] (run (reading d) r)
+  header_exact : (r : Shape) → is_deterministic goes r ≡ true → go goes r ≡ [] → Exact (List Part) all_leaves (Fits (At d) r) [] (run (reading d) r)
   header_exact r ok e = subst (λ (g : List Terminal). Exact (List Part) all_leaves (Fits (At d) r) g (run (reading d) r)) e (run_exact (At d) (begins d) goes (reading d) (reading_exact d) r ok)
 
   abbrev With : Shape → List Part → Type 0
   With r ps = And (Fits (At d) r) (GoodSuite d i) ps
 
-  header_sound : (r : Shape) → tells goes r ≡ true → go goes r ≡ [] → (ts : List Leaf) (y : List Part × List Leaf) → with_suite (run (reading d) r) suite_read ts ≡ Some y → Taken (With r) ts y
+  header_sound : (r : Shape) → is_deterministic goes r ≡ true → go goes r ≡ [] → (ts : List Leaf) (y : List Part × List Leaf) → with_suite (run (reading d) r) suite_read ts ≡ Some y → Taken (With r) ts y
   header_sound r ok e = with_sound (Fits (At d) r) (GoodSuite d i) (run (reading d) r) suite_read (header_exact r ok e) sound
 
-  header_complete : (r : Shape) → tells goes r ≡ true → go goes r ≡ [] → (ps : List Part) (rest : List Leaf) → With r ps → NoDeeper i rest → with_suite (run (reading d) r) suite_read (all_leaves ps ++ rest) ≡ Some (ps, rest)
+  header_complete : (r : Shape) → is_deterministic goes r ≡ true → go goes r ≡ [] → (ps : List Part) (rest : List Leaf) → With r ps → NoDeeper i rest → with_suite (run (reading d) r) suite_read (all_leaves ps ++ rest) ≡ Some (ps, rest)
   header_complete r ok e = with_complete (Fits (At d) r) (GoodSuite d i) (run (reading d) r) suite_read (header_exact r ok e) (NoDeeper i) complete
 
   -- ---- elif and else
@@ -421,7 +421,7 @@ module _ (d : ℕ) (i : List ℕ) (suite_read : Read Part)
   stmt_leaf : (l : Leaf) → is_one_of (leaves_at stmt) l ≡ false
   stmt_leaf l = refl
 
-  header_statement : (kind : Kind) (r : Shape) → sort_has_kind stmt kind ≡ true → nullable (bzl_shape kind) ≡ false → bzl_shape kind ≡ then_sub suite r → tells goes r ≡ true → go goes r ≡ [] → Ends r → plain i d r ≡ true
+  header_statement : (kind : Kind) (r : Shape) → nonterminal_has_kind stmt kind ≡ true → nullable (bzl_shape kind) ≡ false → bzl_shape kind ≡ then_sub suite r → is_deterministic goes r ≡ true → go goes r ≡ [] → Ends r → plain i d r ≡ true
       → (ts : List Leaf) (y : Part × List Leaf) → first_indent ts ≡ i → wrap kind (with_suite (run (reading d) r) suite_read ts) ≡ Some y → GoodStatement (suc d) i y.0 × (ts ≡ leaves_part y.0 ++ y.1)
   header_statement kind r s n same ok e ends p ts y is r_e =
       let w = wrap_some kind (with_suite (run (reading d) r) suite_read ts) y r_e in
@@ -451,7 +451,7 @@ module _ (d : ℕ) (i : List ℕ) (suite_read : Read Part)
       subst (λ (z : Part × List Leaf). GoodStatement (suc d) i z.0 × (ts ≡ leaves_part z.0 ++ z.1)) (sym (w.2 ∙ ap (λ (z : List Part × List Leaf). (node_part k.IfStmt z.0, z.1)) b.2))
       (made_statement d i k.IfStmt (a.0.0 ++ b.0.0) ts b.0.1 refl refl f.0 f.1 is text)
 
-  is_line : (other : Kind) → sort_has_kind line other ≡ true → other ≡ k.Line
+  is_line : (other : Kind) → nonterminal_has_kind line other ≡ true → other ≡ k.Line
   is_line other h = same_kind other k.Line (eqb-true _ _ h)
 
   line_statement : (ts : List Leaf) (y : Part × List Leaf) → first_indent ts ≡ i → reading (suc d) line ts ≡ Some y → GoodStatement (suc d) i y.0 × (ts ≡ leaves_part y.0 ++ y.1)
@@ -472,7 +472,7 @@ module _ (d : ℕ) (i : List ℕ) (suite_read : Read Part)
       (cond (starts_with (one_keyword (codes "if")) ts) (wrap k.IfStmt (if_read ts))
       (cond (starts_with (one_keyword (codes "for")) ts) (wrap k.ForStmt (with_suite (run (reading d) for_header) suite_read ts)) (reading (suc d) line ts))) ≡ Some (x, rest)))
 
-  by_header : (kind : Kind) (r : Shape) → bzl_shape kind ≡ then_sub suite r → tells goes r ≡ true → go goes r ≡ [] → (ps : List Part) (rest : List Leaf) → Fits (At d) (bzl_shape kind) ps → AllOwned i ps → NoDeeper i rest → wrap kind (with_suite (run (reading d) r) suite_read (all_leaves ps ++ rest)) ≡ Some (node_part kind ps, rest)
+  by_header : (kind : Kind) (r : Shape) → bzl_shape kind ≡ then_sub suite r → is_deterministic goes r ≡ true → go goes r ≡ [] → (ps : List Part) (rest : List Leaf) → Fits (At d) (bzl_shape kind) ps → AllOwned i ps → NoDeeper i rest → wrap kind (with_suite (run (reading d) r) suite_read (all_leaves ps ++ rest)) ≡ Some (node_part kind ps, rest)
   by_header kind r same ok e ps rest f o p =
       let w = with_of r ps (subst (λ (z : Shape). Fits (At d) z ps) same f) o in
       ap (wrap kind) (header_complete r ok e ps rest w p)
@@ -490,7 +490,7 @@ module _ (d : ℕ) (i : List ℕ) (suite_read : Read Part)
   starts_kind : (kind : Kind) (ps : List Part) (rest : List Leaf) → nullable (bzl_shape kind) ≡ false → Fits (At d) (bzl_shape kind) ps → starts_with (first (bzl_shape kind)) (leaves_part (node_part kind ps) ++ rest) ≡ true
   starts_kind kind ps rest n f = rw (node_leaves kind ps) (not_empty (At d) (begins d) (bzl_shape kind) ps rest f n)
 
-  by_kind : (kind : Kind) (ps : List Part) (rest : List Leaf) → sort_has_kind stmt kind ≡ true → Fits (At d) (bzl_shape kind) ps → AllOwned i ps → At (suc d) stmt (node_part kind ps) → Past i rest → Reads_it (node_part kind ps) rest
+  by_kind : (kind : Kind) (ps : List Part) (rest : List Leaf) → nonterminal_has_kind stmt kind ≡ true → Fits (At d) (bzl_shape kind) ps → AllOwned i ps → At (suc d) stmt (node_part kind ps) → Past i rest → Reads_it (node_part kind ps) rest
   by_kind k.Def ps rest s f o g p = rw (starts_kind k.Def ps rest refl f) (rw (node_leaves k.Def ps) (by_header k.Def def_header refl refl refl ps rest f o p.0))
   by_kind k.IfStmt ps rest s f o g p =
       let st = starts_kind k.IfStmt ps rest refl f in
@@ -512,7 +512,7 @@ record AllExact (d : ℕ) : Type 0 where
   suites_sound : (i : List ℕ) (us : List Leaf) (z : Part × List Leaf) → suite_of d i us ≡ Some z → GoodSuite d i z.0 × (us ≡ leaves_part z.0 ++ z.1)
   suites_complete : (i : List ℕ) (x : Part) (rest : List Leaf) → GoodSuite d i x → NoDeeper i rest → suite_of d i (leaves_part x ++ rest) ≡ Some (x, rest)
 
-no_leaf : (d : ℕ) (q : Sort) (l : Leaf) → is_one_of (leaves_at q) l ≡ false → At d q (v.Leaf l) → ⊥
+no_leaf : (d : ℕ) (q : Nonterminal) (l : Leaf) → is_one_of (leaves_at q) l ≡ false → At d q (v.Leaf l) → ⊥
 no_leaf d q l e h = both_ways (is_one_of (leaves_at q) l) e h.0
 
 -- a statement begins at its indent
@@ -628,7 +628,7 @@ module _ (d : ℕ) (exact : AllExact d) where
       (length us) (x ∷ xs) rest good (longer i u.0 u.1 rest p) (no_statement i u.0 u.1 rest p) (omega arith) in
       rw t.1 (suite_step i t.0 us j (x ∷ xs) rest t.2 (ap first_indent regroup ∙ first_one.1) (is_deeper_at i u.0 u.1) opens w.1)
 
-  suite_by_kind : (i : List ℕ) (kind : Kind) (ps : List Part) (rest : List Leaf) → sort_has_kind suite kind ≡ true → Fits (At d) (bzl_shape kind) ps → GoodSuite (suc d) i (node_part kind ps) → NoDeeper i rest → suite_of (suc d) i (leaves_part (node_part kind ps) ++ rest) ≡ Some (node_part kind ps, rest)
+  suite_by_kind : (i : List ℕ) (kind : Kind) (ps : List Part) (rest : List Leaf) → nonterminal_has_kind suite kind ≡ true → Fits (At d) (bzl_shape kind) ps → GoodSuite (suc d) i (node_part kind ps) → NoDeeper i rest → suite_of (suc d) i (leaves_part (node_part kind ps) ++ rest) ≡ Some (node_part kind ps, rest)
   suite_by_kind i k.Suite ps rest s f g p = ap (λ (ls : List Leaf). suite_of (suc d) i (ls ++ rest)) (node_leaves k.Suite ps) ∙ block_complete i ps rest f g.1 p
   suite_by_kind i k.Line ps rest s f g p =
       let st : starts_with (starts line) (leaves_part (node_part k.Line ps) ++ rest) ≡ true = begins (suc d) line (node_part k.Line ps) rest (refl, g.0.1, g.0.2) in
@@ -678,7 +678,7 @@ all_exact zero = record {
   suites_complete = λ i x rest h p. absurd (none_at_zero suite x (λ l. refl) h.0);
 }
   where
-    none_at_zero : (q : Sort) (x : Part) → ((l : Leaf) → is_one_of (leaves_at q) l ≡ false) → At 0 q x → ⊥
+    none_at_zero : (q : Nonterminal) (x : Part) → ((l : Leaf) → is_one_of (leaves_at q) l ≡ false) → At 0 q x → ⊥
     none_at_zero q x none_is h =
         elim (leaf_or_node x) [
           | inl (l, is) ↦ no_leaf 0 q l (none_is l) (rw is at h)
@@ -694,7 +694,7 @@ statement_takes d i ts y is e =
     let f = statement_first d i y.0 [] s.0 in
     omega (arith, f.2, ap length s.1, length-append (leaves_part y.0) y.1)
 
-pub owner_takes : (d : ℕ) (i : List ℕ) (r : Shape) → tells goes r ≡ true → go goes r ≡ [] → nullable r ≡ false → (ts : List Leaf) (y : List Part × List Leaf) → with_suite (run (reading d) r) (suite_of d i) ts ≡ Some y → suc (length y.1) ≤ length ts
+pub owner_takes : (d : ℕ) (i : List ℕ) (r : Shape) → is_deterministic goes r ≡ true → go goes r ≡ [] → nullable r ≡ false → (ts : List Leaf) (y : List Part × List Leaf) → with_suite (run (reading d) r) (suite_of d i) ts ≡ Some y → suc (length y.1) ≤ length ts
 owner_takes d i r ok e n ts y h =
     let s = header_sound d i (suite_of d i) ((all_exact d).suites_sound i) ((all_exact d).suites_complete i) r ok e ts y h in
     let size = full_row d r s.0.0 n s.0.3 in

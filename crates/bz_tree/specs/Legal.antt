@@ -8,13 +8,13 @@ use Rattle.bz_tree.specs.declared.tree.Node.{Node}
 use Rattle.bz_tree.specs.declared.tree.Part.{Part, Row_of-Part, end_of-Part, more_of-Part, Node', items-the_row-Part}
 use Rattle.bz_tree.specs.declared.tree.Part as p
 use Rattle.bz_tree.specs.Spell.{spell_node, leaves_of, depth_of, limit, depth_limit}
-use Rattle.bz_tree.specs.Shapes.{Sort, has_sort, Fits, shape, bzl_shape}
+use Rattle.bz_tree.specs.Shapes.{Nonterminal, has_nonterminal, Fits, shape, bzl_shape}
 use Rattle.bz_tree.specs.Kinds.{kind_number}
 use Rattle.bz_tree.specs.Indents.{AreIndented}
 use Rattle.bz_tree.specs.Spots.{Begins, AtParts, Stands, BzlStands, AreTokens}
 
-abbrev pub IsSort : Sort → Part → Type 0
-IsSort sort part = has_sort sort part ≡ true
+abbrev pub IsNonterminal : Nonterminal → Part → Type 0
+IsNonterminal nonterminal part = has_nonterminal nonterminal part ≡ true
 
 -- ---- BUILD files
 
@@ -22,7 +22,7 @@ IsSort sort part = has_sort sort part ≡ true
 abbrev mutual
   pub LegalPart : Part → Type 0
   LegalPart (p.Leaf l) = Unit {0}
-  LegalPart (Node' k s r) = Fits IsSort (shape k) (items-the_row-Part _ r) × LegalRow r
+  LegalPart (Node' k s r) = Fits IsNonterminal (shape k) (items-the_row-Part _ r) × LegalRow r
 
   pub LegalRow : {m : _} → Row_of-Part m → Type 0
   LegalRow end_of-Part = Unit {0}
@@ -30,7 +30,7 @@ abbrev mutual
 
 -- The node has the shape of its kind, and so has every node inside it.
 abbrev pub LegalShapes : Node → Type 0
-LegalShapes n = Fits IsSort (shape n.kind) n.parts × AllByRecursion LegalPart n.parts
+LegalShapes n = Fits IsNonterminal (shape n.kind) n.parts × AllByRecursion LegalPart n.parts
 
 -- A file by its shapes: the root is a File, and every node has the shape of its kind.
 pub record IsFile (n : Node) : Type 0 where
@@ -53,14 +53,14 @@ pub record Legal (n : Node) : Type 0 where
 abbrev mutual
   pub LegalBzlPart : Part → Type 0
   LegalBzlPart (p.Leaf l) = Unit {0}
-  LegalBzlPart (Node' k s r) = Fits IsSort (bzl_shape k) (items-the_row-Part _ r) × LegalBzlRow r
+  LegalBzlPart (Node' k s r) = Fits IsNonterminal (bzl_shape k) (items-the_row-Part _ r) × LegalBzlRow r
 
   pub LegalBzlRow : {m : _} → Row_of-Part m → Type 0
   LegalBzlRow end_of-Part = Unit {0}
   LegalBzlRow (more_of-Part x rest) = LegalBzlPart x × LegalBzlRow rest
 
 abbrev pub LegalBzlShapes : Node → Type 0
-LegalBzlShapes n = Fits IsSort (bzl_shape n.kind) n.parts × AllByRecursion LegalBzlPart n.parts
+LegalBzlShapes n = Fits IsNonterminal (bzl_shape n.kind) n.parts × AllByRecursion LegalBzlPart n.parts
 
 pub record IsBzlFile (n : Node) : Type 0 where
   pub root : n.kind ≡ k.File

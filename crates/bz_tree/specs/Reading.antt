@@ -7,7 +7,7 @@ use Rattle.bz_tree.specs.declared.kind.Kind.TheVariants as k
 use Rattle.bz_tree.specs.declared.tree.Part.{Part}
 use Rattle.bz_tree.specs.declared.tree.Part.TheVariants as p
 use Rattle.bz_tree.specs.Spell.{depth_part}
-use Rattle.bz_tree.specs.Shapes.{Terminal, is_one_of, has_token, Sort, rank, level, argument, entry, clause, first_clause, loaded, small, line, param, stmt, suite, test, expr, leaves_at, Shape, none, done, tok, sub, alt, list, each, times, items, newline, flows, starred, slice_end, bzl_shape, name, simple, string, equals, stars, assigns, dot, comma_mark, colon_mark, one_keyword, open_round, close_round, open_square, close_square, open_curly, close_curly}
+use Rattle.bz_tree.specs.Shapes.{Terminal, is_one_of, has_token, Nonterminal, rank, level, argument, entry, clause, first_clause, loaded, small, line, param, stmt, suite, test, expr, leaves_at, Shape, none, done, tok, sub, alt, list, each, times, items, newline, flows, starred, slice_end, bzl_shape, name, simple, string, equals, stars, assigns, dot, comma_mark, colon_mark, one_keyword, open_round, close_round, open_square, close_square, open_curly, close_curly}
 
 infixl 10 ◌>>=◌
 abbrev pub ◌>>=◌ : {A B : Type 0} → Option A → (A → Option B) → Option B
@@ -59,7 +59,7 @@ starts_small = one_keyword (codes "load") ++ (one_keyword (codes "return") ++ (f
 abbrev pub headed : List Terminal
 headed = one_keyword (codes "def") ++ (one_keyword (codes "if") ++ one_keyword (codes "for"))
 
-abbrev pub starts : Sort → List Terminal
+abbrev pub starts : Nonterminal → List Terminal
 starts (level n) = starts_level n
 starts argument = stars ++ starts_level (rank k.Lambda)
 starts entry = starts_level (rank k.Lambda)
@@ -102,7 +102,7 @@ several zero next begin K ts = K ts
 several (suc n) next begin K ts = if starts_with begin ts then (next ts >>= λ x. with_part_first x.0 (several n next begin K x.1)) else K ts
 
 -- the parts of a shape, where inner reads a part of a sort
-abbrev pub run : (Sort → Read Part) → Shape → Read (List Part)
+abbrev pub run : (Nonterminal → Read Part) → Shape → Read (List Part)
 run inner none ts = None
 run inner done ts = Some ([], ts)
 run inner (tok terminals r) [] = None
@@ -122,7 +122,7 @@ pub data Plan : Type 0 where
   -- one token of these, and then
   one : List Terminal → Plan → Plan
   -- one part of this sort, and then
-  piece : Sort → Plan → Plan
+  piece : Nonterminal → Plan → Plan
   -- the left one where the next token begins it, else the right one
   choose : Plan → Plan → Plan
 
@@ -144,7 +144,7 @@ abbrev pub put_found : Part → Option (FoundLevel × List Leaf) → Option (Fou
 put_found part None = None
 put_found part (Some x) = Some ((x.0.0, part ∷ x.0.1), x.1)
 
-abbrev pub follow : (Sort → Read Part) → Plan → Read FoundLevel
+abbrev pub follow : (Nonterminal → Read Part) → Plan → Read FoundLevel
 follow inner (finish kind r) ts = as_kind kind (run inner r ts)
 follow inner (one terminals plan) [] = None
 follow inner (one terminals plan) (t ∷ ts) = if is_one_of terminals t then put_found (p.Leaf t) (follow inner plan ts) else None
@@ -156,17 +156,17 @@ abbrev pub round : Plan
 round = one open_round (choose (finish k.Tuple (tok close_round done)) (piece test (choose (finish k.Paren (tok close_round done)) (finish k.Tuple (tok comma_mark (items test close_round))))))
 
 -- after the first item, in brackets
-abbrev pub more_items : Sort → List Terminal → Shape
-more_items sort close = alt (tok close done) (tok comma_mark (items sort close))
+abbrev pub more_items : Nonterminal → List Terminal → Shape
+more_items nonterminal close = alt (tok close done) (tok comma_mark (items nonterminal close))
 
 -- after the element of a comprehension
 abbrev pub clauses : List Terminal → Shape
 clauses close = sub first_clause (each clause (tok close done))
 
 -- an opening bracket: a list or a dict, or a comprehension
-abbrev pub bracketed : List Terminal → List Terminal → Sort → Kind → Kind → Plan
-bracketed open_ close sort whole comprehension =
-    one open_ (choose (finish whole (tok close done)) (piece sort (choose (finish comprehension (clauses close)) (finish whole (more_items sort close)))))
+abbrev pub bracketed : List Terminal → List Terminal → Nonterminal → Kind → Kind → Plan
+bracketed open_break close nonterminal whole comprehension =
+    one open_break (choose (finish whole (tok close done)) (piece nonterminal (choose (finish comprehension (clauses close)) (finish whole (more_items nonterminal close)))))
 
 abbrev pub square : Plan
 square = bracketed open_square close_square test k.List k.ListComp
@@ -206,56 +206,56 @@ token_part terminals [] = None
 token_part terminals (t ∷ ts) = if is_one_of terminals t then Some (p.Leaf t, ts) else None
 
 -- a part, or a node that it begins, where the next token says so and the part may begin one
-abbrev pub infix_at : Kind → (Part → Bool) → Shape → (Sort → Read Part) → Read Part → Read Part
+abbrev pub infix_at : Kind → (Part → Bool) → Shape → (Nonterminal → Read Part) → Read Part → Read Part
 infix_at kind left tail inner next ts =
     next ts >>= λ a. if starts_with (first tail) a.1 then (if left a.0 then wrap kind (with_part_first a.0 (run inner tail a.1)) else None) else Some a
 
-abbrev pub prefix_at : Kind → Shape → (Sort → Read Part) → Read Part → Read Part
+abbrev pub prefix_at : Kind → Shape → (Nonterminal → Read Part) → Read Part → Read Part
 prefix_at kind r inner next ts = if starts_with (first r) ts then wrap kind (run inner r ts) else next ts
 
 -- whether a part may be in a node inside that depth
 abbrev pub fits_in : ℕ → Part → Bool
 fits_in d a = nat_le (depth_part a) d
 
-abbrev pub by_shape : Kind → ℕ → Shape → (Sort → Read Part) → Read Part → Read Part
+abbrev pub by_shape : Kind → ℕ → Shape → (Nonterminal → Read Part) → Read Part → Read Part
 by_shape kind d (tok terminals r) inner next = prefix_at kind (tok terminals r) inner next
 by_shape kind d (sub q r) inner next = infix_at kind (fits_in d) r inner next
 by_shape kind d _ inner next = next
 
 -- what binds tightest, without what may be after it
-abbrev pub atom : (Sort → Read Part) → Read Part
+abbrev pub atom : (Nonterminal → Read Part) → Read Part
 atom inner ts =
     if starts_with (first_of round) ts then wrap_found (follow inner round ts)
     else (if starts_with (first_of square) ts then wrap_found (follow inner square ts)
     else (if starts_with (first_of curly) ts then wrap_found (follow inner curly ts) else token_part simple ts))
 
-abbrev pub suffixes : ℕ → ℕ → (Sort → Read Part) → Part → Read Part
+abbrev pub suffixes : ℕ → ℕ → (Nonterminal → Read Part) → Part → Read Part
 suffixes zero d inner a ts = Some (a, ts)
 suffixes (suc n) d inner a ts =
     if starts_with (first_of suffix_plan) ts then (if fits_in d a then (wrap_found (put_found a (follow inner suffix_plan ts)) >>= λ x. suffixes n d inner x.0 x.1) else None) else Some (a, ts)
 
-abbrev pub read_primary : ℕ → (Sort → Read Part) → Read Part
+abbrev pub read_primary : ℕ → (Nonterminal → Read Part) → Read Part
 read_primary d inner ts = atom inner ts >>= λ a. suffixes (length a.1) d inner a.0 a.1
 
-abbrev pub climb : ℕ → (Sort → Read Part) → ℕ → Read Part
+abbrev pub climb : ℕ → (Nonterminal → Read Part) → ℕ → Read Part
 climb d inner zero = read_primary d inner
 climb d inner (suc n) = by_shape (kind_at n) d (shape_at n) inner (climb d inner n)
 
 abbrev pub named_tail : Shape
 named_tail = tok equals (sub test done)
 
-abbrev pub read_argument : Read Part → (Sort → Read Part) → Read Part
+abbrev pub read_argument : Read Part → (Nonterminal → Read Part) → Read Part
 read_argument next inner = prefix_at k.Star (bzl_shape k.Star) inner (infix_at k.Named (has_token name) named_tail inner next)
 
 -- a parameter: a name, perhaps with a value, or one with stars
 abbrev pub param_tail : Shape
 param_tail = tok equals (sub test done)
 
-abbrev pub read_param : (Sort → Read Part) → Read Part
+abbrev pub read_param : (Nonterminal → Read Part) → Read Part
 read_param inner = prefix_at k.Param starred inner (infix_at k.Param (has_token name) param_tail inner (token_part name))
 
 -- parts of at most that depth; statements and suites are read by their indents
-abbrev pub reading : ℕ → Sort → Read Part
+abbrev pub reading : ℕ → Nonterminal → Read Part
 reading zero q ts = token_part (leaves_at q) ts
 reading (suc d) (level n) ts = climb d (reading d) n ts
 reading (suc d) argument ts = read_argument (climb d (reading d) (rank k.Lambda)) (reading d) ts

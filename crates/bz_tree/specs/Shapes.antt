@@ -122,9 +122,9 @@ flows = keyword_terminals (codes "break" ∷ codes "continue" ∷ codes "pass" �
 -- level n: an expression of that rank or a lower one; argument = test | Named | Star; entry = Entry; clause = For | If;
 -- first_clause = For; loaded = String | Alias; small = Bare | Assign | Load | Return | Flow; line = Line;
 -- param = Name | Param; stmt = Line | Def | IfStmt | ForStmt; suite = Suite | Line.
-pub data Sort : Type 0 where
-  level : ℕ → Sort
-  argument entry clause first_clause loaded small line param stmt suite : Sort
+pub data Nonterminal : Type 0 where
+  level : ℕ → Nonterminal
+  argument entry clause first_clause loaded small line param stmt suite : Nonterminal
 
 -- Operators bind the tighter the lower their rank: 0 primary, 1 unary, then the binary operators from products on,
 -- 8 compare, 9 not, 10 and, 11 or, 12 conditions, 13 test (lambdas), 14 expr.
@@ -145,25 +145,25 @@ rank k.Lambda = 13
 rank k.Row = 14
 rank _ = 0
 
-abbrev pub primary : Sort
+abbrev pub primary : Nonterminal
 primary = level 0
 
-abbrev pub bitor : Sort
+abbrev pub bitor : Nonterminal
 bitor = level (rank k.BitOr)
 
-abbrev pub not_level : Sort
+abbrev pub not_level : Nonterminal
 not_level = level (rank k.Not)
 
-abbrev pub and_level : Sort
+abbrev pub and_level : Nonterminal
 and_level = level (rank k.And)
 
-abbrev pub or_level : Sort
+abbrev pub or_level : Nonterminal
 or_level = level (rank k.Or)
 
-abbrev pub test : Sort
+abbrev pub test : Nonterminal
 test = level (rank k.Lambda)
 
-abbrev pub expr : Sort
+abbrev pub expr : Nonterminal
 expr = level (rank k.Row)
 
 abbrev pub is_expression : Kind → Bool
@@ -191,7 +191,7 @@ abbrev pub is_kind : Kind → Kind → Bool
 is_kind kind other = nat_eq (kind_number kind) (kind_number other)
 
 -- the leaves that have a sort
-abbrev pub leaves_at : Sort → List Terminal
+abbrev pub leaves_at : Nonterminal → List Terminal
 leaves_at (level n) = simple
 leaves_at argument = simple
 leaves_at loaded = string
@@ -199,22 +199,22 @@ leaves_at param = name
 leaves_at _ = []
 
 -- whether nodes of a kind have a sort
-abbrev pub sort_has_kind : Sort → Kind → Bool
-sort_has_kind (level n) kind = is_expression kind && nat_le (rank kind) n
-sort_has_kind argument kind = (is_expression kind && nat_le (rank kind) (rank k.Lambda)) || (is_kind kind k.Named || is_kind kind k.Star)
-sort_has_kind entry kind = is_kind kind k.Entry
-sort_has_kind clause kind = is_kind kind k.For || is_kind kind k.If
-sort_has_kind first_clause kind = is_kind kind k.For
-sort_has_kind loaded kind = is_kind kind k.Alias
-sort_has_kind small kind = is_kind kind k.Bare || (is_kind kind k.Assign || (is_kind kind k.Load || (is_kind kind k.Return || is_kind kind k.Flow)))
-sort_has_kind line kind = is_kind kind k.Line
-sort_has_kind param kind = is_kind kind k.Param
-sort_has_kind stmt kind = is_kind kind k.Line || (is_kind kind k.Def || (is_kind kind k.IfStmt || is_kind kind k.ForStmt))
-sort_has_kind suite kind = is_kind kind k.Suite || is_kind kind k.Line
+abbrev pub nonterminal_has_kind : Nonterminal → Kind → Bool
+nonterminal_has_kind (level n) kind = is_expression kind && nat_le (rank kind) n
+nonterminal_has_kind argument kind = (is_expression kind && nat_le (rank kind) (rank k.Lambda)) || (is_kind kind k.Named || is_kind kind k.Star)
+nonterminal_has_kind entry kind = is_kind kind k.Entry
+nonterminal_has_kind clause kind = is_kind kind k.For || is_kind kind k.If
+nonterminal_has_kind first_clause kind = is_kind kind k.For
+nonterminal_has_kind loaded kind = is_kind kind k.Alias
+nonterminal_has_kind small kind = is_kind kind k.Bare || (is_kind kind k.Assign || (is_kind kind k.Load || (is_kind kind k.Return || is_kind kind k.Flow)))
+nonterminal_has_kind line kind = is_kind kind k.Line
+nonterminal_has_kind param kind = is_kind kind k.Param
+nonterminal_has_kind stmt kind = is_kind kind k.Line || (is_kind kind k.Def || (is_kind kind k.IfStmt || is_kind kind k.ForStmt))
+nonterminal_has_kind suite kind = is_kind kind k.Suite || is_kind kind k.Line
 
-abbrev pub has_sort : Sort → Part → Bool
-has_sort sort (p.Leaf leaf) = is_one_of (leaves_at sort) leaf
-has_sort sort (Node' kind size row) = sort_has_kind sort kind
+abbrev pub has_nonterminal : Nonterminal → Part → Bool
+has_nonterminal nonterminal (p.Leaf leaf) = is_one_of (leaves_at nonterminal) leaf
+has_nonterminal nonterminal (Node' kind size row) = nonterminal_has_kind nonterminal kind
 
 -- whether the part is one of these tokens
 abbrev pub has_token : List Terminal → Part → Bool
@@ -231,14 +231,14 @@ pub data Shape : Type 0 where
   -- one token of these, and then
   tok : List Terminal → Shape → Shape
   -- one part of this sort, and then
-  sub : Sort → Shape → Shape
+  sub : Nonterminal → Shape → Shape
   -- either
   alt : Shape → Shape → Shape
   -- parts of this sort, at least one, a token of these between two of them (and where true is written, perhaps after
   -- the last), and then
-  list : Sort → List Terminal → Bool → Shape → Shape
+  list : Nonterminal → List Terminal → Bool → Shape → Shape
   -- parts of this sort, none or more, and then
-  each : Sort → Shape → Shape
+  each : Nonterminal → Shape → Shape
   -- what has the first shape, none or more times, and then
   times : Shape → Shape → Shape
 
@@ -246,11 +246,11 @@ pub data Shape : Type 0 where
 abbrev mutual
   pub Listed : (Part → Type 0) → List Terminal → Bool → (List Part → Type 0) → List Part → Type 0
   Listed P separators last K [] = ⊥
-  Listed P separators last K (x ∷ xs) = P x × Behind P separators last K xs
+  Listed P separators last K (x ∷ xs) = P x × After P separators last K xs
 
-  pub Behind : (Part → Type 0) → List Terminal → Bool → (List Part → Type 0) → List Part → Type 0
-  Behind P separators last K [] = K []
-  Behind P separators last K (x ∷ xs) = K (x ∷ xs) ⊎ ((has_token separators x ≡ true) × (Listed P separators last K xs ⊎ ((last ≡ true) × K xs)))
+  pub After : (Part → Type 0) → List Terminal → Bool → (List Part → Type 0) → List Part → Type 0
+  After P separators last K [] = K []
+  After P separators last K (x ∷ xs) = K (x ∷ xs) ⊎ ((has_token separators x ≡ true) × (Listed P separators last K xs ⊎ ((last ≡ true) × K xs)))
 
 -- none or more parts of which P holds, and then what K says
 abbrev pub Several : (Part → Type 0) → (List Part → Type 0) → List Part → Type 0
@@ -263,35 +263,35 @@ pub data Times (F K : List Part → Type 0) : List Part → Type 0 where
   once_more : {xs : List Part} (front back : List Part) → xs ≡ front ++ back → F front → Times F K back → Times F K xs
 
 -- The parts have the shape, where P says what a part of a sort is.
-abbrev pub Fits : (Sort → Part → Type 0) → Shape → List Part → Type 0
+abbrev pub Fits : (Nonterminal → Part → Type 0) → Shape → List Part → Type 0
 Fits P none xs = ⊥
 Fits P done [] = Unit {0}
 Fits P done (x ∷ xs) = ⊥
 Fits P (tok terminals then_) [] = ⊥
 Fits P (tok terminals then_) (x ∷ xs) = (has_token terminals x ≡ true) × Fits P then_ xs
-Fits P (sub sort then_) [] = ⊥
-Fits P (sub sort then_) (x ∷ xs) = P sort x × Fits P then_ xs
+Fits P (sub nonterminal then_) [] = ⊥
+Fits P (sub nonterminal then_) (x ∷ xs) = P nonterminal x × Fits P then_ xs
 Fits P (alt left right) xs = Fits P left xs ⊎ Fits P right xs
-Fits P (list sort separators last then_) xs = Listed (P sort) separators last (Fits P then_) xs
-Fits P (each sort then_) xs = Several (P sort) (Fits P then_) xs
+Fits P (list nonterminal separators last then_) xs = Listed (P nonterminal) separators last (Fits P then_) xs
+Fits P (each nonterminal then_) xs = Several (P nonterminal) (Fits P then_) xs
 Fits P (times group then_) xs = Times (Fits P group) (Fits P then_) xs
 
 -- ---- the table
 
 -- perhaps a part of a sort, and then
-abbrev pub opt : Sort → Shape → Shape
-opt sort then_ = alt then_ (sub sort then_)
+abbrev pub opt : Nonterminal → Shape → Shape
+opt nonterminal then_ = alt then_ (sub nonterminal then_)
 
 -- what is in brackets, after the opening one: [x {"," x} [","]] and the closing one, and then
-abbrev pub enclosed : Sort → List Terminal → Shape → Shape
-enclosed sort close then_ = alt (tok close then_) (list sort comma_mark true (tok close then_))
+abbrev pub enclosed : Nonterminal → List Terminal → Shape → Shape
+enclosed nonterminal close then_ = alt (tok close then_) (list nonterminal comma_mark true (tok close then_))
 
-abbrev pub items : Sort → List Terminal → Shape
-items sort close = enclosed sort close done
+abbrev pub items : Nonterminal → List Terminal → Shape
+items nonterminal close = enclosed nonterminal close done
 
 -- next op next {op next}, where next is of a sort
-abbrev pub flat : Sort → List Terminal → Shape
-flat sort operators = sub sort (tok operators (list sort operators false done))
+abbrev pub flat : Nonterminal → List Terminal → Shape
+flat nonterminal operators = sub nonterminal (tok operators (list nonterminal operators false done))
 
 -- after the first colon of a slice: [test] [":" [test]] "]"
 abbrev pub slice_end : Shape

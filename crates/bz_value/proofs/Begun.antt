@@ -2,20 +2,20 @@
 use Rattle.std.proofs.Common.{◌≡◌, Bool, refl, sym, ap, ◌∙◌}
 use Rattle.bz_tree.specs.declared.kind.Kind.{Kind}
 use Rattle.bz_tree.specs.declared.kind.Kind.TheVariants as k
-use Rattle.bz_tree.specs.Spots.{Spot, onward, Role, opens, closes, ends, plain, role, behind_token, behind_node}
+use Rattle.bz_tree.specs.Spots.{Spot, onward, Role, opens, closes, ends, plain, role, following_token, after_node}
 use Rattle.bz_value.specs.declared.value.Expr.{Expr, Token, Form', Row_of-Expr, end_of-Expr, more_of-Expr}
 use Rattle.bz_value.specs.Frames.{frame, is_binary}
 use Rattle.bz_tree.specs.Shapes.{Shape}
-use Rattle.bz_value.specs.Proper.{behind_expr, ProperBy, ProperRowBy, ProperHeadBy}
+use Rattle.bz_value.specs.Proper.{after_expr, ProperBy, ProperRowBy, ProperHeadBy}
 use Rattle.bz_value.proofs.FormParts.{framed}
 
-token_same : (t : Role) (outer outer' here here' : Spot) → onward outer ≡ onward outer' → onward here ≡ onward here' → behind_token t outer here ≡ behind_token t outer' here'
+token_same : (t : Role) (outer outer' here here' : Spot) → onward outer ≡ onward outer' → onward here ≡ onward here' → following_token t outer here ≡ following_token t outer' here'
 token_same opens outer outer' here here' e f = refl
 token_same closes outer outer' here here' e f = e
 token_same ends outer outer' here here' e f = refl
 token_same plain outer outer' here here' e f = f
 
-node_same : (kind : Kind) (here here' : Spot) → onward here ≡ onward here' → behind_node kind here ≡ behind_node kind here'
+node_same : (kind : Kind) (here here' : Spot) → onward here ≡ onward here' → after_node kind here ≡ after_node kind here'
 node_same k.Line here here' f = refl
 node_same k.Def here here' f = refl
 node_same k.IfStmt here here' f = refl
@@ -23,15 +23,15 @@ node_same k.ForStmt here here' f = refl
 node_same k.Suite here here' f = refl
 node_same _ here here' f = f
 
-behind_same : (x : Expr) (outer outer' here here' : Spot) → onward outer ≡ onward outer' → onward here ≡ onward here' → behind_expr outer here x ≡ behind_expr outer' here' x
-behind_same (Token t) outer outer' here here' e f = token_same (role t.class t.text) outer outer' here here' e f
-behind_same (Form' kind s parts s' items end_ split open_ comments) outer outer' here here' e f = node_same kind here here' f
+after_same : (x : Expr) (outer outer' here here' : Spot) → onward outer ≡ onward outer' → onward here ≡ onward here' → after_expr outer here x ≡ after_expr outer' here' x
+after_same (Token t) outer outer' here here' e f = token_same (role t.class t.text) outer outer' here here' e f
+after_same (Form' kind s parts s' items end split open_break comments) outer outer' here here' e f = node_same kind here here' f
 
 module _ (grammar : Kind → Shape) where
   mutual
     pub moved_expr : (x : Expr) (here here' : Spot) → onward here ≡ onward here' → ProperBy grammar here x → ProperBy grammar here' x
     moved_expr (Token t) here here' f h = h
-    moved_expr (Form' kind s parts s' items end_ split open_ comments) here here' f h = (
+    moved_expr (Form' kind s parts s' items end split open_break comments) here here' f h = (
       h.0,
       framed (frame kind)
           (λ g. (moved_row _ parts (is_binary kind) here here' here here' f f g.0, g.1, g.2, g.3, g.4))
@@ -42,11 +42,11 @@ module _ (grammar : Kind → Shape) where
     moved_row : (m : _) (r : Row_of-Expr m) (binary : Bool) (outer outer' here here' : Spot) → onward outer ≡ onward outer' → onward here ≡ onward here' → ProperRowBy grammar binary outer here r → ProperRowBy grammar binary outer' here' r
     moved_row m end_of-Expr binary outer outer' here here' e f h = tt
     moved_row m (more_of-Expr x rest) binary outer outer' here here' e f h =
-        let same = behind_same x outer outer' here here' e f in (
+        let same = after_same x outer outer' here here' e f in (
           moved_expr x here here' f h.0,
           h.1,
           λ b. ((h.2 b).0, sym same ∙ (h.2 b).1),
-          moved_row _ rest binary outer outer' (behind_expr outer here x) (behind_expr outer' here' x) e (ap onward same) h.3,
+          moved_row _ rest binary outer outer' (after_expr outer here x) (after_expr outer' here' x) e (ap onward same) h.3,
         )
 
     moved_head : (m : _) (r : Row_of-Expr m) (here here' : Spot) → onward here ≡ onward here' → ProperHeadBy grammar here r → ProperHeadBy grammar here' r

@@ -4,7 +4,7 @@ use Rattle.std.specs.List.{All}
 use mathlib.Core.Former.{Count}
 use Rattle.bz_tree.specs.declared.kind.Kind.{Kind}
 use Rattle.bz_tree.specs.Shapes.{Shape, Fits, shape}
-use Rattle.bz_tree.specs.Legal.{IsSort}
+use Rattle.bz_tree.specs.Legal.{IsNonterminal}
 use Rattle.bz_tree.specs.Spots.{Spot, Within}
 use Rattle.bz_value.specs.declared.value.Form.{Form}
 use Rattle.bz_value.specs.declared.value.Expr.{Expr, Token, Form', Row_of-Expr, end_of-Expr, more_of-Expr, items-the_row-Expr, items_hidden-the_row-Expr-0}
@@ -12,7 +12,7 @@ use Rattle.bz_value.specs.declared.value.Expr.TheVariants as e
 use Rattle.bz_value.specs.Comments.{no_comments}
 use Rattle.bz_value.specs.Frames.{Frame, row, sequence, frame, is_binary, is_comprehension}
 use Rattle.bz_value.specs.Roots.{root, row_in}
-use Rattle.bz_value.specs.Proper.{IsComment, AreComments, comments_of, has_break, is_operator, begins_operator, behind_expr, roots, IsEmptyRow, IsBare, in_frame, ProperExpr, ProperBy, ProperRowBy, ProperHeadBy, ProperItemsBy}
+use Rattle.bz_value.specs.Proper.{IsComment, AreComments, comments_of, has_break, is_operator, begins_operator, after_expr, roots, IsEmptyRow, IsBare, in_frame, ProperExpr, ProperBy, ProperRowBy, ProperHeadBy, ProperItemsBy}
 
 -- ---- the definition's conditions on rows, of lists
 
@@ -39,11 +39,11 @@ roots_of m (more_of-Expr x rest) = ap (λ t. root x ∷ t) (roots_of _ rest)
 -- ---- the rows of a form
 
 abbrev parts_in : Expr → (m : Count) × Row_of-Expr m
-parts_in (Form' kind s parts s' items end_ split open_ comments) = (_, parts)
+parts_in (Form' kind s parts s' items end split open_break comments) = (_, parts)
 parts_in (Token t) = (_, end_of-Expr)
 
 abbrev items_in : Expr → (m : Count) × Row_of-Expr m
-items_in (Form' kind s parts s' items end_ split open_ comments) = (_, items)
+items_in (Form' kind s parts s' items end split open_break comments) = (_, items)
 items_in (Token t) = (_, end_of-Expr)
 
 pub framed : (f : Frame) {A A' B B' : Type 0} → (A → A') → (B → B') → in_frame f A B → in_frame f A' B'
@@ -57,8 +57,8 @@ module _ (grammar : Kind → Shape) where
   ArePartsBy binary outer here [] = Unit {0}
   ArePartsBy binary outer here (x ∷ xs) =
       ProperBy grammar here x × (comments_of x ≡ no_comments)
-      × (has_break x ≡ true → ((binary && (is_operator x && not (operator_first xs))) ≡ true) × (behind_expr outer here x ≡ Within))
-      × ArePartsBy binary outer (behind_expr outer here x) xs
+      × (has_break x ≡ true → ((binary && (is_operator x && not (operator_first xs))) ≡ true) × (after_expr outer here x ≡ Within))
+      × ArePartsBy binary outer (after_expr outer here x) xs
 
   abbrev pub AreHeadBy : Spot → List Expr → Type 0
   AreHeadBy here [] = Unit {0}
@@ -73,8 +73,8 @@ module _ (grammar : Kind → Shape) where
   row_of binary outer here m (more_of-Expr x rest) h = (
     h.0,
     h.1,
-    subst (λ b. has_break x ≡ true → ((binary && (is_operator x && not b)) ≡ true) × (behind_expr outer here x ≡ Within)) (sym (first_same _ rest)) h.2,
-    row_of binary outer (behind_expr outer here x) _ rest h.3,
+    subst (λ b. has_break x ≡ true → ((binary && (is_operator x && not b)) ≡ true) × (after_expr outer here x ≡ Within)) (sym (first_same _ rest)) h.2,
+    row_of binary outer (after_expr outer here x) _ rest h.3,
   )
 
   head_of : (here : Spot) (m : _) (r : Row_of-Expr m) → AreHeadBy here (items-the_row-Expr m r) → ProperHeadBy grammar here r
@@ -88,12 +88,12 @@ module _ (grammar : Kind → Shape) where
   -- what the definition requires of a form, by its frame
   abbrev pub AsRowBy : Spot → Form → Type 0
   AsRowBy here f =
-      ArePartsBy (is_binary f.kind) here here f.parts × IsNone f.seq.items × (f.seq.end_ ≡ []) × (f.seq.split ≡ false) × (f.open_ ≡ true → is_comprehension f.kind ≡ true)
+      ArePartsBy (is_binary f.kind) here here f.parts × IsNone f.seq.items × (f.seq.end ≡ []) × (f.seq.split ≡ false) × (f.open_break ≡ true → is_comprehension f.kind ≡ true)
 
   abbrev pub AsSequenceBy : Spot → Form → Type 0
-  AsSequenceBy here f = AreHeadBy here f.parts × AreItemsBy f.seq.items × All IsComment f.seq.end_ × (f.open_ ≡ false)
+  AsSequenceBy here f = AreHeadBy here f.parts × AreItemsBy f.seq.items × All IsComment f.seq.end × (f.open_break ≡ false)
 
-  pub form_proper_by : (here : Spot) (f : Form) → Fits IsSort (grammar f.kind) (row_in (frame f.kind) (map root f.parts) (map root f.seq.items)) → in_frame (frame f.kind) (AsRowBy here f) (AsSequenceBy here f) → ProperBy grammar here (e.Form f)
+  pub form_proper_by : (here : Spot) (f : Form) → Fits IsNonterminal (grammar f.kind) (row_in (frame f.kind) (map root f.parts) (map root f.seq.items)) → in_frame (frame f.kind) (AsRowBy here f) (AsSequenceBy here f) → ProperBy grammar here (e.Form f)
   form_proper_by here f h i =
       let ps = parts_in (e.Form f) in
       let qs = items_in (e.Form f) in
@@ -101,7 +101,7 @@ module _ (grammar : Kind → Shape) where
       let items : items-the_row-Expr qs.0 qs.1 ≡ f.seq.items = items_hidden-the_row-Expr-0 f.seq.items in
       let first : roots ps.1 ≡ map root f.parts = roots_of ps.0 ps.1 ∙ ap (map root) parts in
       let then_ : roots qs.1 ≡ map root f.seq.items = roots_of qs.0 qs.1 ∙ ap (map root) items in (
-        subst (λ xs. Fits IsSort (grammar f.kind) (row_in (frame f.kind) xs (roots qs.1))) (sym first) (subst (λ ys. Fits IsSort (grammar f.kind) (row_in (frame f.kind) (map root f.parts) ys)) (sym then_) h),
+        subst (λ xs. Fits IsNonterminal (grammar f.kind) (row_in (frame f.kind) xs (roots qs.1))) (sym first) (subst (λ ys. Fits IsNonterminal (grammar f.kind) (row_in (frame f.kind) (map root f.parts) ys)) (sym then_) h),
         framed (frame f.kind)
             (λ g. (row_of (is_binary f.kind) here here ps.0 ps.1 (subst (ArePartsBy (is_binary f.kind) here here) (sym parts) g.0), none_of qs.0 qs.1 (subst IsNone (sym items) g.1), g.2, g.3, g.4))
             (λ g. (head_of here ps.0 ps.1 (subst (AreHeadBy here) (sym parts) g.0), items_of qs.0 qs.1 (subst AreItemsBy (sym items) g.1), g.2, g.3))
@@ -125,5 +125,5 @@ AsRow here f = AsRowBy shape here f
 abbrev pub AsSequence : Spot → Form → Type 0
 AsSequence here f = AsSequenceBy shape here f
 
-pub form_proper : (here : Spot) (f : Form) → Fits IsSort (shape f.kind) (row_in (frame f.kind) (map root f.parts) (map root f.seq.items)) → in_frame (frame f.kind) (AsRow here f) (AsSequence here f) → ProperExpr here (e.Form f)
+pub form_proper : (here : Spot) (f : Form) → Fits IsNonterminal (shape f.kind) (row_in (frame f.kind) (map root f.parts) (map root f.seq.items)) → in_frame (frame f.kind) (AsRow here f) (AsSequence here f) → ProperExpr here (e.Form f)
 form_proper here f h i = form_proper_by shape here f h i

@@ -9,7 +9,7 @@ use Rattle.std.proofs.lemmas.Bool.{cases_Bool, eqb-true, eqb-false}
 use Rattle.std.proofs.lemmas.Bool.Decides.{nat_tests}
 use Rattle.bz_token.specs.Bytes.{is_blank}
 use Rattle.bz_items.specs.Characters.{Bytes, backslash, line_feed, number_sign}
-use Rattle.bz_value.specs.Gaps.{GapLine, with_first, trimmed, in_comment, behind_backslash, lines_of, as_list, comments_in, first_comment, after_first_comment, suffix_in, others_in, all_in, put_on_first, before_groups, groups_of, all_but_last, last_group}
+use Rattle.bz_value.specs.Gaps.{GapLine, with_first, trimmed, in_comment, after_backslash, lines_of, as_list, comments_in, first_comment, after_first_comment, suffix_in, others_in, all_in, put_on_first, before_groups, groups_of, all_but_last, last_group}
 use Rattle.bz_value.specs.Proper.{IsComment, MaybeComment}
 
 abbrev OneLine : Bytes → Type 0
@@ -77,8 +77,8 @@ AreFine ls = AllByRecursion (λ line. MaybeComment line.comment) ls
 -- of a gap, or of what is left of one after some bytes
 record FineGap (front g : Bytes) : Type 0 where
   lines : AreFine (lines_of g)
-  behind : AreFine (in_comment g).lines
-  escaped : AreFine (behind_backslash g)
+  following : AreFine (in_comment g).lines
+  escaped : AreFine (after_backslash g)
   one_line : OneLine (in_comment g).words
   coded : IsUtf8 (front ++ (in_comment g).words)
 
@@ -88,7 +88,7 @@ AllFine g = (front : Bytes) → IsUtf8 (front ++ g) → FineGap front g
 fine_newline : (c : ℕ) (g front : Bytes) → c ≡ line_feed → FineGap (front ++ c ∷ []) g → IsUtf8 (front ++ c ∷ g) → FineGap front (c ∷ g)
 fine_newline c g front e v u = subst (λ d. FineGap front (d ∷ g)) (sym e) (record {
   lines = (tt, v.lines);
-  behind = v.lines;
+  following = v.lines;
   escaped = v.lines;
   one_line = tt;
   coded = subst IsUtf8 (sym (append-nil front)) (cut_before front c g (omega arith) u).0;
@@ -96,8 +96,8 @@ fine_newline c g front e v u = subst (λ d. FineGap front (d ∷ g)) (sym e) (re
 
 fine_mark : (c : ℕ) (g front : Bytes) → eqb c line_feed ≡ false → eqb c number_sign ≡ true → FineGap (front ++ c ∷ []) g → IsUtf8 (front ++ c ∷ (in_comment g).words) → FineGap (number_sign ∷ []) g → FineGap front (c ∷ g)
 fine_mark c g front b m v on w = record {
-  lines = rw m (comment_of (in_comment g).words w.one_line w.coded, v.behind);
-  behind = rw b v.behind;
+  lines = rw m (comment_of (in_comment g).words w.one_line w.coded, v.following);
+  following = rw b v.following;
   escaped = rw b v.escaped;
   one_line = rw b (eqb-false c line_feed b, v.one_line);
   coded = rw b on;
@@ -106,7 +106,7 @@ fine_mark c g front b m v on w = record {
 fine_other : (c : ℕ) (g front : Bytes) → eqb c line_feed ≡ false → eqb c number_sign ≡ false → FineGap (front ++ c ∷ []) g → IsUtf8 (front ++ c ∷ (in_comment g).words) → FineGap front (c ∷ g)
 fine_other c g front b m v on = record {
   lines = elim (cases_Bool (eqb c backslash)) [ inl e ↦ rw (m, b, e) (tt, v.escaped) | inr e ↦ rw (m, b, e) v.lines ];
-  behind = rw b v.behind;
+  following = rw b v.following;
   escaped = rw b v.escaped;
   one_line = rw b (eqb-false c line_feed b, v.one_line);
   coded = rw b on;
@@ -125,7 +125,7 @@ fine_later c g w front u =
     ]
 
 fine_from : (g : Bytes) → AllFine g
-fine_from [] front u = record { lines = tt; behind = tt; escaped = tt; one_line = tt; coded = u }
+fine_from [] front u = record { lines = tt; following = tt; escaped = tt; one_line = tt; coded = u }
 fine_from (c ∷ g) front u = fine_later c g (fine_from g) front u
 
 pub fine_lines : (g : Bytes) → IsUtf8 g → AreFine (lines_of g)
@@ -152,15 +152,15 @@ fine_first : (ls : List GapLine) → AreFine ls → MaybeComment (first_comment 
 fine_first [] h = tt
 fine_first (line ∷ ls) h = h.0
 
-pub fine_behind : (ls : List GapLine) → AreFine ls → AreFine (after_first_comment ls)
-fine_behind [] h = tt
-fine_behind (line ∷ ls) h = h.1
+pub fine_after : (ls : List GapLine) → AreFine ls → AreFine (after_first_comment ls)
+fine_after [] h = tt
+fine_after (line ∷ ls) h = h.1
 
 pub suffix_fine : (g : Bytes) → IsUtf8 g → MaybeComment (suffix_in g)
 suffix_fine g u = fine_first (lines_of g) (fine_lines g u)
 
 pub others_fine : (g : Bytes) → IsUtf8 g → Group (others_in g)
-others_fine g u = fine_comments (after_first_comment (lines_of g)) (fine_behind (lines_of g) (fine_lines g u))
+others_fine g u = fine_comments (after_first_comment (lines_of g)) (fine_after (lines_of g) (fine_lines g u))
 
 pub all_fine : (g : Bytes) → IsUtf8 g → Group (all_in g)
 all_fine g u = fine_comments (lines_of g) (fine_lines g u)

@@ -6,8 +6,8 @@ use Rattle.bz_tree.specs.declared.kind.Kind.{Kind}
 use Rattle.bz_tree.specs.declared.kind.Kind.TheVariants as k
 use Rattle.bz_tree.specs.declared.tree.Part.{Part}
 use Rattle.bz_tree.specs.Shapes as s
-use Rattle.bz_tree.specs.Shapes.{Sort, Terminal, Shape, Fits, Listed, Behind, Several, has_token, has_sort}
-use Rattle.bz_tree.specs.Legal.{IsSort}
+use Rattle.bz_tree.specs.Shapes.{Nonterminal, Terminal, Shape, Fits, Listed, After, Several, has_token, has_nonterminal}
+use Rattle.bz_tree.specs.Legal.{IsNonterminal}
 use Rattle.bz_value.specs.Frames.{frame, lead}
 use Rattle.bz_value.specs.LineShapes.{line_shape}
 use Rattle.bz_value.specs.Proper.{in_frame}
@@ -21,10 +21,10 @@ abbrev pub lacks : ℕ → Shape → Bool
 lacks o s.none = true
 lacks o s.done = true
 lacks o (s.tok terminals then_) = lacks_mark o terminals && lacks o then_
-lacks o (s.sub sort then_) = lacks o then_
+lacks o (s.sub nonterminal then_) = lacks o then_
 lacks o (s.alt left right) = lacks o left && lacks o right
-lacks o (s.list sort separators last then_) = lacks_mark o separators && lacks o then_
-lacks o (s.each sort then_) = lacks o then_
+lacks o (s.list nonterminal separators last then_) = lacks_mark o separators && lacks o then_
+lacks o (s.each nonterminal then_) = lacks o then_
 lacks o (s.times group then_) = false
 
 no_token : (b : Bool) → not b ≡ true → b ≡ true → ⊥
@@ -32,12 +32,12 @@ no_token true e h = true≢false (sym e)
 no_token false e h = true≢false (sym h)
 
 -- a mark by itself has no sort
-mark_sort : (sort : Sort) (o : ℕ) → has_sort sort (mark_leaf o) ≡ false
-mark_sort (s.level n) o = refl
-mark_sort _ o = refl
+mark_nonterminal : (nonterminal : Nonterminal) (o : ℕ) → has_nonterminal nonterminal (mark_leaf o) ≡ false
+mark_nonterminal (s.level n) o = refl
+mark_nonterminal _ o = refl
 
-no_sort : (sort : Sort) (o : ℕ) → IsSort sort (mark_leaf o) → ⊥
-no_sort sort o h = true≢false (sym h ∙ mark_sort sort o)
+no_nonterminal : (nonterminal : Nonterminal) (o : ℕ) → IsNonterminal nonterminal (mark_leaf o) → ⊥
+no_nonterminal nonterminal o h = true≢false (sym h ∙ mark_nonterminal nonterminal o)
 
 module _ (o : ℕ) (ys : List Part) where
   -- what K holds of has the mark nowhere
@@ -45,53 +45,53 @@ module _ (o : ℕ) (ys : List Part) where
   Free K = (xs : List Part) → K (xs ++ (mark_leaf o ∷ ys)) → ⊥
 
   mutual
-    listed_free : (sort : Sort) (separators : List Terminal) (last : Bool) (K : List Part → Type 0) → lacks_mark o separators ≡ true → Free K → (xs : List Part) → Listed (IsSort sort) separators last K (xs ++ (mark_leaf o ∷ ys)) → ⊥
-    listed_free sort separators last K n f [] h = no_sort sort o h.0
-    listed_free sort separators last K n f (x ∷ xs) h = behind_free sort separators last K n f xs h.1
+    listed_free : (nonterminal : Nonterminal) (separators : List Terminal) (last : Bool) (K : List Part → Type 0) → lacks_mark o separators ≡ true → Free K → (xs : List Part) → Listed (IsNonterminal nonterminal) separators last K (xs ++ (mark_leaf o ∷ ys)) → ⊥
+    listed_free nonterminal separators last K n f [] h = no_nonterminal nonterminal o h.0
+    listed_free nonterminal separators last K n f (x ∷ xs) h = after_free nonterminal separators last K n f xs h.1
 
-    behind_free : (sort : Sort) (separators : List Terminal) (last : Bool) (K : List Part → Type 0) → lacks_mark o separators ≡ true → Free K → (xs : List Part) → Behind (IsSort sort) separators last K (xs ++ (mark_leaf o ∷ ys)) → ⊥
-    behind_free sort separators last K n f [] (inl h) = f [] h
-    behind_free sort separators last K n f [] (inr (e, h)) = no_token _ n e
-    behind_free sort separators last K n f (x ∷ xs) (inl h) = f (x ∷ xs) h
-    behind_free sort separators last K n f (x ∷ xs) (inr (e, inl h)) = listed_free sort separators last K n f xs h
-    behind_free sort separators last K n f (x ∷ xs) (inr (e, inr h)) = f xs h.1
+    after_free : (nonterminal : Nonterminal) (separators : List Terminal) (last : Bool) (K : List Part → Type 0) → lacks_mark o separators ≡ true → Free K → (xs : List Part) → After (IsNonterminal nonterminal) separators last K (xs ++ (mark_leaf o ∷ ys)) → ⊥
+    after_free nonterminal separators last K n f [] (inl h) = f [] h
+    after_free nonterminal separators last K n f [] (inr (e, h)) = no_token _ n e
+    after_free nonterminal separators last K n f (x ∷ xs) (inl h) = f (x ∷ xs) h
+    after_free nonterminal separators last K n f (x ∷ xs) (inr (e, inl h)) = listed_free nonterminal separators last K n f xs h
+    after_free nonterminal separators last K n f (x ∷ xs) (inr (e, inr h)) = f xs h.1
 
-  several_free : (sort : Sort) (K : List Part → Type 0) → Free K → (xs : List Part) → Several (IsSort sort) K (xs ++ (mark_leaf o ∷ ys)) → ⊥
-  several_free sort K f [] (inl h) = f [] h
-  several_free sort K f [] (inr h) = no_sort sort o h.0
-  several_free sort K f (x ∷ xs) (inl h) = f (x ∷ xs) h
-  several_free sort K f (x ∷ xs) (inr h) = several_free sort K f xs h.1
+  several_free : (nonterminal : Nonterminal) (K : List Part → Type 0) → Free K → (xs : List Part) → Several (IsNonterminal nonterminal) K (xs ++ (mark_leaf o ∷ ys)) → ⊥
+  several_free nonterminal K f [] (inl h) = f [] h
+  several_free nonterminal K f [] (inr h) = no_nonterminal nonterminal o h.0
+  several_free nonterminal K f (x ∷ xs) (inl h) = f (x ∷ xs) h
+  several_free nonterminal K f (x ∷ xs) (inr h) = several_free nonterminal K f xs h.1
 
-  pub fits_free : (shape : Shape) → lacks o shape ≡ true → Free (Fits IsSort shape)
+  pub fits_free : (shape : Shape) → lacks o shape ≡ true → Free (Fits IsNonterminal shape)
   fits_free s.none n xs h = h
   fits_free s.done n [] h = h
   fits_free s.done n (x ∷ xs) h = h
   fits_free (s.tok terminals then_) n [] h = no_token _ (and_parts _ _ n).0 h.0
   fits_free (s.tok terminals then_) n (x ∷ xs) h = fits_free then_ (and_parts _ _ n).1 xs h.1
-  fits_free (s.sub sort then_) n [] h = no_sort sort o h.0
-  fits_free (s.sub sort then_) n (x ∷ xs) h = fits_free then_ n xs h.1
+  fits_free (s.sub nonterminal then_) n [] h = no_nonterminal nonterminal o h.0
+  fits_free (s.sub nonterminal then_) n (x ∷ xs) h = fits_free then_ n xs h.1
   fits_free (s.alt left right) n xs (inl h) = fits_free left (and_parts _ _ n).0 xs h
   fits_free (s.alt left right) n xs (inr h) = fits_free right (and_parts _ _ n).1 xs h
-  fits_free (s.list sort separators last then_) n xs h = listed_free sort separators last (Fits IsSort then_) (and_parts _ _ n).0 (fits_free then_ (and_parts _ _ n).1) xs h
-  fits_free (s.each sort then_) n xs h = several_free sort (Fits IsSort then_) (fits_free then_ n) xs h
+  fits_free (s.list nonterminal separators last then_) n xs h = listed_free nonterminal separators last (Fits IsNonterminal then_) (and_parts _ _ n).0 (fits_free then_ (and_parts _ _ n).1) xs h
+  fits_free (s.each nonterminal then_) n xs h = several_free nonterminal (Fits IsNonterminal then_) (fits_free then_ n) xs h
   fits_free (s.times group then_) n xs h = true≢false (sym n)
 
   -- the bracket comes first
-  none_before : (terminals : List Terminal) (then_ : Shape) → lacks o then_ ≡ true → (xs : List Part) → Fits IsSort (s.tok terminals then_) (xs ++ (mark_leaf o ∷ ys)) → length xs ≡ 0
+  none_before : (terminals : List Terminal) (then_ : Shape) → lacks o then_ ≡ true → (xs : List Part) → Fits IsNonterminal (s.tok terminals then_) (xs ++ (mark_leaf o ∷ ys)) → length xs ≡ 0
   none_before terminals then_ n [] h = refl
   none_before terminals then_ n (x ∷ xs) h = absurd (fits_free then_ n xs h.1)
 
   -- one part, and then the bracket
-  one_before : (sort : Sort) (terminals : List Terminal) (then_ : Shape) → lacks o then_ ≡ true → (xs : List Part) → Fits IsSort (s.sub sort (s.tok terminals then_)) (xs ++ (mark_leaf o ∷ ys)) → length xs ≡ 1
-  one_before sort terminals then_ n [] h = absurd (no_sort sort o h.0)
-  one_before sort terminals then_ n (x ∷ xs) h = ap suc (none_before terminals then_ n xs h.1)
+  one_before : (nonterminal : Nonterminal) (terminals : List Terminal) (then_ : Shape) → lacks o then_ ≡ true → (xs : List Part) → Fits IsNonterminal (s.sub nonterminal (s.tok terminals then_)) (xs ++ (mark_leaf o ∷ ys)) → length xs ≡ 1
+  one_before nonterminal terminals then_ n [] h = absurd (no_nonterminal nonterminal o h.0)
+  one_before nonterminal terminals then_ n (x ∷ xs) h = ap suc (none_before terminals then_ n xs h.1)
 
   -- one word, and then the bracket
-  word_before : (word terminals : List Terminal) (then_ : Shape) → lacks_mark o word ≡ true → lacks o then_ ≡ true → (xs : List Part) → Fits IsSort (s.tok word (s.tok terminals then_)) (xs ++ (mark_leaf o ∷ ys)) → length xs ≡ 1
+  word_before : (word terminals : List Terminal) (then_ : Shape) → lacks_mark o word ≡ true → lacks o then_ ≡ true → (xs : List Part) → Fits IsNonterminal (s.tok word (s.tok terminals then_)) (xs ++ (mark_leaf o ∷ ys)) → length xs ≡ 1
   word_before word terminals then_ w n [] h = absurd (no_token _ w h.0)
   word_before word terminals then_ w n (x ∷ xs) h = ap suc (none_before terminals then_ n xs h.1)
 
-pub lead_before : (kind : Kind) (xs ys : List Part) → Fits IsSort (line_shape kind) (row_in (frame kind) xs ys) → in_frame (frame kind) (Unit {0}) (length xs ≡ lead kind)
+pub lead_before : (kind : Kind) (xs ys : List Part) → Fits IsNonterminal (line_shape kind) (row_in (frame kind) xs ys) → in_frame (frame kind) (Unit {0}) (length xs ≡ lead kind)
 lead_before k.Call xs ys h = one_before 40 _ s.primary s.open_round (s.items s.argument s.close_round) refl xs h
 lead_before k.Load xs ys h = word_before 40 _ (s.one_keyword (codes "load")) s.open_round (s.tok s.string (s.alt (s.tok s.close_round s.done) (s.tok s.comma_mark (s.items s.loaded s.close_round)))) refl refl xs h
 lead_before k.Tuple xs ys h = none_before 40 _ s.open_round (s.alt (s.tok s.close_round s.done) (s.sub s.test (s.tok s.comma_mark (s.items s.test s.close_round)))) refl xs h

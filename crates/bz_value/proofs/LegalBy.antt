@@ -7,7 +7,7 @@ use Rattle.bz_tree.specs.declared.tree.Node.{Node}
 use Rattle.bz_tree.specs.declared.tree.Part.{Part, Row_of-Part, end_of-Part, more_of-Part, Node', items-the_row-Part}
 use Rattle.bz_tree.specs.declared.tree.Part.TheVariants as p
 use Rattle.bz_tree.specs.Shapes.{Shape, Fits, shape, bzl_shape}
-use Rattle.bz_tree.specs.Legal.{IsSort, LegalPart, LegalRow, LegalBzlPart, LegalBzlRow}
+use Rattle.bz_tree.specs.Legal.{IsNonterminal, LegalPart, LegalRow, LegalBzlPart, LegalBzlRow}
 use Rattle.bz_tree.proofs.Nested.{row_of, items_of_row}
 use Rattle.bz_value.specs.LineShapes.{line_shape}
 use Rattle.bz_value.proofs.Wider.{IsWider}
@@ -16,7 +16,7 @@ module _ (grammar : Kind → Shape) where
   abbrev mutual
     pub LegalBy : Part → Type 0
     LegalBy (p.Leaf l) = Unit {0}
-    LegalBy (Node' kind size row) = Fits IsSort (grammar kind) (items-the_row-Part _ row) × LegalRowBy row
+    LegalBy (Node' kind size row) = Fits IsNonterminal (grammar kind) (items-the_row-Part _ row) × LegalRowBy row
 
     pub LegalRowBy : {m : _} → Row_of-Part m → Type 0
     LegalRowBy end_of-Part = Unit {0}
@@ -31,9 +31,9 @@ module _ (grammar : Kind → Shape) where
   each_legal m (more_of-Part x rest) h = (h.0, each_legal _ rest h.1)
 
   -- a node by its list of parts
-  pub node_legal : (n : Node) → Fits IsSort (grammar n.kind) n.parts → AllByRecursion LegalBy n.parts → LegalBy (p.Node n)
+  pub node_legal : (n : Node) → Fits IsNonterminal (grammar n.kind) n.parts → AllByRecursion LegalBy n.parts → LegalBy (p.Node n)
   node_legal n h i =
-      (subst (Fits IsSort (grammar n.kind)) (sym (items_of_row n)) h, row_legal _ (row_of n).1 (subst (AllByRecursion LegalBy) (sym (items_of_row n)) i))
+      (subst (Fits IsNonterminal (grammar n.kind)) (sym (items_of_row n)) h, row_legal _ (row_of n).1 (subst (AllByRecursion LegalBy) (sym (items_of_row n)) i))
 
 module _ (narrow wide : Kind → Shape) (wider : IsWider narrow wide) where
   mutual
@@ -67,7 +67,7 @@ mutual
 
 -- ---- .bzl files
 
-bzl_wider : (kind : Kind) (xs : List Part) → Fits IsSort (line_shape kind) xs → Fits IsSort (bzl_shape kind) xs
+bzl_wider : (kind : Kind) (xs : List Part) → Fits IsNonterminal (line_shape kind) xs → Fits IsNonterminal (bzl_shape kind) xs
 bzl_wider k.Def xs h = absurd h
 bzl_wider k.IfStmt xs h = absurd h
 bzl_wider k.ForStmt xs h = absurd h

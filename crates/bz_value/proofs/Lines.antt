@@ -4,8 +4,8 @@ use Rattle.std.proofs.lemmas.Bool.{ne_eqb}
 use Rattle.std.proofs.lemmas.List.{take_more, drop_all}
 use Rattle.bz_token.specs.Bytes.{is_blank}
 use Rattle.bz_items.specs.Characters.{Bytes, line_feed}
-use Rattle.bz_value.specs.Gaps.{with_first, trimmed, in_comment, behind_backslash, lines_of}
-use Rattle.bz_value.specs.Indented.{indented, indented_behind}
+use Rattle.bz_value.specs.Gaps.{with_first, trimmed, in_comment, after_backslash, lines_of}
+use Rattle.bz_value.specs.Indented.{indented, indented_after}
 
 abbrev pub NoneBefore : ℕ → Bytes → Type 0
 NoneBefore n text = (k : ℕ) → k < n → get_or text k 0 ≢ line_feed
@@ -20,12 +20,12 @@ comment_breaks (c ∷ g) zero h l e = rw e refl
 comment_breaks (c ∷ g) (suc n) h l e =
     rw (not_first c n g h) (ap (λ r. record { words = c ∷ r.words; newline = r.newline; lines = r.lines }) (comment_breaks g n (λ k i. h (suc k) (omega arith)) (omega arith) e))
 
-pub escape_breaks : (text : Bytes) (n : ℕ) → NoneBefore n text → n < length text → get_or text n 0 ≡ line_feed → behind_backslash text ≡ lines_of (drop (suc n) text)
+pub escape_breaks : (text : Bytes) (n : ℕ) → NoneBefore n text → n < length text → get_or text n 0 ≡ line_feed → after_backslash text ≡ lines_of (drop (suc n) text)
 escape_breaks [] n h l e = absurd (omega arith)
 escape_breaks (c ∷ g) zero h l e = rw e refl
 escape_breaks (c ∷ g) (suc n) h l e = rw (not_first c n g h) (escape_breaks g n (λ k i. h (suc k) (omega arith)) (omega arith) e)
 
-pub indented_breaks : (text : Bytes) (n : ℕ) → NoneBefore n text → n < length text → get_or text n 0 ≡ line_feed → indented_behind text ≡ indented (drop (suc n) text)
+pub indented_breaks : (text : Bytes) (n : ℕ) → NoneBefore n text → n < length text → get_or text n 0 ≡ line_feed → indented_after text ≡ indented (drop (suc n) text)
 indented_breaks [] n h l e = absurd (omega arith)
 indented_breaks (c ∷ g) zero h l e = rw e refl
 indented_breaks (c ∷ g) (suc n) h l e = rw (not_first c n g h) (indented_breaks g n (λ k i. h (suc k) (omega arith)) (omega arith) e)
@@ -36,11 +36,11 @@ comment_stops [] h = refl
 comment_stops (c ∷ g) h =
     rw (not_first c (length g) g h) (ap (λ r. record { words = c ∷ r.words; newline = r.newline; lines = r.lines }) (comment_stops g (λ k i. h (suc k) (omega arith))))
 
-pub escape_stops : (text : Bytes) → NoneBefore (length text) text → behind_backslash text ≡ []
+pub escape_stops : (text : Bytes) → NoneBefore (length text) text → after_backslash text ≡ []
 escape_stops [] h = refl
 escape_stops (c ∷ g) h = rw (not_first c (length g) g h) (escape_stops g (λ k i. h (suc k) (omega arith)))
 
-pub indented_stops : (text : Bytes) → NoneBefore (length text) text → indented_behind text ≡ []
+pub indented_stops : (text : Bytes) → NoneBefore (length text) text → indented_after text ≡ []
 indented_stops [] h = refl
 indented_stops (c ∷ g) h = rw (not_first c (length g) g h) (indented_stops g (λ k i. h (suc k) (omega arith)))
 

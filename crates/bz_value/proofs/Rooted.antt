@@ -5,8 +5,8 @@ use Rattle.bz_tree.specs.declared.kind.Kind.{Kind}
 use Rattle.bz_tree.specs.declared.kind.Kind.TheVariants as k
 use Rattle.bz_tree.specs.declared.tree.Part.{Part}
 use Rattle.bz_tree.specs.Shapes as s
-use Rattle.bz_tree.specs.Shapes.{Sort, Terminal, Shape, Fits, Listed, Behind, Several, Times, no_more, once_more, shape, items, has_token, has_sort, is_one_of, is_terminal, tok, done}
-use Rattle.bz_tree.specs.Legal.{IsSort}
+use Rattle.bz_tree.specs.Shapes.{Nonterminal, Terminal, Shape, Fits, Listed, After, Several, Times, no_more, once_more, shape, items, has_token, has_nonterminal, is_one_of, is_terminal, tok, done}
+use Rattle.bz_tree.specs.Legal.{IsNonterminal}
 use Rattle.bz_items.specs.Characters.{comma}
 use Rattle.bz_value.specs.Frames.{Frame, row, sequence, frame, lead}
 use Rattle.bz_value.specs.LineShapes.{line_shape}
@@ -14,7 +14,7 @@ use Rattle.bz_value.specs.Roots.{mark_leaf, each_with_comma, row_in}
 
 pub record SameRoot (x y : Part) : Type 0 where
   pub token : (ts : List Terminal) → has_token ts x ≡ has_token ts y
-  pub sort : (q : Sort) → has_sort q x ≡ has_sort q y
+  pub nonterminal : (q : Nonterminal) → has_nonterminal q x ≡ has_nonterminal q y
 
 pub data Same : List Part → List Part → Type 0 where
   over : Same [] []
@@ -23,22 +23,22 @@ pub data Same : List Part → List Part → Type 0 where
 abbrev Carries : (List Part → Type 0) → Type 0
 Carries K = (xs ys : List Part) → Same xs ys → K xs → K ys
 
-module _ (q : Sort) (K : List Part → Type 0) (carries : Carries K) where
+module _ (q : Nonterminal) (K : List Part → Type 0) (carries : Carries K) where
   mutual
-    listed_same : (ts : List Terminal) (last : Bool) (xs ys : List Part) → Same xs ys → Listed (IsSort q) ts last K xs → Listed (IsSort q) ts last K ys
+    listed_same : (ts : List Terminal) (last : Bool) (xs ys : List Part) → Same xs ys → Listed (IsNonterminal q) ts last K xs → Listed (IsNonterminal q) ts last K ys
     listed_same ts last xs ys over h = absurd h
-    listed_same ts last xs ys (more x y xs' ys' r w) h = (sym (r.sort q) ∙ h.0, behind_same ts last xs' ys' w h.1)
+    listed_same ts last xs ys (more x y xs' ys' r w) h = (sym (r.nonterminal q) ∙ h.0, after_same ts last xs' ys' w h.1)
 
-    behind_same : (ts : List Terminal) (last : Bool) (xs ys : List Part) → Same xs ys → Behind (IsSort q) ts last K xs → Behind (IsSort q) ts last K ys
-    behind_same ts last xs ys over h = carries [] [] over h
-    behind_same ts last xs ys (more x y xs' ys' r w) (inl h) = inl (carries (x ∷ xs') (y ∷ ys') (more x y xs' ys' r w) h)
-    behind_same ts last xs ys (more x y xs' ys' r w) (inr (m, inl h)) = inr (sym (r.token ts) ∙ m, inl (listed_same ts last xs' ys' w h))
-    behind_same ts last xs ys (more x y xs' ys' r w) (inr (m, inr h)) = inr (sym (r.token ts) ∙ m, inr (h.0, carries xs' ys' w h.1))
+    after_same : (ts : List Terminal) (last : Bool) (xs ys : List Part) → Same xs ys → After (IsNonterminal q) ts last K xs → After (IsNonterminal q) ts last K ys
+    after_same ts last xs ys over h = carries [] [] over h
+    after_same ts last xs ys (more x y xs' ys' r w) (inl h) = inl (carries (x ∷ xs') (y ∷ ys') (more x y xs' ys' r w) h)
+    after_same ts last xs ys (more x y xs' ys' r w) (inr (m, inl h)) = inr (sym (r.token ts) ∙ m, inl (listed_same ts last xs' ys' w h))
+    after_same ts last xs ys (more x y xs' ys' r w) (inr (m, inr h)) = inr (sym (r.token ts) ∙ m, inr (h.0, carries xs' ys' w h.1))
 
-  several_same : (xs ys : List Part) → Same xs ys → Several (IsSort q) K xs → Several (IsSort q) K ys
+  several_same : (xs ys : List Part) → Same xs ys → Several (IsNonterminal q) K xs → Several (IsNonterminal q) K ys
   several_same xs ys over h = carries [] [] over h
   several_same xs ys (more x y xs' ys' r w) (inl h) = inl (carries (x ∷ xs') (y ∷ ys') (more x y xs' ys' r w) h)
-  several_same xs ys (more x y xs' ys' r w) (inr h) = inr (sym (r.sort q) ∙ h.0, several_same xs' ys' w h.1)
+  several_same xs ys (more x y xs' ys' r w) (inr h) = inr (sym (r.nonterminal q) ∙ h.0, several_same xs' ys' w h.1)
 
 -- the same row, cut where the other is
 cut_same : (zs ys : List Part) → Same zs ys → (front back : List Part) → zs ≡ front ++ back → (f : List Part) × (b : List Part) × (ys ≡ f ++ b) × Same front f × Same back b
@@ -46,8 +46,8 @@ cut_same zs ys w [] back e = ([], ys, refl, over, subst (λ us. Same us ys) e w)
 cut_same zs ys over (x ∷ front) back e = absurd (cc)
 cut_same zs ys (more x y xs ys' r w) (z ∷ front) back e =
     let first : x ≡ z = cc in
-    let behind : xs ≡ front ++ back = cc in
-    let c = cut_same xs ys' w front back behind in
+    let following : xs ≡ front ++ back = cc in
+    let c = cut_same xs ys' w front back following in
     (y ∷ c.0, c.1, ap (λ us. y ∷ us) c.2, more z y front c.0 (subst (λ u. SameRoot u y) first r) c.3, c.4)
 
 times_same : (F K : List Part → Type 0) → Carries F → Carries K → Carries (Times F K)
@@ -56,19 +56,19 @@ times_same F K f k xs ys w (once_more front back e h m) =
     let c = cut_same xs ys w front back e in
     once_more c.0 c.1 c.2 (f front c.0 c.3 h) (times_same F K f k back c.1 c.4 m)
 
-pub fits_same : (r : Shape) → Carries (Fits IsSort r)
+pub fits_same : (r : Shape) → Carries (Fits IsNonterminal r)
 fits_same s.none xs ys w h = absurd h
 fits_same s.done xs ys over h = h
 fits_same s.done xs ys (more x y xs' ys' r w) h = absurd h
 fits_same (s.tok ts then_) xs ys over h = absurd h
 fits_same (s.tok ts then_) xs ys (more x y xs' ys' r w) h = (sym (r.token ts) ∙ h.0, fits_same then_ xs' ys' w h.1)
 fits_same (s.sub q then_) xs ys over h = absurd h
-fits_same (s.sub q then_) xs ys (more x y xs' ys' r w) h = (sym (r.sort q) ∙ h.0, fits_same then_ xs' ys' w h.1)
+fits_same (s.sub q then_) xs ys (more x y xs' ys' r w) h = (sym (r.nonterminal q) ∙ h.0, fits_same then_ xs' ys' w h.1)
 fits_same (s.alt left right) xs ys w (inl h) = inl (fits_same left xs ys w h)
 fits_same (s.alt left right) xs ys w (inr h) = inr (fits_same right xs ys w h)
-fits_same (s.list q ts last then_) xs ys w h = listed_same q (Fits IsSort then_) (fits_same then_) ts last xs ys w h
-fits_same (s.each q then_) xs ys w h = several_same q (Fits IsSort then_) (fits_same then_) xs ys w h
-fits_same (s.times group then_) xs ys w h = times_same (Fits IsSort group) (Fits IsSort then_) (fits_same group) (fits_same then_) xs ys w h
+fits_same (s.list q ts last then_) xs ys w h = listed_same q (Fits IsNonterminal then_) (fits_same then_) ts last xs ys w h
+fits_same (s.each q then_) xs ys w h = several_same q (Fits IsNonterminal then_) (fits_same then_) xs ys w h
+fits_same (s.times group then_) xs ys w h = times_same (Fits IsNonterminal group) (Fits IsNonterminal then_) (fits_same group) (fits_same then_) xs ys w h
 
 one_terminal : (t : Terminal) (l : Leaf) → is_terminal t l ≡ is_terminal t (record { class = l.class; gap = []; token = l.token })
 one_terminal (s.any class) l = refl
@@ -82,7 +82,7 @@ one_of_same (t ∷ ts) l = rw (one_terminal t l, one_of_same ts l) refl
 -- ---- rows with brackets and commas put back
 
 pub itself : (x : Part) → SameRoot x x
-itself x = record { token = λ ts. refl; sort = λ q. refl }
+itself x = record { token = λ ts. refl; nonterminal = λ q. refl }
 
 pub same_itself : (xs : List Part) → Same xs xs
 same_itself [] = over
@@ -92,13 +92,13 @@ pub commas_same : (xs ys back : List Part) → Same xs ys → Same (each_with_co
 commas_same xs ys back over = same_itself back
 commas_same xs ys back (more x y xs' ys' r w) = more x y _ _ r (more (mark_leaf comma) (mark_leaf comma) _ _ (itself (mark_leaf comma)) (commas_same xs' ys' back w))
 
-pub behind_same_parts : (xs ys us vs : List Part) → Same xs ys → Same us vs → Same (xs ++ us) (ys ++ vs)
-behind_same_parts xs ys us vs over i = i
-behind_same_parts xs ys us vs (more x y xs' ys' r w) i = more x y _ _ r (behind_same_parts xs' ys' us vs w i)
+pub after_same_parts : (xs ys us vs : List Part) → Same xs ys → Same us vs → Same (xs ++ us) (ys ++ vs)
+after_same_parts xs ys us vs over i = i
+after_same_parts xs ys us vs (more x y xs' ys' r w) i = more x y _ _ r (after_same_parts xs' ys' us vs w i)
 
 pub row_same : (f : Frame) (xs ys us vs : List Part) → Same xs ys → Same us vs → Same (row_in f xs us) (row_in f ys vs)
 row_same row xs ys us vs h i = h
-row_same (sequence opener closer) xs ys us vs h i = behind_same_parts xs ys _ _ h (more (mark_leaf opener) (mark_leaf opener) _ _ (itself (mark_leaf opener)) (commas_same us vs (mark_leaf closer ∷ []) i))
+row_same (sequence opener closer) xs ys us vs h i = after_same_parts xs ys _ _ h (more (mark_leaf opener) (mark_leaf opener) _ _ (itself (mark_leaf opener)) (commas_same us vs (mark_leaf closer ∷ []) i))
 
 -- ---- a sequence fits with a comma after each item
 
@@ -113,11 +113,11 @@ abbrev closed : Part → List Part → List Part
 closed closer xs = each_with_comma (places xs) ++ closer ∷ []
 
 module _ (close : List Terminal) (closer : Part) (closes : has_token close closer ≡ true) where
-  ends_same : (x : Part) (xs : List Part) → Fits IsSort (tok close done) (x ∷ xs) → Fits IsSort (tok close done) (closed closer (x ∷ xs))
+  ends_same : (x : Part) (xs : List Part) → Fits IsNonterminal (tok close done) (x ∷ xs) → Fits IsNonterminal (tok close done) (closed closer (x ∷ xs))
   ends_same x [] h = (closes, tt)
   ends_same x (y ∷ xs) h = absurd h.1
 
-  listed_closed : (q : Sort) (xs : List Part) → Listed (IsSort q) s.comma_mark true (Fits IsSort (tok close done)) xs → Listed (IsSort q) s.comma_mark true (Fits IsSort (tok close done)) (closed closer xs)
+  listed_closed : (q : Nonterminal) (xs : List Part) → Listed (IsNonterminal q) s.comma_mark true (Fits IsNonterminal (tok close done)) xs → Listed (IsNonterminal q) s.comma_mark true (Fits IsNonterminal (tok close done)) (closed closer xs)
   listed_closed q [] h = absurd h
   listed_closed q (x ∷ []) h = absurd h.1
   listed_closed q (x ∷ y ∷ []) (h, inl i) = (h, inr (refl, inr (refl, (closes, tt))))
@@ -126,7 +126,7 @@ module _ (close : List Terminal) (closer : Part) (closes : has_token close close
   listed_closed q (x ∷ y ∷ []) (h, inr (m, inr i)) = absurd i.1
   listed_closed q (x ∷ y ∷ z ∷ xs) (h, inr (m, inr i)) = (h, inr (refl, inr (refl, ends_same z xs i.1)))
 
-  items_closed : (q : Sort) (xs : List Part) → Fits IsSort (items q close) xs → Fits IsSort (items q close) (closed closer xs)
+  items_closed : (q : Nonterminal) (xs : List Part) → Fits IsNonterminal (items q close) xs → Fits IsNonterminal (items q close) (closed closer xs)
   items_closed q [] (inl h) = absurd h
   items_closed q (x ∷ xs) (inl h) = inl (ends_same x xs h)
   items_closed q xs (inr h) = inr (listed_closed q xs h)
@@ -140,12 +140,12 @@ abbrev pub kept_items : {X : Type 0} → Frame → Kind → List X → List X
 kept_items row kind xs = []
 kept_items (sequence opener closer) kind xs = places (drop (suc (lead kind)) xs)
 
-call_fits : (ps : List Part) → Fits IsSort (shape k.Call) ps → Fits IsSort (shape k.Call) (row_in (frame k.Call) (kept_parts (frame k.Call) k.Call ps) (kept_items (frame k.Call) k.Call ps))
+call_fits : (ps : List Part) → Fits IsNonterminal (shape k.Call) ps → Fits IsNonterminal (shape k.Call) (row_in (frame k.Call) (kept_parts (frame k.Call) k.Call ps) (kept_items (frame k.Call) k.Call ps))
 call_fits [] h = absurd h
 call_fits (x ∷ []) h = absurd h.1
 call_fits (x ∷ y ∷ ps) h = (h.0, (refl, items_closed s.close_round (mark_leaf 41) refl s.argument ps h.1.1))
 
-load_fits : (ps : List Part) → Fits IsSort (shape k.Load) ps → Fits IsSort (shape k.Load) (row_in (frame k.Load) (kept_parts (frame k.Load) k.Load ps) (kept_items (frame k.Load) k.Load ps))
+load_fits : (ps : List Part) → Fits IsNonterminal (shape k.Load) ps → Fits IsNonterminal (shape k.Load) (row_in (frame k.Load) (kept_parts (frame k.Load) k.Load ps) (kept_items (frame k.Load) k.Load ps))
 load_fits [] h = absurd h
 load_fits (w ∷ []) h = absurd h.1
 load_fits (w ∷ y ∷ []) h = absurd h.1.1
@@ -155,7 +155,7 @@ load_fits (w ∷ y ∷ x ∷ z ∷ []) (a, (b, (d, inl i))) = (a, (refl, (d, inr
 load_fits (w ∷ y ∷ x ∷ z ∷ u ∷ ps) (a, (b, (d, inl i))) = absurd i.1
 load_fits (w ∷ y ∷ x ∷ z ∷ ps) (a, (b, (d, inr i))) = (a, (refl, (d, inr (refl, items_closed s.close_round (mark_leaf 41) refl s.loaded ps i.1))))
 
-tuple_fits : (ps : List Part) → Fits IsSort (shape k.Tuple) ps → Fits IsSort (shape k.Tuple) (row_in (frame k.Tuple) (kept_parts (frame k.Tuple) k.Tuple ps) (kept_items (frame k.Tuple) k.Tuple ps))
+tuple_fits : (ps : List Part) → Fits IsNonterminal (shape k.Tuple) ps → Fits IsNonterminal (shape k.Tuple) (row_in (frame k.Tuple) (kept_parts (frame k.Tuple) k.Tuple ps) (kept_items (frame k.Tuple) k.Tuple ps))
 tuple_fits [] h = absurd h
 tuple_fits (y ∷ []) (a, inl i) = absurd i
 tuple_fits (y ∷ x ∷ ps) (a, inl i) = (refl, inl (ends_same s.close_round (mark_leaf 41) refl x ps i))
@@ -163,16 +163,16 @@ tuple_fits (y ∷ []) (a, inr i) = absurd i
 tuple_fits (y ∷ x ∷ []) (a, inr i) = absurd i.1
 tuple_fits (y ∷ x ∷ z ∷ ps) (a, inr i) = (refl, inr (i.0, (refl, items_closed s.close_round (mark_leaf 41) refl s.test ps i.1.1)))
 
-list_fits : (ps : List Part) → Fits IsSort (shape k.List) ps → Fits IsSort (shape k.List) (row_in (frame k.List) (kept_parts (frame k.List) k.List ps) (kept_items (frame k.List) k.List ps))
+list_fits : (ps : List Part) → Fits IsNonterminal (shape k.List) ps → Fits IsNonterminal (shape k.List) (row_in (frame k.List) (kept_parts (frame k.List) k.List ps) (kept_items (frame k.List) k.List ps))
 list_fits [] h = absurd h
 list_fits (y ∷ ps) h = (refl, items_closed s.close_square (mark_leaf 93) refl s.test ps h.1)
 
-dict_fits : (ps : List Part) → Fits IsSort (shape k.Dict) ps → Fits IsSort (shape k.Dict) (row_in (frame k.Dict) (kept_parts (frame k.Dict) k.Dict ps) (kept_items (frame k.Dict) k.Dict ps))
+dict_fits : (ps : List Part) → Fits IsNonterminal (shape k.Dict) ps → Fits IsNonterminal (shape k.Dict) (row_in (frame k.Dict) (kept_parts (frame k.Dict) k.Dict ps) (kept_items (frame k.Dict) k.Dict ps))
 dict_fits [] h = absurd h
 dict_fits (y ∷ ps) h = (refl, items_closed s.close_curly (mark_leaf 125) refl s.entry ps h.1)
 
 -- What a form keeps of a node's parts has the shape of its kind again, with brackets and commas put back.
-pub kind_fits : (kind : Kind) (ps : List Part) → Fits IsSort (shape kind) ps → Fits IsSort (shape kind) (row_in (frame kind) (kept_parts (frame kind) kind ps) (kept_items (frame kind) kind ps))
+pub kind_fits : (kind : Kind) (ps : List Part) → Fits IsNonterminal (shape kind) ps → Fits IsNonterminal (shape kind) (row_in (frame kind) (kept_parts (frame kind) kind ps) (kept_items (frame kind) kind ps))
 kind_fits k.Call ps h = call_fits ps h
 kind_fits k.Load ps h = load_fits ps h
 kind_fits k.Tuple ps h = tuple_fits ps h
@@ -181,7 +181,7 @@ kind_fits k.Dict ps h = dict_fits ps h
 kind_fits _ ps h = h
 
 -- the same by the grammar of the lines of .bzl files
-pub line_fits : (kind : Kind) (ps : List Part) → Fits IsSort (line_shape kind) ps → Fits IsSort (line_shape kind) (row_in (frame kind) (kept_parts (frame kind) kind ps) (kept_items (frame kind) kind ps))
+pub line_fits : (kind : Kind) (ps : List Part) → Fits IsNonterminal (line_shape kind) ps → Fits IsNonterminal (line_shape kind) (row_in (frame kind) (kept_parts (frame kind) kind ps) (kept_items (frame kind) kind ps))
 line_fits k.Call ps h = call_fits ps h
 line_fits k.Load ps h = load_fits ps h
 line_fits k.Tuple ps h = tuple_fits ps h

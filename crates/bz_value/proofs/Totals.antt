@@ -22,16 +22,16 @@ module _ (number : Bytes → ℕ) where
   row_total m (more_of-Expr x rest) = ap (λ a. amount number x + a) (row_total _ rest)
 
   abbrev parts_in : Expr → (m : Count) × Row_of-Expr m
-  parts_in (Form' kind s parts s' items end_ split open_ comments) = (_, parts)
+  parts_in (Form' kind s parts s' items end split open_break comments) = (_, parts)
   parts_in (Token t) = (_, end_of-Expr)
 
   abbrev items_in : Expr → (m : Count) × Row_of-Expr m
-  items_in (Form' kind s parts s' items end_ split open_ comments) = (_, items)
+  items_in (Form' kind s parts s' items end split open_break comments) = (_, items)
   items_in (Token t) = (_, end_of-Expr)
 
   -- what is in a form
   abbrev pub inner_amount : Form → ℕ
-  inner_amount f = total (amount number) f.parts + (total (amount number) f.seq.items + total number f.seq.end_)
+  inner_amount f = total (amount number) f.parts + (total (amount number) f.seq.items + total number f.seq.end)
 
   pub form_amount : (f : Form) → amount number (e.Form f) ≡ host_amount number f.comments + inner_amount f
   form_amount f =
@@ -39,5 +39,5 @@ module _ (number : Bytes → ℕ) where
       let qs = items_in (e.Form f) in
       let parts : row_amount number ps.1 ≡ total (amount number) f.parts = row_total ps.0 ps.1 ∙ ap (total (amount number)) (items_hidden-the_row-Expr-0 f.parts) in
       let items : row_amount number qs.1 ≡ total (amount number) f.seq.items = row_total qs.0 qs.1 ∙ ap (total (amount number)) (items_hidden-the_row-Expr-0 f.seq.items) in
-      ap (λ a. host_amount number f.comments + (a + (row_amount number qs.1 + total number f.seq.end_))) parts
-      ∙ ap (λ a. host_amount number f.comments + (total (amount number) f.parts + (a + total number f.seq.end_))) items
+      ap (λ a. host_amount number f.comments + (a + (row_amount number qs.1 + total number f.seq.end))) parts
+      ∙ ap (λ a. host_amount number f.comments + (total (amount number) f.parts + (a + total number f.seq.end))) items

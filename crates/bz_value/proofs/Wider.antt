@@ -7,23 +7,23 @@ use Rattle.bz_tree.specs.declared.tree.Part.{Part, Node'}
 use Rattle.bz_tree.specs.declared.tree.Part.TheVariants as p
 use Rattle.bz_tree.specs.Shapes as s
 use Rattle.bz_tree.specs.Shapes.{Shape, Fits, shape}
-use Rattle.bz_tree.specs.Legal.{IsSort}
+use Rattle.bz_tree.specs.Legal.{IsNonterminal}
 use Rattle.bz_tree.specs.Spots.{Spot, Within}
 use Rattle.bz_value.specs.declared.value.Expr.{Expr, Token, Form', Row_of-Expr, end_of-Expr, more_of-Expr}
 use Rattle.bz_value.specs.Frames.{frame, is_binary}
 use Rattle.bz_value.specs.LineShapes.{line_shape}
-use Rattle.bz_value.specs.Proper.{behind_expr, ProperBy, ProperRowBy, ProperHeadBy, ProperItemsBy}
+use Rattle.bz_value.specs.Proper.{after_expr, ProperBy, ProperRowBy, ProperHeadBy, ProperItemsBy}
 use Rattle.bz_value.proofs.FormParts.{framed}
 
 -- what has the shape of a kind by the one grammar has it by the other
 abbrev pub IsWider : (Kind → Shape) → (Kind → Shape) → Type 0
-IsWider narrow wide = (kind : Kind) (xs : List Part) → Fits IsSort (narrow kind) xs → Fits IsSort (wide kind) xs
+IsWider narrow wide = (kind : Kind) (xs : List Part) → Fits IsNonterminal (narrow kind) xs → Fits IsNonterminal (wide kind) xs
 
 module _ (narrow wide : Kind → Shape) (wider : IsWider narrow wide) where
   mutual
     pub wider_expr : (here : Spot) (x : Expr) → ProperBy narrow here x → ProperBy wide here x
     wider_expr here (Token t) h = h
-    wider_expr here (Form' kind s parts s' items end_ split open_ comments) h = (
+    wider_expr here (Form' kind s parts s' items end split open_break comments) h = (
       wider kind _ h.0,
       framed (frame kind)
           (λ g. (wider_row (is_binary kind) here here _ parts g.0, g.1, g.2, g.3, g.4))
@@ -33,7 +33,7 @@ module _ (narrow wide : Kind → Shape) (wider : IsWider narrow wide) where
 
     wider_row : (binary : Bool) (outer here : Spot) (m : _) (r : Row_of-Expr m) → ProperRowBy narrow binary outer here r → ProperRowBy wide binary outer here r
     wider_row binary outer here m end_of-Expr h = tt
-    wider_row binary outer here m (more_of-Expr x rest) h = (wider_expr here x h.0, h.1, h.2, wider_row binary outer (behind_expr outer here x) _ rest h.3)
+    wider_row binary outer here m (more_of-Expr x rest) h = (wider_expr here x h.0, h.1, h.2, wider_row binary outer (after_expr outer here x) _ rest h.3)
 
     wider_head : (here : Spot) (m : _) (r : Row_of-Expr m) → ProperHeadBy narrow here r → ProperHeadBy wide here r
     wider_head here m end_of-Expr h = tt
@@ -44,11 +44,11 @@ module _ (narrow wide : Kind → Shape) (wider : IsWider narrow wide) where
     wider_items m (more_of-Expr x rest) h = (wider_expr Within x h.0, h.1, h.2, wider_items _ rest h.3)
 
 -- what is a Line is a statement
-line_statement : (x : Part) → IsSort s.line x → IsSort s.stmt x
+line_statement : (x : Part) → IsNonterminal s.line x → IsNonterminal s.stmt x
 line_statement (p.Leaf l) h = h
 line_statement (Node' kind size row) h = or_left (s.is_kind kind k.Line) _ h
 
-file_wider : (xs : List Part) → Fits IsSort (shape k.File) xs → Fits IsSort (line_shape k.File) xs
+file_wider : (xs : List Part) → Fits IsNonterminal (shape k.File) xs → Fits IsNonterminal (line_shape k.File) xs
 file_wider [] h = h
 file_wider (x ∷ xs) (inl h) = inl h
 file_wider (x ∷ xs) (inr h) = inr (line_statement x h.0, file_wider xs h.1)

@@ -4,4 +4,4 @@ use Rattle.bz_value.specs.Comments.{HostComments}
 
 abbrev pub with_comments : Expr → HostComments → Expr
 with_comments (Token t) comments = Token (record t { comments = comments })
-with_comments (Form' kind s parts s' items end_ split open_ _) comments = Form' kind s parts s' items end_ split open_ comments
+with_comments (Form' kind s parts s' items end split open_break _) comments = Form' kind s parts s' items end split open_break comments

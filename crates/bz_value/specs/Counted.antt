@@ -22,8 +22,8 @@ host_amount number comments = total number comments.before + suffix_amount numbe
 abbrev mutual
   pub amount : (Bytes → ℕ) → Expr → ℕ
   amount number (Token t) = host_amount number t.comments
-  amount number (Form' kind s parts s' items end_ split open_ comments) =
-      host_amount number comments + (row_amount number parts + (row_amount number items + total number end_))
+  amount number (Form' kind s parts s' items end split open_break comments) =
+      host_amount number comments + (row_amount number parts + (row_amount number items + total number end))
 
   pub row_amount : (Bytes → ℕ) → {m : _} → Row_of-Expr m → ℕ
   row_amount number end_of-Expr = 0

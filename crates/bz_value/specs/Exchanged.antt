@@ -9,7 +9,7 @@ use Rattle.bz_value.specs.declared.value.Item.TheVariants as i
 -- a statement that is an expression alone, as a rule is: no load, no assignment, and none that has a suite
 abbrev pub is_bare_statement : Expr → Bool
 is_bare_statement (Token t) = false
-is_bare_statement (Form' kind s parts s' items end_ split open_ comments) = is_kind kind k.Bare
+is_bare_statement (Form' kind s parts s' items end split open_break comments) = is_kind kind k.Bare
 
 abbrev pub is_bare : Item → Bool
 is_bare (i.Block lines) = false
@@ -32,6 +32,6 @@ AreExchanged _ _ _ = ⊥
 -- others are as before.
 pub record IsSpliced (from gone come : ℕ) (before after : List Item) : Type 0 where
   pub front : take from after ≡ take from before
-  pub behind : drop (from + come) after ≡ drop (from + gone) before
+  pub following : drop (from + come) after ≡ drop (from + gone) before
   pub within : from + gone ≤ length before
   pub held : from + come ≤ length after

@@ -32,7 +32,7 @@ abbrev mutual
   lines_of (c ∷ g) =
       if nat_eq c number_sign then record { comment = Some (trimmed (number_sign ∷ (in_comment g).words)); newline = (in_comment g).newline } ∷ (in_comment g).lines
       else (if nat_eq c line_feed then record { comment = None; newline = true } ∷ lines_of g
-      else (if nat_eq c backslash then record { comment = None; newline = false } ∷ behind_backslash g else lines_of g))
+      else (if nat_eq c backslash then record { comment = None; newline = false } ∷ after_backslash g else lines_of g))
 
   pub in_comment : Bytes → CommentRest
   in_comment [] = record { words = []; newline = false; lines = [] }
@@ -41,9 +41,9 @@ abbrev mutual
       else record { words = c ∷ (in_comment g).words; newline = (in_comment g).newline; lines = (in_comment g).lines }
 
   -- after the newline that a backslash escapes
-  pub behind_backslash : Bytes → List GapLine
-  behind_backslash [] = []
-  behind_backslash (c ∷ g) = if nat_eq c line_feed then lines_of g else behind_backslash g
+  pub after_backslash : Bytes → List GapLine
+  after_backslash [] = []
+  after_backslash (c ∷ g) = if nat_eq c line_feed then lines_of g else after_backslash g
 
 abbrev pub as_list : Option Bytes → List Bytes
 as_list None = []

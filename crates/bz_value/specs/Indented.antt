@@ -13,15 +13,15 @@ abbrev mutual
   pub indented_from : ℕ → Bytes → List IndentedGapLine
   indented_from indent [] = []
   indented_from indent (c ∷ g) =
-      if nat_eq c number_sign then record { indent = indent; line = record { comment = Some (trimmed (number_sign ∷ (in_comment g).words)); newline = (in_comment g).newline } } ∷ indented_behind g
+      if nat_eq c number_sign then record { indent = indent; line = record { comment = Some (trimmed (number_sign ∷ (in_comment g).words)); newline = (in_comment g).newline } } ∷ indented_after g
       else (if nat_eq c line_feed then record { indent = 0; line = record { comment = None; newline = true } } ∷ indented_from 0 g
-      else (if nat_eq c backslash then record { indent = 0; line = record { comment = None; newline = false } } ∷ indented_behind g
+      else (if nat_eq c backslash then record { indent = 0; line = record { comment = None; newline = false } } ∷ indented_after g
       else indented_from (if nat_eq c space || nat_eq c tab then suc indent else 0) g))
 
   -- those after the next newline
-  pub indented_behind : Bytes → List IndentedGapLine
-  indented_behind [] = []
-  indented_behind (c ∷ g) = if nat_eq c line_feed then indented_from 0 g else indented_behind g
+  pub indented_after : Bytes → List IndentedGapLine
+  indented_after [] = []
+  indented_after (c ∷ g) = if nat_eq c line_feed then indented_from 0 g else indented_after g
 
 abbrev pub indented : Bytes → List IndentedGapLine
 indented gap = indented_from 0 gap

@@ -6,8 +6,8 @@ use Rattle.bz_token.specs.Lexemes.{IsLexeme}
 use Rattle.bz_tree.specs.declared.tree.Part.{Part}
 use Rattle.bz_tree.specs.declared.kind.Kind.{Kind}
 use Rattle.bz_tree.specs.Shapes.{Shape, Fits, shape}
-use Rattle.bz_tree.specs.Legal.{IsSort}
-use Rattle.bz_tree.specs.Spots.{Spot, Begins, Within, role, behind_token, behind_node}
+use Rattle.bz_tree.specs.Legal.{IsNonterminal}
+use Rattle.bz_tree.specs.Spots.{Spot, Begins, Within, role, following_token, after_node}
 use Rattle.bz_value.specs.declared.value.Expr.{Expr, Token, Form', Row_of-Expr, end_of-Expr, more_of-Expr}
 use Rattle.bz_value.specs.declared.value.Item.{Item}
 use Rattle.bz_value.specs.declared.value.Item.TheVariants as i
@@ -39,21 +39,21 @@ AreComments cs = All IsComment cs.before × MaybeComment cs.suffix
 -- the comments of an expression
 abbrev pub comments_of : Expr → HostComments
 comments_of (Token t) = t.comments
-comments_of (Form' kind s parts s' items end_ split open_ comments) = comments
+comments_of (Form' kind s parts s' items end split open_break comments) = comments
 
 abbrev pub has_break : Expr → Bool
-has_break (Token t) = t.break_
-has_break (Form' kind s parts s' items end_ split open_ comments) = false
+has_break (Token t) = t.line_break
+has_break (Form' kind s parts s' items end split open_break comments) = false
 
 -- a mark or a keyword: in a binary operation, a token of an operator
-abbrev pub is_sign : Class → Bool
-is_sign c.Mark = true
-is_sign c.Keyword = true
-is_sign _ = false
+abbrev pub is_operator_class : Class → Bool
+is_operator_class c.Mark = true
+is_operator_class c.Keyword = true
+is_operator_class _ = false
 
 abbrev pub is_operator : Expr → Bool
-is_operator (Token t) = is_sign t.class
-is_operator (Form' kind s parts s' items end_ split open_ comments) = false
+is_operator (Token t) = is_operator_class t.class
+is_operator (Form' kind s parts s' items end split open_break comments) = false
 
 -- the first expression of a row is a token of an operator
 abbrev pub begins_operator : {m : _} → Row_of-Expr m → Bool
@@ -61,9 +61,9 @@ begins_operator end_of-Expr = false
 begins_operator (more_of-Expr x rest) = is_operator x
 
 -- where what follows an expression is
-abbrev pub behind_expr : Spot → Spot → Expr → Spot
-behind_expr outer here (Token t) = behind_token (role t.class t.text) outer here
-behind_expr outer here (Form' kind s parts s' items end_ split open_ comments) = behind_node kind here
+abbrev pub after_expr : Spot → Spot → Expr → Spot
+after_expr outer here (Token t) = following_token (role t.class t.text) outer here
+after_expr outer here (Form' kind s parts s' items end split open_break comments) = after_node kind here
 
 -- the roots of the expressions of a row
 abbrev pub roots : {m : _} → Row_of-Expr m → List Part
@@ -91,19 +91,19 @@ module _ (grammar : Kind → Shape) where
   abbrev mutual
     pub ProperBy : Spot → Expr → Type 0
     ProperBy here (Token t) = IsLexeme t.class t.text × IsUtf8 t.text
-    ProperBy here (Form' kind s parts s' items end_ split open_ comments) =
-        Fits IsSort (grammar kind) (row_in (frame kind) (roots parts) (roots items))
+    ProperBy here (Form' kind s parts s' items end split open_break comments) =
+        Fits IsNonterminal (grammar kind) (row_in (frame kind) (roots parts) (roots items))
         × in_frame (frame kind)
-        (ProperRowBy (is_binary kind) here here parts × IsEmptyRow items × (end_ ≡ []) × (split ≡ false) × (open_ ≡ true → is_comprehension kind ≡ true))
-        (ProperHeadBy here parts × ProperItemsBy items × All IsComment end_ × (open_ ≡ false))
+        (ProperRowBy (is_binary kind) here here parts × IsEmptyRow items × (end ≡ []) × (split ≡ false) × (open_break ≡ true → is_comprehension kind ≡ true))
+        (ProperHeadBy here parts × ProperItemsBy items × All IsComment end × (open_break ≡ false))
 
     -- the parts of a row, from one on that is here
     pub ProperRowBy : Bool → Spot → Spot → {m : _} → Row_of-Expr m → Type 0
     ProperRowBy binary outer here end_of-Expr = Unit {0}
     ProperRowBy binary outer here (more_of-Expr x rest) =
         ProperBy here x × (comments_of x ≡ no_comments)
-        × (has_break x ≡ true → ((binary && (is_operator x && not (begins_operator rest))) ≡ true) × (behind_expr outer here x ≡ Within))
-        × ProperRowBy binary outer (behind_expr outer here x) rest
+        × (has_break x ≡ true → ((binary && (is_operator x && not (begins_operator rest))) ≡ true) × (after_expr outer here x ≡ Within))
+        × ProperRowBy binary outer (after_expr outer here x) rest
 
     -- what is before the opening bracket
     pub ProperHeadBy : Spot → {m : _} → Row_of-Expr m → Type 0
@@ -131,7 +131,7 @@ ProperItems r = ProperItemsBy shape r
 
 abbrev pub has_statement_kind : Expr → Bool
 has_statement_kind (Token t) = false
-has_statement_kind (Form' kind s parts s' items end_ split open_ comments) = is_statement kind
+has_statement_kind (Form' kind s parts s' items end split open_break comments) = is_statement kind
 
 abbrev pub IsProperItem : Item → Type 0
 IsProperItem (i.Block lines) = (lines ≢ []) × All IsComment lines

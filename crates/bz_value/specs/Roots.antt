@@ -10,7 +10,7 @@ use Rattle.bz_value.specs.Frames.{Frame, row, sequence}
 -- a part without gaps that has the expression's token, or a node of its kind
 abbrev pub root : Expr → Part
 root (Token t) = p.Leaf (record { class = t.class; gap = []; token = t.text })
-root (Form' kind s parts s' items end_ split open_ comments) = p.Node (record { kind = kind; parts = [] })
+root (Form' kind s parts s' items end split open_break comments) = p.Node (record { kind = kind; parts = [] })
 
 abbrev pub mark_leaf : ℕ → Part
 mark_leaf character = p.Leaf (record { class = c.Mark; gap = []; token = character ∷ [] })

@@ -14,8 +14,8 @@ abbrev says : Bytes → Option Bytes → List Bytes → Bool → Type 0
 says gap suffix others newline = (suffix_in gap ≡ suffix) × (others_in gap ≡ others) × (has_newline gap ≡ newline)
 
 -- a comment right after a token; its text ends before the blanks and the carriage return at its end
-abbrev pub Behind : Type 0
-Behind = (lines_of (codes "  # a \t\r\n \n") ≡ commented (codes "# a") true ∷ bare true ∷ []) × says (codes "  # a \t\r\n \n") (Some (codes "# a")) [] true
+abbrev pub After : Type 0
+After = (lines_of (codes "  # a \t\r\n \n") ≡ commented (codes "# a") true ∷ bare true ∷ []) × says (codes "  # a \t\r\n \n") (Some (codes "# a")) [] true
 
 -- an escaped newline ends a line and is no newline, with a carriage return before it too; the comment after it is no suffix
 abbrev pub Escaped : Type 0
@@ -24,8 +24,8 @@ Escaped =
     × (lines_of (codes " \\\r\n  ") ≡ bare false ∷ []) × says (codes " \\\r\n  ") None [] false
 
 -- a comment that ends with a backslash ends at its newline all the same; the last comment may end with the gap
-abbrev pub Ends : Type 0
-Ends = (lines_of (codes "# c\\\n# d") ≡ commented (codes "# c\\") true ∷ commented (codes "# d") false ∷ []) × (all_in (codes "# c\\\n# d") ≡ codes "# c\\" ∷ codes "# d" ∷ [])
+abbrev pub GapEnds : Type 0
+GapEnds = (lines_of (codes "# c\\\n# d") ≡ commented (codes "# c\\") true ∷ commented (codes "# d") false ∷ []) × (all_in (codes "# c\\\n# d") ≡ codes "# c\\" ∷ codes "# d" ∷ [])
 
 -- a line without comment ends a group, and an empty one is where no comment is
 abbrev pub Groups : Type 0
@@ -38,4 +38,4 @@ abbrev pub Nothing : Type 0
 Nothing = (lines_of [] ≡ []) × (lines_of (codes " \t ") ≡ []) × says (codes " ") None [] false
 
 abbrev pub WorkedGaps : Type 0
-WorkedGaps = Behind × Escaped × Ends × Groups × Nothing
+WorkedGaps = After × Escaped × GapEnds × Groups × Nothing

@@ -14,7 +14,7 @@ impl Token {
         Ok(Token {
             class: self.class,
             text: self.text.copy()?,
-            break_: self.break_,
+            line_break: self.line_break,
             comments: self.comments.copy()?,
         })
     }
@@ -41,7 +41,7 @@ impl Seq {
     {
         Ok(Seq {
             items: copy_exprs(self.items.alloc(), self.items.as_slice())?,
-            end_: copy_texts(self.end_.alloc(), self.end_.as_slice())?,
+            end: copy_texts(self.end.alloc(), self.end.as_slice())?,
             split: self.split,
         })
     }
@@ -57,7 +57,7 @@ impl Form {
             kind: self.kind,
             parts: copy_exprs(self.parts.alloc(), self.parts.as_slice())?,
             seq: self.seq.copy()?,
-            open_: self.open_,
+            open_break: self.open_break,
             comments: self.comments.copy()?,
         })
     }

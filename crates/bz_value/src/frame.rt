@@ -1,7 +1,7 @@
 //! How the nodes of each kind are kept, and which tokens are operators.
 ghost use Rattle.std.specs.Prelude.{◌≡◌, ◌≤◌};
 ghost use Rattle.bz_value.specs.Frames.{frame, has_brackets, is_binary, is_comprehension, is_statement, lead};
-ghost use Rattle.bz_value.specs.Proper.{is_sign};
+ghost use Rattle.bz_value.specs.Proper.{is_operator_class};
 
 use bz_tree::{Class, Kind};
 
@@ -59,8 +59,8 @@ pub fn is_statement(kind: Kind) -> bool
 }
 
 /// Whether a token of the class is an operator, in a row of operands and operators.
-pub fn is_sign(class: Class) -> bool
-    ensures { result ≡ is_sign class }
+pub fn is_operator_class(class: Class) -> bool
+    ensures { result ≡ is_operator_class class }
 {
     matches!(class, Class::Mark | Class::Keyword)
 }

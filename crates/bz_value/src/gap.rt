@@ -3,8 +3,8 @@ ghost use Rattle.std.specs.Prelude.{◌≡◌, ◌+◌, ◌-◌, ◌^◌, ◌||�
 ghost use Rattle.std.specs.Option.{option_copied};
 ghost use Rattle.bz_token.specs.Bytes.{is_blank};
 ghost use Rattle.bz_items.specs.Characters.{space, tab};
-ghost use Rattle.bz_value.specs.Gaps.{all_in, behind_backslash, after_first_comment, has_newline, in_comment, lines_of, others_in, suffix_in, trimmed};
-ghost use Rattle.bz_value.specs.Indented.{indented, indented_behind};
+ghost use Rattle.bz_value.specs.Gaps.{all_in, after_backslash, after_first_comment, has_newline, in_comment, lines_of, others_in, suffix_in, trimmed};
+ghost use Rattle.bz_value.specs.Indented.{indented, indented_after};
 
 use bz_items::{Items, Memory, Text};
 use std::alloc::Global;
@@ -26,7 +26,7 @@ pub struct IndentedLine<'a> {
 }
 
 /// How many spaces and tabs are after a byte with which no line of a gap begins or ends, where this many were before it.
-fn indent_behind(indent: usize, byte: u8) -> usize
+fn indent_after(indent: usize, byte: u8) -> usize
     requires { indent < 2 ^ 64 - 1 }
     ensures value { result ≡ (if nat_eq byte space || nat_eq byte tab then suc indent else 0) }
     ensures most { result ≤ indent + 1 }
@@ -44,8 +44,8 @@ fn line_len(text: &[u8]) -> usize
     ensures words { (in_comment text.now).words ≡ take result text.now }
     ensures newline { (in_comment text.now).newline ≡ nat_lt result (length text.now) }
     ensures lines { (in_comment text.now).lines ≡ lines_of (drop (result + 1) text.now) }
-    ensures escaped { behind_backslash text.now ≡ lines_of (drop (result + 1) text.now) }
-    ensures indented { indented_behind text.now ≡ indented (drop (result + 1) text.now) }
+    ensures escaped { after_backslash text.now ≡ lines_of (drop (result + 1) text.now) }
+    ensures indented { indented_after text.now ≡ indented (drop (result + 1) text.now) }
 {
     for (at, byte) in text.iter().enumerate() {
         if *byte == b'\n' {
@@ -56,7 +56,7 @@ fn line_len(text: &[u8]) -> usize
 }
 
 /// What is after the newline that ends the first line, which has this many bytes.
-fn behind_line(text: &[u8], len: usize) -> &[u8]
+fn after_line(text: &[u8], len: usize) -> &[u8]
     requires { len ≤ length text.now }
     ensures { result.now ≡ drop (len + 1) text.now }
 {
@@ -97,7 +97,7 @@ pub fn first_line(gap: &[u8]) -> Option<Line<'_>>
                 return Some(Line {
                     comment: Some(trim_end(&rest[..len + 1])),
                     newline: len < tail.len(),
-                    rest: behind_line(tail, len),
+                    rest: after_line(tail, len),
                 });
             }
             b'\n' => {
@@ -112,7 +112,7 @@ pub fn first_line(gap: &[u8]) -> Option<Line<'_>>
                 return Some(Line {
                     comment: None,
                     newline: false,
-                    rest: behind_line(tail, line_len(tail)),
+                    rest: after_line(tail, line_len(tail)),
                 });
             }
             _ => rest = tail,
@@ -137,7 +137,7 @@ pub fn first_indented_line(gap: &[u8]) -> Option<IndentedLine<'_>>
                     line: Line {
                         comment: Some(trim_end(&rest[..len + 1])),
                         newline: len < tail.len(),
-                        rest: behind_line(tail, len),
+                        rest: after_line(tail, len),
                     },
                 });
             }
@@ -157,12 +157,12 @@ pub fn first_indented_line(gap: &[u8]) -> Option<IndentedLine<'_>>
                     line: Line {
                         comment: None,
                         newline: false,
-                        rest: behind_line(tail, line_len(tail)),
+                        rest: after_line(tail, line_len(tail)),
                     },
                 });
             }
             byte => {
-                indent = indent_behind(indent, byte);
+                indent = indent_after(indent, byte);
                 rest = tail;
             }
         }
@@ -171,7 +171,7 @@ pub fn first_indented_line(gap: &[u8]) -> Option<IndentedLine<'_>>
 }
 
 /// The gap after its first line.
-pub fn behind_first_line(gap: &[u8]) -> &[u8]
+pub fn past_first_line(gap: &[u8]) -> &[u8]
     ensures { lines_of result.now ≡ after_first_comment (lines_of gap.now) }
 {
     match first_line(gap) {
@@ -225,5 +225,5 @@ pub fn push_all(alloc: Global, gap: &[u8], comments: &mut Items<Text>) -> Result
 pub fn push_others(alloc: Global, gap: &[u8], comments: &mut Items<Text>) -> Result<(), Memory>
     ensures { OnOk result (comments.new ≡ comments.old ++ others_in gap.now) }
 {
-    push_all(alloc, behind_first_line(gap), comments)
+    push_all(alloc, past_first_line(gap), comments)
 }

@@ -11,7 +11,7 @@ impl Token {
     {
         self.class == other.class
             && self.text.equals(&other.text)
-            && self.break_ == other.break_
+            && self.line_break == other.line_break
             && self.comments.equals(&other.comments)
     }
 }
@@ -37,7 +37,7 @@ impl Seq {
         ensures { IsTrue result ↔ (self.now ≡ other.now) }
     {
         self.split == other.split
-            && same_texts(self.end_.as_slice(), other.end_.as_slice())
+            && same_texts(self.end.as_slice(), other.end.as_slice())
             && same_exprs(self.items.as_slice(), other.items.as_slice())
     }
 }
@@ -49,7 +49,7 @@ impl Form {
         ensures { IsTrue result ↔ (self.now ≡ other.now) }
     {
         self.kind == other.kind
-            && self.open_ == other.open_
+            && self.open_break == other.open_break
             && self.comments.equals(&other.comments)
             && same_exprs(self.parts.as_slice(), other.parts.as_slice())
             && self.seq.equals(&other.seq)

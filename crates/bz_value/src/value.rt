@@ -6,12 +6,12 @@ use bz_items::{Items, Text};
 use bz_tree::{Class, Kind};
 use std::marker::Model;
 
-/// A token. `break_`: of a binary operator, that the operand after it begins on a new line.
+/// A token. `line_break`: of a binary operator, that the operand after it begins on a new line.
 #[derive(Drop)]
 pub struct Token {
     pub class: Class,
     pub text: Text,
-    pub break_: bool,
+    pub line_break: bool,
     pub comments: Comments,
 }
 
@@ -60,12 +60,12 @@ impl Expr {
 #[derive(Drop)]
 pub struct Seq {
     pub items: Items<Expr>,
-    pub end_: Items<Text>,
+    pub end: Items<Text>,
     pub split: bool,
 }
 
 /// A node without gaps. With a sequence: `parts` is what is before its opening bracket (the function of a call, the
-/// word of a load). Without one: `parts` is the whole row of the node, marks too, and `seq` is empty. `open_`: of a
+/// word of a load). Without one: `parts` is the whole row of the node, marks too, and `seq` is empty. `open_break`: of a
 /// comprehension, that a newline was right after its bracket.
 #[cycle(expr)]
 #[derive(Drop)]
@@ -73,7 +73,7 @@ pub struct Form {
     pub kind: Kind,
     pub parts: Items<Expr>,
     pub seq: Seq,
-    pub open_: bool,
+    pub open_break: bool,
     pub comments: Comments,
 }
 

@@ -106,6 +106,6 @@ all_pushed old mid new group ls m g n =
     n ∙ (ap (λ t. mid ++ blocks (t ∷ [])) g ∙ (ap (λ t. t ++ blocks (last_group (groups_of ls) ∷ [])) m ∙
     (append_assoc old (blocks (all_but_last (groups_of ls))) (blocks (last_group (groups_of ls) ∷ [])) ∙ ap (λ t. old ++ t) (sym (last_block ls)))))
 
-pub told : {X Y : Type 0} (r : Result X Y) (P : X → Type 0) (Q : Type 0) → ((x : X) → P x → Q) → IfOk r P → OnOk r Q
-told (Ok x) P Q f h = f x h
-told (Err e) P Q f h = h
+pub decoded : {X Y : Type 0} (r : Result X Y) (P : X → Type 0) (Q : Type 0) → ((x : X) → P x → Q) → IfOk r P → OnOk r Q
+decoded (Ok x) P Q f h = f x h
+decoded (Err e) P Q f h = h

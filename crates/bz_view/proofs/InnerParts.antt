@@ -12,18 +12,18 @@ use Rattle.bz_tree.specs.declared.kind.Kind.TheVariants as k
 use Rattle.bz_tree.specs.declared.tree.Part.{Part, Node'}
 use Rattle.bz_tree.specs.declared.tree.Part.TheVariants as p
 use Rattle.bz_tree.specs.Shapes as s
-use Rattle.bz_tree.specs.Shapes.{Sort, Terminal, Shape, Fits, Listed, Behind, Several, shape, has_token, is_one_of, is_terminal, sort_has_kind, leaves_at}
-use Rattle.bz_tree.specs.Legal.{IsSort}
-use Rattle.bz_tree.specs.Spots.{Spot, Within, onward, Role, opens, closes, ends, plain, role, behind_token, behind_node, behind_part}
-use Rattle.bz_tree.proofs.Balance.{no_such, same_class, inner_sort, not_file, not_lines}
+use Rattle.bz_tree.specs.Shapes.{Nonterminal, Terminal, Shape, Fits, Listed, After, Several, shape, has_token, is_one_of, is_terminal, nonterminal_has_kind, leaves_at}
+use Rattle.bz_tree.specs.Legal.{IsNonterminal}
+use Rattle.bz_tree.specs.Spots.{Spot, Within, onward, Role, opens, closes, ends, plain, role, following_token, after_node, after_part}
+use Rattle.bz_tree.proofs.Balance.{no_such, same_class, inner_nonterminal, not_file, not_lines}
 use Rattle.bz_value.specs.Frames.{is_binary, is_statement}
 use Rattle.bz_value.specs.LineShapes.{line_shape}
-use Rattle.bz_value.specs.Proper.{is_sign}
+use Rattle.bz_value.specs.Proper.{is_operator_class}
 
 -- ---- a test on shapes for a fact of all their parts
 
 -- every list of tokens passes t, and every sort q
-abbrev pub every : (List Terminal → Bool) → (Sort → Bool) → Shape → Bool
+abbrev pub every : (List Terminal → Bool) → (Nonterminal → Bool) → Shape → Bool
 every t q s.none = true
 every t q s.done = true
 every t q (s.tok ts r) = t ts && every t q r
@@ -33,39 +33,39 @@ every t q (s.list a ts last r) = q a && (t ts && every t q r)
 every t q (s.each a r) = q a && every t q r
 every t q (s.times group r) = false
 
-module _ (P : Part → Type 0) (t : List Terminal → Bool) (q : Sort → Bool) (of_token : (ts : List Terminal) (x : Part) → t ts ≡ true → has_token ts x ≡ true → P x) (of_sort : (a : Sort) (x : Part) → q a ≡ true → IsSort a x → P x) where
-  module _ (a : Sort) (passes : q a ≡ true) (K : List Part → Type 0) (rest : (xs : List Part) → K xs → AllByRecursion P xs) where
+module _ (P : Part → Type 0) (t : List Terminal → Bool) (q : Nonterminal → Bool) (of_token : (ts : List Terminal) (x : Part) → t ts ≡ true → has_token ts x ≡ true → P x) (of_nonterminal : (a : Nonterminal) (x : Part) → q a ≡ true → IsNonterminal a x → P x) where
+  module _ (a : Nonterminal) (passes : q a ≡ true) (K : List Part → Type 0) (rest : (xs : List Part) → K xs → AllByRecursion P xs) where
     mutual
-      listed_all : (ts : List Terminal) (last : Bool) → t ts ≡ true → (xs : List Part) → Listed (IsSort a) ts last K xs → AllByRecursion P xs
+      listed_all : (ts : List Terminal) (last : Bool) → t ts ≡ true → (xs : List Part) → Listed (IsNonterminal a) ts last K xs → AllByRecursion P xs
       listed_all ts last o [] h = absurd h
-      listed_all ts last o (x ∷ xs) h = (of_sort a x passes h.0, behind_all ts last o xs h.1)
+      listed_all ts last o (x ∷ xs) h = (of_nonterminal a x passes h.0, after_all ts last o xs h.1)
 
-      behind_all : (ts : List Terminal) (last : Bool) → t ts ≡ true → (xs : List Part) → Behind (IsSort a) ts last K xs → AllByRecursion P xs
-      behind_all ts last o [] h = tt
-      behind_all ts last o (x ∷ xs) (inl h) = rest (x ∷ xs) h
-      behind_all ts last o (x ∷ xs) (inr (m, inl h)) = (of_token ts x o m, listed_all ts last o xs h)
-      behind_all ts last o (x ∷ xs) (inr (m, inr h)) = (of_token ts x o m, rest xs h.1)
+      after_all : (ts : List Terminal) (last : Bool) → t ts ≡ true → (xs : List Part) → After (IsNonterminal a) ts last K xs → AllByRecursion P xs
+      after_all ts last o [] h = tt
+      after_all ts last o (x ∷ xs) (inl h) = rest (x ∷ xs) h
+      after_all ts last o (x ∷ xs) (inr (m, inl h)) = (of_token ts x o m, listed_all ts last o xs h)
+      after_all ts last o (x ∷ xs) (inr (m, inr h)) = (of_token ts x o m, rest xs h.1)
 
-    several_all : (xs : List Part) → Several (IsSort a) K xs → AllByRecursion P xs
+    several_all : (xs : List Part) → Several (IsNonterminal a) K xs → AllByRecursion P xs
     several_all [] h = tt
     several_all (x ∷ xs) (inl h) = rest (x ∷ xs) h
-    several_all (x ∷ xs) (inr h) = (of_sort a x passes h.0, several_all xs h.1)
+    several_all (x ∷ xs) (inr h) = (of_nonterminal a x passes h.0, several_all xs h.1)
 
-  pub every_part : (r : Shape) → every t q r ≡ true → (xs : List Part) → Fits IsSort r xs → AllByRecursion P xs
+  pub every_part : (r : Shape) → every t q r ≡ true → (xs : List Part) → Fits IsNonterminal r xs → AllByRecursion P xs
   every_part s.none b xs h = absurd h
   every_part s.done b [] h = tt
   every_part s.done b (x ∷ xs) h = absurd h
   every_part (s.tok ts r) b [] h = absurd h
   every_part (s.tok ts r) b (x ∷ xs) h = let v = and_parts (t ts) (every t q r) b in (of_token ts x v.0 h.0, every_part r v.1 xs h.1)
   every_part (s.sub a r) b [] h = absurd h
-  every_part (s.sub a r) b (x ∷ xs) h = let v = and_parts (q a) (every t q r) b in (of_sort a x v.0 h.0, every_part r v.1 xs h.1)
+  every_part (s.sub a r) b (x ∷ xs) h = let v = and_parts (q a) (every t q r) b in (of_nonterminal a x v.0 h.0, every_part r v.1 xs h.1)
   every_part (s.alt r r') b xs (inl h) = every_part r (and_parts (every t q r) (every t q r') b).0 xs h
   every_part (s.alt r r') b xs (inr h) = every_part r' (and_parts (every t q r) (every t q r') b).1 xs h
   every_part (s.list a ts last r) b xs h =
       let v = and_parts (q a) _ b in
       let u = and_parts (t ts) _ v.1 in
-      listed_all a v.0 (Fits IsSort r) (every_part r u.1) ts last u.0 xs h
-  every_part (s.each a r) b xs h = let v = and_parts (q a) _ b in several_all a v.0 (Fits IsSort r) (every_part r v.1) xs h
+      listed_all a v.0 (Fits IsNonterminal r) (every_part r u.1) ts last u.0 xs h
+  every_part (s.each a r) b xs h = let v = and_parts (q a) _ b in several_all a v.0 (Fits IsNonterminal r) (every_part r v.1) xs h
   every_part (s.times group r) b xs h = no_such b
 
 -- ---- parts inside a line
@@ -111,26 +111,26 @@ pub token_inner : (ts : List Terminal) (x : Part) → inner_tokens ts ≡ true �
 token_inner ts (p.Leaf l) h i = tokens_inner ts l h i
 token_inner ts (Node' kind z r) h i = no_such i
 
-sort_kind : (a : Sort) (kind : Kind) → inner_sort a ≡ true → sort_has_kind a kind ≡ true → inner_kind kind ≡ true
-sort_kind a k.File h i = no_such (sym (not_file a) ∙ i)
-sort_kind a k.Line h i = no_such (sym (not_lines a k.Line refl h) ∙ i)
-sort_kind a k.Def h i = no_such (sym (not_lines a k.Def refl h) ∙ i)
-sort_kind a k.IfStmt h i = no_such (sym (not_lines a k.IfStmt refl h) ∙ i)
-sort_kind a k.ForStmt h i = no_such (sym (not_lines a k.ForStmt refl h) ∙ i)
-sort_kind a k.Suite h i = no_such (sym (not_lines a k.Suite refl h) ∙ i)
-sort_kind a _ h i = refl
+nonterminal_kind : (a : Nonterminal) (kind : Kind) → inner_nonterminal a ≡ true → nonterminal_has_kind a kind ≡ true → inner_kind kind ≡ true
+nonterminal_kind a k.File h i = no_such (sym (not_file a) ∙ i)
+nonterminal_kind a k.Line h i = no_such (sym (not_lines a k.Line refl h) ∙ i)
+nonterminal_kind a k.Def h i = no_such (sym (not_lines a k.Def refl h) ∙ i)
+nonterminal_kind a k.IfStmt h i = no_such (sym (not_lines a k.IfStmt refl h) ∙ i)
+nonterminal_kind a k.ForStmt h i = no_such (sym (not_lines a k.ForStmt refl h) ∙ i)
+nonterminal_kind a k.Suite h i = no_such (sym (not_lines a k.Suite refl h) ∙ i)
+nonterminal_kind a _ h i = refl
 
-leaves_inner : (a : Sort) → inner_sort a ≡ true → inner_tokens (leaves_at a) ≡ true
+leaves_inner : (a : Nonterminal) → inner_nonterminal a ≡ true → inner_tokens (leaves_at a) ≡ true
 leaves_inner s.line h = no_such h
 leaves_inner s.stmt h = no_such h
 leaves_inner s.suite h = no_such h
 leaves_inner _ h = refl
 
-pub sort_inner : (a : Sort) (x : Part) → inner_sort a ≡ true → IsSort a x → is_inner x ≡ true
-sort_inner a (p.Leaf l) h i = tokens_inner (leaves_at a) l (leaves_inner a h) i
-sort_inner a (Node' kind z r) h i = sort_kind a kind h i
+pub nonterminal_inner : (a : Nonterminal) (x : Part) → inner_nonterminal a ≡ true → IsNonterminal a x → is_inner x ≡ true
+nonterminal_inner a (p.Leaf l) h i = tokens_inner (leaves_at a) l (leaves_inner a h) i
+nonterminal_inner a (Node' kind z r) h i = nonterminal_kind a kind h i
 
-kind_inner : (kind : Kind) → inner_kind kind ≡ true → every inner_tokens inner_sort (line_shape kind) ≡ true
+kind_inner : (kind : Kind) → inner_kind kind ≡ true → every inner_tokens inner_nonterminal (line_shape kind) ≡ true
 kind_inner k.File h = no_such h
 kind_inner k.Line h = no_such h
 kind_inner k.Def h = no_such h
@@ -140,8 +140,8 @@ kind_inner k.Suite h = no_such h
 kind_inner _ h = refl
 
 -- so are all parts of a node inside a line
-pub inner_parts : (kind : Kind) → inner_kind kind ≡ true → (xs : List Part) → Fits IsSort (line_shape kind) xs → AllByRecursion (λ x. is_inner x ≡ true) xs
-inner_parts kind h xs i = every_part (λ x. is_inner x ≡ true) inner_tokens inner_sort token_inner sort_inner (line_shape kind) (kind_inner kind h) xs i
+pub inner_parts : (kind : Kind) → inner_kind kind ≡ true → (xs : List Part) → Fits IsNonterminal (line_shape kind) xs → AllByRecursion (λ x. is_inner x ≡ true) xs
+inner_parts kind h xs i = every_part (λ x. is_inner x ≡ true) inner_tokens inner_nonterminal token_inner nonterminal_inner (line_shape kind) (kind_inner kind h) xs i
 
 -- ---- parts that neither open nor close brackets
 
@@ -194,27 +194,27 @@ tokens_plain : (xs : List Terminal) (l : Leaf) → plain_tokens xs ≡ true → 
 tokens_plain xs l h i = of_terminals plain xs l h i
 
 -- after an opening bracket
-pub token_opens : (ts : List Terminal) (x : Part) (outer here : Spot) → all_turn opens ts ≡ true → has_token ts x ≡ true → behind_part outer here x ≡ Within
-token_opens ts (p.Leaf l) outer here h i = ap (λ t. behind_token t outer here) (of_terminals opens ts l h i)
+pub token_opens : (ts : List Terminal) (x : Part) (outer here : Spot) → all_turn opens ts ≡ true → has_token ts x ≡ true → after_part outer here x ≡ Within
+token_opens ts (p.Leaf l) outer here h i = ap (λ t. following_token t outer here) (of_terminals opens ts l h i)
 token_opens ts (Node' kind z r) outer here h i = no_such i
 
 -- after a closing one
-pub token_closes : (ts : List Terminal) (x : Part) (outer here : Spot) → all_turn closes ts ≡ true → has_token ts x ≡ true → behind_part outer here x ≡ onward outer
-token_closes ts (p.Leaf l) outer here h i = ap (λ t. behind_token t outer here) (of_terminals closes ts l h i)
+pub token_closes : (ts : List Terminal) (x : Part) (outer here : Spot) → all_turn closes ts ≡ true → has_token ts x ≡ true → after_part outer here x ≡ onward outer
+token_closes ts (p.Leaf l) outer here h i = ap (λ t. following_token t outer here) (of_terminals closes ts l h i)
 token_closes ts (Node' kind z r) outer here h i = no_such i
 
 -- what follows the part is where the part is, but for the first place of a line
 abbrev pub GoesOn : Part → Type 0
-GoesOn x = (outer here : Spot) → behind_part outer here x ≡ onward here
+GoesOn x = (outer here : Spot) → after_part outer here x ≡ onward here
 
 leaf_goes : (l : Leaf) → role l.class l.token ≡ plain → GoesOn (p.Leaf l)
-leaf_goes l e outer here = ap (λ t. behind_token t outer here) e
+leaf_goes l e outer here = ap (λ t. following_token t outer here) e
 
 pub token_goes : (ts : List Terminal) (x : Part) → plain_tokens ts ≡ true → has_token ts x ≡ true → GoesOn x
 token_goes ts (p.Leaf l) h i = leaf_goes l (tokens_plain ts l h i)
 token_goes ts (Node' kind z r) h i = no_such i
 
-kind_goes : (kind : Kind) (here : Spot) → inner_kind kind ≡ true → behind_node kind here ≡ onward here
+kind_goes : (kind : Kind) (here : Spot) → inner_kind kind ≡ true → after_node kind here ≡ onward here
 kind_goes k.Line here h = no_such h
 kind_goes k.Def here h = no_such h
 kind_goes k.IfStmt here h = no_such h
@@ -222,21 +222,21 @@ kind_goes k.ForStmt here h = no_such h
 kind_goes k.Suite here h = no_such h
 kind_goes _ here h = refl
 
-leaves_plain : (a : Sort) → plain_tokens (leaves_at a) ≡ true
+leaves_plain : (a : Nonterminal) → plain_tokens (leaves_at a) ≡ true
 leaves_plain (s.level n) = refl
 leaves_plain _ = refl
 
-pub sort_goes : (a : Sort) (x : Part) → inner_sort a ≡ true → IsSort a x → GoesOn x
-sort_goes a (p.Leaf l) h i = leaf_goes l (tokens_plain (leaves_at a) l (leaves_plain a) i)
-sort_goes a (Node' kind z r) h i = λ outer here. kind_goes kind here (sort_kind a kind h i)
+pub nonterminal_goes : (a : Nonterminal) (x : Part) → inner_nonterminal a ≡ true → IsNonterminal a x → GoesOn x
+nonterminal_goes a (p.Leaf l) h i = leaf_goes l (tokens_plain (leaves_at a) l (leaves_plain a) i)
+nonterminal_goes a (Node' kind z r) h i = λ outer here. kind_goes kind here (nonterminal_kind a kind h i)
 
 -- ---- binary operations
 
-abbrev begins_sort : Shape → Bool
-begins_sort (s.sub a r) = true
-begins_sort _ = false
+abbrev begins_nonterminal : Shape → Bool
+begins_nonterminal (s.sub a r) = true
+begins_nonterminal _ = false
 
-kind_binary : (kind : Kind) → is_binary kind ≡ true → (begins_sort (line_shape kind) && every plain_tokens inner_sort (line_shape kind)) ≡ true
+kind_binary : (kind : Kind) → is_binary kind ≡ true → (begins_nonterminal (line_shape kind) && every plain_tokens inner_nonterminal (line_shape kind)) ≡ true
 kind_binary k.Or h = refl
 kind_binary k.And h = refl
 kind_binary k.Compare h = refl
@@ -249,43 +249,43 @@ kind_binary k.Product h = refl
 kind_binary _ h = no_such h
 
 -- no part of one is a bracket
-pub binary_goes : (kind : Kind) → is_binary kind ≡ true → (xs : List Part) → Fits IsSort (line_shape kind) xs → AllByRecursion GoesOn xs
-binary_goes kind h xs i = every_part GoesOn plain_tokens inner_sort token_goes sort_goes (line_shape kind) (and_parts _ _ (kind_binary kind h)).1 xs i
+pub binary_goes : (kind : Kind) → is_binary kind ≡ true → (xs : List Part) → Fits IsNonterminal (line_shape kind) xs → AllByRecursion GoesOn xs
+binary_goes kind h xs i = every_part GoesOn plain_tokens inner_nonterminal token_goes nonterminal_goes (line_shape kind) (and_parts _ _ (kind_binary kind h)).1 xs i
 
 -- and it begins with an operand
-pub binary_begins : (kind : Kind) → is_binary kind ≡ true → (x : Part) (xs : List Part) → Fits IsSort (line_shape kind) (x ∷ xs) → (a : Sort) × IsSort a x
+pub binary_begins : (kind : Kind) → is_binary kind ≡ true → (x : Part) (xs : List Part) → Fits IsNonterminal (line_shape kind) (x ∷ xs) → (a : Nonterminal) × IsNonterminal a x
 binary_begins kind h x xs i = front (line_shape kind) (and_parts _ _ (kind_binary kind h)).0 i
   where
-    front : (r : Shape) → begins_sort r ≡ true → Fits IsSort r (x ∷ xs) → (a : Sort) × IsSort a x
+    front : (r : Shape) → begins_nonterminal r ≡ true → Fits IsNonterminal r (x ∷ xs) → (a : Nonterminal) × IsNonterminal a x
     front (s.sub a r) b j = (a, j.0)
     front _ b j = no_such b
 
 abbrev unsigned : List Terminal → Bool
 unsigned [] = true
-unsigned (s.any class ∷ xs) = not (is_sign class) && unsigned xs
-unsigned (s.this class token ∷ xs) = not (is_sign class) && unsigned xs
+unsigned (s.any class ∷ xs) = not (is_operator_class class) && unsigned xs
+unsigned (s.this class token ∷ xs) = not (is_operator_class class) && unsigned xs
 
-leaf_unsigned : (xs : List Terminal) (l : Leaf) → unsigned xs ≡ true → is_one_of xs l ≡ true → is_sign l.class ≡ false
+leaf_unsigned : (xs : List Terminal) (l : Leaf) → unsigned xs ≡ true → is_one_of xs l ≡ true → is_operator_class l.class ≡ false
 leaf_unsigned [] l h i = no_such i
 leaf_unsigned (s.any class ∷ xs) l h i =
-    let w = and_parts (not (is_sign class)) (unsigned xs) h in
-    elim (or_cases (is_terminal (s.any class) l) (is_one_of xs l) i) [ inl e ↦ ap is_sign (same_class l.class class e) ∙ not-true (is_sign class) w.0 | inr e ↦ leaf_unsigned xs l w.1 e ]
+    let w = and_parts (not (is_operator_class class)) (unsigned xs) h in
+    elim (or_cases (is_terminal (s.any class) l) (is_one_of xs l) i) [ inl e ↦ ap is_operator_class (same_class l.class class e) ∙ not-true (is_operator_class class) w.0 | inr e ↦ leaf_unsigned xs l w.1 e ]
 leaf_unsigned (s.this class token ∷ xs) l h i =
-    let w = and_parts (not (is_sign class)) (unsigned xs) h in
-    elim (or_cases (is_terminal (s.this class token) l) (is_one_of xs l) i) [ inl e ↦ ap is_sign (same_class l.class class (and_parts _ _ e).0) ∙ not-true (is_sign class) w.0 | inr e ↦ leaf_unsigned xs l w.1 e ]
+    let w = and_parts (not (is_operator_class class)) (unsigned xs) h in
+    elim (or_cases (is_terminal (s.this class token) l) (is_one_of xs l) i) [ inl e ↦ ap is_operator_class (same_class l.class class (and_parts _ _ e).0) ∙ not-true (is_operator_class class) w.0 | inr e ↦ leaf_unsigned xs l w.1 e ]
 
-leaves_unsigned : (a : Sort) → unsigned (leaves_at a) ≡ true
+leaves_unsigned : (a : Nonterminal) → unsigned (leaves_at a) ≡ true
 leaves_unsigned (s.level n) = refl
 leaves_unsigned _ = refl
 
 -- a leaf that has a sort is no sign
-pub sort_unsigned : (a : Sort) (l : Leaf) → IsSort a (p.Leaf l) → is_sign l.class ≡ false
-sort_unsigned a l i = leaf_unsigned (leaves_at a) l (leaves_unsigned a) i
+pub nonterminal_unsigned : (a : Nonterminal) (l : Leaf) → IsNonterminal a (p.Leaf l) → is_operator_class l.class ≡ false
+nonterminal_unsigned a l i = leaf_unsigned (leaves_at a) l (leaves_unsigned a) i
 
 -- ---- statements
 
 -- (the other kinds of such a sort are none of BUILD files)
-pub small_statement : (kind : Kind) (xs : List Part) → Fits IsSort (shape kind) xs → sort_has_kind s.small kind ≡ true → is_statement kind ≡ true
+pub small_statement : (kind : Kind) (xs : List Part) → Fits IsNonterminal (shape kind) xs → nonterminal_has_kind s.small kind ≡ true → is_statement kind ≡ true
 small_statement k.Bare xs f h = refl
 small_statement k.Assign xs f h = refl
 small_statement k.Load xs f h = refl

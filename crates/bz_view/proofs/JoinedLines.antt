@@ -45,10 +45,10 @@ last_both (l ∷ []) [] h g = h
 last_both (l ∷ []) (m ∷ ms) h g = g
 last_both (l ∷ m ∷ ls) ms h g = last_both (m ∷ ls) ms h g
 
-last_behind : (ls : List Leaf) (l : Leaf) → last_token (ls ++ l ∷ []) ≡ l.token
-last_behind [] l = refl
-last_behind (m ∷ []) l = refl
-last_behind (m ∷ n ∷ ls) l = last_behind (n ∷ ls) l
+last_after : (ls : List Leaf) (l : Leaf) → last_token (ls ++ l ∷ []) ≡ l.token
+last_after [] l = refl
+last_after (m ∷ []) l = refl
+last_after (m ∷ n ∷ ls) l = last_after (n ∷ ls) l
 
 whole_both : (xs ys : List Part) → AreWholeLines xs → AreWholeLines ys → AreWholeLines (xs ++ ys)
 whole_both xs ys h g = subst (λ ls. last_token ls ≡ 10 ∷ []) (sym (flat_map-append leaves_part xs ys)) (last_both (flat_map leaves_part xs) (flat_map leaves_part ys) h g)
@@ -100,8 +100,8 @@ last_seen [] x = refl
 last_seen (y ∷ []) x = refl
 last_seen (y ∷ z ∷ front) x = last_seen (z ∷ front) x
 
-left_behind_line : (left : List GapLine) (front : List Part) (n : Node) → lines_left left (front ++ p.Node n ∷ []) ≡ after_first_comment (lines_of (last_gap (map seen n.parts)))
-left_behind_line left front n = left_both left front (p.Node n ∷ []) ∙ ap (λ ss. after_first_comment (lines_of (last_gap ss))) (seen_parts n)
+left_after_line : (left : List GapLine) (front : List Part) (n : Node) → lines_left left (front ++ p.Node n ∷ []) ≡ after_first_comment (lines_of (last_gap (map seen n.parts)))
+left_after_line left front n = left_both left front (p.Node n ∷ []) ∙ ap (λ ss. after_first_comment (lines_of (last_gap ss))) (seen_parts n)
 
 -- the last line of a file, and its end
 ends_so : (n line : Node) (front : List Part) (e : Leaf) → n.parts ≡ (front ++ p.Node line ∷ []) ++ p.Leaf e ∷ [] → e.gap ≡ [] → EndInNewline line.parts → EndsWithLine n
@@ -114,9 +114,9 @@ ends_so n line front e is none (before, newline, at, token, left) =
       lines = front ++ p.Node line ∷ [];
       end = e;
       parts = is;
-      whole = ap last_token all ∙ (last_behind (flat_map leaves_part front ++ flat_map leaves_part before) newline ∙ token);
+      whole = ap last_token all ∙ (last_after (flat_map leaves_part front ++ flat_map leaves_part before) newline ∙ token);
       nothing = none;
-      left = left_behind_line [] front line ∙ (ap (λ ps. after_first_comment (lines_of (last_gap (map seen ps)))) at ∙ (ap (λ g. after_first_comment (lines_of g)) (last_seen before (p.Leaf newline)) ∙ left));
+      left = left_after_line [] front line ∙ (ap (λ ps. after_first_comment (lines_of (last_gap (map seen ps)))) at ∙ (ap (λ g. after_first_comment (lines_of g)) (last_seen before (p.Leaf newline)) ∙ left));
     }
 
 pub line_last : (n : Node) (front rest : List Part) (x y : Part) → n.parts ≡ rest ++ y ∷ [] → rest ≡ front ++ x ∷ [] → ((e : Leaf) × (y ≡ p.Leaf e) × (e.gap ≡ [])) → ((line : Node) × (x ≡ p.Node line) × EndInNewline line.parts) → EndsWithLine n

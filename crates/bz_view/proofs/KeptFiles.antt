@@ -7,8 +7,8 @@ use Rattle.bz_tree.specs.declared.tree.Part.{Part, Row_of-Part, Node', items-the
 use Rattle.bz_tree.specs.declared.tree.Part.TheVariants as p
 use Rattle.bz_tree.specs.Shapes as s
 use Rattle.bz_tree.specs.Shapes.{Fits, Several, shape, tok, done}
-use Rattle.bz_tree.specs.Legal.{IsSort, LegalPart, LegalRow}
-use Rattle.bz_tree.specs.Spots.{Begins, behind_node, Stands, AtRow, AtParts}
+use Rattle.bz_tree.specs.Legal.{IsNonterminal, LegalPart, LegalRow}
+use Rattle.bz_tree.specs.Spots.{Begins, after_node, Stands, AtRow, AtParts}
 use Rattle.bz_tree.proofs.Balance.{no_such, parts_of_row}
 use Rattle.bz_tree.proofs.Numbers.{same_kind}
 use Rattle.bz_value.specs.Counted.{total, item_amount, one_if}
@@ -83,7 +83,7 @@ module _ (number : Bytes → ℕ) where
   -- ---- the file
 
   abbrev Lines : List Part → Type 0
-  Lines xs = Several (IsSort s.line) (Fits IsSort (tok s.end done)) xs
+  Lines xs = Several (IsNonterminal s.line) (Fits IsNonterminal (tok s.end done)) xs
 
   file_kept : (left : List GapLine) (xs : List Part) → Lines xs → AllByRecursion LegalPart xs → AtParts Stands Begins Begins xs →
       total (item_amount number) (file_items left xs) ≡ total number (comments_in left) + total (part_amount number) xs
@@ -101,8 +101,8 @@ module _ (number : Bytes → ℕ) where
   file_kept left (Node' kind n r ∷ xs) (inr h) g at_ =
       let ys : List Part = items-the_row-Part _ r in
       let e : kind ≡ k.Line = same_kind kind k.Line (eqb-true _ _ h.0) in
-      let statements : Statements ys = subst (λ kd. Fits IsSort (shape kd) ys) e g.0.0 in
-      let there : AtParts Stands Begins Begins xs = subst (λ kd. AtParts Stands Begins (behind_node kd Begins) xs) e at_.1 in
+      let statements : Statements ys = subst (λ kd. Fits IsNonterminal (shape kd) ys) e g.0.0 in
+      let there : AtParts Stands Begins Begins xs = subst (λ kd. AtParts Stands Begins (after_node kd Begins) xs) e at_.1 in
       let here = row_kept left _ r statements g.0.1 at_.0 in
       let rest = file_kept (after_first_comment (lines_of (last_gap (seen_row r)))) xs h.1 g.1 there in
       let leaves = row_leaves number _ r in
@@ -111,7 +111,7 @@ module _ (number : Bytes → ℕ) where
 
 pub comments_kept : CommentsKept
 comments_kept n h text =
-    let fits : Fits IsSort (shape k.File) n.parts = subst (λ kd. Fits IsSort (shape kd) n.parts) h.file.root h.file.shapes.0 in
+    let fits : Fits IsNonterminal (shape k.File) n.parts = subst (λ kd. Fits IsNonterminal (shape kd) n.parts) h.file.root h.file.shapes.0 in
     let all = file_kept (one_if text) [] n.parts fits h.file.shapes.1 h.gaps in
     let leaves = parts_leaves (one_if text) n.parts in
     omega arith

@@ -13,8 +13,8 @@ use Rattle.bz_value.specs.Frames.{Frame, row, sequence, frame, lead, is_binary}
 use Rattle.bz_items.specs.Characters.{Bytes}
 use Rattle.bz_value.specs.Gaps.{suffix_in, others_in, all_in, has_newline}
 use Rattle.bz_value.specs.Proper.{is_operator}
-use Rattle.bz_view.specs.View.{Seen, seen, seen_node, plain, first_seen_gap, begins_seen_operator, loose_in, loose_behind, row_exprs, items_in}
-use Rattle.bz_view.specs.Walks.{form_in, loose_of}
+use Rattle.bz_view.specs.View.{Seen, seen, seen_node, plain, first_seen_gap, begins_seen_operator, loose_in, loose_after, row_exprs, items_in}
+use Rattle.bz_view.specs.Walks.{form_of_frame, loose_of}
 use Rattle.bz_view.proofs.Pairs.{is_token, Paired, TokenAt, BracketedIn, node_bracketed}
 use Rattle.bz_view.proofs.ProperParts.{dropped}
 use Rattle.bz_view.proofs.SeenParts.{seen_rows}
@@ -40,23 +40,23 @@ module _ (number : Bytes → ℕ) where
 
   -- ---- rows
 
-  loose_more : (s : Seen) (ss : List Seen) → total number (loose_behind (s ∷ ss)) ≡ gap_amount number s.gap + (total number s.loose + total number (loose_behind ss))
+  loose_more : (s : Seen) (ss : List Seen) → total number (loose_after (s ∷ ss)) ≡ gap_amount number s.gap + (total number s.loose + total number (loose_after ss))
   loose_more s ss =
       let a = append_total number (all_in s.gap) s.loose in
-      let b = append_total number (all_in s.gap ++ s.loose) (loose_behind ss) in
+      let b = append_total number (all_in s.gap ++ s.loose) (loose_after ss) in
       omega arith
 
   bare_amount : (x : Part) (b : Bool) → amount number ((seen x).make no_comments b) ≡ amount number (plain (seen x))
   bare_amount x b = let h = made_amount number x no_comments b in omega arith
 
-  row_behind : (binary inside newline : Bool) (xs : List Part) → AllKept xs → total number (loose_behind (map seen xs)) + total (amount number) (row_exprs binary inside newline (map seen xs)) ≡ total (part_amount number) xs
-  row_behind binary inside newline [] h = refl
-  row_behind binary inside newline (x ∷ xs) h =
+  row_after : (binary inside newline : Bool) (xs : List Part) → AllKept xs → total number (loose_after (map seen xs)) + total (amount number) (row_exprs binary inside newline (map seen xs)) ≡ total (part_amount number) xs
+  row_after binary inside newline [] h = refl
+  row_after binary inside newline (x ∷ xs) h =
       let operator : Bool = binary && is_operator (plain (seen x)) in
       let before : Bool = if inside then newline else has_newline (seen x).gap in
       let broken : Bool = (operator && not (begins_seen_operator (map seen xs))) && (before || has_newline (first_seen_gap (map seen xs))) in
       let here = h.0 in
-      let rest = row_behind binary operator before xs h.1 in
+      let rest = row_after binary operator before xs h.1 in
       let made = bare_amount x broken in
       let loose = loose_more (seen x) (map seen xs) in
       omega arith
@@ -66,9 +66,9 @@ module _ (number : Bytes → ℕ) where
       gap_amount number (first_seen_gap (map seen xs)) + (total number (loose_in (map seen xs)) + total (amount number) (row_exprs binary inside newline (map seen xs))) ≡ total (part_amount number) xs
   row_kept binary inside newline [] h = refl
   row_kept binary inside newline (x ∷ xs) h =
-      let rest = row_behind binary inside newline (x ∷ xs) h in
+      let rest = row_after binary inside newline (x ∷ xs) h in
       let loose = loose_more (seen x) (map seen xs) in
-      let both = append_total number (seen x).loose (loose_behind (map seen xs)) in
+      let both = append_total number (seen x).loose (loose_after (map seen xs)) in
       omega arith
 
   -- ---- sequences
@@ -79,18 +79,18 @@ module _ (number : Bytes → ℕ) where
   token_holds (Node' kind n r) h = cc
 
   -- after the first part, up to the bracket
-  head_behind : (n : ℕ) (xs : List Part) → AllKept xs → TokenAt n xs →
-      total number (loose_behind (take (suc n) (map seen xs))) + total (amount number) (map plain (take n (map seen xs))) ≡ total (part_amount number) (take (suc n) xs)
-  head_behind zero [] h t = refl
-  head_behind (suc n) [] h t = refl
-  head_behind zero (x ∷ xs) h t =
+  head_after : (n : ℕ) (xs : List Part) → AllKept xs → TokenAt n xs →
+      total number (loose_after (take (suc n) (map seen xs))) + total (amount number) (map plain (take n (map seen xs))) ≡ total (part_amount number) (take (suc n) xs)
+  head_after zero [] h t = refl
+  head_after (suc n) [] h t = refl
+  head_after zero (x ∷ xs) h t =
       let here = h.0 in
       let none = token_holds x t in
       let loose = loose_more (seen x) [] in
       omega arith
-  head_behind (suc n) (x ∷ xs) h t =
+  head_after (suc n) (x ∷ xs) h t =
       let here = h.0 in
-      let rest = head_behind n xs h.1 t in
+      let rest = head_after n xs h.1 t in
       let loose = loose_more (seen x) (take (suc n) (map seen xs)) in
       omega arith
 
@@ -99,9 +99,9 @@ module _ (number : Bytes → ℕ) where
   head_kept zero [] h t = refl
   head_kept (suc n) [] h t = refl
   head_kept n (x ∷ xs) h t =
-      let rest = head_behind n (x ∷ xs) h t in
+      let rest = head_after n (x ∷ xs) h t in
       let loose = loose_more (seen x) (take n (map seen xs)) in
-      let both = append_total number (seen x).loose (loose_behind (take n (map seen xs))) in
+      let both = append_total number (seen x).loose (loose_after (take n (map seen xs))) in
       omega arith
 
   -- a host, with the comments above it and the one after it
@@ -150,7 +150,7 @@ module _ (number : Bytes → ℕ) where
   found_kept xs h t = let all = items_kept (all_in (first_seen_gap (map seen xs))) xs h t in omega arith
 
   form_kept : (f : Frame) (kind : Kind) (xs : List Part) → AllKept xs → BracketedIn f kind xs →
-      gap_amount number (first_seen_gap (map seen xs)) + (total number (loose_of f kind (map seen xs)) + inner_amount number (form_in f kind (map seen xs) no_comments)) ≡ total (part_amount number) xs
+      gap_amount number (first_seen_gap (map seen xs)) + (total number (loose_of f kind (map seen xs)) + inner_amount number (form_of_frame f kind (map seen xs) no_comments)) ≡ total (part_amount number) xs
   form_kept row kind xs h b = let all = row_kept (is_binary kind) false false xs h in omega arith
   form_kept (sequence opener closer) kind xs h b =
       let n : ℕ = lead kind in

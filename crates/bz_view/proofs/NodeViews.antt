@@ -18,7 +18,7 @@ use Rattle.bz_items.specs.Characters.{Bytes}
 use Rattle.bz_value.specs.Gaps.{has_newline}
 use Rattle.bz_value.specs.Proper.{is_operator}
 use Rattle.bz_view.specs.View.{Seen, seen, seen_row, seen_node, plain, first_seen_gap, is_open, is_split}
-use Rattle.bz_view.specs.Walks.{form_in, loose_of, seq_in}
+use Rattle.bz_view.specs.Walks.{form_of_frame, loose_of, seq_in}
 
 pub seen_rows : (m : _) (r : Row_of-Part m) → seen_row r ≡ map seen (items-the_row-Part m r)
 seen_rows m end_of-Part = refl
@@ -36,7 +36,7 @@ node_gap : (f : Frame) (kind : Kind) (ss : List Seen) → (seen_node f kind ss).
 node_gap row kind ss = refl
 node_gap (sequence opener closer) kind ss = refl
 
-node_made : (f : Frame) (kind : Kind) (ss : List Seen) (b : Bool) → e.Form (form_in f kind ss no_comments) ≡ (seen_node f kind ss).make no_comments b
+node_made : (f : Frame) (kind : Kind) (ss : List Seen) (b : Bool) → e.Form (form_of_frame f kind ss no_comments) ≡ (seen_node f kind ss).make no_comments b
 node_made row kind ss b = refl
 node_made (sequence opener closer) kind ss b = refl
 
@@ -62,7 +62,7 @@ seen_comments (Node' kind _ parts) b cs = node_comments (frame kind) kind (seen_
 pub gap_of_node : (x : Part) (n : Node) → x ≡ p.Node n → first_seen_gap (map seen n.parts) ≡ (seen x).gap
 gap_of_node x n i = sym (ap (λ y. (seen y).gap) i ∙ (ap (λ s. s.gap) (seen_Node n) ∙ node_gap (frame n.kind) n.kind (map seen n.parts)))
 
-pub made_of_node : (x : Part) (n : Node) (b : Bool) → x ≡ p.Node n → e.Form (form_in (frame n.kind) n.kind (map seen n.parts) no_comments) ≡ (seen x).make no_comments b
+pub made_of_node : (x : Part) (n : Node) (b : Bool) → x ≡ p.Node n → e.Form (form_of_frame (frame n.kind) n.kind (map seen n.parts) no_comments) ≡ (seen x).make no_comments b
 made_of_node x n b i = node_made (frame n.kind) n.kind (map seen n.parts) b ∙ sym (ap (λ y. (seen y).make no_comments b) i ∙ ap (λ s. s.make no_comments b) (seen_Node n))
 
 pub loose_of_node : (x : Part) (n : Node) → x ≡ p.Node n → loose_of (frame n.kind) n.kind (map seen n.parts) ≡ (seen x).loose
@@ -83,10 +83,10 @@ gap_first x n (q ∷ qs) y g i f l j h = h ∙ (ap (λ z. (seen z).gap) j ∙ (a
 -- ---- a sequence
 
 abbrev made : Kind → List Expr → Seq → HostComments → Form
-made kind parts seq comments = record { kind = kind; parts = parts; seq = seq; open_ = false; comments = comments }
+made kind parts seq comments = record { kind = kind; parts = parts; seq = seq; open_break = false; comments = comments }
 
 pub sequence_made : (f : Frame) (kind : Kind) (ps qs : List Part) (n : ℕ) (es : List Expr) (q : Seq) (cs : HostComments) → has_brackets f ≡ true → qs ≡ ps → n ≡ lead kind →
-    es ≡ map plain (take n (map seen qs)) → q ≡ seq_in (map seen (drop (n + 1) qs)) → cs ≡ no_comments → made kind es q cs ≡ form_in f kind (map seen ps) no_comments
+    es ≡ map plain (take n (map seen qs)) → q ≡ seq_in (map seen (drop (n + 1) qs)) → cs ≡ no_comments → made kind es q cs ≡ form_of_frame f kind (map seen ps) no_comments
 sequence_made row kind ps qs n es q cs h j i e g k = cc
 sequence_made (sequence opener closer) kind ps qs n es q cs h j i e g k =
     let head : es ≡ map plain (take (lead kind) (map seen ps)) = e ∙ (ap (λ m. map plain (take m (map seen qs))) i ∙ ap (λ rs. map plain (take (lead kind) (map seen rs))) j) in

@@ -12,15 +12,15 @@ use Rattle.bz_tree.specs.declared.tree.Part.{Part, Row_of-Part, end_of-Part, mor
 use Rattle.bz_tree.specs.declared.tree.Part.TheVariants as p
 use Rattle.bz_tree.specs.Shapes as s
 use Rattle.bz_tree.specs.Shapes.{Fits, Listed, tok, done, has_token}
-use Rattle.bz_tree.specs.Legal.{IsSort, LegalPart, LegalRow}
-use Rattle.bz_tree.specs.Spots.{Spot, Begins, Along, onward, behind_part, GapStands, Stands, AtLeaves, AtRow, AtParts}
+use Rattle.bz_tree.specs.Legal.{IsNonterminal, LegalPart, LegalRow}
+use Rattle.bz_tree.specs.Spots.{Spot, Begins, Along, onward, after_part, GapStands, Stands, AtLeaves, AtRow, AtParts}
 use Rattle.bz_tree.proofs.Balance.{no_such}
 use Rattle.bz_items.specs.Characters.{Bytes, backslash, line_feed, number_sign}
 use Rattle.bz_value.specs.Frames.{frame}
 use Rattle.bz_value.specs.Gaps.{lines_of, all_in}
 use Rattle.bz_value.proofs.Wider.{lines_wider}
 use Rattle.bz_view.specs.View.{seen, seen_row, first_seen_gap}
-use Rattle.bz_view.proofs.InnerParts.{ends_line, is_inner, token_inner, sort_inner, inner_parts, sort_goes, token_goes}
+use Rattle.bz_view.proofs.InnerParts.{ends_line, is_inner, token_inner, nonterminal_inner, inner_parts, nonterminal_goes, token_goes}
 use Rattle.bz_view.proofs.RowParts.{on_twice}
 use Rattle.bz_view.proofs.SeenParts.{node_gap}
 
@@ -67,7 +67,7 @@ Quiet (x ∷ y ∷ z ∷ []) = all_in (seen y).gap ≡ []
 Quiet (x ∷ y ∷ z ∷ u ∷ xs) = (all_in (seen y).gap ≡ []) × (all_in (seen z).gap ≡ []) × Quiet (z ∷ u ∷ xs)
 
 abbrev pub Statements : List Part → Type 0
-Statements xs = Listed (IsSort s.small) s.semicolon true (Fits IsSort (tok s.newline done)) xs
+Statements xs = Listed (IsNonterminal s.small) s.semicolon true (Fits IsNonterminal (tok s.newline done)) xs
 
 -- where comments are as S says, none is before the part if it is along a line
 module _ (S : Spot → Leaf → Type 0) where
@@ -80,15 +80,15 @@ module _ (S : Spot → Leaf → Type 0) where
   quiet_where outer here (x ∷ y ∷ []) e h g at_ = tt
   quiet_where outer here (x ∷ y ∷ z ∷ []) e (h, inl j) g at_ = absurd j.1
   quiet_where outer here (x ∷ y ∷ z ∷ []) e (h, inr w) g at_ =
-      let there : behind_part outer here x ≡ Along = sort_goes s.small x refl h outer here ∙ e in
+      let there : after_part outer here x ≡ Along = nonterminal_goes s.small x refl h outer here ∙ e in
       g.1.0 (token_inner s.semicolon y refl w.0) (subst (λ q. AtLeaves S q y) there at_.1.0)
   quiet_where outer here (x ∷ y ∷ z ∷ u ∷ xs) e (h, inl j) g at_ = absurd j.1
   quiet_where outer here (x ∷ y ∷ z ∷ u ∷ xs) e (h, inr (m, inr j)) g at_ = absurd j.1.1
   quiet_where outer here (x ∷ y ∷ z ∷ u ∷ xs) e (h, inr (m, inl j)) g at_ =
-      let first : behind_part outer here x ≡ onward here = sort_goes s.small x refl h outer here in
-      let there : behind_part outer (behind_part outer here x) y ≡ onward here = token_goes s.semicolon y refl m outer (behind_part outer here x) ∙ (ap onward first ∙ on_twice here) in (
+      let first : after_part outer here x ≡ onward here = nonterminal_goes s.small x refl h outer here in
+      let there : after_part outer (after_part outer here x) y ≡ onward here = token_goes s.semicolon y refl m outer (after_part outer here x) ∙ (ap onward first ∙ on_twice here) in (
         g.1.0 (token_inner s.semicolon y refl m) (subst (λ q. AtLeaves S q y) (first ∙ e) at_.1.0),
-        g.1.1.0 (sort_inner s.small z refl j.0) (subst (λ q. AtLeaves S q z) (there ∙ e) at_.1.1.0),
+        g.1.1.0 (nonterminal_inner s.small z refl j.0) (subst (λ q. AtLeaves S q z) (there ∙ e) at_.1.1.0),
         quiet_where outer (onward here) (z ∷ u ∷ xs) (on_twice here ∙ e) j g.1.1 (subst (λ q. AtParts S outer q (z ∷ u ∷ xs)) there at_.1.1),
       )
 

@@ -10,8 +10,8 @@ use Rattle.bz_value.specs.Comments.{HostComments, no_comments}
 use Rattle.bz_items.specs.Characters.{Bytes}
 use Rattle.bz_value.specs.Gaps.{suffix_in, others_in, all_in, has_newline}
 use Rattle.bz_value.specs.Proper.{is_operator}
-use Rattle.bz_view.specs.View.{Seen, seen, plain, begins_seen_operator, row_exprs, is_split, first_seen_gap, last_gap, items_in, loose_behind}
-use Rattle.bz_view.specs.Walks.{seq_in, loose_from, suffix_behind, above_behind}
+use Rattle.bz_view.specs.View.{Seen, seen, plain, begins_seen_operator, row_exprs, is_split, first_seen_gap, last_gap, items_in, loose_after}
+use Rattle.bz_view.specs.Walks.{seq_in, loose_from, suffix_after, above_after}
 use Rattle.bz_view.proofs.NodeViews.{seen_comments}
 
 -- ---- what is left of the parts
@@ -43,42 +43,42 @@ gap_of_last (x ∷ z ∷ ps) (suc k) y l i = gap_of_last (z ∷ ps) k y (omega a
 
 -- ---- after an item
 
-pub suffix_later : (ps : List Part) (at : ℕ) (g : Bytes) → at + 1 < length ps → g ≡ first_seen_gap (map seen (drop (at + 1) ps)) → suffix_in g ≡ suffix_behind (map seen (drop at ps))
+pub suffix_later : (ps : List Part) (at : ℕ) (g : Bytes) → at + 1 < length ps → g ≡ first_seen_gap (map seen (drop (at + 1) ps)) → suffix_in g ≡ suffix_after (map seen (drop at ps))
 suffix_later ps at g l e =
     let w = two_left ps at (omega arith) in
-    ap suffix_in (e ∙ (ap (λ k. first_seen_gap (map seen (drop k ps))) (add-one at) ∙ ap (λ qs. first_seen_gap (map seen qs)) w.4)) ∙ sym (ap (λ qs. suffix_behind (map seen qs)) w.3)
+    ap suffix_in (e ∙ (ap (λ k. first_seen_gap (map seen (drop k ps))) (add-one at) ∙ ap (λ qs. first_seen_gap (map seen qs)) w.4)) ∙ sym (ap (λ qs. suffix_after (map seen qs)) w.3)
 
-pub suffix_last : (ps : List Part) (at : ℕ) (g : Bytes) → at < length ps → length ps ≤ at + 1 → g ≡ first_seen_gap (map seen (drop at ps)) → suffix_in g ≡ suffix_behind (map seen (drop at ps))
-suffix_last ps at g l k e = let w = one_left ps at l (omega arith) in ap suffix_in (e ∙ ap (λ qs. first_seen_gap (map seen qs)) w.1) ∙ sym (ap (λ qs. suffix_behind (map seen qs)) w.1)
+pub suffix_last : (ps : List Part) (at : ℕ) (g : Bytes) → at < length ps → length ps ≤ at + 1 → g ≡ first_seen_gap (map seen (drop at ps)) → suffix_in g ≡ suffix_after (map seen (drop at ps))
+suffix_last ps at g l k e = let w = one_left ps at l (omega arith) in ap suffix_in (e ∙ ap (λ qs. first_seen_gap (map seen qs)) w.1) ∙ sym (ap (λ qs. suffix_after (map seen qs)) w.1)
 
 pub above_later : (ps : List Part) (at : ℕ) (g h : Bytes) (a b c : List Bytes) → at + 1 < length ps → g ≡ first_seen_gap (map seen (drop at ps)) → h ≡ first_seen_gap (map seen (drop (at + 1) ps)) →
-    a ≡ [] → b ≡ a ++ all_in g → c ≡ b ++ others_in h → c ≡ above_behind (map seen (drop at ps))
+    a ≡ [] → b ≡ a ++ all_in g → c ≡ b ++ others_in h → c ≡ above_after (map seen (drop at ps))
 above_later ps at g h a b c l e f i j k =
     let w = two_left ps at (omega arith) in
     let all : b ≡ all_in (seen w.0).gap = j ∙ (ap (λ t. t ++ all_in g) i ∙ ap all_in (e ∙ ap (λ qs. first_seen_gap (map seen qs)) w.3)) in
     let others : others_in h ≡ others_in (seen w.1).gap = ap others_in (f ∙ (ap (λ k. first_seen_gap (map seen (drop k ps))) (add-one at) ∙ ap (λ qs. first_seen_gap (map seen qs)) w.4)) in
-    k ∙ (ap (λ t. t ++ others_in h) all ∙ (ap (λ t. all_in (seen w.0).gap ++ t) others ∙ sym (ap (λ qs. above_behind (map seen qs)) w.3)))
+    k ∙ (ap (λ t. t ++ others_in h) all ∙ (ap (λ t. all_in (seen w.0).gap ++ t) others ∙ sym (ap (λ qs. above_after (map seen qs)) w.3)))
 
-pub above_last : (ps : List Part) (at : ℕ) (g : Bytes) (a b : List Bytes) → at < length ps → length ps ≤ at + 1 → g ≡ first_seen_gap (map seen (drop at ps)) → a ≡ [] → b ≡ a ++ others_in g → b ≡ above_behind (map seen (drop at ps))
+pub above_last : (ps : List Part) (at : ℕ) (g : Bytes) (a b : List Bytes) → at < length ps → length ps ≤ at + 1 → g ≡ first_seen_gap (map seen (drop at ps)) → a ≡ [] → b ≡ a ++ others_in g → b ≡ above_after (map seen (drop at ps))
 above_last ps at g a b l k e i j =
-    let w = one_left ps at l (omega arith) in j ∙ (ap (λ t. t ++ others_in g) i ∙ (ap others_in (e ∙ ap (λ qs. first_seen_gap (map seen qs)) w.1) ∙ sym (ap (λ qs. above_behind (map seen qs)) w.1)))
+    let w = one_left ps at l (omega arith) in j ∙ (ap (λ t. t ++ others_in g) i ∙ (ap others_in (e ∙ ap (λ qs. first_seen_gap (map seen qs)) w.1) ∙ sym (ap (λ qs. above_after (map seen qs)) w.1)))
 
 -- ---- rows
 
 -- what is loose before a part and in it
-pub loose_more : (at : ℕ) (s : Seen) (ss here : List Seen) (old mid new all : List Bytes) → here ≡ s ∷ ss → ((rest : List Seen) → (mid ++ s.loose) ++ loose_behind rest ≡ old ++ loose_from at (s ∷ rest)) →
+pub loose_more : (at : ℕ) (s : Seen) (ss here : List Seen) (old mid new all : List Bytes) → here ≡ s ∷ ss → ((rest : List Seen) → (mid ++ s.loose) ++ loose_after rest ≡ old ++ loose_from at (s ∷ rest)) →
     new ≡ mid ++ s.loose → old ++ loose_from at here ≡ all → new ++ loose_from (at + 1) ss ≡ all
 loose_more at s ss here old mid new all h gap e j =
-    ap (λ k. new ++ loose_from k ss) (add-one at) ∙ (ap (λ t. t ++ loose_behind ss) e ∙ (gap ss ∙ (ap (λ t. old ++ loose_from at t) (sym h) ∙ j)))
+    ap (λ k. new ++ loose_from k ss) (add-one at) ∙ (ap (λ t. t ++ loose_after ss) e ∙ (gap ss ∙ (ap (λ t. old ++ loose_from at t) (sym h) ∙ j)))
 
 -- the part after the gap
-pub gap_pushed : (at : ℕ) (s : Seen) (old new : List Bytes) (rest : List Seen) → (at ≡ zero → ⊥) → new ≡ old ++ all_in s.gap → (new ++ s.loose) ++ loose_behind rest ≡ old ++ loose_from at (s ∷ rest)
+pub gap_pushed : (at : ℕ) (s : Seen) (old new : List Bytes) (rest : List Seen) → (at ≡ zero → ⊥) → new ≡ old ++ all_in s.gap → (new ++ s.loose) ++ loose_after rest ≡ old ++ loose_from at (s ∷ rest)
 gap_pushed zero s old new rest n e = absurd (n refl)
 gap_pushed (suc at) s old new rest n e =
-    ap (λ t. (t ++ s.loose) ++ loose_behind rest) e ∙ (ap (λ t. t ++ loose_behind rest) (append_assoc old (all_in s.gap) s.loose) ∙ append_assoc old (all_in s.gap ++ s.loose) (loose_behind rest))
+    ap (λ t. (t ++ s.loose) ++ loose_after rest) e ∙ (ap (λ t. t ++ loose_after rest) (append_assoc old (all_in s.gap) s.loose) ∙ append_assoc old (all_in s.gap ++ s.loose) (loose_after rest))
 
-pub gap_outside : (at : ℕ) (s : Seen) (old : List Bytes) (rest : List Seen) → at ≡ zero → (old ++ s.loose) ++ loose_behind rest ≡ old ++ loose_from at (s ∷ rest)
-gap_outside zero s old rest n = append_assoc old s.loose (loose_behind rest)
+pub gap_outside : (at : ℕ) (s : Seen) (old : List Bytes) (rest : List Seen) → at ≡ zero → (old ++ s.loose) ++ loose_after rest ≡ old ++ loose_from at (s ∷ rest)
+gap_outside zero s old rest n = append_assoc old s.loose (loose_after rest)
 gap_outside (suc at) s old rest n = absurd (omega arith)
 
 -- ---- the parts of a row
@@ -163,7 +163,7 @@ pub no_bracket : (ps : List Part) (at lead : ℕ) (old all : List Bytes) → len
 no_bracket ps at lead old all l j = sym (append-nil old) ∙ (ap (λ t. old ++ t) (sym (ap (loose_from at) (head_over ps at (suc lead) l) ∙ no_loose at)) ∙ j)
 
 -- the bracket after them
-pub bracket_more : (ps : List Part) (at lead : ℕ) (y : Part) (old mid new all : List Bytes) → at ≡ lead → lead < length ps → y ≡ get_or ps lead y → ((rest : List Seen) → (mid ++ (seen y).loose) ++ loose_behind rest ≡ old ++ loose_from lead (seen y ∷ rest)) →
+pub bracket_more : (ps : List Part) (at lead : ℕ) (y : Part) (old mid new all : List Bytes) → at ≡ lead → lead < length ps → y ≡ get_or ps lead y → ((rest : List Seen) → (mid ++ (seen y).loose) ++ loose_after rest ≡ old ++ loose_from lead (seen y ∷ rest)) →
     new ≡ mid ++ (seen y).loose → old ++ loose_from at (drop at (take (suc lead) (map seen ps))) ≡ all → new ≡ all
 bracket_more ps at lead y old mid new all a l i gap e j =
     let past : List Seen = drop (lead + 1) (take (suc lead) (map seen ps)) in
@@ -190,11 +190,11 @@ loose_done ps at old all l j = sym (append-nil old) ∙ (ap (λ t. old ++ t) (sy
 -- ---- the items of a sequence
 
 abbrev seq_made : List Expr → List Bytes → Bool → Seq
-seq_made items end_ split = record { items = items; end_ = end_; split = split }
+seq_made items end split = record { items = items; end = end; split = split }
 
 item_step : (above : List Bytes) (s mark : Seen) (ss : List Seen) →
     items_in above (s ∷ mark ∷ ss)
-    ≡ (s.make (record { before = above ++ s.loose; suffix = suffix_behind (mark ∷ ss) }) false ∷ (items_in (above_behind (mark ∷ ss)) ss).0, (items_in (above_behind (mark ∷ ss)) ss).1)
+    ≡ (s.make (record { before = above ++ s.loose; suffix = suffix_after (mark ∷ ss) }) false ∷ (items_in (above_after (mark ∷ ss)) ss).0, (items_in (above_after (mark ∷ ss)) ss).1)
 item_step above s mark [] = refl
 item_step above s mark (t ∷ ss) = refl
 
@@ -205,7 +205,7 @@ no_item above (s ∷ t ∷ ss) l = absurd (omega arith)
 
 -- an item and the mark after it
 pub item_more : (ps : List Part) (at : ℕ) (y : Part) (before above next : List Bytes) (suffix : Option Bytes) (cs : HostComments) (x commented : Expr) (es new all : List Expr) → at + 1 < length ps → y ≡ get_or ps at y →
-    before ≡ above ++ (seen y).loose → suffix ≡ suffix_behind (map seen (drop (at + 1) ps)) → next ≡ above_behind (map seen (drop (at + 1) ps)) → x ≡ (seen y).make no_comments false →
+    before ≡ above ++ (seen y).loose → suffix ≡ suffix_after (map seen (drop (at + 1) ps)) → next ≡ above_after (map seen (drop (at + 1) ps)) → x ≡ (seen y).make no_comments false →
     cs ≡ record { before = before; suffix = suffix } → commented ≡ with_comments x cs → es ++ (items_in above (map seen (drop at ps))).0 ≡ all → new ≡ es ++ commented ∷ [] →
     (new ++ (items_in next (map seen (drop (at + 2) ps))).0 ≡ all) × ((items_in next (map seen (drop (at + 2) ps))).1 ≡ (items_in above (map seen (drop at ps))).1)
 item_more ps at y before above next suffix cs x commented es new all l i b f n e c k j h =
@@ -215,17 +215,17 @@ item_more ps at y before above next suffix cs x commented es new all l i b f n e
     let last : drop (at + 2) ps ≡ w.2 = ap (λ m. drop m ps) two ∙ w.5 in
     let is : y ≡ w.0 = i ∙ first_is ps at y w.0 (w.1 ∷ w.2) w.3 in
     let rest : List Seen = map seen w.2 in
-    let done : Expr = (seen w.0).make (record { before = above ++ (seen w.0).loose; suffix = suffix_behind (map seen (w.1 ∷ w.2)) }) false in
-    let held : cs ≡ record { before = above ++ (seen w.0).loose; suffix = suffix_behind (map seen (w.1 ∷ w.2)) } =
+    let done : Expr = (seen w.0).make (record { before = above ++ (seen w.0).loose; suffix = suffix_after (map seen (w.1 ∷ w.2)) }) false in
+    let held : cs ≡ record { before = above ++ (seen w.0).loose; suffix = suffix_after (map seen (w.1 ∷ w.2)) } =
     c ∙ (ap (λ t. record { before = t; suffix = suffix }) (b ∙ ap (λ z. above ++ (seen z).loose) is)
-    ∙ ap (λ t. record { before = above ++ (seen w.0).loose; suffix = t }) (f ∙ ap (λ qs. suffix_behind (map seen qs)) later)) in
+    ∙ ap (λ t. record { before = above ++ (seen w.0).loose; suffix = t }) (f ∙ ap (λ qs. suffix_after (map seen qs)) later)) in
     let made : commented ≡ done =
     k ∙ (ap (λ t. with_comments t cs) e ∙ (seen_comments y false cs ∙ (ap (λ z. (seen z).make cs false) is ∙ ap (λ t. (seen w.0).make t false) held))) in
-    let step : items_in above (map seen (drop at ps)) ≡ (done ∷ (items_in (above_behind (map seen (w.1 ∷ w.2))) rest).0, (items_in (above_behind (map seen (w.1 ∷ w.2))) rest).1) =
+    let step : items_in above (map seen (drop at ps)) ≡ (done ∷ (items_in (above_after (map seen (w.1 ∷ w.2))) rest).0, (items_in (above_after (map seen (w.1 ∷ w.2))) rest).1) =
     ap (λ qs. items_in above (map seen qs)) w.3 ∙ item_step above (seen w.0) (seen w.1) rest in
-    let left : items_in next (map seen (drop (at + 2) ps)) ≡ items_in (above_behind (map seen (w.1 ∷ w.2))) rest =
-    ap (λ qs. items_in next (map seen qs)) last ∙ ap (λ t. items_in t rest) (n ∙ ap (λ qs. above_behind (map seen qs)) later) in
-    let more : List Expr = (items_in (above_behind (map seen (w.1 ∷ w.2))) rest).0 in (
+    let left : items_in next (map seen (drop (at + 2) ps)) ≡ items_in (above_after (map seen (w.1 ∷ w.2))) rest =
+    ap (λ qs. items_in next (map seen qs)) last ∙ ap (λ t. items_in t rest) (n ∙ ap (λ qs. above_after (map seen qs)) later) in
+    let more : List Expr = (items_in (above_after (map seen (w.1 ∷ w.2))) rest).0 in (
       ap (λ t. new ++ t.0) left
           ∙ (ap (λ t. t ++ more) h ∙ (append_assoc es (commented ∷ []) more ∙ (ap (λ z. es ++ z ∷ more) made ∙ (ap (λ t. es ++ t.0) (sym step) ∙ j)))),
       ap (λ t. t.1) left ∙ sym (ap (λ t. t.1) step),

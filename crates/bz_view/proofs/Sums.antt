@@ -14,7 +14,7 @@ use Rattle.bz_value.specs.Frames.{Frame, row, sequence, frame}
 use Rattle.bz_items.specs.Characters.{Bytes}
 use Rattle.bz_value.specs.Gaps.{GapLine, lines_of, as_list, comments_in, first_comment, after_first_comment, put_on_first, before_groups, groups_of, all_but_last, last_group, suffix_in, others_in, all_in}
 use Rattle.bz_view.specs.View.{Seen, seen, seen_row, seen_node, plain, blocks}
-use Rattle.bz_view.specs.Walks.{form_in}
+use Rattle.bz_view.specs.Walks.{form_of_frame}
 
 module _ (number : Bytes → ℕ) where
   -- ---- gaps
@@ -89,9 +89,9 @@ module _ (number : Bytes → ℕ) where
   -- ---- expressions
 
   -- what is made of a node has its own comments, and what is in it
-  pub node_amount : (f : Frame) (kind : Kind) (ss : List Seen) (cs : HostComments) (b : Bool) → amount number ((seen_node f kind ss).make cs b) ≡ host_amount number cs + inner_amount number (form_in f kind ss no_comments)
-  node_amount row kind ss cs b = form_amount number (form_in row kind ss cs)
-  node_amount (sequence opener closer) kind ss cs b = form_amount number (form_in (sequence opener closer) kind ss cs)
+  pub node_amount : (f : Frame) (kind : Kind) (ss : List Seen) (cs : HostComments) (b : Bool) → amount number ((seen_node f kind ss).make cs b) ≡ host_amount number cs + inner_amount number (form_of_frame f kind ss no_comments)
+  node_amount row kind ss cs b = form_amount number (form_of_frame row kind ss cs)
+  node_amount (sequence opener closer) kind ss cs b = form_amount number (form_of_frame (sequence opener closer) kind ss cs)
 
   -- so do comments and break add no more than these comments
   pub made_amount : (x : Part) (cs : HostComments) (b : Bool) → amount number ((seen x).make cs b) ≡ host_amount number cs + amount number (plain (seen x))

@@ -4,9 +4,9 @@ use Rattle.std.specs.List.{AllByRecursion}
 use Rattle.std.proofs.lemmas.Bool.{false≢true}
 use Rattle.bz_tree.specs.declared.tree.Part.{Part}
 use Rattle.bz_items.specs.Characters.{Bytes, backslash, line_feed, number_sign}
-use Rattle.bz_value.specs.Gaps.{GapLine, lines_of, in_comment, behind_backslash, trimmed, as_list, comments_in, first_comment, after_first_comment, suffix_in, others_in, all_in}
-use Rattle.bz_view.specs.View.{Seen, seen, first_seen_gap, loose_behind}
-use Rattle.bz_view.specs.Walks.{above_behind, is_unsigned, loose_from, suffix_behind}
+use Rattle.bz_value.specs.Gaps.{GapLine, lines_of, in_comment, after_backslash, trimmed, as_list, comments_in, first_comment, after_first_comment, suffix_in, others_in, all_in}
+use Rattle.bz_view.specs.View.{Seen, seen, first_seen_gap, loose_after}
+use Rattle.bz_view.specs.Walks.{above_after, is_unsigned, loose_from, suffix_after}
 use Rattle.bz_view.proofs.RowSteps.{gap_pushed}
 
 abbrev Bare : List GapLine → Type 0
@@ -33,13 +33,13 @@ mutual
   lines_bare (c ∷ g) h =
       let w = both (not (nat_eq c number_sign)) (is_unsigned g) h in
       line_bare (nat_eq c number_sign) (nat_eq c line_feed) (nat_eq c backslash) (record { comment = Some (trimmed (number_sign ∷ (in_comment g).words)); newline = (in_comment g).newline }) (in_comment g).lines
-      (lines_of g) (behind_backslash g) w.0 (lines_bare g w.1) (behind_bare g w.1)
+      (lines_of g) (after_backslash g) w.0 (lines_bare g w.1) (after_bare g w.1)
 
-  behind_bare : (g : Bytes) → is_unsigned g ≡ true → Bare (behind_backslash g)
-  behind_bare [] h = tt
-  behind_bare (c ∷ g) h =
+  after_bare : (g : Bytes) → is_unsigned g ≡ true → Bare (after_backslash g)
+  after_bare [] h = tt
+  after_bare (c ∷ g) h =
       let w = both (not (nat_eq c number_sign)) (is_unsigned g) h in
-      later_bare (nat_eq c line_feed) (lines_of g) (behind_backslash g) (lines_bare g w.1) (behind_bare g w.1)
+      later_bare (nat_eq c line_feed) (lines_of g) (after_backslash g) (lines_bare g w.1) (after_bare g w.1)
 
 comments_bare : (lines : List GapLine) → Bare lines → comments_in lines ≡ []
 comments_bare [] h = refl
@@ -64,12 +64,12 @@ suffix_quiet g h = first_bare (lines_of g) (lines_bare g h)
 
 -- ---- after an item, from its mark on
 
-above_at : (ss : List Seen) → is_unsigned (first_seen_gap ss) ≡ true → is_unsigned (first_seen_gap (drop 1 ss)) ≡ true → above_behind ss ≡ []
+above_at : (ss : List Seen) → is_unsigned (first_seen_gap ss) ≡ true → is_unsigned (first_seen_gap (drop 1 ss)) ≡ true → above_after ss ≡ []
 above_at [] h k = refl
 above_at (mark ∷ []) h k = others_quiet mark.gap h
 above_at (mark ∷ t ∷ ss) h k = ap (λ texts. texts ++ others_in t.gap) (all_quiet mark.gap h) ∙ others_quiet t.gap k
 
-suffix_at : (ss : List Seen) → is_unsigned (first_seen_gap ss) ≡ true → is_unsigned (first_seen_gap (drop 1 ss)) ≡ true → suffix_behind ss ≡ None
+suffix_at : (ss : List Seen) → is_unsigned (first_seen_gap ss) ≡ true → is_unsigned (first_seen_gap (drop 1 ss)) ≡ true → suffix_after ss ≡ None
 suffix_at [] h k = refl
 suffix_at (mark ∷ []) h k = suffix_quiet mark.gap h
 suffix_at (mark ∷ t ∷ ss) h k = suffix_quiet t.gap k
@@ -80,11 +80,11 @@ next_gap [] (suc at) = refl
 next_gap (x ∷ ps) zero = refl
 next_gap (x ∷ ps) (suc at) = next_gap ps at
 
-abbrev pub quiet_behind : List Part → ℕ → Bool
-quiet_behind ps at = is_unsigned (first_seen_gap (map seen (drop at ps))) && is_unsigned (first_seen_gap (map seen (drop (at + 1) ps)))
+abbrev pub quiet_after : List Part → ℕ → Bool
+quiet_after ps at = is_unsigned (first_seen_gap (map seen (drop at ps))) && is_unsigned (first_seen_gap (map seen (drop (at + 1) ps)))
 
-pub nothing_behind : (ps : List Part) (at : ℕ) → quiet_behind ps at ≡ true → (above_behind (map seen (drop at ps)) ≡ []) × (suffix_behind (map seen (drop at ps)) ≡ None)
-nothing_behind ps at h =
+pub nothing_after : (ps : List Part) (at : ℕ) → quiet_after ps at ≡ true → (above_after (map seen (drop at ps)) ≡ []) × (suffix_after (map seen (drop at ps)) ≡ None)
+nothing_after ps at h =
     let w = both (is_unsigned (first_seen_gap (map seen (drop at ps)))) (is_unsigned (first_seen_gap (map seen (drop (at + 1) ps)))) h in
     let next : is_unsigned (first_seen_gap (drop 1 (map seen (drop at ps)))) ≡ true =
     subst (λ (g : Bytes). is_unsigned g ≡ true) (ap (λ k. first_seen_gap (map seen (drop k ps))) (add-one at) ∙ next_gap ps at) w.1 in
@@ -93,7 +93,7 @@ nothing_behind ps at h =
 -- ---- before a part of a row
 
 pub gap_quiet : (at : ℕ) (s : Seen) (gap : Bytes) (quiet : Bool) (old : List Bytes) (rest : List Seen) → (at ≡ zero → ⊥) → gap ≡ s.gap → quiet ≡ is_unsigned gap → quiet ≡ true →
-    (old ++ s.loose) ++ loose_behind rest ≡ old ++ loose_from at (s ∷ rest)
+    (old ++ s.loose) ++ loose_after rest ≡ old ++ loose_from at (s ∷ rest)
 gap_quiet at s gap quiet old rest n g q t =
     let none : all_in s.gap ≡ [] = all_quiet s.gap (ap is_unsigned (sym g) ∙ (sym q ∙ t)) in
     gap_pushed at s old old rest n (sym (ap (λ texts. old ++ texts) none ∙ append-nil old))

@@ -37,14 +37,14 @@ begins_seen_operator (s ∷ ss) = is_operator (plain s)
 -- ---- comments of what is no host: they go up to the innermost host or sequence around it
 
 -- after the first part, the gaps between parts and what is loose in the parts
-abbrev pub loose_behind : List Seen → List Bytes
-loose_behind [] = []
-loose_behind (s ∷ ss) = all_in s.gap ++ s.loose ++ loose_behind ss
+abbrev pub loose_after : List Seen → List Bytes
+loose_after [] = []
+loose_after (s ∷ ss) = all_in s.gap ++ s.loose ++ loose_after ss
 
 -- the gap before the first part is outside
 abbrev pub loose_in : List Seen → List Bytes
 loose_in [] = []
-loose_in (s ∷ ss) = s.loose ++ loose_behind ss
+loose_in (s ∷ ss) = s.loose ++ loose_after ss
 
 -- ---- rows
 
@@ -95,8 +95,8 @@ abbrev pub row_form : Kind → List Seen → HostComments → Expr
 row_form kind ss comments = e.Form (record {
   kind = kind;
   parts = row_exprs (is_binary kind) false false ss;
-  seq = record { items = []; end_ = []; split = false };
-  open_ = is_comprehension kind && is_open ss;
+  seq = record { items = []; end = []; split = false };
+  open_break = is_comprehension kind && is_open ss;
   comments = comments;
 })
 
@@ -106,8 +106,8 @@ sequence_form kind head body comments =
     e.Form (record {
       kind = kind;
       parts = map plain head;
-      seq = record { items = found.0; end_ = found.1; split = is_split body };
-      open_ = false;
+      seq = record { items = found.0; end = found.1; split = is_split body };
+      open_break = false;
       comments = comments;
     })
 
@@ -122,7 +122,7 @@ seen_node (sequence opener closer) kind ss = record {
 }
 
 abbrev pub leaf_seen : Leaf → Seen
-leaf_seen l = record { make = λ comments break. e.Token (record { class = l.class; text = l.token; break_ = break; comments = comments }); gap = l.gap; loose = [] }
+leaf_seen l = record { make = λ comments break. e.Token (record { class = l.class; text = l.token; line_break = break; comments = comments }); gap = l.gap; loose = [] }
 
 abbrev mutual
   pub seen : Part → Seen

@@ -5,7 +5,7 @@ ghost use Rattle.bz_value.specs.Proper.{is_operator};
 ghost use Rattle.bz_view.specs.View.{begins_seen_operator, first_seen_gap, is_split, last_gap, plain, seen};
 
 use bz_tree::Part;
-use bz_value::{has_newline, is_sign};
+use bz_value::{has_newline, is_operator_class};
 
 /// The gap before the first token of a part.
 pub fn gap_before(part: &Part) -> &[u8]
@@ -64,7 +64,7 @@ fn is_operator(part: &Part) -> bool
     ensures { result ≡ is_operator (plain (seen part.now)) }
 {
     match part {
-        Part::Leaf(leaf) => is_sign(leaf.class),
+        Part::Leaf(leaf) => is_operator_class(leaf.class),
         Part::Node(_) => false,
     }
 }

@@ -2,11 +2,11 @@
 ghost use Rattle.std.specs.Prelude.{◌≡◌, [], ◌∷◌, ◌++◌, ◌<◌, List, length, map, drop, IfOk, OnOk};
 ghost use Rattle.bz_value.specs.declared.value.Expr.{Expr};
 ghost use Rattle.bz_value.specs.Commented.{with_comments};
-ghost use Rattle.bz_value.specs.Gaps.{suffix_in as suffix_told};
+ghost use Rattle.bz_value.specs.Gaps.{suffix_in as suffix_decoded};
 ghost use Rattle.bz_view.specs.View.{seen};
-ghost use Rattle.bz_view.specs.Walks.{above_behind, suffix_behind};
+ghost use Rattle.bz_view.specs.Walks.{above_after, suffix_after};
 
-use crate::marks::{above_next, gap_behind};
+use crate::marks::{above_next, gap_after_item};
 use bz_items::{Items, Memory, Text};
 use bz_tree::Part;
 use bz_value::{Comments, Expr, suffix_in};
@@ -20,7 +20,7 @@ pub(crate) fn commented(
     above: Items<Text>,
     gap: &[u8],
 ) -> Result<Expr, Memory>
-    ensures { IfOk result (λ host. host ≡ with_comments expr (record { before = above; suffix = suffix_told gap.now })) }
+    ensures { IfOk result (λ host. host ≡ with_comments expr (record { before = above; suffix = suffix_decoded gap.now })) }
 {
     // The expression is dropped by calls: by the end of its scope, each form of it would be a path of this proof.
     let suffix = match suffix_in(alloc, gap) {
@@ -49,9 +49,9 @@ pub(crate) fn comment_last(
     items: &mut Vec<Expr>,
 ) -> Result<(), Memory>
     requires { at < length parts.now }
-    ensures above { OnOk result (above.new ≡ above_behind (map seen (drop at parts.now))) }
+    ensures above { OnOk result (above.new ≡ above_after (map seen (drop at parts.now))) }
     ensures items { OnOk result ((xs : List Expr) (x : Expr) → items.old.items ≡ xs ++ x ∷ []
-        → items.new.items ≡ xs ++ with_comments x (record { before = above.old; suffix = suffix_behind (map seen (drop at parts.now)) }) ∷ []) }
+        → items.new.items ≡ xs ++ with_comments x (record { before = above.old; suffix = suffix_after (map seen (drop at parts.now)) }) ∷ []) }
 {
     let next = above_next(alloc, parts, at)?;
     let before = mem::replace(above, next);
@@ -59,7 +59,7 @@ pub(crate) fn comment_last(
     let Some(expr) = items.pop() else {
         return Err(AllocError);
     };
-    let host = commented(alloc, expr, before, gap_behind(parts, at))?;
+    let host = commented(alloc, expr, before, gap_after_item(parts, at))?;
     items.push_reserved(host);
     Ok(())
 }

@@ -3,11 +3,11 @@ ghost use Rattle.std.specs.Prelude.{◌≡◌, [], ◌∷◌, ◌++◌, ◌+◌,
 ghost use Rattle.bz_value.specs.Comments.{no_comments};
 ghost use Rattle.bz_value.specs.Frames.{frame};
 ghost use Rattle.bz_view.specs.View.{items_in, loose_in, plain, row_exprs, seen};
-ghost use Rattle.bz_view.specs.Walks.{form_in, loose_of, seq_in};
+ghost use Rattle.bz_view.specs.Walks.{form_of_frame, loose_of, seq_in};
 
 use crate::before::{breaks_from, gap_at, is_operator_in};
 use crate::commented::comment_last;
-use crate::marks::{before_operator, breaks_behind, is_quiet_behind, opens, push_gap};
+use crate::marks::{before_operator, breaks_after, is_quiet_after, opens, push_gap};
 use bz_items::{Items, Memory, Text};
 use bz_tree::{Node, Part};
 use bz_value::{Comments, Expr, Form, Seq, Token, is_binary, is_sequence, lead_of, push_all};
@@ -18,17 +18,17 @@ use std::alloc::Global;
 pub fn expr_of(
     alloc: Global,
     part: &Part,
-    break_: bool,
+    line_break: bool,
     loose: &mut Items<Text>,
 ) -> Result<Expr, Memory>
-    ensures expr { IfOk result (λ expr. expr ≡ (seen part.now).make no_comments break_) }
+    ensures expr { IfOk result (λ expr. expr ≡ (seen part.now).make no_comments line_break) }
     ensures loose { OnOk result (loose.new ≡ loose.old ++ (seen part.now).loose) }
 {
     match part {
         Part::Leaf(leaf) => Ok(Expr::Token(Token {
             class: leaf.class,
             text: leaf.token.copy()?,
-            break_,
+            line_break,
             comments: Comments::none(),
         })),
         Part::Node(node) => Ok(Expr::Form(form_of(alloc, node, loose)?)),
@@ -41,11 +41,11 @@ pub fn expr_of(
 fn push_expr(
     alloc: Global,
     part: &Part,
-    break_: bool,
+    line_break: bool,
     loose: &mut Items<Text>,
     exprs: &mut Vec<Expr>,
 ) -> Result<(), Memory>
-    ensures exprs { OnOk result (exprs.new.items ≡ exprs.old.items ++ (seen part.now).make no_comments break_ ∷ []) }
+    ensures exprs { OnOk result (exprs.new.items ≡ exprs.old.items ++ (seen part.now).make no_comments line_break ∷ []) }
     ensures loose { OnOk result (loose.new ≡ loose.old ++ (seen part.now).loose) }
 {
     match part {
@@ -55,7 +55,7 @@ fn push_expr(
             exprs.push_reserved(Expr::Token(Token {
                 class: leaf.class,
                 text,
-                break_,
+                line_break,
                 comments: Comments::none(),
             }));
             Ok(())
@@ -74,7 +74,7 @@ fn push_form(
     loose: &mut Items<Text>,
     exprs: &mut Vec<Expr>,
 ) -> Result<(), Memory>
-    ensures exprs { OnOk result (exprs.new.items ≡ exprs.old.items ++ Expr.Form (form_in (frame node.now.kind) node.now.kind (map seen node.now.parts) no_comments) ∷ []) }
+    ensures exprs { OnOk result (exprs.new.items ≡ exprs.old.items ++ Expr.Form (form_of_frame (frame node.now.kind) node.now.kind (map seen node.now.parts) no_comments) ∷ []) }
     ensures loose { OnOk result (loose.new ≡ loose.old ++ loose_of (frame node.now.kind) node.now.kind (map seen node.now.parts)) }
 {
     exprs.reserve(1)?;
@@ -86,7 +86,7 @@ fn push_form(
 #[cycle(seen)]
 #[inline(always)]
 fn form_of(alloc: Global, node: &Node, loose: &mut Items<Text>) -> Result<Form, Memory>
-    ensures form { IfOk result (λ form. form ≡ form_in (frame node.now.kind) node.now.kind (map seen node.now.parts) no_comments) }
+    ensures form { IfOk result (λ form. form ≡ form_of_frame (frame node.now.kind) node.now.kind (map seen node.now.parts) no_comments) }
     ensures loose { OnOk result (loose.new ≡ loose.old ++ loose_of (frame node.now.kind) node.now.kind (map seen node.now.parts)) }
 {
     let kind = node.kind;
@@ -97,10 +97,10 @@ fn form_of(alloc: Global, node: &Node, loose: &mut Items<Text>) -> Result<Form, 
             parts: row_of(alloc, parts, is_binary(kind), loose)?,
             seq: Seq {
                 items: Items::new(alloc),
-                end_: Items::new(alloc),
+                end: Items::new(alloc),
                 split: false,
             },
-            open_: opens(kind, parts),
+            open_break: opens(kind, parts),
             comments: Comments::none(),
         });
     }
@@ -109,7 +109,7 @@ fn form_of(alloc: Global, node: &Node, loose: &mut Items<Text>) -> Result<Form, 
         kind,
         parts: head_of(alloc, parts, lead, loose)?,
         seq: seq_of(alloc, parts, lead + 1)?,
-        open_: false,
+        open_break: false,
         comments: Comments::none(),
     })
 }
@@ -135,8 +135,8 @@ pub fn row_of(
         operator = is_operator_in(binary, part);
         // what is before an operand is not looked for: it can be deep in there
         newline = operator && before_operator(parts, at, inside, newline);
-        let break_ = breaks_behind(operator, newline, parts, at + 1);
-        push_expr(alloc, part, break_, loose, &mut exprs)?;
+        let line_break = breaks_after(operator, newline, parts, at + 1);
+        push_expr(alloc, part, line_break, loose, &mut exprs)?;
     }
     Ok(Items::from_vec(exprs))
 }
@@ -194,10 +194,10 @@ fn push_host(
 ) -> Result<(), Memory>
     requires { at + 1 < length parts.now }
     ensures items { OnOk result (items.new.items ++ (items_in above.new (map seen (drop (at + 2) parts.now))).0 ≡ items.old.items ++ (items_in above.old (map seen (drop at parts.now))).0) }
-    ensures end_ { OnOk result ((items_in above.new (map seen (drop (at + 2) parts.now))).1 ≡ (items_in above.old (map seen (drop at parts.now))).1) }
+    ensures end { OnOk result ((items_in above.new (map seen (drop (at + 2) parts.now))).1 ≡ (items_in above.old (map seen (drop at parts.now))).1) }
 {
     push_expr(alloc, &parts[at], false, above, items)?;
-    if above.is_empty() && is_quiet_behind(parts, at + 1) {
+    if above.is_empty() && is_quiet_after(parts, at + 1) {
         return Ok(());
     }
     comment_last(alloc, parts, at + 1, above, items)?;
@@ -222,7 +222,7 @@ pub fn seq_of(alloc: Global, parts: &[Part], from: usize) -> Result<Seq, Memory>
     }
     Ok(Seq {
         items: Items::from_vec(items),
-        end_: above,
+        end: above,
         split: breaks_from(parts, from),
     })
 }

@@ -7,14 +7,14 @@ ghost use Rattle.bz_value.specs.Gaps.{after_first_comment, lines_of};
 ghost use Rattle.bz_view.specs.Joined.{EndInNewline, EndsWithLine};
 
 use bz_tree::{Leaf, Part, Tree};
-use bz_value::behind_first_line;
+use bz_value::past_first_line;
 
 fn is_closed(newline: &Leaf) -> bool
     ensures token { IsTrue result → newline.now.token ≡ line_feed ∷ [] }
     ensures left { IsTrue result → after_first_comment (lines_of newline.now.gap) ≡ [] }
 {
     newline.token.as_slice() == b"\n".as_slice()
-        && behind_first_line(newline.gap.as_slice()).is_empty()
+        && past_first_line(newline.gap.as_slice()).is_empty()
 }
 
 /// Whether a line ends with a newline that is a line feed, in whose gap no newline is escaped.

@@ -2,8 +2,8 @@
 ghost use Rattle.std.specs.Prelude.{◌≡◌, ◌∷◌, ◌++◌, ◌+◌, ◌<◌, ◌&&◌, ◌||◌, not, map, drop, length, if◌then◌else◌, List, IfOk, OnOk};
 ghost use Rattle.bz_value.specs.Frames.{is_comprehension};
 ghost use Rattle.bz_value.specs.Gaps.{all_in, has_newline, suffix_in};
-ghost use Rattle.bz_view.specs.View.{Seen, begins_seen_operator, first_seen_gap, is_open, loose_behind, seen};
-ghost use Rattle.bz_view.specs.Walks.{above_behind, is_unsigned, loose_from, suffix_behind};
+ghost use Rattle.bz_view.specs.View.{Seen, begins_seen_operator, first_seen_gap, is_open, loose_after, seen};
+ghost use Rattle.bz_view.specs.Walks.{above_after, is_unsigned, loose_from, suffix_after};
 
 use crate::before::{breaks_before, gap_at, gap_before, is_operator_at};
 use bz_items::{Items, Memory, Text};
@@ -27,7 +27,7 @@ pub fn push_gap(
     at: usize,
     loose: &mut Items<Text>,
 ) -> Result<(), Memory>
-    ensures { OnOk result ((rest : List Seen) → (loose.new ++ (seen part.now).loose) ++ loose_behind rest ≡ loose.old ++ loose_from at (seen part.now ∷ rest)) }
+    ensures { OnOk result ((rest : List Seen) → (loose.new ++ (seen part.now).loose) ++ loose_after rest ≡ loose.old ++ loose_from at (seen part.now ∷ rest)) }
 {
     if at == 0 {
         return Ok(());
@@ -53,7 +53,7 @@ pub fn before_operator(parts: &[Part], at: usize, inside: bool, newline: bool) -
 
 /// Whether a token of an operator breaks after which the part with this index is: it is the operator's last token,
 /// and a newline is before the operator or before this part.
-pub fn breaks_behind(operator: bool, newline: bool, parts: &[Part], at: usize) -> bool
+pub fn breaks_after(operator: bool, newline: bool, parts: &[Part], at: usize) -> bool
     ensures { result ≡ ((operator && not (begins_seen_operator (map seen (drop at parts.now)))) && (newline || has_newline (first_seen_gap (map seen (drop at parts.now))))) }
 {
     operator && !is_operator_at(parts, at) && (newline || breaks_before(parts, at))
@@ -68,9 +68,9 @@ pub fn opens(kind: Kind, parts: &[Part]) -> bool
 
 /// After an item of a sequence, where this index is that of its comma or of the closing bracket: the gap that its suffix
 /// is in, after its comma if it has one.
-pub fn gap_behind(parts: &[Part], at: usize) -> &[u8]
+pub fn gap_after_item(parts: &[Part], at: usize) -> &[u8]
     requires { at < length parts.now }
-    ensures { suffix_in result.now ≡ suffix_behind (map seen (drop at parts.now)) }
+    ensures { suffix_in result.now ≡ suffix_after (map seen (drop at parts.now)) }
 {
     let next = at + 1;
     if next < parts.len() {
@@ -83,7 +83,7 @@ pub fn gap_behind(parts: &[Part], at: usize) -> &[u8]
 /// next item, or at the end. The error: memory was refused.
 pub fn above_next(alloc: Global, parts: &[Part], at: usize) -> Result<Items<Text>, Memory>
     requires { at < length parts.now }
-    ensures { IfOk result (λ above. above ≡ above_behind (map seen (drop at parts.now))) }
+    ensures { IfOk result (λ above. above ≡ above_after (map seen (drop at parts.now))) }
 {
     let mut above = Items::new(alloc);
     let next = at + 1;
@@ -98,7 +98,7 @@ pub fn above_next(alloc: Global, parts: &[Part], at: usize) -> Result<Items<Text
 
 /// After an item of a sequence, where this index is that of its comma or of the closing bracket: whether it is seen at a glance that
 /// no comment is before that and before what follows it.
-pub fn is_quiet_behind(parts: &[Part], at: usize) -> bool
+pub fn is_quiet_after(parts: &[Part], at: usize) -> bool
     requires { at < length parts.now }
     ensures { result ≡ (is_unsigned (first_seen_gap (map seen (drop at parts.now))) && is_unsigned (first_seen_gap (map seen (drop (at + 1) parts.now)))) }
 {

@@ -7,7 +7,7 @@ ghost use Rattle.bz_items.specs.Characters.{Bytes};
 ghost use Rattle.bz_view.specs.Kept.{occurrences};
 ghost use Rattle.bz_view.specs.View.{file_items, view_of};
 
-use crate::viewing::push_line;
+use crate::viewing::push_line_items;
 use bz_items::{Items, Memory, Text};
 use bz_tree::{Part, Tree};
 use bz_value::{File, Item};
@@ -47,7 +47,7 @@ fn push_last(
 ) -> Result<Text, Memory>
     ensures { IfOk result (λ rest. (xs : List Part) → items.new ++ file_items (lines_of rest) xs ≡ items.old ++ file_items (lines_of left.now) (line ∷ xs)) }
 {
-    let rest = match push_line(alloc, left, &line, items) {
+    let rest = match push_line_items(alloc, left, &line, items) {
         Ok(rest) => Text::from_slice(alloc, rest),
         Err(fault) => Err(fault),
     };

@@ -14,7 +14,7 @@ use crate::expr::expr_of;
 use crate::groups::{push_all_groups, push_groups};
 use bz_items::{Items, Memory, Text};
 use bz_tree::{Part, Tree};
-use bz_value::{File, Item, behind_first_line};
+use bz_value::{File, Item, past_first_line};
 use std::alloc::Global;
 
 /// The file value of a tree: its statements without gaps, each comment at its host, and as often in the value as in the tree's
@@ -35,14 +35,14 @@ fn items_of(alloc: Global, lines: &[Part]) -> Result<Items<Item>, Memory>
     let mut items = Items::new(alloc);
     let mut left: &[u8] = &[];
     for line in lines {
-        left = push_line(alloc, left, line, &mut items)?;
+        left = push_line_items(alloc, left, line, &mut items)?;
     }
     Ok(items)
 }
 
 /// Appends the items of a line, or those of the end, where `left` is what the gap of the Newline before says after its
 /// first line. Returns the same of the line's own Newline.
-pub fn push_line<'a>(
+pub fn push_line_items<'a>(
     alloc: Global,
     left: &[u8],
     line: &'a Part,
@@ -59,7 +59,7 @@ pub fn push_line<'a>(
             let parts = line.parts.as_slice();
             let above = push_groups(alloc, left, gap_at(parts, 0), items)?;
             push_statements(alloc, parts, above, items)?;
-            Ok(behind_first_line(gap_of_last(parts)))
+            Ok(past_first_line(gap_of_last(parts)))
         }
     }
 }

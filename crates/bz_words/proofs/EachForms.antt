@@ -29,7 +29,7 @@ each_end form all front made left so_far none is =
     ap Some (is ∙ sym (append-nil front)) ∙ (ap (λ words. with_front front (each_of form words)) (sym none) ∙ so_far)
 
 pub none_left : (words : List Bytes) (at : ℕ) → length words ≤ at → drop at words ≡ []
-none_left words at behind = drop_all at words behind
+none_left words at following = drop_all at words following
 
 -- a word that is nothing
 pub each_none : {X : Type 0} (form : Bytes → Option X) (all : Option (List X)) (front : List X) (left : List Bytes) (word : Bytes) (rest : List Bytes)

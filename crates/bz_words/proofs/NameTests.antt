@@ -30,8 +30,8 @@ otherwise t x y e h = rw e h
 abbrev is_high_character : ℕ → ℕ → Bool
 is_high_character b c = is_high b && is_high c && not (b == 187 && c == 191)
 
-behind : (b c : ℕ) (s : Bytes) → is_high_character b c ≡ true → IsLetters s → IsLetters (239 ∷ b ∷ c ∷ s)
-behind b c s h l =
+following : (b c : ℕ) (s : Bytes) → is_high_character b c ≡ true → IsLetters s → IsLetters (239 ∷ b ∷ c ∷ s)
+following b c s h l =
     let w = and_parts (is_high b && is_high c) (not (b == 187 && c == 191)) h in
     let v = and_parts (is_high b) (is_high c) w.0 in
     three v.0 v.1 (not-true (b == 187 && c == 191) w.1) l
@@ -44,7 +44,7 @@ letters_of (a ∷ b ∷ c ∷ s) h =
     elim (either (a == 239) (is_high_character b c && are_letters s) (is_plain_letter a && are_letters (b ∷ c ∷ s)) h) [
       | inl w ↦
           let v = and_parts (is_high_character b c) (are_letters s) w.1 in
-          subst (λ (x : ℕ). IsLetters (x ∷ b ∷ c ∷ s)) (sym (eqb-true a 239 w.0)) (behind b c s v.0 (letters_of s v.1))
+          subst (λ (x : ℕ). IsLetters (x ∷ b ∷ c ∷ s)) (sym (eqb-true a 239 w.0)) (following b c s v.0 (letters_of s v.1))
       | inr w ↦
           let v = and_parts (is_plain_letter a) (are_letters (b ∷ c ∷ s)) w.1 in
           one_more v.0 (letters_of (b ∷ c ∷ s) v.1)

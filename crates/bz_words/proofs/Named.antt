@@ -18,7 +18,7 @@ Table = List (Bytes × (List Bytes → ReadCommand))
 -- what is read by the name of a command is what is read by this one
 pub by_name : (name known : Bytes) (words : List Bytes) (result : ReadCommand) → name ≡ known → IsReadAs (command_in true (known ∷ words)) result
     → IsReadAs (command_in true (name ∷ words)) result
-by_name name known words result is told = subst (λ (n : Bytes). IsReadAs (command_in true (n ∷ words)) result) (sym is) told
+by_name name known words result is answered = subst (λ (n : Bytes). IsReadAs (command_in true (n ∷ words)) result) (sym is) answered
 
 -- ---- a name that is not
 
@@ -43,17 +43,17 @@ unknown name words other = inl (inl (ap (λ found. option_map_or (λ reader. rea
 -- ---- a text that is too long
 
 -- what is answered by whether the name is in the table
-abbrev told : Bool → ReadCommand
-told true = Err Arguments
-told false = Err Unknown
+abbrev answered : Bool → ReadCommand
+answered true = Err Arguments
+answered false = Err Unknown
 
-told_by : (table : Table) (name : Bytes) (words : List Bytes)
-    → option_map_or (λ reader. if false then reader words else Err Arguments) (row_named table name) (Err Unknown) ≡ told (list_any (bytes_eq name) (map (λ command. command.0) table))
-told_by [] name words = refl
-told_by (command ∷ table) name words = elim (cases_Bool (bytes_eq name command.0)) [
+answered_by : (table : Table) (name : Bytes) (words : List Bytes)
+    → option_map_or (λ reader. if false then reader words else Err Arguments) (row_named table name) (Err Unknown) ≡ answered (list_any (bytes_eq name) (map (λ command. command.0) table))
+answered_by [] name words = refl
+answered_by (command ∷ table) name words = elim (cases_Bool (bytes_eq name command.0)) [
   | inl e ↦ rw e refl
-  | inr e ↦ rw e (told_by table name words)
+  | inr e ↦ rw e (answered_by table name words)
 ]
 
-pub too_long : (name : Bytes) (words : List Bytes) (known : Bool) → known ≡ list_any (bytes_eq name) command_names → command_in false (name ∷ words) ≡ told known
-too_long name words known is = told_by commands name words ∙ ap told (sym is)
+pub too_long : (name : Bytes) (words : List Bytes) (known : Bool) → known ≡ list_any (bytes_eq name) command_names → command_in false (name ∷ words) ≡ answered known
+too_long name words known is = answered_by commands name words ∙ ap answered (sym is)

@@ -105,15 +105,15 @@ host_proper (attribute ∷ value ∷ more ∷ words) u = tt
 abbrev AreCut : List Bytes × Bytes → Type 0
 AreCut parts = AreUtf8 parts.0 × IsUtf8 parts.1
 
-behind_word : (word : Bytes) (parts : Option (List Bytes × Bytes)) → IsUtf8 word → IfSome parts AreCut
+after_word : (word : Bytes) (parts : Option (List Bytes × Bytes)) → IsUtf8 word → IfSome parts AreCut
     → IfSome (option_map (λ both. (word ∷ both.0, both.1)) parts) AreCut
-behind_word word None u h = tt
-behind_word word (Some both) u h = ((u, h.0), h.1)
+after_word word None u h = tt
+after_word word (Some both) u h = ((u, h.0), h.1)
 
 last_proper : (words : List Bytes) → AreUtf8 words → IfSome (c.split_last words) AreCut
 last_proper [] u = tt
 last_proper (word ∷ []) u = (tt, u.0)
-last_proper (word ∷ next ∷ words) u = behind_word word (c.split_last (next ∷ words)) u.0 (last_proper (next ∷ words) u.1)
+last_proper (word ∷ next ∷ words) u = after_word word (c.split_last (next ∷ words)) u.0 (last_proper (next ∷ words) u.1)
 
 comment_from : (parts : Option (List Bytes × Bytes)) → IfSome parts AreCut → ReadsProper (option_map_or (λ both. said both.0 both.1) parts (Err Arguments))
 comment_from None h = tt

@@ -70,5 +70,5 @@ two_words_proper operation make (attribute ∷ first ∷ second ∷ more ∷ wor
 -- the word after the attributes
 pub first_utf8 : (words : List Bytes) (attributes : Attributes) (first second : Bytes) → AreUtf8 words
     → ((operation : Attributes → Bytes → Bytes → Operation) → c.attributes_words_of operation words ≡ Ok (operation attributes first second)) → IsUtf8 first
-first_utf8 words attributes first second u told =
-    (subst ReadsProper (told (λ a x y. w.Value (wv.Replace a x y))) (two_words_proper (λ a x y. w.Value (wv.Replace a x y)) (λ a x y i j k. (i, j, k)) words u)).1
+first_utf8 words attributes first second u answered =
+    (subst ReadsProper (answered (λ a x y. w.Value (wv.Replace a x y))) (two_words_proper (λ a x y. w.Value (wv.Replace a x y)) (λ a x y i j k. (i, j, k)) words u)).1

@@ -60,5 +60,5 @@ quoted_turn word at d before after within so_far more =
 
 -- the mark after the whole word
 pub quoted_end : (word : Bytes) (at : ℕ) (before after : Bytes) → length word ≤ at → before ≡ quotation_mark ∷ flat_map escaped (take at word) → after ≡ before ++ quotation_mark ∷ [] → after ≡ quoted_of word
-quoted_end word at before after behind so_far more =
-    more ∙ ap (λ (t : Bytes). t ++ quotation_mark ∷ []) (so_far ∙ ap (λ (t : Bytes). quotation_mark ∷ flat_map escaped t) (take_all at word behind))
+quoted_end word at before after following so_far more =
+    more ∙ ap (λ (t : Bytes). t ++ quotation_mark ∷ []) (so_far ∙ ap (λ (t : Bytes). quotation_mark ∷ flat_map escaped t) (take_all at word following))

@@ -92,9 +92,9 @@ module _ (names : Names) (group : ℕ → List ℕ) (groups : (n : ℕ) → IsUt
   group_text (Some n) = groups n
 
   -- what follows a reference is a text
-  behind_name : (t : List ℕ) → IsUtf8 t → IfSome (name_at t) (λ (reference : List ℕ × ℕ). IsUtf8 (drop reference.1 t))
+  after_name : (t : List ℕ) → IsUtf8 t → IfSome (name_at t) (λ (reference : List ℕ × ℕ). IsUtf8 (drop reference.1 t))
   unfolding name_at
-  behind_name t u =
+  after_name t u =
       let P : Option (List ℕ × ℕ) → Type 0 = λ o. IfSome o (λ (reference : List ℕ × ℕ). IsUtf8 (drop reference.1 t)) in
       let inside : ℕ = prefix_len (λ b. not (b == 125)) (drop 1 t) in
       let bare : ℕ = prefix_len is_name_byte t in
@@ -146,29 +146,29 @@ module _ (names : Names) (group : ℕ → List ℕ) (groups : (n : ℕ) → IsUt
       IsUtf8-append front _ f (IsUtf8-append (text_or_nothing names group (group_called names reference.0)) (written_after names group t reference.1) (group_text (group_called names reference.0))
       (subst IsUtf8 (sym (passed t reference.1)) (keeps (drop reference.1 t) (omega arith) h)))
 
-  written_behind : (n : ℕ) (front t : List ℕ) → length t ≤ n → IsUtf8 (front ++ t) → IsUtf8 (front ++ written_after names group t 0)
-  written_behind n front [] le u = subst (λ (x : List ℕ). IsUtf8 (front ++ x)) (sym nothing) u
-  written_behind zero front (b ∷ t) le u = absurd (omega arith)
-  written_behind (suc n) front (b ∷ t) le u = elim (cases_Bool (b == 36)) [
+  written_following : (n : ℕ) (front t : List ℕ) → length t ≤ n → IsUtf8 (front ++ t) → IsUtf8 (front ++ written_after names group t 0)
+  written_following n front [] le u = subst (λ (x : List ℕ). IsUtf8 (front ++ x)) (sym nothing) u
+  written_following zero front (b ∷ t) le u = absurd (omega arith)
+  written_following (suc n) front (b ∷ t) le u = elim (cases_Bool (b == 36)) [
     | inl yes_it ↦
         let same : b ≡ 36 = eqb-true b 36 yes_it in
         let w = beside_ascii front b t (omega arith) u in
         let short : length t ≤ n = omega arith in
-        let keeps : KeepsText (λ more. length more ≤ n) = λ more fits text. written_behind n [] more fits text in
+        let keeps : KeepsText (λ more. length more ≤ n) = λ more fits text. written_following n [] more fits text in
         let shorter = length-drop 1 t in
         subst (λ (x : List ℕ). IsUtf8 (front ++ x)) (sym (sign b t yes_it))
         (cond_both (slice_index t 0 == 36) _ _ (λ (x : List ℕ). IsUtf8 (front ++ x))
         (λ two. IsUtf8-append front _ w.0 (IsUtf8-append (36 ∷ []) (written_after names group t 1) (one_ascii 36 (omega arith))
         (subst IsUtf8 (sym (passed t 1)) (keeps (drop 1 t) (omega arith) (second_sign t two w.1)))))
-        (λ _. at_sign n front t short keeps w.0 w.1 (name_at t) (behind_name t w.1)))
+        (λ _. at_sign n front t short keeps w.0 w.1 (name_at t) (after_name t w.1)))
     | inr no_it ↦
         subst (λ (x : List ℕ). IsUtf8 (front ++ x)) (sym (plain_byte b t no_it))
         (subst IsUtf8 (append_assoc front (b ∷ []) (written_after names group t 0))
-        (written_behind n (front ++ b ∷ []) t (omega arith) (subst IsUtf8 (sym (append_assoc front (b ∷ []) t)) u)))
+        (written_following n (front ++ b ∷ []) t (omega arith) (subst IsUtf8 (sym (append_assoc front (b ∷ []) t)) u)))
   ]
 
   pub template_text : (template : List ℕ) → IsUtf8 template → IsUtf8 (written_after names group template 0)
-  template_text template u = let itself : length template ≤ length template = omega arith in written_behind (length template) [] template itself u
+  template_text template u = let itself : length template ≤ length template = omega arith in written_following (length template) [] template itself u
 
 -- ---- matches
 

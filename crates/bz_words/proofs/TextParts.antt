@@ -66,20 +66,20 @@ skipped false t h = h
 next_chars : (v : Bool) (t : Text) → AreChars t → AreChars (next v t)
 next_chars v t h = skipped v (drop 1 t) (dropped 1 t h)
 
-behind_taken : (v : Bool) (n : ℕ) (test : ℕ → Bool) (t : Text) → AreChars t → AreChars (take_up_to v n test t).1
+after_taken : (v : Bool) (n : ℕ) (test : ℕ → Bool) (t : Text) → AreChars t → AreChars (take_up_to v n test t).1
 unfolding take_up_to
-behind_taken v zero test t h = h
-behind_taken v (suc n) test t h =
-    cond_both (is_some_and (first t) test) _ _ (λ (r : Text × Text). AreChars r.1) (λ _. behind_taken v n test (next v t) (next_chars v t h)) (λ _. h)
+after_taken v zero test t h = h
+after_taken v (suc n) test t h =
+    cond_both (is_some_and (first t) test) _ _ (λ (r : Text × Text). AreChars r.1) (λ _. after_taken v n test (next v t) (next_chars v t h)) (λ _. h)
 
-behind_run : (v : Bool) (test : ℕ → Bool) (t : Text) → AreChars t → AreChars (take_run v test t).1
+after_run : (v : Bool) (test : ℕ → Bool) (t : Text) → AreChars t → AreChars (take_run v test t).1
 unfolding take_run
-behind_run v test t h = behind_taken v (length t) test t h
+after_run v test t h = after_taken v (length t) test t h
 
-behind_cut : (separator : List ℕ) (t : Text) → AreChars t → Always (λ (p : Text × Text). AreChars p.1) (split_once separator t)
+after_cut : (separator : List ℕ) (t : Text) → AreChars t → Always (λ (p : Text × Text). AreChars p.1) (split_once separator t)
 unfolding split_once
-behind_cut separator [] h = never
-behind_cut separator (c ∷ t) h = either _ (found (dropped (length separator) (c ∷ t) h)) (moved (split_once separator t) (behind_cut separator t (rest c t h)))
+after_cut separator [] h = never
+after_cut separator (c ∷ t) h = either _ (found (dropped (length separator) (c ∷ t) h)) (moved (split_once separator t) (after_cut separator t (rest c t h)))
   where
     moved : (o : Option (Text × Text)) → Always (λ (p : Text × Text). AreChars p.1) o → Always (λ (p : Text × Text). AreChars p.1) (option_map (λ (p : Text × Text). (c ∷ p.0, p.1)) o)
     moved None k = never
@@ -127,16 +127,16 @@ low_char : (c : ℕ) → is_ascii c ≡ true → IsChar c
 low_char c h = record { scalar = grind (arith, nat_tests) }
 
 -- a count, and the number after it
-abbrev BehindIsChars : ℕ × Option ℕ × Text → Type 0
-BehindIsChars p = AreChars p.2
+abbrev AfterIsChars : ℕ × Option ℕ × Text → Type 0
+AfterIsChars p = AreChars p.2
 
-after_behind : {B : Type 0} {P : B → Type 0} (o : Option (ℕ × Option ℕ × Text)) (f : ℕ × Option ℕ × Text → Option B) → Always BehindIsChars o →
-    ((x : ℕ × Option ℕ × Text) → BehindIsChars x → Always P (f x)) → Always P (o >>= f)
-after_behind o = after
+after_after : {B : Type 0} {P : B → Type 0} (o : Option (ℕ × Option ℕ × Text)) (f : ℕ × Option ℕ × Text → Option B) → Always AfterIsChars o →
+    ((x : ℕ × Option ℕ × Text) → AfterIsChars x → Always P (f x)) → Always P (o >>= f)
+after_after o = after
 
 decimal_rest : (v : Bool) (t : Text) → AreChars t → Always (RestIsChars ℕ) (decimal v t)
 unfolding decimal
-decimal_rest v t h = search (walk, behind_run) depth 12
+decimal_rest v t h = search (walk, after_run) depth 12
 
 -- ---- sets
 
@@ -232,19 +232,19 @@ module _ (config : Config) (utf8 : config.utf8 ≡ true) where
 
   hex_rest : (n : ℕ) (t : Text) → AreChars t → Always (RestIsChars Piece) (hex config n t)
   unfolding hex
-  hex_rest n t h = search (walk, next_chars, behind_run, behind_taken) depth 14
+  hex_rest n t h = search (walk, next_chars, after_run, after_taken) depth 14
 
   named_class_rest : (negated : Bool) (t : Text) → AreChars t → Always (RestIsChars Piece) (named_class config negated t)
   unfolding named_class
-  named_class_rest negated t h = search (walk, next_chars, dropped, behind_run) depth 14
+  named_class_rest negated t h = search (walk, next_chars, dropped, after_run) depth 14
 
   boundary_rest : (t : Text) → AreChars t → Always (RestIsChars Piece) (boundary config t)
   unfolding boundary
-  boundary_rest t h = search (walk, next_chars, dropped, behind_run) depth 14
+  boundary_rest t h = search (walk, next_chars, dropped, after_run) depth 14
 
   escape_rest : (t : Text) → AreChars t → Always (RestIsChars Piece) (escape config t)
   unfolding escape
-  escape_rest t h = search (walk, next_chars, dropped, behind_taken, hex_rest, named_class_rest, boundary_rest) depth 20
+  escape_rest t h = search (walk, next_chars, dropped, after_taken, hex_rest, named_class_rest, boundary_rest) depth 20
 
   -- ---- brackets
 
@@ -255,21 +255,21 @@ module _ (config : Config) (utf8 : config.utf8 ≡ true) where
   after_hyphen_chars : (t : Text) → AreChars t → AreChars (after_hyphen config t)
   unfolding after_hyphen
   after_hyphen_chars t h =
-      let blank : (s : Text) → AreChars s → AreChars (take_run false is_whitespace (drop 1 s)).1 = λ s k. behind_run false is_whitespace (drop 1 s) (dropped 1 s k) in
+      let blank : (s : Text) → AreChars s → AreChars (take_run false is_whitespace (drop 1 s)).1 = λ s k. after_run false is_whitespace (drop 1 s) (dropped 1 s k) in
       by_cases _ _ _ (dropped 1 t h) (by_cases _ _ _ (blank _ (blank t h)) (blank t h))
 
   set_item_rest : (t : Text) → AreChars t → Always (RestIsChars Set) (set_item config t)
   unfolding set_item
   set_item_rest t h = search (walk, after_rest, member_rest, skipped, next_chars) depth 14
 
-  abbrev BehindSet : Set × Bool × Text → Type 0
-  BehindSet p = AreChars p.2
+  abbrev AfterSet : Set × Bool × Text → Type 0
+  AfterSet p = AreChars p.2
 
-  posix_rest : (t : Text) → AreChars t → Always BehindSet (posix t)
+  posix_rest : (t : Text) → AreChars t → Always AfterSet (posix t)
   unfolding posix
-  posix_rest t h = search (walk, after_rest, behind_cut, dropped) depth 12
+  posix_rest t h = search (walk, after_rest, after_cut, dropped) depth 12
 
-  item_or_rest : (inner : Text → Option (Nested Set × Text)) (o : Option (Set × Bool × Text)) (t : Text) → AreChars t → Always BehindSet o
+  item_or_rest : (inner : Text → Option (Nested Set × Text)) (o : Option (Set × Bool × Text)) (t : Text) → AreChars t → Always AfterSet o
       → Always (RestIsChars (Nested Set)) (inner t) → Always (RestIsChars (Nested Set)) (item_or config inner o t)
   unfolding item_or
   item_or_rest inner (Some p) t h k i = after_any (negate_if config p.1 (case_fold config p.0)) _ (λ set. found k.holds)
@@ -283,7 +283,7 @@ module _ (config : Config) (utf8 : config.utf8 ≡ true) where
   unfolding bracket_start
   start_rest t h =
       let taken = take_run v (λ c. c ∈ "-") (if is_at "^" t then next v t else t) in
-      let k : AreChars taken.1 = behind_run v (λ c. c ∈ "-") (if is_at "^" t then next v t else t) (by_cases (is_at "^" t) (next v t) t (next_chars v t h) h) in
+      let k : AreChars taken.1 = after_run v (λ c. c ∈ "-") (if is_at "^" t then next v t else t) (by_cases (is_at "^" t) (next v t) t (next_chars v t h) h) in
       cond_both (is_empty taken.0 && is_at "]" taken.1) _ _ (λ (r : Bool × Text × Text). AreChars r.2) (λ _. next_chars v taken.1 k) (λ _. k)
 
   record Steps (n : ℕ) : Type 0 where
@@ -365,7 +365,7 @@ module _ (config : Config) (utf8 : config.utf8 ≡ true) where
   unfolding upper_bound
   upper_rest least t h = search (walk, after_rest, next_chars, decimal_rest) depth 12
 
-  bounds_rest : (t : Text) → AreChars t → Always BehindIsChars (bounds config t)
+  bounds_rest : (t : Text) → AreChars t → Always AfterIsChars (bounds config t)
   unfolding bounds counted_bounds
   bounds_rest t h = search (walk, after_rest, next_chars, dropped, decimal_rest, upper_rest) depth 20
 
@@ -380,7 +380,7 @@ module _ (config : Config) (utf8 : config.utf8 ≡ true) where
   repetitions_rest zero sub t h = never
   repetitions_rest (suc n) sub t h =
       let k : AreChars (skip v t) = skipped v t h in
-      either _ (found k) (after_behind (bounds config (skip v t)) _ (bounds_rest (skip v t) k) (λ b r. repetitions_rest n _ _ (by_cases (is_at "?" b.2) _ _ (dropped 1 b.2 r) r)))
+      either _ (found k) (after_after (bounds config (skip v t)) _ (bounds_rest (skip v t) k) (λ b r. repetitions_rest n _ _ (by_cases (is_at "?" b.2) _ _ (dropped 1 b.2 r) r)))
 
 -- ---- places in the pattern
 
@@ -414,7 +414,7 @@ capture_text p name t h k =
 
 named_group_text : (p : Place) (t : Text) → IsTextPlace p → AreChars t → Always Opens (named_group p t)
 unfolding named_group
-named_group_text p t h k = search (walk, capture_text, dropped, behind_run) depth 14
+named_group_text p t h k = search (walk, capture_text, dropped, after_run) depth 14
 
 flags_rest : (flags : Flags) (seen t : Text) → AreChars t → Always (RestIsChars Flags) (set_flags flags seen t)
 unfolding set_flags

@@ -29,16 +29,16 @@ beside_ascii front byte rest h u =
     )
 
 -- two texts, the first of which goes after a front
-abbrev pub AreBehind : Bytes → Bytes × Bytes → Type 0
-AreBehind front parts = IsUtf8 (front ++ parts.0) × IsUtf8 parts.1
+abbrev pub AreAfter : Bytes → Bytes × Bytes → Type 0
+AreAfter front parts = IsUtf8 (front ++ parts.0) × IsUtf8 parts.1
 
-byte_behind : (front : Bytes) (byte : ℕ) (parts : Option (Bytes × Bytes)) → IfSome parts (AreBehind (front ++ byte ∷ []))
-    → IfSome (option_map (λ both. (byte ∷ both.0, both.1)) parts) (AreBehind front)
-byte_behind front byte None h = tt
-byte_behind front byte (Some both) h = (subst IsUtf8 (append_assoc front (byte ∷ []) both.0) h.0, h.1)
+byte_after : (front : Bytes) (byte : ℕ) (parts : Option (Bytes × Bytes)) → IfSome parts (AreAfter (front ++ byte ∷ []))
+    → IfSome (option_map (λ both. (byte ∷ both.0, both.1)) parts) (AreAfter front)
+byte_after front byte None h = tt
+byte_after front byte (Some both) h = (subst IsUtf8 (append_assoc front (byte ∷ []) both.0) h.0, h.1)
 
 -- both sides of a cut
-pub cut_utf8 : (byte : ℕ) (front text : Bytes) → byte < 128 → IsUtf8 (front ++ text) → IfSome (cut_at byte text) (AreBehind front)
+pub cut_utf8 : (byte : ℕ) (front text : Bytes) → byte < 128 → IsUtf8 (front ++ text) → IfSome (cut_at byte text) (AreAfter front)
 cut_utf8 byte front [] l u = tt
 cut_utf8 byte front (first ∷ rest) l u =
     elim (cases_Bool (first == byte)) [
@@ -47,7 +47,7 @@ cut_utf8 byte front (first ∷ rest) l u =
           let w = beside_ascii front first rest (omega arith) u in
           rw e (subst IsUtf8 (sym (append-nil front)) w.0, w.1)
       | inr e ↦
-          rw e (byte_behind front first (cut_at byte rest) (cut_utf8 byte (front ++ first ∷ []) rest l (subst IsUtf8 (sym (append_assoc front (first ∷ []) rest)) u)))
+          rw e (byte_after front first (cut_at byte rest) (cut_utf8 byte (front ++ first ∷ []) rest l (subst IsUtf8 (sym (append_assoc front (first ∷ []) rest)) u)))
     ]
 
 pub one_ascii : (byte : ℕ) → byte < 128 → IsUtf8 (byte ∷ [])
@@ -70,8 +70,8 @@ between_ascii byte h = elim (or_cases (byte == quotation_mark) (byte == backslas
 escapes_utf8 : (front rest : Bytes) → IsUtf8 (front ++ rest) → IsUtf8 (front ++ flat_map escaped rest)
 escapes_utf8 front [] u = u
 escapes_utf8 front (byte ∷ rest) u =
-    let behind : Bytes → Type 0 = λ text. IsUtf8 (front ++ (text ++ flat_map escaped rest)) in
-    let two : (first second : ℕ) → first < 128 → second < 128 → byte < 128 → behind (first ∷ second ∷ []) =
+    let following : Bytes → Type 0 = λ text. IsUtf8 (front ++ (text ++ flat_map escaped rest)) in
+    let two : (first second : ℕ) → first < 128 → second < 128 → byte < 128 → following (first ∷ second ∷ []) =
     (λ first second h k a.
     let w = beside_ascii front byte rest a u in
     IsUtf8-append front (first ∷ second ∷ flat_map escaped rest) w.0
@@ -80,15 +80,15 @@ escapes_utf8 front (byte ∷ rest) u =
       | inl e ↦
           let same : byte ≡ line_feed = eqb-true byte line_feed e in
           let as_two : escaped byte ≡ backslash ∷ letter_n ∷ [] = rw e refl in
-          subst behind (sym as_two) (two backslash letter_n (omega arith) (omega arith) (omega arith))
+          subst following (sym as_two) (two backslash letter_n (omega arith) (omega arith) (omega arith))
       | inr e ↦
           elim (cases_Bool (is_between byte)) [
             | inl f ↦
                 let as_two : escaped byte ≡ backslash ∷ byte ∷ [] = rw (e, f) refl in
-                subst behind (sym as_two) (two backslash byte (omega arith) (between_ascii byte f) (between_ascii byte f))
+                subst following (sym as_two) (two backslash byte (omega arith) (between_ascii byte f) (between_ascii byte f))
             | inr f ↦
                 let itself : escaped byte ≡ byte ∷ [] = rw (e, f) refl in
-                subst behind (sym itself) (rw append_assoc at (escapes_utf8 (front ++ byte ∷ []) rest (rw append_assoc u)))
+                subst following (sym itself) (rw append_assoc at (escapes_utf8 (front ++ byte ∷ []) rest (rw append_assoc u)))
           ]
     ]
 
@@ -104,13 +104,13 @@ nothing_before : (all : List Bytes) → AreUtf8 (joined [] all) → AreUtf8 all
 nothing_before [] u = tt
 nothing_before (piece ∷ all) u = u
 
-pieces_utf8 : (front : Bytes) (behind : Bool) (text : Bytes) → IsUtf8 (front ++ text) → AreUtf8 (joined front (pieces behind text))
-pieces_utf8 front behind [] u = (u, tt)
-pieces_utf8 front behind (byte ∷ rest) u =
+pieces_utf8 : (front : Bytes) (following : Bool) (text : Bytes) → IsUtf8 (front ++ text) → AreUtf8 (joined front (pieces following text))
+pieces_utf8 front following [] u = (u, tt)
+pieces_utf8 front following (byte ∷ rest) u =
     let cut : Bool → Type 0 = λ t. AreUtf8 (joined front (if t then [] ∷ pieces false rest else onto_first byte (pieces (byte == backslash) rest))) in
-    elim (cases_Bool (byte == space && not behind)) [
+    elim (cases_Bool (byte == space && not following)) [
       | inl e ↦
-          let same : byte ≡ space = eqb-true byte space ((and_parts (byte == space) (not behind) e).0) in
+          let same : byte ≡ space = eqb-true byte space ((and_parts (byte == space) (not following) e).0) in
           let w = beside_ascii front byte rest (omega arith) u in
           subst cut (sym e) (subst IsUtf8 (sym (append-nil front)) w.0, nothing_before (pieces false rest) (pieces_utf8 [] false rest w.1))
       | inr e ↦
@@ -127,13 +127,13 @@ filter_utf8 ((byte ∷ piece) ∷ all) u = (u.0, filter_utf8 all u.1)
 unescaped_utf8 : (front text : Bytes) → IsUtf8 (front ++ text) → IsUtf8 (front ++ unescaped text)
 unescaped_utf8 front [] u = u
 unescaped_utf8 front (byte ∷ rest) u =
-    let behind : Bool → Type 0 = λ t. IsUtf8 (front ++ (if t then unescaped rest else byte ∷ unescaped rest)) in
+    let following : Bool → Type 0 = λ t. IsUtf8 (front ++ (if t then unescaped rest else byte ∷ unescaped rest)) in
     elim (cases_Bool (byte == backslash && begins_with_space rest)) [
       | inl e ↦
           let same : byte ≡ backslash = eqb-true byte backslash ((and_parts (byte == backslash) (begins_with_space rest) e).0) in
           let w = beside_ascii front byte rest (omega arith) u in
-          subst behind (sym e) (IsUtf8-append front (unescaped rest) w.0 (unescaped_utf8 [] rest w.1))
-      | inr e ↦ subst behind (sym e) (rw append_assoc at (unescaped_utf8 (front ++ byte ∷ []) rest (rw append_assoc u)))
+          subst following (sym e) (IsUtf8-append front (unescaped rest) w.0 (unescaped_utf8 [] rest w.1))
+      | inr e ↦ subst following (sym e) (rw append_assoc at (unescaped_utf8 (front ++ byte ∷ []) rest (rw append_assoc u)))
     ]
 
 each_unescaped : (all : List Bytes) → AreUtf8 all → AreUtf8 (map unescaped all)

@@ -5,15 +5,15 @@ use Rattle.bz_words.specs.declared.fault.CommandFault.{CommandFault}
 use Rattle.bz_words.specs.declared.fault.CommandFault.TheVariants.{Unknown, Arguments, BadPattern, Memory}
 
 -- the table of faults: names
-abbrev pub fault_name : CommandFault → Bytes
-fault_name Unknown = codes "Unknown"
-fault_name Arguments = codes "Arguments"
-fault_name BadPattern = codes "BadPattern"
-fault_name Memory = codes "Memory"
+abbrev pub command_fault_name : CommandFault → Bytes
+command_fault_name Unknown = codes "Unknown"
+command_fault_name Arguments = codes "Arguments"
+command_fault_name BadPattern = codes "BadPattern"
+command_fault_name Memory = codes "Memory"
 
 -- the table of faults: numbers
-abbrev pub fault_number : CommandFault → ℕ
-fault_number Unknown = 31
-fault_number Arguments = 32
-fault_number BadPattern = 33
-fault_number Memory = 8
+abbrev pub command_fault_number : CommandFault → ℕ
+command_fault_number Unknown = 31
+command_fault_number Arguments = 32
+command_fault_number BadPattern = 33
+command_fault_number Memory = 8

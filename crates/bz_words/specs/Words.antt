@@ -6,9 +6,9 @@ use Rattle.bz_items.specs.Characters.{Bytes, backslash, space}
 
 -- The pieces between the spaces that have no backslash right before them. The flag: a backslash is right before the text.
 abbrev pub pieces : Bool → Bytes → List Bytes
-pieces behind_backslash [] = [] ∷ []
-pieces behind_backslash (byte ∷ rest) =
-    if byte == space && not behind_backslash then [] ∷ pieces false rest else onto_first byte (pieces (byte == backslash) rest)
+pieces after_backslash [] = [] ∷ []
+pieces after_backslash (byte ∷ rest) =
+    if byte == space && not after_backslash then [] ∷ pieces false rest else onto_first byte (pieces (byte == backslash) rest)
 
 abbrev pub begins_with_space : Bytes → Bool
 begins_with_space [] = false

@@ -1,5 +1,5 @@
 ghost use Rattle.std.specs.Prelude.{◌≡◌};
-ghost use Rattle.bz_words.specs.Faults.{fault_name, fault_number};
+ghost use Rattle.bz_words.specs.Faults.{command_fault_name, command_fault_number};
 
 use bz_items::Memory;
 use thiserror::Error;
@@ -24,7 +24,7 @@ pub enum CommandFault {
 impl CommandFault {
     /// The name by which the fault is reported.
     pub fn name(&self) -> &'static str
-        ensures { result.now ≡ fault_name self.now }
+        ensures { result.now ≡ command_fault_name self.now }
     {
         match self {
             CommandFault::Unknown => "Unknown",
@@ -36,7 +36,7 @@ impl CommandFault {
 
     /// The number by which the fault is reported.
     pub fn number(&self) -> u8
-        ensures { result ≡ fault_number self.now }
+        ensures { result ≡ command_fault_number self.now }
     {
         match self {
             CommandFault::Unknown => 31,

@@ -21,7 +21,7 @@ pub fn is_identifier(text: &[u8]) -> bool
 }
 
 /// Whether the text is a kind of rules: identifiers joined by dots. It takes no memory.
-pub fn is_kind(text: &[u8]) -> bool
+pub fn is_kind_name(text: &[u8]) -> bool
     ensures { result ≡ is_kind_in text.now }
 {
     text.split(|byte| *byte == b'.').all(is_identifier)

@@ -24,7 +24,7 @@ pub use command::{
 };
 pub use fault::CommandFault;
 pub use forms::as_text;
-pub use identifier::{is_identifier, is_kind};
+pub use identifier::{is_identifier, is_kind_name};
 pub use laws::{
     identifiers_are_names, text_stays_text, worked_commands, worked_identifiers, worked_strings,
     worked_words,

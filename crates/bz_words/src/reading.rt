@@ -12,7 +12,7 @@ use crate::forms::{
     Read, attribute_and_values, attribute_and_word, attributes_and_words, attributes_of, given,
     has_values, is_attribute, is_star, is_text, take_first,
 };
-use crate::identifier::is_kind;
+use crate::identifier::is_kind_name;
 use bz_items::{Items, Text};
 
 fn has_star(words: &[Text]) -> bool
@@ -69,7 +69,7 @@ pub(crate) fn new_of(mut words: Vec<Text>) -> Read
 {
     let kind = take_first(&mut words)?;
     let name = take_first(&mut words)?;
-    if is_kind(kind.as_slice()) {
+    if is_kind_name(kind.as_slice()) {
         let place = rule_place(words).ok_or(CommandFault::Arguments)?;
         Ok(Operation::Rule(RuleOperation::New { kind, name, place }))
     } else {
@@ -89,7 +89,7 @@ fn set_kind_of(words: Vec<Text>) -> Read
     match <[Text; 2]>::try_from(words) {
         Ok([word, kind]) => {
             drop(word);
-            let fits = is_kind(kind.as_slice());
+            let fits = is_kind_name(kind.as_slice());
             given(fits, Operation::Rule(RuleOperation::SetKind { kind }))
         }
         Err(_words) => Err(CommandFault::Arguments),

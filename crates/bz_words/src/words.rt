@@ -19,10 +19,10 @@ fn close(words: &mut Vec<Text>, word: Vec<u8>) -> Result<(), Memory>
 }
 
 // A space separates, unless a backslash is right before it.
-fn is_separating(byte: u8, behind_backslash: bool) -> bool
-    ensures { result ≡ (byte == space && not behind_backslash) }
+fn is_separating(byte: u8, after_backslash: bool) -> bool
+    ensures { result ≡ (byte == space && not after_backslash) }
 {
-    byte == b' ' && !behind_backslash
+    byte == b' ' && !after_backslash
 }
 
 // A backslash right before a space goes.
@@ -40,16 +40,16 @@ pub fn read_words(alloc: Global, text: &[u8]) -> Result<Vec<Text>, Memory>
 {
     let mut words = Vec::new(alloc);
     let mut word = Vec::new(alloc);
-    let mut behind_backslash = false;
+    let mut after_backslash = false;
     let mut left = text;
     while let Some((&byte, rest)) = left.split_first() {
-        if is_separating(byte, behind_backslash) {
+        if is_separating(byte, after_backslash) {
             let whole = mem::replace(&mut word, Vec::new(alloc));
             close(&mut words, whole)?;
         } else if !is_dropped(byte, rest) {
             word.push(byte)?;
         }
-        behind_backslash = byte == b'\\';
+        after_backslash = byte == b'\\';
         left = rest;
     }
     close(&mut words, word)?;

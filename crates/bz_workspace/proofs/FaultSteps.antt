@@ -6,7 +6,7 @@ use Rattle.bz_lex.specs.declared.fault.ReadFault.TheVariants as f
 use Rattle.bz_tree.specs.Spell.{limit}
 use Rattle.bz_tree.specs.Faults.{IsOfText, IsFaultOf}
 use Rattle.bz_tree.specs.Legal.{Accepted}
-use Rattle.bz_ports.specs.Told.{fault_line}
+use Rattle.bz_ports.specs.Reported.{fault_line}
 use Rattle.bz_workspace.specs.Opens.{Takes}
 
 abbrev pub Refused : List ℕ → ReadFault → Type 0

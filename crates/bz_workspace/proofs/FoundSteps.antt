@@ -4,7 +4,7 @@ use Rattle.std.specs.FinMap.{get}
 use Rattle.bz_tree.specs.Spell.{limit}
 use Rattle.bz_items.specs.Characters.{Bytes}
 use Rattle.bz_files.specs.Folder.{Folder}
-use Rattle.bz_ports.specs.Told.{named_line}
+use Rattle.bz_ports.specs.Reported.{named_line}
 use Rattle.bz_workspace.specs.Found.{PackagesFound, first_name, found_at, found_in, second_name}
 use Rattle.bz_workspace.specs.Journals.{OpensBeside, TakesBeside, journal_beside}
 use Rattle.bz_workspace.specs.Opens.{Opens}

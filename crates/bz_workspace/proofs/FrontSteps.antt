@@ -8,7 +8,7 @@ use Rattle.bz_tree.specs.Spell.{limit}
 use Rattle.bz_tree.specs.Legal.{Accepted}
 use Rattle.bz_items.specs.Characters.{Bytes}
 use Rattle.bz_tree.specs.Faults.{IsFaultOf}
-use Rattle.bz_workspace.specs.Opens.{FrontsAreToldAlike, Takes}
+use Rattle.bz_workspace.specs.Opens.{FrontsAreReportedAlike, Takes}
 use Rattle.bz_workspace.specs.Packages.{Opened}
 
 fits_limit : (text : Bytes) → Accepted text → length text ≤ limit
@@ -37,7 +37,7 @@ long_takes current name one other file lines long past (inr refused) =
 front_long : (text : Bytes) → limit < length text → limit < length (take (limit + 1) text)
 front_long text long = let len = length-take (limit + 1) text in omega arith
 
-pub fronts_alike : FrontsAreToldAlike
+pub fronts_alike : FrontsAreReportedAlike
 fronts_alike current name text file lines = go (cases_lt limit (length text))
   where
     go : (limit < length text) ⊎ (length text ≤ limit)

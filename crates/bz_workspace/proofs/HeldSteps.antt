@@ -8,7 +8,7 @@ use Rattle.bz_items.specs.Characters.{Bytes}
 use Rattle.bz_files.specs.Folder.{Folder}
 use Rattle.bz_journal.specs.History.{History, present}
 use Rattle.bz_keep.specs.Pair.{journal_name}
-use Rattle.bz_keep.specs.Resuming.{IsToldBy}
+use Rattle.bz_keep.specs.Resuming.{IsRecordedBy}
 use Rattle.bz_resume.specs.Journals.{stands, text_at}
 use Rattle.bz_resume.specs.declared.fault.ResumeFault.{ResumeFault}
 use Rattle.bz_workspace.specs.Journals.{HeldFilesGoOn, TakesBeside, file_of_journal, journal_beside}
@@ -32,14 +32,14 @@ stands_text h text at is = go (bytes_eq text (text_at h h.cursor)) (bytes_eq tex
 abbrev IsAt : Bytes → List Bytes → Option Opened → Type 0
 IsAt text texts file = (opened : Opened) × (file ≡ Some opened) × (present opened.history ≡ text) × (opened.history.texts ≡ texts)
 
-by_told : (folder : Folder) (name current text : Bytes) (texts : List Bytes) (file : Option Opened) (lines : List Bytes) → IsToldBy folder name current text texts
+by_reported : (folder : Folder) (name current text : Bytes) (texts : List Bytes) (file : Option Opened) (lines : List Bytes) → IsRecordedBy folder name current text texts
     → Accepted text → TakesBeside (journal_beside true folder name) current name text file lines → IsAt text texts file
-by_told folder name current text texts file lines (inl (none, alone)) accepted takes =
+by_reported folder name current text texts file lines (inl (none, alone)) accepted takes =
     elim (subst (λ (journal : Option Bytes). TakesBeside journal current name text file lines) none takes) [
       | inl opens ↦ (opened_fresh current name text, opens.1, refl, sym alone)
       | inr refused ↦ absurd (refused.0 accepted)
     ]
-by_told folder name current text texts file lines (inr (bytes, h, es, place, there, journal, of, is, at)) accepted takes =
+by_reported folder name current text texts file lines (inr (bytes, h, es, place, there, journal, of, is, at)) accepted takes =
     let given = subst (λ (beside : Option Bytes). TakesBeside beside current name text file lines) there takes in
     let history : History = record h { cursor = place; before = place } in
     let one = one_given current bytes text (Ok history) given.0 (h, place, ((es, journal), at), of, refl) given.1 in (
@@ -50,4 +50,4 @@ by_told folder name current text texts file lines (inr (bytes, h, es, place, the
     )
 
 pub held_go_on : HeldFilesGoOn
-held_go_on folder name current text texts file lines holds accepted takes = by_told folder name current text texts file lines holds.history accepted takes
+held_go_on folder name current text texts file lines holds accepted takes = by_reported folder name current text texts file lines holds.history accepted takes

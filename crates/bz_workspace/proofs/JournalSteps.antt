@@ -52,10 +52,10 @@ fault_gives A current bytes text f.Stale version damaged stale = inr (stale refl
 fault_gives A current bytes text f.Damaged version damaged stale = inr (inr ((λ other. let e = version.1 other in absurd (cc)), damaged refl))
 
 -- what is reported of a journal that is not resumed
-pub told_gives : (current bytes text : Bytes) (fault : ResumeFault) → fault ≢ f.Memory → (fault ≡ f.Memory) ⊎ JournalGives current bytes text (Err fault)
+pub reported_gives : (current bytes text : Bytes) (fault : ResumeFault) → fault ≢ f.Memory → (fault ≡ f.Memory) ⊎ JournalGives current bytes text (Err fault)
     → JournalGives current bytes text (Err fault)
-told_gives current bytes text fault other (inl is) = absurd (other is)
-told_gives current bytes text fault other (inr gives) = gives
+reported_gives current bytes text fault other (inl is) = absurd (other is)
+reported_gives current bytes text fault other (inr gives) = gives
 
 -- an open file by the same name, text and session
 pub same_opened : (name called text read : Bytes) (s t : SessionState) → name ≡ called → text ≡ read → s ≡ t
@@ -182,31 +182,31 @@ long_takes current name bytes one other (Err fault) long past gives = refl
 pub front_beside : (journal : Option Bytes) (current name front text : Bytes) (file : Option Opened) (lines : List Bytes) → front ≡ take (limit + 1) text
     → TakesBeside journal current name front file lines → TakesBeside journal current name text file lines
 front_beside None current name front text file lines is takes = front_takes current name front text file lines is takes
-front_beside (Some bytes) current name front text file lines is (given, gives, opened, told) = go (cases_lt limit (length text))
+front_beside (Some bytes) current name front text file lines is (given, gives, opened, reported) = go (cases_lt limit (length text))
   where
     go : (limit < length text) ⊎ (length text ≤ limit) → TakesBeside (Some bytes) current name text file lines
     go (inl long) =
         let len = length-take (limit + 1) text in
         let past : limit < length front = subst (λ (t : Bytes). limit < length t) (sym is) (omega (arith, len, long)) in
-        (given, long_gives current bytes front text given past long gives, opened ∙ long_takes current name bytes front text given past long gives, told)
+        (given, long_gives current bytes front text given past long gives, opened ∙ long_takes current name bytes front text given past long gives, reported)
     go (inr short) =
         let same : front ≡ text = is ∙ take_all (limit + 1) text (omega (arith, short)) in
-        subst (λ (t : Bytes). TakesBeside (Some bytes) current name t file lines) same (given, gives, opened, told)
+        subst (λ (t : Bytes). TakesBeside (Some bytes) current name t file lines) same (given, gives, opened, reported)
 
 -- ---- a journal that was read
 
 -- a list that is shorter than the most that was read is all that there was
-all_read : (told bytes : Bytes) (most : ℕ) → length told < most → told ≡ take most bytes → told ≡ bytes
-all_read told bytes most less is =
+all_read : (reported bytes : Bytes) (most : ℕ) → length reported < most → reported ≡ take most bytes → reported ≡ bytes
+all_read reported bytes most less is =
     let short : length (take most bytes) < most = subst (λ (it : Bytes). length it < most) is less in
     is ∙ take_all most bytes (omega (arith, short, length-take most bytes))
 
-pub read_beside : (journals : Bool) (folder : Folder) (current name journal told bytes text : Bytes) (given : Result History ResumeFault) (most : ℕ) → journals ≡ true
-    → journal ≡ journal_name name → get folder journal ≡ Some bytes → length told < most → told ≡ take most bytes → JournalGives current told text given
+pub read_beside : (journals : Bool) (folder : Folder) (current name journal reported bytes text : Bytes) (given : Result History ResumeFault) (most : ℕ) → journals ≡ true
+    → journal ≡ journal_name name → get folder journal ≡ Some bytes → length reported < most → reported ≡ take most bytes → JournalGives current reported text given
     → TakesBeside (journal_beside journals folder name) current name text (file_of_journal name text given) (lines_of_journal name given)
-read_beside journals folder current name journal told bytes text given most kept called held less is gives =
-    let there : journal_beside journals folder name ≡ Some told =
-    ap (λ (b : Bool). journal_beside b folder name) kept ∙ ap (get folder) (sym called) ∙ held ∙ ap Some (sym (all_read told bytes most less is)) in
+read_beside journals folder current name journal reported bytes text given most kept called held less is gives =
+    let there : journal_beside journals folder name ≡ Some reported =
+    ap (λ (b : Bool). journal_beside b folder name) kept ∙ ap (get folder) (sym called) ∙ held ∙ ap Some (sym (all_read reported bytes most less is)) in
     subst (λ (beside : Option Bytes). TakesBeside beside current name text (file_of_journal name text given) (lines_of_journal name given)) (sym there)
     (given, gives, refl, refl)
 

@@ -26,16 +26,16 @@ same_name p q name is = one_front p q (append_cancel_right (front p) (front q) n
 
 -- ---- the last two letters, which the four kinds of names differ in: they sum up to other numbers
 
-abbrev sum_behind : ℕ → ℕ → Bytes → ℕ
-sum_behind a b [] = a + b
-sum_behind a b (c ∷ rest) = sum_behind b c rest
+abbrev sum_after : ℕ → ℕ → Bytes → ℕ
+sum_after a b [] = a + b
+sum_after a b (c ∷ rest) = sum_after b c rest
 
-sum_over : (a b c d : ℕ) (text rest : Bytes) → sum_behind a b (text ++ c ∷ d ∷ rest) ≡ sum_behind c d rest
+sum_over : (a b c d : ℕ) (text rest : Bytes) → sum_after a b (text ++ c ∷ d ∷ rest) ≡ sum_after c d rest
 sum_over a b c d [] rest = refl
 sum_over a b c d (e ∷ text) rest = sum_over b e c d text rest
 
 abbrev last_sum : Bytes → ℕ
-last_sum = sum_behind 0 0
+last_sum = sum_after 0 0
 
 sum_of_first : (current : Bytes) → last_sum (first_name current) ≡ 209
 sum_of_first current = ap last_sum (in_front current (codes "BUILD.bazel")) ∙ sum_over 0 0 66 85 (front current) (codes "ILD.bazel")

@@ -24,23 +24,23 @@ same_file one other is = ap (λ (found : Option Opened). unwrap_or found one) is
 
 given_some : (name text : Bytes) (given : Result History ResumeFault) (file : Opened) (lines : List Bytes) → Some file ≡ file_of_journal name text given
     → lines ≡ lines_of_journal name given → (file.name ≡ name) × (file.read ≡ text) × (lines ≡ [])
-given_some name text (Ok history) file lines is told =
-    let same = same_file file (opened_with name text history) is in (ap (λ (f : Opened). f.name) same, ap (λ (f : Opened). f.read) same, told)
-given_some name text (Err fault) file lines is told = absurd (let e = is in cc)
+given_some name text (Ok history) file lines is reported =
+    let same = same_file file (opened_with name text history) is in (ap (λ (f : Opened). f.name) same, ap (λ (f : Opened). f.read) same, reported)
+given_some name text (Err fault) file lines is reported = absurd (let e = is in cc)
 
 -- an open file has the name and the text that were read, and nothing is printed
 takes_some : (journal : Option Bytes) (current name text : Bytes) (file : Opened) (lines : List Bytes) → TakesBeside journal current name text (Some file) lines
     → (file.name ≡ name) × (file.read ≡ text) × (lines ≡ [])
-takes_some None current name text file lines (inl (accepted, is, told)) =
-    let same = same_file file _ is in (ap (λ (f : Opened). f.name) same, ap (λ (f : Opened). f.read) same, told)
-takes_some None current name text file lines (inr (refused, (fault, of, is, told))) = absurd (let e = is in cc)
-takes_some (Some bytes) current name text file lines (given, comes, is, told) = given_some name text given file lines is told
+takes_some None current name text file lines (inl (accepted, is, reported)) =
+    let same = same_file file _ is in (ap (λ (f : Opened). f.name) same, ap (λ (f : Opened). f.read) same, reported)
+takes_some None current name text file lines (inr (refused, (fault, of, is, reported))) = absurd (let e = is in cc)
+takes_some (Some bytes) current name text file lines (given, comes, is, reported) = given_some name text given file lines is reported
 
 pub taken : (journal : Option Bytes) (current name text : Bytes) (file : Option Opened) (lines : List Bytes) → TakesBeside journal current name text file lines
     → IfSome file (λ f. TakesBeside journal current name text (Some f) [])
 taken journal current name text None lines takes = tt
 taken journal current name text (Some file) lines takes =
-    subst (λ (told : List Bytes). TakesBeside journal current name text (Some file) told) (takes_some journal current name text file lines takes).2 takes
+    subst (λ (reported : List Bytes). TakesBeside journal current name text (Some file) reported) (takes_some journal current name text file lines takes).2 takes
 
 -- a file of which these first bytes were read
 pub is_opened : (journals : Bool) (folder : Folder) (current name front text : Bytes) (file : Opened) → IsNameOf current name → get folder name ≡ Some text
@@ -83,8 +83,8 @@ puts_there place Is number before after within (None, put, at, is) = subst (λ (
 puts_there place Is number before after within (Some file, put, at, is) =
     subst (λ (found : Option ℕ). IfSome found (λ at. IsSome (file_at at after))) (sym at) (opened_there place file before before after refl within put)
 
-pub puts_behind : (place : ℕ) (Is : Opened → Type 0) (number : Option ℕ) (before after : List Used) → Puts place Is number before after → take place after ≡ take place before
-puts_behind place Is number before after (file, put, at, is) = before_stay place file before after put
+pub puts_after : (place : ℕ) (Is : Opened → Type 0) (number : Option ℕ) (before after : List Used) → Puts place Is number before after → take place after ≡ take place before
+puts_after place Is number before after (file, put, at, is) = before_stay place file before after put
 
 pub added : (place : ℕ) (current : Bytes) (Is : Opened → Type 0) (number : Option ℕ) (used mid new : List Used) → place ≡ length used
     → mid ≡ used ++ record { «package» = current; file = None } ∷ [] → Puts place Is number mid new → Adds current Is number used new

@@ -65,14 +65,14 @@ any_keys : (name : Bytes) (keys : List Key) → list_any (λ (key : Key). bytes_
 any_keys name [] = refl
 any_keys name (key ∷ keys) = ap (λ b. bytes_eq name key.items || b) (any_keys name keys)
 
-none_behind : (found : Option ℕ) → option_map (λ place. place + 1) found ≡ None → found ≡ None
-none_behind None h = refl
-none_behind (Some place) h = absurd (cc)
+none_after : (found : Option ℕ) → option_map (λ place. place + 1) found ≡ None → found ≡ None
+none_after None h = refl
+none_after (Some place) h = absurd (cc)
 
 none_step : (b rest : Bool) (found : Option ℕ) → (found ≡ None → rest ≡ false)
     → (if b then Some 0 else option_map (λ place. place + 1) found) ≡ None → (b || rest) ≡ false
-none_step true rest found behind h = absurd (cc)
-none_step false rest found behind h = behind (none_behind found h)
+none_step true rest found following h = absurd (cc)
+none_step false rest found following h = following (none_after found h)
 
 absent : (name : Bytes) (used : List Used) → package_number name used ≡ None → list_any (bytes_eq name) (packages_of used) ≡ false
 absent name [] h = refl

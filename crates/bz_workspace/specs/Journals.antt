@@ -13,7 +13,7 @@ use Rattle.bz_tree.specs.Legal.{Accepted}
 use Rattle.bz_files.specs.Folder.{Folder}
 use Rattle.bz_keep.specs.Pair.{journal_name}
 use Rattle.bz_keep.specs.Resuming.{Holds}
-use Rattle.bz_ports.specs.Told.{named_line}
+use Rattle.bz_ports.specs.Reported.{named_line}
 use Rattle.bz_journal.specs.History.{History, present}
 use Rattle.bz_workspace.specs.Found.{IsNameOf, PackagesFound}
 use Rattle.bz_workspace.specs.Opens.{Opens, Takes}

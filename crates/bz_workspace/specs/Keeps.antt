@@ -37,7 +37,7 @@ pub record KeepsFile {F : Type 0} (files : FilesOf F) (name : Bytes) (before aft
   pub kept : files.honest old ≡ true → Resumes (files.folder old) name before.package before.texts → OnOk answer (after.cursor ≢ before.cursor
       → Holds (files.folder new) name before.package (present after) after.texts × OthersStay name (files.folder old) (files.folder new))
   pub journal : files.honest old ≡ true → OnOk answer (after.cursor ≢ before.cursor → get (files.folder new) (journal_name name) ≡ Some (journal_text after steps))
-  pub told : files.honest old ≡ true → (now : Folder) → files.since new (files.moment old) now
+  pub stored : files.honest old ≡ true → (now : Folder) → files.since new (files.moment old) now
       → (get now (journal_name name) ≡ get (files.folder old) (journal_name name)) ⊎ (get now (journal_name name) ≡ Some (journal_text after steps))
   -- That the file holds another text is said only where it does. Nothing is replaced where the present text stays, where the action is
   -- refused, and at every fault but Write.

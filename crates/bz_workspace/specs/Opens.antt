@@ -7,7 +7,7 @@ use Rattle.bz_items.specs.Characters.{Bytes}
 use Rattle.bz_journal.specs.Actions.{Action}
 use Rattle.bz_tree.specs.Faults.{IsFaultOf}
 use Rattle.bz_journal.specs.History.{History, Answer, opened, Acts}
-use Rattle.bz_ports.specs.Told.{named_line, fault_line}
+use Rattle.bz_ports.specs.Reported.{named_line, fault_line}
 use Rattle.bz_workspace.specs.Packages.{Opened, Used, file_at, opened_with, with_opened}
 use Rattle.bz_workspace.specs.Found.{PackagesFound, second_name}
 
@@ -22,8 +22,8 @@ Takes current name text file lines =
     ⊎ ((Accepted text → ⊥) × ((fault : ReadFault) × IsFaultOf text fault × (file ≡ None) × (lines ≡ fault_line name fault ∷ [])))
 
 -- A text and its first bytes, one more than a text may have, are opened or reported alike: both are too large, or they are the same.
-abbrev pub FrontsAreToldAlike : Type 0
-FrontsAreToldAlike = (current name text : Bytes) (file : Option Opened) (lines : List Bytes)
+abbrev pub FrontsAreReportedAlike : Type 0
+FrontsAreReportedAlike = (current name text : Bytes) (file : Option Opened) (lines : List Bytes)
     → (Takes current name (take (limit + 1) text) file lines ↔ Takes current name text file lines)
 
 -- The file that is found for a package is opened; where none is, that is reported of `BUILD`.

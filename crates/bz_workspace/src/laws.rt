@@ -2,11 +2,11 @@
 ghost use Rattle.bz_workspace.specs.Found.{PackagesAreApart};
 ghost use Rattle.bz_workspace.specs.Journals.{HeldFilesGoOn, JournalGivesOne};
 ghost use Rattle.bz_workspace.specs.Keeps.{StillIsSame};
-ghost use Rattle.bz_workspace.specs.Opens.{FrontsAreToldAlike};
+ghost use Rattle.bz_workspace.specs.Opens.{FrontsAreReportedAlike};
 
 /// A text and its first bytes, one more than a text may have, are opened or reported alike. So of a file no more has to be read.
-pub fn fronts_are_told_alike()
-    ensures { FrontsAreToldAlike }
+pub fn fronts_are_reported_alike()
+    ensures { FrontsAreReportedAlike }
 {}
 
 /// One thing comes of a journal at the text of a file: the history that goes on, or why none does.

@@ -8,7 +8,7 @@ mod workspace;
 
 pub use bz_journal::{Action, KeepFault, Reply};
 pub use laws::{
-    fronts_are_told_alike, held_files_go_on, one_thing_comes_of_a_journal, packages_are_apart,
+    fronts_are_reported_alike, held_files_go_on, one_thing_comes_of_a_journal, packages_are_apart,
     still_is_same,
 };
 pub use opening::Opening;

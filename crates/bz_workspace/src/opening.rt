@@ -5,8 +5,8 @@ ghost use Rattle.bz_tree.specs.Legal.{Accepted};
 ghost use Rattle.bz_items.specs.Characters.{Bytes};
 ghost use Rattle.bz_tree.specs.Faults.{IsFaultOf};
 ghost use Rattle.bz_ports.specs.Faults.{Rises, AppendsUnlessFailed};
-ghost use Rattle.bz_ports.specs.Outputs.{Tells};
-ghost use Rattle.bz_ports.specs.Told.{named_line};
+ghost use Rattle.bz_ports.specs.Outputs.{Reports};
+ghost use Rattle.bz_ports.specs.Reported.{named_line};
 ghost use Rattle.bz_journal.specs.History.{History};
 ghost use Rattle.bz_workspace.specs.Found.{in_package};
 ghost use Rattle.bz_workspace.specs.Journals.{JournalGives, fault_word, hints_of_journal, stale_hint};
@@ -20,7 +20,7 @@ use bz_files::{FileFault, Files};
 use bz_items::{Memory, Text};
 use bz_journal::{Editor, ResumeFault, Session};
 use bz_lex::ReadFault;
-use bz_ports::{Cut, Sink, tell, tell_named};
+use bz_ports::{Cut, Sink, report, report_named};
 use std::alloc::Global;
 
 /// What came of opening a package.
@@ -123,7 +123,7 @@ pub(crate) fn resumed(
 }
 
 /// The name and the number of why a journal is refused, as they are printed after its name.
-fn told_fault(fault: &ResumeFault) -> &'static str
+fn reported_fault(fault: &ResumeFault) -> &'static str
     ensures { result.now ≡ fault_word fault.now }
 {
     match fault {
@@ -146,19 +146,19 @@ fn cut_of(fault: &ResumeFault) -> Cut
 }
 
 // Prints what may be done where a journal matches the text of its file nowhere.
-fn tell_hint<E: Sink>(err: &mut E, journal: &str, fault: &ResumeFault)
-    ensures { Tells (E.faults err.old) (E.faults err.new) (E.contents err.old) (E.contents err.new) (hints_of_journal journal.now fault.now) }
+fn report_hint<E: Sink>(err: &mut E, journal: &str, fault: &ResumeFault)
+    ensures { Reports (E.faults err.old) (E.faults err.new) (E.contents err.old) (E.contents err.new) (hints_of_journal journal.now fault.now) }
 {
     match fault {
-        ResumeFault::Stale => tell_stale(err, journal),
+        ResumeFault::Stale => report_stale(err, journal),
         ResumeFault::Memory | ResumeFault::Damaged | ResumeFault::Version => {}
     }
 }
 
-fn tell_stale<'a, E: Sink>(err: &mut E, journal: &'a str)
+fn report_stale<'a, E: Sink>(err: &mut E, journal: &'a str)
     ensures { AppendsUnlessFailed (E.faults err.old) (E.faults err.new) (E.contents err.old) (E.contents err.new) (stale_hint journal.entry.now) }
 {
-    tell(
+    report(
         err,
         &[
             "buildozer: the file changed since the last run with --journal: restore it, or delete ",
@@ -171,10 +171,10 @@ fn tell_stale<'a, E: Sink>(err: &mut E, journal: &'a str)
 /// Reports a word on a file, and no file is open.
 pub(crate) fn fail<E: Sink>(err: &mut E, name: &str, word: &str, cut: Cut) -> Opening
     ensures opening { result ≡ record { place = None; cut = cut } }
-    ensures told { AppendsUnlessFailed (E.faults err.old) (E.faults err.new) (E.contents err.old) (E.contents err.new)
+    ensures reported { AppendsUnlessFailed (E.faults err.old) (E.faults err.new) (E.contents err.old) (E.contents err.new)
         (named_line name.now word.now) }
 {
-    tell_named(err, name, word);
+    report_named(err, name, word);
     without_file(cut)
 }
 
@@ -183,11 +183,11 @@ pub(crate) fn unresumed<E: Sink>(err: &mut E, journal: &str, fault: &ResumeFault
     ensures place { result.place ≡ None }
     ensures whole { result.cut ≡ Cut.Whole → fault.now ≢ ResumeFault.Memory }
     ensures cut { (result.cut ≡ Cut.Whole) ⊎ (result.cut ≡ Cut.Memory) }
-    ensures told { Tells (E.faults err.old) (E.faults err.new) (E.contents err.old) (E.contents err.new)
+    ensures reported { Reports (E.faults err.old) (E.faults err.new) (E.contents err.old) (E.contents err.new)
         (named_line journal.now (fault_word fault.now) ∷ hints_of_journal journal.now fault.now) }
 {
-    let opening = fail(err, journal, told_fault(fault), cut_of(fault));
-    tell_hint(err, journal, fault);
+    let opening = fail(err, journal, reported_fault(fault), cut_of(fault));
+    report_hint(err, journal, fault);
     opening
 }
 
@@ -196,6 +196,6 @@ pub(crate) fn unnamed<E: Sink>(err: &mut E, package: &str) -> Opening
     ensures { result ≡ record { place = None; cut = Cut.Memory } }
 {
     let slash = if package.is_empty() { "" } else { "/" };
-    tell(err, &[package, slash, "BUILD", ": Memory\n"]);
+    report(err, &[package, slash, "BUILD", ": Memory\n"]);
     without_file(Cut::Memory)
 }

@@ -4,7 +4,7 @@ ghost use Rattle.std.specs.Option.{option_map};
 ghost use Rattle.std.specs.FinMap.{get};
 ghost use Rattle.bz_items.specs.Characters.{Bytes};
 ghost use Rattle.bz_ports.specs.Faults.{Rises};
-ghost use Rattle.bz_ports.specs.Outputs.{Counts, Tells};
+ghost use Rattle.bz_ports.specs.Outputs.{Counts, Reports};
 ghost use Rattle.bz_workspace.specs.Found.{found_in, found_at, second_name};
 ghost use Rattle.bz_workspace.specs.Kept.{texts_of_keys, packages_of};
 ghost use Rattle.bz_journal.specs.Actions.{action_in};
@@ -24,7 +24,7 @@ use bz_items::{Memory, Text, at};
 use bz_journal::{Action, KeepFault, Reply};
 use bz_keep::journal_name;
 use bz_lex::ReadFault;
-use bz_ports::{Cut, MOST, Sink, tell_fault, tell_named};
+use bz_ports::{Cut, MOST, Sink, report_fault, report_named};
 use bz_value::Refusal;
 use indexmap::IndexSet;
 use std::alloc::Global;
@@ -155,7 +155,7 @@ impl Workspace {
             × Takes «package».now name.now text.items file lines
             × (self.new ≡ with_opened place file self.old)
             × (result.place ≡ option_map (λ _. place) file)
-            × Tells (E.faults err.old) (E.faults err.new) (E.contents err.old) (E.contents err.new) lines }
+            × Reports (E.faults err.old) (E.faults err.new) (E.contents err.old) (E.contents err.new) lines }
         ensures cut { (result.cut ≡ Cut.Whole) ⊎ ((result.cut ≡ Cut.Memory) × (result.place ≡ None) × (self.new ≡ self.old)) }
         ensures there { IfSome result.place (λ at. IsSome (file_at at self.new)) }
     {
@@ -164,7 +164,7 @@ impl Workspace {
             Ok(file) => return self.put(place, file),
             Err(fault) => fault,
         };
-        tell_fault(err, name, &fault);
+        report_fault(err, name, &fault);
         match fault {
             ReadFault::Memory => without_file(Cut::Memory),
             _ => {
@@ -193,7 +193,7 @@ impl Workspace {
             × TakesBeside (journal_beside journals (F.folder files.old) name.now) «package».now name.now text.items file lines
             × (self.new ≡ with_opened place file self.old)
             × (result.place ≡ option_map (λ _. place) file)
-            × Tells (E.faults err.old) (E.faults err.new) (E.contents err.old) (E.contents err.new) lines }
+            × Reports (E.faults err.old) (E.faults err.new) (E.contents err.old) (E.contents err.new) lines }
         ensures puts { Puts place (λ file. F.honest files.old ≡ true → TakesBeside (journal_beside journals (F.folder files.old) name.now) «package».now name.now text.items (Some file) []) result.place self.old self.new }
         ensures folder { F.honest files.old ≡ true → F.folder files.new ≡ F.folder files.old }
         ensures time { F.honest files.old ≡ true → KeepsFolder F.Files files.old files.new }
@@ -237,7 +237,7 @@ impl Workspace {
             × OpensBeside journals (F.folder files.old) «package».now (found_at (second_name «package».now) (get (F.folder files.old) (second_name «package».now)) None) file lines
             × (self.new ≡ with_opened place file self.old)
             × (result.place ≡ option_map (λ _. place) file)
-            × Tells (E.faults err.old) (E.faults err.new) (E.contents err.old) (E.contents err.new) lines }
+            × Reports (E.faults err.old) (E.faults err.new) (E.contents err.old) (E.contents err.new) lines }
         ensures puts { Puts place (λ file. F.honest files.old ≡ true → IsOpenedIn journals (F.folder files.old) «package».now file) result.place self.old self.new }
         ensures folder { F.honest files.old ≡ true → F.folder files.new ≡ F.folder files.old }
         ensures time { F.honest files.old ≡ true → KeepsFolder F.Files files.old files.new }
@@ -275,7 +275,7 @@ impl Workspace {
             × OpensBeside journals (F.folder files.old) «package».now (found_in (F.folder files.old) «package».now) file lines
             × (self.new ≡ with_opened place file self.old)
             × (result.place ≡ option_map (λ _. place) file)
-            × Tells (E.faults err.old) (E.faults err.new) (E.contents err.old) (E.contents err.new) lines }
+            × Reports (E.faults err.old) (E.faults err.new) (E.contents err.old) (E.contents err.new) lines }
         ensures puts { Puts place (λ file. F.honest files.old ≡ true → IsOpenedIn journals (F.folder files.old) «package».now file) result.place self.old self.new }
         ensures folder { F.honest files.old ≡ true → F.folder files.new ≡ F.folder files.old }
         ensures time { F.honest files.old ≡ true → KeepsFolder F.Files files.old files.new }
@@ -294,7 +294,7 @@ impl Workspace {
             Err(FileFault::Absent) => self.open_second(place, package, journals, files, err),
             Err(FileFault::Memory) => fail(err, name, "Memory", Cut::Memory),
             Err(_) => {
-                tell_named(err, name, "cannot open");
+                report_named(err, name, "cannot open");
                 let opening = self.open_second(place, package, journals, files, err);
                 Opening {
                     place: opening.place,
@@ -326,13 +326,13 @@ impl Workspace {
             × Opens «package».now (found_in (F.folder files.old) «package».now) file lines
             × (self.new ≡ self.old ++ record { «package» = «package».now; file = file } ∷ [])
             × (result.place ≡ option_map (λ _. length self.old) file)
-            × Tells (E.faults err.old) (E.faults err.new) (E.contents err.old) (E.contents err.new) lines }
+            × Reports (E.faults err.old) (E.faults err.new) (E.contents err.old) (E.contents err.new) lines }
         ensures opens { F.honest files.old ≡ true → result.cut ≡ Cut.Whole → package_number «package».now self.old ≡ None
             → (file : Option p.Opened) × (lines : List Bytes)
             × OpensBeside journals (F.folder files.old) «package».now (found_in (F.folder files.old) «package».now) file lines
             × (self.new ≡ self.old ++ record { «package» = «package».now; file = file } ∷ [])
             × (result.place ≡ option_map (λ _. length self.old) file)
-            × Tells (E.faults err.old) (E.faults err.new) (E.contents err.old) (E.contents err.new) lines }
+            × Reports (E.faults err.old) (E.faults err.new) (E.contents err.old) (E.contents err.new) lines }
         ensures there { IfSome result.place (λ at. IsSome (file_at at self.new)) }
 
         // Whatever comes, the packages that were used before stay as they were, and the new one is the last or not there; its file, where

@@ -15,29 +15,29 @@ use Rattle.bz_value.specs.declared.value.Item.TheVariants as i
 use Rattle.bz_items.specs.Characters.{Bytes, comma, space}
 use Rattle.bz_value.specs.Frames.{Frame, row, sequence, frame, has_brackets}
 use Rattle.bz_value.specs.Proper.{comments_of}
-use Rattle.bz_write.specs.Layout.{Piece, mark, laid_in, rowed, headed, joined, stacked, is_broken, is_tuple, gap_behind, margin_behind, firsts}
+use Rattle.bz_write.specs.Layout.{Piece, mark, laid_in, rowed, headed, joined, stacked, is_broken, is_tuple, gap_after, margin_after, firsts}
 use Rattle.bz_value.specs.Empty.{is_empty}
-use Rattle.bz_write.specs.Drawn.{part_of, parts_of, piece_part, line_part, before_next, lines_from, drawn}
+use Rattle.bz_write.specs.LaidOut.{part_of, parts_of, piece_part, line_part, before_next, lines_from, laid_out}
 use Rattle.bz_write.specs.Written.{comment_lines}
 use Rattle.bz_write.specs.Depths.{depth_in, depth_expr, depth_exprs, deepest_of, depth_inside, depth_items}
 use Rattle.bz_write.proofs.Made.{parts_row, items_row, parts_of_row, items_of_row, two}
 
-abbrev pub Drawing : Type 0
-Drawing = Expr × (Bytes → ℕ → Part)
+abbrev pub LayingOut : Type 0
+LayingOut = Expr × (Bytes → ℕ → Part)
 
 -- what is laid out of each expression is as deep as it says
-abbrev pub AsDeep : List Drawing → Type 0
+abbrev pub AsDeep : List LayingOut → Type 0
 AsDeep [] = Unit {0}
 AsDeep (x ∷ xs) = ((gap : Bytes) (m : ℕ) → depth_part (x.1 gap m) ≡ depth_expr x.0) × AsDeep xs
 
 abbrev pub depth_pieces : List (Piece (Bytes → ℕ → Part)) → ℕ
 depth_pieces ps = deepest (map piece_part ps)
 
-pub rowed_depth : (kind : Kind) (open_ : Bool) (m : ℕ) (gap : Bytes) (n : ℕ) (xs : List Drawing) → AsDeep xs → depth_pieces (rowed kind open_ m gap n xs) ≡ deepest_of (firsts xs)
-rowed_depth kind open_ m gap n [] h = refl
-rowed_depth kind open_ m gap n (x ∷ xs) h = two max (h.0 gap n) (rowed_depth kind open_ m (gap_behind kind open_ m x.0 (firsts xs)) (margin_behind open_ m x.0) xs h.1)
+pub rowed_depth : (kind : Kind) (open_break : Bool) (m : ℕ) (gap : Bytes) (n : ℕ) (xs : List LayingOut) → AsDeep xs → depth_pieces (rowed kind open_break m gap n xs) ≡ deepest_of (firsts xs)
+rowed_depth kind open_break m gap n [] h = refl
+rowed_depth kind open_break m gap n (x ∷ xs) h = two max (h.0 gap n) (rowed_depth kind open_break m (gap_after kind open_break m x.0 (firsts xs)) (margin_after open_break m x.0) xs h.1)
 
-headed_depth : (m : ℕ) (gap : Bytes) (opener : ℕ) (xs : List Drawing) (after : List (Piece (Bytes → ℕ → Part))) → AsDeep xs →
+headed_depth : (m : ℕ) (gap : Bytes) (opener : ℕ) (xs : List LayingOut) (after : List (Piece (Bytes → ℕ → Part))) → AsDeep xs →
     depth_pieces (headed m gap opener xs after) ≡ max (deepest_of (firsts xs)) (depth_pieces after)
 headed_depth m gap opener [] after h = refl
 headed_depth m gap opener (x ∷ xs) after h =
@@ -49,50 +49,50 @@ comma_depth : (b : Bool) (ps : List (Piece (Bytes → ℕ → Part))) → depth_
 comma_depth true ps = refl
 comma_depth false ps = omega arith
 
-joined_depth : (m : ℕ) (gap : Bytes) (closer : ℕ) (one : Bool) (xs : List Drawing) → AsDeep xs → depth_pieces (joined m gap closer one xs) ≡ deepest_of (firsts xs)
+joined_depth : (m : ℕ) (gap : Bytes) (closer : ℕ) (one : Bool) (xs : List LayingOut) → AsDeep xs → depth_pieces (joined m gap closer one xs) ≡ deepest_of (firsts xs)
 joined_depth m gap closer one [] h = omega arith
 joined_depth m gap closer one (x ∷ xs) h =
     two max (h.0 gap m) (comma_depth (is_empty xs && not one) (joined m (space ∷ []) closer false xs) ∙ joined_depth m (space ∷ []) closer false xs h.1)
 
-stacked_depth : (m : ℕ) (suffix : Option Bytes) (closer : ℕ) (end_ : List Bytes) (xs : List Drawing) → AsDeep xs → depth_pieces (stacked m suffix closer end_ xs) ≡ deepest_of (firsts xs)
-stacked_depth m suffix closer end_ [] h = omega arith
-stacked_depth m suffix closer end_ (x ∷ xs) h =
-    let more : depth_pieces (stacked m (comments_of x.0).suffix closer end_ xs) ≡ deepest_of (firsts xs) = stacked_depth m (comments_of x.0).suffix closer end_ xs h.1 in
+stacked_depth : (m : ℕ) (suffix : Option Bytes) (closer : ℕ) (end : List Bytes) (xs : List LayingOut) → AsDeep xs → depth_pieces (stacked m suffix closer end xs) ≡ deepest_of (firsts xs)
+stacked_depth m suffix closer end [] h = omega arith
+stacked_depth m suffix closer end (x ∷ xs) h =
+    let more : depth_pieces (stacked m (comments_of x.0).suffix closer end xs) ≡ deepest_of (firsts xs) = stacked_depth m (comments_of x.0).suffix closer end xs h.1 in
     two max (h.0 _ (m + 4)) (omega (arith, more))
 
-pub body_depth : (b one : Bool) (m : ℕ) (closer : ℕ) (end_ : List Bytes) (xs : List Drawing) → AsDeep xs → depth_pieces (if b then stacked m None closer end_ xs else joined m [] closer one xs) ≡ deepest_of (firsts xs)
-body_depth true one m closer end_ xs h = stacked_depth m None closer end_ xs h
-body_depth false one m closer end_ xs h = joined_depth m [] closer one xs h
+pub body_depth : (b one : Bool) (m : ℕ) (closer : ℕ) (end : List Bytes) (xs : List LayingOut) → AsDeep xs → depth_pieces (if b then stacked m None closer end xs else joined m [] closer one xs) ≡ deepest_of (firsts xs)
+body_depth true one m closer end xs h = stacked_depth m None closer end xs h
+body_depth false one m closer end xs h = joined_depth m [] closer one xs h
 
-laid_depth : (f : Frame) (kind : Kind) (split open_ : Bool) (gap : Bytes) (m : ℕ) (hs xs : List Drawing) (end_ : List Bytes) → AsDeep hs → AsDeep xs →
-    depth_pieces (laid_in f kind split open_ gap m hs xs end_) ≡ max (deepest_of (firsts hs)) (depth_in f (deepest_of (firsts xs)))
-laid_depth row kind split open_ gap m hs xs end_ a b = rowed_depth kind open_ m gap m hs a ∙ omega arith
-laid_depth (sequence opener closer) kind split open_ gap m hs xs end_ a b =
+laid_depth : (f : Frame) (kind : Kind) (split open_break : Bool) (gap : Bytes) (m : ℕ) (hs xs : List LayingOut) (end : List Bytes) → AsDeep hs → AsDeep xs →
+    depth_pieces (laid_in f kind split open_break gap m hs xs end) ≡ max (deepest_of (firsts hs)) (depth_in f (deepest_of (firsts xs)))
+laid_depth row kind split open_break gap m hs xs end a b = rowed_depth kind open_break m gap m hs a ∙ omega arith
+laid_depth (sequence opener closer) kind split open_break gap m hs xs end a b =
     headed_depth m gap opener hs _ a ∙
-    ap (λ n. max (deepest_of (firsts hs)) n) (body_depth (is_broken kind split (firsts xs) end_) (is_tuple kind && nat_eq (length xs) 1) m closer end_ xs b)
+    ap (λ n. max (deepest_of (firsts hs)) n) (body_depth (is_broken kind split (firsts xs) end) (is_tuple kind && nat_eq (length xs) 1) m closer end xs b)
 
 row_values : (n : _) (r : Row_of-Expr n) → deepest_of (firsts (parts_of r)) ≡ depth_exprs r
 row_values n end_of-Expr = refl
 row_values n (more_of-Expr x rest) = ap (λ d. max (depth_expr x) d) (row_values _ rest)
 
 mutual
-  pub depth_drawn : (x : Expr) (gap : Bytes) (m : ℕ) → depth_part (part_of x gap m) ≡ depth_expr x
-  depth_drawn (Token t) gap m = refl
-  depth_drawn (Form' kind s parts s' items end_ split open_ comments) gap m =
+  pub depth_laid_out : (x : Expr) (gap : Bytes) (m : ℕ) → depth_part (part_of x gap m) ≡ depth_expr x
+  depth_laid_out (Token t) gap m = refl
+  depth_laid_out (Form' kind s parts s' items end split open_break comments) gap m =
       depth_Node (record { kind = kind; parts = _ }) ∙
       ap suc
-      (laid_depth (frame kind) kind split open_ gap m (parts_of parts) (parts_of items) end_ (all_drawn _ parts) (all_drawn _ items) ∙
+      (laid_depth (frame kind) kind split open_break gap m (parts_of parts) (parts_of items) end (all_laid_out _ parts) (all_laid_out _ items) ∙
       two (λ a b. max a (depth_in (frame kind) b)) (row_values _ parts) (row_values _ items))
 
-  all_drawn : (n : _) (r : Row_of-Expr n) → AsDeep (parts_of r)
-  all_drawn n end_of-Expr = tt
-  all_drawn n (more_of-Expr x rest) = (λ gap m. depth_drawn x gap m, all_drawn _ rest)
+  all_laid_out : (n : _) (r : Row_of-Expr n) → AsDeep (parts_of r)
+  all_laid_out n end_of-Expr = tt
+  all_laid_out n (more_of-Expr x rest) = (λ gap m. depth_laid_out x gap m, all_laid_out _ rest)
 
 -- ---- files
 
 line_depth : (gap : Bytes) (x : Expr) → depth_part (line_part gap x) ≡ suc (depth_expr x)
 line_depth gap x =
-    let here : depth_part (part_of x (gap ++ comment_lines (comments_of x).before) 0) ≡ depth_expr x = depth_drawn x (gap ++ comment_lines (comments_of x).before) 0 in
+    let here : depth_part (part_of x (gap ++ comment_lines (comments_of x).before) 0) ≡ depth_expr x = depth_laid_out x (gap ++ comment_lines (comments_of x).before) 0 in
     depth_Node (record { kind = k.Line; parts = _ }) ∙ omega (arith, here)
 
 lines_depth : (gap : Bytes) (xs : List Item) → deepest (lines_from gap xs) ≡ depth_items xs
@@ -100,8 +100,8 @@ lines_depth gap [] = refl
 lines_depth gap (i.Block texts ∷ xs) = lines_depth ((gap ++ comment_lines texts) ++ before_next (i.Block texts) xs) xs
 lines_depth gap (i.Stmt x ∷ xs) = two max (line_depth gap x) (lines_depth (before_next (i.Stmt x) xs) xs)
 
-pub drawn_depth : (xs : List Item) → depth_of (drawn xs) ≡ suc (depth_items xs)
-drawn_depth xs = ap suc (lines_depth [] xs)
+pub laid_out_depth : (xs : List Item) → depth_of (laid_out xs) ≡ suc (depth_items xs)
+laid_out_depth xs = ap suc (lines_depth [] xs)
 
 -- ---- forms
 

@@ -12,8 +12,8 @@ use Rattle.bz_tree.specs.declared.kind.Kind.TheVariants as k
 use Rattle.bz_tree.specs.declared.tree.Part.{Part, Node'}
 use Rattle.bz_tree.specs.declared.tree.Part.TheVariants as p
 use Rattle.bz_tree.specs.Shapes as s
-use Rattle.bz_tree.specs.Shapes.{Sort, Terminal, Shape, Fits, has_sort, has_token, is_one_of, is_terminal}
-use Rattle.bz_tree.specs.Legal.{IsSort}
+use Rattle.bz_tree.specs.Shapes.{Nonterminal, Terminal, Shape, Fits, has_nonterminal, has_token, is_one_of, is_terminal}
+use Rattle.bz_tree.specs.Legal.{IsNonterminal}
 use Rattle.bz_tree.specs.Spots.{opens, role}
 use Rattle.bz_tree.proofs.Balance.{same_class, no_such}
 use Rattle.bz_items.specs.Characters.{comma}
@@ -27,7 +27,7 @@ use Rattle.bz_write.proofs.Spacing.{word_terminal, word_leaf, value_of}
 
 abbrev pub is : Element → Part → Bool
 is (T ts) x = has_token ts x
-is (S a) x = has_sort a x
+is (S a) x = has_nonterminal a x
 
 is_so : (a : Element) (x : Part) → Is a x → is a x ≡ true
 is_so (T ts) x h = h
@@ -41,12 +41,12 @@ any_last a = true
 abbrev pub other_than : Part → Element → Element → Bool
 other_than m a b = not (is b m)
 
-none_behind : (m x : Part) (ps rest : List Part) → Links (other_than m) any_last x (ps ++ (m ∷ rest)) → ⊥
-none_behind m x [] rest h = both_ways (is h.0.1 m) (not-true _ h.0.4) (is_so h.0.1 m h.0.3)
-none_behind m x (y ∷ ps) rest h = none_behind m y ps rest h.1
+none_after : (m x : Part) (ps rest : List Part) → Links (other_than m) any_last x (ps ++ (m ∷ rest)) → ⊥
+none_after m x [] rest h = both_ways (is h.0.1 m) (not-true _ h.0.4) (is_so h.0.1 m h.0.3)
+none_after m x (y ∷ ps) rest h = none_after m y ps rest h.1
 
-pub none_is : (m : Part) (r : Shape) (a : Element) (x : Part) → Is a x → passes (other_than m) any_last (Some a) r ≡ true → (ps rest : List Part) → Fits IsSort r (ps ++ (m ∷ rest)) → ⊥
-none_is m r a x i t ps rest h = none_behind m x ps rest (links (other_than m) any_last r (Some a) x i t (ps ++ (m ∷ rest)) h)
+pub none_is : (m : Part) (r : Shape) (a : Element) (x : Part) → Is a x → passes (other_than m) any_last (Some a) r ≡ true → (ps rest : List Part) → Fits IsNonterminal r (ps ++ (m ∷ rest)) → ⊥
+none_is m r a x i t ps rest h = none_after m x ps rest (links (other_than m) any_last r (Some a) x i t (ps ++ (m ∷ rest)) h)
 
 -- ---- items are no tokens of their row
 
@@ -76,17 +76,17 @@ item_values : (z : Part) (xs rest : List Part) → Links before_comma any_last z
 item_values z [] rest h = tt
 item_values z (x ∷ xs) rest h = (value_before x h.1.0, item_values (mark_leaf comma) xs rest h.1.1)
 
-behind_head : (x : Part) (ps : List Part) (m : Part) (rest : List Part) → Links before_comma any_last x (ps ++ (m ∷ rest)) → Links before_comma any_last m rest
-behind_head x [] m rest h = h.1
-behind_head x (y ∷ ps) m rest h = behind_head y ps m rest h.1
+after_head : (x : Part) (ps : List Part) (m : Part) (rest : List Part) → Links before_comma any_last x (ps ++ (m ∷ rest)) → Links before_comma any_last m rest
+after_head x [] m rest h = h.1
+after_head x (y ∷ ps) m rest h = after_head y ps m rest h.1
 
 -- the items between brackets in a row, with what is after the last comma
-pub enclosed_values : (r : Shape) → passes before_comma any_last None r ≡ true → (o : ℕ) (parts items rest : List Part) → Fits IsSort r (parts ++ (mark_leaf o ∷ (each_with_comma items ++ rest))) → AreValues items
+pub enclosed_values : (r : Shape) → passes before_comma any_last None r ≡ true → (o : ℕ) (parts items rest : List Part) → Fits IsNonterminal r (parts ++ (mark_leaf o ∷ (each_with_comma items ++ rest))) → AreValues items
 enclosed_values r t o [] items rest h = item_values (mark_leaf o) items rest (links before_comma any_last r None (mark_leaf o) tt t (mark_leaf o ∷ (each_with_comma items ++ rest)) h)
 enclosed_values r t o (x ∷ parts) items rest h =
-    item_values (mark_leaf o) items rest (behind_head x parts (mark_leaf o) (each_with_comma items ++ rest) (links before_comma any_last r None x tt t (x ∷ (parts ++ (mark_leaf o ∷ (each_with_comma items ++ rest)))) h))
+    item_values (mark_leaf o) items rest (after_head x parts (mark_leaf o) (each_with_comma items ++ rest) (links before_comma any_last r None x tt t (x ∷ (parts ++ (mark_leaf o ∷ (each_with_comma items ++ rest)))) h))
 
-in_brackets : (r : Shape) (f : Frame) → (has_brackets f ≡ true → passes before_comma any_last None r ≡ true) → (parts items : List Part) → Fits IsSort r (row_in f parts items) → in_frame f (Unit {0}) (AreValues items)
+in_brackets : (r : Shape) (f : Frame) → (has_brackets f ≡ true → passes before_comma any_last None r ≡ true) → (parts items : List Part) → Fits IsNonterminal r (row_in f parts items) → in_frame f (Unit {0}) (AreValues items)
 in_brackets r row t parts items h = tt
 in_brackets r (sequence o e) t parts items h = enclosed_values r (t refl) o parts items (mark_leaf e ∷ []) h
 
@@ -99,7 +99,7 @@ brackets_pass k.Dict h = refl
 brackets_pass _ h = no_such h
 
 -- the items of each sequence
-pub items_values : (kind : Kind) (parts items : List Part) → Fits IsSort (line_shape kind) (row_in (frame kind) parts items) → in_frame (frame kind) (Unit {0}) (AreValues items)
+pub items_values : (kind : Kind) (parts items : List Part) → Fits IsNonterminal (line_shape kind) (row_in (frame kind) parts items) → in_frame (frame kind) (Unit {0}) (AreValues items)
 items_values kind parts items h = in_brackets (line_shape kind) (frame kind) (brackets_pass kind) parts items h
 
 -- ---- comprehensions: an opening bracket, and then no tokens of their row but the last
@@ -124,9 +124,9 @@ inside : (x : Part) (xs : List Part) → Links value_first any_last x xs → Ins
 inside x [] h = tt
 inside x (y ∷ ys) h = (valued_part h.0.0 x h.0.2 h.0.4, inside y ys h.1)
 
-behind_opening : (r : Shape) → passes value_first any_last None r ≡ true → (xs : List Part) → Fits IsSort r xs → Inside xs
-behind_opening r t [] h = tt
-behind_opening r t (x ∷ xs) h = inside x xs (links value_first any_last r None x tt t (x ∷ xs) h)
+after_opening : (r : Shape) → passes value_first any_last None r ≡ true → (xs : List Part) → Fits IsNonterminal r xs → Inside xs
+after_opening r t [] h = tt
+after_opening r t (x ∷ xs) h = inside x xs (links value_first any_last r None x tt t (x ∷ xs) h)
 
 pub this_leaf : (class : Class) (t : List ℕ) (l : Leaf) → is_one_of (s.this class t ∷ []) l ≡ true → (l.class ≡ class) × (l.token ≡ t)
 this_leaf class t l h =
@@ -139,16 +139,16 @@ opening : (t : List ℕ) → role c.Mark t ≡ opens → (x : Part) → has_toke
 opening t o (p.Leaf l) h = let w = this_leaf c.Mark t l h in subst (λ z. role z l.token ≡ opens) (sym w.0) (subst (λ z. role c.Mark z ≡ opens) (sym w.1) o)
 opening t o (Node' kind z r) h = no_such h
 
-pub comprehension : (kind : Kind) → is_comprehension kind ≡ true → (xs : List Part) → Fits IsSort (line_shape kind) xs → Opened xs
+pub comprehension : (kind : Kind) → is_comprehension kind ≡ true → (xs : List Part) → Fits IsNonterminal (line_shape kind) xs → Opened xs
 comprehension k.ListComp o [] h = absurd h
-comprehension k.ListComp o (x ∷ xs) h = (opening (codes "[") refl x h.0, behind_opening (s.sub s.test (s.sub s.first_clause (s.each s.clause (s.tok s.close_square s.done)))) refl xs h.1)
+comprehension k.ListComp o (x ∷ xs) h = (opening (codes "[") refl x h.0, after_opening (s.sub s.test (s.sub s.first_clause (s.each s.clause (s.tok s.close_square s.done)))) refl xs h.1)
 comprehension k.DictComp o [] h = absurd h
-comprehension k.DictComp o (x ∷ xs) h = (opening (codes "{") refl x h.0, behind_opening (s.sub s.entry (s.sub s.first_clause (s.each s.clause (s.tok s.close_curly s.done)))) refl xs h.1)
+comprehension k.DictComp o (x ∷ xs) h = (opening (codes "{") refl x h.0, after_opening (s.sub s.entry (s.sub s.first_clause (s.each s.clause (s.tok s.close_curly s.done)))) refl xs h.1)
 comprehension _ o xs h = no_such o
 
 -- ---- no node is empty, and one without a newline and an end is no line and no file
 
-pub some_part : (kind : Kind) → Fits IsSort (line_shape kind) [] → ⊥
+pub some_part : (kind : Kind) → Fits IsNonterminal (line_shape kind) [] → ⊥
 some_part k.File h = h
 some_part k.Param (inl h) = h
 some_part k.Param (inr (inl h)) = h
@@ -194,11 +194,11 @@ last_ends (Node' kind z r) [] (T ts, i, o) h = no_such i
 last_ends x [] (S a, i, o) h = no_such o
 last_ends x (y ∷ ys) w h = last_ends y ys w.1 h.1
 
-no_line : (r : Shape) → passes any_two line_last None r ≡ true → (Fits IsSort r [] → ⊥) → (xs : List Part) → Fits IsSort r xs → InLine xs → ⊥
+no_line : (r : Shape) → passes any_two line_last None r ≡ true → (Fits IsNonterminal r [] → ⊥) → (xs : List Part) → Fits IsNonterminal r xs → InLine xs → ⊥
 no_line r t e [] h i = e h
 no_line r t e (x ∷ xs) h i = last_ends x xs (links any_two line_last r None x tt t (x ∷ xs) h) i
 
-pub within_line : (kind : Kind) (xs : List Part) → Fits IsSort (line_shape kind) xs → InLine xs → in_a_line kind ≡ true
+pub within_line : (kind : Kind) (xs : List Part) → Fits IsNonterminal (line_shape kind) xs → InLine xs → in_a_line kind ≡ true
 within_line k.File xs h i = absurd (no_line (line_shape k.File) refl (some_part k.File) xs h i)
 within_line k.Line xs h i = absurd (no_line (line_shape k.Line) refl (some_part k.Line) xs h i)
 within_line k.Def xs h i = absurd h

@@ -4,10 +4,10 @@ use Rattle.std.proofs.lemmas.List.{drop_more}
 use Rattle.bz_tree.specs.Spell.{depth_of, depth_limit}
 use Rattle.bz_value.specs.declared.value.Item.{Item}
 use Rattle.bz_write.specs.Depths.{depth_items}
-use Rattle.bz_write.specs.Drawn.{drawn}
+use Rattle.bz_write.specs.LaidOut.{laid_out}
 use Rattle.bz_value.specs.Exchanged.{AreExchanged}
 use Rattle.bz_write.specs.Marks.{marked_items}
-use Rattle.bz_write.proofs.Deep.{drawn_depth}
+use Rattle.bz_write.proofs.Deep.{laid_out_depth}
 use Rattle.bz_write.proofs.Measured.{depth_first}
 
 -- the depth of an item's line, if it is marked
@@ -57,16 +57,16 @@ exchanged_depth (false ∷ ms) (x ∷ xs) (y ∷ ys) h =
 exchanged_depth _ _ _ h = absurd h
 
 pub shallow_after : (marks : List Bool) (before items : List Item) → depth_items (marked_items marks items) ≤ depth_limit - 1 → AreExchanged marks before items →
-    depth_of (drawn before) ≤ depth_limit → depth_of (drawn items) ≤ depth_limit
+    depth_of (laid_out before) ≤ depth_limit → depth_of (laid_out items) ≤ depth_limit
 shallow_after marks before items s h shallow =
-    let old : depth_of (drawn before) ≡ suc (depth_items before) = drawn_depth before in
-    let new : depth_of (drawn items) ≡ suc (depth_items items) = drawn_depth items in
+    let old : depth_of (laid_out before) ≡ suc (depth_items before) = laid_out_depth before in
+    let new : depth_of (laid_out items) ≡ suc (depth_items items) = laid_out_depth items in
     let most : depth_items items ≤ max (depth_items before) (depth_items (marked_items marks items)) = exchanged_depth marks before items h in
     omega (arith, old, new, most, s, shallow)
 
-pub deep_after : (marks : List Bool) (items : List Item) → (depth_items (marked_items marks items) ≤ depth_limit - 1 → false ≡ true) → depth_limit < depth_of (drawn items)
+pub deep_after : (marks : List Bool) (items : List Item) → (depth_items (marked_items marks items) ≤ depth_limit - 1 → false ≡ true) → depth_limit < depth_of (laid_out items)
 deep_after marks items deep =
-    let deeper : depth_items (marked_items marks items) ≤ depth_limit - 1 → ⊥ = λ shallow. let no_ : false ≡ true = deep shallow in cc in
-    let new : depth_of (drawn items) ≡ suc (depth_items items) = drawn_depth items in
+    let deeper_margin : depth_items (marked_items marks items) ≤ depth_limit - 1 → ⊥ = λ shallow. let no_ : false ≡ true = deep shallow in cc in
+    let new : depth_of (laid_out items) ≡ suc (depth_items items) = laid_out_depth items in
     let less : depth_items (marked_items marks items) ≤ depth_items items = below_all marks items in
-    omega (arith, new, less, deeper)
+    omega (arith, new, less, deeper_margin)

@@ -2,7 +2,7 @@
 use Rattle.std.proofs.Common.{ℕ, Bool, true, false, ◌≡◌, ◌<◌, ◌≤◌, List, [], ◌∷◌, ◌+◌, if◌then◌else◌, length, get_or, drop, ap, ◌∙◌, arith}
 use Rattle.std.proofs.lemmas.List.{drop_more}
 use Rattle.bz_value.specs.declared.value.Item.{Item}
-use Rattle.bz_write.specs.Drawn.{before_next}
+use Rattle.bz_write.specs.LaidOut.{before_next}
 use Rattle.bz_write.specs.Exchanged.{marked_length}
 use Rattle.bz_write.specs.Written.{item_text, layout}
 use Rattle.bz_write.proofs.Measured.{layout_first}

@@ -14,7 +14,7 @@ use Rattle.bz_value.specs.Empty.{is_empty}
 use Rattle.bz_value.specs.Exchanged.{is_bare, IsExchanged, AreExchanged}
 use Rattle.bz_value.specs.Proper.{comments_of}
 use Rattle.bz_write.specs.Written.{is_load, is_load_kind, is_assign, is_assign_kind, gap_between, comment_lines}
-use Rattle.bz_write.specs.Drawn.{line_part, before_next, lines_from}
+use Rattle.bz_write.specs.LaidOut.{line_part, before_next, lines_from}
 use Rattle.bz_write.specs.Marks.{marked_places, marked_lines}
 
 -- ---- what is between items stays
@@ -38,11 +38,11 @@ bare_no_assign_kind _ h = refl
 
 bare_no_load : (x : Expr) → is_bare (i.Stmt x) ≡ true → is_load x ≡ false
 bare_no_load (Token t) h = refl
-bare_no_load (Form' kind s parts s' items end_ split open_ comments) h = bare_no_load_kind kind h
+bare_no_load (Form' kind s parts s' items end split open_break comments) h = bare_no_load_kind kind h
 
 bare_no_assign : (x : Expr) → is_bare (i.Stmt x) ≡ true → is_assign x ≡ false
 bare_no_assign (Token t) h = refl
-bare_no_assign (Form' kind s parts s' items end_ split open_ comments) h = bare_no_assign_kind kind h
+bare_no_assign (Form' kind s parts s' items end split open_break comments) h = bare_no_assign_kind kind h
 
 between_above : (x y : Item) → is_bare x ≡ true → gap_between x y ≡ line_feed ∷ []
 between_above (i.Block texts) y h = refl
@@ -111,23 +111,23 @@ lines_put gap front place _ _ _ e h = absurd h
 
 -- ---- the places
 
-from_before : (place end : ℕ) (places : List ℕ) → Ascend (place + 1) end places → Ascend place end places
-from_before place end [] h = tt
-from_before place end (p ∷ places) h = (omega arith, h.1, h.2)
+from_before : (place bound : ℕ) (places : List ℕ) → Ascend (place + 1) bound places → Ascend place bound places
+from_before place bound [] h = tt
+from_before place bound (p ∷ places) h = (omega arith, h.1, h.2)
 
-from_next : (place end : ℕ) (places : List ℕ) → Ascend (place + 1) end places → Ascend (suc place) end places
-from_next place end [] h = tt
-from_next place end (p ∷ places) h = (omega (arith, h.0), h.1, h.2)
+from_next : (place bound : ℕ) (places : List ℕ) → Ascend (place + 1) bound places → Ascend (suc place) bound places
+from_next place bound [] h = tt
+from_next place bound (p ∷ places) h = (omega (arith, h.0), h.1, h.2)
 
-places_within : (gap : Bytes) (place end : ℕ) (marks : List Bool) (items : List Item) → place + length (lines_from gap items) ≤ end → Ascend place end (marked_places place marks items)
-places_within gap place end [] items h = tt
-places_within gap place end (m ∷ ms) [] h = tt
-places_within gap place end (true ∷ ms) (i.Block texts ∷ items) h = places_within _ place end ms items h
-places_within gap place end (false ∷ ms) (i.Block texts ∷ items) h = places_within _ place end ms items h
-places_within gap place end (true ∷ ms) (i.Stmt x ∷ items) h =
-    (omega arith, omega arith, from_next place end (marked_places (place + 1) ms items) (places_within (before_next (i.Stmt x) items) (place + 1) end ms items (omega arith)))
-places_within gap place end (false ∷ ms) (i.Stmt x ∷ items) h =
-    from_before place end (marked_places (place + 1) ms items) (places_within (before_next (i.Stmt x) items) (place + 1) end ms items (omega arith))
+places_within : (gap : Bytes) (place bound : ℕ) (marks : List Bool) (items : List Item) → place + length (lines_from gap items) ≤ bound → Ascend place bound (marked_places place marks items)
+places_within gap place bound [] items h = tt
+places_within gap place bound (m ∷ ms) [] h = tt
+places_within gap place bound (true ∷ ms) (i.Block texts ∷ items) h = places_within _ place bound ms items h
+places_within gap place bound (false ∷ ms) (i.Block texts ∷ items) h = places_within _ place bound ms items h
+places_within gap place bound (true ∷ ms) (i.Stmt x ∷ items) h =
+    (omega arith, omega arith, from_next place bound (marked_places (place + 1) ms items) (places_within (before_next (i.Stmt x) items) (place + 1) bound ms items (omega arith)))
+places_within gap place bound (false ∷ ms) (i.Stmt x ∷ items) h =
+    from_before place bound (marked_places (place + 1) ms items) (places_within (before_next (i.Stmt x) items) (place + 1) bound ms items (omega arith))
 
 -- each line has a place
 as_many : (gap : Bytes) (place : ℕ) (marks : List Bool) (items : List Item) → length (marked_places place marks items) ≡ length (marked_lines gap marks items)
@@ -149,8 +149,8 @@ pub lines_found : (lines : List Part) (gap : Bytes) (marks : List Bool) (items :
 lines_found lines gap marks items k over found = sym (append-nil lines) ∙ (ap (λ ms. lines ++ marked_lines gap ms (drop k items)) (sym (drop_of_length-le marks over)) ∙ found)
 
 module _ (places : List ℕ) (lines : List Part) (marks : List Bool) (items : List Item) (p : places ≡ marked_places 0 marks items) (l : lines ≡ marked_lines [] marks items) where
-  pub found_drawn : (before : List Item) → AreExchanged marks before items → put_all places lines (lines_from [] before) ≡ lines_from [] items
-  found_drawn before h = ap (λ ps. put_all ps lines (lines_from [] before)) p ∙ (ap (λ ls. put_all (marked_places 0 marks items) ls (lines_from [] before)) l ∙ lines_put [] [] 0 marks before items refl h)
+  pub found_laid_out : (before : List Item) → AreExchanged marks before items → put_all places lines (lines_from [] before) ≡ lines_from [] items
+  found_laid_out before h = ap (λ ps. put_all ps lines (lines_from [] before)) p ∙ (ap (λ ls. put_all (marked_places 0 marks items) ls (lines_from [] before)) l ∙ lines_put [] [] 0 marks before items refl h)
 
   pub found_within : Ascend 0 (length (lines_from [] items)) places
   found_within = subst (λ ps. Ascend 0 (length (lines_from [] items)) ps) (sym p) (places_within [] 0 (length (lines_from [] items)) marks items (omega arith))

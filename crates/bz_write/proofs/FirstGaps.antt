@@ -8,7 +8,7 @@ use Rattle.bz_lex.specs.Gaps.{is_flush}
 use Rattle.bz_tree.specs.declared.tree.Part.{Part, Row_of-Part, end_of-Part, more_of-Part, Node'}
 use Rattle.bz_tree.specs.declared.tree.Part.TheVariants as p
 use Rattle.bz_tree.specs.Spell.{leaves_part, leaves_row}
-use Rattle.bz_tree.specs.Spots.{Spot, Begins, Within, Along, behind_part, AtLeaves, AtRow, GapStands, Stands, BzlGapStands}
+use Rattle.bz_tree.specs.Spots.{Spot, Begins, Within, Along, after_part, AtLeaves, AtRow, GapStands, Stands, BzlGapStands}
 use Rattle.bz_tree.proofs.Balance.{no_such}
 use Rattle.bz_items.specs.Characters.{Bytes}
 use Rattle.bz_write.proofs.Touching.{Airy, AiryRow}
@@ -31,7 +31,7 @@ no_begin : (here : Spot) (l : Leaf) → is_begins here ≡ false → is_begins h
 no_begin here l n e = no_such (sym n ∙ e)
 
 -- no line begins after a part
-part_goes_on : (outer here : Spot) (x : Part) → Airy x → AtLeaves Placed here x → is_begins (behind_part outer here x) ≡ false
+part_goes_on : (outer here : Spot) (x : Part) → Airy x → AtLeaves Placed here x → is_begins (after_part outer here x) ≡ false
 part_goes_on outer here (p.Leaf l) a h = token_goes_on l.class l.token outer here (lexeme_in_line l.class l.token h.lexeme)
 part_goes_on outer here (Node' kind z r) a h = node_goes_on kind here a.0
 
@@ -42,7 +42,7 @@ mutual
 
   later_row : (outer here : Spot) (m : _) (r : Row_of-Part m) → is_begins here ≡ false → AiryRow r → AtRow Placed outer here r → AtRow Stands outer here r
   later_row outer here m end_of-Part n a h = tt
-  later_row outer here m (more_of-Part x rest) n a h = (later here x n a.0 h.0, later_row outer (behind_part outer here x) _ rest (part_goes_on outer here x a.0 h.0) a.1 h.1)
+  later_row outer here m (more_of-Part x rest) n a h = (later here x n a.0 h.0, later_row outer (after_part outer here x) _ rest (part_goes_on outer here x a.0 h.0) a.1 h.1)
 
 -- the first leaf's gap is flush, where there is a leaf
 abbrev pub FirstFlush : List Leaf → Type 0
@@ -61,4 +61,4 @@ mutual
   flush_row : (outer here : Spot) (m : _) (r : Row_of-Part m) → FirstFlush (leaves_row r) → AiryRow r → AtRow Placed outer here r → AtRow Stands outer here r
   flush_row outer here m end_of-Part f a h = tt
   flush_row outer here m (more_of-Part x rest) f a h =
-      (flush_stands here x (first_of (leaves_part x) (leaves_row rest) f) a.0 h.0, later_row outer (behind_part outer here x) _ rest (part_goes_on outer here x a.0 h.0) a.1 h.1)
+      (flush_stands here x (first_of (leaves_part x) (leaves_row rest) f) a.0 h.0, later_row outer (after_part outer here x) _ rest (part_goes_on outer here x a.0 h.0) a.1 h.1)

@@ -7,8 +7,8 @@ use Rattle.bz_tree.specs.declared.kind.Kind.{Kind}
 use Rattle.bz_tree.specs.declared.kind.Kind.TheVariants as k
 use Rattle.bz_tree.specs.declared.tree.Part.{Part}
 use Rattle.bz_tree.specs.Shapes as s
-use Rattle.bz_tree.specs.Shapes.{Sort, Terminal, Shape, Fits, Listed, shape, has_sort, has_token, items}
-use Rattle.bz_tree.specs.Legal.{IsSort}
+use Rattle.bz_tree.specs.Shapes.{Nonterminal, Terminal, Shape, Fits, Listed, shape, has_nonterminal, has_token, items}
+use Rattle.bz_tree.specs.Legal.{IsNonterminal}
 use Rattle.bz_tree.proofs.Balance.{no_such}
 use Rattle.bz_items.specs.Characters.{comma}
 use Rattle.bz_value.specs.Frames.{Frame, row, sequence, frame, has_brackets}
@@ -26,25 +26,25 @@ without_last one e [] = e ∷ []
 without_last one e (x ∷ xs) = x ∷ ((if is_empty xs && not one then [] else (mark_leaf comma ∷ [])) ++ without_last false e xs)
 
 -- What may be enclosed and has the shape r after it, which no comma begins. (e: the closing bracket; rest: what is after it)
-module _ (a : Sort) (close : List Terminal) (r : Shape) (e : Part) (rest : List Part)
-    (no_comma : has_token close (mark_leaf comma) ≡ false) (no_item : has_sort a e ≡ false) (no_more : (xs : List Part) → Fits IsSort r (mark_leaf comma ∷ xs) → ⊥) where
+module _ (a : Nonterminal) (close : List Terminal) (r : Shape) (e : Part) (rest : List Part)
+    (no_comma : has_token close (mark_leaf comma) ≡ false) (no_item : has_nonterminal a e ≡ false) (no_more : (xs : List Part) → Fits IsNonterminal r (mark_leaf comma ∷ xs) → ⊥) where
   abbrev Closed : List Part → Type 0
-  Closed xs = Listed (IsSort a) s.comma_mark true (Fits IsSort (s.tok close r)) xs
+  Closed xs = Listed (IsNonterminal a) s.comma_mark true (Fits IsNonterminal (s.tok close r)) xs
 
   listed : (x : Part) (xs : List Part) → Closed (x ∷ mark_leaf comma ∷ (each_with_comma xs ++ (e ∷ rest))) → Closed (without_last false e (x ∷ xs) ++ rest)
   listed x xs (g, inl h) = absurd (both_ways (has_token close (mark_leaf comma)) no_comma h.0)
-  listed x [] (g, inr (m, inl h)) = absurd (both_ways (has_sort a e) no_item h.0)
+  listed x [] (g, inr (m, inl h)) = absurd (both_ways (has_nonterminal a e) no_item h.0)
   listed x (y ∷ ys) (g, inr (m, inl h)) = (g, inr (m, inl (listed y ys h)))
   listed x [] (g, inr (m, inr (l, h))) = (g, inl h)
   listed x (y ∷ ys) (g, inr (m, inr (l, h))) = absurd (no_more _ h.1)
 
-  pub enclosed_fit : (xs : List Part) → Fits IsSort (s.enclosed a close r) (each_with_comma xs ++ (e ∷ rest)) → Fits IsSort (s.enclosed a close r) (without_last false e xs ++ rest)
+  pub enclosed_fit : (xs : List Part) → Fits IsNonterminal (s.enclosed a close r) (each_with_comma xs ++ (e ∷ rest)) → Fits IsNonterminal (s.enclosed a close r) (without_last false e xs ++ rest)
   enclosed_fit [] h = h
   enclosed_fit (x ∷ xs) (inl h) = absurd (no_more _ h.1)
   enclosed_fit (x ∷ xs) (inr h) = inr (listed x xs h)
 
-items_fit : (a : Sort) (close : List Terminal) (e : Part) → has_token close (mark_leaf comma) ≡ false → has_sort a e ≡ false → (xs : List Part) → Fits IsSort (items a close) (each_with_comma xs ++ (e ∷ [])) → Fits IsSort (items a close) (without_last false e xs)
-items_fit a close e n i xs h = subst (Fits IsSort (items a close)) (append-nil (without_last false e xs)) (enclosed_fit a close s.done e [] n i (λ ys g. g) xs h)
+items_fit : (a : Nonterminal) (close : List Terminal) (e : Part) → has_token close (mark_leaf comma) ≡ false → has_nonterminal a e ≡ false → (xs : List Part) → Fits IsNonterminal (items a close) (each_with_comma xs ++ (e ∷ [])) → Fits IsNonterminal (items a close) (without_last false e xs)
+items_fit a close e n i xs h = subst (Fits IsNonterminal (items a close)) (append-nil (without_last false e xs)) (enclosed_fit a close s.done e [] n i (λ ys g. g) xs h)
 
 -- ---- the kinds of sequences
 
@@ -60,13 +60,13 @@ loads = s.tok s.string (s.alt (s.tok s.close_round s.done) (s.tok s.comma_mark (
 abbrev tuples : Shape
 tuples = s.alt (s.tok s.close_round s.done) (s.sub s.test (s.tok s.comma_mark (items s.test s.close_round)))
 
-loads_fit : (xs : List Part) → Fits IsSort loads (each_with_comma xs ++ (mark_leaf 41 ∷ [])) → Fits IsSort loads (without_last false (mark_leaf 41) xs)
+loads_fit : (xs : List Part) → Fits IsNonterminal loads (each_with_comma xs ++ (mark_leaf 41 ∷ [])) → Fits IsNonterminal loads (without_last false (mark_leaf 41) xs)
 loads_fit [] h = no_such h.0
 loads_fit (x ∷ xs) (g, inl h) = no_such h.0
 loads_fit (x ∷ []) (g, inr h) = (g, inl (refl, tt))
 loads_fit (x ∷ y ∷ ys) (g, inr h) = (g, inr (h.0, items_fit s.loaded s.close_round (mark_leaf 41) refl refl (y ∷ ys) h.1))
 
-tuples_fit : (xs : List Part) → Fits IsSort tuples (each_with_comma xs ++ (mark_leaf 41 ∷ [])) → Fits IsSort tuples (without_last (nat_eq (length xs) 1) (mark_leaf 41) xs)
+tuples_fit : (xs : List Part) → Fits IsNonterminal tuples (each_with_comma xs ++ (mark_leaf 41 ∷ [])) → Fits IsNonterminal tuples (without_last (nat_eq (length xs) 1) (mark_leaf 41) xs)
 tuples_fit [] h = h
 tuples_fit (x ∷ []) h = h
 tuples_fit (x ∷ y ∷ ys) (inl h) = absurd h.1
@@ -76,7 +76,7 @@ abbrev one_of : Kind → List Part → Bool
 one_of kind xs = is_tuple kind && nat_eq (length xs) 1
 
 abbrev Drops : Kind → List Part → List Part → Type 0
-Drops kind parts xs = Fits IsSort (line_shape kind) (row_in (frame kind) parts xs) → Fits IsSort (line_shape kind) (row_joined (frame kind) (one_of kind xs) parts xs)
+Drops kind parts xs = Fits IsNonterminal (line_shape kind) (row_in (frame kind) parts xs) → Fits IsNonterminal (line_shape kind) (row_joined (frame kind) (one_of kind xs) parts xs)
 
 drops_call : (parts xs : List Part) → Drops k.Call parts xs
 drops_call [] xs h = no_such h.0
@@ -101,7 +101,7 @@ drops_dict [] xs h = (h.0, items_fit s.entry s.close_curly (mark_leaf 125) refl 
 drops_dict (x ∷ ps) xs h = absurd (none_is (mark_leaf 123) (items s.entry s.close_curly) (T s.open_curly) x h.0 refl ps (each_with_comma xs ++ (mark_leaf 125 ∷ [])) h.1)
 
 -- each kind fits with its last comma dropped
-line_joined : (kind : Kind) (parts xs : List Part) → Fits IsSort (line_shape kind) (row_in (frame kind) parts xs) → Fits IsSort (line_shape kind) (row_joined (frame kind) (is_tuple kind && nat_eq (length xs) 1) parts xs)
+line_joined : (kind : Kind) (parts xs : List Part) → Fits IsNonterminal (line_shape kind) (row_in (frame kind) parts xs) → Fits IsNonterminal (line_shape kind) (row_joined (frame kind) (is_tuple kind && nat_eq (length xs) 1) parts xs)
 line_joined k.Call parts xs h = drops_call parts xs h
 line_joined k.Load parts xs h = drops_load parts xs h
 line_joined k.Tuple parts xs h = drops_tuple parts xs h
@@ -115,13 +115,13 @@ HasSequences grammar = (kind : Kind) → has_brackets (frame kind) ≡ true → 
 
 -- in such a grammar each kind does so
 module _ (grammar : Kind → Shape) (sequences : HasSequences grammar) where
-  by_frame : (f : Frame) (one : Bool) (r r' : Shape) → (has_brackets f ≡ true → r ≡ r') → (parts xs : List Part) → (Fits IsSort r' (row_in f parts xs) → Fits IsSort r' (row_joined f one parts xs)) →
-      Fits IsSort r (row_in f parts xs) → Fits IsSort r (row_joined f one parts xs)
+  by_frame : (f : Frame) (one : Bool) (r r' : Shape) → (has_brackets f ≡ true → r ≡ r') → (parts xs : List Part) → (Fits IsNonterminal r' (row_in f parts xs) → Fits IsNonterminal r' (row_joined f one parts xs)) →
+      Fits IsNonterminal r (row_in f parts xs) → Fits IsNonterminal r (row_joined f one parts xs)
   by_frame row one r r' e parts xs g h = h
   by_frame (sequence opener closer) one r r' e parts xs g h =
-      subst (λ z. Fits IsSort z (row_joined (sequence opener closer) one parts xs)) (sym (e refl)) (g (subst (λ z. Fits IsSort z (row_in (sequence opener closer) parts xs)) (e refl) h))
+      subst (λ z. Fits IsNonterminal z (row_joined (sequence opener closer) one parts xs)) (sym (e refl)) (g (subst (λ z. Fits IsNonterminal z (row_in (sequence opener closer) parts xs)) (e refl) h))
 
-  pub fits_joined : (kind : Kind) (parts xs : List Part) → Fits IsSort (grammar kind) (row_in (frame kind) parts xs) → Fits IsSort (grammar kind) (row_joined (frame kind) (is_tuple kind && nat_eq (length xs) 1) parts xs)
+  pub fits_joined : (kind : Kind) (parts xs : List Part) → Fits IsNonterminal (grammar kind) (row_in (frame kind) parts xs) → Fits IsNonterminal (grammar kind) (row_joined (frame kind) (is_tuple kind && nat_eq (length xs) 1) parts xs)
   fits_joined kind parts xs h = by_frame (frame kind) (is_tuple kind && nat_eq (length xs) 1) (grammar kind) (line_shape kind) (sequences kind) parts xs (line_joined kind parts xs) h
 
 -- the grammars of lines and of BUILD files
@@ -143,29 +143,29 @@ AtMostOne [] = Unit {0}
 AtMostOne (x ∷ []) = Unit {0}
 AtMostOne (x ∷ y ∷ ys) = ⊥
 
-head_call : (parts rest : List Part) → Fits IsSort (line_shape k.Call) (parts ++ (mark_leaf 40 ∷ rest)) → AtMostOne parts
+head_call : (parts rest : List Part) → Fits IsNonterminal (line_shape k.Call) (parts ++ (mark_leaf 40 ∷ rest)) → AtMostOne parts
 head_call [] rest h = tt
 head_call (x ∷ []) rest h = tt
 head_call (x ∷ y ∷ ps) rest h = absurd (none_is (mark_leaf 40) (items s.argument s.close_round) (T s.open_round) y h.1.0 refl ps rest h.1.1)
 
-head_load : (parts rest : List Part) → Fits IsSort (line_shape k.Load) (parts ++ (mark_leaf 40 ∷ rest)) → AtMostOne parts
+head_load : (parts rest : List Part) → Fits IsNonterminal (line_shape k.Load) (parts ++ (mark_leaf 40 ∷ rest)) → AtMostOne parts
 head_load [] rest h = tt
 head_load (x ∷ []) rest h = tt
 head_load (x ∷ y ∷ ps) rest h = absurd (none_is (mark_leaf 40) loads (T s.open_round) y h.1.0 refl ps rest h.1.1)
 
-head_tuple : (parts rest : List Part) → Fits IsSort (line_shape k.Tuple) (parts ++ (mark_leaf 40 ∷ rest)) → AtMostOne parts
+head_tuple : (parts rest : List Part) → Fits IsNonterminal (line_shape k.Tuple) (parts ++ (mark_leaf 40 ∷ rest)) → AtMostOne parts
 head_tuple [] rest h = tt
 head_tuple (x ∷ ps) rest h = absurd (none_is (mark_leaf 40) tuples (T s.open_round) x h.0 refl ps rest h.1)
 
-head_list : (parts rest : List Part) → Fits IsSort (line_shape k.List) (parts ++ (mark_leaf 91 ∷ rest)) → AtMostOne parts
+head_list : (parts rest : List Part) → Fits IsNonterminal (line_shape k.List) (parts ++ (mark_leaf 91 ∷ rest)) → AtMostOne parts
 head_list [] rest h = tt
 head_list (x ∷ ps) rest h = absurd (none_is (mark_leaf 91) (items s.test s.close_square) (T s.open_square) x h.0 refl ps rest h.1)
 
-head_dict : (parts rest : List Part) → Fits IsSort (line_shape k.Dict) (parts ++ (mark_leaf 123 ∷ rest)) → AtMostOne parts
+head_dict : (parts rest : List Part) → Fits IsNonterminal (line_shape k.Dict) (parts ++ (mark_leaf 123 ∷ rest)) → AtMostOne parts
 head_dict [] rest h = tt
 head_dict (x ∷ ps) rest h = absurd (none_is (mark_leaf 123) (items s.entry s.close_curly) (T s.open_curly) x h.0 refl ps rest h.1)
 
-pub head_fits : (kind : Kind) (parts xs : List Part) → Fits IsSort (line_shape kind) (row_in (frame kind) parts xs) → in_frame (frame kind) (Unit {0}) (AtMostOne parts)
+pub head_fits : (kind : Kind) (parts xs : List Part) → Fits IsNonterminal (line_shape kind) (row_in (frame kind) parts xs) → in_frame (frame kind) (Unit {0}) (AtMostOne parts)
 head_fits k.Call parts xs h = head_call parts (each_with_comma xs ++ (mark_leaf 41 ∷ [])) h
 head_fits k.Load parts xs h = head_load parts (each_with_comma xs ++ (mark_leaf 41 ∷ [])) h
 head_fits k.Tuple parts xs h = head_tuple parts (each_with_comma xs ++ (mark_leaf 41 ∷ [])) h

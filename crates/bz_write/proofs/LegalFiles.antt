@@ -18,9 +18,9 @@ use Rattle.bz_tree.specs.declared.tree.Part.{Part, Row_of-Part, end_of-Part, mor
 use Rattle.bz_tree.specs.declared.tree.Part.TheVariants as p
 use Rattle.bz_tree.specs.Spell.{spell_node, leaves_part, leaves_row, depth_of, depth_limit}
 use Rattle.bz_tree.specs.Shapes as s
-use Rattle.bz_tree.specs.Shapes.{Fits, shape, has_sort, sort_has_kind}
-use Rattle.bz_tree.specs.Legal.{IsSort, LegalPart, Legal}
-use Rattle.bz_tree.specs.Spots.{Spot, Begins, Along, behind_node, behind_part, AtLeaves, AtRow, AtParts, Stands, TokenStands, AreTokens}
+use Rattle.bz_tree.specs.Shapes.{Fits, shape, has_nonterminal, nonterminal_has_kind}
+use Rattle.bz_tree.specs.Legal.{IsNonterminal, LegalPart, Legal}
+use Rattle.bz_tree.specs.Spots.{Spot, Begins, Along, after_node, after_part, AtLeaves, AtRow, AtParts, Stands, TokenStands, AreTokens}
 use Rattle.bz_tree.proofs.Nested.{row_of, items_of_row}
 use Rattle.bz_tree.proofs.Spells.{leaves_Node}
 use Rattle.bz_tree.proofs.Trees.{of_shapes}
@@ -37,12 +37,12 @@ use Rattle.bz_value.proofs.Wider.{lines_wider, line_expr}
 use Rattle.bz_value.proofs.GapComments.{all_joined}
 use Rattle.bz_write.specs.Layout.{suffix_text}
 use Rattle.bz_write.specs.Written.{comment_lines, gap_between, layout}
-use Rattle.bz_write.specs.Drawn.{part_of, line_part, before_next, lines_from, drawn}
+use Rattle.bz_write.specs.LaidOut.{part_of, line_part, before_next, lines_from, laid_out}
 use Rattle.bz_write.specs.Laws.{LayoutIsAccepted}
 use Rattle.bz_write.proofs.Touching.{Airy, Toks, IsLex, FollowsAs, ends_plain, tokens}
 use Rattle.bz_write.proofs.Margins.{FitsFlush, coded_byte, first_append, first_nothing, first_blank, lines_fit, newline_gap}
 use Rattle.bz_write.proofs.FirstGaps.{FirstFlush, flush_stands}
-use Rattle.bz_write.proofs.Standing.{Placed, drawn_stands}
+use Rattle.bz_write.proofs.Standing.{Placed, laid_out_stands}
 use Rattle.bz_write.proofs.LegalParts.{IsGood, build_good}
 
 -- ---- what holds of each leaf of a part
@@ -55,11 +55,11 @@ module _ (P Q : Spot → Leaf → Type 0) (f : (here : Spot) (l : Leaf) → P he
 
     at_row : (outer here : Spot) (m : _) (r : Row_of-Part m) → AtRow P outer here r → AtRow Q outer here r
     at_row outer here m end_of-Part h = tt
-    at_row outer here m (more_of-Part x rest) h = (at_leaves here x h.0, at_row outer (behind_part outer here x) _ rest h.1)
+    at_row outer here m (more_of-Part x rest) h = (at_leaves here x h.0, at_row outer (after_part outer here x) _ rest h.1)
 
   pub at_parts : (outer here : Spot) (xs : List Part) → AtParts P outer here xs → AtParts Q outer here xs
   at_parts outer here [] h = tt
-  at_parts outer here (x ∷ xs) h = (at_leaves here x h.0, at_parts outer (behind_part outer here x) xs h.1)
+  at_parts outer here (x ∷ xs) h = (at_leaves here x h.0, at_parts outer (after_part outer here x) xs h.1)
 
 module _ (P : Spot → Leaf → Type 0) (Q : Leaf → Type 0) (f : (here : Spot) (l : Leaf) → P here l → Q l) where
   mutual
@@ -69,11 +69,11 @@ module _ (P : Spot → Leaf → Type 0) (Q : Leaf → Type 0) (f : (here : Spot)
 
     row_holds : (outer here : Spot) (m : _) (r : Row_of-Part m) → AtRow P outer here r → AllByRecursion Q (leaves_row r)
     row_holds outer here m end_of-Part h = tt
-    row_holds outer here m (more_of-Part x rest) h = all_joined Q (leaves_part x) (leaves_row rest) (leaves_hold here x h.0) (row_holds outer (behind_part outer here x) _ rest h.1)
+    row_holds outer here m (more_of-Part x rest) h = all_joined Q (leaves_part x) (leaves_row rest) (leaves_hold here x h.0) (row_holds outer (after_part outer here x) _ rest h.1)
 
   pub parts_hold : (outer here : Spot) (xs : List Part) → AtParts P outer here xs → AllByRecursion Q (flat_map leaves_part xs)
   parts_hold outer here [] h = tt
-  parts_hold outer here (x ∷ xs) h = all_joined Q (leaves_part x) (flat_map leaves_part xs) (leaves_hold here x h.0) (parts_hold outer (behind_part outer here x) xs h.1)
+  parts_hold outer here (x ∷ xs) h = all_joined Q (leaves_part x) (flat_map leaves_part xs) (leaves_hold here x h.0) (parts_hold outer (after_part outer here x) xs h.1)
 
 -- ---- tokens before leaves
 
@@ -103,27 +103,27 @@ before_next_fits x (y ∷ ys) = between_fits x y
 
 -- ---- a line
 
-statement_sort : (kind : Kind) → is_statement kind ≡ true → sort_has_kind s.small kind ≡ true
-statement_sort k.Bare h = refl
-statement_sort k.Assign h = refl
-statement_sort k.Load h = refl
-statement_sort _ h = no_such h
+statement_nonterminal : (kind : Kind) → is_statement kind ≡ true → nonterminal_has_kind s.small kind ≡ true
+statement_nonterminal k.Bare h = refl
+statement_nonterminal k.Assign h = refl
+statement_nonterminal k.Load h = refl
+statement_nonterminal _ h = no_such h
 
-statement_behind : (kind : Kind) → is_statement kind ≡ true → behind_node kind Begins ≡ Along
-statement_behind k.Line h = no_such h
-statement_behind k.Def h = no_such h
-statement_behind k.IfStmt h = no_such h
-statement_behind k.ForStmt h = no_such h
-statement_behind k.Suite h = no_such h
-statement_behind _ h = refl
+statement_after : (kind : Kind) → is_statement kind ≡ true → after_node kind Begins ≡ Along
+statement_after k.Line h = no_such h
+statement_after k.Def h = no_such h
+statement_after k.IfStmt h = no_such h
+statement_after k.ForStmt h = no_such h
+statement_after k.Suite h = no_such h
+statement_after _ h = refl
 
-is_small : (x : Expr) → has_statement_kind x ≡ true → (gap : Bytes) → IsSort s.small (part_of x gap 0)
+is_small : (x : Expr) → has_statement_kind x ≡ true → (gap : Bytes) → IsNonterminal s.small (part_of x gap 0)
 is_small (Token t) h gap = no_such h
-is_small (Form' kind z parts z' items end_ split open_ comments) h gap = statement_sort kind h
+is_small (Form' kind z parts z' items end split open_break comments) h gap = statement_nonterminal kind h
 
-goes_along : (x : Expr) → has_statement_kind x ≡ true → (gap : Bytes) → behind_part Begins Begins (part_of x gap 0) ≡ Along
+goes_along : (x : Expr) → has_statement_kind x ≡ true → (gap : Bytes) → after_part Begins Begins (part_of x gap 0) ≡ Along
 goes_along (Token t) h gap = no_such h
-goes_along (Form' kind z parts z' items end_ split open_ comments) h gap = statement_behind kind h
+goes_along (Form' kind z parts z' items end split open_break comments) h gap = statement_after kind h
 
 abbrev newline_leaf : Option Bytes → Leaf
 newline_leaf suffix = record { class = c.Newline; gap = suffix_text suffix; token = line_feed ∷ [] }
@@ -138,8 +138,8 @@ line_tokens x newline rest i t h r = subst AreTokens (sym (append_assoc (leaves_
 -- a line is where one begins, and its leaves are tokens before others that are
 record IsLine (x : Part) : Type 0 where
   legal : LegalPart x
-  is_line : IsSort s.line x
-  begins : behind_part Begins Begins x ≡ Begins
+  is_line : IsNonterminal s.line x
+  begins : after_part Begins Begins x ≡ Begins
   gaps : AtLeaves Stands Begins x
   tokens_then : (rest : List Leaf) → AreTokens rest → AreTokens (leaves_part x ++ rest)
   coded : AreCoded (leaves_part x)
@@ -155,7 +155,7 @@ line_stands gap x h g =
     let newline : Leaf = newline_leaf suffix in
     let node : Node = record { kind = k.Line; parts = statement ∷ p.Leaf newline ∷ [] } in
     let fits : FitsFlush front = first_append gap (comment_lines (comments_of x).before) g (lines_fit (comments_of x).before (recursion_from_All IsComment (comments_of x).before h.2.0)) in
-    let placed : AtLeaves Placed Begins statement = drawn_stands Begins x (line_expr Begins x h.1) front 0 fits.0 in
+    let placed : AtLeaves Placed Begins statement = laid_out_stands Begins x (line_expr Begins x h.1) front 0 fits.0 in
     let good : IsGood shape (x, part_of x) = build_good Begins x h.1 in
     let airy : Airy statement = good.airy front 0 in
     let flush : FirstFlush (leaves_part statement) = let w = good.stands.starts front 0 in subst FirstFlush (sym w.2) (subst (λ z. is_flush z ≡ true) (sym w.3) fits.1) in
@@ -176,7 +176,7 @@ line_stands gap x h g =
 
 record AreLines (parts : List Part) : Type 0 where
   legal : AllByRecursion LegalPart parts
-  fits : Fits IsSort (shape k.File) parts
+  fits : Fits IsNonterminal (shape k.File) parts
   gaps : AtParts Stands Begins Begins parts
   tokens_there : AreTokens (flat_map leaves_part parts)
   coded : AreCoded (flat_map leaves_part parts)
@@ -199,8 +199,8 @@ lines_stand (i.Stmt x ∷ xs) h gap g =
     }
 
 -- what is laid out of a proper file value is legal, where it is not too deep
-pub drawn_legal : (items : List Item) → IsProper items → depth_of (drawn items) ≤ depth_limit → Legal (drawn items)
-drawn_legal items h d =
+pub laid_out_legal : (items : List Item) → IsProper items → depth_of (laid_out items) ≤ depth_limit → Legal (laid_out items)
+laid_out_legal items h d =
     let lines : AreLines (lines_from [] items) = lines_stand items (recursion_from_All IsProperItem items h) [] first_nothing in
     record {
       file = record { root = refl; shapes = (lines.fits, lines.legal) };
@@ -211,5 +211,5 @@ drawn_legal items h d =
     }
 
 -- so the layout is accepted, where it is what the tree spells
-pub accepted : ((items : List Item) → IsProper items → spell_node (drawn items) ≡ layout items) → LayoutIsAccepted
-accepted spelled items h n d = (drawn_legal items h d, spelled items h, n)
+pub accepted : ((items : List Item) → IsProper items → spell_node (laid_out items) ≡ layout items) → LayoutIsAccepted
+accepted spelled items h n d = (laid_out_legal items h d, spelled items h, n)

@@ -11,7 +11,7 @@ pub mod Exchanging
 pub mod Joined
 pub mod Fitted
 pub mod PendingForms
-pub mod RedrawnLengths
+pub mod RelaidLengths
 pub mod Rooms
 pub mod Settings
 pub mod Sized

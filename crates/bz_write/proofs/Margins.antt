@@ -15,7 +15,7 @@ use Rattle.bz_items.specs.Characters.{Bytes, line_feed, space}
 use Rattle.bz_value.specs.Proper.{IsComment, MaybeComment, has_break}
 use Rattle.bz_value.specs.Roots.{root}
 use Rattle.bz_spaces.specs.Spaces.{is_spaced}
-use Rattle.bz_write.specs.Layout.{line, margin_lines, ended, suffix_text, gap_behind}
+use Rattle.bz_write.specs.Layout.{new_line_at, margin_lines, ended, suffix_text, gap_after}
 use Rattle.bz_value.specs.Empty.{is_empty}
 use Rattle.bz_write.specs.Written.{comment_lines}
 use Rattle.bz_write.proofs.Elements.{in_line_class}
@@ -82,7 +82,7 @@ inner_spaces (suc n) = inner_blank (replicate n space) (inner_spaces n)
 pub inner_newline : (g : Bytes) → FitsAt Within g → FitsAt Within (line_feed ∷ g)
 inner_newline g h = (unescaped g refl refl h.0, coded_first line_feed g (omega arith) h.1)
 
-pub inner_line : (m : ℕ) → FitsAt Within (line m)
+pub inner_line : (m : ℕ) → FitsAt Within (new_line_at m)
 inner_line m = inner_newline (replicate m space) (inner_spaces m)
 
 one_line : (w : Bytes) → AllByRecursion (λ b. b ≢ 10) w → IsOneLine w
@@ -116,7 +116,7 @@ inner_ended m (text ∷ texts) h =
     )
 
 -- before an item of a broken sequence, and before its closing bracket
-pub item_gap : (m : ℕ) (suffix : Option Bytes) (texts : List Bytes) → MaybeComment suffix → AllByRecursion IsComment texts → FitsAt Within (suffix_text suffix ++ (line m ++ margin_lines m texts))
+pub item_gap : (m : ℕ) (suffix : Option Bytes) (texts : List Bytes) → MaybeComment suffix → AllByRecursion IsComment texts → FitsAt Within (suffix_text suffix ++ (new_line_at m ++ margin_lines m texts))
 item_gap m suffix texts s h = inner_suffix suffix (replicate m space ++ margin_lines m texts) s (inner_append (replicate m space) (margin_lines m texts) (inner_spaces m) (inner_above m texts h))
 
 pub closer_gap : (m : ℕ) (suffix : Option Bytes) (texts : List Bytes) → MaybeComment suffix → AllByRecursion IsComment texts → FitsAt Within (suffix_text suffix ++ ended m texts)
@@ -139,15 +139,15 @@ space_fits Begins h = no_such (sym h)
 space_fits Within h = inner_space
 space_fits Along h = (blank space [] refl refl (nothing refl), coded_byte space (omega arith))
 
-pub row_fits : (o b d : Bool) (j k : ℕ) (here : Spot) → is_begins here ≡ false → ((o || b) ≡ true → here ≡ Within) → FitsAt here (if o then line j else (if b then line k else (if d then space ∷ [] else [])))
-row_fits true b d j k here h w = subst (λ z. FitsAt z (line j)) (sym (w refl)) (inner_line j)
-row_fits false true d j k here h w = subst (λ z. FitsAt z (line k)) (sym (w refl)) (inner_line k)
+pub row_fits : (o b d : Bool) (j k : ℕ) (here : Spot) → is_begins here ≡ false → ((o || b) ≡ true → here ≡ Within) → FitsAt here (if o then new_line_at j else (if b then new_line_at k else (if d then space ∷ [] else [])))
+row_fits true b d j k here h w = subst (λ z. FitsAt z (new_line_at j)) (sym (w refl)) (inner_line j)
+row_fits false true d j k here h w = subst (λ z. FitsAt z (new_line_at k)) (sym (w refl)) (inner_line k)
 row_fits false false true j k here h w = space_fits here h
 row_fits false false false j k here h w = none_fits here h
 
-pub behind_fits : (kind : Kind) (open_ : Bool) (m : ℕ) (x : Expr) (ys : List Expr) (here : Spot) → is_begins here ≡ false → ((open_ || has_break x) ≡ true → is_empty ys ≡ false → here ≡ Within) → FitsAt here (gap_behind kind open_ m x ys)
-behind_fits kind open_ m x [] here h w = none_fits here h
-behind_fits kind open_ m x (y ∷ ys) here h w = row_fits open_ (has_break x) (is_spaced kind (root x) (root y)) (if is_empty ys then m else m + 4) (m + 4) here h (λ e. w e refl)
+pub after_fits : (kind : Kind) (open_break : Bool) (m : ℕ) (x : Expr) (ys : List Expr) (here : Spot) → is_begins here ≡ false → ((open_break || has_break x) ≡ true → is_empty ys ≡ false → here ≡ Within) → FitsAt here (gap_after kind open_break m x ys)
+after_fits kind open_break m x [] here h w = none_fits here h
+after_fits kind open_break m x (y ∷ ys) here h w = row_fits open_break (has_break x) (is_spaced kind (root x) (root y)) (if is_empty ys then m else m + 4) (m + 4) here h (λ e. w e refl)
 
 -- ---- before the first token of a line
 

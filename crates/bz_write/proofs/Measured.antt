@@ -9,9 +9,9 @@ use Rattle.bz_value.specs.Comments.{HostComments}
 use Rattle.bz_value.specs.Proper.{comments_of}
 use Rattle.bz_write.specs.Layout.{suffix_text}
 use Rattle.bz_write.specs.Written.{text_of, comment_lines, item_text, layout}
-use Rattle.bz_write.specs.Drawn.{before_next}
+use Rattle.bz_write.specs.LaidOut.{before_next}
 use Rattle.bz_write.specs.Depths.{depth_items}
-use Rattle.bz_write.proofs.Spelled.{next_behind}
+use Rattle.bz_write.proofs.Spelled.{next_after}
 
 pub statement_length : (x : Expr) → length (item_text (i.Stmt x)) ≡ length (comment_lines (comments_of x).before) + (length (text_of x 0) + (length (suffix_text (comments_of x).suffix) + 1))
 statement_length x =
@@ -28,7 +28,7 @@ statement_room x comments texts suffix room left left' left'' has texts_ suffix_
     omega (arith, statement_length x, above, below, e, f, g)
 
 pub layout_first : (x : Item) (xs : List Item) → length (layout (x ∷ xs)) ≡ length (item_text x) + (length (before_next x xs) + length (layout xs))
-layout_first x xs = ap (λ t. length (item_text x ++ t)) (sym (next_behind x xs)) ∙ (length-append (item_text x) (before_next x xs ++ layout xs) ∙ ap (λ n. length (item_text x) + n) (length-append (before_next x xs) (layout xs)))
+layout_first x xs = ap (λ t. length (item_text x ++ t)) (sym (next_after x xs)) ∙ (length-append (item_text x) (before_next x xs ++ layout xs) ∙ ap (λ n. length (item_text x) + n) (length-append (before_next x xs) (layout xs)))
 
 pub layout_next : (xs : List Item) (k : ℕ) (d : Item) → k < length xs →
     length (layout (drop k xs)) ≡ length (item_text (get_or xs k d)) + (length (before_next (get_or xs k d) (drop (k + 1) xs)) + length (layout (drop (k + 1) xs)))

@@ -7,20 +7,20 @@ use Rattle.bz_tree.specs.declared.kind.Kind.{Kind}
 use Rattle.bz_tree.specs.declared.kind.Kind.TheVariants as k
 use Rattle.bz_tree.specs.declared.tree.Part.{Part}
 use Rattle.bz_tree.specs.Shapes as s
-use Rattle.bz_tree.specs.Shapes.{Sort, Terminal, Shape, Fits, Listed, Several, has_token}
-use Rattle.bz_tree.specs.Legal.{IsSort}
+use Rattle.bz_tree.specs.Shapes.{Nonterminal, Terminal, Shape, Fits, Listed, Several, has_token}
+use Rattle.bz_tree.specs.Legal.{IsNonterminal}
 use Rattle.bz_tree.specs.Reading.{starts}
 use Rattle.bz_value.specs.LineShapes.{line_shape}
-use Rattle.bz_spaces.specs.Spaces.{from_table, lone, is_dot_terminal, space_behind, space_before}
+use Rattle.bz_spaces.specs.Spaces.{from_table, lone, is_dot_terminal, space_after, space_before}
 
 -- what is at a place of a shape
 pub data Element : Type 0 where
   T : List Terminal → Element
-  S : Sort → Element
+  S : Nonterminal → Element
 
 abbrev pub Is : Element → Part → Type 0
 Is (T ts) x = has_token ts x ≡ true
-Is (S a) x = IsSort a x
+Is (S a) x = IsNonterminal a x
 
 module _ (ok : Element → Element → Bool) (last_ok : Element → Bool) where
   abbrev pub after_ok : Option Element → Element → Bool
@@ -69,27 +69,27 @@ module _ (ok : Element → Element → Bool) (last_ok : Element → Bool) where
   at_end None x g o = tt
   at_end (Some a) x g o = (a, g, o)
 
-  module _ (a : Sort) (K : List Part → Type 0) (behind_item : (x : Part) (xs : List Part) → Is (S a) x → K xs → Links x xs) where
+  module _ (a : Nonterminal) (K : List Part → Type 0) (past_item : (x : Part) (xs : List Part) → Is (S a) x → K xs → Links x xs) where
     mutual
       listed_links : (ts : List Terminal) (last : Bool) → ok (S a) (T ts) ≡ true → ok (T ts) (S a) ≡ true → (last ≡ true → (x : Part) (xs : List Part) → Is (T ts) x → K xs → Links x xs) →
-          (before : Option Element) (x : Part) → Given before x → after_ok before (S a) ≡ true → (xs : List Part) → Listed (IsSort a) ts last K xs → LinksFrom before x xs
+          (before : Option Element) (x : Part) → Given before x → after_ok before (S a) ≡ true → (xs : List Part) → Listed (IsNonterminal a) ts last K xs → LinksFrom before x xs
       listed_links ts last o o' f before x g i [] h = absurd h
-      listed_links ts last o o' f before x g i (y ∷ ys) h = link before x y ys (S a) g h.0 i (behind_links ts last o o' f y h.0 ys h.1)
+      listed_links ts last o o' f before x g i (y ∷ ys) h = link before x y ys (S a) g h.0 i (after_links ts last o o' f y h.0 ys h.1)
 
-      behind_links : (ts : List Terminal) (last : Bool) → ok (S a) (T ts) ≡ true → ok (T ts) (S a) ≡ true → (last ≡ true → (x : Part) (xs : List Part) → Is (T ts) x → K xs → Links x xs) →
-          (x : Part) → Is (S a) x → (xs : List Part) → s.Behind (IsSort a) ts last K xs → Links x xs
-      behind_links ts last o o' f x g [] h = behind_item x [] g h
-      behind_links ts last o o' f x g (y ∷ ys) (inl h) = behind_item x (y ∷ ys) g h
-      behind_links ts last o o' f x g (y ∷ ys) (inr (m, inl h)) = ((S a, T ts, g, m, o), listed_links ts last o o' f (Some (T ts)) y m o' ys h)
-      behind_links ts last o o' f x g (y ∷ ys) (inr (m, inr (l, h))) = ((S a, T ts, g, m, o), f l y ys m h)
+      after_links : (ts : List Terminal) (last : Bool) → ok (S a) (T ts) ≡ true → ok (T ts) (S a) ≡ true → (last ≡ true → (x : Part) (xs : List Part) → Is (T ts) x → K xs → Links x xs) →
+          (x : Part) → Is (S a) x → (xs : List Part) → s.After (IsNonterminal a) ts last K xs → Links x xs
+      after_links ts last o o' f x g [] h = past_item x [] g h
+      after_links ts last o o' f x g (y ∷ ys) (inl h) = past_item x (y ∷ ys) g h
+      after_links ts last o o' f x g (y ∷ ys) (inr (m, inl h)) = ((S a, T ts, g, m, o), listed_links ts last o o' f (Some (T ts)) y m o' ys h)
+      after_links ts last o o' f x g (y ∷ ys) (inr (m, inr (l, h))) = ((S a, T ts, g, m, o), f l y ys m h)
 
-    several_links : ok (S a) (S a) ≡ true → (before : Option Element) (x : Part) → Given before x → after_ok before (S a) ≡ true → ((xs : List Part) → K xs → LinksFrom before x xs) → (xs : List Part) → Several (IsSort a) K xs → LinksFrom before x xs
+    several_links : ok (S a) (S a) ≡ true → (before : Option Element) (x : Part) → Given before x → after_ok before (S a) ≡ true → ((xs : List Part) → K xs → LinksFrom before x xs) → (xs : List Part) → Several (IsNonterminal a) K xs → LinksFrom before x xs
     several_links o before x g i f [] h = f [] h
     several_links o before x g i f (y ∷ ys) (inl h) = f (y ∷ ys) h
-    several_links o before x g i f (y ∷ ys) (inr h) = link before x y ys (S a) g h.0 i (several_links o (Some (S a)) y h.0 o (λ zs k. behind_item y zs h.0 k) ys h.1)
+    several_links o before x g i f (y ∷ ys) (inr h) = link before x y ys (S a) g h.0 i (several_links o (Some (S a)) y h.0 o (λ zs k. past_item y zs h.0 k) ys h.1)
 
   -- so do the parts of a node that fits the shape
-  pub links : (r : Shape) (before : Option Element) (x : Part) → Given before x → passes before r ≡ true → (xs : List Part) → Fits IsSort r xs → LinksFrom before x xs
+  pub links : (r : Shape) (before : Option Element) (x : Part) → Given before x → passes before r ≡ true → (xs : List Part) → Fits IsNonterminal r xs → LinksFrom before x xs
   links s.none before x g p xs h = absurd h
   links s.done before x g p [] h = at_end before x g p
   links s.done before x g p (y ∷ ys) h = absurd h
@@ -104,7 +104,7 @@ module _ (ok : Element → Element → Bool) (last_ok : Element → Bool) where
       let w1 = and_parts (ok (S a) (T ts)) _ w.1 in
       let w2 = and_parts (ok (T ts) (S a)) _ w1.1 in
       let w3 = and_parts (passes (Some (S a)) r) _ w2.1 in
-      listed_links a (Fits IsSort r) (λ y ys i k. links r (Some (S a)) y i w3.0 ys k) ts last w1.0 w2.0 (λ l y ys i k. links r (Some (T ts)) y i (when last l _ w3.1) ys k) before x g w.0 xs h
+      listed_links a (Fits IsNonterminal r) (λ y ys i k. links r (Some (S a)) y i w3.0 ys k) ts last w1.0 w2.0 (λ l y ys i k. links r (Some (T ts)) y i (when last l _ w3.1) ys k) before x g w.0 xs h
     where
       when : (b : Bool) → b ≡ true → (d : Bool) → (not b || d) ≡ true → d ≡ true
       when true e d h = h
@@ -113,7 +113,7 @@ module _ (ok : Element → Element → Bool) (last_ok : Element → Bool) where
       let w = and_parts (passes before r) _ p in
       let w1 = and_parts (after_ok before (S a)) _ w.1 in
       let w2 = and_parts (ok (S a) (S a)) _ w1.1 in
-      several_links a (Fits IsSort r) (λ y ys i k. links r (Some (S a)) y i w2.1 ys k) w2.0 before x g w1.0 (λ ys k. links r before x g w.0 ys k) xs h
+      several_links a (Fits IsNonterminal r) (λ y ys i k. links r (Some (S a)) y i w2.1 ys k) w2.0 before x g w1.0 (λ ys k. links r before x g w.0 ys k) xs h
   links (s.times group r) before x g p xs h = absurd (both_ways false refl p)
 
 abbrev pub all_in : (Terminal → Bool) → List Terminal → Bool
@@ -154,10 +154,10 @@ never_lone (s.this class t) = not (lone (s.this class t))
 abbrev pub spaced : Kind → Element → Element → Bool
 spaced kind (S a) (S b) = true
 spaced kind (S a) (T us) = all_in (space_before kind) us
-spaced kind (T ts) (S b) = all_in (space_behind kind) ts
-spaced kind (T ts) (T us) = (all_in (space_behind kind) ts && all_in never_lone us) || all_in (space_before kind) us
+spaced kind (T ts) (S b) = all_in (space_after kind) ts
+spaced kind (T ts) (T us) = (all_in (space_after kind) ts && all_in never_lone us) || all_in (space_before kind) us
 
-abbrev pub is_primary : Sort → Bool
+abbrev pub is_primary : Nonterminal → Bool
 is_primary (s.level n) = nat_eq n 0
 is_primary _ = false
 

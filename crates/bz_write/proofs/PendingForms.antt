@@ -7,7 +7,7 @@ use Rattle.bz_value.specs.declared.value.Expr.{Expr, Row_of-Expr, end_of-Expr, m
 use Rattle.bz_value.specs.declared.value.Expr.TheVariants as e
 use Rattle.bz_value.specs.Frames.{Frame, row, sequence, frame, has_brackets}
 use Rattle.bz_items.specs.Characters.{Bytes}
-use Rattle.bz_write.specs.Layout.{gap_behind, margin_behind}
+use Rattle.bz_write.specs.Layout.{gap_after, margin_after}
 use Rattle.bz_write.specs.Written.{text_of}
 use Rattle.bz_write.specs.Sizes.{row_size, head_size, comma_size, joined_size, stacked_item_size, stacked_size, body_size, size_in, form_size}
 use Rattle.bz_write.specs.Pending.{pending_size, pending_forms, forms_in, forms_in_row, forms_in_all}
@@ -39,10 +39,10 @@ forms_Form f =
 pub forms_next : (xs : List Expr) (k : ℕ) (d : Expr) → k < length xs → forms_in_all (drop k xs) ≡ forms_in (get_or xs k d) + forms_in_all (drop (k + 1) xs)
 forms_next xs k d h = ap forms_in_all (drop_more xs k d h)
 
-pub row_next : (kind : Kind) (open_ : Bool) (m n : ℕ) (xs : List Expr) (k : ℕ) (d : Expr) → k < length xs →
-    row_size kind open_ m n (drop k xs) ≡
-    length (text_of (get_or xs k d) n) + (length (gap_behind kind open_ m (get_or xs k d) (drop (k + 1) xs)) + row_size kind open_ m (margin_behind open_ m (get_or xs k d)) (drop (k + 1) xs))
-row_next kind open_ m n xs k d h = ap (λ ys. row_size kind open_ m n ys) (drop_more xs k d h)
+pub row_next : (kind : Kind) (open_break : Bool) (m n : ℕ) (xs : List Expr) (k : ℕ) (d : Expr) → k < length xs →
+    row_size kind open_break m n (drop k xs) ≡
+    length (text_of (get_or xs k d) n) + (length (gap_after kind open_break m (get_or xs k d) (drop (k + 1) xs)) + row_size kind open_break m (margin_after open_break m (get_or xs k d)) (drop (k + 1) xs))
+row_next kind open_break m n xs k d h = ap (λ ys. row_size kind open_break m n ys) (drop_more xs k d h)
 
 pub head_next : (m : ℕ) (xs : List Expr) (k : ℕ) (d : Expr) → k < length xs → head_size m (drop k xs) ≡ length (text_of (get_or xs k d) m) + head_size m (drop (k + 1) xs)
 head_next m xs k d h = ap (λ ys. head_size m ys) (drop_more xs k d h)
@@ -51,9 +51,9 @@ pub joined_next : (m : ℕ) (one : Bool) (xs : List Expr) (k : ℕ) (d : Expr) �
     joined_size m one (drop k xs) ≡ length (text_of (get_or xs k d) m) + (comma_size one (drop (k + 1) xs) + joined_size m false (drop (k + 1) xs))
 joined_next m one xs k d h = ap (λ ys. joined_size m one ys) (drop_more xs k d h)
 
-pub stacked_next : (m : ℕ) (end_ : List Bytes) (xs : List Expr) (k : ℕ) (d : Expr) → k < length xs →
-    stacked_size m end_ (drop k xs) ≡ stacked_item_size m (get_or xs k d) + stacked_size m end_ (drop (k + 1) xs)
-stacked_next m end_ xs k d h = ap (λ ys. stacked_size m end_ ys) (drop_more xs k d h)
+pub stacked_next : (m : ℕ) (end : List Bytes) (xs : List Expr) (k : ℕ) (d : Expr) → k < length xs →
+    stacked_size m end (drop k xs) ≡ stacked_item_size m (get_or xs k d) + stacked_size m end (drop (k + 1) xs)
+stacked_next m end xs k d h = ap (λ ys. stacked_size m end ys) (drop_more xs k d h)
 
 -- ---- one turn of each loop
 
@@ -68,18 +68,18 @@ size_turn : (whole first rest here before left left' room pending pending' : ℕ
     first + left' + pending ≡ left + pending' → whole + left' + before ≡ room + pending' + rest
 size_turn whole first rest here before left left' room pending pending' next sum ok = omega (arith, next, sum, ok)
 
-pub row_turn : (kind : Kind) (open_ : Bool) (m n inner : ℕ) (xs others : List Expr) (k : ℕ) (x : Expr) (gap : Bytes) (whole before left middle left' room pending pending' : ℕ) →
-    k < length xs → x ≡ get_or xs k x → others ≡ drop (k + 1) xs → gap ≡ gap_behind kind open_ m x others → inner ≡ margin_behind open_ m x →
-    whole + left + before ≡ room + pending + row_size kind open_ m n (drop k xs) → length (text_of x n) + middle + pending ≡ left + pending' → length gap + left' ≡ middle →
-    whole + left' + before ≡ room + pending' + row_size kind open_ m inner (drop (k + 1) xs)
-row_turn kind open_ m n inner xs others k x gap whole before left middle left' room pending pending' h is o g i sum ok okk =
+pub row_turn : (kind : Kind) (open_break : Bool) (m n inner : ℕ) (xs others : List Expr) (k : ℕ) (x : Expr) (gap : Bytes) (whole before left middle left' room pending pending' : ℕ) →
+    k < length xs → x ≡ get_or xs k x → others ≡ drop (k + 1) xs → gap ≡ gap_after kind open_break m x others → inner ≡ margin_after open_break m x →
+    whole + left + before ≡ room + pending + row_size kind open_break m n (drop k xs) → length (text_of x n) + middle + pending ≡ left + pending' → length gap + left' ≡ middle →
+    whole + left' + before ≡ room + pending' + row_size kind open_break m inner (drop (k + 1) xs)
+row_turn kind open_break m n inner xs others k x gap whole before left middle left' room pending pending' h is o g i sum ok okk =
     let rest : List Expr = drop (k + 1) xs in
-    let next : row_size kind open_ m n (drop k xs) ≡ length (text_of x n) + (length gap + row_size kind open_ m inner rest) =
-    row_next kind open_ m n xs k x h
-    ∙ (ap (λ y. length (text_of y n) + (length (gap_behind kind open_ m y rest) + row_size kind open_ m (margin_behind open_ m y) rest)) (sym is)
-    ∙ (ap (λ ys. length (text_of x n) + (length (gap_behind kind open_ m x ys) + row_size kind open_ m (margin_behind open_ m x) rest)) (sym o)
-    ∙ (ap (λ t. length (text_of x n) + (length t + row_size kind open_ m (margin_behind open_ m x) rest)) (sym g)
-    ∙ ap (λ q. length (text_of x n) + (length gap + row_size kind open_ m q rest)) (sym i)))) in
+    let next : row_size kind open_break m n (drop k xs) ≡ length (text_of x n) + (length gap + row_size kind open_break m inner rest) =
+    row_next kind open_break m n xs k x h
+    ∙ (ap (λ y. length (text_of y n) + (length (gap_after kind open_break m y rest) + row_size kind open_break m (margin_after open_break m y) rest)) (sym is)
+    ∙ (ap (λ ys. length (text_of x n) + (length (gap_after kind open_break m x ys) + row_size kind open_break m (margin_after open_break m x) rest)) (sym o)
+    ∙ (ap (λ t. length (text_of x n) + (length t + row_size kind open_break m (margin_after open_break m x) rest)) (sym g)
+    ∙ ap (λ q. length (text_of x n) + (length gap + row_size kind open_break m q rest)) (sym i)))) in
     omega (arith, next, sum, ok, okk)
 
 pub head_turn : (m : ℕ) (xs : List Expr) (k : ℕ) (x : Expr) (whole before left left' room pending pending' : ℕ) → k < length xs → x ≡ get_or xs k x →
@@ -101,20 +101,20 @@ joined_turn m one xs others k x comma whole before left middle left' room pendin
     ∙ ap (λ q. length (text_of x m) + (q + joined_size m false rest)) (ap (comma_size one) (sym o) ∙ sym g)) in
     omega (arith, next, sum, ok, okk)
 
-pub stacked_turn : (m : ℕ) (end_ : List Bytes) (xs : List Expr) (k : ℕ) (x : Expr) (whole before left left' room pending pending' : ℕ) → k < length xs → x ≡ get_or xs k x →
-    whole + left + before ≡ room + pending + stacked_size m end_ (drop k xs) → stacked_item_size m x + left' + pending ≡ left + pending' →
-    whole + left' + before ≡ room + pending' + stacked_size m end_ (drop (k + 1) xs)
-stacked_turn m end_ xs k x whole before left left' room pending pending' h is sum ok =
-    size_turn whole (stacked_item_size m x) (stacked_size m end_ (drop (k + 1) xs)) (stacked_size m end_ (drop k xs)) before left left' room pending pending'
-    (stacked_next m end_ xs k x h ∙ ap (λ y. stacked_item_size m y + stacked_size m end_ (drop (k + 1) xs)) (sym is)) sum ok
+pub stacked_turn : (m : ℕ) (end : List Bytes) (xs : List Expr) (k : ℕ) (x : Expr) (whole before left left' room pending pending' : ℕ) → k < length xs → x ≡ get_or xs k x →
+    whole + left + before ≡ room + pending + stacked_size m end (drop k xs) → stacked_item_size m x + left' + pending ≡ left + pending' →
+    whole + left' + before ≡ room + pending' + stacked_size m end (drop (k + 1) xs)
+stacked_turn m end xs k x whole before left left' room pending pending' h is sum ok =
+    size_turn whole (stacked_item_size m x) (stacked_size m end (drop (k + 1) xs)) (stacked_size m end (drop k xs)) before left left' room pending pending'
+    (stacked_next m end xs k x h ∙ ap (λ y. stacked_item_size m y + stacked_size m end (drop (k + 1) xs)) (sym is)) sum ok
 
 -- ---- forms by their frames
 
-row_of : (f : Frame) (form : Form) (m : ℕ) → has_brackets f ≡ false → size_in f form m ≡ row_size form.kind form.open_ m m form.parts
+row_of : (f : Frame) (form : Form) (m : ℕ) → has_brackets f ≡ false → size_in f form m ≡ row_size form.kind form.open_break m m form.parts
 row_of row form m h = refl
 row_of (sequence opener closer) form m h = absurd cc
 
-pub row_form : (form : Form) (m : ℕ) → has_brackets (frame form.kind) ≡ false → form_size form m ≡ row_size form.kind form.open_ m m form.parts
+pub row_form : (form : Form) (m : ℕ) → has_brackets (frame form.kind) ≡ false → form_size form m ≡ row_size form.kind form.open_break m m form.parts
 row_form form m h = row_of (frame form.kind) form m h
 
 sequence_of : (f : Frame) (form : Form) (m : ℕ) → has_brackets f ≡ true → size_in f form m ≡ head_size m form.parts + body_size form m

@@ -11,19 +11,19 @@ use Rattle.bz_tree.specs.declared.kind.Kind.TheVariants as k
 use Rattle.bz_tree.specs.declared.tree.Part.{Part}
 use Rattle.bz_tree.specs.Shapes as s
 use Rattle.bz_tree.specs.Shapes.{Terminal, Shape, Fits, is_one_of, is_terminal, leaves_at}
-use Rattle.bz_tree.specs.Legal.{IsSort}
-use Rattle.bz_tree.specs.Spots.{Spot, Begins, Within, Along, onward, plain, role, behind_token, behind_node}
+use Rattle.bz_tree.specs.Legal.{IsNonterminal}
+use Rattle.bz_tree.specs.Spots.{Spot, Begins, Within, Along, onward, plain, role, following_token, after_node}
 use Rattle.bz_tree.proofs.Balance.{same_class, no_such}
 use Rattle.bz_value.specs.declared.value.Expr.{Expr, Token, Form'}
 use Rattle.bz_items.specs.Characters.{Bytes}
-use Rattle.bz_value.specs.Proper.{behind_expr}
+use Rattle.bz_value.specs.Proper.{after_expr}
 use Rattle.bz_value.specs.Roots.{root}
 use Rattle.bz_value.specs.Empty.{is_empty}
 use Rattle.bz_write.proofs.Neighbours.{Element, T, S, Is, passes, Links, links, all_in}
 use Rattle.bz_write.proofs.Elements.{any_last, in_line_class}
 use Rattle.bz_write.proofs.Fitted.{Child, rooted}
 use Rattle.bz_write.proofs.Margins.{is_begins}
-use Rattle.bz_write.proofs.Standing.{RowDraws, behind_row}
+use Rattle.bz_write.proofs.Standing.{RowLaysOut, after_row}
 
 -- ---- tokens that are no brackets
 
@@ -65,13 +65,13 @@ leaf_plain (t ∷ ts) l h i =
     let w = and_parts (plain_terminal t) _ h in
     elim (or_cases (is_terminal t l) (is_one_of ts l) i) [ inl e ↦ terminal_plain t l w.0 e | inr e ↦ leaf_plain ts l w.1 e ]
 
-sort_plain : (a : s.Sort) → all_in plain_terminal (leaves_at a) ≡ true
-sort_plain (s.level n) = refl
-sort_plain _ = refl
+nonterminal_plain : (a : s.Nonterminal) → all_in plain_terminal (leaves_at a) ≡ true
+nonterminal_plain (s.level n) = refl
+nonterminal_plain _ = refl
 
 -- ---- what is after such a row
 
-node_onward : (kind : Kind) (here : Spot) → is_begins (behind_node kind here) ≡ false → behind_node kind here ≡ onward here
+node_onward : (kind : Kind) (here : Spot) → is_begins (after_node kind here) ≡ false → after_node kind here ≡ onward here
 node_onward k.Line here h = no_such (sym h)
 node_onward k.Def here h = no_such (sym h)
 node_onward k.IfStmt here h = no_such (sym h)
@@ -79,22 +79,22 @@ node_onward k.ForStmt here h = no_such (sym h)
 node_onward k.Suite here h = no_such (sym h)
 node_onward _ here h = refl
 
-plain_onward : (outer here : Spot) (a : Element) (x : Expr) → Is a (root x) → plain_element a ≡ true → is_begins (behind_expr outer here x) ≡ false → behind_expr outer here x ≡ onward here
-plain_onward outer here (T ts) (Token t) i e n = ap (λ z. behind_token z outer here) (leaf_plain ts (record { class = t.class; gap = []; token = t.text }) e i)
-plain_onward outer here (S a) (Token t) i e n = ap (λ z. behind_token z outer here) (leaf_plain (leaves_at a) (record { class = t.class; gap = []; token = t.text }) (sort_plain a) i)
-plain_onward outer here a (Form' kind z parts z' items end_ split open_ comments) i e n = node_onward kind here n
+plain_onward : (outer here : Spot) (a : Element) (x : Expr) → Is a (root x) → plain_element a ≡ true → is_begins (after_expr outer here x) ≡ false → after_expr outer here x ≡ onward here
+plain_onward outer here (T ts) (Token t) i e n = ap (λ z. following_token z outer here) (leaf_plain ts (record { class = t.class; gap = []; token = t.text }) e i)
+plain_onward outer here (S a) (Token t) i e n = ap (λ z. following_token z outer here) (leaf_plain (leaves_at a) (record { class = t.class; gap = []; token = t.text }) (nonterminal_plain a) i)
+plain_onward outer here a (Form' kind z parts z' items end split open_break comments) i e n = node_onward kind here n
 
 onward_twice : (here : Spot) → onward (onward here) ≡ onward here
 onward_twice Begins = refl
 onward_twice Within = refl
 onward_twice Along = refl
 
-row_onward : (outer here : Spot) (x : Child) (xs : List Child) (y : Part) (rest : List Part) → Links plain_first any_last (root x.0) (rooted xs ++ (y ∷ rest)) → RowDraws outer here (x ∷ xs) → behind_row outer here (x ∷ xs) ≡ onward here
+row_onward : (outer here : Spot) (x : Child) (xs : List Child) (y : Part) (rest : List Part) → Links plain_first any_last (root x.0) (rooted xs ++ (y ∷ rest)) → RowLaysOut outer here (x ∷ xs) → after_row outer here (x ∷ xs) ≡ onward here
 row_onward outer here x [] y rest h d = plain_onward outer here h.0.0 x.0 h.0.2 h.0.4 d.0.no_first
 row_onward outer here x (z ∷ zs) y rest h d =
-    row_onward outer (behind_expr outer here x.0) z zs y rest h.1 d.1 ∙ (ap onward (plain_onward outer here h.0.0 x.0 h.0.2 h.0.4 d.0.no_first) ∙ onward_twice here)
+    row_onward outer (after_expr outer here x.0) z zs y rest h.1 d.1 ∙ (ap onward (plain_onward outer here h.0.0 x.0 h.0.2 h.0.4 d.0.no_first) ∙ onward_twice here)
 
 -- of a row that fits such a shape, with another part after it: of a header before its colon, say
-pub plain_row : (r : Shape) → passes plain_first any_last None r ≡ true → (outer here : Spot) (xs : List Child) (y : Part) (rest : List Part) → Fits IsSort r (rooted xs ++ (y ∷ rest)) → RowDraws outer here xs → is_empty xs ≡ false → behind_row outer here xs ≡ onward here
+pub plain_row : (r : Shape) → passes plain_first any_last None r ≡ true → (outer here : Spot) (xs : List Child) (y : Part) (rest : List Part) → Fits IsNonterminal r (rooted xs ++ (y ∷ rest)) → RowLaysOut outer here xs → is_empty xs ≡ false → after_row outer here xs ≡ onward here
 plain_row r t outer here [] y rest h d e = no_such (sym e)
 plain_row r t outer here (x ∷ xs) y rest h d e = row_onward outer here x xs y rest (links plain_first any_last r None (root x.0) tt t (root x.0 ∷ (rooted xs ++ (y ∷ rest))) h) d

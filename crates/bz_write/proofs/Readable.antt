@@ -3,7 +3,7 @@ use Rattle.std.proofs.Common.{◌≡◌, suc, Bool, true, false, not, ◌&&◌, 
 use Rattle.std.specs.List.{AllByRecursion}
 use Rattle.std.proofs.lemmas.List.Elements.{recursion_from_All}
 use Rattle.bz_tree.specs.declared.kind.Kind.{Kind}
-use Rattle.bz_tree.specs.Legal.{IsSort}
+use Rattle.bz_tree.specs.Legal.{IsNonterminal}
 use Rattle.bz_tree.specs.Shapes.{Fits}
 use Rattle.bz_tree.specs.Spots.{Spot, Within}
 use Rattle.bz_value.specs.declared.value.Expr.{Expr, Token, Form', Row_of-Expr, end_of-Expr, more_of-Expr, items-the_row-Expr}
@@ -11,11 +11,11 @@ use Rattle.bz_value.specs.Comments.{no_comments}
 use Rattle.bz_value.specs.Frames.{Frame, row, sequence, frame, lead, is_binary, is_comprehension}
 use Rattle.bz_items.specs.Characters.{Bytes}
 use Rattle.bz_value.specs.LineShapes.{line_shape}
-use Rattle.bz_value.specs.Proper.{IsComment, MaybeComment, comments_of, has_break, is_operator, begins_operator, roots, behind_expr, IsEmptyRow, in_frame, ProperBy, ProperRowBy, ProperHeadBy, ProperItemsBy}
+use Rattle.bz_value.specs.Proper.{IsComment, MaybeComment, comments_of, has_break, is_operator, begins_operator, roots, after_expr, IsEmptyRow, in_frame, ProperBy, ProperRowBy, ProperHeadBy, ProperItemsBy}
 use Rattle.bz_value.specs.Roots.{root, row_in}
 use Rattle.bz_value.specs.Empty.{is_empty}
 use Rattle.bz_value.proofs.LeadParts.{lead_before}
-use Rattle.bz_write.proofs.Framed.{RowShape, row_shape, is_sign_part, begins_sign, ends_sign, behind_first}
+use Rattle.bz_write.proofs.Framed.{RowShape, row_shape, is_sign_part, begins_sign, ends_sign, after_first}
 use Rattle.bz_write.proofs.Made.{roots_row}
 
 abbrev pub begins : List Expr → Bool
@@ -45,30 +45,30 @@ AreItems [] = Unit {0}
 AreItems (x ∷ xs) = AllByRecursion IsComment (comments_of x).before × MaybeComment (comments_of x).suffix × (has_break x ≡ false) × AreItems xs
 
 -- a row: kind, flags split and open, parts, items, end comments
-pub record IsRow (kind : Kind) (split open_ : Bool) (parts items : List Expr) (end_ : List Bytes) : Type 0 where
+pub record IsRow (kind : Kind) (split open_break : Bool) (parts items : List Expr) (end : List Bytes) : Type 0 where
   pub full : is_empty parts ≡ false
   pub first : (is_binary kind && begins parts) ≡ false
   pub last : (is_binary kind && ends parts) ≡ false
   pub second : is_comprehension kind ≡ true → is_empty (others parts) ≡ false
   pub each : AreParts (is_binary kind) parts
   pub no_items : items ≡ []
-  pub no_end : end_ ≡ []
+  pub no_end : end ≡ []
   pub not_split : split ≡ false
-  pub opens : open_ ≡ true → is_comprehension kind ≡ true
+  pub opens : open_break ≡ true → is_comprehension kind ≡ true
 
 -- a sequence: kind, flag open, what is before the bracket, items, end comments
-pub record IsSequence (kind : Kind) (open_ : Bool) (parts items : List Expr) (end_ : List Bytes) : Type 0 where
+pub record IsSequence (kind : Kind) (open_break : Bool) (parts items : List Expr) (end : List Bytes) : Type 0 where
   pub leads : length parts ≡ lead kind
   pub heads : AreHeads parts
   pub each : AreItems items
-  pub ends_there : AllByRecursion IsComment end_
-  pub not_open : open_ ≡ false
+  pub ends_there : AllByRecursion IsComment end
+  pub not_open : open_break ≡ false
 
 abbrev mutual
   pub Readable : Expr → Type 0
   Readable (Token t) = Unit {0}
-  Readable (Form' kind s parts s' items end_ split open_ comments) =
-      in_frame (frame kind) (IsRow kind split open_ (items-the_row-Expr _ parts) (items-the_row-Expr _ items) end_) (IsSequence kind open_ (items-the_row-Expr _ parts) (items-the_row-Expr _ items) end_)
+  Readable (Form' kind s parts s' items end split open_break comments) =
+      in_frame (frame kind) (IsRow kind split open_break (items-the_row-Expr _ parts) (items-the_row-Expr _ items) end) (IsSequence kind open_break (items-the_row-Expr _ parts) (items-the_row-Expr _ items) end)
       × EachReadable parts × EachReadable items
 
   pub EachReadable : {m : _} → Row_of-Expr m → Type 0
@@ -79,7 +79,7 @@ abbrev mutual
 
 sign_root : (x : Expr) → is_sign_part (root x) ≡ is_operator x
 sign_root (Token t) = refl
-sign_root (Form' kind s parts s' items end_ split open_ comments) = refl
+sign_root (Form' kind s parts s' items end split open_break comments) = refl
 
 begins_same : (xs : List Expr) → begins_sign (map root xs) ≡ begins xs
 begins_same [] = refl
@@ -94,7 +94,7 @@ empty_same : (xs : List Expr) → is_empty (map root xs) ≡ is_empty xs
 empty_same [] = refl
 empty_same (x ∷ xs) = refl
 
-others_same : (xs : List Expr) → is_empty (behind_first (map root xs)) ≡ is_empty (others xs)
+others_same : (xs : List Expr) → is_empty (after_first (map root xs)) ≡ is_empty (others xs)
 others_same [] = refl
 others_same (x ∷ xs) = empty_same xs
 
@@ -111,7 +111,7 @@ begins_row m (more_of-Expr x rest) = refl
 pub parts_list : (binary : Bool) (outer here : Spot) (m : _) (r : Row_of-Expr m) → ProperRowBy line_shape binary outer here r → AreParts binary (items-the_row-Expr m r)
 parts_list binary outer here m end_of-Expr h = tt
 parts_list binary outer here m (more_of-Expr x rest) h =
-    (h.1, λ b. ap (λ z. binary && (is_operator x && not z)) (sym (begins_row _ rest)) ∙ (h.2 b).0, parts_list binary outer (behind_expr outer here x) _ rest h.3)
+    (h.1, λ b. ap (λ z. binary && (is_operator x && not z)) (sym (begins_row _ rest)) ∙ (h.2 b).0, parts_list binary outer (after_expr outer here x) _ rest h.3)
 
 pub heads_list : (here : Spot) (m : _) (r : Row_of-Expr m) → ProperHeadBy line_shape here r → AreHeads (items-the_row-Expr m r)
 heads_list here m end_of-Expr h = tt
@@ -131,21 +131,21 @@ both_frames : (f : Frame) (A B C : Type 0) → (A → C) → (B → C) → in_fr
 both_frames row A B C a b h = a h
 both_frames (sequence o closer) A B C a b h = b h
 
-by_frame : (kind : Kind) (f : Frame) (split open_ : Bool) (ps is : List Expr) (end_ : List Bytes) (A B : Type 0) → Fits IsSort (line_shape kind) (row_in f (map root ps) (map root is)) →
-    in_frame f (Unit {0}) (length (map root ps) ≡ lead kind) → (RowShape kind (map root ps) → A → IsRow kind split open_ ps is end_) → (length (map root ps) ≡ lead kind → B → IsSequence kind open_ ps is end_) →
-    in_frame f A B → in_frame f (IsRow kind split open_ ps is end_) (IsSequence kind open_ ps is end_)
-by_frame kind row split open_ ps is end_ A B fits leads a b h = a (row_shape kind (map root ps) fits) h
-by_frame kind (sequence o closer) split open_ ps is end_ A B fits leads a b h = b leads h
+by_frame : (kind : Kind) (f : Frame) (split open_break : Bool) (ps is : List Expr) (end : List Bytes) (A B : Type 0) → Fits IsNonterminal (line_shape kind) (row_in f (map root ps) (map root is)) →
+    in_frame f (Unit {0}) (length (map root ps) ≡ lead kind) → (RowShape kind (map root ps) → A → IsRow kind split open_break ps is end) → (length (map root ps) ≡ lead kind → B → IsSequence kind open_break ps is end) →
+    in_frame f A B → in_frame f (IsRow kind split open_break ps is end) (IsSequence kind open_break ps is end)
+by_frame kind row split open_break ps is end A B fits leads a b h = a (row_shape kind (map root ps) fits) h
+by_frame kind (sequence o closer) split open_break ps is end A B fits leads a b h = b leads h
 
 mutual
   pub readable : (here : Spot) (x : Expr) → ProperBy line_shape here x → Readable x
   readable here (Token t) h = tt
-  readable here (Form' kind s parts s' items end_ split open_ comments) h =
+  readable here (Form' kind s parts s' items end split open_break comments) h =
       let ps : List Expr = items-the_row-Expr _ parts in
       let is : List Expr = items-the_row-Expr _ items in
-      let fits : Fits IsSort (line_shape kind) (row_in (frame kind) (map root ps) (map root is)) =
-      subst (λ z. Fits IsSort (line_shape kind) (row_in (frame kind) z (map root is))) (roots_row _ parts) (subst (λ z. Fits IsSort (line_shape kind) (row_in (frame kind) (roots parts) z)) (roots_row _ items) h.0) in (
-        by_frame kind (frame kind) split open_ ps is end_ _ _ fits (lead_before kind (map root ps) (map root is) fits)
+      let fits : Fits IsNonterminal (line_shape kind) (row_in (frame kind) (map root ps) (map root is)) =
+      subst (λ z. Fits IsNonterminal (line_shape kind) (row_in (frame kind) z (map root is))) (roots_row _ parts) (subst (λ z. Fits IsNonterminal (line_shape kind) (row_in (frame kind) (roots parts) z)) (roots_row _ items) h.0) in (
+        by_frame kind (frame kind) split open_break ps is end _ _ fits (lead_before kind (map root ps) (map root is) fits)
             (λ w k. record {
               full = sym (empty_same ps) ∙ w.full;
               first = ap (λ z. is_binary kind && z) (sym (begins_same ps)) ∙ w.first;
@@ -161,7 +161,7 @@ mutual
               leads = sym (length_same ps) ∙ n;
               heads = heads_list here _ parts k.0;
               each = items_list _ items k.1;
-              ends_there = recursion_from_All IsComment end_ k.2;
+              ends_there = recursion_from_All IsComment end k.2;
               not_open = k.3;
             })
             h.1,
@@ -171,7 +171,7 @@ mutual
 
   pub row_readable : (binary : Bool) (outer here : Spot) (m : _) (r : Row_of-Expr m) → ProperRowBy line_shape binary outer here r → EachReadable r
   row_readable binary outer here m end_of-Expr h = tt
-  row_readable binary outer here m (more_of-Expr x rest) h = (readable here x h.0, row_readable binary outer (behind_expr outer here x) _ rest h.3)
+  row_readable binary outer here m (more_of-Expr x rest) h = (readable here x h.0, row_readable binary outer (after_expr outer here x) _ rest h.3)
 
   pub head_readable : (here : Spot) (m : _) (r : Row_of-Expr m) → ProperHeadBy line_shape here r → EachReadable r
   head_readable here m end_of-Expr h = tt

@@ -9,13 +9,13 @@ use Rattle.bz_value.specs.declared.value.Item.{Item}
 use Rattle.bz_value.specs.Proper.{IsProper}
 use Rattle.bz_view.specs.View.{view_of}
 use Rattle.bz_write.specs.Written.{layout}
-use Rattle.bz_write.specs.Drawn.{lines_from, drawn}
+use Rattle.bz_write.specs.LaidOut.{lines_from, laid_out}
 use Rattle.bz_write.specs.Flags.{flags}
 use Rattle.bz_write.specs.Depths.{depth_items}
-use Rattle.bz_write.proofs.Deep.{drawn_depth}
-use Rattle.bz_write.proofs.LegalFiles.{drawn_legal}
+use Rattle.bz_write.proofs.Deep.{laid_out_depth}
+use Rattle.bz_write.proofs.LegalFiles.{laid_out_legal}
 use Rattle.bz_write.proofs.LinesBack.{view_back}
-use Rattle.bz_write.proofs.Spelled.{drawn_spelled}
+use Rattle.bz_write.proofs.Spelled.{laid_out_spelled}
 
 -- a file of these parts
 abbrev pub file_of : List Part → Node
@@ -24,24 +24,24 @@ file_of parts = record { kind = k.File; parts = parts }
 pub past_limit : (xs : List Item) → (length (layout xs) ≤ limit → false ≡ true) → limit < length (layout xs)
 past_limit xs long = let longer : length (layout xs) ≤ limit → ⊥ = λ short. let no_ : false ≡ true = long short in cc in omega (arith, longer)
 
-pub past_depth : (xs : List Item) → length (layout xs) ≤ limit → (depth_items xs ≤ depth_limit - 1 → false ≡ true) → (length (layout xs) ≤ limit) × (depth_limit < depth_of (drawn xs))
+pub past_depth : (xs : List Item) → length (layout xs) ≤ limit → (depth_items xs ≤ depth_limit - 1 → false ≡ true) → (length (layout xs) ≤ limit) × (depth_limit < depth_of (laid_out xs))
 past_depth xs short deep =
-    let deeper : depth_items xs ≤ depth_limit - 1 → ⊥ = λ shallow. let no_ : false ≡ true = deep shallow in cc in
-    let depth : depth_of (drawn xs) ≡ suc (depth_items xs) = drawn_depth xs in
-    (short, omega (arith, depth, deeper))
+    let deeper_margin : depth_items xs ≤ depth_limit - 1 → ⊥ = λ shallow. let no_ : false ≡ true = deep shallow in cc in
+    let depth : depth_of (laid_out xs) ≡ suc (depth_items xs) = laid_out_depth xs in
+    (short, omega (arith, depth, deeper_margin))
 
-pub within_depth : (xs : List Item) → depth_items xs ≤ depth_limit - 1 → depth_of (drawn xs) ≤ depth_limit
-within_depth xs shallow = let depth : depth_of (drawn xs) ≡ suc (depth_items xs) = drawn_depth xs in omega (arith, depth, shallow)
+pub within_depth : (xs : List Item) → depth_items xs ≤ depth_limit - 1 → depth_of (laid_out xs) ≤ depth_limit
+within_depth xs shallow = let depth : depth_of (laid_out xs) ≡ suc (depth_items xs) = laid_out_depth xs in omega (arith, depth, shallow)
 
-pub legal_file : (xs : List Item) (parts : List Part) → IsProper xs → parts ≡ lines_from [] xs → length (layout xs) ≤ limit → depth_of (drawn xs) ≤ depth_limit →
+pub legal_file : (xs : List Item) (parts : List Part) → IsProper xs → parts ≡ lines_from [] xs → length (layout xs) ≤ limit → depth_of (laid_out xs) ≤ depth_limit →
     Legal (file_of parts) × (length (spell_node (file_of parts)) ≤ limit)
 legal_file xs parts h e short shallow =
-    let there : Legal (drawn xs) × (length (spell_node (drawn xs)) ≤ limit) =
-    (drawn_legal xs h shallow, subst (λ (t : List _). length t ≤ limit) (sym (drawn_spelled xs h)) short) in
+    let there : Legal (laid_out xs) × (length (spell_node (laid_out xs)) ≤ limit) =
+    (laid_out_legal xs h shallow, subst (λ (t : List _). length t ≤ limit) (sym (laid_out_spelled xs h)) short) in
     subst (λ (ps : List Part). Legal (file_of ps) × (length (spell_node (file_of ps)) ≤ limit)) (sym e) there
 
 pub text_of_file : (xs : List Item) (parts : List Part) → IsProper xs → parts ≡ lines_from [] xs → spell_node (file_of parts) ≡ layout xs
-text_of_file xs parts h e = ap (λ ps. spell_node (file_of ps)) e ∙ drawn_spelled xs h
+text_of_file xs parts h e = ap (λ ps. spell_node (file_of ps)) e ∙ laid_out_spelled xs h
 
 pub view_of_file : (xs : List Item) (parts : List Part) → IsProper xs → parts ≡ lines_from [] xs → view_of (file_of parts) ≡ flags xs
 view_of_file xs parts h e = ap (λ ps. view_of (file_of ps)) e ∙ view_back xs h

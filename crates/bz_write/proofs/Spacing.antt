@@ -9,10 +9,10 @@ use Rattle.bz_tree.specs.declared.kind.Kind.{Kind}
 use Rattle.bz_tree.specs.declared.tree.Part.{Part, Node'}
 use Rattle.bz_tree.specs.declared.tree.Part.TheVariants as p
 use Rattle.bz_tree.specs.Shapes as s
-use Rattle.bz_tree.specs.Shapes.{Sort, Terminal, is_one_of, is_terminal, leaves_at}
-use Rattle.bz_tree.specs.Legal.{IsSort}
+use Rattle.bz_tree.specs.Shapes.{Nonterminal, Terminal, is_one_of, is_terminal, leaves_at}
+use Rattle.bz_tree.specs.Legal.{IsNonterminal}
 use Rattle.bz_tree.proofs.Balance.{same_class, no_such}
-use Rattle.bz_spaces.specs.Spaces.{lone, space_behind, space_before, is_word, is_value, is_spaced_after, is_spaced_before, is_lone, apart}
+use Rattle.bz_spaces.specs.Spaces.{lone, space_after, space_before, is_word, is_value, is_spaced_after, is_spaced_before, is_lone, apart}
 use Rattle.bz_write.proofs.Neighbours.{Element, T, S, Is, all_in, never_lone, spaced}
 
 -- this very token as a terminal
@@ -58,9 +58,9 @@ abbrev pub word_terminal : Terminal → Bool
 word_terminal (s.any class) = is_word class
 word_terminal (s.this class t) = false
 
-sort_words : (a : Sort) → all_in word_terminal (leaves_at a) ≡ true
-sort_words (s.level n) = refl
-sort_words _ = refl
+nonterminal_words : (a : Nonterminal) → all_in word_terminal (leaves_at a) ≡ true
+nonterminal_words (s.level n) = refl
+nonterminal_words _ = refl
 
 pub word_leaf : (ts : List Terminal) (l : Leaf) → all_in word_terminal ts ≡ true → is_one_of ts l ≡ true → is_word l.class ≡ true
 word_leaf [] l h i = no_such i
@@ -72,17 +72,17 @@ word_leaf (t ∷ ts) l h i =
     of_word (s.any class) l h i = ap is_word (same_class l.class class i) ∙ h
     of_word (s.this class t) l h i = no_such h
 
-pub value_of : (a : Sort) (x : Part) → IsSort a x → is_value x ≡ true
-value_of a (p.Leaf l) h = word_leaf (leaves_at a) l (sort_words a) h
+pub value_of : (a : Nonterminal) (x : Part) → IsNonterminal a x → is_value x ≡ true
+value_of a (p.Leaf l) h = word_leaf (leaves_at a) l (nonterminal_words a) h
 value_of a (Node' k z r) h = refl
 
 not_lone : (y : Part) → is_value y ≡ true → is_lone y ≡ false
 not_lone (p.Leaf l) h = lone_word l.class l.token h
 not_lone (Node' k z r) h = refl
 
-behind_of : (kind : Kind) (ts : List Terminal) (x : Part) → all_in (space_behind kind) ts ≡ true → Is (T ts) x → is_spaced_after kind x ≡ true
-behind_of kind ts (p.Leaf l) h i = own_leaf (space_behind kind) (λ class. refl) ts l h i
-behind_of kind ts (Node' k z r) h i = no_such i
+after_of : (kind : Kind) (ts : List Terminal) (x : Part) → all_in (space_after kind) ts ≡ true → Is (T ts) x → is_spaced_after kind x ≡ true
+after_of kind ts (p.Leaf l) h i = own_leaf (space_after kind) (λ class. refl) ts l h i
+after_of kind ts (Node' k z r) h i = no_such i
 
 before_of : (kind : Kind) (us : List Terminal) (y : Part) → all_in (space_before kind) us ≡ true → Is (T us) y → is_spaced_before kind y ≡ true
 before_of kind us (p.Leaf l) h i = own_leaf (space_before kind) (λ class. refl) us l h i
@@ -92,8 +92,8 @@ never_of : (us : List Terminal) (y : Part) → all_in never_lone us ≡ true →
 never_of us (p.Leaf l) h i = never_leaf us l h i
 never_of us (Node' k z r) h i = no_such i
 
-by_behind : (a b d : Bool) → a ≡ true → b ≡ false → ((a && not b) || d) ≡ true
-by_behind a b d h i = rw (h, i) refl
+by_after : (a b d : Bool) → a ≡ true → b ≡ false → ((a && not b) || d) ≡ true
+by_after a b d h i = rw (h, i) refl
 
 by_before : (a b d : Bool) → b ≡ true → (a || (b || d)) ≡ true
 by_before a b d h = or_right a (b || d) (or_left b d h)
@@ -105,9 +105,9 @@ by_values a b d e h i = or_right a (b || (d && e)) (or_right b (d && e) (and_fro
 pub spaced_apart : (kind : Kind) (a b : Element) (x y : Part) → Is a x → Is b y → spaced kind a b ≡ true → apart kind x y ≡ true
 spaced_apart kind (S a) (S b) x y i j h = by_values _ _ _ _ (value_of a x i) (value_of b y j)
 spaced_apart kind (S a) (T us) x y i j h = by_before _ _ _ (before_of kind us y h j)
-spaced_apart kind (T ts) (S b) x y i j h = by_behind _ _ _ (behind_of kind ts x h i) (not_lone y (value_of b y j))
+spaced_apart kind (T ts) (S b) x y i j h = by_after _ _ _ (after_of kind ts x h i) (not_lone y (value_of b y j))
 spaced_apart kind (T ts) (T us) x y i j h =
-    elim (or_cases (all_in (space_behind kind) ts && all_in never_lone us) _ h) [
-      | inl e ↦ let w = and_parts (all_in (space_behind kind) ts) _ e in by_behind _ _ _ (behind_of kind ts x w.0 i) (never_of us y w.1 j)
+    elim (or_cases (all_in (space_after kind) ts && all_in never_lone us) _ h) [
+      | inl e ↦ let w = and_parts (all_in (space_after kind) ts) _ e in by_after _ _ _ (after_of kind ts x w.0 i) (never_of us y w.1 j)
       | inr e ↦ by_before _ _ _ (before_of kind us y e j)
     ]

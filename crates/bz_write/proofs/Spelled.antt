@@ -18,11 +18,11 @@ use Rattle.bz_items.specs.Characters.{Bytes, comma, line_feed, space}
 use Rattle.bz_value.specs.Frames.{Frame, row, sequence, frame}
 use Rattle.bz_value.specs.Proper.{IsProperItem, IsProper, in_frame, comments_of}
 use Rattle.bz_value.proofs.Wider.{line_expr}
-use Rattle.bz_write.specs.Layout.{Piece, mark, laid_in, rowed, headed, joined, stacked, is_broken, is_tuple, gap_behind, margin_behind, suffix_text, firsts}
+use Rattle.bz_write.specs.Layout.{Piece, mark, laid_in, rowed, headed, joined, stacked, is_broken, is_tuple, gap_after, margin_after, suffix_text, firsts}
 use Rattle.bz_value.specs.Empty.{is_empty}
-use Rattle.bz_write.specs.Written.{text_of, texts_of, piece_text, comment_lines, behind_item, item_text, layout}
+use Rattle.bz_write.specs.Written.{text_of, texts_of, piece_text, comment_lines, past_item, item_text, layout}
 use Rattle.bz_write.specs.Writings.{writings}
-use Rattle.bz_write.specs.Drawn.{part_of, parts_of, drawings, piece_part, before_next, line_part, lines_from, drawn}
+use Rattle.bz_write.specs.LaidOut.{part_of, parts_of, layouts, piece_part, before_next, line_part, lines_from, laid_out}
 use Rattle.bz_write.proofs.Readable.{Readable, EachReadable, IsRow, IsSequence, readable}
 
 -- the two readings of the same expressions, each spelling the other after its gap
@@ -52,12 +52,12 @@ same_length : (xs : _) (ys : _) → Agree xs ys → length xs ≡ length ys
 same_length xs ys over = refl
 same_length xs ys (more v x y xs' ys' e a) = ap suc (same_length xs' ys' a)
 
-pub same_rowed : (kind : Kind) (open_ : Bool) (m : ℕ) (g : Bytes) (n : ℕ) (xs : _) (ys : _) → Agree xs ys → spelled (rowed kind open_ m g n xs) ≡ written (rowed kind open_ m g n ys)
-same_rowed kind open_ m g n xs ys over = refl
-same_rowed kind open_ m g n xs ys (more v x y xs' ys' e a) =
+pub same_rowed : (kind : Kind) (open_break : Bool) (m : ℕ) (g : Bytes) (n : ℕ) (xs : _) (ys : _) → Agree xs ys → spelled (rowed kind open_break m g n xs) ≡ written (rowed kind open_break m g n ys)
+same_rowed kind open_break m g n xs ys over = refl
+same_rowed kind open_break m g n xs ys (more v x y xs' ys' e a) =
     both (e g n)
-    (ap (λ z. spelled (rowed kind open_ m (gap_behind kind open_ m v z) (margin_behind open_ m v) xs')) (same_values xs' ys' a) ∙
-    same_rowed kind open_ m (gap_behind kind open_ m v (firsts ys')) (margin_behind open_ m v) xs' ys' a)
+    (ap (λ z. spelled (rowed kind open_break m (gap_after kind open_break m v z) (margin_after open_break m v) xs')) (same_values xs' ys' a) ∙
+    same_rowed kind open_break m (gap_after kind open_break m v (firsts ys')) (margin_after open_break m v) xs' ys' a)
 
 same_headed : (m : ℕ) (g : Bytes) (opener : ℕ) (xs : _) (ys : _) (p : _) (q : _) → Agree xs ys → spelled p ≡ written q → spelled (headed m g opener xs p) ≡ written (headed m g opener ys q)
 same_headed m g opener xs ys p q over f = both refl f
@@ -72,21 +72,21 @@ same_joined m g closer one xs ys over = refl
 same_joined m g closer one xs ys (more v x y xs' ys' e a) =
     both (e g m) (rw (same_empty xs' ys' a) (same_comma (is_empty ys' && not one) _ _ (same_joined m (space ∷ []) closer false xs' ys' a)))
 
-pub same_stacked : (m : ℕ) (suffix : Option Bytes) (closer : ℕ) (end_ : List Bytes) (xs : _) (ys : _) → Agree xs ys → spelled (stacked m suffix closer end_ xs) ≡ written (stacked m suffix closer end_ ys)
-same_stacked m suffix closer end_ xs ys over = refl
-same_stacked m suffix closer end_ xs ys (more v x y xs' ys' e a) = both (e _ (m + 4)) (ap (λ t. comma ∷ t) (same_stacked m _ closer end_ xs' ys' a))
+pub same_stacked : (m : ℕ) (suffix : Option Bytes) (closer : ℕ) (end : List Bytes) (xs : _) (ys : _) → Agree xs ys → spelled (stacked m suffix closer end xs) ≡ written (stacked m suffix closer end ys)
+same_stacked m suffix closer end xs ys over = refl
+same_stacked m suffix closer end xs ys (more v x y xs' ys' e a) = both (e _ (m + 4)) (ap (λ t. comma ∷ t) (same_stacked m _ closer end xs' ys' a))
 
-pub same_body : (b one : Bool) (m : ℕ) (closer : ℕ) (end_ : List Bytes) (xs : _) (ys : _) → Agree xs ys →
-    spelled (if b then stacked m None closer end_ xs else joined m [] closer one xs) ≡ written (if b then stacked m None closer end_ ys else joined m [] closer one ys)
-same_body true one m closer end_ xs ys a = same_stacked m None closer end_ xs ys a
-same_body false one m closer end_ xs ys a = same_joined m [] closer one xs ys a
+pub same_body : (b one : Bool) (m : ℕ) (closer : ℕ) (end : List Bytes) (xs : _) (ys : _) → Agree xs ys →
+    spelled (if b then stacked m None closer end xs else joined m [] closer one xs) ≡ written (if b then stacked m None closer end ys else joined m [] closer one ys)
+same_body true one m closer end xs ys a = same_stacked m None closer end xs ys a
+same_body false one m closer end xs ys a = same_joined m [] closer one xs ys a
 
-same_laid : (f : Frame) (kind : Kind) (split open_ : Bool) (g : Bytes) (m : ℕ) (hs hs' xs ys : _) (end_ : List Bytes) → Agree hs hs' → Agree xs ys →
-    spelled (laid_in f kind split open_ g m hs xs end_) ≡ written (laid_in f kind split open_ g m hs' ys end_)
-same_laid row kind split open_ g m hs hs' xs ys end_ a b = same_rowed kind open_ m g m hs hs' a
-same_laid (sequence opener closer) kind split open_ g m hs hs' xs ys end_ a b =
+same_laid : (f : Frame) (kind : Kind) (split open_break : Bool) (g : Bytes) (m : ℕ) (hs hs' xs ys : _) (end : List Bytes) → Agree hs hs' → Agree xs ys →
+    spelled (laid_in f kind split open_break g m hs xs end) ≡ written (laid_in f kind split open_break g m hs' ys end)
+same_laid row kind split open_break g m hs hs' xs ys end a b = same_rowed kind open_break m g m hs hs' a
+same_laid (sequence opener closer) kind split open_break g m hs hs' xs ys end a b =
     same_headed m g opener hs hs' _ _ a
-    (rw (same_values xs ys b, same_length xs ys b) (same_body (is_broken kind split (firsts ys) end_) (is_tuple kind && nat_eq (length ys) 1) m closer end_ xs ys b))
+    (rw (same_values xs ys b, same_length xs ys b) (same_body (is_broken kind split (firsts ys) end) (is_tuple kind && nat_eq (length ys) 1) m closer end xs ys b))
 
 -- ---- the gap before a node is before its text
 
@@ -95,15 +95,15 @@ abbrev Starts : {X : Type 0} → Frame → List X → Type 0
 Starts row xs = is_empty xs ≡ false
 Starts (sequence opener closer) xs = Unit {0}
 
-pub row_gap : (kind : Kind) (open_ : Bool) (g : Bytes) (m n : ℕ) (xs : List (Expr × (ℕ → Bytes))) → is_empty xs ≡ false → written (rowed kind open_ m g n xs) ≡ g ++ written (rowed kind open_ m [] n xs)
-row_gap kind open_ g m n [] s = absurd (true≢false s)
-row_gap kind open_ g m n (x ∷ xs) s = append_assoc g _ _
+pub row_gap : (kind : Kind) (open_break : Bool) (g : Bytes) (m n : ℕ) (xs : List (Expr × (ℕ → Bytes))) → is_empty xs ≡ false → written (rowed kind open_break m g n xs) ≡ g ++ written (rowed kind open_break m [] n xs)
+row_gap kind open_break g m n [] s = absurd (true≢false s)
+row_gap kind open_break g m n (x ∷ xs) s = append_assoc g _ _
 
-first_gap : (f : Frame) (kind : Kind) (split open_ : Bool) (g : Bytes) (m : ℕ) (hs xs : List (Expr × (ℕ → Bytes))) (end_ : List Bytes) → Starts f hs →
-    written (laid_in f kind split open_ g m hs xs end_) ≡ g ++ written (laid_in f kind split open_ [] m hs xs end_)
-first_gap row kind split open_ g m hs xs end_ s = row_gap kind open_ g m m hs s
-first_gap (sequence opener closer) kind split open_ g m [] xs end_ s = append_assoc g _ _
-first_gap (sequence opener closer) kind split open_ g m (h ∷ hs) xs end_ s = append_assoc g _ _
+first_gap : (f : Frame) (kind : Kind) (split open_break : Bool) (g : Bytes) (m : ℕ) (hs xs : List (Expr × (ℕ → Bytes))) (end : List Bytes) → Starts f hs →
+    written (laid_in f kind split open_break g m hs xs end) ≡ g ++ written (laid_in f kind split open_break [] m hs xs end)
+first_gap row kind split open_break g m hs xs end s = row_gap kind open_break g m m hs s
+first_gap (sequence opener closer) kind split open_break g m [] xs end s = append_assoc g _ _
+first_gap (sequence opener closer) kind split open_break g m (h ∷ hs) xs end s = append_assoc g _ _
 
 spell_made : (kind : Kind) (ps : List Part) → spell_part (p.Node (record { kind = kind; parts = ps })) ≡ flat_map spell_part ps
 spell_made kind ps = spell_Node (record { kind = kind; parts = ps })
@@ -113,33 +113,33 @@ row_starts m end_of-Expr h = h
 row_starts m (more_of-Expr x rest) h = refl
 
 -- a readable row has a part
-starts : (f : Frame) (kind : Kind) (split open_ : Bool) (m : _) (parts : Row_of-Expr m) (items : List Expr) (end_ : List Bytes) →
-    in_frame f (IsRow kind split open_ (items-the_row-Expr m parts) items end_) (IsSequence kind open_ (items-the_row-Expr m parts) items end_) → Starts f (texts_of parts)
-starts row kind split open_ m parts items end_ h = row_starts m parts h.full
-starts (sequence opener closer) kind split open_ m parts items end_ h = tt
+starts : (f : Frame) (kind : Kind) (split open_break : Bool) (m : _) (parts : Row_of-Expr m) (items : List Expr) (end : List Bytes) →
+    in_frame f (IsRow kind split open_break (items-the_row-Expr m parts) items end) (IsSequence kind open_break (items-the_row-Expr m parts) items end) → Starts f (texts_of parts)
+starts row kind split open_break m parts items end h = row_starts m parts h.full
+starts (sequence opener closer) kind split open_break m parts items end h = tt
 
 mutual
   pub spell_expr : (a : Expr) → Readable a → (g : Bytes) (m : ℕ) → spell_part (part_of a g m) ≡ g ++ text_of a m
   spell_expr (Token t) f g m = refl
-  spell_expr (Form' kind s parts s' items end_ split open_ comments) f g m =
+  spell_expr (Form' kind s parts s' items end split open_break comments) f g m =
       spell_made kind _ ∙
-      (same_laid (frame kind) kind split open_ g m _ _ _ _ end_ (agree _ parts f.1) (agree _ items f.2) ∙ first_gap (frame kind) kind split open_ g m _ _ end_ (starts (frame kind) kind split open_ _ parts _ end_ f.0))
+      (same_laid (frame kind) kind split open_break g m _ _ _ _ end (agree _ parts f.1) (agree _ items f.2) ∙ first_gap (frame kind) kind split open_break g m _ _ end (starts (frame kind) kind split open_break _ parts _ end f.0))
 
   pub agree : (n : _) (r : Row_of-Expr n) → EachReadable r → Agree (parts_of r) (texts_of r)
   agree n end_of-Expr f = over
   agree n (more_of-Expr x rest) f = more x _ _ _ _ (spell_expr x f.0) (agree _ rest f.1)
 
 -- the same of lists
-pub agree_all : (xs : List Expr) → AllByRecursion Readable xs → Agree (drawings xs) (writings xs)
+pub agree_all : (xs : List Expr) → AllByRecursion Readable xs → Agree (layouts xs) (writings xs)
 agree_all [] f = over
 agree_all (x ∷ xs) f = more x _ _ _ _ (spell_expr x f.0) (agree_all xs f.1)
 
 -- ---- the file
 
 -- the layout after an item: the blank line, and the layout of the rest
-pub next_behind : (x : Item) (ys : List Item) → before_next x ys ++ layout ys ≡ behind_item x ys
-next_behind x [] = refl
-next_behind x (y ∷ ys) = refl
+pub next_after : (x : Item) (ys : List Item) → before_next x ys ++ layout ys ≡ past_item x ys
+next_after x [] = refl
+next_after x (y ∷ ys) = refl
 
 spell_line : (gap : Bytes) (x : Expr) → Readable x → spell_part (line_part gap x) ≡ gap ++ item_text (i.Stmt x)
 spell_line gap x f =
@@ -154,11 +154,11 @@ spell_lines (i.Block texts ∷ xs) h gap =
     let lines : Bytes = comment_lines texts in
     let next : Bytes = before_next (i.Block texts) xs in
     spell_lines xs h.1 ((gap ++ lines) ++ next) ∙
-    (append_assoc (gap ++ lines) next (layout xs) ∙ (ap (λ t. (gap ++ lines) ++ t) (next_behind (i.Block texts) xs) ∙ append_assoc gap lines (behind_item (i.Block texts) xs)))
+    (append_assoc (gap ++ lines) next (layout xs) ∙ (ap (λ t. (gap ++ lines) ++ t) (next_after (i.Block texts) xs) ∙ append_assoc gap lines (past_item (i.Block texts) xs)))
 spell_lines (i.Stmt x ∷ xs) h gap =
     let next : Bytes = before_next (i.Stmt x) xs in
-    both (spell_line gap x (readable Begins x (line_expr Begins x h.0.1))) (spell_lines xs h.1 next ∙ next_behind (i.Stmt x) xs) ∙ append_assoc gap (item_text (i.Stmt x)) (behind_item (i.Stmt x) xs)
+    both (spell_line gap x (readable Begins x (line_expr Begins x h.0.1))) (spell_lines xs h.1 next ∙ next_after (i.Stmt x) xs) ∙ append_assoc gap (item_text (i.Stmt x)) (past_item (i.Stmt x) xs)
 
 -- the tree of the layout of a proper file value spells its text
-pub drawn_spelled : (items : List Item) → IsProper items → spell_node (drawn items) ≡ layout items
-drawn_spelled items h = spell_lines items (recursion_from_All IsProperItem items h) []
+pub laid_out_spelled : (items : List Item) → IsProper items → spell_node (laid_out items) ≡ layout items
+laid_out_spelled items h = spell_lines items (recursion_from_All IsProperItem items h) []

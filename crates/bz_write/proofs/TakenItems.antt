@@ -3,7 +3,7 @@ use Rattle.std.proofs.Common.{◌≡◌, List, [], ◌∷◌, ◌++◌, Option, 
 use Rattle.bz_tree.specs.declared.tree.Part.{Part}
 use Rattle.bz_value.specs.declared.value.Item.{Item}
 use Rattle.bz_items.specs.Characters.{Bytes}
-use Rattle.bz_write.specs.Drawn.{own_lines, left_gap, lines_from}
+use Rattle.bz_write.specs.LaidOut.{own_lines, left_gap, lines_from}
 use Rattle.bz_write.specs.Taken.{before_item}
 use Rattle.bz_write.proofs.Loops.{lines_first}
 

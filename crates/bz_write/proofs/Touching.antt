@@ -17,8 +17,8 @@ use Rattle.bz_tree.specs.declared.tree.Part.{Part, Row_of-Part, end_of-Part, mor
 use Rattle.bz_tree.specs.declared.tree.Part.TheVariants as p
 use Rattle.bz_tree.specs.Spell.{leaves_part, leaves_row, depth_part}
 use Rattle.bz_tree.specs.Shapes as s
-use Rattle.bz_tree.specs.Shapes.{Sort, Terminal, Shape, Fits, has_token, is_one_of, is_terminal}
-use Rattle.bz_tree.specs.Legal.{IsSort}
+use Rattle.bz_tree.specs.Shapes.{Nonterminal, Terminal, Shape, Fits, has_token, is_one_of, is_terminal}
+use Rattle.bz_tree.specs.Legal.{IsNonterminal}
 use Rattle.bz_tree.specs.Reading.{starts, starts_with}
 use Rattle.bz_tree.proofs.Levels.{begins}
 use Rattle.bz_tree.proofs.Balance.{no_such}
@@ -138,7 +138,7 @@ abbrev pub Will : Part → Type 0
 Will x = LegalBy line_shape x → Lexed (leaves_part x) → Airy x → (rest : List ℕ) → Follows x rest → Toks (leaves_part x) rest
 
 -- a part that may end with a dot after it
-primary_plain : (a : Sort) (x : Part) → is_primary a ≡ true → IsSort a x → is_number_leaf x ≡ false → ends_plain x ≡ true
+primary_plain : (a : Nonterminal) (x : Part) → is_primary a ≡ true → IsNonterminal a x → is_number_leaf x ≡ false → ends_plain x ≡ true
 primary_plain (s.level n) (p.Leaf l) h i o = rw o refl
 primary_plain (s.level n) (Node' kind z r) h i o =
     let w = and_parts (s.is_expression kind) (nat_le (s.rank kind) n) i in
@@ -149,7 +149,7 @@ primary_plain (s.level n) (Node' kind z r) h i o =
 primary_plain _ x h i o = no_such h
 
 -- the first leaf of a part is one with which its sort begins
-first_leaf : (a : Sort) (y : Part) (l : Leaf) (ls : List Leaf) → leaves_part y ≡ l ∷ ls → IsSort a y → LegalBy line_shape y → is_one_of (starts a) l ≡ true
+first_leaf : (a : Nonterminal) (y : Part) (l : Leaf) (ls : List Leaf) → leaves_part y ≡ l ∷ ls → IsNonterminal a y → LegalBy line_shape y → is_one_of (starts a) l ≡ true
 first_leaf a y l ls e i g = subst (λ z. starts_with (starts a) (z ++ []) ≡ true) e (begins (depth_part y) a y [] (i, as_bzl y g, omega arith))
 
 well_front : (t l more rest : List ℕ) → in_table t fronts ≡ true → well_text l ≡ true → IsToken c.Mark t ((l ++ more) ++ rest)
@@ -172,15 +172,15 @@ before_name ts leaf l h i n lex more rest =
     (subst (λ z. IsToken c.Mark (46 ∷ []) z) (sym (append_assoc l.token more rest)) (dot_before_name l.token (more ++ rest) lex))))
 
 -- a mark or a word in front of a part
-behind_token : (kind : Kind) (ts : List Terminal) (leaf : Leaf) (y : Part) (b : Element) → is_one_of ts leaf ≡ true → Is b y → safe (T ts) b ≡ true → LegalBy line_shape y → IsLex leaf →
+after_token : (kind : Kind) (ts : List Terminal) (leaf : Leaf) (y : Part) (b : Element) → is_one_of ts leaf ≡ true → Is b y → safe (T ts) b ≡ true → LegalBy line_shape y → IsLex leaf →
     (l : Leaf) (ls : List Leaf) → leaves_part y ≡ l ∷ ls → l.gap ≡ [] → IsLex l → (more rest : List ℕ) → IsToken leaf.class leaf.token (Text l more rest)
-behind_token kind ts leaf y (S a) i j o g x l ls e n w more rest =
+after_token kind ts leaf y (S a) i j o g x l ls e n w more rest =
     elim (or_cases (all_in lone ts) _ o) [
       | inl f ↦ let t = table_leaf brackets_and_separators ts leaf f i in subst (λ z. IsToken z leaf.token (Text l more rest)) (sym t.0) (lone_before leaf.token (Text l more rest) t.1)
       | inr f ↦ let v = and_parts (all_in prefixed ts) _ f in before_well ts leaf l v.0 i n (well_leaf (starts a) l v.1 (first_leaf a y l ls e j g) w) more rest
     ]
-behind_token kind ts leaf (Node' _ z r) (T us) i j o g x l ls e n w more rest = no_such j
-behind_token kind ts leaf (p.Leaf m) (T us) i j o g x l ls e n w more rest =
+after_token kind ts leaf (Node' _ z r) (T us) i j o g x l ls e n w more rest = no_such j
+after_token kind ts leaf (p.Leaf m) (T us) i j o g x l ls e n w more rest =
     let same : m ≡ l = ap first_of e in
     elim (or_cases (all_in lone us) _ o) [
       | inl f ↦ let t = table_leaf brackets_and_separators us m f j in
@@ -233,7 +233,7 @@ touching kind x (p.Leaf m) (S a) (T us) i j o g h d w l ls e n u more rest =
     first_of [] = m
     first_of (y ∷ ys) = y
 touching kind (Node' _ z r) y (T ts) b i j o g h d w l ls e n u more rest = no_such i
-touching kind (p.Leaf leaf) y (T ts) b i j o g h d w l ls e n u more rest = (behind_token kind ts leaf y b i j o g h.0 l ls e n u more rest, tt)
+touching kind (p.Leaf leaf) y (T ts) b i j o g h d w l ls e n u more rest = (after_token kind ts leaf y b i j o g h.0 l ls e n u more rest, tt)
 
 pair : (kind : Kind) (x y : Part) → Pair (neighbours kind) (finals kind) x y → LegalBy line_shape y → Lexed (leaves_part x) → Lexed (leaves_part y) → ((rest : List ℕ) → Follows x rest → Toks (leaves_part x) rest) →
     (ls : List Leaf) → leaves_part y ≡ ls → (OpensAt ls ⊎ (BareAt ls × (apart kind x y ≡ false) × (NumberDot x y → ⊥))) → (more : List Leaf) (rest : List ℕ) → Toks (leaves_part x) (spell_leaves (ls ++ more) ++ rest)
@@ -277,7 +277,7 @@ row_toks kind x (y ∷ ys) t d w g h a rest f =
     (row_toks kind y ys t.1 d.1 w.1 g.1 lex.1 a.1 rest f)
 
 -- a row that fits a shape whose neighbours and last part pass
-some_row : (kind : Kind) (r : Shape) → passes (neighbours kind) (finals kind) None r ≡ true → (xs : List Part) → Fits IsSort r xs → Apart kind xs → Wills xs → Legals xs → Lexed (flat_map leaves_part xs) → Airys xs →
+some_row : (kind : Kind) (r : Shape) → passes (neighbours kind) (finals kind) None r ≡ true → (xs : List Part) → Fits IsNonterminal r xs → Apart kind xs → Wills xs → Legals xs → Lexed (flat_map leaves_part xs) → Airys xs →
     (rest : List ℕ) → FollowsAs (is_primary_kind kind) rest → Toks (flat_map leaves_part xs) rest
 some_row kind r o [] t d w g h a rest f = tt
 some_row kind r o (x ∷ xs) t d w g h a rest f = row_toks kind x xs (links (neighbours kind) (finals kind) r None x tt o (x ∷ xs) t) d w g h a rest f
@@ -308,7 +308,7 @@ mutual
   token_rows m (more_of-Part x rest) = (tokens x, token_rows _ rest)
 
 -- so do the parts of a row that fits such a shape: of a header, say
-pub row_tokens : (kind : Kind) (r : Shape) → passes (neighbours kind) (finals kind) None r ≡ true → (xs : List Part) → Fits IsSort r xs → Apart kind xs → Legals xs → Lexed (flat_map leaves_part xs) → Airys xs →
+pub row_tokens : (kind : Kind) (r : Shape) → passes (neighbours kind) (finals kind) None r ≡ true → (xs : List Part) → Fits IsNonterminal r xs → Apart kind xs → Legals xs → Lexed (flat_map leaves_part xs) → Airys xs →
     (rest : List ℕ) → FollowsAs (is_primary_kind kind) rest → Toks (flat_map leaves_part xs) rest
 row_tokens kind r o xs t d g h a rest f = some_row kind r o xs t d (all_will xs) g h a rest f
   where

@@ -9,13 +9,13 @@ use Rattle.bz_items.specs.Characters.{Bytes, comma, space}
 use Rattle.bz_value.specs.Comments.{HostComments, no_comments}
 use Rattle.bz_value.specs.Gaps.{lines_of, comments_in, first_comment, after_first_comment, some_newline, suffix_in, others_in, all_in, has_newline}
 use Rattle.bz_value.specs.Proper.{IsComment, MaybeComment, comments_of, has_break}
-use Rattle.bz_view.specs.View.{Seen, seen, plain, first_seen_gap, loose_behind, loose_in, items_in, item_in, is_split, leaf_seen}
-use Rattle.bz_write.specs.Layout.{Piece, joined, stacked, headed, is_broken, has_comments, line, margin_lines, suffix_text, firsts}
+use Rattle.bz_view.specs.View.{Seen, seen, plain, first_seen_gap, loose_after, loose_in, items_in, item_in, is_split, leaf_seen}
+use Rattle.bz_write.specs.Layout.{Piece, joined, stacked, headed, is_broken, has_comments, new_line_at, margin_lines, suffix_text, firsts}
 use Rattle.bz_value.specs.Empty.{is_empty, is_none}
 use Rattle.bz_write.specs.Flags.{with_flags}
-use Rattle.bz_write.proofs.Gapped.{ended_line, told, comments_told, lines_item, lines_end}
+use Rattle.bz_write.proofs.Gapped.{ended_line, commented, commented_back, lines_item, lines_end}
 use Rattle.bz_write.proofs.Readable.{AreHeads, AreItems}
-use Rattle.bz_write.proofs.Viewed.{Draw, SeenAs, Reads, look, settled}
+use Rattle.bz_write.proofs.Viewed.{PartAt, SeenAs, Reads, look, settled}
 
 -- a mark with nothing before it
 abbrev bare_mark : ℕ → Seen
@@ -35,12 +35,12 @@ item_step margin_lines s (t ∷ ss) suffix texts x found b a o e i =
 
 -- ---- not broken
 
-bare_made : (x : Expr × Draw) (g : Bytes) (m : ℕ) → SeenAs x → comments_of x.0 ≡ no_comments → has_break x.0 ≡ false → (seen (x.1 g m)).make (record { before = [] ++ (seen (x.1 g m)).loose; suffix = None }) false ≡ with_flags x.0
+bare_made : (x : Expr × PartAt) (g : Bytes) (m : ℕ) → SeenAs x → comments_of x.0 ≡ no_comments → has_break x.0 ≡ false → (seen (x.1 g m)).make (record { before = [] ++ (seen (x.1 g m)).loose; suffix = None }) false ≡ with_flags x.0
 bare_made x g m r n b =
     let s : Seen = seen (x.1 g m) in
     ap (λ l. s.make (record { before = l; suffix = None }) false) (r.loose g m) ∙ (ap (λ z. s.make no_comments z) (sym b) ∙ (ap (λ z. s.make z (has_break x.0)) (sym n) ∙ r.value g m))
 
-joined_begun : (m : ℕ) (g : Bytes) (closer : ℕ) (one : Bool) (xs : List (Expr × Draw)) → Begun (look (joined m g closer one xs))
+joined_begun : (m : ℕ) (g : Bytes) (closer : ℕ) (one : Bool) (xs : List (Expr × PartAt)) → Begun (look (joined m g closer one xs))
 joined_begun m g closer one [] = tt
 joined_begun m g closer one (x ∷ xs) = tt
 
@@ -48,11 +48,11 @@ joined_begun m g closer one (x ∷ xs) = tt
 abbrev IsQuiet : Bytes → Type 0
 IsQuiet g = lines_of g ≡ []
 
-joined_lines : (m : ℕ) (g : Bytes) (closer : ℕ) (one : Bool) (xs : List (Expr × Draw)) → Reads xs → IsQuiet g → IsQuiet (first_seen_gap (look (joined m g closer one xs)))
+joined_lines : (m : ℕ) (g : Bytes) (closer : ℕ) (one : Bool) (xs : List (Expr × PartAt)) → Reads xs → IsQuiet g → IsQuiet (first_seen_gap (look (joined m g closer one xs)))
 joined_lines m g closer one [] r q = refl
 joined_lines m g closer one (x ∷ xs) r q = ap lines_of (r.0.gap g m) ∙ q
 
-joined_back : (m : ℕ) (g : Bytes) (closer : ℕ) (one : Bool) (xs : List (Expr × Draw)) → Reads xs → AreHeads (firsts xs) → items_in [] (look (joined m g closer one xs)) ≡ (settled xs, [])
+joined_back : (m : ℕ) (g : Bytes) (closer : ℕ) (one : Bool) (xs : List (Expr × PartAt)) → Reads xs → AreHeads (firsts xs) → items_in [] (look (joined m g closer one xs)) ≡ (settled xs, [])
 joined_back m g closer one [] r bare = refl
 joined_back m g closer true (x ∷ []) r bare = item_step [] (seen (x.1 g m)) (bare_mark closer ∷ []) None [] (with_flags x.0) ([], []) tt refl refl (bare_made x g m r.0 bare.0 bare.1) refl
 joined_back m g closer false (x ∷ []) r bare = ap (λ z. (z ∷ [], [])) (bare_made x g m r.0 bare.0 bare.1)
@@ -62,7 +62,7 @@ joined_back m g closer one (x ∷ y ∷ ys) r bare =
     item_step [] (seen (x.1 g m)) rest None [] (with_flags x.0) (settled (y ∷ ys), []) tt (ap first_comment quiet) (ap (λ z. comments_in (after_first_comment z)) quiet) (bare_made x g m r.0 bare.0 bare.1)
     (joined_back m (space ∷ []) closer false (y ∷ ys) r.1 bare.2)
 
-joined_split : (m : ℕ) (g : Bytes) (closer : ℕ) (one : Bool) (xs : List (Expr × Draw)) → Reads xs → IsQuiet g → is_split (look (joined m g closer one xs)) ≡ false
+joined_split : (m : ℕ) (g : Bytes) (closer : ℕ) (one : Bool) (xs : List (Expr × PartAt)) → Reads xs → IsQuiet g → is_split (look (joined m g closer one xs)) ≡ false
 joined_split m g closer one [] r q = refl
 joined_split m g closer true (x ∷ []) r q = ap (λ z. has_newline z || false) (r.0.gap g m) ∙ ap (λ z. some_newline z || false) q
 joined_split m g closer false (x ∷ []) r q = ap (λ z. has_newline z || false) (r.0.gap g m) ∙ ap (λ z. some_newline z || false) q
@@ -74,20 +74,20 @@ joined_split m g closer one (x ∷ y ∷ ys) r q =
 
 -- the comments above the first item, or the end comments
 abbrev fore : List Expr → List Bytes → List Bytes
-fore [] end_ = end_
-fore (x ∷ xs) end_ = (comments_of x).before
+fore [] end = end
+fore (x ∷ xs) end = (comments_of x).before
 
-stacked_lines : (m : ℕ) (suffix : Option Bytes) (closer : ℕ) (end_ : List Bytes) (xs : List (Expr × Draw)) → Reads xs → MaybeComment suffix → AllByRecursion IsComment end_ → AreItems (firsts xs) →
-    lines_of (first_seen_gap (look (stacked m suffix closer end_ xs))) ≡ ended_line suffix ∷ told (fore (firsts xs) end_)
-stacked_lines m suffix closer end_ [] r s e h = lines_end suffix end_ m s e
-stacked_lines m suffix closer end_ (x ∷ xs) r s e h =
-    ap lines_of (r.0.gap (suffix_text suffix ++ (line (m + 4) ++ margin_lines (m + 4) (comments_of x.0).before)) (m + 4)) ∙ lines_item suffix (comments_of x.0).before (m + 4) s h.0
+stacked_lines : (m : ℕ) (suffix : Option Bytes) (closer : ℕ) (end : List Bytes) (xs : List (Expr × PartAt)) → Reads xs → MaybeComment suffix → AllByRecursion IsComment end → AreItems (firsts xs) →
+    lines_of (first_seen_gap (look (stacked m suffix closer end xs))) ≡ ended_line suffix ∷ commented (fore (firsts xs) end)
+stacked_lines m suffix closer end [] r s e h = lines_end suffix end m s e
+stacked_lines m suffix closer end (x ∷ xs) r s e h =
+    ap lines_of (r.0.gap (suffix_text suffix ++ (new_line_at (m + 4) ++ margin_lines (m + 4) (comments_of x.0).before)) (m + 4)) ∙ lines_item suffix (comments_of x.0).before (m + 4) s h.0
 
-stacked_begun : (m : ℕ) (suffix : Option Bytes) (closer : ℕ) (end_ : List Bytes) (xs : List (Expr × Draw)) → Begun (look (stacked m suffix closer end_ xs))
-stacked_begun m suffix closer end_ [] = tt
-stacked_begun m suffix closer end_ (x ∷ xs) = tt
+stacked_begun : (m : ℕ) (suffix : Option Bytes) (closer : ℕ) (end : List Bytes) (xs : List (Expr × PartAt)) → Begun (look (stacked m suffix closer end xs))
+stacked_begun m suffix closer end [] = tt
+stacked_begun m suffix closer end (x ∷ xs) = tt
 
-item_made : (x : Expr × Draw) (g : Bytes) (m : ℕ) → SeenAs x → has_break x.0 ≡ false →
+item_made : (x : Expr × PartAt) (g : Bytes) (m : ℕ) → SeenAs x → has_break x.0 ≡ false →
     (seen (x.1 g m)).make (record { before = (comments_of x.0).before ++ (seen (x.1 g m)).loose; suffix = (comments_of x.0).suffix }) false ≡ with_flags x.0
 item_made x g m r b =
     let s : Seen = seen (x.1 g m) in
@@ -95,16 +95,16 @@ item_made x g m r b =
     ap (λ l. s.make (record { before = own.before ++ l; suffix = own.suffix }) false) (r.loose g m) ∙
     (ap (λ l. s.make (record { before = l; suffix = own.suffix }) false) (append-nil own.before) ∙ (ap (λ z. s.make own z) (sym b) ∙ r.value g m))
 
-stacked_back : (m : ℕ) (suffix : Option Bytes) (closer : ℕ) (end_ : List Bytes) (xs : List (Expr × Draw)) → Reads xs → MaybeComment suffix → AllByRecursion IsComment end_ → AreItems (firsts xs) →
-    items_in (fore (firsts xs) end_) (look (stacked m suffix closer end_ xs)) ≡ (settled xs, end_)
-stacked_back m suffix closer end_ [] r s e h = refl
-stacked_back m suffix closer end_ (x ∷ xs) r s e h =
+stacked_back : (m : ℕ) (suffix : Option Bytes) (closer : ℕ) (end : List Bytes) (xs : List (Expr × PartAt)) → Reads xs → MaybeComment suffix → AllByRecursion IsComment end → AreItems (firsts xs) →
+    items_in (fore (firsts xs) end) (look (stacked m suffix closer end xs)) ≡ (settled xs, end)
+stacked_back m suffix closer end [] r s e h = refl
+stacked_back m suffix closer end (x ∷ xs) r s e h =
     let own : HostComments = comments_of x.0 in
-    let rest : List Seen = look (stacked m own.suffix closer end_ xs) in
-    let lines = stacked_lines m own.suffix closer end_ xs r.1 h.1 e h.3 in
-    item_step own.before (seen (x.1 (suffix_text suffix ++ (line (m + 4) ++ margin_lines (m + 4) own.before)) (m + 4))) rest own.suffix (fore (firsts xs) end_) (with_flags x.0) (settled xs, end_)
-    (stacked_begun m own.suffix closer end_ xs) (ap first_comment lines) (ap (λ z. comments_in (after_first_comment z)) lines ∙ comments_told (fore (firsts xs) end_)) (item_made x _ (m + 4) r.0 h.2)
-    (stacked_back m own.suffix closer end_ xs r.1 h.1 e h.3)
+    let rest : List Seen = look (stacked m own.suffix closer end xs) in
+    let lines = stacked_lines m own.suffix closer end xs r.1 h.1 e h.3 in
+    item_step own.before (seen (x.1 (suffix_text suffix ++ (new_line_at (m + 4) ++ margin_lines (m + 4) own.before)) (m + 4))) rest own.suffix (fore (firsts xs) end) (with_flags x.0) (settled xs, end)
+    (stacked_begun m own.suffix closer end xs) (ap first_comment lines) (ap (λ z. comments_in (after_first_comment z)) lines ∙ commented_back (fore (firsts xs) end)) (item_made x _ (m + 4) r.0 h.2)
+    (stacked_back m own.suffix closer end xs r.1 h.1 e h.3)
 
 split_first : (ss : List Seen) → Begun ss → has_newline (first_seen_gap ss) ≡ true → is_split ss ≡ true
 split_first [] b h = absurd b
@@ -112,8 +112,8 @@ split_first (s ∷ ss) b h = ap (λ z. z || is_split ss) h
 
 -- ---- what is in brackets
 
-abbrev pub body_of : Bool → Bool → ℕ → ℕ → List Bytes → List (Expr × Draw) → List (Piece Draw)
-body_of broken one m closer end_ xs = if broken then stacked m None closer end_ xs else joined m [] closer one xs
+abbrev pub body_of : Bool → Bool → ℕ → ℕ → List Bytes → List (Expr × PartAt) → List (Piece PartAt)
+body_of broken one m closer end xs = if broken then stacked m None closer end xs else joined m [] closer one xs
 
 or_false : (a b : Bool) → (a || b) ≡ false → (a ≡ false) × (b ≡ false)
 or_false false b e = (refl, e)
@@ -147,22 +147,22 @@ bare_items (x ∷ xs) h e =
     (without_comments (comments_of x) (no_texts _ n.0) (no_suffix _ n.1), h.2, bare_items xs h.3 o.1)
 
 -- what is seen of a sequence: its items and end comments; split where it was broken
-pub record BodyBack (body : List Seen) (xs : List (Expr × Draw)) (end_ : List Bytes) (broken : Bool) : Type 0 where
-  pub found : items_in (all_in (first_seen_gap body)) body ≡ (settled xs, end_)
+pub record BodyBack (body : List Seen) (xs : List (Expr × PartAt)) (end : List Bytes) (broken : Bool) : Type 0 where
+  pub found : items_in (all_in (first_seen_gap body)) body ≡ (settled xs, end)
   pub split : is_split body ≡ broken
 
-pub body_back : (broken one : Bool) (kind : Kind) (split : Bool) (m closer : ℕ) (end_ : List Bytes) (xs : List (Expr × Draw)) → Reads xs → AllByRecursion IsComment end_ → AreItems (firsts xs) → is_broken kind split (firsts xs) end_ ≡ broken →
-    BodyBack (look (body_of broken one m closer end_ xs)) xs end_ broken
-body_back true one kind split m closer end_ xs r e h b =
-    let lines = stacked_lines m None closer end_ xs r tt e h in
-    let body : List Seen = look (stacked m None closer end_ xs) in
+pub body_back : (broken one : Bool) (kind : Kind) (split : Bool) (m closer : ℕ) (end : List Bytes) (xs : List (Expr × PartAt)) → Reads xs → AllByRecursion IsComment end → AreItems (firsts xs) → is_broken kind split (firsts xs) end ≡ broken →
+    BodyBack (look (body_of broken one m closer end xs)) xs end broken
+body_back true one kind split m closer end xs r e h b =
+    let lines = stacked_lines m None closer end xs r tt e h in
+    let body : List Seen = look (stacked m None closer end xs) in
     record {
-      found = ap (λ z. items_in (comments_in z) body) lines ∙ (ap (λ z. items_in z body) (comments_told (fore (firsts xs) end_)) ∙ stacked_back m None closer end_ xs r tt e h);
-      split = split_first body (stacked_begun m None closer end_ xs) (ap some_newline lines);
+      found = ap (λ z. items_in (comments_in z) body) lines ∙ (ap (λ z. items_in z body) (commented_back (fore (firsts xs) end)) ∙ stacked_back m None closer end xs r tt e h);
+      split = split_first body (stacked_begun m None closer end xs) (ap some_newline lines);
     }
-body_back false one kind split m closer end_ xs r e h b =
+body_back false one kind split m closer end xs r e h b =
     let o = or_false (has_comments (firsts xs)) _ b in
-    let none : end_ ≡ [] = no_texts end_ (not_false _ (or_false _ _ o.1).0) in
+    let none : end ≡ [] = no_texts end (not_false _ (or_false _ _ o.1).0) in
     let body : List Seen = look (joined m [] closer one xs) in
     record {
       found = ap (λ z. items_in (comments_in z) body) (joined_lines m [] closer one xs r refl) ∙ (joined_back m [] closer one xs r (bare_items (firsts xs) h o.0) ∙ ap (λ z. (settled xs, z)) (sym none));
@@ -171,28 +171,28 @@ body_back false one kind split m closer end_ xs r e h b =
 
 -- ---- what is before the bracket
 
-pub headed_gap : (m : ℕ) (g : Bytes) (opener : ℕ) (hs : List (Expr × Draw)) (body : List (Piece Draw)) → Reads hs → first_seen_gap (look (headed m g opener hs body)) ≡ g
+pub headed_gap : (m : ℕ) (g : Bytes) (opener : ℕ) (hs : List (Expr × PartAt)) (body : List (Piece PartAt)) → Reads hs → first_seen_gap (look (headed m g opener hs body)) ≡ g
 headed_gap m g opener [] body r = refl
 headed_gap m g opener (x ∷ xs) body r = r.0.gap g m
 
-pub headed_take : (m : ℕ) (g : Bytes) (opener : ℕ) (hs : List (Expr × Draw)) (body : List (Piece Draw)) → Reads hs → AreHeads (firsts hs) → map plain (take (length (firsts hs)) (look (headed m g opener hs body))) ≡ settled hs
+pub headed_take : (m : ℕ) (g : Bytes) (opener : ℕ) (hs : List (Expr × PartAt)) (body : List (Piece PartAt)) → Reads hs → AreHeads (firsts hs) → map plain (take (length (firsts hs)) (look (headed m g opener hs body))) ≡ settled hs
 headed_take m g opener [] body r h = refl
 headed_take m g opener (x ∷ xs) body r h =
     let s : Seen = seen (x.1 g m) in
     let rest : List Expr = map plain (take (length (firsts xs)) (look (headed m [] opener xs body))) in
     ap (λ z. s.make no_comments z ∷ rest) (sym h.1) ∙ (ap (λ z. s.make z (has_break x.0) ∷ rest) (sym h.0) ∙ (ap (λ z. z ∷ rest) (r.0.value g m) ∙ ap (λ z. with_flags x.0 ∷ z) (headed_take m [] opener xs body r.1 h.2)))
 
-pub headed_drop : (m : ℕ) (g : Bytes) (opener : ℕ) (hs : List (Expr × Draw)) (body : List (Piece Draw)) → drop (suc (length (firsts hs))) (look (headed m g opener hs body)) ≡ look body
+pub headed_drop : (m : ℕ) (g : Bytes) (opener : ℕ) (hs : List (Expr × PartAt)) (body : List (Piece PartAt)) → drop (suc (length (firsts hs))) (look (headed m g opener hs body)) ≡ look body
 headed_drop m g opener [] body = refl
 headed_drop m g opener (x ∷ xs) body = headed_drop m [] opener xs body
 
-headed_behind : (m : ℕ) (opener : ℕ) (hs : List (Expr × Draw)) (body : List (Piece Draw)) → Reads hs → loose_behind (take (suc (length (firsts hs))) (look (headed m [] opener hs body))) ≡ []
-headed_behind m opener [] body r = refl
-headed_behind m opener (x ∷ xs) body r =
+headed_after : (m : ℕ) (opener : ℕ) (hs : List (Expr × PartAt)) (body : List (Piece PartAt)) → Reads hs → loose_after (take (suc (length (firsts hs))) (look (headed m [] opener hs body))) ≡ []
+headed_after m opener [] body r = refl
+headed_after m opener (x ∷ xs) body r =
     let s : Seen = seen (x.1 [] m) in
-    let rest : List Bytes = loose_behind (take (suc (length (firsts xs))) (look (headed m [] opener xs body))) in
-    ap (λ z. (all_in z ++ s.loose) ++ rest) (r.0.gap [] m) ∙ (ap (λ z. z ++ rest) (r.0.loose [] m) ∙ headed_behind m opener xs body r.1)
+    let rest : List Bytes = loose_after (take (suc (length (firsts xs))) (look (headed m [] opener xs body))) in
+    ap (λ z. (all_in z ++ s.loose) ++ rest) (r.0.gap [] m) ∙ (ap (λ z. z ++ rest) (r.0.loose [] m) ∙ headed_after m opener xs body r.1)
 
-pub headed_loose : (m : ℕ) (g : Bytes) (opener : ℕ) (hs : List (Expr × Draw)) (body : List (Piece Draw)) → Reads hs → loose_in (take (suc (length (firsts hs))) (look (headed m g opener hs body))) ≡ []
+pub headed_loose : (m : ℕ) (g : Bytes) (opener : ℕ) (hs : List (Expr × PartAt)) (body : List (Piece PartAt)) → Reads hs → loose_in (take (suc (length (firsts hs))) (look (headed m g opener hs body))) ≡ []
 headed_loose m g opener [] body r = refl
-headed_loose m g opener (x ∷ xs) body r = ap (λ z. z ++ loose_behind (take (suc (length (firsts xs))) (look (headed m [] opener xs body)))) (r.0.loose g m) ∙ headed_behind m opener xs body r.1
+headed_loose m g opener (x ∷ xs) body r = ap (λ z. z ++ loose_after (take (suc (length (firsts xs))) (look (headed m [] opener xs body)))) (r.0.loose g m) ∙ headed_after m opener xs body r.1

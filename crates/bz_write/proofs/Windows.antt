@@ -7,9 +7,9 @@ use Rattle.bz_value.specs.declared.value.Item.TheVariants as i
 use Rattle.bz_value.specs.Exchanged.{IsSpliced}
 use Rattle.bz_items.specs.Characters.{Bytes}
 use Rattle.bz_write.specs.Written.{gap_between, comment_lines}
-use Rattle.bz_write.specs.Drawn.{own_lines, left_gap, before_next, lines_from}
-use Rattle.bz_write.specs.Marks.{place_behind}
-use Rattle.bz_write.specs.Windows.{is_statement_item, line_count_in, statement_gap, lines_behind}
+use Rattle.bz_write.specs.LaidOut.{own_lines, left_gap, before_next, lines_from}
+use Rattle.bz_write.specs.Marks.{place_after}
+use Rattle.bz_write.specs.Windows.{is_statement_item, line_count_in, statement_gap, lines_after}
 use Rattle.bz_write.proofs.Loops.{lines_first}
 
 -- ---- the lines in front of a place
@@ -58,26 +58,26 @@ lines_in_cut (suc n) [] = omega arith
 lines_in_cut (suc n) (i.Block texts ∷ xs) = lines_in_cut n xs
 lines_in_cut (suc n) (i.Stmt x ∷ xs) = let rest : line_count_in xs ≡ line_count_in (take n xs) + line_count_in (drop n xs) = lines_in_cut n xs in omega (arith, rest)
 
-counted_first : (count : ℕ) (x : Item) (xs : List Item) → count + line_count_in (x ∷ xs) ≡ place_behind count x + line_count_in xs
+counted_first : (count : ℕ) (x : Item) (xs : List Item) → count + line_count_in (x ∷ xs) ≡ place_after count x + line_count_in xs
 counted_first count (i.Block texts) xs = refl
 counted_first count (i.Stmt x) xs = omega arith
 
-pub counted_next : (count : ℕ) (xs : List Item) (k : ℕ) (d : Item) → k < length xs → count + line_count_in (drop k xs) ≡ place_behind count (get_or xs k d) + line_count_in (drop (k + 1) xs)
+pub counted_next : (count : ℕ) (xs : List Item) (k : ℕ) (d : Item) → k < length xs → count + line_count_in (drop k xs) ≡ place_after count (get_or xs k d) + line_count_in (drop (k + 1) xs)
 counted_next count xs k d h = ap (λ ys. count + line_count_in ys) (drop_more xs k d h) ∙ counted_first count (get_or xs k d) (drop (k + 1) xs)
 
 -- ---- the lines after the first one
 
-behind_first : (gap : Bytes) (xs : List Item) → drop 1 (lines_from gap xs) ≡ lines_behind xs
-behind_first gap [] = refl
-behind_first gap (i.Block texts ∷ xs) = behind_first ((gap ++ comment_lines texts) ++ before_next (i.Block texts) xs) xs
-behind_first gap (i.Stmt x ∷ xs) = refl
+after_first : (gap : Bytes) (xs : List Item) → drop 1 (lines_from gap xs) ≡ lines_after xs
+after_first gap [] = refl
+after_first gap (i.Block texts ∷ xs) = after_first ((gap ++ comment_lines texts) ++ before_next (i.Block texts) xs) xs
+after_first gap (i.Stmt x ∷ xs) = refl
 
 -- the first of them that is after some items, and the lines of these taken away
-behind_front : (gap : Bytes) (n : ℕ) (xs : List Item) → n ≤ length xs → drop (suc (line_count_in (take n xs))) (lines_from gap xs) ≡ lines_behind (drop n xs)
-behind_front gap zero xs h = behind_first gap xs
-behind_front gap (suc n) [] h = absurd (omega arith)
-behind_front gap (suc n) (i.Block texts ∷ xs) h = behind_front ((gap ++ comment_lines texts) ++ before_next (i.Block texts) xs) n xs (omega arith)
-behind_front gap (suc n) (i.Stmt x ∷ xs) h = behind_front (before_next (i.Stmt x) xs) n xs (omega arith)
+after_front : (gap : Bytes) (n : ℕ) (xs : List Item) → n ≤ length xs → drop (suc (line_count_in (take n xs))) (lines_from gap xs) ≡ lines_after (drop n xs)
+after_front gap zero xs h = after_first gap xs
+after_front gap (suc n) [] h = absurd (omega arith)
+after_front gap (suc n) (i.Block texts ∷ xs) h = after_front ((gap ++ comment_lines texts) ++ before_next (i.Block texts) xs) n xs (omega arith)
+after_front gap (suc n) (i.Stmt x ∷ xs) h = after_front (before_next (i.Stmt x) xs) n xs (omega arith)
 
 -- ---- the gap before a place
 
@@ -127,8 +127,8 @@ statement_before from k xs d g h s =
 -- ---- what the lines of the window, and the next one, make of the parts
 
 module _ (from gone come : ℕ) (before items : List Item) (s : IsSpliced from gone come before items) where
-  same_behind : drop come (drop from items) ≡ drop gone (drop from before)
-  same_behind = drop-drop come from items ∙ (s.behind ∙ sym (drop-drop gone from before))
+  same_after : drop come (drop from items) ≡ drop gone (drop from before)
+  same_after = drop-drop come from items ∙ (s.following ∙ sym (drop-drop gone from before))
 
   -- the lines before the window, and those of what was taken out and the one after it
   same_front : front_lines [] from items ≡ front_lines [] from before
@@ -144,21 +144,21 @@ module _ (from gone come : ℕ) (before items : List Item) (s : IsSpliced from g
     front_kept : take at (lines_from [] before) ≡ front_lines [] from before
     front_kept = ap (λ ps. take at ps) cut_before ∙ take_at (front_lines [] from before) (lines_from (statement_gap [] from before) (drop from before)) at front_size
 
-    behind_kept : drop (at + suc (line_count_in (take gone (drop from before)))) (lines_from [] before) ≡ lines_behind (drop gone (drop from before))
-    behind_kept =
+    after_kept : drop (at + suc (line_count_in (take gone (drop from before)))) (lines_from [] before) ≡ lines_after (drop gone (drop from before))
+    after_kept =
         let taken : ℕ = suc (line_count_in (take gone (drop from before))) in
         let front : List Part = front_lines [] from before in
         let rest : List Part = lines_from (statement_gap [] from before) (drop from before) in
         let fits : gone ≤ length (drop from before) = omega (arith, length-drop from before, s.within) in
         ap (λ ps. drop (at + taken) ps) cut_before ∙
         (sym (drop-drop taken at (front ++ rest)) ∙
-        (ap (λ ps. drop taken ps) (drop_at front rest at front_size) ∙ behind_front (statement_gap [] from before) gone (drop from before) fits))
+        (ap (λ ps. drop taken ps) (drop_at front rest at front_size) ∙ after_front (statement_gap [] from before) gone (drop from before) fits))
 
-pub spliced_drawn : (from gone come : ℕ) (before items : List Item) (lines : List Part) (at left count : ℕ) → IsSpliced from gone come before items →
+pub spliced_laid_out : (from gone come : ℕ) (before items : List Item) (lines : List Part) (at left count : ℕ) → IsSpliced from gone come before items →
     at ≡ line_count_in (take from items) → left ≡ line_count_in (drop come (drop from items)) →
-    lines ++ lines_behind (drop come (drop from items)) ≡ lines_from (statement_gap [] from items) (drop from items) → length (lines_from [] before) ≡ count →
+    lines ++ lines_after (drop come (drop from items)) ≡ lines_from (statement_gap [] from items) (drop from items) → length (lines_from [] before) ≡ count →
     (take at (lines_from [] before) ++ lines ++ drop (at + (count - at - left)) (lines_from [] before) ≡ lines_from [] items) × (at + (count - at - left) ≤ count)
-spliced_drawn from gone come before items lines at left count s counted remain drawn_ size =
+spliced_laid_out from gone come before items lines at left count s counted remain laid_out_ size =
     let old : List Item = drop from before in
     let taken : ℕ = suc (line_count_in (take gone old)) in
     let front : List Part = front_lines [] from before in
@@ -166,32 +166,32 @@ spliced_drawn from gone come before items lines at left count s counted remain d
     let one : line_count_in before ≡ line_count_in (take from before) + line_count_in old = lines_in_cut from before in
     let two : line_count_in old ≡ line_count_in (take gone old) + line_count_in (drop gone old) = lines_in_cut gone old in
     let first : at ≡ line_count_in (take from before) = counted ∙ ap line_count_in s.front in
-    let last : left ≡ line_count_in (drop gone old) = remain ∙ ap line_count_in (same_behind from gone come before items s) in
+    let last : left ≡ line_count_in (drop gone old) = remain ∙ ap line_count_in (same_after from gone come before items s) in
     let so_many : count - at - left ≡ taken = omega (arith, all, one, two, first, last, size) in
     let within : at + (count - at - left) ≤ count = omega (arith, all, one, two, first, last, size) in
-    let behind : drop (at + (count - at - left)) (lines_from [] before) ≡ lines_behind (drop come (drop from items)) =
+    let following : drop (at + (count - at - left)) (lines_from [] before) ≡ lines_after (drop come (drop from items)) =
     ap (λ n. drop (at + n) (lines_from [] before)) so_many ∙
-    (behind_kept from gone come before items s at counted ∙ ap lines_behind (sym (same_behind from gone come before items s))) in
-    let made : take at (lines_from [] before) ++ lines ++ drop (at + (count - at - left)) (lines_from [] before) ≡ front ++ lines ++ lines_behind (drop come (drop from items)) =
+    (after_kept from gone come before items s at counted ∙ ap lines_after (sym (same_after from gone come before items s))) in
+    let made : take at (lines_from [] before) ++ lines ++ drop (at + (count - at - left)) (lines_from [] before) ≡ front ++ lines ++ lines_after (drop come (drop from items)) =
     ap (λ ps. ps ++ lines ++ drop (at + (count - at - left)) (lines_from [] before)) (front_kept from gone come before items s at counted) ∙
-    ap (λ ps. front ++ lines ++ ps) behind in (
+    ap (λ ps. front ++ lines ++ ps) following in (
       made ∙
-          (append_assoc front lines (lines_behind (drop come (drop from items))) ∙
-          (ap (λ ps. front ++ ps) drawn_ ∙
+          (append_assoc front lines (lines_after (drop come (drop from items))) ∙
+          (ap (λ ps. front ++ ps) laid_out_ ∙
           (ap (λ ps. ps ++ lines_from (statement_gap [] from items) (drop from items)) (sym (same_front from gone come before items s)) ∙
           sym (lines_cut [] from items (omega (arith, s.held)))))),
       within,
     )
 
 -- the same by what the code has of these lists and numbers
-pub spliced_found : (from gone come : ℕ) (before items front rest behind : List Item) (gap : Bytes) (lines : List Part) (at left count replaced : ℕ) → IsSpliced from gone come before items →
-    front ≡ take from items → rest ≡ drop from items → behind ≡ drop come rest → at ≡ line_count_in front → left ≡ line_count_in behind → gap ≡ statement_gap [] from items →
-    lines ++ lines_behind (drop come rest) ≡ lines_from gap rest → replaced ≡ count - at - left → length (lines_from [] before) ≡ count →
+pub spliced_found : (from gone come : ℕ) (before items front rest following : List Item) (gap : Bytes) (lines : List Part) (at left count replaced : ℕ) → IsSpliced from gone come before items →
+    front ≡ take from items → rest ≡ drop from items → following ≡ drop come rest → at ≡ line_count_in front → left ≡ line_count_in following → gap ≡ statement_gap [] from items →
+    lines ++ lines_after (drop come rest) ≡ lines_from gap rest → replaced ≡ count - at - left → length (lines_from [] before) ≡ count →
     (take at (lines_from [] before) ++ lines ++ drop (at + replaced) (lines_from [] before) ≡ lines_from [] items) × (at + replaced ≤ count)
-spliced_found from gone come before items front rest behind gap lines at left count replaced s is_front is_rest is_behind counted remain is_gap drawn_ so_many size =
+spliced_found from gone come before items front rest following gap lines at left count replaced s is_front is_rest is_after counted remain is_gap laid_out_ so_many size =
     subst (λ n. (take at (lines_from [] before) ++ lines ++ drop (at + n) (lines_from [] before) ≡ lines_from [] items) × (at + n ≤ count)) (sym so_many)
-    (spliced_drawn from gone come before items lines at left count s
+    (spliced_laid_out from gone come before items lines at left count s
     (counted ∙ ap line_count_in is_front)
-    (remain ∙ ap line_count_in (is_behind ∙ ap (λ xs. drop come xs) is_rest))
-    (ap (λ xs. lines ++ lines_behind (drop come xs)) (sym is_rest) ∙ (drawn_ ∙ (ap (λ g. lines_from g rest) is_gap ∙ ap (λ xs. lines_from (statement_gap [] from items) xs) is_rest)))
+    (remain ∙ ap line_count_in (is_after ∙ ap (λ xs. drop come xs) is_rest))
+    (ap (λ xs. lines ++ lines_after (drop come xs)) (sym is_rest) ∙ (laid_out_ ∙ (ap (λ g. lines_from g rest) is_gap ∙ ap (λ xs. lines_from (statement_gap [] from items) xs) is_rest)))
     size)

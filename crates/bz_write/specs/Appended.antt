@@ -3,7 +3,7 @@ use Rattle.std.specs.Prelude.{◌≡◌, ◌≤◌, ℕ, List, [], ◌∷◌, �
 use Rattle.bz_items.specs.Characters.{Bytes}
 use Rattle.bz_tree.specs.Spell.{depth_of}
 use Rattle.bz_value.specs.declared.value.Item.{Item}
-use Rattle.bz_write.specs.Drawn.{before_next, drawn}
+use Rattle.bz_write.specs.LaidOut.{before_next, laid_out}
 use Rattle.bz_write.specs.Written.{layout}
 
 -- what is between an item, where there is one, and those that follow
@@ -17,4 +17,4 @@ LayoutsJoin = (front : List Item) (item : Item) (items : List Item) → layout (
 
 -- and the tree of both layouts is as deep as the deeper one
 abbrev pub DepthsJoin : Type 0
-DepthsJoin = (front items : List Item) (depth : ℕ) → depth_of (drawn front) ≤ depth → depth_of (drawn items) ≤ depth → depth_of (drawn (front ++ items)) ≤ depth
+DepthsJoin = (front items : List Item) (depth : ℕ) → depth_of (laid_out front) ≤ depth → depth_of (laid_out items) ≤ depth → depth_of (laid_out (front ++ items)) ≤ depth

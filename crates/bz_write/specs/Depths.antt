@@ -14,7 +14,7 @@ depth_in (sequence opener closer) items = items
 abbrev mutual
   pub depth_expr : Expr → ℕ
   depth_expr (Token t) = 0
-  depth_expr (Form' kind s parts s' items end_ split open_ comments) = suc (max (depth_exprs parts) (depth_in (frame kind) (depth_exprs items)))
+  depth_expr (Form' kind s parts s' items end split open_break comments) = suc (max (depth_exprs parts) (depth_in (frame kind) (depth_exprs items)))
 
   pub depth_exprs : {m : _} → Row_of-Expr m → ℕ
   depth_exprs end_of-Expr = 0

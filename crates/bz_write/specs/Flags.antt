@@ -10,21 +10,21 @@ use Rattle.bz_value.specs.Frames.{Frame, row, sequence, frame}
 use Rattle.bz_write.specs.Layout.{is_broken}
 
 abbrev pub settled_split : Frame → Kind → Bool → List Expr → List Bytes → Bool
-settled_split row kind split items end_ = split
-settled_split (sequence opener closer) kind split items end_ = is_broken kind split items end_
+settled_split row kind split items end = split
+settled_split (sequence opener closer) kind split items end = is_broken kind split items end
 
 abbrev mutual
   pub with_flags : Expr → Expr
   with_flags (e.Token t) = e.Token t
-  with_flags (Form' kind s parts s' items end_ split open_ comments) = e.Form (record {
+  with_flags (Form' kind s parts s' items end split open_break comments) = e.Form (record {
     kind = kind;
     parts = each_with_flags parts;
     seq = record {
       items = each_with_flags items;
-      end_ = end_;
-      split = settled_split (frame kind) kind split (items-the_row-Expr _ items) end_;
+      end = end;
+      split = settled_split (frame kind) kind split (items-the_row-Expr _ items) end;
     };
-    open_ = open_;
+    open_break = open_break;
     comments = comments;
   })
 

@@ -13,18 +13,18 @@ use Rattle.bz_spaces.specs.Spaces.{is_spaced}
 -- ---- gaps
 
 -- a new line at a margin of spaces
-abbrev pub line : ℕ → Bytes
-line m = line_feed ∷ replicate m space
+abbrev pub new_line_at : ℕ → Bytes
+new_line_at m = line_feed ∷ replicate m space
 
 -- end comments at m + 4, then the line of the closing bracket at m
 abbrev pub ended : ℕ → List Bytes → Bytes
-ended m [] = line m
-ended m (text ∷ texts) = line (m + 4) ++ (text ++ ended m texts)
+ended m [] = new_line_at m
+ended m (text ∷ texts) = new_line_at (m + 4) ++ (text ++ ended m texts)
 
 -- comments above an item, each on its own line at the margin
 abbrev pub margin_lines : ℕ → List Bytes → Bytes
 margin_lines m [] = []
-margin_lines m (text ∷ texts) = text ++ (line m ++ margin_lines m texts)
+margin_lines m (text ∷ texts) = text ++ (new_line_at m ++ margin_lines m texts)
 
 -- a suffix is after two spaces
 abbrev pub suffix_text : Option Bytes → Bytes
@@ -52,9 +52,9 @@ is_named_or_star k.Named = true
 is_named_or_star k.Star = true
 is_named_or_star _ = false
 
-abbrev pub is_named : Expr → Bool
-is_named (Token t) = false
-is_named (Form' kind s parts s' items end_ split open_ comments) = is_named_or_star kind
+abbrev pub is_named_argument : Expr → Bool
+is_named_argument (Token t) = false
+is_named_argument (Form' kind s parts s' items end split open_break comments) = is_named_or_star kind
 
 abbrev pub has_comments : List Expr → Bool
 has_comments [] = false
@@ -62,28 +62,28 @@ has_comments (x ∷ xs) = not (is_empty (comments_of x).before && is_none (comme
 
 abbrev pub has_named : List Expr → Bool
 has_named [] = false
-has_named (x ∷ xs) = is_named x || has_named xs
+has_named (x ∷ xs) = is_named_argument x || has_named xs
 
 -- A sequence is broken where an item has comments, there are end comments, it is a list or dict of two or more items,
 -- it is a call of two or more items of which one is Named or Star, or it is split and has an item.
 abbrev pub is_broken : Kind → Bool → List Expr → List Bytes → Bool
-is_broken kind split items end_ =
-    has_comments items || (not (is_empty end_) || ((nat_le 2 (length items) && (is_listed kind || (is_call kind && has_named items))) || (split && not (is_empty items))))
+is_broken kind split items end =
+    has_comments items || (not (is_empty end) || ((nat_le 2 (length items) && (is_listed kind || (is_call kind && has_named items))) || (split && not (is_empty items))))
 
 -- ---- rows
 
 -- The gap after a part of a row, before the next one. In an open comprehension each part is on a line of its own at
 -- m + 4, the closing bracket, which is the last part, at m. A break operator is at its line's end, and the operand
 -- after it begins a new line at m + 4. Elsewhere is one space or nothing.
-abbrev pub gap_behind : Kind → Bool → ℕ → Expr → List Expr → Bytes
-gap_behind kind open_ m x [] = []
-gap_behind kind open_ m x (y ∷ ys) =
-    if open_ then line (if is_empty ys then m else m + 4)
-    else (if has_break x then line (m + 4) else (if is_spaced kind (root x) (root y) then space ∷ [] else []))
+abbrev pub gap_after : Kind → Bool → ℕ → Expr → List Expr → Bytes
+gap_after kind open_break m x [] = []
+gap_after kind open_break m x (y ∷ ys) =
+    if open_break then new_line_at (if is_empty ys then m else m + 4)
+    else (if has_break x then new_line_at (m + 4) else (if is_spaced kind (root x) (root y) then space ∷ [] else []))
 
 -- what begins a new line at m + 4 has that margin
-abbrev pub margin_behind : Bool → ℕ → Expr → ℕ
-margin_behind open_ m x = if open_ || has_break x then m + 4 else m
+abbrev pub margin_after : Bool → ℕ → Expr → ℕ
+margin_after open_break m x = if open_break || has_break x then m + 4 else m
 
 -- ---- pieces
 
@@ -98,8 +98,8 @@ module _ {X : Type 0} where
 
   -- a row: its gap, its margin
   abbrev pub rowed : Kind → Bool → ℕ → Bytes → ℕ → List (Expr × X) → List (Piece X)
-  rowed kind open_ m gap n [] = []
-  rowed kind open_ m gap n (x ∷ xs) = part gap n x.1 ∷ rowed kind open_ m (gap_behind kind open_ m x.0 (firsts xs)) (margin_behind open_ m x.0) xs
+  rowed kind open_break m gap n [] = []
+  rowed kind open_break m gap n (x ∷ xs) = part gap n x.1 ∷ rowed kind open_break m (gap_after kind open_break m x.0 (firsts xs)) (margin_after open_break m x.0) xs
 
   -- what is before the opening bracket, the bracket, then
   abbrev pub headed : ℕ → Bytes → ℕ → List (Expr × X) → List (Piece X) → List (Piece X)
@@ -114,17 +114,17 @@ module _ {X : Type 0} where
   -- broken: each item at m + 4 on lines of its own, its comments above it, then a comma, then its suffix, which is
   -- in the next gap; end comments; the closing bracket at m
   abbrev pub stacked : ℕ → Option Bytes → ℕ → List Bytes → List (Expr × X) → List (Piece X)
-  stacked m suffix closer end_ [] = mark (suffix_text suffix ++ ended m end_) (closer ∷ []) ∷ []
-  stacked m suffix closer end_ (x ∷ xs) =
-      part (suffix_text suffix ++ (line (m + 4) ++ margin_lines (m + 4) (comments_of x.0).before)) (m + 4) x.1 ∷ mark [] (comma ∷ []) ∷ stacked m (comments_of x.0).suffix closer end_ xs
+  stacked m suffix closer end [] = mark (suffix_text suffix ++ ended m end) (closer ∷ []) ∷ []
+  stacked m suffix closer end (x ∷ xs) =
+      part (suffix_text suffix ++ (new_line_at (m + 4) ++ margin_lines (m + 4) (comments_of x.0).before)) (m + 4) x.1 ∷ mark [] (comma ∷ []) ∷ stacked m (comments_of x.0).suffix closer end xs
 
   abbrev pub laid_in : Frame → Kind → Bool → Bool → Bytes → ℕ → List (Expr × X) → List (Expr × X) → List Bytes → List (Piece X)
-  laid_in row kind split open_ gap m parts items end_ = rowed kind open_ m gap m parts
-  laid_in (sequence opener closer) kind split open_ gap m parts items end_ =
+  laid_in row kind split open_break gap m parts items end = rowed kind open_break m gap m parts
+  laid_in (sequence opener closer) kind split open_break gap m parts items end =
       headed m gap opener parts
-      (if is_broken kind split (firsts items) end_ then stacked m None closer end_ items
+      (if is_broken kind split (firsts items) end then stacked m None closer end items
       else joined m [] closer (is_tuple kind && nat_eq (length items) 1) items)
 
   -- kind, flags split and open, gap before, margin, parts, items, end comments
   abbrev pub laid : Kind → Bool → Bool → Bytes → ℕ → List (Expr × X) → List (Expr × X) → List Bytes → List (Piece X)
-  laid kind split open_ gap m parts items end_ = laid_in (frame kind) kind split open_ gap m parts items end_
+  laid kind split open_break gap m parts items end = laid_in (frame kind) kind split open_break gap m parts items end

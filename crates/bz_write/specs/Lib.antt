@@ -1,6 +1,6 @@
 pub mod Layout
 pub mod Written
-pub mod Drawn
+pub mod LaidOut
 pub mod Flags
 pub mod Laws
 pub mod Rows

@@ -4,7 +4,7 @@ use Rattle.bz_tree.specs.declared.tree.Part.{Part}
 use Rattle.bz_value.specs.declared.value.Item.{Item}
 use Rattle.bz_value.specs.declared.value.Item.TheVariants as i
 use Rattle.bz_items.specs.Characters.{Bytes}
-use Rattle.bz_write.specs.Drawn.{own_lines, left_gap, before_next}
+use Rattle.bz_write.specs.LaidOut.{own_lines, left_gap, before_next}
 
 -- the place of an item's own line, where it is to be at this place
 abbrev pub own_places : ℕ → Item → List ℕ
@@ -12,15 +12,15 @@ own_places place (i.Block texts) = []
 own_places place (i.Stmt x) = place ∷ []
 
 -- the place of the line after it
-abbrev pub place_behind : ℕ → Item → ℕ
-place_behind place (i.Block texts) = place
-place_behind place (i.Stmt x) = place + 1
+abbrev pub place_after : ℕ → Item → ℕ
+place_after place (i.Block texts) = place
+place_after place (i.Stmt x) = place + 1
 
 -- the places of the lines of marked items, where the next line is at this place
 abbrev pub marked_places : ℕ → List Bool → List Item → List ℕ
 marked_places place [] items = []
 marked_places place (mark ∷ marks) [] = []
-marked_places place (mark ∷ marks) (item ∷ items) = (if mark then own_places place item else []) ++ marked_places (place_behind place item) marks items
+marked_places place (mark ∷ marks) (item ∷ items) = (if mark then own_places place item else []) ++ marked_places (place_after place item) marks items
 
 -- these lines, where this gap is before the next line
 abbrev pub marked_lines : Bytes → List Bool → List Item → List Part

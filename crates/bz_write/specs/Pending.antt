@@ -14,7 +14,7 @@ pending_size (w ∷ ws) = length (text_of (e.Form w.form.now) w.margin) + pendin
 abbrev mutual
   pub forms_in : Expr → ℕ
   forms_in (Token t) = 0
-  forms_in (Form' kind s parts s' items end_ split open_ comments) = suc (forms_in_row parts + forms_in_row items)
+  forms_in (Form' kind s parts s' items end split open_break comments) = suc (forms_in_row parts + forms_in_row items)
 
   pub forms_in_row : {m : _} → Row_of-Expr m → ℕ
   forms_in_row end_of-Expr = 0

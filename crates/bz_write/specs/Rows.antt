@@ -15,7 +15,7 @@ use Rattle.bz_write.specs.Written.{layout}
 -- ---- expressions without comments
 
 abbrev token : Class → Bytes → Expr
-token class text = e.Token (record { class = class; text = text; break_ = false; comments = no_comments })
+token class text = e.Token (record { class = class; text = text; line_break = false; comments = no_comments })
 
 abbrev name : Bytes → Expr
 name text = token c.Name text
@@ -34,17 +34,17 @@ keyword text = token c.Keyword text
 
 -- a token of an operator at the end of its line
 abbrev breaking : Class → Bytes → Expr
-breaking class text = e.Token (record { class = class; text = text; break_ = true; comments = no_comments })
+breaking class text = e.Token (record { class = class; text = text; line_break = true; comments = no_comments })
 
 abbrev row_with : HostComments → Kind → Bool → List Expr → Expr
-row_with comments kind open_ parts = e.Form (record { kind = kind; parts = parts; seq = record { items = []; end_ = []; split = false }; open_ = open_; comments = comments })
+row_with comments kind open_break parts = e.Form (record { kind = kind; parts = parts; seq = record { items = []; end = []; split = false }; open_break = open_break; comments = comments })
 
 abbrev row : Kind → List Expr → Expr
 row kind parts = row_with no_comments kind false parts
 
 -- a sequence: kind, whether it is split, what is before its bracket, items
 abbrev sequence : Kind → Bool → List Expr → List Expr → Expr
-sequence kind split parts items = e.Form (record { kind = kind; parts = parts; seq = record { items = items; end_ = []; split = split }; open_ = false; comments = no_comments })
+sequence kind split parts items = e.Form (record { kind = kind; parts = parts; seq = record { items = items; end = []; split = split }; open_break = false; comments = no_comments })
 
 abbrev list : List Expr → Expr
 list items = sequence k.List false [] items
@@ -77,8 +77,8 @@ abbrev load : List Bytes → Bytes → List Expr → Item
 load before file names = i.Stmt (e.Form (record {
   kind = k.Load;
   parts = keyword (codes "load") ∷ [];
-  seq = record { items = string file ∷ names; end_ = []; split = false };
-  open_ = false;
+  seq = record { items = string file ∷ names; end = []; split = false };
+  open_break = false;
   comments = record { before = before; suffix = None };
 }))
 
@@ -90,17 +90,17 @@ commented = statement [] (codes "cc_library") (row_with (record { before = codes
   kind = k.List;
   parts = [];
   seq = record {
-    items = e.Token (record { class = c.String; text = codes "\":b\""; break_ = false; comments = record { before = codes "# why" ∷ []; suffix = None } }) ∷ [];
-    end_ = codes "# end" ∷ [];
+    items = e.Token (record { class = c.String; text = codes "\":b\""; line_break = false; comments = record { before = codes "# why" ∷ []; suffix = None } }) ∷ [];
+    end = codes "# end" ∷ [];
     split = false;
   };
-  open_ = false;
+  open_break = false;
   comments = no_comments;
 })) ∷ [])
 
 -- ["b"] with a suffix after its item
 abbrev suffixed : Expr
-suffixed = list (e.Token (record { class = c.String; text = codes "\"b\""; break_ = false; comments = record { before = []; suffix = Some (codes "# x") } }) ∷ [])
+suffixed = list (e.Token (record { class = c.String; text = codes "\"b\""; line_break = false; comments = record { before = []; suffix = Some (codes "# x") } }) ∷ [])
 
 abbrev suffixed_statement : Item
 suffixed_statement = i.Stmt (row_with (record { before = []; suffix = Some (codes "# c") }) k.Assign false (name (codes "b") ∷ mark (codes "=") ∷ number (codes "2") ∷ []))
@@ -111,7 +111,7 @@ clause = row k.For (keyword (codes "for") ∷ name (codes "x") ∷ keyword (code
 
 -- [x for x in y], open or not
 abbrev comprehension : Bool → Expr
-comprehension open_ = row_with no_comments k.ListComp open_ (mark (codes "[") ∷ name (codes "x") ∷ clause ∷ mark (codes "]") ∷ [])
+comprehension open_break = row_with no_comments k.ListComp open_break (mark (codes "[") ∷ name (codes "x") ∷ clause ∷ mark (codes "]") ∷ [])
 
 abbrev a : Expr
 a = name (codes "a")

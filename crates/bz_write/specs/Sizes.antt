@@ -6,13 +6,13 @@ use Rattle.bz_value.specs.declared.value.Form.{Form}
 use Rattle.bz_value.specs.Frames.{Frame, row, sequence, frame}
 use Rattle.bz_items.specs.Characters.{Bytes}
 use Rattle.bz_value.specs.Proper.{comments_of}
-use Rattle.bz_write.specs.Layout.{line, margin_lines, ended, suffix_text, is_broken, is_tuple, gap_behind, margin_behind}
+use Rattle.bz_write.specs.Layout.{new_line_at, margin_lines, ended, suffix_text, is_broken, is_tuple, gap_after, margin_after}
 use Rattle.bz_write.specs.Written.{text_of}
 
 -- the rest of a row: its parts, and the gap after each
 abbrev pub row_size : Kind → Bool → ℕ → ℕ → List Expr → ℕ
-row_size kind open_ m n [] = 0
-row_size kind open_ m n (x ∷ xs) = length (text_of x n) + (length (gap_behind kind open_ m x xs) + row_size kind open_ m (margin_behind open_ m x) xs)
+row_size kind open_break m n [] = 0
+row_size kind open_break m n (x ∷ xs) = length (text_of x n) + (length (gap_after kind open_break m x xs) + row_size kind open_break m (margin_after open_break m x) xs)
 
 -- what is before a sequence, and its opening bracket
 abbrev pub head_size : ℕ → List Expr → ℕ
@@ -31,21 +31,21 @@ joined_size m one (x ∷ xs) = length (text_of x m) + (comma_size one xs + joine
 
 -- an item on lines of its own: its comments above it, a comma, its suffix
 abbrev pub stacked_item_size : ℕ → Expr → ℕ
-stacked_item_size m x = length (line (m + 4)) + (length (margin_lines (m + 4) (comments_of x).before) + (length (text_of x (m + 4)) + (1 + length (suffix_text (comments_of x).suffix))))
+stacked_item_size m x = length (new_line_at (m + 4)) + (length (margin_lines (m + 4) (comments_of x).before) + (length (text_of x (m + 4)) + (1 + length (suffix_text (comments_of x).suffix))))
 
 -- the rest of the items on lines of their own, the end comments, and the closing bracket
 abbrev pub stacked_size : ℕ → List Bytes → List Expr → ℕ
-stacked_size m end_ [] = length (ended m end_) + 1
-stacked_size m end_ (x ∷ xs) = stacked_item_size m x + stacked_size m end_ xs
+stacked_size m end [] = length (ended m end) + 1
+stacked_size m end (x ∷ xs) = stacked_item_size m x + stacked_size m end xs
 
 -- what is in a sequence, and its closing bracket
 abbrev pub body_size : Form → ℕ → ℕ
 body_size f m =
-    if is_broken f.kind f.seq.split f.seq.items f.seq.end_ then stacked_size m f.seq.end_ f.seq.items
+    if is_broken f.kind f.seq.split f.seq.items f.seq.end then stacked_size m f.seq.end f.seq.items
     else joined_size m (is_tuple f.kind && nat_eq (length f.seq.items) 1) f.seq.items
 
 abbrev pub size_in : Frame → Form → ℕ → ℕ
-size_in row f m = row_size f.kind f.open_ m m f.parts
+size_in row f m = row_size f.kind f.open_break m m f.parts
 size_in (sequence opener closer) f m = head_size m f.parts + body_size f m
 
 -- a form

@@ -2,7 +2,7 @@
 use Rattle.std.specs.Prelude.{List, [], Option, None, Some}
 use Rattle.bz_value.specs.declared.value.Item.{Item}
 use Rattle.bz_items.specs.Characters.{Bytes}
-use Rattle.bz_write.specs.Drawn.{before_next}
+use Rattle.bz_write.specs.LaidOut.{before_next}
 
 -- what is between an item that may be there and those that follow
 abbrev pub before_item : Option Item → List Item → Bytes

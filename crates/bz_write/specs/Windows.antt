@@ -4,7 +4,7 @@ use Rattle.bz_tree.specs.declared.tree.Part.{Part}
 use Rattle.bz_value.specs.declared.value.Item.{Item}
 use Rattle.bz_value.specs.declared.value.Item.TheVariants as i
 use Rattle.bz_items.specs.Characters.{Bytes}
-use Rattle.bz_write.specs.Drawn.{left_gap, before_next, lines_from}
+use Rattle.bz_write.specs.LaidOut.{left_gap, before_next, lines_from}
 
 abbrev pub is_statement_item : Item → Bool
 is_statement_item (i.Block texts) = false
@@ -23,7 +23,7 @@ statement_gap gap (suc n) [] = gap
 statement_gap gap (suc n) (item ∷ items) = statement_gap (left_gap gap item ++ before_next item items) n items
 
 -- the lines of the items, and the end, but for the first one: whatever the gap before that is, these are the same
-abbrev pub lines_behind : List Item → List Part
-lines_behind [] = []
-lines_behind (i.Block texts ∷ items) = lines_behind items
-lines_behind (i.Stmt x ∷ items) = lines_from (before_next (i.Stmt x) items) items
+abbrev pub lines_after : List Item → List Part
+lines_after [] = []
+lines_after (i.Block texts ∷ items) = lines_after items
+lines_after (i.Stmt x ∷ items) = lines_from (before_next (i.Stmt x) items) items

@@ -7,7 +7,7 @@ use Rattle.bz_value.specs.declared.value.Form.{Form}
 use Rattle.bz_items.specs.Characters.{Bytes, comma, space}
 use Rattle.bz_value.specs.Proper.{comments_of}
 use Rattle.bz_write.specs.declared.brackets.Brackets.{Brackets}
-use Rattle.bz_write.specs.Layout.{rowed, joined, stacked, line, margin_lines, suffix_text, is_broken, is_tuple}
+use Rattle.bz_write.specs.Layout.{rowed, joined, stacked, new_line_at, margin_lines, suffix_text, is_broken, is_tuple}
 use Rattle.bz_write.specs.Written.{piece_text, text_of}
 
 -- each expression with its reading as a text
@@ -16,7 +16,7 @@ writings xs = map (λ x. (x, text_of x)) xs
 
 -- a row, or the rest of one, with no gap before it: kind, flag, margin of the row, margin of its first part
 abbrev pub row_text : Kind → Bool → ℕ → ℕ → List Expr → Bytes
-row_text kind open_ m n xs = flat_map piece_text (rowed kind open_ m [] n (writings xs))
+row_text kind open_break m n xs = flat_map piece_text (rowed kind open_break m [] n (writings xs))
 
 -- what is before the bracket of a sequence
 abbrev pub head_text : ℕ → List Expr → Bytes
@@ -33,16 +33,16 @@ joined_text m closer one xs = flat_map piece_text (joined m [] closer one (writi
 
 -- an item on lines of its own: its comments above it, a comma, its suffix
 abbrev pub stacked_item_text : ℕ → Expr → Bytes
-stacked_item_text m x = line (m + 4) ++ (margin_lines (m + 4) (comments_of x).before ++ (text_of x (m + 4) ++ (comma ∷ suffix_text (comments_of x).suffix)))
+stacked_item_text m x = new_line_at (m + 4) ++ (margin_lines (m + 4) (comments_of x).before ++ (text_of x (m + 4) ++ (comma ∷ suffix_text (comments_of x).suffix)))
 
 -- items on lines of their own, end comments, and the closing bracket
 abbrev pub stacked_text : ℕ → ℕ → List Bytes → List Expr → Bytes
-stacked_text m closer end_ xs = flat_map piece_text (stacked m None closer end_ (writings xs))
+stacked_text m closer end xs = flat_map piece_text (stacked m None closer end (writings xs))
 
 -- what is in the sequence of a form, and its closing bracket
 abbrev pub body_text : Form → ℕ → ℕ → Bytes
 body_text f m closer =
-    if is_broken f.kind f.seq.split f.seq.items f.seq.end_ then stacked_text m closer f.seq.end_ f.seq.items
+    if is_broken f.kind f.seq.split f.seq.items f.seq.end then stacked_text m closer f.seq.end f.seq.items
     else joined_text m closer (is_tuple f.kind && nat_eq (length f.seq.items) 1) f.seq.items
 
 -- what is before a sequence, its brackets, and what is in them

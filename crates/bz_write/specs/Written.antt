@@ -18,7 +18,7 @@ piece_text (part gap m x) = gap ++ x m
 abbrev mutual
   pub text_of : Expr → ℕ → Bytes
   text_of (Token t) m = t.text
-  text_of (Form' kind s parts s' items end_ split open_ comments) m = flat_map piece_text (laid kind split open_ [] m (texts_of parts) (texts_of items) end_)
+  text_of (Form' kind s parts s' items end split open_break comments) m = flat_map piece_text (laid kind split open_break [] m (texts_of parts) (texts_of items) end)
 
   pub texts_of : {n : _} → Row_of-Expr n → List (Expr × (ℕ → Bytes))
   texts_of end_of-Expr = []
@@ -44,11 +44,11 @@ is_assign_kind _ = false
 
 abbrev pub is_load : Expr → Bool
 is_load (Token t) = false
-is_load (Form' kind s parts s' items end_ split open_ comments) = is_load_kind kind
+is_load (Form' kind s parts s' items end split open_break comments) = is_load_kind kind
 
 abbrev pub is_assign : Expr → Bool
 is_assign (Token t) = false
-is_assign (Form' kind s parts s' items end_ split open_ comments) = is_assign_kind kind
+is_assign (Form' kind s parts s' items end split open_break comments) = is_assign_kind kind
 
 -- One blank line between two items; none where both are Loads or both are Assigns and the later has no comment above.
 abbrev pub gap_between : Item → Item → Bytes
@@ -56,11 +56,11 @@ gap_between (i.Stmt x) (i.Stmt y) = if ((is_load x && is_load y) || (is_assign x
 gap_between _ _ = line_feed ∷ []
 
 -- the items from here on, after an item
-abbrev pub behind_item : Item → List Item → Bytes
-behind_item item [] = []
-behind_item item (next ∷ items) = gap_between item next ++ (item_text next ++ behind_item next items)
+abbrev pub past_item : Item → List Item → Bytes
+past_item item [] = []
+past_item item (next ∷ items) = gap_between item next ++ (item_text next ++ past_item next items)
 
 -- the layout's text of a file value
 abbrev pub layout : List Item → Bytes
 layout [] = []
-layout (item ∷ items) = item_text item ++ behind_item item items
+layout (item ∷ items) = item_text item ++ past_item item items

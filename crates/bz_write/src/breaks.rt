@@ -6,8 +6,8 @@ use bz_items::Text;
 use bz_tree::Kind;
 use bz_value::{Expr, Form};
 
-fn is_named(expr: &Expr) -> bool
-    ensures { result ≡ layout.is_named expr.now }
+fn is_named_argument(expr: &Expr) -> bool
+    ensures { result ≡ layout.is_named_argument expr.now }
 {
     match expr {
         Expr::Token(_) => false,
@@ -37,7 +37,7 @@ fn has_named(items: &[Expr]) -> bool
     ensures { result ≡ layout.has_named items.now }
 {
     for item in items {
-        if is_named(item) {
+        if is_named_argument(item) {
             return true;
         }
     }
@@ -59,24 +59,24 @@ fn is_long(kind: Kind, items: &[Expr]) -> bool
 }
 
 /// Whether the items of a sequence are on lines of their own.
-fn is_broken_of(kind: Kind, split: bool, items: &[Expr], end_: &[Text]) -> bool
-    ensures { result ≡ layout.is_broken kind split items.now end_.now }
+fn is_broken_of(kind: Kind, split: bool, items: &[Expr], end: &[Text]) -> bool
+    ensures { result ≡ layout.is_broken kind split items.now end.now }
 {
     // The flag first: where it is settled, no item need be looked at.
     if split && !items.is_empty() {
         return true;
     }
-    has_comments(items) || !end_.is_empty() || is_long(kind, items)
+    has_comments(items) || !end.is_empty() || is_long(kind, items)
 }
 
 /// Whether the items of the form's sequence are on lines of their own.
 pub fn is_broken(form: &Form) -> bool
-    ensures { result ≡ layout.is_broken form.now.kind form.now.seq.split form.now.seq.items form.now.seq.end_ }
+    ensures { result ≡ layout.is_broken form.now.kind form.now.seq.split form.now.seq.items form.now.seq.end }
 {
     is_broken_of(
         form.kind,
         form.seq.split,
         form.seq.items.as_slice(),
-        form.seq.end_.as_slice(),
+        form.seq.end.as_slice(),
     )
 }

@@ -1,7 +1,7 @@
 //! Gaps: lines at a margin, comments above, after and below.
 ghost use Rattle.std.specs.Prelude.{◌≡◌, ◌++◌, ◌+◌, OnOk, IfOk};
 ghost use Rattle.std.specs.Option.{option_copied};
-ghost use Rattle.bz_write.specs.Layout.{line, margin_lines, suffix_text, ended};
+ghost use Rattle.bz_write.specs.Layout.{new_line_at, margin_lines, suffix_text, ended};
 ghost use Rattle.bz_write.specs.Written.{comment_lines};
 
 use bz_items::{Memory, Text};
@@ -11,7 +11,7 @@ use std::alloc::AllocError;
 pub const NO_LIMIT: usize = usize::MAX;
 
 /// The margin of what is inside a broken sequence. The error: no text is that wide.
-pub fn deeper(margin: usize) -> Result<usize, Memory>
+pub fn deeper_margin(margin: usize) -> Result<usize, Memory>
     ensures { IfOk result (λ inner. inner ≡ margin + 4) }
 {
     margin.checked_add(4).ok_or(AllocError)
@@ -19,8 +19,8 @@ pub fn deeper(margin: usize) -> Result<usize, Memory>
 
 /// Appends a newline and the spaces of a margin. The error: a growth was refused, or there are more bytes than the limit already:
 /// margins make a layout longer than its value by far, so that the rest need not be written.
-pub fn push_line(out: &mut Vec<u8>, margin: usize, limit: usize) -> Result<(), Memory>
-    ensures { OnOk result (out.new.items ≡ out.old.items ++ line margin) }
+pub fn push_new_line(out: &mut Vec<u8>, margin: usize, limit: usize) -> Result<(), Memory>
+    ensures { OnOk result (out.new.items ≡ out.old.items ++ new_line_at margin) }
 {
     if out.len() > limit {
         return Err(AllocError);
@@ -42,7 +42,7 @@ pub fn push_above(
 {
     for text in texts {
         out.extend_from_slice(text.as_slice())?;
-        push_line(out, margin, limit)?;
+        push_new_line(out, margin, limit)?;
     }
     Ok(())
 }
@@ -56,16 +56,16 @@ pub fn push_ended(
 ) -> Result<(), Memory>
     ensures { OnOk result (out.new.items ≡ out.old.items ++ ended margin texts.now) }
 {
-    let inner = deeper(margin)?;
+    let inner = deeper_margin(margin)?;
     for text in texts {
-        push_line(out, inner, limit)?;
+        push_new_line(out, inner, limit)?;
         out.extend_from_slice(text.as_slice())?;
     }
-    push_line(out, margin, limit)
+    push_new_line(out, margin, limit)
 }
 
 /// Appends a suffix after two spaces. The error: a growth was refused.
-pub fn push_behind(out: &mut Vec<u8>, suffix: Option<&Text>) -> Result<(), Memory>
+pub fn push_after(out: &mut Vec<u8>, suffix: Option<&Text>) -> Result<(), Memory>
     ensures { OnOk result (out.new.items ≡ out.old.items ++ suffix_text (option_copied suffix.entry)) }
 {
     if let Some(text) = suffix {

@@ -1,5 +1,5 @@
 ghost use Rattle.bz_write.specs.Appended.{DepthsJoin, LayoutsJoin};
-ghost use Rattle.bz_write.specs.Laws.{FlagsKeepLayout, LayoutIsAccepted, LayoutReadsBack, RedrawnHasLength};
+ghost use Rattle.bz_write.specs.Laws.{FlagsKeepLayout, LayoutIsAccepted, LayoutReadsBack, RelaidHasLength};
 ghost use Rattle.bz_write.specs.Rows.{WorkedRows};
 
 /// Settling the flags of a file value leaves its layout and the tree of it as they are, and keeps
@@ -26,8 +26,8 @@ pub fn layouts_join()
 
 /// How long the layout is for which lines were laid out anew, given by the length of the layout before and by those of the lines that
 /// were exchanged.
-pub fn redrawn_has_length()
-    ensures { RedrawnHasLength }
+pub fn relaid_has_length()
+    ensures { RelaidHasLength }
 {}
 
 /// Small file values have the layout that they are to have, byte for byte.

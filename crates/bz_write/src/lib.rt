@@ -4,7 +4,7 @@
 mod brackets;
 mod breaks;
 mod depth;
-mod drawing;
+mod laying_out;
 mod gaps;
 mod laws;
 mod limits;
@@ -21,17 +21,17 @@ mod texts;
 
 pub use breaks::is_broken;
 pub use depth::{are_within, is_within};
-pub use gaps::{deeper, push_behind, push_comments};
+pub use gaps::{deeper_margin, push_after, push_comments};
 pub use laws::{
-    flags_keep_layout, layout_is_accepted, layout_reads_back, layouts_join, redrawn_has_length,
+    flags_keep_layout, layout_is_accepted, layout_reads_back, layouts_join, relaid_has_length,
     worked_rows,
 };
 pub use limits::{are_marked_shallow, are_marked_short, is_window_shallow, is_window_short};
 pub use lines::is_close;
-pub use marked::{Redrawn, redraw};
-pub use measure::{left_behind, left_behind_body, left_behind_row};
-pub use room::{NoRoom, less, less_behind};
+pub use marked::{Relaid, relayout};
+pub use measure::{left_after, left_after_body, left_after_row};
+pub use room::{NoRoom, less, less_after};
 pub use setting::{SetFault, append_file, set, text_of_file};
-pub use spliced::{Respliced, redraw_spliced};
+pub use spliced::{Respliced, relayout_spliced};
 pub use taken::set_from;
 pub use texts::{expr_text, item_text, push_body, push_expr, push_row};

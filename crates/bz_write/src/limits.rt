@@ -2,7 +2,7 @@
 ghost use Rattle.std.specs.Prelude.{ℕ, ◌≡◌, ◌+◌, ◌<◌, ◌≤◌, ◌↔◌, IsTrue, IfOk, ◌∷◌, [], length, take, drop, List, false, if◌then◌else◌};
 ghost use Rattle.bz_tree.specs.Spell.{depth_of, depth_limit, limit};
 ghost use Rattle.bz_write.specs.Written.{item_text, layout};
-ghost use Rattle.bz_write.specs.Drawn.{before_next, drawn};
+ghost use Rattle.bz_write.specs.LaidOut.{before_next, laid_out};
 ghost use Rattle.bz_write.specs.Depths.{depth_items};
 ghost use Rattle.bz_value.specs.Exchanged.{AreExchanged, IsSpliced};
 ghost use Rattle.bz_value.specs.declared.value.Item.{Item};
@@ -11,8 +11,8 @@ ghost use Rattle.bz_write.specs.Marks.{marked_items};
 
 use crate::depth::is_within;
 use crate::lines::is_apart;
-use crate::measure::left_behind;
-use crate::room::{NoRoom, less, less_behind, less_comments};
+use crate::measure::left_after;
+use crate::room::{NoRoom, less, less_after, less_comments};
 use bz_items::Memory;
 use bz_tree::{DEPTH_LIMIT, LENGTH_LIMIT};
 use bz_value::{Expr, Item};
@@ -26,8 +26,8 @@ fn less_statement(alloc: Global, expr: &Expr, room: usize) -> Result<usize, NoRo
 {
     let comments = expr.comments();
     let left = less_comments(room, comments.before())?;
-    let left = left_behind(alloc, expr, 0, left)?;
-    let left = less_behind(left, comments.suffix())?;
+    let left = left_after(alloc, expr, 0, left)?;
+    let left = less_after(left, comments.suffix())?;
     less(left, 1)
 }
 
@@ -114,8 +114,8 @@ fn are_marked_within(marks: &[bool], items: &[Item], depth: usize) -> bool
 pub fn are_marked_shallow(marks: &[bool], items: &[Item]) -> bool
     requires { length marks.now ≡ length items.now }
     ensures shallow { IsTrue result → (before : List Item) → AreExchanged marks.now before items.now
-        → depth_of (drawn before) ≤ depth_limit → depth_of (drawn items.now) ≤ depth_limit }
-    ensures deep { result ≡ false → depth_limit < depth_of (drawn items.now) }
+        → depth_of (laid_out before) ≤ depth_limit → depth_of (laid_out items.now) ≤ depth_limit }
+    ensures deep { result ≡ false → depth_limit < depth_of (laid_out items.now) }
 {
     are_marked_within(marks, items, DEPTH_LIMIT as usize - 1)
 }
@@ -184,7 +184,7 @@ fn window(items: &[Item], from: usize, come: usize) -> &[Item]
     ensures { result.now ≡ take come (drop from items.now) }
 {
     let (_front, rest) = items.split_at(from);
-    let (window, _behind) = rest.split_at(come);
+    let (window, _after) = rest.split_at(come);
     window
 }
 
@@ -194,8 +194,8 @@ fn window(items: &[Item], from: usize, come: usize) -> &[Item]
 pub fn is_window_shallow(items: &[Item], from: usize, come: usize) -> bool
     requires held { from + come ≤ length items.now }
     ensures shallow { IsTrue result → (before : List Item) (gone : ℕ) → IsSpliced from gone come before items.now
-        → depth_of (drawn before) ≤ depth_limit → depth_of (drawn items.now) ≤ depth_limit }
-    ensures deep { result ≡ false → depth_limit < depth_of (drawn items.now) }
+        → depth_of (laid_out before) ≤ depth_limit → depth_of (laid_out items.now) ≤ depth_limit }
+    ensures deep { result ≡ false → depth_limit < depth_of (laid_out items.now) }
 {
     are_items_within(window(items, from, come), DEPTH_LIMIT as usize - 1)
 }

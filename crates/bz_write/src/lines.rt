@@ -2,10 +2,10 @@
 ghost use Rattle.std.specs.Prelude.{◌≡◌, ◌++◌, ◌∷◌, [], OnOk, IfOk, if◌then◌else◌};
 ghost use Rattle.bz_items.specs.Characters.{line_feed};
 ghost use Rattle.bz_write.specs.Written as written;
-ghost use Rattle.bz_write.specs.Drawn.{line_part, own_lines, left_gap, before_next, lines_from};
+ghost use Rattle.bz_write.specs.LaidOut.{line_part, own_lines, left_gap, before_next, lines_from};
 
-use crate::drawing::{draw, nothing};
-use crate::gaps::{push_behind, push_comments};
+use crate::laying_out::{lay_out, nothing};
+use crate::gaps::{push_after, push_comments};
 use bz_items::{Items, Memory, Text};
 use bz_tree::{Class, Kind, Leaf, Node, Part};
 use bz_value::{Expr, Item};
@@ -61,20 +61,20 @@ pub fn push_between(gap: &mut Vec<u8>, item: &Item, others: &[Item]) -> Result<(
 }
 
 /// The line of a statement after a gap.
-pub fn draw_line(alloc: Global, expr: &Expr, gap: Vec<u8>) -> Result<Part, Memory>
+pub fn lay_out_line(alloc: Global, expr: &Expr, gap: Vec<u8>) -> Result<Part, Memory>
     ensures { IfOk result (λ part. part ≡ line_part gap.items expr.now) }
 {
     let comments = expr.comments();
-    let mut behind = Vec::new(alloc);
-    push_behind(&mut behind, comments.suffix())?;
+    let mut following = Vec::new(alloc);
+    push_after(&mut following, comments.suffix())?;
     let token = Text::from_slice(alloc, b"\n")?;
     let mut gap = gap;
     push_comments(&mut gap, comments.before())?;
     // The statement comes last: what is there when memory is refused is dropped at each place where that can be.
-    let statement = draw(alloc, expr, Text::from_vec(gap), 0)?;
+    let statement = lay_out(alloc, expr, Text::from_vec(gap), 0)?;
     let newline = Part::Leaf(Leaf {
         class: Class::Newline,
-        gap: Text::from_vec(behind),
+        gap: Text::from_vec(following),
         token,
     });
     Ok(Part::Node(Node {
@@ -84,7 +84,7 @@ pub fn draw_line(alloc: Global, expr: &Expr, gap: Vec<u8>) -> Result<Part, Memor
 }
 
 /// Appends the line of an item, and gives the gap that it leaves to what follows.
-pub fn draw_item(
+pub fn lay_out_item(
     alloc: Global,
     item: &Item,
     gap: Vec<u8>,
@@ -100,14 +100,14 @@ pub fn draw_item(
             Ok(gap)
         }
         Item::Stmt(expr) => {
-            parts.push(draw_line(alloc, expr, gap)?)?;
+            parts.push(lay_out_line(alloc, expr, gap)?)?;
             Ok(Vec::new(alloc))
         }
     }
 }
 
 /// The end of a file after a gap.
-pub fn end_behind(alloc: Global, gap: Vec<u8>) -> Part
+pub fn end_after(alloc: Global, gap: Vec<u8>) -> Part
     ensures { result ∷ [] ≡ lines_from gap.items [] }
 {
     Part::Leaf(Leaf {
@@ -119,15 +119,15 @@ pub fn end_behind(alloc: Global, gap: Vec<u8>) -> Part
 
 /// The lines of a file's items, and its end. The error: a growth was refused.
 #[tactic(auto, using(crate::proofs::Loops::lines_next))]
-pub fn draw_lines(alloc: Global, items: &[Item]) -> Result<Items<Part>, Memory>
+pub fn lay_out_lines(alloc: Global, items: &[Item]) -> Result<Items<Part>, Memory>
     ensures { IfOk result (λ parts. parts ≡ lines_from [] items.now) }
 {
     let mut parts = Items::new(alloc);
     let mut gap = Vec::new(alloc);
     for (i, item) in items.iter().enumerate() {
-        gap = draw_item(alloc, item, gap, &mut parts)?;
+        gap = lay_out_item(alloc, item, gap, &mut parts)?;
         push_between(&mut gap, item, &items[i + 1..])?;
     }
-    parts.push(end_behind(alloc, gap))?;
+    parts.push(end_after(alloc, gap))?;
     Ok(parts)
 }

@@ -8,9 +8,9 @@ ghost use Rattle.bz_write.specs.Writings.{row_text, body_text};
 ghost use Rattle.bz_write.specs.Pending.{pending_size, pending_forms, forms_in, forms_in_all};
 
 use crate::breaks::is_broken;
-use crate::gaps::deeper;
-use crate::room::{NoRoom, less, less_above, less_behind, less_ended, less_gap, less_line};
-use crate::row_gaps::{gap_behind, margin_behind, others};
+use crate::gaps::deeper_margin;
+use crate::room::{NoRoom, less, less_above, less_after, less_ended, less_gap, less_line};
+use crate::row_gaps::{gap_after, margin_after, others};
 use bz_items::Text;
 use bz_tree::Kind;
 use bz_value::{Expr, Form, is_sequence};
@@ -52,17 +52,17 @@ fn less_row<'a>(
     room: usize,
     pending: &mut Vec<Pending<'a>>,
 ) -> Result<usize, NoRoom>
-    ensures ok { IfOk result (λ left. row_size form.now.kind form.now.open_ margin margin form.now.parts + left + pending_size pending.old.items ≡ room + pending_size pending.new.items) }
+    ensures ok { IfOk result (λ left. row_size form.now.kind form.now.open_break margin margin form.now.parts + left + pending_size pending.old.items ≡ room + pending_size pending.new.items) }
     ensures forms { OnOk result (pending_forms pending.new.items ≡ pending_forms pending.old.items + forms_in_all form.now.parts) }
-    ensures longer { result ≡ Err NoRoom.Longer → room + pending_size pending.new.items < row_size form.now.kind form.now.open_ margin margin form.now.parts + pending_size pending.old.items }
+    ensures longer { result ≡ Err NoRoom.Longer → room + pending_size pending.new.items < row_size form.now.kind form.now.open_break margin margin form.now.parts + pending_size pending.old.items }
 {
     let row = form.parts.as_slice();
     let mut left = room;
     let mut inner = margin;
     for (i, part) in row.iter().enumerate() {
         left = less_expr(part, inner, left, pending)?;
-        left = less_gap(left, gap_behind(form, margin, part, others(row, i))?)?;
-        inner = margin_behind(form, margin, part)?;
+        left = less_gap(left, gap_after(form, margin, part, others(row, i))?)?;
+        inner = margin_after(form, margin, part)?;
     }
     Ok(left)
 }
@@ -132,31 +132,31 @@ fn less_item<'a>(
     ensures longer { result ≡ Err NoRoom.Longer → room + pending_size pending.new.items < stacked_item_size margin item.now + pending_size pending.old.items }
 {
     let comments = item.comments();
-    let inner = deeper(margin)?;
+    let inner = deeper_margin(margin)?;
     let left = less_line(room, inner)?;
     let left = less_above(left, comments.before(), inner)?;
     let left = less_expr(item, inner, left, pending)?;
-    less_behind(less(left, 1)?, comments.suffix())
+    less_after(less(left, 1)?, comments.suffix())
 }
 
 /// What is left of the room after items on lines of their own, the end comments, and the closing bracket.
 #[tactic(auto, using(crate::proofs::PendingForms::stacked_next))]
 fn less_stacked<'a>(
     items: &'a [Expr],
-    end_: &[Text],
+    end: &[Text],
     margin: usize,
     room: usize,
     pending: &mut Vec<Pending<'a>>,
 ) -> Result<usize, NoRoom>
-    ensures ok { IfOk result (λ left. stacked_size margin end_.now items.now + left + pending_size pending.old.items ≡ room + pending_size pending.new.items) }
+    ensures ok { IfOk result (λ left. stacked_size margin end.now items.now + left + pending_size pending.old.items ≡ room + pending_size pending.new.items) }
     ensures forms { OnOk result (pending_forms pending.new.items ≡ pending_forms pending.old.items + forms_in_all items.now) }
-    ensures longer { result ≡ Err NoRoom.Longer → room + pending_size pending.new.items < stacked_size margin end_.now items.now + pending_size pending.old.items }
+    ensures longer { result ≡ Err NoRoom.Longer → room + pending_size pending.new.items < stacked_size margin end.now items.now + pending_size pending.old.items }
 {
     let mut left = room;
     for item in items {
         left = less_item(item, margin, left, pending)?;
     }
-    less(less_ended(left, end_, margin)?, 1)
+    less(less_ended(left, end, margin)?, 1)
 }
 
 /// What is left of the room after what is in a sequence, and its closing bracket.
@@ -172,7 +172,7 @@ fn less_body<'a>(
 {
     let items = form.seq.items.as_slice();
     if is_broken(form) {
-        return less_stacked(items, form.seq.end_.as_slice(), margin, room, pending);
+        return less_stacked(items, form.seq.end.as_slice(), margin, room, pending);
     }
     let one = matches!(form.kind, Kind::Tuple) && items.len() == 1;
     less_joined(items, one, margin, room, pending)
@@ -212,7 +212,7 @@ fn less_pending(room: usize, pending: &mut Vec<Pending<'_>>) -> Result<usize, No
 
 /// What is left of so much room after the layout of an expression at a margin. Errors: `Longer`: the layout is longer;
 /// `Memory`: a growth was refused.
-pub fn left_behind(alloc: Global, expr: &Expr, margin: usize, room: usize) -> Result<usize, NoRoom>
+pub fn left_after(alloc: Global, expr: &Expr, margin: usize, room: usize) -> Result<usize, NoRoom>
     ensures ok { IfOk result (λ left. length (text_of expr.now margin) + left ≡ room) }
     ensures longer { result ≡ Err NoRoom.Longer → room < length (text_of expr.now margin) }
 {
@@ -223,14 +223,14 @@ pub fn left_behind(alloc: Global, expr: &Expr, margin: usize, room: usize) -> Re
 
 /// The same of the row of the parts of a form.
 #[tactic(auto, using(crate::proofs::Sized::row_is))]
-pub fn left_behind_row(
+pub fn left_after_row(
     alloc: Global,
     form: &Form,
     margin: usize,
     room: usize,
 ) -> Result<usize, NoRoom>
-    ensures ok { IfOk result (λ left. length (row_text form.now.kind form.now.open_ margin margin form.now.parts) + left ≡ room) }
-    ensures longer { result ≡ Err NoRoom.Longer → room < length (row_text form.now.kind form.now.open_ margin margin form.now.parts) }
+    ensures ok { IfOk result (λ left. length (row_text form.now.kind form.now.open_break margin margin form.now.parts) + left ≡ room) }
+    ensures longer { result ≡ Err NoRoom.Longer → room < length (row_text form.now.kind form.now.open_break margin margin form.now.parts) }
 {
     let mut pending = Vec::new(alloc);
     let left = less_row(form, margin, room, &mut pending)?;
@@ -239,7 +239,7 @@ pub fn left_behind_row(
 
 /// The same of what is in the sequence of a form, and its closing bracket.
 #[tactic(auto, using(crate::proofs::Sized::body_is))]
-pub fn left_behind_body(
+pub fn left_after_body(
     alloc: Global,
     form: &Form,
     margin: usize,

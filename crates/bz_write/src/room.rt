@@ -1,11 +1,11 @@
 //! How much room the parts of a text leave.
 ghost use Rattle.std.specs.Prelude.{◌≡◌, ◌+◌, ◌<◌, length, IfOk};
 ghost use Rattle.std.specs.Option.{option_copied};
-ghost use Rattle.bz_write.specs.Layout.{line, margin_lines, suffix_text, ended};
+ghost use Rattle.bz_write.specs.Layout.{new_line_at, margin_lines, suffix_text, ended};
 ghost use Rattle.bz_write.specs.RowGaps.{written_gap};
 ghost use Rattle.bz_write.specs.Written.{comment_lines};
 
-use crate::gaps::deeper;
+use crate::gaps::deeper_margin;
 use crate::row_gaps::RowGap;
 use bz_items::Text;
 use std::alloc::{AllocError, AllocFailed};
@@ -52,8 +52,8 @@ pub fn less(room: usize, count: usize) -> Result<usize, NoRoom>
 /// What is left of the room after a newline and the spaces of a margin.
 #[tactic(auto, using(crate::proofs::Rooms::line_length))]
 pub fn less_line(room: usize, margin: usize) -> Result<usize, NoRoom>
-    ensures ok { IfOk result (λ left. length (line margin) + left ≡ room) }
-    ensures longer { result ≡ Err NoRoom.Longer → room < length (line margin) }
+    ensures ok { IfOk result (λ left. length (new_line_at margin) + left ≡ room) }
+    ensures longer { result ≡ Err NoRoom.Longer → room < length (new_line_at margin) }
 {
     less(less(room, 1)?, margin)
 }
@@ -78,7 +78,7 @@ pub fn less_ended(room: usize, texts: &[Text], margin: usize) -> Result<usize, N
     ensures ok { IfOk result (λ left. length (ended margin texts.now) + left ≡ room) }
     ensures longer { result ≡ Err NoRoom.Longer → room < length (ended margin texts.now) }
 {
-    let inner = deeper(margin)?;
+    let inner = deeper_margin(margin)?;
     let mut left = room;
     for text in texts {
         left = less_line(left, inner)?;
@@ -88,7 +88,7 @@ pub fn less_ended(room: usize, texts: &[Text], margin: usize) -> Result<usize, N
 }
 
 /// What is left of the room after a suffix after two spaces.
-pub fn less_behind(room: usize, suffix: Option<&Text>) -> Result<usize, NoRoom>
+pub fn less_after(room: usize, suffix: Option<&Text>) -> Result<usize, NoRoom>
     ensures ok { IfOk result (λ left. length (suffix_text (option_copied suffix.entry)) + left ≡ room) }
     ensures longer { result ≡ Err NoRoom.Longer → room < length (suffix_text (option_copied suffix.entry)) }
 {

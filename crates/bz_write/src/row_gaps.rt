@@ -4,7 +4,7 @@ ghost use Rattle.bz_value.specs.Proper.{has_break};
 ghost use Rattle.bz_write.specs.Layout as layout;
 ghost use Rattle.bz_write.specs.RowGaps.{written_gap};
 
-use crate::gaps::{NO_LIMIT, deeper, push_line};
+use crate::gaps::{NO_LIMIT, deeper_margin, push_new_line};
 use bz_items::{Memory, Text};
 use bz_spaces::is_spaced;
 use bz_value::{Expr, Form};
@@ -31,32 +31,32 @@ fn has_break(expr: &Expr) -> bool
     ensures { result ≡ has_break expr.now }
 {
     match expr {
-        Expr::Token(token) => token.break_,
+        Expr::Token(token) => token.line_break,
         Expr::Form(_) => false,
     }
 }
 
 /// The gap after a part of a row, before the others. The error: no text is that wide.
 #[inline(always)]
-pub fn gap_behind(
+pub fn gap_after(
     form: &Form,
     margin: usize,
     part: &Expr,
     others: &[Expr],
 ) -> Result<RowGap, Memory>
-    ensures { IfOk result (λ gap. written_gap gap ≡ layout.gap_behind form.now.kind form.now.open_ margin part.now others.now) }
+    ensures { IfOk result (λ gap. written_gap gap ≡ layout.gap_after form.now.kind form.now.open_break margin part.now others.now) }
 {
     let [next, rest @ ..] = others else {
         return Ok(RowGap::Nothing);
     };
-    if form.open_ {
+    if form.open_break {
         if rest.is_empty() {
             return Ok(RowGap::Line(margin));
         }
-        return Ok(RowGap::Line(deeper(margin)?));
+        return Ok(RowGap::Line(deeper_margin(margin)?));
     }
     if has_break(part) {
-        return Ok(RowGap::Line(deeper(margin)?));
+        return Ok(RowGap::Line(deeper_margin(margin)?));
     }
     if is_spaced(form.kind, part, next) {
         return Ok(RowGap::Space);
@@ -65,11 +65,11 @@ pub fn gap_behind(
 }
 
 /// The margin of what is after a part of a row. The error: no text is that wide.
-pub fn margin_behind(form: &Form, margin: usize, part: &Expr) -> Result<usize, Memory>
-    ensures { IfOk result (λ inner. inner ≡ layout.margin_behind form.now.open_ margin part.now) }
+pub fn margin_after(form: &Form, margin: usize, part: &Expr) -> Result<usize, Memory>
+    ensures { IfOk result (λ inner. inner ≡ layout.margin_after form.now.open_break margin part.now) }
 {
-    if form.open_ || has_break(part) {
-        deeper(margin)
+    if form.open_break || has_break(part) {
+        deeper_margin(margin)
     } else {
         Ok(margin)
     }
@@ -84,7 +84,7 @@ fn text_of_gap(alloc: Global, gap: RowGap) -> Result<Text, Memory>
         RowGap::Space => Text::from_slice(alloc, b" "),
         RowGap::Line(margin) => {
             let mut out = Vec::new(alloc);
-            push_line(&mut out, margin, NO_LIMIT)?;
+            push_new_line(&mut out, margin, NO_LIMIT)?;
             Ok(Text::from_vec(out))
         }
     }
@@ -99,7 +99,7 @@ fn push_gap(out: &mut Vec<u8>, gap: RowGap, limit: usize) -> Result<(), Memory>
             out.push(b' ')?;
             Ok(())
         }
-        RowGap::Line(margin) => push_line(out, margin, limit),
+        RowGap::Line(margin) => push_new_line(out, margin, limit),
     }
 }
 
@@ -112,20 +112,20 @@ pub fn push_row_gap(
     others: &[Expr],
     limit: usize,
 ) -> Result<(), Memory>
-    ensures { OnOk result (out.new.items ≡ out.old.items ++ layout.gap_behind form.now.kind form.now.open_ margin part.now others.now) }
+    ensures { OnOk result (out.new.items ≡ out.old.items ++ layout.gap_after form.now.kind form.now.open_break margin part.now others.now) }
 {
-    push_gap(out, gap_behind(form, margin, part, others)?, limit)
+    push_gap(out, gap_after(form, margin, part, others)?, limit)
 }
 
 /// The text of the gap after a part of a row, before the others. The error: a growth was refused.
-pub fn text_behind(
+pub fn text_after(
     alloc: Global,
     form: &Form,
     margin: usize,
     part: &Expr,
     others: &[Expr],
 ) -> Result<Text, Memory>
-    ensures { IfOk result (λ text. text ≡ layout.gap_behind form.now.kind form.now.open_ margin part.now others.now) }
+    ensures { IfOk result (λ text. text ≡ layout.gap_after form.now.kind form.now.open_break margin part.now others.now) }
 {
-    text_of_gap(alloc, gap_behind(form, margin, part, others)?)
+    text_of_gap(alloc, gap_after(form, margin, part, others)?)
 }

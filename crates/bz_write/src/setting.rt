@@ -2,12 +2,12 @@ ghost use Rattle.std.specs.Prelude.{◌≡◌, ◌<◌, ◌≤◌, ◌++◌, IfO
 ghost use Rattle.bz_tree.specs.Spell.{spell_node, depth_of, limit, depth_limit};
 ghost use Rattle.bz_view.specs.View.{view_of};
 ghost use Rattle.bz_write.specs.Appended.{gap_below};
-ghost use Rattle.bz_write.specs.Drawn.{drawn};
+ghost use Rattle.bz_write.specs.LaidOut.{laid_out};
 ghost use Rattle.bz_write.specs.Written.{layout};
 ghost use Rattle.bz_write.specs.Flags.{flags};
 
 use crate::limits::{are_items_within, is_layout_within};
-use crate::lines::{draw_lines, push_between};
+use crate::lines::{lay_out_lines, push_between};
 use crate::texts::push_items;
 use bz_items::{Memory, Text};
 use bz_tree::{DEPTH_LIMIT, Kind, LENGTH_LIMIT, Node, Tree};
@@ -41,10 +41,10 @@ impl From<AllocError> for SetFault {
 }
 
 /// Whether the tree of the layout of the items is within the limit of depth.
-#[tactic(auto, using(crate::proofs::Deep::drawn_depth))]
+#[tactic(auto, using(crate::proofs::Deep::laid_out_depth))]
 fn is_shallow(items: &[Item]) -> bool
-    ensures shallow { IsTrue result → depth_of (drawn items.now) ≤ depth_limit }
-    ensures deep { result ≡ false → depth_limit < depth_of (drawn items.now) }
+    ensures shallow { IsTrue result → depth_of (laid_out items.now) ≤ depth_limit }
+    ensures deep { result ≡ false → depth_limit < depth_of (laid_out items.now) }
 {
     are_items_within(items, DEPTH_LIMIT as usize - 1)
 }
@@ -53,9 +53,9 @@ fn is_shallow(items: &[Item]) -> bool
 /// as of `set`; `Memory`: a growth was refused.
 pub fn fits(alloc: Global, items: &[Item]) -> Result<(), SetFault>
     ensures short { IfOk result (λ _. length (layout items.now) ≤ limit) }
-    ensures shallow { IfOk result (λ _. depth_of (drawn items.now) ≤ depth_limit) }
+    ensures shallow { IfOk result (λ _. depth_of (laid_out items.now) ≤ depth_limit) }
     ensures too_large { result ≡ Err SetFault.TooLarge → limit < length (layout items.now) }
-    ensures too_deep { result ≡ Err SetFault.TooDeep → (length (layout items.now) ≤ limit) × (depth_limit < depth_of (drawn items.now)) }
+    ensures too_deep { result ≡ Err SetFault.TooDeep → (length (layout items.now) ≤ limit) × (depth_limit < depth_of (laid_out items.now)) }
 {
     let short = is_layout_within(alloc, items, LENGTH_LIMIT)?;
     if !short {
@@ -71,18 +71,18 @@ pub fn fits(alloc: Global, items: &[Item]) -> Result<(), SetFault>
 /// are looked at on the value, before the tree is made. Errors: `TooLarge` exactly where the layout is past the limit of a
 /// text, else `TooDeep` exactly where the tree is past the limit of depth; `Memory`: a growth was refused.
 pub fn set(alloc: Global, file: &File) -> Result<Tree, SetFault>
-    ensures drawn { IfOk result (λ tree. tree ≡ drawn file.now) }
+    ensures laid_out { IfOk result (λ tree. tree ≡ laid_out file.now) }
     ensures text { IfOk result (λ tree. spell_node tree ≡ layout file.now) }
     ensures view { IfOk result (λ tree. view_of tree ≡ flags file.now) }
     ensures too_large { result ≡ Err SetFault.TooLarge → limit < length (layout file.now) }
-    ensures too_deep { result ≡ Err SetFault.TooDeep → (length (layout file.now) ≤ limit) × (depth_limit < depth_of (drawn file.now)) }
+    ensures too_deep { result ≡ Err SetFault.TooDeep → (length (layout file.now) ≤ limit) × (depth_limit < depth_of (laid_out file.now)) }
 {
     let items = file.items.as_slice();
     fits(alloc, items)?;
     Ok(Tree {
         root: Node {
             kind: Kind::File,
-            parts: draw_lines(alloc, items)?,
+            parts: lay_out_lines(alloc, items)?,
         },
     })
 }
@@ -92,7 +92,7 @@ pub fn set(alloc: Global, file: &File) -> Result<Tree, SetFault>
 fn append_within(out: &mut Vec<u8>, items: &[Item]) -> Option<()>
     ensures text { IfSome result (λ _. out.new.items ≡ out.old.items ++ layout items.now) }
     ensures short { IfSome result (λ _. length out.new.items ≤ limit) }
-    ensures shallow { IfSome result (λ _. depth_of (drawn items.now) ≤ depth_limit) }
+    ensures shallow { IfSome result (λ _. depth_of (laid_out items.now) ≤ depth_limit) }
 {
     if !is_shallow(items) {
         return None;
@@ -118,7 +118,7 @@ fn push_below(out: &mut Vec<u8>, above: &Option<Item>, items: &[Item]) -> Result
 pub fn append_file(out: &mut Vec<u8>, above: &Option<Item>, file: &File) -> Option<()>
     ensures text { IfSome result (λ _. out.new.items ≡ out.old.items ++ (gap_below above.now file.now ++ layout file.now)) }
     ensures short { IfSome result (λ _. length out.new.items ≤ limit) }
-    ensures shallow { IfSome result (λ _. depth_of (drawn file.now) ≤ depth_limit) }
+    ensures shallow { IfSome result (λ _. depth_of (laid_out file.now) ≤ depth_limit) }
 {
     let items = file.items.as_slice();
     push_below(out, above, items).ok()?;
@@ -129,7 +129,7 @@ pub fn append_file(out: &mut Vec<u8>, above: &Option<Item>, file: &File) -> Opti
 fn text_within(alloc: Global, items: &[Item]) -> Option<Text>
     ensures text { IfSome result (λ text. text ≡ layout items.now) }
     ensures short { IfSome result (λ _. length (layout items.now) ≤ limit) }
-    ensures shallow { IfSome result (λ _. depth_of (drawn items.now) ≤ depth_limit) }
+    ensures shallow { IfSome result (λ _. depth_of (laid_out items.now) ≤ depth_limit) }
 {
     let mut out = Vec::new(alloc);
     append_within(&mut out, items)?;
@@ -142,9 +142,9 @@ fn text_within(alloc: Global, items: &[Item]) -> Option<Text>
 pub fn text_of_file(alloc: Global, file: &File) -> Result<Text, SetFault>
     ensures text { IfOk result (λ text. text ≡ layout file.now) }
     ensures short { IfOk result (λ _. length (layout file.now) ≤ limit) }
-    ensures shallow { IfOk result (λ _. depth_of (drawn file.now) ≤ depth_limit) }
+    ensures shallow { IfOk result (λ _. depth_of (laid_out file.now) ≤ depth_limit) }
     ensures too_large { result ≡ Err SetFault.TooLarge → limit < length (layout file.now) }
-    ensures too_deep { result ≡ Err SetFault.TooDeep → (length (layout file.now) ≤ limit) × (depth_limit < depth_of (drawn file.now)) }
+    ensures too_deep { result ≡ Err SetFault.TooDeep → (length (layout file.now) ≤ limit) × (depth_limit < depth_of (laid_out file.now)) }
 {
     let items = file.items.as_slice();
     if let Some(text) = text_within(alloc, items) {

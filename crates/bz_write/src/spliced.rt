@@ -2,12 +2,12 @@
 ghost use Rattle.std.specs.Prelude.{ℕ, ◌≡◌, ◌++◌, ◌+◌, ◌-◌, ◌≤◌, [], take, drop, length, List, IfOk, OnOk};
 ghost use Rattle.bz_value.specs.Exchanged.{IsSpliced};
 ghost use Rattle.bz_value.specs.declared.value.Item.{Item};
-ghost use Rattle.bz_write.specs.Drawn.{drawn, lines_from};
+ghost use Rattle.bz_write.specs.LaidOut.{laid_out, lines_from};
 ghost use Rattle.bz_write.specs.Windows as windows;
 
 use crate::gaps::push_comments;
-use crate::lines::{draw_item, draw_line, end_behind, push_between};
-use crate::marked::{pass_over, place_behind};
+use crate::lines::{lay_out_item, lay_out_line, end_after, push_between};
+use crate::marked::{pass_over, place_after};
 use bz_items::{Items, Memory};
 use bz_tree::Part;
 use bz_value::Item;
@@ -36,7 +36,7 @@ fn count_lines(items: &[Item]) -> usize
 {
     let mut count = 0;
     for item in items {
-        count = place_behind(count, item);
+        count = place_after(count, item);
     }
     count
 }
@@ -74,13 +74,13 @@ fn gap_before(alloc: Global, items: &[Item], from: usize) -> Result<Vec<u8>, Mem
 }
 
 /// Appends the first line of the items, that of the first statement or else the end, after a gap.
-fn draw_first(
+fn lay_out_first(
     alloc: Global,
     items: &[Item],
     first: Vec<u8>,
     lines: &mut Items<Part>,
 ) -> Result<(), Memory>
-    ensures { OnOk result (lines.new ++ windows.lines_behind items.now ≡ lines.old ++ lines_from first.items items.now) }
+    ensures { OnOk result (lines.new ++ windows.lines_after items.now ≡ lines.old ++ lines_from first.items items.now) }
 {
     let mut gap = first;
     let mut rest = items;
@@ -88,36 +88,36 @@ fn draw_first(
         match item {
             Item::Block(texts) => push_comments(&mut gap, texts.as_slice())?,
             Item::Stmt(expr) => {
-                lines.push(draw_line(alloc, expr, gap)?)?;
+                lines.push(lay_out_line(alloc, expr, gap)?)?;
                 return Ok(());
             }
         }
         push_between(&mut gap, item, others)?;
         rest = others;
     }
-    lines.push(end_behind(alloc, gap))?;
+    lines.push(end_after(alloc, gap))?;
     Ok(())
 }
 
 /// The lines of this many of the items, and the next one after them, the first of all after a gap.
 #[tactic(auto, using(crate::proofs::Loops::lines_next))]
-fn draw_window(
+fn lay_out_window(
     alloc: Global,
     items: &[Item],
     come: usize,
     first: Vec<u8>,
 ) -> Result<Items<Part>, Memory>
     requires { come ≤ length items.now }
-    ensures { IfOk result (λ lines. lines ++ windows.lines_behind (drop come items.now) ≡ lines_from first.items items.now) }
+    ensures { IfOk result (λ lines. lines ++ windows.lines_after (drop come items.now) ≡ lines_from first.items items.now) }
 {
     let mut lines = Items::new(alloc);
     let mut gap = first;
     for at in 0..come {
         let item = &items[at];
-        gap = draw_item(alloc, item, gap, &mut lines)?;
+        gap = lay_out_item(alloc, item, gap, &mut lines)?;
         push_between(&mut gap, item, &items[at + 1..])?;
     }
-    draw_first(alloc, items.split_at(come).1, gap, &mut lines)?;
+    lay_out_first(alloc, items.split_at(come).1, gap, &mut lines)?;
     Ok(lines)
 }
 
@@ -125,7 +125,7 @@ fn draw_window(
 /// after them, before which another gap may be now. Where these items came in the place of any others in a file, the tree of
 /// whose layout had `count` parts, it is that of the layout of all items once these lines are put there. How many parts they
 /// replace is given by `count` and by the lines that are left after them. The error: a growth was refused.
-pub fn redraw_spliced(
+pub fn relayout_spliced(
     alloc: Global,
     items: &[Item],
     from: usize,
@@ -133,17 +133,17 @@ pub fn redraw_spliced(
     count: usize,
 ) -> Result<Respliced, Memory>
     requires held { from + come ≤ length items.now }
-    ensures drawn { IfOk result (λ respliced. (before : List Item) (gone : ℕ) → IsSpliced from gone come before items.now
-        → length (drawn before).parts ≡ count
-        → (take respliced.at (drawn before).parts ++ respliced.lines ++ drop (respliced.at + respliced.gone) (drawn before).parts ≡ (drawn items.now).parts)
+    ensures laid_out { IfOk result (λ respliced. (before : List Item) (gone : ℕ) → IsSpliced from gone come before items.now
+        → length (laid_out before).parts ≡ count
+        → (take respliced.at (laid_out before).parts ++ respliced.lines ++ drop (respliced.at + respliced.gone) (laid_out before).parts ≡ (laid_out items.now).parts)
         × (respliced.at + respliced.gone ≤ count)) }
 {
     let (front, rest) = items.split_at(from);
-    let (_window, behind) = rest.split_at(come);
+    let (_window, following) = rest.split_at(come);
     let at = count_lines(front);
-    let left = count_lines(behind);
+    let left = count_lines(following);
     let gap = gap_before(alloc, items, from)?;
-    let lines = draw_window(alloc, rest, come, gap)?;
+    let lines = lay_out_window(alloc, rest, come, gap)?;
     Ok(Respliced {
         at,
         gone: count.saturating_sub(at).saturating_sub(left),

@@ -3,12 +3,12 @@ ghost use Rattle.std.specs.Prelude.{◌≡◌, ◌<◌, ◌≤◌, ◌++◌, ◌
 ghost use Rattle.std.specs.Option.{option_copied};
 ghost use Rattle.bz_tree.specs.Spell.{spell_node, depth_of, limit, depth_limit};
 ghost use Rattle.bz_view.specs.View.{view_of};
-ghost use Rattle.bz_write.specs.Drawn.{drawn, left_gap, lines_from, own_lines};
+ghost use Rattle.bz_write.specs.LaidOut.{laid_out, left_gap, lines_from, own_lines};
 ghost use Rattle.bz_write.specs.Flags.{flags};
 ghost use Rattle.bz_write.specs.Taken.{before_item};
 ghost use Rattle.bz_write.specs.Written.{layout};
 
-use crate::lines::{draw_item, end_behind, push_between};
+use crate::lines::{lay_out_item, end_after, push_between};
 use crate::setting::{SetFault, fits};
 use bz_items::{Items, Memory};
 use bz_rule::take_apart;
@@ -22,11 +22,11 @@ use std::slice;
 /// `TooDeep` exactly where the tree is past the limit of depth; `Memory`: a growth was refused. Of
 /// the value nothing is left either way.
 pub fn set_from(alloc: Global, file: File) -> Result<Tree, SetFault>
-    ensures drawn { IfOk result (λ tree. tree ≡ drawn file) }
+    ensures laid_out { IfOk result (λ tree. tree ≡ laid_out file) }
     ensures text { IfOk result (λ tree. spell_node tree ≡ layout file) }
     ensures view { IfOk result (λ tree. view_of tree ≡ flags file) }
     ensures too_large { result ≡ Err SetFault.TooLarge → limit < length (layout file) }
-    ensures too_deep { result ≡ Err SetFault.TooDeep → (length (layout file) ≤ limit) × (depth_limit < depth_of (drawn file)) }
+    ensures too_deep { result ≡ Err SetFault.TooDeep → (length (layout file) ≤ limit) × (depth_limit < depth_of (laid_out file)) }
 {
     if let Err(fault) = fits(alloc, file.items.as_slice()) {
         take_apart(file);
@@ -36,15 +36,15 @@ pub fn set_from(alloc: Global, file: File) -> Result<Tree, SetFault>
     Ok(Tree {
         root: Node {
             kind: Kind::File,
-            parts: draw_each(alloc, items)?,
+            parts: lay_out_each(alloc, items)?,
         },
     })
 }
 
-/// The lines of a file's items, and its end, as `draw_lines` lays them out; each item is dropped when the next one is laid out. The
+/// The lines of a file's items, and its end, as `lay_out_lines` lays them out; each item is dropped when the next one is laid out. The
 /// error: a growth was refused.
 #[tactic(auto, using(crate::proofs::TakenItems::lines_turn, crate::proofs::TakenItems::lines_end))]
-fn draw_each(alloc: Global, items: Items<Item>) -> Result<Items<Part>, Memory>
+fn lay_out_each(alloc: Global, items: Items<Item>) -> Result<Items<Part>, Memory>
     ensures { IfOk result (λ parts. parts ≡ lines_from [] items) }
 {
     let mut parts = Items::new(alloc);
@@ -53,11 +53,11 @@ fn draw_each(alloc: Global, items: Items<Item>) -> Result<Items<Part>, Memory>
         gap: Vec::new(alloc),
     };
     for item in items.into_vec() {
-        standing = draw_next(alloc, standing, item, &mut parts)?;
+        standing = lay_out_next(alloc, standing, item, &mut parts)?;
     }
     let Standing { above, gap } = standing;
     drop(above);
-    parts.push(end_behind(alloc, gap))?;
+    parts.push(end_after(alloc, gap))?;
     Ok(parts)
 }
 
@@ -70,7 +70,7 @@ struct Standing {
 
 /// Appends the line of an item after the one that was laid out last, which is dropped. The error: a growth was refused. Items are let
 /// go of by calls: by the end of its scope, each form of one would be a path of this proof.
-fn draw_next(
+fn lay_out_next(
     alloc: Global,
     standing: Standing,
     item: Item,
@@ -83,11 +83,11 @@ fn draw_next(
     let Standing { above, mut gap } = standing;
     let pushed = push_before(&mut gap, above.as_ref(), &item);
     drop(above);
-    let drawn = match pushed {
-        Ok(()) => draw_item(alloc, &item, gap, parts),
+    let laid_out = match pushed {
+        Ok(()) => lay_out_item(alloc, &item, gap, parts),
         Err(fault) => Err(fault),
     };
-    match drawn {
+    match laid_out {
         Ok(gap) => Ok(Standing {
             above: Some(item),
             gap,

@@ -8,10 +8,10 @@ ghost use Rattle.bz_write.specs.Writings.{row_text, head_text, comma_text, joine
 use crate::brackets::{Brackets, brackets_of_kind};
 use crate::breaks::is_broken;
 use crate::gaps::{
-    NO_LIMIT, deeper, push_above, push_behind, push_comments, push_ended, push_line,
+    NO_LIMIT, deeper_margin, push_above, push_after, push_comments, push_ended, push_new_line,
 };
 use crate::lines::push_between;
-use crate::row_gaps::{margin_behind, others, push_row_gap};
+use crate::row_gaps::{margin_after, others, push_row_gap};
 use bz_items::{Memory, Text};
 use bz_tree::Kind;
 use bz_value::{Expr, Form, Item};
@@ -61,14 +61,14 @@ fn push_sequence(
 /// Appends the row of the parts of a form at a margin. The error: a growth was refused, or the text is past the limit.
 #[cycle(push)]
 pub fn push_row(out: &mut Vec<u8>, form: &Form, margin: usize, limit: usize) -> Result<(), Memory>
-    ensures { OnOk result (out.new.items ≡ out.old.items ++ row_text form.now.kind form.now.open_ margin margin form.now.parts) }
+    ensures { OnOk result (out.new.items ≡ out.old.items ++ row_text form.now.kind form.now.open_break margin margin form.now.parts) }
 {
     let row = form.parts.as_slice();
     let mut inner = margin;
     for (i, part) in row.iter().enumerate() {
         push_expr(out, part, inner, limit)?;
         push_row_gap(out, form, margin, part, others(row, i), limit)?;
-        inner = margin_behind(form, margin, part)?;
+        inner = margin_after(form, margin, part)?;
     }
     Ok(())
 }
@@ -98,7 +98,7 @@ pub fn push_body(
 {
     let items = form.seq.items.as_slice();
     if is_broken(form) {
-        return push_stacked(out, items, form.seq.end_.as_slice(), margin, closer, limit);
+        return push_stacked(out, items, form.seq.end.as_slice(), margin, closer, limit);
     }
     let one = matches!(form.kind, Kind::Tuple) && items.len() == 1;
     push_joined(out, items, margin, closer, one, limit)
@@ -150,12 +150,12 @@ fn push_stacked_item(
     ensures { OnOk result (out.new.items ≡ out.old.items ++ stacked_item_text margin item.now) }
 {
     let comments = item.comments();
-    let inner = deeper(margin)?;
-    push_line(out, inner, limit)?;
+    let inner = deeper_margin(margin)?;
+    push_new_line(out, inner, limit)?;
     push_above(out, comments.before(), inner, limit)?;
     push_expr(out, item, inner, limit)?;
     out.push(b',')?;
-    push_behind(out, comments.suffix())
+    push_after(out, comments.suffix())
 }
 
 /// Appends items on lines of their own, end comments, and the closing bracket.
@@ -163,17 +163,17 @@ fn push_stacked_item(
 fn push_stacked(
     out: &mut Vec<u8>,
     items: &[Expr],
-    end_: &[Text],
+    end: &[Text],
     margin: usize,
     closer: u8,
     limit: usize,
 ) -> Result<(), Memory>
-    ensures { OnOk result (out.new.items ≡ out.old.items ++ stacked_text margin closer end_.now items.now) }
+    ensures { OnOk result (out.new.items ≡ out.old.items ++ stacked_text margin closer end.now items.now) }
 {
     for item in items {
         push_stacked_item(out, item, margin, limit)?;
     }
-    push_ended(out, end_, margin, limit)?;
+    push_ended(out, end, margin, limit)?;
     out.push(closer)?;
     Ok(())
 }
@@ -185,7 +185,7 @@ fn push_statement(out: &mut Vec<u8>, expr: &Expr, limit: usize) -> Result<(), Me
     let comments = expr.comments();
     push_comments(out, comments.before())?;
     push_expr(out, expr, 0, limit)?;
-    push_behind(out, comments.suffix())?;
+    push_after(out, comments.suffix())?;
     out.push(b'\n')?;
     Ok(())
 }

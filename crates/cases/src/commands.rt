@@ -1,6 +1,6 @@
 //! Commands, and the words that they are made of.
 use bz_items::{Memory, Text};
-use bz_words::{Command, CommandFault, is_identifier, is_kind, quoted, read_words};
+use bz_words::{Command, CommandFault, is_identifier, is_kind_name, quoted, read_words};
 use sheets::{Case, CaseFault, Page};
 use std::alloc::{AllocError, Global};
 
@@ -29,11 +29,11 @@ impl CommandQuery {
     pub(crate) fn answer(self, case: &Case, page: &mut Page) -> Result<(), CaseFault> {
         let text = case.text(0)?;
         match self {
-            CommandQuery::Command => page.answer(told(case.alloc, text)?.as_bytes())?,
+            CommandQuery::Command => page.answer(command_text(case.alloc, text)?.as_bytes())?,
             CommandQuery::Split => split(case.alloc, text, page)?,
             CommandQuery::Quoted => page.answer(as_string(case.alloc, text)?.as_slice())?,
             CommandQuery::Identifier => page.yes_or_no(is_identifier(text.as_bytes()))?,
-            CommandQuery::RuleKind => page.yes_or_no(is_kind(text.as_bytes()))?,
+            CommandQuery::RuleKind => page.yes_or_no(is_kind_name(text.as_bytes()))?,
         }
         Ok(())
     }
@@ -48,7 +48,7 @@ fn read(alloc: Global, text: &str) -> Result<(), CommandFault> {
 }
 
 /// Whether the text is read as a command, or its fault.
-fn told(alloc: Global, text: &str) -> Result<String, Memory> {
+fn command_text(alloc: Global, text: &str) -> Result<String, Memory> {
     match read(alloc, text) {
         Ok(()) => String::from_str(alloc, "read"),
         Err(CommandFault::Memory) => Err(AllocError),

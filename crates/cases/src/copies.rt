@@ -32,39 +32,39 @@ fn answer_of(alloc: Global, item: &Item, page: &mut Page) -> Result<(), CaseFaul
 }
 
 /// The comments of a gap but for that of its first line, and one after.
-fn comments_of(alloc: Global, gap: &[u8], behind: &[u8]) -> Result<Comments, Memory> {
+fn comments_of(alloc: Global, gap: &[u8], following: &[u8]) -> Result<Comments, Memory> {
     let mut above = Items::new(alloc);
     push_others(alloc, gap, &mut above)?;
-    let suffix = Text::from_slice(alloc, behind)?;
+    let suffix = Text::from_slice(alloc, following)?;
     Comments::new(alloc, above, Some(suffix))
 }
 
-fn token_of(alloc: Global, gap: &[u8], behind: &[u8]) -> Result<Token, Memory> {
-    let comments = comments_of(alloc, gap, behind)?;
+fn token_of(alloc: Global, gap: &[u8], following: &[u8]) -> Result<Token, Memory> {
+    let comments = comments_of(alloc, gap, following)?;
     Ok(Token {
         class: Class::Name,
         text: Text::from_slice(alloc, b"f")?,
-        break_: true,
+        line_break: true,
         comments,
     })
 }
 
 /// A list of one token, with each comment that either may have.
-fn form_of(alloc: Global, gap: &[u8], behind: &[u8]) -> Result<Form, Memory> {
+fn form_of(alloc: Global, gap: &[u8], following: &[u8]) -> Result<Form, Memory> {
     let mut items = Items::new(alloc);
-    items.push(Expr::Token(token_of(alloc, gap, behind)?))?;
-    let comments = comments_of(alloc, gap, behind)?;
-    let mut end_ = Items::new(alloc);
-    end_.push(Text::from_slice(alloc, b"# end")?)?;
+    items.push(Expr::Token(token_of(alloc, gap, following)?))?;
+    let comments = comments_of(alloc, gap, following)?;
+    let mut end = Items::new(alloc);
+    end.push(Text::from_slice(alloc, b"# end")?)?;
     Ok(Form {
         kind: Kind::List,
         parts: Items::new(alloc),
         seq: Seq {
             items,
-            end_,
+            end,
             split: true,
         },
-        open_: true,
+        open_break: true,
         comments,
     })
 }

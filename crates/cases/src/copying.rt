@@ -72,7 +72,7 @@ fn is_copied(alloc: Global, last: &Tree, tree: &Tree) -> Option<bool> {
 }
 
 /// Prints of each text, a line each, whether it is refused, or all that it says is copied.
-pub(crate) fn tell_copies(rt: &HostRuntime, bytes: &[u8]) -> Option<()> {
+pub(crate) fn answer_copies(rt: &HostRuntime, bytes: &[u8]) -> Option<()> {
     let alloc = rt.alloc();
     let mut last = parse(alloc, b"").ok()?;
     for text in bytes.split(|byte| *byte == NUL) {

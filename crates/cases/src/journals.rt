@@ -1,6 +1,6 @@
 //! Journals: what a session saves after actions with notes, and that it goes on from there.
 use crate::sessions::{opened, request_of, show_reply};
-use crate::trees::told;
+use crate::trees::read_fault_text;
 use bz_files::{Files, MemoryFiles};
 use bz_items::Memory;
 use bz_journal::{Action, KeepFault, Reply, ResumeFault, Session};
@@ -23,7 +23,7 @@ pub(crate) fn answer(case: &Case, page: &mut Page) -> Result<(), CaseFault> {
     }
     match opened(case.alloc, package, text.as_slice())? {
         Ok(mut session) => play(case, names.len(), &mut session, text.as_slice(), page),
-        Err(fault) => Ok(page.answer(told(case.alloc, &fault)?.as_bytes())?),
+        Err(fault) => Ok(page.answer(read_fault_text(case.alloc, &fault)?.as_bytes())?),
     }
 }
 

@@ -35,7 +35,7 @@ fn call_tokens_and_trees() {
     bz_token::cuts();
     bz_token::by_characters();
     bz_token::class_of_number();
-    bz_token::opens_behind_prefix();
+    bz_token::opens_after_prefix();
     bz_lex::laws::one_lexing();
     bz_lex::laws::coded_leaves();
     bz_tree::laws::one_reading();
@@ -43,7 +43,7 @@ fn call_tokens_and_trees() {
     bz_tree::laws::legal_by_nodes();
     bz_tree::laws::one_bzl_reading();
     bz_tree::laws::legal_by_lines();
-    bz_tree::laws::worked_lines();
+    bz_tree::laws::worked_command_lines();
     bz_tree::laws::kind_of_number();
 }
 
@@ -58,7 +58,7 @@ fn call_values() {
     bz_write::flags_keep_layout();
     bz_write::layout_is_accepted();
     bz_write::layout_reads_back();
-    bz_write::redrawn_has_length();
+    bz_write::relaid_has_length();
     bz_write::worked_rows();
     bz_tidy::worked_passes();
     bz_tidy::tidy_settles();
@@ -106,9 +106,9 @@ fn call_words() {
     bz_words::identifiers_are_names();
     bz_words::worked_words();
     bz_words::worked_identifiers();
-    bz_words::worked_commands();
+    bz_words::worked_command_effects();
     bz_words::worked_strings();
-    bz_line::worked_lines();
+    bz_line::worked_command_lines();
 }
 
 fn call_effects() {
@@ -134,7 +134,7 @@ fn call_effects() {
     bz_comment::worked_comments();
     bz_print::worked_prints();
     bz_command::worked_effects();
-    bz_command::worked_commands();
+    bz_command::worked_command_effects();
     bz_command::effects_stay_proper();
     bz_command::lines_matter();
     bz_command::commands_are_listed();

@@ -4,7 +4,7 @@
 //! several rounds of `copy`, `lex`, `parse`, `view`, `set` and `format`; `peak WORK` does a work once and prints how many KiB of
 //! memory the process took at most. `spell` writes what the tree spells to standard output, and `layout` what it is laid out
 //! as, or the fault of a text that has none to standard error. `copies` prints of each of several texts whether all that it says is copied.
-use crate::copying::tell_copies;
+use crate::copying::answer_copies;
 use bz_lex::lex;
 use bz_parse::parse;
 use bz_tidy::tidy;
@@ -142,7 +142,7 @@ fn read(rt: &HostRuntime, bytes: &[u8]) -> Option<Tree> {
     match tree {
         Ok(tree) => Some(tree),
         Err(fault) => {
-            let _told = eprintln!(rt; "{fault}");
+            let _read_fault_text = eprintln!(rt; "{fault}");
             None
         }
     }
@@ -164,7 +164,7 @@ pub(crate) fn measure(
 ) -> Option<()> {
     match word {
         "time" => timed(rt, bytes),
-        "copies" => tell_copies(rt, bytes),
+        "copies" => answer_copies(rt, bytes),
         "spell" => spelled(rt, &read(rt, bytes)?),
         "layout" => spelled(rt, &laid_out(rt.alloc(), &read(rt, bytes)?)?),
         "peak" => {

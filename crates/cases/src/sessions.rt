@@ -1,7 +1,7 @@
 //! Sessions: what each of several actions on a text is answered, and the text that is then present.
 ghost use Rattle.std.specs.Prelude.{◌≤◌, length};
 
-use crate::trees::{apart, told};
+use crate::trees::{apart, read_fault_text};
 use bz_items::Memory;
 use bz_journal::{Action, Reply, Session};
 use bz_label::{Target, TargetFault};
@@ -50,7 +50,7 @@ fn requests_of(case: &Case, count: usize) -> Result<Vec<Request>, CaseFault> {
 pub(crate) fn answer(case: &Case, page: &mut Page) -> Result<(), CaseFault> {
     let played = match played(case)? {
         Ok(played) => played,
-        Err(fault) => return Ok(page.answer(told(case.alloc, &fault)?.as_bytes())?),
+        Err(fault) => return Ok(page.answer(read_fault_text(case.alloc, &fault)?.as_bytes())?),
     };
     for reply in played.replies.as_slice() {
         show_reply(case.alloc, reply, page)?;
@@ -62,7 +62,7 @@ pub(crate) fn answer(case: &Case, page: &mut Page) -> Result<(), CaseFault> {
 pub(crate) fn answer_weights(case: &Case, page: &mut Page) -> Result<(), CaseFault> {
     let played = match played(case)? {
         Ok(played) => played,
-        Err(fault) => return Ok(page.answer(told(case.alloc, &fault)?.as_bytes())?),
+        Err(fault) => return Ok(page.answer(read_fault_text(case.alloc, &fault)?.as_bytes())?),
     };
     Ok(show_weights(case.alloc, &played.session, page)?)
 }

@@ -1,5 +1,5 @@
 //! .bzl files: the formatted texts.
-use crate::trees::told;
+use crate::trees::read_fault_text;
 use bz_format::format_bzl;
 use bz_formatter::FormatFault;
 use bz_items::{Memory, Text};
@@ -14,7 +14,7 @@ fn formatted(alloc: Global, text: &[u8]) -> Result<Text, FormatFault> {
 /// Why there is no formatted text; that memory was refused is no such fault.
 fn fault_text(alloc: Global, fault: &FormatFault) -> Result<String, Memory> {
     match fault {
-        FormatFault::Unread(fault) => told(alloc, fault),
+        FormatFault::Unread(fault) => read_fault_text(alloc, fault),
         FormatFault::Memory => Err(AllocError),
         _ => format!(in alloc; "{fault}"),
     }

@@ -1,5 +1,5 @@
 //! Tokens, places and classes.
-use crate::trees::{apart, told};
+use crate::trees::{apart, read_fault_text};
 use bz_items::Memory;
 use bz_lex::{Class, ReadFault, lex, line_and_column};
 use bz_token::token;
@@ -59,7 +59,7 @@ fn lexed(alloc: Global, text: &str) -> Result<Result<Vec<&str>, ReadFault>, Memo
 fn tokens_of(alloc: Global, text: &str) -> Result<String, Memory> {
     let tokens = match lexed(alloc, text)? {
         Ok(tokens) => tokens,
-        Err(fault) => return told(alloc, &fault),
+        Err(fault) => return read_fault_text(alloc, &fault),
     };
     let mut shown = String::new(alloc);
     let mut blank = "";

@@ -79,7 +79,7 @@ pub(crate) fn read(alloc: Global, text: &[u8]) -> Result<Result<Tree, ReadFault>
 }
 
 /// A fault as its number and its text.
-pub(crate) fn told(alloc: Global, fault: &ReadFault) -> Result<String, Memory> {
+pub(crate) fn read_fault_text(alloc: Global, fault: &ReadFault) -> Result<String, Memory> {
     let number = fault.number();
     format!(in alloc; "{number} {fault}")
 }
@@ -104,7 +104,7 @@ fn tree_of(alloc: Global, text: &[u8]) -> Result<String, Memory> {
             }
             shown(alloc, &tree.root)
         }
-        Err(fault) => told(alloc, &fault),
+        Err(fault) => read_fault_text(alloc, &fault),
     }
 }
 
@@ -126,7 +126,7 @@ fn bzl_tree_of(alloc: Global, text: &[u8]) -> Result<String, Memory> {
             }
             shown(alloc, &tree.root)
         }
-        Err(fault) => told(alloc, &fault),
+        Err(fault) => read_fault_text(alloc, &fault),
     }
 }
 
@@ -140,7 +140,7 @@ fn spelling(alloc: Global, text: &[u8]) -> Result<String, Memory> {
             let bytes = tree.len();
             format!(in alloc; "{bytes} bytes")
         }
-        Err(fault) => told(alloc, &fault),
+        Err(fault) => read_fault_text(alloc, &fault),
     }
 }
 
@@ -163,7 +163,7 @@ fn equality(alloc: Global, text: &[u8], other: &[u8]) -> Result<String, Memory> 
 /// What is between this beginning and this end, or the whole.
 fn within<'a>(shown: &'a str, begin: &str, end: &str) -> &'a str {
     match shown.strip_prefix(begin) {
-        Some(behind) => behind.strip_suffix(end).unwrap_or(shown),
+        Some(following) => following.strip_suffix(end).unwrap_or(shown),
         None => shown,
     }
 }
@@ -187,7 +187,7 @@ fn statement(alloc: Global, text: &[u8], page: &mut Page) -> Result<(), CaseFaul
 fn lines_of(alloc: Global, text: &[u8]) -> Result<String, Memory> {
     let tree = match read(alloc, text)? {
         Ok(tree) => tree,
-        Err(fault) => return told(alloc, &fault),
+        Err(fault) => return read_fault_text(alloc, &fault),
     };
     let mut lines = String::new(alloc);
     let all = tree.lines(alloc)?;

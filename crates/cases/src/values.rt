@@ -1,5 +1,5 @@
 //! File values: what a text says, its layout, and the layout of it tidied.
-use crate::trees::{read, told};
+use crate::trees::{read, read_fault_text};
 use bz_items::{Memory, Text};
 use bz_tidy::tidy;
 use bz_tree::Tree;
@@ -48,7 +48,7 @@ fn viewed(case: &Case, page: &mut Page) -> Result<(), CaseFault> {
     let alloc = case.alloc;
     let tree = match read(alloc, case.bytes(0)?)? {
         Ok(tree) => tree,
-        Err(fault) => return Ok(page.answer(told(alloc, &fault)?.as_bytes())?),
+        Err(fault) => return Ok(page.answer(read_fault_text(alloc, &fault)?.as_bytes())?),
     };
     let Some(file) = value_of(alloc, &tree)? else {
         return Ok(page.answer(b"another copy")?);
@@ -90,7 +90,7 @@ fn show_expr(alloc: Global, expr: &Expr, out: &mut Vec<u8>) -> Result<(), Memory
     match expr {
         Expr::Token(token) => {
             show_comments(token.comments.before(), out)?;
-            if token.break_ {
+            if token.line_break {
                 out.extend_from_slice(b"break ")?;
             }
             out.extend_from_slice(token.text.as_slice())?;
@@ -107,14 +107,14 @@ pub(crate) fn show_form(alloc: Global, form: &Form, out: &mut Vec<u8>) -> Result
     show_comments(form.comments.before(), out)?;
     let kind = form.kind;
     let split = if form.seq.split { " split" } else { "" };
-    let open = if form.open_ { " open" } else { "" };
+    let open = if form.open_break { " open" } else { "" };
     out.extend_from_slice(format!(in alloc; "{kind:?}{split}{open}(")?.as_bytes())?;
     show_exprs(alloc, form.parts.as_slice(), out)?;
     if bz_value::is_sequence(kind) && !form.parts.is_empty() {
         out.extend_from_slice(b": ")?;
     }
     show_exprs(alloc, form.seq.items.as_slice(), out)?;
-    show_comments(form.seq.end_.as_slice(), out)?;
+    show_comments(form.seq.end.as_slice(), out)?;
     out.extend_from_slice(b")")?;
     show_suffix(&form.comments, out)
 }
@@ -153,7 +153,7 @@ fn tidied(alloc: Global, file: File) -> Result<File, Memory> {
 fn layout_of(alloc: Global, text: &[u8], is_tidied: bool) -> Result<LaidOut, Memory> {
     let tree = match read(alloc, text)? {
         Ok(tree) => tree,
-        Err(fault) => return Ok(LaidOut::Refused(told(alloc, &fault)?)),
+        Err(fault) => return Ok(LaidOut::Refused(read_fault_text(alloc, &fault)?)),
     };
     let Some(file) = value_of(alloc, &tree)? else {
         return Ok(LaidOut::Refused(String::from_str(alloc, "another copy")?));

@@ -27,11 +27,11 @@ pub(crate) enum Way {
     /// A write to standard output.
     Write,
     /// A write to standard error.
-    Tell,
+    Report,
     /// A call of the files before its work.
     FileBefore,
     /// A call of the files when its work is done.
-    FileBehind,
+    FileAfter,
     /// All calls of the files from one on.
     FilesFrom,
 }
@@ -59,7 +59,7 @@ enum Breach {
     Status,
     Output,
     File,
-    Untold,
+    Unreported,
     Line,
     Written,
     Errors,
@@ -86,8 +86,8 @@ impl Way {
         matches!(self, Way::Write)
     }
 
-    fn is_tell(self) -> bool {
-        matches!(self, Way::Tell)
+    fn is_report(self) -> bool {
+        matches!(self, Way::Report)
     }
 
     /// By what a run is cut in which this fails.
@@ -95,8 +95,8 @@ impl Way {
         match self {
             Way::Read => Cut::Read,
             Way::Write => Cut::Write,
-            Way::Tell => Cut::Whole,
-            Way::FileBefore | Way::FileBehind | Way::FilesFrom => Cut::Files,
+            Way::Report => Cut::Whole,
+            Way::FileBefore | Way::FileAfter | Way::FilesFrom => Cut::Files,
         }
     }
 
@@ -104,9 +104,9 @@ impl Way {
         match self {
             Way::Read => "a read of standard input fails",
             Way::Write => "a write to standard output fails",
-            Way::Tell => "a write to standard error fails",
+            Way::Report => "a write to standard error fails",
             Way::FileBefore => "a call of the files fails before its work",
-            Way::FileBehind => "a call of the files fails behind its work",
+            Way::FileAfter => "a call of the files fails behind its work",
             Way::FilesFrom => "the calls of the files fail from one on",
         }
     }
@@ -130,8 +130,8 @@ impl Failure {
         self.of(self.way.is_write())
     }
 
-    pub(crate) fn of_tells(self) -> (usize, u64) {
-        self.of(self.way.is_tell())
+    pub(crate) fn of_reports(self) -> (usize, u64) {
+        self.of(self.way.is_report())
     }
 
     pub(crate) fn way(self) -> Way {
@@ -161,7 +161,7 @@ impl Breach {
             Breach::Status => "the status is not that of a failure",
             Breach::Output => "standard output is not what was to be written before",
             Breach::File => "a file holds bytes that no sound run gives it",
-            Breach::Untold => "nothing says what failed",
+            Breach::Unreported => "nothing says what failed",
             Breach::Line => "a line on standard error says something else",
             Breach::Written => "a file is told as not written, and was",
             Breach::Errors => "standard error lacks more than the end of a line",
@@ -269,15 +269,15 @@ impl<'a> Trial<'a> {
         }
         self.sweep(Way::Read, STEP, MOST, page)?;
         self.sweep(Way::Write, STEP, MOST, page)?;
-        self.sweep(Way::Tell, STEP, MOST, page)?;
+        self.sweep(Way::Report, STEP, MOST, page)?;
         let calls = self.sweep(Way::FileBefore, STEP, MOST, page)?;
         for call in 1..calls.saturating_add(1) {
-            self.try_call(Way::FileBehind, STEP, call, page)?;
+            self.try_call(Way::FileAfter, STEP, call, page)?;
             self.try_call(Way::FilesFrom, STEP, call, page)?;
         }
         self.bytewise(Way::Read, self.task.input, page)?;
         self.bytewise(Way::Write, self.sound.out.bytes(), page)?;
-        self.bytewise(Way::Tell, self.sound.err.bytes(), page)
+        self.bytewise(Way::Report, self.sound.err.bytes(), page)
     }
 
     /// The same of a device that takes a byte a call, where its text is short: there are as many calls as bytes, and one more
@@ -298,7 +298,7 @@ impl<'a> Trial<'a> {
                 call: calls,
                 step: 1,
             };
-            self.tell(failure, Breach::Calls, page)?;
+            self.report(failure, Breach::Calls, page)?;
         }
         Ok(())
     }
@@ -332,21 +332,21 @@ impl<'a> Trial<'a> {
             self.change(&left)
         };
         if let Some(breach) = breach {
-            self.tell(failure, breach, page)?;
+            self.report(failure, breach, page)?;
         }
         Ok(is_met)
     }
 
     /// Whether something failed in a run: it is then cut, or something is missing on standard error.
     fn is_met(&self, way: Way, left: &Left) -> bool {
-        if way.is_tell() {
+        if way.is_report() {
             left.err.bytes() != self.sound.err.bytes()
         } else {
             left.exit.cut != Cut::Whole
         }
     }
 
-    fn tell(&self, failure: Failure, breach: Breach, page: &mut Page) -> Result<(), CaseFault> {
+    fn report(&self, failure: Failure, breach: Breach, page: &mut Page) -> Result<(), CaseFault> {
         let (way, call, step) = (failure.way.name(), failure.call, failure.step);
         let sentence = breach.sentence();
         let line = format!(in self.task.alloc;
@@ -387,8 +387,8 @@ impl<'a> Trial<'a> {
         if left.exit.cut != failure.way.cut() {
             return Some(Breach::Cut);
         }
-        if failure.way.is_tell() {
-            return self.breach_of_tell(failure, left);
+        if failure.way.is_report() {
+            return self.breach_of_report(failure, left);
         }
         if !self.is_failed(failure.way, left.exit.status) {
             return Some(Breach::Status);
@@ -406,15 +406,15 @@ impl<'a> Trial<'a> {
     }
 
     /// A fault of standard error is passed over.
-    fn breach_of_tell(&self, failure: Failure, left: &Left) -> Option<Breach> {
+    fn breach_of_report(&self, failure: Failure, left: &Left) -> Option<Breach> {
         if !self.is_sound_beside(left) {
             return Some(Breach::Changed);
         }
-        let (told, whole) = (left.err.bytes(), self.sound.err.bytes());
+        let (reported, whole) = (left.err.bytes(), self.sound.err.bytes());
         let is_cut = if failure.is_bytewise() {
-            is_cut_at(told, whole, failure.before())
+            is_cut_at(reported, whole, failure.before())
         } else {
-            is_cut_once(told, whole)
+            is_cut_once(reported, whole)
         };
         if is_cut { None } else { Some(Breach::Errors) }
     }
@@ -472,7 +472,7 @@ impl<'a> Trial<'a> {
         }
         for &(name, before) in self.task.given {
             if left.files.bytes_at(name) != Some(before)
-                && tells_unwritten(left.err.bytes(), name)
+                && reports_unwritten(left.err.bytes(), name)
             {
                 return true;
             }
@@ -492,24 +492,24 @@ impl<'a> Trial<'a> {
 
     /// Each line is one of a sound run or says what failed, and one says what failed unless that changed nothing.
     fn breach_of_lines(&self, left: &Left) -> Option<Breach> {
-        let mut is_told = false;
+        let mut is_reported = false;
         for line in left.err.bytes().split(|byte| *byte == b'\n') {
             if is_fault_line(line) {
-                is_told = is_told || !has_line(self.sound.err.bytes(), line);
+                is_reported = is_reported || !has_line(self.sound.err.bytes(), line);
             } else if !self.is_known(line) {
                 return Some(Breach::Line);
             }
         }
-        if is_told || self.change(left).is_none() {
+        if is_reported || self.change(left).is_none() {
             None
         } else {
-            Some(Breach::Untold)
+            Some(Breach::Unreported)
         }
     }
 }
 
 /// Whether a line says that this file was not written.
-fn tells_unwritten(text: &[u8], name: &str) -> bool {
+fn reports_unwritten(text: &[u8], name: &str) -> bool {
     text.split(|byte| *byte == b'\n').any(|line| line.strip_suffix(b": cannot write")
         == Some(name.as_bytes()))
 }

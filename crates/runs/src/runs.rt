@@ -111,7 +111,7 @@ impl Task<'_> {
         let mut source = MemorySource::new(self.input, step, call);
         let (step, call) = failure.of_writes();
         let mut out = MemorySink::new(alloc, step, call);
-        let (step, call) = failure.of_tells();
+        let (step, call) = failure.of_reports();
         let mut err = MemorySink::new(alloc, step, call);
         let exit = if self.program.is_buildifier() {
             buildifier(alloc, self.words, &mut source, &mut out, &mut err, files)
@@ -135,9 +135,9 @@ impl Task<'_> {
 fn plan(failure: Failure, files: &mut MemoryFiles) {
     match failure.way() {
         Way::FileBefore => files.fail_at(failure.call()),
-        Way::FileBehind => files.fail_behind(failure.call()),
+        Way::FileAfter => files.fail_after(failure.call()),
         Way::FilesFrom => files.stop_at(failure.call()),
-        Way::Read | Way::Write | Way::Tell => {}
+        Way::Read | Way::Write | Way::Report => {}
     }
 }
 

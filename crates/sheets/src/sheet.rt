@@ -16,20 +16,20 @@ enum Line<'a> {
 }
 
 /// What is after a mark and a space.
-fn behind(line: &str, mark: char) -> Option<&str> {
+fn following(line: &str, mark: char) -> Option<&str> {
     let text = line.strip_prefix(mark)?;
     Some(text.strip_prefix(' ').unwrap_or(text))
 }
 
 impl<'a> Line<'a> {
     fn read(line: &'a str) -> Line<'a> {
-        if let Some(text) = behind(line, '>') {
+        if let Some(text) = following(line, '>') {
             return Line::Case(text);
         }
-        if let Some(text) = behind(line, '&') {
+        if let Some(text) = following(line, '&') {
             return Line::Further(text);
         }
-        if let Some(text) = behind(line, '|') {
+        if let Some(text) = following(line, '|') {
             return Line::Next(text);
         }
         if line.is_empty() || line.starts_with('#') {
@@ -105,7 +105,7 @@ impl<Q: Question> Reader<Q> {
         self.page.copy(line)?;
         match read {
             Line::Remark => Ok(()),
-            Line::Question(question) => self.ask(question),
+            Line::Question(question) => self.pose(question),
             Line::Case(text) => {
                 self.owner = Owner::Case;
                 self.begin_text(text)
@@ -115,7 +115,7 @@ impl<Q: Question> Reader<Q> {
         }
     }
 
-    fn ask(&mut self, question: &str) -> Result<(), Memory> {
+    fn pose(&mut self, question: &str) -> Result<(), Memory> {
         let (name, argument) = question.split_once(' ').unwrap_or((question, ""));
         self.question = Q::named(name);
         self.argument = String::from_str(self.alloc, argument)?;

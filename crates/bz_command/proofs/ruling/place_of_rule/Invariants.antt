@@ -10,5 +10,5 @@ abbrev pub invariant-loop-at : goal.invariant-loop-at
 invariant-loop-at l = record {
   any : list_any (has_name l.name) l.items ≡ list_any (has_name l.name) (drop l.at l.items);
   before : (new : Item) → before_first l.name new l.items ≡ take l.at l.items ++ before_first l.name new (drop l.at l.items);
-  behind : (new : Item) → after_rule l.name new l.items ≡ take l.at l.items ++ after_rule l.name new (drop l.at l.items);
+  following : (new : Item) → after_rule l.name new l.items ≡ take l.at l.items ++ after_rule l.name new (drop l.at l.items);
 }

@@ -18,7 +18,7 @@ returns-clause-whole g c = λ whole.
       led_to done.file.history done.history (action_in c.args.action.now) c.args.command.now refusal done.acts (c.refuse-in-Err.ensures.whole whole),
       was_refused c.args.place done.file refusal done.history (progress_in c.args.run.now) (progress_in c.refuse-in-Err.new.run) c.act.new.self
           c.refuse-in-Err.ensures.state done.kept,
-      c.refuse-in-Err.ensures.told new
+      c.refuse-in-Err.ensures.reported new
           (file_put c.args.place c.args.run.now.workspace c.act.new.self done.file new done.there done.kept),
     )
 

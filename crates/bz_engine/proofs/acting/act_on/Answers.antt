@@ -2,10 +2,10 @@ use Rattle.std.proofs.Common.{inl, inr, refl, ◌∙◌, ◌&&◌, [], Bool, Opt
 use Rattle.std.specs.Option.{option_map_or}
 use Rattle.std.specs.Prelude.{option_map}
 use Rattle.bz_workspace.specs.Sessions.{action_in}
-use Rattle.bz_line.specs.Shown.{asking_in}
+use Rattle.bz_line.specs.Shown.{request_in}
 use Rattle.bz_workspace.specs.Packages.{Opened, file_at}
 use Rattle.bz_engine.specs.Keeping.{is_left_at}
-use Rattle.bz_engine.specs.Run.{told_of}
+use Rattle.bz_engine.specs.Run.{reported_of}
 use Rattle.bz_engine.specs.Shown.{progress_in}
 use Rattle.bz_engine.specs.Steps.{step_of}
 use Rattle.bz_engine.proofs.ActSteps.{some_of}
@@ -17,7 +17,7 @@ pub returns-in-None-clause-whole : goal.returns-in-None-clause-whole
 returns-in-None-clause-whole g c = λ plain whole.
     let done = c.list_at.ensures.whole whole in (
       [],
-      listed_answers (step_of c.args.target.now (asking_in c.args.asking.now)) c.args.place (file_at c.args.place c.args.run.now.workspace) done.0 (progress_in c.args.run.now)
+      listed_answers (step_of c.args.target.now (request_in c.args.request.now)) c.args.place (file_at c.args.place c.args.run.now.workspace) done.0 (progress_in c.args.run.now)
           (progress_in c.list_at.new.run) done.1 (sym (ap (option_map action_in) c.in-None.is) ∙ c.action_of.ensures) done.2,
       done.3,
     )
@@ -26,7 +26,7 @@ pub returns-in-None-clause-beside : goal.returns-in-None-clause-beside
 returns-in-None-clause-beside g c = λ kept honest stand whole.
     let done = c.list_at.ensures.whole whole in (
       [],
-      listed_beside (step_of c.args.target.now (asking_in c.args.asking.now)) c.args.place (file_at c.args.place c.args.run.now.workspace) done.0
+      listed_beside (step_of c.args.target.now (request_in c.args.request.now)) c.args.place (file_at c.args.place c.args.run.now.workspace) done.0
           (g.F.Files.folder c.args.files.now) (progress_in c.args.run.now) (progress_in c.list_at.new.run) done.1
           (sym (ap (option_map action_in) c.in-None.is) ∙ c.action_of.ensures) done.2,
       done.3,
@@ -50,8 +50,8 @@ returns-in-None-clause-keeps g c = λ kept. inl (c.list_at.ensures.same, refl)
 pub returns-then-journals-clause-beside : goal.returns-then-journals-clause-beside
 returns-then-journals-clause-beside g c = λ kept honest stand whole.
     let done = c.keep_at.ensures.whole honest stand whole in
-    let step = step_of c.args.target.now (asking_in c.args.asking.now) in (
-      told_of done.0.name step.asking.text done.1,
+    let step = step_of c.args.target.now (request_in c.args.request.now) in (
+      reported_of done.0.name step.request.text done.1,
       acted_beside step c.args.place (file_at c.args.place c.args.run.now.workspace) done.0 (action_in c.in-Some.action) done.1 done.2
           (g.F.Files.folder c.args.files.now) (g.F.Files.folder c.keep_at.new.files) (progress_in c.args.run.now) (progress_in c.keep_at.new.run) done.3
           (sym (ap (option_map action_in) c.in-Some.is) ∙ c.action_of.ensures) done.4 done.5 done.6,

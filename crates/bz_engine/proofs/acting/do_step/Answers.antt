@@ -1,6 +1,6 @@
 use Rattle.std.proofs.Common.{◌≡◌, ◌∙◌, ◌++◌, true, refl, ap, sym, subst}
-use Rattle.bz_line.specs.Shown.{asking_in}
-use Rattle.bz_ports.proofs.Outputs.{counts_more, tells_more}
+use Rattle.bz_line.specs.Shown.{request_in}
+use Rattle.bz_ports.proofs.Outputs.{counts_more, reports_more}
 use Rattle.bz_files.specs.Folder.{Folder}
 use Rattle.bz_items.specs.Characters.{Bytes}
 use Rattle.bz_workspace.specs.Packages.{file_at}
@@ -8,7 +8,7 @@ use Rattle.bz_engine.specs.Calls.{UsesSome}
 use Rattle.bz_engine.specs.Keeping.{AllAreKept}
 use Rattle.bz_engine.specs.Shown.{progress_in}
 use Rattle.bz_engine.specs.Steps.{input_package, step_of}
-use Rattle.bz_engine.proofs.CutSteps.{both_whole, by_name, cut_behind, neither_read, works_unread}
+use Rattle.bz_engine.proofs.CutSteps.{both_whole, by_name, cut_after, neither_read, works_unread}
 use Rattle.bz_engine.proofs.DoSteps.{beside_there, beside_nowhere, done_there, done_nowhere}
 use Rattle.bz_engine.proofs.OpenSteps.{left_after}
 use Rattle.bz_engine.proofs.SafeSteps.{step_acted, step_still}
@@ -23,7 +23,7 @@ returns-in-Some g c =
     let named = c.package_of-package.ensures in
     let folder = g.F.Files.folder in
     let is_honest = g.F.Files.honest c.args.files.now ≡ true in
-    let step = step_of c.args.target.now (asking_in c.args.asking.now) in
+    let step = step_of c.args.target.now (request_in c.args.request.now) in
     let before = progress_in c.args.run.now in
     let after = progress_in c.act_on.new.run in
     let used = opening.new.workspace in
@@ -39,7 +39,7 @@ returns-in-Some g c =
             done_there (record { folder = g.F.Files.folder c.args.files.now; known = known }) step before after used opening.result.place opened.0 at name
                 opened.1 done.0 named opened.2 c.in-Some.is opened.3 done.1,
             left_after known (g.R.Source.remaining opening.new.input) step at (file_at at used) (record before { used = used }) after done.0 done.1 opened.4,
-            tells_more (g.E.Sink.faults c.args.err.now) (g.E.Sink.faults opening.new.err) (g.E.Sink.faults c.act_on.new.err)
+            reports_more (g.E.Sink.faults c.args.err.now) (g.E.Sink.faults opening.new.err) (g.E.Sink.faults c.act_on.new.err)
                 (g.E.Sink.contents c.args.err.now) (g.E.Sink.contents opening.new.err) (g.E.Sink.contents c.act_on.new.err) opened.1 done.0 opened.5 done.2,
           );
       folder = λ plain can. ap g.F.Files.folder (c.act_on.ensures.still plain)
@@ -57,7 +57,7 @@ returns-in-Some g c =
             opened.1 ++ done.0,
             beside_there step (folder c.args.files.now) (folder opening.new.files) (folder c.act_on.new.files) before after used opening.result.place opened.0 at name
                 opened.1 done.0 named still opened.2 c.in-Some.is opened.3 done.1,
-            tells_more (g.E.Sink.faults c.args.err.now) (g.E.Sink.faults opening.new.err) (g.E.Sink.faults c.act_on.new.err)
+            reports_more (g.E.Sink.faults c.args.err.now) (g.E.Sink.faults opening.new.err) (g.E.Sink.faults c.act_on.new.err)
                 (g.E.Sink.contents c.args.err.now) (g.E.Sink.contents opening.new.err) (g.E.Sink.contents c.act_on.new.err) opened.1 done.0 opened.4 done.2,
           );
       safely = λ kept honest began.
@@ -72,10 +72,10 @@ returns-in-Some g c =
           );
       works = λ sound is. neither_read opening.result.cut c.act_on.result (opening.ensures.works sound) unread (sym c.first_cut.ensures ∙ is);
       sound = opening.ensures.sound;
-      cut = cut_behind opening.result.cut c.act_on.result c.first_cut.result (g.R.Source.faults c.args.input.now) (g.R.Source.faults opening.new.input)
+      cut = cut_after opening.result.cut c.act_on.result c.first_cut.result (g.R.Source.faults c.args.input.now) (g.R.Source.faults opening.new.input)
           (g.F.Files.faults c.args.files.now) (g.F.Files.faults opening.new.files) (g.F.Files.faults c.act_on.new.files) c.first_cut.ensures works.cut
-          opening.ensures.cut opening.ensures.reads opening.ensures.counts works.counts;
-      reads = opening.ensures.reads;
+          opening.ensures.cut opening.ensures.read_faults opening.ensures.counts works.counts;
+      read_faults = opening.ensures.read_faults;
       counts = counts_more (g.F.Files.faults c.args.files.now) (g.F.Files.faults opening.new.files) (g.F.Files.faults c.act_on.new.files)
           opening.ensures.counts works.counts;
       honest = works.honest ∙ opening.ensures.honest;
@@ -94,7 +94,7 @@ returns-in-None g c =
       does = λ plain can whole known left.
           let opened = opening.ensures.uses plain (by_name is_honest name c.args.target.now.«package» input_package named can) whole known left in (
             opened.1,
-            done_nowhere (record { folder = g.F.Files.folder c.args.files.now; known = known }) (step_of c.args.target.now (asking_in c.args.asking.now))
+            done_nowhere (record { folder = g.F.Files.folder c.args.files.now; known = known }) (step_of c.args.target.now (request_in c.args.request.now))
                 before used opening.result.place opened.0 name opened.1 named opened.2 c.in-None.is opened.3,
             opened.4,
             opened.5,
@@ -106,12 +106,12 @@ returns-in-None g c =
       keeps = λ kept honest whole stand.
           let opened = opening.ensures.beside kept honest whole in (
             opened.1,
-            beside_nowhere (step_of c.args.target.now (asking_in c.args.asking.now)) (folder c.args.files.now) (folder opening.new.files) before used
+            beside_nowhere (step_of c.args.target.now (request_in c.args.request.now)) (folder c.args.files.now) (folder opening.new.files) before used
                 opening.result.place opened.0 name opened.1 named (opening.ensures.kept kept honest) opened.2 c.in-None.is opened.3,
             opened.4,
           );
       safely = λ kept honest began.
-          step_still g.F.Files g.met.F.Files.counts_now began (step_of c.args.target.now (asking_in c.args.asking.now)) before.used used used opening.result.place
+          step_still g.F.Files g.met.F.Files.counts_now began (step_of c.args.target.now (request_in c.args.request.now)) before.used used used opening.result.place
           c.args.files.now opening.new.files
           (subst (λ (n : Bytes). UsesSome (folder c.args.files.now) n opening.result.place before.used used) named (opening.ensures.some kept honest))
           (opening.ensures.kept kept honest) (opening.ensures.time kept honest) refl;
@@ -119,7 +119,7 @@ returns-in-None g c =
       works = opening.ensures.works;
       sound = opening.ensures.sound;
       cut = opening.ensures.cut;
-      reads = opening.ensures.reads;
+      read_faults = opening.ensures.read_faults;
       counts = opening.ensures.counts;
       honest = opening.ensures.honest;
     }

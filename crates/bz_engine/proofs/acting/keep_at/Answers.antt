@@ -7,7 +7,7 @@ use Rattle.bz_workspace.specs.Sessions.{action_in}
 use Rattle.bz_engine.specs.Shown.{progress_in}
 use Rattle.bz_engine.proofs.ActSteps.{file_put, led_on, led_to, was_refused}
 use Rattle.bz_engine.specs.Run.{Progress}
-use Rattle.bz_engine.proofs.KeepSteps.{changed_of, kept_behind, kept_by, kept_open, not_changed, was_kept}
+use Rattle.bz_engine.proofs.KeepSteps.{changed_of, kept_after, kept_by, kept_open, not_changed, was_kept}
 use Rattle.bz_engine.proofs.StandSteps.{follows, package_at}
 use Rattle.bz_engine.proofs.acting.keep_at.Goals as goal
 
@@ -27,7 +27,7 @@ returns-in-Ok-put_printed-clause-whole g c = λ honest stand whole.
       done.history,
       done.there,
       leads,
-      kept_behind F file done.history reply c.args.files.now c.keep.new.files honest holds (follows action note file.history done.history (Ok reply) leads) done.pair,
+      kept_after F file done.history reply c.args.files.now c.keep.new.files honest holds (follows action note file.history done.history (Ok reply) leads) done.pair,
       was_kept c.args.place file reply done.history (progress_in c.args.run.now) _ c.keep.new.self _ refl done.kept c.in-Ok-put_printed.ensures.ok,
       (refl, refl),
     )
@@ -51,7 +51,7 @@ returns-in-Err-Refused-clause-whole g c = λ honest stand whole.
       ap F.folder (done.pair.refused tt),
       was_refused c.args.place done.file refusal done.history (progress_in c.args.run.now) (progress_in c.refuse-in-Err-Refused.new.run) c.keep.new.self
           c.refuse-in-Err-Refused.ensures.state done.kept,
-      c.refuse-in-Err-Refused.ensures.told new (file_put c.args.place old c.keep.new.self done.file new done.there done.kept),
+      c.refuse-in-Err-Refused.ensures.reported new (file_put c.args.place old c.keep.new.self done.file new done.there done.kept),
     )
 
 pub returns-clause-whole : goal.returns-clause-whole

@@ -1,10 +1,10 @@
 use Rattle.std.proofs.Common.{◌≡◌, ◌⊎◌, inl, inr, ◌∙◌, ◌++◌, ◌∷◌, [], ◌+◌, true, map, take, ap, sym}
 use Rattle.std.proofs.lemmas.List.{map_more}
-use Rattle.bz_ports.proofs.Outputs.{tells_more}
+use Rattle.bz_ports.proofs.Outputs.{reports_more}
 use Rattle.bz_workspace.specs.Shown.{used_in}
 use Rattle.bz_workspace.specs.declared.used.Used.{Used}
 use Rattle.bz_engine.specs.Ending.{writing_of, all_fixed, all_writings, fixed_lines, fixed_of}
-use Rattle.bz_engine.proofs.CutSteps.{whole_before, whole_behind}
+use Rattle.bz_engine.proofs.CutSteps.{whole_before, whole_after}
 use Rattle.bz_engine.proofs.EndingSteps.{flat_map-last, nothing_at, writes_more, fixed_lines-append}
 use Rattle.bz_engine.proofs.KeepSteps.{works_more}
 use Rattle.bz_engine.proofs.ending.write_files.Goals as goal
@@ -40,14 +40,14 @@ loop-used-preserved g c =
           ∙ nothing_at (writing_of to_stdout) used_in packages at item c.loop-used-test.true none)
     ] in
     rw (c.first_cut-cut.ensures) record {
-      told = λ whole. rw (fixed, fixed_lines-append quiet all_so_far one_fixed)
-          (tells_more (E.faults c.args.err.now) (E.faults l.err) (E.faults later.new.err) (E.contents c.args.err.now) (E.contents l.err)
+      reported = λ whole. rw (fixed, fixed_lines-append quiet all_so_far one_fixed)
+          (reports_more (E.faults c.args.err.now) (E.faults l.err) (E.faults later.new.err) (E.contents c.args.err.now) (E.contents l.err)
           (E.contents later.new.err) (fixed_lines quiet all_so_far) (fixed_lines quiet one_fixed)
-          (l.invariant.told (whole_before l.cut later.result whole)) (later.ensures.told (whole_behind l.cut later.result whole)));
+          (l.invariant.reported (whole_before l.cut later.result whole)) (later.ensures.reported (whole_after l.cut later.result whole)));
       kept = λ kept. later.ensures.kept kept ∙ l.invariant.kept kept;
       writes = λ plain either whole. rw (all)
           (writes_more (all_writings to_stdout so_far) one (F.folder c.args.files.now) (F.folder l.files) (F.folder later.new.files)
           (l.invariant.writes plain either (whole_before l.cut later.result whole))
-          (later.ensures.writes plain (so either) (whole_behind l.cut later.result whole)));
+          (later.ensures.writes plain (so either) (whole_after l.cut later.result whole)));
       works = works_more g.F.Files l.cut later.result c.args.files.now l.files later.new.files l.invariant.works later.ensures.works;
     }

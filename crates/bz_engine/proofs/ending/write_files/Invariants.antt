@@ -1,14 +1,14 @@
 use Rattle.std.proofs.Common.{◌≡◌, ◌⊎◌, true, false, [], map, take}
 use Rattle.bz_ports.specs.declared.exit.Cut.TheVariants as c
 use Rattle.bz_workspace.specs.Shown.{used_in}
-use Rattle.bz_engine.specs.Calls.{TellsLines, WorksOn}
+use Rattle.bz_engine.specs.Calls.{ReportsLines, WorksOn}
 use Rattle.bz_engine.specs.Ending.{all_fixed, all_writings, WritesFiles, fixed_lines}
 use Rattle.bz_engine.proofs.ending.write_files.Given as goal
 
 -- what the packages so far leave
 abbrev pub invariant-loop-used : goal.invariant-loop-used
 invariant-loop-used g l = record {
-  told : l.cut ≡ c.Whole → TellsLines g.E.Sink l.fn.err l.err
+  reported : l.cut ≡ c.Whole → ReportsLines g.E.Sink l.fn.err l.err
       (fixed_lines l.options.quiet (all_fixed l.options.journal l.options.to_stdout (map used_in (take l.used-index l.packages))));
   kept : l.options.journal ≡ true → l.files ≡ l.fn.files;
   writes : l.options.journal ≡ false → (g.F.Files.honest l.fn.files ≡ true) ⊎ (all_writings l.options.to_stdout (map used_in l.packages) ≡ []) → l.cut ≡ c.Whole

@@ -5,21 +5,21 @@ use Rattle.bz_line.specs.Shown.{given_in, line_in, line_usage_in}
 use Rattle.bz_ports.proofs.Outputs.{appends_nothing}
 use Rattle.bz_engine.specs.Outcome.{GivesNothing, LineGivesNothing}
 use Rattle.bz_engine.specs.Run.{World}
-use Rattle.bz_engine.proofs.Outcomes.{line_usage_told, words_refused, words_done, words_kept, words_premise, words_of_input, script_premise}
+use Rattle.bz_engine.proofs.Outcomes.{line_usage_reported, words_refused, words_done, words_kept, words_premise, words_of_input, script_premise}
 use Rattle.bz_engine.proofs.MomentSteps.{by_words, each_of, no_words}
 use Rattle.bz_engine.proofs.UnusedSteps.{no_time, lines_apart, lines_of_input}
-use Rattle.bz_engine.proofs.UsageSteps.{words_told, given_told}
+use Rattle.bz_engine.proofs.UsageSteps.{words_reported, given_reported}
 use Rattle.bz_engine.proofs.engine.buildozer.Goals as goal
 
 pub returns-in-Err-clause-whole : goal.returns-in-Err-clause-whole
 returns-in-Err-clause-whole g c premise is_whole =
-    let exit = c.tell_line_usage.ensures.whole is_whole in
-    let told = line_usage_told (line_usage_in c.in-Err.fault) (g.E.Sink.faults c.args.err.now) (g.E.Sink.faults c.tell_line_usage.new.err)
-    (g.E.Sink.contents c.args.err.now) (g.E.Sink.contents c.tell_line_usage.new.err) (c.tell_line_usage.ensures.some exit) (c.tell_line_usage.ensures.told exit) in
+    let exit = c.report_line_usage.ensures.whole is_whole in
+    let reported = line_usage_reported (line_usage_in c.in-Err.fault) (g.E.Sink.faults c.args.err.now) (g.E.Sink.faults c.report_line_usage.new.err)
+    (g.E.Sink.contents c.args.err.now) (g.E.Sink.contents c.report_line_usage.new.err) (c.report_line_usage.ensures.some exit) (c.report_line_usage.ensures.reported exit) in
     let world : World = record { folder = g.F.Files.folder c.args.files.now; known = g.R.Source.remaining c.args.input.now } in
-    words_refused (map g.S.AsStr.text c.args.words.now) world (line_usage_in c.in-Err.fault) told.0 told.1 c.tell_line_usage.result.status
-    (g.W.Sink.contents c.args.out.now) (g.E.Sink.faults c.args.err.now) (g.E.Sink.faults c.tell_line_usage.new.err) (g.E.Sink.contents c.args.err.now)
-    (g.E.Sink.contents c.tell_line_usage.new.err) c.in-Err.ensures.err told.2 told.3 exit told.4
+    words_refused (map g.S.AsStr.text c.args.words.now) world (line_usage_in c.in-Err.fault) reported.0 reported.1 c.report_line_usage.result.status
+    (g.W.Sink.contents c.args.out.now) (g.E.Sink.faults c.args.err.now) (g.E.Sink.faults c.report_line_usage.new.err) (g.E.Sink.contents c.args.err.now)
+    (g.E.Sink.contents c.report_line_usage.new.err) c.in-Err.ensures.err reported.2 reported.3 exit reported.4
 
 pub returns-in-Operands-clause-whole : goal.returns-in-Operands-clause-whole
 returns-in-Operands-clause-whole g c premise is_whole =
@@ -82,12 +82,12 @@ returns-clause-unread g c nothing =
 
 pub returns-in-Err-clause-usage : goal.returns-in-Err-clause-usage
 returns-in-Err-clause-usage g c is is_whole =
-    let told = line_usage_told (line_usage_in c.in-Err.fault) (g.E.Sink.faults c.args.err.now) (g.E.Sink.faults c.tell_line_usage.new.err)
-    (g.E.Sink.contents c.args.err.now) (g.E.Sink.contents c.tell_line_usage.new.err) (c.tell_line_usage.ensures.some is) (c.tell_line_usage.ensures.told is) in
+    let reported = line_usage_reported (line_usage_in c.in-Err.fault) (g.E.Sink.faults c.args.err.now) (g.E.Sink.faults c.report_line_usage.new.err)
+    (g.E.Sink.contents c.args.err.now) (g.E.Sink.contents c.report_line_usage.new.err) (c.report_line_usage.ensures.some is) (c.report_line_usage.ensures.reported is) in
     let world : World = record { folder = g.F.Files.folder c.args.files.now; known = g.R.Source.remaining c.args.input.now } in
-    words_told (g.F.Files.honest c.args.files.now) world (map g.S.AsStr.text c.args.words.now) (line_usage_in c.in-Err.fault) told.0 told.1
-    (g.E.Sink.faults c.args.err.now) (g.E.Sink.faults c.tell_line_usage.new.err) (g.E.Sink.contents c.args.err.now) (g.E.Sink.contents c.tell_line_usage.new.err)
-    c.in-Err.ensures.err told.2 told.3 told.4
+    words_reported (g.F.Files.honest c.args.files.now) world (map g.S.AsStr.text c.args.words.now) (line_usage_in c.in-Err.fault) reported.0 reported.1
+    (g.E.Sink.faults c.args.err.now) (g.E.Sink.faults c.report_line_usage.new.err) (g.E.Sink.contents c.args.err.now) (g.E.Sink.contents c.report_line_usage.new.err)
+    c.in-Err.ensures.err reported.2 reported.3 reported.4
 
 pub returns-in-Operands-clause-usage : goal.returns-in-Operands-clause-usage
 returns-in-Operands-clause-usage g c is is_whole =
@@ -95,7 +95,7 @@ returns-in-Operands-clause-usage g c is is_whole =
     let texts = map (λ (s : Bor (List ℕ)). s.now) c.deref.result.now in
     let same : line.given ≡ operands texts = ap given_in c.in-Operands.is ∙ ap (λ (these : List (Bor (List ℕ))). operands (map (λ (s : Bor (List ℕ)). s.now) these)) (sym c.deref.ensures.value) in
     let world : World = record { folder = g.F.Files.folder c.args.files.now; known = g.R.Source.remaining c.args.input.now } in
-    given_told (g.F.Files.honest c.args.files.now) world (map g.S.AsStr.text c.args.words.now) line (operands texts) (g.E.Sink.faults c.args.err.now)
+    given_reported (g.F.Files.honest c.args.files.now) world (map g.S.AsStr.text c.args.words.now) line (operands texts) (g.E.Sink.faults c.args.err.now)
     (g.E.Sink.faults c.run_operands.new.err) (g.E.Sink.contents c.args.err.now) (g.E.Sink.contents c.run_operands.new.err) c.in-Ok.ensures.ok same
     (c.run_operands.ensures.usage is)
 
@@ -105,7 +105,7 @@ returns-clause-usage g c is is_whole =
     let name = c.in-Script.name.now in
     let same : line.given ≡ script name = ap given_in c.in-Script.is in
     let world : World = record { folder = g.F.Files.folder c.args.files.now; known = g.R.Source.remaining c.args.input.now } in
-    given_told (g.F.Files.honest c.args.files.now) world (map g.S.AsStr.text c.args.words.now) line (script name) (g.E.Sink.faults c.args.err.now)
+    given_reported (g.F.Files.honest c.args.files.now) world (map g.S.AsStr.text c.args.words.now) line (script name) (g.E.Sink.faults c.args.err.now)
     (g.E.Sink.faults c.run_script.new.err) (g.E.Sink.contents c.args.err.now) (g.E.Sink.contents c.run_script.new.err) c.in-Ok.ensures.ok same
     (c.run_script.ensures.usage is is_whole)
 

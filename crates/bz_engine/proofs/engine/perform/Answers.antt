@@ -1,5 +1,5 @@
 use Rattle.std.proofs.Common.{[], ◌∙◌, true≢false, inl, inr, refl, map, ap, subst, sym}
-use Rattle.bz_line.specs.Shown.{asked_in}
+use Rattle.bz_line.specs.Shown.{requested_in}
 use Rattle.bz_engine.specs.Calls.{PassesBy}
 use Rattle.bz_engine.specs.Keeping.{AllAreKept}
 use Rattle.bz_engine.specs.Moments.{AllAreSafe, IsMeanwhile, IsMomentOfSteps}
@@ -7,9 +7,9 @@ use Rattle.bz_engine.specs.Outcome.{AreOfInput, unused}
 use Rattle.bz_engine.specs.Run.{World, Progress}
 use Rattle.bz_engine.specs.Shown.{progress_in}
 use Rattle.bz_engine.specs.Steps.{all_steps, names_input}
-use Rattle.bz_engine.proofs.Performing.{performed, performed_beside, broken_off, broken_beside, honest_still, uncut, told_apart, plain_premise, kept_premise}
-use Rattle.bz_engine.specs.Told.{no_journal_line}
-use Rattle.bz_engine.proofs.Outcomes.{both_true, lines_premise, stands_unused, told_once}
+use Rattle.bz_engine.proofs.Performing.{performed, performed_beside, broken_off, broken_beside, honest_still, uncut, reported_apart, plain_premise, kept_premise}
+use Rattle.bz_engine.specs.Reported.{no_journal_line}
+use Rattle.bz_engine.proofs.Outcomes.{both_true, lines_premise, stands_unused, reported_once}
 use Rattle.bz_engine.proofs.MomentSteps.{unused_yet}
 use Rattle.bz_engine.proofs.UnusedSteps.{no_more_time, no_time}
 use Rattle.bz_engine.proofs.ReadSteps.{nothing_left, read_before}
@@ -21,23 +21,23 @@ returns-then-lacks_journal-clause-whole g c premise is_whole =
       unused folder no_journal_line,
       inl (sym c.lacks_journal.ensures ∙ c.if-lacks_journal.true, refl),
       stands_unused folder folder no_journal_line 1 (g.W.Sink.contents c.args.out.now) (g.E.Sink.faults c.args.err.now)
-          (g.E.Sink.faults c.tell_no_journal.new.err) (g.E.Sink.contents c.args.err.now) (g.E.Sink.contents c.tell_no_journal.new.err) refl refl
-          (told_once (g.E.Sink.faults c.args.err.now) (g.E.Sink.faults c.tell_no_journal.new.err) (g.E.Sink.contents c.args.err.now)
-          (g.E.Sink.contents c.tell_no_journal.new.err) no_journal_line c.tell_no_journal.ensures),
+          (g.E.Sink.faults c.report_no_journal.new.err) (g.E.Sink.contents c.args.err.now) (g.E.Sink.contents c.report_no_journal.new.err) refl refl
+          (reported_once (g.E.Sink.faults c.args.err.now) (g.E.Sink.faults c.report_no_journal.new.err) (g.E.Sink.contents c.args.err.now)
+          (g.E.Sink.contents c.report_no_journal.new.err) no_journal_line c.report_no_journal.ensures),
     )
 
 pub returns-then-lacks_journal-clause-usage : goal.returns-then-lacks_journal-clause-usage
 returns-then-lacks_journal-clause-usage g c is =
-    let both = both_true c.args.options.journal (names_input (map asked_in c.args.lines.now)) (sym c.lacks_journal.ensures ∙ c.if-lacks_journal.true) in (
+    let both = both_true c.args.options.journal (names_input (map requested_in c.args.lines.now)) (sym c.lacks_journal.ensures ∙ c.if-lacks_journal.true) in (
       both.0,
       both.1,
-      told_once (g.E.Sink.faults c.args.err.now) (g.E.Sink.faults c.tell_no_journal.new.err) (g.E.Sink.contents c.args.err.now)
-          (g.E.Sink.contents c.tell_no_journal.new.err) no_journal_line c.tell_no_journal.ensures,
+      reported_once (g.E.Sink.faults c.args.err.now) (g.E.Sink.faults c.report_no_journal.new.err) (g.E.Sink.contents c.args.err.now)
+          (g.E.Sink.contents c.report_no_journal.new.err) no_journal_line c.report_no_journal.ensures,
     )
 
 pub returns-then-lacks_journal-clause-moments : goal.returns-then-lacks_journal-clause-moments
 returns-then-lacks_journal-clause-moments g c kept honest = no_time g.F.Files.moment g.F.Files.since c.args.files.now c.args.files.now
-    (IsMomentOfSteps (g.F.Files.folder c.args.files.now) (all_steps (map asked_in c.args.lines.now)) []) refl
+    (IsMomentOfSteps (g.F.Files.folder c.args.files.now) (all_steps (map requested_in c.args.lines.now)) []) refl
 
 pub returns-clause-unread : goal.returns-clause-unread
 returns-clause-unread g c kept named =
@@ -47,10 +47,10 @@ returns-clause-unread g c kept named =
 pub returns-clause-whole : goal.returns-clause-whole
 returns-clause-whole g c given is_whole =
     let neither = sym c.lacks_journal.ensures ∙ c.if-lacks_journal.false in
-    let premise = lines_premise (g.F.Files.honest c.args.files.now) c.args.options.journal (map asked_in c.args.lines.now) neither given in
+    let premise = lines_premise (g.F.Files.honest c.args.files.now) c.args.options.journal (map requested_in c.args.lines.now) neither given in
     let ended = c.finish.ensures.whole is_whole in
     let ran = c.run_lines-cut in
-    let lines = map asked_in c.args.lines.now in
+    let lines = map requested_in c.args.lines.now in
     let folder = g.F.Files.folder in
     let known = g.R.Source.remaining c.args.input.now in
     let world : World = record { folder = folder c.args.files.now; known = known } in
@@ -58,7 +58,7 @@ returns-clause-whole g c given is_whole =
     let begun_is = c.begun-run.ensures in
     let start = progress_in c.begun-run.result in
     let state = progress_in ran.new.run in
-    elim (told_apart options.journal) [
+    elim (reported_apart options.journal) [
       | inl plain ↦
           let can = plain_premise (g.F.Files.honest c.args.files.now) options.journal (AreOfInput lines) premise in
           let done = ran.ensures.does plain can ended.0 known (λ _. refl) in
@@ -83,9 +83,9 @@ returns-clause-whole g c given is_whole =
 pub returns-clause-write : goal.returns-clause-write
 returns-clause-write g c given is_write =
     let neither = sym c.lacks_journal.ensures ∙ c.if-lacks_journal.false in
-    let premise = lines_premise (g.F.Files.honest c.args.files.now) c.args.options.journal (map asked_in c.args.lines.now) neither given in
+    let premise = lines_premise (g.F.Files.honest c.args.files.now) c.args.options.journal (map requested_in c.args.lines.now) neither given in
     let ran = c.run_lines-cut in
-    let lines = map asked_in c.args.lines.now in
+    let lines = map requested_in c.args.lines.now in
     let folder = g.F.Files.folder in
     let known = g.R.Source.remaining c.args.input.now in
     let world : World = record { folder = folder c.args.files.now; known = known } in
@@ -95,7 +95,7 @@ returns-clause-write g c given is_write =
     let state = progress_in ran.new.run in
     let ended = c.finish.ensures.write is_write (λ is. uncut ran.result (g.R.Source.faults c.args.input.now) (g.R.Source.faults ran.new.input)
     (g.F.Files.faults c.args.files.now) (g.F.Files.faults ran.new.files) is ran.ensures.cut) in
-    elim (told_apart options.journal) [
+    elim (reported_apart options.journal) [
       | inl plain ↦
           let can = plain_premise (g.F.Files.honest c.args.files.now) options.journal (AreOfInput lines) premise in
           let done = ran.ensures.does plain can ended.0 known (λ _. refl) in
@@ -120,7 +120,7 @@ returns-clause-reads_nothing g c kept =
 pub returns-clause-read : goal.returns-clause-read
 returns-clause-read g c of_input is_read =
     let before = read_before c.finish.result.cut c.run_lines-cut.result _ c.finish.ensures.cause is_read in
-    elim (told_apart c.args.options.journal) [
+    elim (reported_apart c.args.options.journal) [
       | inl plain ↦
           nothing_left (progress_in c.begun-run.result) (progress_in c.run_lines-cut.new.run) c.run_lines-cut.result c.shows_input-shown.result c.args.options.to_stdout
           (g.W.Sink.contents c.args.out.now) (g.W.Sink.contents c.finish.new.out) c.begun-run.ensures (c.run_lines-cut.ensures.input plain of_input)
@@ -133,7 +133,7 @@ returns-clause-moments g c kept honest =
     let ran = c.run_lines-cut in
     let files = g.F.Files in
     let folder = files.folder c.args.files.now in
-    let steps = all_steps (map asked_in c.args.lines.now) in
+    let steps = all_steps (map requested_in c.args.lines.now) in
     let begun_is = c.begun-run.ensures in
     let done = ran.ensures.safely kept honest folder (subst (λ (from : Progress). AllAreSafe folder from.used) (sym begun_is) tt)
     (subst (λ (from : Progress). IsMeanwhile folder from.used from.used folder) (sym begun_is) (unused_yet folder)) in

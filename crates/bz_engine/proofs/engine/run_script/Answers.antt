@@ -4,17 +4,17 @@ use Rattle.bz_engine.specs.Run.{World}
 use Rattle.bz_engine.proofs.Outcomes.{script_unread, script_done}
 use Rattle.bz_engine.proofs.MomentSteps.{by_no_script, by_script}
 use Rattle.bz_engine.proofs.UnusedSteps.{no_more_time}
-use Rattle.bz_engine.proofs.UsageSteps.{read_told, script_missing}
+use Rattle.bz_engine.proofs.UsageSteps.{read_reported, script_missing}
 use Rattle.bz_engine.proofs.engine.run_script.Goals as goal
 
 pub returns-in-Err-clause-whole : goal.returns-in-Err-clause-whole
 returns-in-Err-clause-whole g c honest is_whole =
-    let whole = sym c.tell_unread.ensures.cut ∙ is_whole in
-    let told = c.tell_unread.ensures.whole whole in
+    let whole = sym c.report_unread.ensures.cut ∙ is_whole in
+    let reported = c.report_unread.ensures.whole whole in
     let world : World = record { folder = g.F.Files.folder c.args.files.now; known = g.R.Source.remaining c.args.input.now } in
-    script_unread c.args.options c.args.name.now c.told_name.result.now world (g.F.Files.folder c.read_bytes.new.files) c.tell_unread.result.status
-    (g.W.Sink.contents c.args.out.now) (g.E.Sink.faults c.args.err.now) (g.E.Sink.faults c.tell_unread.new.err) (g.E.Sink.contents c.args.err.now)
-    (g.E.Sink.contents c.tell_unread.new.err) (c.read_bytes.ensures.folder honest) (c.in-Err.ensures.err.0 whole honest) c.told_name.ensures told.0 told.1
+    script_unread c.args.options c.args.name.now c.reported_name.result.now world (g.F.Files.folder c.read_bytes.new.files) c.report_unread.result.status
+    (g.W.Sink.contents c.args.out.now) (g.E.Sink.faults c.args.err.now) (g.E.Sink.faults c.report_unread.new.err) (g.E.Sink.contents c.args.err.now)
+    (g.E.Sink.contents c.report_unread.new.err) (c.read_bytes.ensures.folder honest) (c.in-Err.ensures.err.0 whole honest) c.reported_name.ensures reported.0 reported.1
 
 pub returns-in-Ok-clause-whole : goal.returns-in-Ok-clause-whole
 returns-in-Ok-clause-whole g c honest is_whole =
@@ -39,16 +39,16 @@ returns-in-Ok-clause-write g c honest is_write =
 
 pub returns-in-Err-clause-usage : goal.returns-in-Err-clause-usage
 returns-in-Err-clause-usage g c is is_whole =
-    let whole = sym c.tell_unread.ensures.cut ∙ is_whole in
+    let whole = sym c.report_unread.ensures.cut ∙ is_whole in
     script_missing (g.F.Files.honest c.args.files.now)
-    (record { folder = g.F.Files.folder c.args.files.now; known = g.R.Source.remaining c.args.input.now }) c.args.options c.args.name.now c.told_name.result.now
-    (g.E.Sink.faults c.args.err.now) (g.E.Sink.faults c.tell_unread.new.err) (g.E.Sink.contents c.args.err.now) (g.E.Sink.contents c.tell_unread.new.err)
-    (c.in-Err.ensures.err.0 whole) c.told_name.ensures (c.tell_unread.ensures.whole whole).1
+    (record { folder = g.F.Files.folder c.args.files.now; known = g.R.Source.remaining c.args.input.now }) c.args.options c.args.name.now c.reported_name.result.now
+    (g.E.Sink.faults c.args.err.now) (g.E.Sink.faults c.report_unread.new.err) (g.E.Sink.contents c.args.err.now) (g.E.Sink.contents c.report_unread.new.err)
+    (c.in-Err.ensures.err.0 whole) c.reported_name.ensures (c.report_unread.ensures.whole whole).1
 
 pub returns-in-Ok-clause-usage : goal.returns-in-Ok-clause-usage
 returns-in-Ok-clause-usage g c is is_whole =
     let world : World = record { folder = g.F.Files.folder c.args.files.now; known = g.R.Source.remaining c.args.input.now } in
-    read_told (g.F.Files.honest c.args.files.now) world c.args.options c.args.name.now c.in-Ok.bytes.items c.deref.result.now (g.E.Sink.faults c.args.err.now)
+    read_reported (g.F.Files.honest c.args.files.now) world c.args.options c.args.name.now c.in-Ok.bytes.items c.deref.result.now (g.E.Sink.faults c.args.err.now)
     (g.E.Sink.faults c.run_text.new.err) (g.E.Sink.contents c.args.err.now) (g.E.Sink.contents c.run_text.new.err) c.deref.ensures.value c.in-Ok.ensures.ok.0
     (c.run_text.ensures.usage is)
 

@@ -1,4 +1,4 @@
-use Rattle.bz_ports.specs.Told.{stdin}
+use Rattle.bz_ports.specs.Reported.{stdin}
 use Rattle.bz_engine.specs.Steps.{input_package}
 use Rattle.bz_engine.proofs.OpenSteps.{input_takes, opened_last, place_last}
 use Rattle.bz_engine.proofs.opening.open_input.Goals as goal

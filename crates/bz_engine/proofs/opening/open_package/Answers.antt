@@ -8,22 +8,22 @@ use Rattle.bz_ports.specs.declared.exit.Cut.TheVariants as cut
 use Rattle.bz_engine.specs.Cuts.{IsLeft}
 use Rattle.bz_ports.specs.Ports.{IsInput}
 use Rattle.bz_engine.specs.Steps.{input_package}
-use Rattle.bz_engine.proofs.OpenSteps.{adds_more, is_found, last_place, left_behind, left_behind_input, place_again, uses_found, uses_input}
+use Rattle.bz_engine.proofs.OpenSteps.{adds_more, is_found, last_place, left_after_use, left_after_input, place_again, uses_found, uses_input}
 use Rattle.bz_engine.proofs.ReadSteps.{opens_first, opens_again, uses_so}
 use Rattle.bz_engine.proofs.opening.open_package.Goals as goal
 
 pub returns-then-wants_input-clause-uses : goal.returns-then-wants_input-clause-uses
 returns-then-wants_input-clause-uses g c = λ plain can whole known left.
-    let asked = c.wants_input.ensures.yes c.if-wants_input.true in
+    let requested = c.wants_input.ensures.yes c.if-wants_input.true in
     let done = c.open_input.ensures.whole whole in
     let old = c.args.workspace.now in
     let new = c.open_input.new.workspace in (
       length old,
       done.2,
-      uses_input (record { folder = g.F.Files.folder c.args.files.now; known = known }) c.args.package.now done.0 old new done.1 done.2 asked.1 asked.2
-          (subst (λ (bytes : Option Bytes). IsInput bytes done.0) (left asked.2) done.3) done.4 done.5,
+      uses_input (record { folder = g.F.Files.folder c.args.files.now; known = known }) c.args.package.now done.0 old new done.1 done.2 requested.1 requested.2
+          (subst (λ (bytes : Option Bytes). IsInput bytes done.0) (left requested.2) done.3) done.4 done.5,
       last_place old new input_package done.1 c.open_input.result.place done.5 done.6,
-      left_behind_input known (g.R.Source.remaining c.open_input.new.input) old new (record { «package» = input_package; file = done.1 }) refl done.5,
+      left_after_input known (g.R.Source.remaining c.open_input.new.input) old new (record { «package» = input_package; file = done.1 }) refl done.5,
       done.7,
     )
 
@@ -44,7 +44,7 @@ returns-clause-uses g c = λ plain can whole known left.
                   done.1,
                   uses_found (record { folder = g.F.Files.folder c.args.files.now; known = known }) name old new done.0 done.1 other none done.2 done.3,
                   last_place old new name done.0 c.open.result.place done.3 done.4,
-                  left_behind known remaining old new (record { «package» = name; file = done.0 }) done.3 left,
+                  left_after_use known remaining old new (record { «package» = name; file = done.0 }) done.3 left,
                   done.5,
                 )
             | inr is ↦ absurd (other is)
@@ -103,8 +103,8 @@ returns-clause-folder g c = λ plain can.
 
 pub returns-then-wants_input-clause-input : goal.returns-then-wants_input-clause-input
 returns-then-wants_input-clause-input g c = λ plain is.
-    let asked = c.wants_input.ensures.yes c.if-wants_input.true in
-    opens_first c.args.workspace.now c.open_input.new.workspace c.open_input.result.place c.open_input.result.cut asked.2 c.open_input.ensures.failed
+    let requested = c.wants_input.ensures.yes c.if-wants_input.true in
+    opens_first c.args.workspace.now c.open_input.new.workspace c.open_input.result.place c.open_input.result.cut requested.2 c.open_input.ensures.failed
     (λ whole. let done = c.open_input.ensures.whole whole in (done.1, done.5))
 
 pub returns-clause-input : goal.returns-clause-input

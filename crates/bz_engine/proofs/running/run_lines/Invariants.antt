@@ -1,5 +1,5 @@
 use Rattle.std.proofs.Common.{map, drop}
-use Rattle.bz_line.specs.Shown.{asked_in}
+use Rattle.bz_line.specs.Shown.{requested_in}
 use Rattle.bz_engine.specs.Outcome.{AreOfInput}
 use Rattle.bz_engine.specs.Steps.{all_steps}
 use Rattle.bz_engine.specs.Calls.{spot}
@@ -8,5 +8,5 @@ use Rattle.bz_engine.proofs.running.run_lines.Given as goal
 
 -- what the lines that are left request is what all request
 abbrev pub invariant-loop-line : goal.invariant-loop-line
-invariant-loop-line g l = Part l.options.journal (AreOfInput (map asked_in l.lines)) l.options.keep_going (all_steps (map asked_in l.lines))
-    (all_steps (map asked_in (drop l.line-index l.lines))) l.cut (spot g.R.Source g.F.Files g.E.Sink l.fn.run l.fn.input l.fn.files l.fn.err) (spot g.R.Source g.F.Files g.E.Sink l.run l.input l.files l.err)
+invariant-loop-line g l = Part l.options.journal (AreOfInput (map requested_in l.lines)) l.options.keep_going (all_steps (map requested_in l.lines))
+    (all_steps (map requested_in (drop l.line-index l.lines))) l.cut (spot g.R.Source g.F.Files g.E.Sink l.fn.run l.fn.input l.fn.files l.fn.err) (spot g.R.Source g.F.Files g.E.Sink l.run l.input l.files l.err)

@@ -1,7 +1,7 @@
 use Rattle.std.proofs.Common.{◌≡◌, ◌+◌, refl, ap, List, false, [], ◌∷◌, map, drop}
 use Rattle.bz_label.specs.declared.target.Target.{Target}
-use Rattle.bz_line.specs.Shown.{asking_in}
-use Rattle.bz_line.specs.declared.asked.Asking.{Asking}
+use Rattle.bz_line.specs.Shown.{request_in}
+use Rattle.bz_line.specs.declared.requested.Request.{Request}
 use Rattle.bz_engine.specs.Calls.{spot}
 use Rattle.bz_engine.specs.Run.{ends_run}
 use Rattle.bz_engine.specs.Shown.{progress_in}
@@ -10,33 +10,33 @@ use Rattle.bz_engine.proofs.RunSteps.{Done, one_beside, one_runs, part_none, par
 use Rattle.bz_engine.proofs.running.run_target.Goals as goal
 use Rattle.bz_engine.proofs.running.run_target.Goals.{else-run-via-then-run+else-not-options, else-run-via-else-run}
 
-abbrev steps : Target → List Asking → List RunStep
-steps target commands = map (step_of target) (map asking_in commands)
+abbrev steps : Target → List Request → List RunStep
+steps target commands = map (step_of target) (map request_in commands)
 
-pub loop-asking-init : goal.loop-asking-init
-loop-asking-init g c = part_none c.args.options.journal (c.args.target.now.«package» ≡ input_package) c.args.options.keep_going (steps c.args.target.now c.args.commands.now)
+pub loop-request-init : goal.loop-request-init
+loop-request-init g c = part_none c.args.options.journal (c.args.target.now.«package» ≡ input_package) c.args.options.keep_going (steps c.args.target.now c.args.commands.now)
     (spot g.R.Source g.F.Files g.E.Sink c.args.run.now c.args.input.now c.args.files.now c.args.err.now)
 
 pub returns-then-not-options : goal.returns-then-not-options
 returns-then-not-options g c =
-    let l = c.loop-asking in
+    let l = c.loop-request in
     let failed = c.if-run.true in
     let stops = c.if-not-options.true in
     done_early c.args.options.journal (c.args.target.now.«package» ≡ input_package) c.args.options.keep_going (steps c.args.target.now c.args.commands.now)
-    (steps c.args.target.now (drop l.asking-index c.args.commands.now)) l.cut (spot g.R.Source g.F.Files g.E.Sink c.args.run.now c.args.input.now c.args.files.now c.args.err.now)
+    (steps c.args.target.now (drop l.request-index c.args.commands.now)) l.cut (spot g.R.Source g.F.Files g.E.Sink c.args.run.now c.args.input.now c.args.files.now c.args.err.now)
     (spot g.R.Source g.F.Files g.E.Sink l.run l.input l.files l.err) (rw (failed, stops) refl) l.invariant
 
-pub loop-asking-preserved : goal.loop-asking-preserved
-loop-asking-preserved g c =
-    let l = c.loop-asking in
+pub loop-request-preserved : goal.loop-request-preserved
+loop-request-preserved g c =
+    let l = c.loop-request in
     let e = c.do_step-later in
-    let at = l.asking-index in
+    let at = l.request-index in
     let target = c.args.target.now in
     let commands = c.args.commands.now in
     let old = spot g.R.Source g.F.Files g.E.Sink c.args.run.now c.args.input.now c.args.files.now c.args.err.now in
     let mid = spot g.R.Source g.F.Files g.E.Sink l.run l.input l.files l.err in
     let new = spot g.R.Source g.F.Files g.E.Sink e.new.run e.new.input e.new.files e.new.err in
-    let step = step_of target (asking_in c.asking-item.result) in
+    let step = step_of target (request_in c.request-item.result) in
     let on : ends_run c.args.options.keep_going (progress_in l.run) ≡ false = elim c.else-run.branch [
       | else-run-via-then-run+else-not-options w ↦ (let failed = w.if-run.true in let goes = w.if-not-options.false in rw (failed, goes) refl)
       | else-run-via-else-run w ↦ (let works = w.if-run.false in rw (works) refl)
@@ -55,18 +55,18 @@ loop-asking-preserved g c =
       works = e.ensures.works;
       sound = e.ensures.sound;
       cut = e.ensures.cut;
-      reads = e.ensures.reads;
+      read_faults = e.ensures.read_faults;
       counts = e.ensures.counts;
       honest = e.ensures.honest;
     } in
     rw (c.first_cut-cut.ensures) (part_more c.args.options.journal (target.«package» ≡ input_package) (target.«package» ≡ input_package) c.args.options.keep_going (steps target commands)
     (steps target (drop at commands)) (step ∷ []) (steps target (drop (at + 1) commands)) l.cut e.result old mid new (λ is. is)
-    (ap (steps target) (left_at commands commands at c.asking-item.result refl c.loop-asking-test.true c.asking-item.is)) l.invariant done)
+    (ap (steps target) (left_at commands commands at c.request-item.result refl c.loop-request-test.true c.request-item.is)) l.invariant done)
 
 pub returns : goal.returns
 returns g c =
-    let l = c.loop-asking in
+    let l = c.loop-request in
     all_done c.args.options.journal (c.args.target.now.«package» ≡ input_package) c.args.options.keep_going (steps c.args.target.now c.args.commands.now)
-    (steps c.args.target.now (drop l.asking-index c.args.commands.now)) l.cut (spot g.R.Source g.F.Files g.E.Sink c.args.run.now c.args.input.now c.args.files.now c.args.err.now)
+    (steps c.args.target.now (drop l.request-index c.args.commands.now)) l.cut (spot g.R.Source g.F.Files g.E.Sink c.args.run.now c.args.input.now c.args.files.now c.args.err.now)
     (spot g.R.Source g.F.Files g.E.Sink l.run l.input l.files l.err)
-    (ap (steps c.args.target.now) (none_at c.args.commands.now c.args.commands.now l.asking-index refl c.loop-asking-test.false)) l.invariant
+    (ap (steps c.args.target.now) (none_at c.args.commands.now c.args.commands.now l.request-index refl c.loop-request-test.false)) l.invariant

@@ -3,4 +3,4 @@ use Rattle.bz_engine.proofs.StepLists.{named_in_lines}
 use Rattle.bz_engine.proofs.step.names_input.Goals as goal
 
 pub returns : goal.returns
-returns c = c.any_names.ensures ∙ sym (named_in_lines c.args.lines.now)
+returns c = c.any_targets_input.ensures ∙ sym (named_in_lines c.args.lines.now)

@@ -1,12 +1,12 @@
 use Rattle.std.proofs.Common.{List, None, sym, ap, ◌∙◌}
 use Rattle.bz_value.specs.declared.value.Item.{Item}
 use Rattle.bz_formatter.specs.Meaning.{written}
-use Rattle.bz_formatter.proofs.Untold.{unread_told}
+use Rattle.bz_formatter.proofs.ReadFaults.{unread_answered}
 use Rattle.bz_formatter.proofs.formatter.format.Goals as goal
 
 pub returns-in-Err : goal.returns-in-Err
 returns-in-Err c = record {
-  formats = unread_told _ c.args.text.now c.in-Err.fault c.unread.result c.unread.ensures c.in-Err.ensures.refused
+  formats = unread_answered _ c.args.text.now c.in-Err.fault c.of_read_fault.result c.of_read_fault.ensures c.in-Err.ensures.refused
       c.in-Err.ensures.too_large c.in-Err.ensures.not_utf8;
   fixed = tt;
 }

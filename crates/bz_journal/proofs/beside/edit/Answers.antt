@@ -8,8 +8,8 @@ pub returns-then-ran-clause-made : goal.returns-then-ran-clause-made
 returns-then-ran-clause-made c = record {
   makes =
       edited_same c.args.note.now c.args.command.now c.args.target.now (session_history c.args.course.now) c.as_bytes-current.result.now c.present-here.result.now c.in-Ok.seen c.run_on_tree.new.file c.in-Ok-run_on_tree.ran.printed
-      c.told-printed.result c.unchanged.result (c.as_bytes-current.ensures.value ∙ c.own_package.ensures) c.present-here.ensures.text c.reads_back.ensures c.in-Ok.ensures c.in-Ok-run_on_tree.ensures.ok (c.in-Ok-run_on_tree.ensures.same.0 c.if-ran.true)
-      c.in-Ok-run_on_tree.ensures.printed c.told-printed.ensures c.unchanged.ensures;
+      c.printed_answer-printed.result c.unchanged.result (c.as_bytes-current.ensures.value ∙ c.own_package.ensures) c.present-here.ensures.text c.reads_back.ensures c.in-Ok.ensures c.in-Ok-run_on_tree.ensures.ok (c.in-Ok-run_on_tree.ensures.same.0 c.if-ran.true)
+      c.in-Ok-run_on_tree.ensures.printed c.printed_answer-printed.ensures c.unchanged.ensures;
   unmoved = tt;
   small = λ own. own;
 }

@@ -4,7 +4,7 @@ use Rattle.bz_tree.specs.Spell.{limit, spell_node}
 use Rattle.bz_value.specs.declared.value.Item.{Item}
 use Rattle.bz_value.specs.Proper.{IsProper}
 use Rattle.bz_view.specs.View.{view_of}
-use Rattle.bz_redraw.specs.Redrawn.{IsWritten}
+use Rattle.bz_redraw.specs.Relaid.{IsWritten}
 use Rattle.bz_journal.specs.Shown.{session_history}
 use Rattle.bz_journal.proofs.Edited.{new_taken, none_seen}
 use Rattle.bz_journal.proofs.beside.take_up_new.Goals as goal
@@ -14,8 +14,8 @@ returns-in-Ok-clause-beside c = record {
   seen = none_seen c.args.beside.now.value c.take_up-answer.new.self.tree c.requires.none;
   looked = c.requires.looked c.take_up-answer.new.self.tree;
   written = λ done. subst (λ (n : Node). IsWritten (view_of n) n) c.present.ensures.tree
-      (new_taken c.written_is_drawn.ensures c.args.file c.args.printed c.args.note.now (session_history c.args.course.now) (session_history c.take_up-answer.new.self) c.take_up-answer.result (spell_node c.in-Ok.tree)
+      (new_taken c.written_is_laid_out.ensures c.args.file c.args.printed c.args.note.now (session_history c.args.course.now) (session_history c.take_up-answer.new.self) c.take_up-answer.result (spell_node c.in-Ok.tree)
       c.present.result.now (subst (λ (xs : List Item). IsProper xs) c.file.view_is c.file.invariant) c.present-before.ensures.within (c.in-Ok.ensures.ok c.args.printed) c.take_up-answer.ensures.made c.reads_back.ensures
       c.present.ensures.text (sym c.is_ok-beside.ensures.value ∙ done));
-  long = λ _. subst (λ (n : Node). length (spell_node n) ≤ limit) c.present.ensures.tree c.reads_back.ensures.2;
+  length_bound = λ _. subst (λ (n : Node). length (spell_node n) ≤ limit) c.present.ensures.tree c.reads_back.ensures.2;
 }

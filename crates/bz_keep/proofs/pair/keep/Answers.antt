@@ -14,8 +14,8 @@ returns-clause-time g c honest h after es may =
     let f = g.F.Files in
     let old = f.folder c.args.files.now in
     weakened (f.moment c.args.files.now) (f.moment c.replace_pair.new.files) (f.since c.args.files.now) (f.since c.replace_pair.new.files)
-    (IsChecking c.args.standing.now (journal_name c.args.file.now) c.args.told.now c.args.file.now c.args.text.now old) _
-    (checked c.args.file.now c.args.standing.now c.args.told.now c.args.text.now h after es old may)
+    (IsChecking c.args.standing.now (journal_name c.args.file.now) c.args.stored.now c.args.file.now c.args.text.now old) _
+    (checked c.args.file.now c.args.standing.now c.args.stored.now c.args.text.now h after es old may)
     (c.replace_pair.ensures.time honest)
 
 pub returns-clause-each : goal.returns-clause-each
@@ -36,8 +36,8 @@ returns-clause-kept g c honest = on_ok_too c.replace_pair.result
     let old = g.F.Files.folder c.args.files.now in
     let new = g.F.Files.folder c.replace_pair.new.files in
     let there = c.replace_pair.ensures.checked honest (inl ok) in (
-      kept c.args.file.now c.args.standing.now c.args.told.now c.args.text.now h after es old may there new same,
-      others_kept c.args.file.now c.args.standing.now c.args.told.now c.args.text.now h after es old may there new same,
+      kept c.args.file.now c.args.standing.now c.args.stored.now c.args.text.now h after es old may there new same,
+      others_kept c.args.file.now c.args.standing.now c.args.stored.now c.args.text.now h after es old may there new same,
     ))
     (c.replace_pair.ensures.replaced honest)
 
@@ -47,17 +47,17 @@ returns-clause-journal g c honest = on_ok_too c.replace_pair.result
     let old = g.F.Files.folder c.args.files.now in
     let file = c.args.file.now in
     same (journal_name file) (journal_is_old file)
-    ∙ other_stays (with_file old (journal_name file) c.args.told.now) file (journal_name file) c.args.text.now (journal_file file)
-    ∙ reads_back old (journal_name file) c.args.told.now)
+    ∙ other_stays (with_file old (journal_name file) c.args.stored.now) file (journal_name file) c.args.text.now (journal_file file)
+    ∙ reads_back old (journal_name file) c.args.stored.now)
     (c.replace_pair.ensures.replaced honest)
 
-one_of : (file : Text) (told text : List ℕ) (old now : Folder) → IsKeeping (journal_name file) told file text old now
-    → (get now (journal_name file) ≡ get old (journal_name file)) ⊎ (get now (journal_name file) ≡ Some told)
-one_of file told text old now (inl same) = inl (same (journal_name file) (journal_is_old file))
-one_of file told text old now (inr (inl same)) = inr (same (journal_name file) (journal_is_old file) ∙ reads_back old (journal_name file) told)
-one_of file told text old now (inr (inr same)) = inr (same (journal_name file) (journal_is_old file)
-    ∙ other_stays (with_file old (journal_name file) told) file (journal_name file) text (journal_file file) ∙ reads_back old (journal_name file) told)
+one_of : (file : Text) (stored text : List ℕ) (old now : Folder) → IsKeeping (journal_name file) stored file text old now
+    → (get now (journal_name file) ≡ get old (journal_name file)) ⊎ (get now (journal_name file) ≡ Some stored)
+one_of file stored text old now (inl same) = inl (same (journal_name file) (journal_is_old file))
+one_of file stored text old now (inr (inl same)) = inr (same (journal_name file) (journal_is_old file) ∙ reads_back old (journal_name file) stored)
+one_of file stored text old now (inr (inr same)) = inr (same (journal_name file) (journal_is_old file)
+    ∙ other_stays (with_file old (journal_name file) stored) file (journal_name file) text (journal_file file) ∙ reads_back old (journal_name file) stored)
 
-pub returns-clause-told : goal.returns-clause-told
-returns-clause-told g c honest now stood =
-    one_of c.args.file.now c.args.told.now c.args.text.now (g.F.Files.folder c.args.files.now) now (c.replace_pair.ensures.each honest now stood)
+pub returns-clause-stored : goal.returns-clause-stored
+returns-clause-stored g c honest now stood =
+    one_of c.args.file.now c.args.stored.now c.args.text.now (g.F.Files.folder c.args.files.now) now (c.replace_pair.ensures.each honest now stood)

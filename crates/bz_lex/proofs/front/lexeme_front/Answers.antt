@@ -4,18 +4,18 @@ use Rattle.bz_lex.proofs.Fronts.{byte_at}
 use Rattle.bz_lex.proofs.Stopping.{broken_stop, token_stop, prefix_stop, prefix_refused, unopened_front, at_token}
 use Rattle.bz_lex.proofs.front.lexeme_front.Goals as goal
 
-pub returns-in-Some-clause-told : goal.returns-in-Some-clause-told
-returns-in-Some-clause-told c = broken_lexeme _ _ c.gap_front-gap.ensures.taken c.gap_front-gap.ensures.stops c.in-Some.ensures.0
+pub returns-in-Some-clause-answered : goal.returns-in-Some-clause-answered
+returns-in-Some-clause-answered c = broken_lexeme _ _ c.gap_front-gap.ensures.taken c.gap_front-gap.ensures.stops c.in-Some.ensures.0
 
 pub returns-in-Some-clause-stops : goal.returns-in-Some-clause-stops
 returns-in-Some-clause-stops c =
     rw c.new.ensures (broken_stop _ _ _ c.gap_front-gap.ensures.within c.gap_front-gap.ensures.taken c.gap_front-gap.ensures.stops c.in-Some.ensures.0 c.in-Some.ensures.2)
 
-pub returns-then-gap-text-clause-told : goal.returns-then-gap-text-clause-told
-returns-then-gap-text-clause-told c = all_gap _ _ c.gap_front-gap.ensures.taken c.in_default.ensures c.if-gap-text.true
+pub returns-then-gap-text-clause-answered : goal.returns-then-gap-text-clause-answered
+returns-then-gap-text-clause-answered c = all_gap _ _ c.gap_front-gap.ensures.taken c.in_default.ensures c.if-gap-text.true
 
-pub returns-in_default-token_front-clause-told : goal.returns-in_default-token_front-clause-told
-returns-in_default-token_front-clause-told c =
+pub returns-in_default-token_front-clause-answered : goal.returns-in_default-token_front-clause-answered
+returns-in_default-token_front-clause-answered c =
     no_lexeme _ _ _ c.gap_front-gap.ensures.taken c.gap_front-gap.ensures.stops (byte_at _ _ c.gap_front-gap.ensures.within c.if-gap-text.false) c.in_default-token_front.ensures
 
 pub returns-in_default-token_front-clause-stops : goal.returns-in_default-token_front-clause-stops
@@ -29,8 +29,8 @@ is_open_prefix-requires-clause-within c = rw c.in-Some-token_front.ensures.0 c.g
 pub is_open_prefix-requires-clause-token : goal.is_open_prefix-requires-clause-token
 is_open_prefix-requires-clause-token c = at_token _ _ _ c.in-Some-token_front.ensures.0 c.in-Some-token_front.ensures.1
 
-pub returns-then-is_open_prefix-clause-told : goal.returns-then-is_open_prefix-clause-told
-returns-then-is_open_prefix-clause-told c =
+pub returns-then-is_open_prefix-clause-answered : goal.returns-then-is_open_prefix-clause-answered
+returns-then-is_open_prefix-clause-answered c =
     prefix_refused _ _ _ _ c.gap_front-gap.ensures.within c.gap_front-gap.ensures.taken c.gap_front-gap.ensures.stops c.in_default.ensures
     (byte_at _ _ c.gap_front-gap.ensures.within c.if-gap-text.false) c.in-Some-token_front.ensures.0 c.in-Some-token_front.ensures.1 (c.is_open_prefix.ensures.0 c.if-is_open_prefix.true)
 
@@ -39,7 +39,7 @@ returns-then-is_open_prefix-clause-stops c =
     prefix_stop _ _ _ c.in-Some-token_front.front _ c.gap_front-gap.ensures.within c.gap_front-gap.ensures.taken c.gap_front-gap.ensures.stops c.in_default.ensures
     (byte_at _ _ c.gap_front-gap.ensures.within c.if-gap-text.false) c.in-Some-token_front.ensures.0 (c.is_open_prefix.ensures.0 c.if-is_open_prefix.true) c.new-then-is_open_prefix.ensures
 
-pub returns-clause-told : goal.returns-clause-told
-returns-clause-told c =
+pub returns-clause-answered : goal.returns-clause-answered
+returns-clause-answered c =
     lexeme _ _ _ _ c.gap_front-gap.ensures.within c.gap_front-gap.ensures.taken c.gap_front-gap.ensures.stops c.in_default.ensures
     (byte_at _ _ c.gap_front-gap.ensures.within c.if-gap-text.false) c.in-Some-token_front.ensures.0 c.in-Some-token_front.ensures.1 (unopened_front c.args.text.now c.in-Some-token_front.front.gap _ c.is_open_prefix.ensures.1 c.if-is_open_prefix.false)

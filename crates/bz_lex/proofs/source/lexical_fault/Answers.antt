@@ -8,13 +8,13 @@ pub tokens-init : goal.tokens-init
 tokens-init c = record { lexed = no_token; within = omega arith }
 
 pub tokens-smaller : goal.tokens-smaller
-tokens-smaller c = shorter _ _ _ (rw c.in-Ok-Some.field-0-is at c.in-Ok-Some.ensures.told) c.rest_of-rest.ensures
+tokens-smaller c = shorter _ _ _ (rw c.in-Ok-Some.field-0-is at c.in-Ok-Some.ensures.answered) c.rest_of-rest.ensures
 
 pub tokens-preserved : goal.tokens-preserved
 tokens-preserved c = record {
-  lexed = rw c.rest_of-rest.ensures (lexed_more _ _ _ c.tokens.invariant.lexed (rw c.in-Ok-Some.field-0-is at c.in-Ok-Some.ensures.told));
-  within = let less = shorter _ _ _ (rw c.in-Ok-Some.field-0-is at c.in-Ok-Some.ensures.told) c.rest_of-rest.ensures in let le = c.tokens.invariant.within in omega arith;
+  lexed = rw c.rest_of-rest.ensures (lexed_more _ _ _ c.tokens.invariant.lexed (rw c.in-Ok-Some.field-0-is at c.in-Ok-Some.ensures.answered));
+  within = let less = shorter _ _ _ (rw c.in-Ok-Some.field-0-is at c.in-Ok-Some.ensures.answered) c.rest_of-rest.ensures in let le = c.tokens.invariant.within in omega arith;
 }
 
 pub returns-in-Err : goal.returns-in-Err
-returns-in-Err c = stop_placed _ _ _ _ _ c.tokens.invariant.lexed c.tokens.invariant.within c.in-Err.ensures.stops c.fault_at.ensures.told refl
+returns-in-Err c = stop_placed _ _ _ _ _ c.tokens.invariant.lexed c.tokens.invariant.within c.in-Err.ensures.stops c.fault_at.ensures.answered refl

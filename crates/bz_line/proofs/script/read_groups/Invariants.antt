@@ -1,12 +1,12 @@
 use Rattle.std.proofs.Common.{◌≡◌, All, Ok, map, take}
 use Rattle.bz_line.specs.Paths.{HasPath}
 use Rattle.bz_line.specs.Script.{operand_groups}
-use Rattle.bz_line.specs.Shown.{asked_in}
+use Rattle.bz_line.specs.Shown.{requested_in}
 use Rattle.bz_line.proofs.Texts.{texts_in}
 use Rattle.bz_line.proofs.script.read_groups.Given as goal
 
 abbrev pub invariant-loop-line : goal.invariant-loop-line
 invariant-loop-line l = record {
-  told : operand_groups (texts_in (take l.line-index l.lines)) ≡ Ok (map asked_in l.groups.items);
-  paths : All (λ asked. All HasPath asked.targets.items) l.groups.items;
+  answered : operand_groups (texts_in (take l.line-index l.lines)) ≡ Ok (map requested_in l.groups.items);
+  paths : All (λ requested. All HasPath requested.targets.items) l.groups.items;
 }

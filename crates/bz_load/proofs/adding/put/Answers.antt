@@ -5,7 +5,7 @@ use Rattle.bz_value.specs.declared.value.Expr.{Expr}
 use Rattle.bz_value.specs.declared.value.Item.{Item}
 use Rattle.bz_value.specs.Exchanged.{IsSpliced}
 use Rattle.bz_load.specs.Loads.{is_load_from}
-use Rattle.bz_load.specs.Places.{behind_loads}
+use Rattle.bz_load.specs.Places.{after_loads}
 use Rattle.bz_load.specs.Placed.{with_load}
 use Rattle.bz_load.proofs.PutSteps.{put_there, put_new, same_by, other_by, over_by}
 use Rattle.bz_load.proofs.Splices.{put_in}
@@ -41,9 +41,9 @@ pub returns-in_ok-at-in-None-clause-items : goal.returns-in_ok-at-in-None-clause
 returns-in_ok-at-in-None-clause-items c =
     subst (λ (items : List Item). c.from_vec-in-None.result ≡ with_load c.args.path.now c.args.more.now.items items) c.into_vec-all.ensures
     (c.from_vec-in-None.ensures
-    ∙ put_new c.args.path.now c.args.more.now.items c.into_vec-all.result.items c.insert_behind_loads.new.items.items
+    ∙ put_new c.args.path.now c.args.more.now.items c.into_vec-all.result.items c.insert_after_loads.new.items.items
     (c.in-None.ensures ∙ ap (position (is_load_from c.args.path.now)) c.as_slice.ensures.value)
-    (c.in_ok-at-in-None.ensures.items ∙ ap (λ load. behind_loads load c.into_vec-all.result.items) c.in_ok-load-in-None.ensures))
+    (c.in_ok-at-in-None.ensures.items ∙ ap (λ load. after_loads load c.into_vec-all.result.items) c.in_ok-load-in-None.ensures))
 
 pub returns-in_ok-at-in-None-clause-same : goal.returns-in_ok-at-in-None-clause-same
 returns-in_ok-at-in-None-clause-same c =

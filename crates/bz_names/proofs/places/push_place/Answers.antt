@@ -1,7 +1,7 @@
 use Rattle.std.proofs.Common.{ap, ◌∙◌}
 use Rattle.bz_names.specs.Index.{places_of}
 use Rattle.bz_names.specs.Held.{held}
-use Rattle.bz_names.proofs.Entries.{no_place, place_behind}
+use Rattle.bz_names.proofs.Entries.{no_place, place_after}
 use Rattle.bz_names.proofs.places.push_place.Goals as goal
 
 pub insert_first-requires : goal.insert_first-requires
@@ -11,5 +11,5 @@ insert_first-requires c =
 
 pub returns-in_ok-push-in-Some : goal.returns-in_ok-push-in-Some
 returns-in_ok-push-in-Some c =
-    place_behind c.args.places.now (c.get_mut.follows.lender c.push.new.self) c.args.name.now c.in-Some.found.now c.push.new.self c.args.at
+    place_after c.args.places.now (c.get_mut.follows.lender c.push.new.self) c.args.name.now c.in-Some.found.now c.push.new.self c.args.at
     c.in-Some.ensures.value c.in_ok-push-in-Some.ensures.items (c.get_mut.follows.holds c.push.new.self)

@@ -2,14 +2,14 @@ use Rattle.std.proofs.Common.{rules, sym, ap, refl, ◌∙◌, ◌≤◌, List, 
 use Rattle.bz_tree.specs.declared.tree.Part.{Part}
 use Rattle.bz_tree.specs.declared.kind.Kind.TheVariants as k
 use Rattle.bz_states.specs.declared.token.TokenSet.TheVariants as token
-use Rattle.bz_states.specs.declared.state.PartSort.TheVariants as q
+use Rattle.bz_states.specs.declared.state.PartNonterminal.TheVariants as q
 use Rattle.bz_states.specs.declared.state.NodeState.TheVariants as s
 use Rattle.bz_states.specs.declared.state.Tail.TheVariants as in_rest
 use Rattle.bz_states.specs.declared.state.LambdaAt.TheVariants as lambda_at
 use Rattle.bz_tree.specs.Reading.{node_part}
 use Rattle.bz_states.specs.Tokens.{terminals_of, token_at}
 use Rattle.bz_parse.specs.Words.{part_at, found_from}
-use Rattle.bz_states.specs.States.{sort_of}
+use Rattle.bz_states.specs.States.{nonterminal_of}
 use Rattle.bz_parse.proofs.Deepest.{made_depth, leaf_depth}
 use Rattle.bz_parse.proofs.Moves.{finishes, takes, takes_none, reads, reads_none, chooses_left, chooses_right, fewer_taken, fewer_read, fewer_left, fewer_right}
 use Rattle.bz_parse.proofs.Climbs.{handed_on, inside, level_is, argument_is, entry_is, clause_is, first_clause_is, small_is, line_is, alias_is, loaded_is, part_depth, level_prefix, atom_round, atom_square, atom_curly, atom_leaf, primary_atom, primary_none, suffix_stops, suffix_goes, suffix_shorter, star_is, argument_none, argument_odd, argument_stays, argument_named, param_is, starred_is, param_none, param_stays, param_valued}
@@ -136,17 +136,17 @@ pub go_on-returns-clause-err : goal.go_on-returns-clause-err
 go_on-returns-clause-err t c = carry_err _ _ _ (fits _ _ _ _ _ (omega arith)) c.follow.ensures.err
 
 pub follow-returns-in-Finish-clause-ok : goal.follow-returns-in-Finish-clause-ok
-follow-returns-in-Finish-clause-ok t c = (node_part c.in-Finish.kind (drop c.args.from c.moves.stack), sym c.moves.invariant.rest ∙ finishes _ _ _ _ _ c.in-Finish.ensures.asks, c.in_ok-close-in-Finish.ensures ∙ ap (λ (ps : List Part). ps ++ (node_part c.in-Finish.kind (drop c.args.from c.moves.stack) ∷ [])) c.moves.invariant.below, made_depth c.in-Finish.kind _ _ _ refl c.moves.invariant.deep)
+follow-returns-in-Finish-clause-ok t c = (node_part c.in-Finish.kind (drop c.args.from c.moves.stack), sym c.moves.invariant.rest ∙ finishes _ _ _ _ _ c.in-Finish.ensures.expects, c.in_ok-close-in-Finish.ensures ∙ ap (λ (ps : List Part). ps ++ (node_part c.in-Finish.kind (drop c.args.from c.moves.stack) ∷ [])) c.moves.invariant.below, made_depth c.in-Finish.kind _ _ _ refl c.moves.invariant.deep)
 
 pub follow-returns-in_err-take-in-Take-clause-err : goal.follow-returns-in_err-take-in-Take-clause-err
-follow-returns-in_err-take-in-Take-clause-err t c = handed_on _ _ _ _ c.from_residual-in_err-take-in-Take.ensures.1 c.in_err-take-in-Take.ensures.err (λ n. sym c.moves.invariant.rest ∙ takes_none _ _ _ _ _ _ c.in-Take.ensures.asks n)
+follow-returns-in_err-take-in-Take-clause-err t c = handed_on _ _ _ _ c.from_residual-in_err-take-in-Take.ensures.1 c.in_err-take-in-Take.ensures.err (λ n. sym c.moves.invariant.rest ∙ takes_none _ _ _ _ _ _ c.in-Take.ensures.expects n)
 
 pub follow-moves-smaller-in-Take : goal.follow-moves-smaller-in-Take
 follow-moves-smaller-in-Take t c = fewer_taken c.in-Take.token _ _ _ _ _ _ c.in-Take.ensures.few (added _ _ c.moves.invariant.from (token_at (terminals_of c.in-Take.token)) _ _ _ _ (c.in_ok-take-in-Take.ensures.ok))
 
 pub follow-moves-preserved-in-Take : goal.follow-moves-preserved-in-Take
 follow-moves-preserved-in-Take t c = record {
-  rest = takes _ _ _ _ _ _ _ _ c.in-Take.ensures.asks (added _ _ c.moves.invariant.from (token_at (terminals_of c.in-Take.token)) _ _ _ _ (c.in_ok-take-in-Take.ensures.ok)) ∙ c.moves.invariant.rest;
+  rest = takes _ _ _ _ _ _ _ _ c.in-Take.ensures.expects (added _ _ c.moves.invariant.from (token_at (terminals_of c.in-Take.token)) _ _ _ _ (c.in_ok-take-in-Take.ensures.ok)) ∙ c.moves.invariant.rest;
   below = take_push _ _ c.moves.invariant.from _ _ (c.in_ok-take-in-Take.ensures.ok).2 ∙ c.moves.invariant.below;
   from = within_push _ _ c.moves.invariant.from _ _ (c.in_ok-take-in-Take.ensures.ok).2;
   deep = deepest_more _ _ c.moves.invariant.from _ _ _ _ _ _ c.moves.invariant.deep (c.in_ok-take-in-Take.ensures.ok) c.deeper-deep.ensures;
@@ -154,14 +154,14 @@ follow-moves-preserved-in-Take t c = record {
 }
 
 pub follow-returns-in_err-part-in-Read-clause-err : goal.follow-returns-in_err-part-in-Read-clause-err
-follow-returns-in_err-part-in-Read-clause-err t c = handed_on _ _ _ _ c.from_residual-in_err-part-in-Read.ensures.1 c.in_err-part-in-Read.ensures.err (λ n. sym c.moves.invariant.rest ∙ reads_none _ _ _ _ _ _ c.in-Read.ensures.asks n)
+follow-returns-in_err-part-in-Read-clause-err t c = handed_on _ _ _ _ c.from_residual-in_err-part-in-Read.ensures.1 c.in_err-part-in-Read.ensures.err (λ n. sym c.moves.invariant.rest ∙ reads_none _ _ _ _ _ _ c.in-Read.ensures.expects n)
 
 pub follow-moves-smaller-in-Read : goal.follow-moves-smaller-in-Read
-follow-moves-smaller-in-Read t c = fewer_read c.args.depth c.in-Read.sort _ _ _ _ _ _ c.in-Read.ensures.few (added _ _ c.moves.invariant.from (part_at c.args.depth (sort_of c.in-Read.sort)) _ _ _ _ (c.in_ok-part-in-Read.ensures.ok))
+follow-moves-smaller-in-Read t c = fewer_read c.args.depth c.in-Read.nonterminal _ _ _ _ _ _ c.in-Read.ensures.few (added _ _ c.moves.invariant.from (part_at c.args.depth (nonterminal_of c.in-Read.nonterminal)) _ _ _ _ (c.in_ok-part-in-Read.ensures.ok))
 
 pub follow-moves-preserved-in-Read : goal.follow-moves-preserved-in-Read
 follow-moves-preserved-in-Read t c = record {
-  rest = reads _ _ _ _ _ _ _ _ c.in-Read.ensures.asks (added _ _ c.moves.invariant.from (part_at c.args.depth (sort_of c.in-Read.sort)) _ _ _ _ (c.in_ok-part-in-Read.ensures.ok)) ∙ c.moves.invariant.rest;
+  rest = reads _ _ _ _ _ _ _ _ c.in-Read.ensures.expects (added _ _ c.moves.invariant.from (part_at c.args.depth (nonterminal_of c.in-Read.nonterminal)) _ _ _ _ (c.in_ok-part-in-Read.ensures.ok)) ∙ c.moves.invariant.rest;
   below = take_push _ _ c.moves.invariant.from _ _ (c.in_ok-part-in-Read.ensures.ok).2 ∙ c.moves.invariant.below;
   from = within_push _ _ c.moves.invariant.from _ _ (c.in_ok-part-in-Read.ensures.ok).2;
   deep = deepest_more _ _ c.moves.invariant.from _ _ _ _ _ _ c.moves.invariant.deep (c.in_ok-part-in-Read.ensures.ok) c.deeper-deep-in-Read.ensures;
@@ -169,16 +169,16 @@ follow-moves-preserved-in-Read t c = record {
 }
 
 pub follow-moves-smaller-then-comes : goal.follow-moves-smaller-then-comes
-follow-moves-smaller-then-comes t c = fewer_left _ _ _ _ _ c.in-Choose.ensures.asks
+follow-moves-smaller-then-comes t c = fewer_left _ _ _ _ _ c.in-Choose.ensures.expects
 
 pub follow-moves-smaller : goal.follow-moves-smaller
-follow-moves-smaller t c = fewer_right _ _ _ _ _ c.in-Choose.ensures.asks
+follow-moves-smaller t c = fewer_right _ _ _ _ _ c.in-Choose.ensures.expects
 
 pub follow-moves-preserved-then-comes : goal.follow-moves-preserved-then-comes
-follow-moves-preserved-then-comes t c = record { rest = chooses_left _ _ _ _ _ _ _ c.in-Choose.ensures.asks (sym c.comes.ensures ∙ c.if-comes.true) ∙ c.moves.invariant.rest; below = c.moves.invariant.below; from = c.moves.invariant.from; deep = c.moves.invariant.deep; within = c.moves.invariant.within }
+follow-moves-preserved-then-comes t c = record { rest = chooses_left _ _ _ _ _ _ _ c.in-Choose.ensures.expects (sym c.comes.ensures ∙ c.if-comes.true) ∙ c.moves.invariant.rest; below = c.moves.invariant.below; from = c.moves.invariant.from; deep = c.moves.invariant.deep; within = c.moves.invariant.within }
 
 pub follow-moves-preserved : goal.follow-moves-preserved
-follow-moves-preserved t c = record { rest = chooses_right _ _ _ _ _ _ _ c.in-Choose.ensures.asks (sym c.comes.ensures ∙ c.if-comes.false) ∙ c.moves.invariant.rest; below = c.moves.invariant.below; from = c.moves.invariant.from; deep = c.moves.invariant.deep; within = c.moves.invariant.within }
+follow-moves-preserved t c = record { rest = chooses_right _ _ _ _ _ _ _ c.in-Choose.ensures.expects (sym c.comes.ensures ∙ c.if-comes.false) ∙ c.moves.invariant.rest; below = c.moves.invariant.below; from = c.moves.invariant.from; deep = c.moves.invariant.deep; within = c.moves.invariant.within }
 
 pub primary-returns-in_err-deep-clause-err : goal.primary-returns-in_err-deep-clause-err
 primary-returns-in_err-deep-clause-err t c = handed_on _ _ _ _ c.from_residual.ensures.1 c.in_err-deep.ensures.err (λ n. primary_none _ _ n)
@@ -283,16 +283,16 @@ pub items_of_row-closing_token-requires-clause-within : goal.items_of_row-closin
 items_of_row-closing_token-requires-clause-within t c = omega (arith, c.more.invariant.within, c.deeper-deep.ensures, c.in_ok-part.ensures.ok.3, part_depth _ _ _ _ _ c.in_ok-part.ensures.ok.1)
 
 pub items_of_row-returns-then-not-next_is-clause-ok : goal.items_of_row-returns-then-not-next_is-clause-ok
-items_of_row-returns-then-not-next_is-clause-ok t c = carry_ok _ _ _ _ _ _ _ (sym (item_last c.args.depth c.args.listed c.row-row.result c.more.invariant.row (drop c.args.from c.more.stack) c.more.leaves (sym c.next_is.ensures ∙ c.more-test.true) (drop c.args.from c.part.new.stack) c.part.new.leaves (added _ _ c.more.invariant.from (part_at c.args.depth (sort_of c.row-row.result.sort)) _ _ _ _ c.in_ok-part.ensures.ok) (sym c.next_is-in-more.ensures ∙ c.if-not-next_is.true) ∙ c.more.invariant.rest)) (take_push _ _ c.more.invariant.from _ _ c.in_ok-part.ensures.ok.2 ∙ c.more.invariant.below) c.closing_token.ensures.ok
+items_of_row-returns-then-not-next_is-clause-ok t c = carry_ok _ _ _ _ _ _ _ (sym (item_last c.args.depth c.args.listed c.row-row.result c.more.invariant.row (drop c.args.from c.more.stack) c.more.leaves (sym c.next_is.ensures ∙ c.more-test.true) (drop c.args.from c.part.new.stack) c.part.new.leaves (added _ _ c.more.invariant.from (part_at c.args.depth (nonterminal_of c.row-row.result.nonterminal)) _ _ _ _ c.in_ok-part.ensures.ok) (sym c.next_is-in-more.ensures ∙ c.if-not-next_is.true) ∙ c.more.invariant.rest)) (take_push _ _ c.more.invariant.from _ _ c.in_ok-part.ensures.ok.2 ∙ c.more.invariant.below) c.closing_token.ensures.ok
 
 pub items_of_row-returns-then-not-next_is-clause-err : goal.items_of_row-returns-then-not-next_is-clause-err
-items_of_row-returns-then-not-next_is-clause-err t c = carry_err _ _ _ (sym (item_last c.args.depth c.args.listed c.row-row.result c.more.invariant.row (drop c.args.from c.more.stack) c.more.leaves (sym c.next_is.ensures ∙ c.more-test.true) (drop c.args.from c.part.new.stack) c.part.new.leaves (added _ _ c.more.invariant.from (part_at c.args.depth (sort_of c.row-row.result.sort)) _ _ _ _ c.in_ok-part.ensures.ok) (sym c.next_is-in-more.ensures ∙ c.if-not-next_is.true) ∙ c.more.invariant.rest)) c.closing_token.ensures.err
+items_of_row-returns-then-not-next_is-clause-err t c = carry_err _ _ _ (sym (item_last c.args.depth c.args.listed c.row-row.result c.more.invariant.row (drop c.args.from c.more.stack) c.more.leaves (sym c.next_is.ensures ∙ c.more-test.true) (drop c.args.from c.part.new.stack) c.part.new.leaves (added _ _ c.more.invariant.from (part_at c.args.depth (nonterminal_of c.row-row.result.nonterminal)) _ _ _ _ c.in_ok-part.ensures.ok) (sym c.next_is-in-more.ensures ∙ c.if-not-next_is.true) ∙ c.more.invariant.rest)) c.closing_token.ensures.err
 
 pub items_of_row-returns-in_err-take-clause-err : goal.items_of_row-returns-in_err-take-clause-err
-items_of_row-returns-in_err-take-clause-err t c = handed_on _ _ _ _ c.from_residual-in_err-take.ensures.1 c.in_err-take.ensures.err (λ n. sym c.more.invariant.rest ∙ separator_none c.args.depth c.args.listed c.row-row.result c.more.invariant.row (drop c.args.from c.more.stack) c.more.leaves (sym c.next_is.ensures ∙ c.more-test.true) (drop c.args.from c.part.new.stack) c.part.new.leaves (added _ _ c.more.invariant.from (part_at c.args.depth (sort_of c.row-row.result.sort)) _ _ _ _ c.in_ok-part.ensures.ok) (sym c.next_is-in-more.ensures ∙ c.if-not-next_is.false) n)
+items_of_row-returns-in_err-take-clause-err t c = handed_on _ _ _ _ c.from_residual-in_err-take.ensures.1 c.in_err-take.ensures.err (λ n. sym c.more.invariant.rest ∙ separator_none c.args.depth c.args.listed c.row-row.result c.more.invariant.row (drop c.args.from c.more.stack) c.more.leaves (sym c.next_is.ensures ∙ c.more-test.true) (drop c.args.from c.part.new.stack) c.part.new.leaves (added _ _ c.more.invariant.from (part_at c.args.depth (nonterminal_of c.row-row.result.nonterminal)) _ _ _ _ c.in_ok-part.ensures.ok) (sym c.next_is-in-more.ensures ∙ c.if-not-next_is.false) n)
 
 pub items_of_row-more-smaller : goal.items_of_row-more-smaller
-items_of_row-more-smaller t c = item_shorter c.args.depth (sort_of c.row-row.result.sort) (terminals_of c.row-row.result.separator) c.more.leaves c.part.new.leaves c.take.new.leaves _ _ c.in_ok-part.ensures.ok.1 c.in_ok-take.ensures.ok.1
+items_of_row-more-smaller t c = item_shorter c.args.depth (nonterminal_of c.row-row.result.nonterminal) (terminals_of c.row-row.result.separator) c.more.leaves c.part.new.leaves c.take.new.leaves _ _ c.in_ok-part.ensures.ok.1 c.in_ok-take.ensures.ok.1
 
 pub items_of_row-more-preserved : goal.items_of_row-more-preserved
 items_of_row-more-preserved t c =
@@ -300,7 +300,7 @@ items_of_row-more-preserved t c =
     let within : c.deeper-deep.result ≤ c.args.depth = omega (arith, c.more.invariant.within, c.deeper-deep.ensures, c.in_ok-part.ensures.ok.3, part_depth _ _ _ _ _ c.in_ok-part.ensures.ok.1) in
     record {
       row = c.more.invariant.row;
-      rest = item_next c.args.depth c.args.listed c.row-row.result c.more.invariant.row (drop c.args.from c.more.stack) c.more.leaves (sym c.next_is.ensures ∙ c.more-test.true) (drop c.args.from c.part.new.stack) c.part.new.leaves (added _ _ c.more.invariant.from (part_at c.args.depth (sort_of c.row-row.result.sort)) _ _ _ _ c.in_ok-part.ensures.ok) (sym c.next_is-in-more.ensures ∙ c.if-not-next_is.false) (drop c.args.from c.take.new.self) c.take.new.leaves (added _ _ (within_push _ _ c.more.invariant.from _ _ c.in_ok-part.ensures.ok.2) (token_at (terminals_of c.row-row.result.separator)) _ _ _ _ c.in_ok-take.ensures.ok) ∙ c.more.invariant.rest;
+      rest = item_next c.args.depth c.args.listed c.row-row.result c.more.invariant.row (drop c.args.from c.more.stack) c.more.leaves (sym c.next_is.ensures ∙ c.more-test.true) (drop c.args.from c.part.new.stack) c.part.new.leaves (added _ _ c.more.invariant.from (part_at c.args.depth (nonterminal_of c.row-row.result.nonterminal)) _ _ _ _ c.in_ok-part.ensures.ok) (sym c.next_is-in-more.ensures ∙ c.if-not-next_is.false) (drop c.args.from c.take.new.self) c.take.new.leaves (added _ _ (within_push _ _ c.more.invariant.from _ _ c.in_ok-part.ensures.ok.2) (token_at (terminals_of c.row-row.result.separator)) _ _ _ _ c.in_ok-take.ensures.ok) ∙ c.more.invariant.rest;
       below = take_push _ _ (within_push _ _ c.more.invariant.from _ _ c.in_ok-part.ensures.ok.2) _ _ c.in_ok-take.ensures.ok.2 ∙ (take_push _ _ c.more.invariant.from _ _ c.in_ok-part.ensures.ok.2 ∙ c.more.invariant.below);
       from = within_push _ _ (within_push _ _ c.more.invariant.from _ _ c.in_ok-part.ensures.ok.2) _ _ c.in_ok-take.ensures.ok.2;
       deep = deepest_more _ _ (within_push _ _ c.more.invariant.from _ _ c.in_ok-part.ensures.ok.2) _ _ _ _ _ _ deep c.in_ok-take.ensures.ok c.deeper-deep-in-more.ensures;
@@ -329,7 +329,7 @@ pub token_and_part-returns-clause-ok : goal.token_and_part-returns-clause-ok
 token_and_part-returns-clause-ok t c =
     let from = within_push _ _ c.requires.from _ _ c.in_ok-take.ensures.ok.2 in (
       node_part c.args.kind (drop c.args.from c.part.new.stack),
-      both_read _ _ _ _ _ _ _ _ (added _ _ c.requires.from (token_at (terminals_of c.args.token)) _ _ _ _ c.in_ok-take.ensures.ok) _ _ (added _ _ from (part_at c.args.depth (sort_of c.args.sort)) _ _ _ _ c.in_ok-part.ensures.ok),
+      both_read _ _ _ _ _ _ _ _ (added _ _ c.requires.from (token_at (terminals_of c.args.token)) _ _ _ _ c.in_ok-take.ensures.ok) _ _ (added _ _ from (part_at c.args.depth (nonterminal_of c.args.nonterminal)) _ _ _ _ c.in_ok-part.ensures.ok),
       c.in_ok-close.ensures ∙ ap (λ (ps : List Part). ps ++ (node_part c.args.kind (drop c.args.from c.part.new.stack) ∷ [])) (take_push _ _ from _ _ c.in_ok-part.ensures.ok.2 ∙ take_push _ _ c.requires.from _ _ c.in_ok-take.ensures.ok.2),
       made_depth c.args.kind _ _ _ refl (deepest_more _ _ from _ _ _ _ _ _ (deepest_more _ _ c.requires.from _ _ _ _ _ _ c.requires.deep c.in_ok-take.ensures.ok c.deeper-front.ensures) c.in_ok-part.ensures.ok c.deeper-whole.ensures),
     )

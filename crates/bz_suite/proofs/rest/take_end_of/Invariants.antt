@@ -1,12 +1,12 @@
 use Rattle.std.proofs.Common.{◌≡◌, ◌++◌, length}
 use Rattle.bz_value.specs.Indented.{indented}
-use Rattle.bz_suite.specs.View.{behind_end, end_comments}
+use Rattle.bz_suite.specs.View.{after_end, end_comments}
 use Rattle.bz_suite.proofs.rest.take_end_of.Given as goal
 
 abbrev pub invariant-loop-first : goal.invariant-loop-first
 invariant-loop-first l = record {
-  end_ : l.end_ ++ end_comments l.margin (indented l.rest) ≡ l.fn.end_ ++ end_comments l.margin (indented l.gap);
-  rest : behind_end l.margin (indented l.rest) ≡ behind_end l.margin (indented l.gap);
+  end : l.end ++ end_comments l.margin (indented l.rest) ≡ l.fn.end ++ end_comments l.margin (indented l.gap);
+  rest : after_end l.margin (indented l.rest) ≡ after_end l.margin (indented l.gap);
 }
 
 abbrev pub decreases-loop-first : goal.decreases-loop-first

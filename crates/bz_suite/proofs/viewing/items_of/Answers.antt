@@ -10,10 +10,10 @@ use Rattle.bz_suite.proofs.viewing.items_of.Goals as goal
 
 pub loop-at-init : goal.loop-at-init
 loop-at-init c =
-    let first : indented c.only-rest.result.left.now ++ indented c.only-rest.result.gap.now ≡ indented_lines_before (map stated c.args.parts.now) [] = c.only-rest.ensures ∙ (ap indented c.gap_at.ensures ∙ lines_first c.args.parts.now) in
+    let first : indented c.rest_of_gap-rest.result.left.now ++ indented c.rest_of_gap-rest.result.gap.now ≡ indented_lines_before (map stated c.args.parts.now) [] = c.rest_of_gap-rest.ensures ∙ (ap indented c.gap_at.ensures ∙ lines_first c.args.parts.now) in
     record {
       items =
-          ap (λ xs. xs ++ bzl_items (indented c.only-rest.result.left.now ++ indented c.only-rest.result.gap.now) c.args.parts.now) c.new-items.ensures
+          ap (λ xs. xs ++ bzl_items (indented c.rest_of_gap-rest.result.left.now ++ indented c.rest_of_gap-rest.result.gap.now) c.args.parts.now) c.new-items.ensures
           ∙ ap (λ ls. bzl_items ls c.args.parts.now) first;
       going = λ _. ap (λ ls. lines_at_end ls c.args.parts.now) first;
       ended = λ short _. none_left c.args.parts.now short;
@@ -28,7 +28,7 @@ loop-at-preserved c =
     let left : List IndentedGapLine = indented c.in_ok-rest.rest.left.now ++ indented c.in_ok-rest.rest.gap.now in
     let all : List IndentedGapLine = lines_at_end (indented_lines_before (map stated ps) []) ps in
     let here : drop c.loop-at.at ps ≡ x ∷ xs = part_here ps c.loop-at.at x c.loop-at-test.true c.index-parts-at.is in
-    let after : indented c.gap_behind.result.now ≡ indented_lines_before (map stated xs) [] = c.gap_behind.ensures in
+    let after : indented c.gap_after.result.now ≡ indented_lines_before (map stated xs) [] = c.gap_after.ensures in
     let going : lines_at_end lines (x ∷ xs) ≡ all = ap (lines_at_end lines) (sym here) ∙ c.loop-at.invariant.going c.loop-at-test.true in
     record {
       items = c.in_ok-rest.ensures.items xs after ∙ (ap (λ zs. c.loop-at.items ++ bzl_items lines zs) (sym here) ∙ c.loop-at.invariant.items);

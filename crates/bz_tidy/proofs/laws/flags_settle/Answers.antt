@@ -6,6 +6,6 @@ use Rattle.bz_tidy.proofs.laws.flags_settle.Goals as goal
 pub returns : goal.returns
 returns c = record {
   once = flags_settle;
-  broken = λ kind split xs end_. same_split (sequence 0 0) kind split xs end_;
+  broken = λ kind split xs end. same_split (sequence 0 0) kind split xs end;
   comments = λ number x. flags_amount number x;
 }

@@ -12,4 +12,4 @@ returns-in-Ok-clause-step g c =
 
 pub returns-in-Err-clause-step : goal.returns-in-Err-clause-step
 returns-in-Err-clause-step g c =
-    rw (c.if-closed.false) (r.unprinted c.args.text.now, inr (refl, refl), refl, (c.in-Err.ensures.cause refl, c.in-Err.ensures.err), c.fail.ensures.told)
+    rw (c.if-closed.false) (r.unprinted c.args.text.now, inr (refl, refl), refl, (c.in-Err.ensures.cause refl, c.in-Err.ensures.err), c.fail.ensures.reported)

@@ -14,7 +14,7 @@ returns-in-Err-clause-step g c = λ honest.
       unread c.in-Err.fault (λ is. c.in-Err.ensures.absent honest (ap Err is)) refl (c.in-Err.ensures.same honest),
       c.unread_file.ensures.effect,
       quiet c.args.closed effect (g.W.Sink.faults c.args.out.now) (g.W.Sink.contents c.args.out.now) (unread_quiet c.args.name.now c.in-Err.fault),
-      c.unread_file.ensures.told,
+      c.unread_file.ensures.reported,
     )
 
 pub returns-in-Err-format_named-clause-step : goal.returns-in-Err-format_named-clause-step
@@ -30,7 +30,7 @@ returns-in-Err-format_named-clause-step g c = λ honest.
       unformatted found.0 fault found.1 of_file refl (c.in-Ok.ensures.same honest),
       c.refused.ensures.effect,
       quiet c.args.closed effect (g.W.Sink.faults c.args.out.now) (g.W.Sink.contents c.args.out.now) (refused_quiet name fault),
-      c.refused.ensures.told,
+      c.refused.ensures.reported,
     )
 
 pub returns-then-is_rewritten-clause-step : goal.returns-then-is_rewritten-clause-step
@@ -84,10 +84,10 @@ returns-in-Ok-file_out-clause-step g c = λ honest.
 
 pub returns-clause-step : goal.returns-clause-step
 returns-clause-step g c = λ honest.
-    let effect = r.wanting c.args.name.now in (
+    let effect = r.memory_effect c.args.name.now in (
       effect,
       without_memory refl (c.in-Ok.ensures.same honest),
       c.fail.ensures.effect,
       quiet c.args.closed effect (g.W.Sink.faults c.args.out.now) (g.W.Sink.contents c.args.out.now) (record { stays = refl; nothing = refl }),
-      c.fail.ensures.told,
+      c.fail.ensures.reported,
     )

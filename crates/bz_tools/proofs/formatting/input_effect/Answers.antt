@@ -1,6 +1,6 @@
 use Rattle.std.proofs.Common.{◌≡◌, ◌∙◌, refl, sym, subst, List, ℕ, false, Ok, Err}
 use Rattle.bz_tools.specs.FileKinds.{FormatsAs, is_bzl}
-use Rattle.bz_ports.specs.Told.{stdin}
+use Rattle.bz_ports.specs.Reported.{stdin}
 use Rattle.bz_tools.specs.FormatRun as r
 use Rattle.bz_tools.specs.FormatRun.{input_unread, input_without_memory, input_unformatted, input_printed, Prints, input_out, text_status}
 use Rattle.bz_ports.specs.declared.exit.Cut.TheVariants as cut
@@ -14,17 +14,17 @@ returns-in-Err-Read-clause-step g c =
       input_unread refl,
       c.fail.ensures.effect,
       quiet false effect (g.W.Sink.faults c.args.out.now) (g.W.Sink.contents c.args.out.now) (record { stays = refl; nothing = refl }),
-      c.fail.ensures.told,
+      c.fail.ensures.reported,
     )
 
 pub returns-in-Err-Memory-clause-step : goal.returns-in-Err-Memory-clause-step
 returns-in-Err-Memory-clause-step g c =
-    let effect = r.wanting stdin in (
+    let effect = r.memory_effect stdin in (
       effect,
       input_without_memory refl,
       c.fail-in-Err-Memory.ensures.effect,
       quiet false effect (g.W.Sink.faults c.args.out.now) (g.W.Sink.contents c.args.out.now) (record { stays = refl; nothing = refl }),
-      c.fail-in-Err-Memory.ensures.told,
+      c.fail-in-Err-Memory.ensures.reported,
     )
 
 pub returns-in-Err-clause-step : goal.returns-in-Err-clause-step
@@ -37,7 +37,7 @@ returns-in-Err-clause-step g c =
       input_unformatted some.0 fault some.1 some.2 refl,
       c.refused.ensures.effect,
       quiet false effect (g.W.Sink.faults c.args.out.now) (g.W.Sink.contents c.args.out.now) (refused_quiet stdin fault),
-      c.refused.ensures.told,
+      c.refused.ensures.reported,
     )
 
 pub returns-in-Ok-input_out-clause-step : goal.returns-in-Ok-input_out-clause-step
@@ -65,10 +65,10 @@ returns-in-Ok-input_out-clause-step g c =
 
 pub returns-clause-step : goal.returns-clause-step
 returns-clause-step g c =
-    let effect = r.wanting stdin in (
+    let effect = r.memory_effect stdin in (
       effect,
       input_without_memory refl,
       c.fail-in-Err-input_out.ensures.effect,
       quiet false effect (g.W.Sink.faults c.args.out.now) (g.W.Sink.contents c.args.out.now) (record { stays = refl; nothing = refl }),
-      c.fail-in-Err-input_out.ensures.told,
+      c.fail-in-Err-input_out.ensures.reported,
     )

@@ -7,4 +7,4 @@ returns-in-Ok-clause-step g c = λ honest. (r.output_effect [] 0, inl (refl, c.i
 
 pub returns-in-Err-clause-step : goal.returns-in-Err-clause-step
 returns-in-Err-clause-step g c = λ honest.
-    (r.unwritten c.args.name.now, inr (refl, c.in-Err.ensures.untouched honest, c.in-Err.ensures.either honest), c.fail.ensures.effect, c.fail.ensures.told)
+    (r.unwritten c.args.name.now, inr (refl, c.in-Err.ensures.untouched honest, c.in-Err.ensures.either honest), c.fail.ensures.effect, c.fail.ensures.reported)

@@ -3,7 +3,7 @@ use Rattle.bz_tools.specs.FormatRun as r
 use Rattle.bz_tools.specs.declared.effect.Progress.{Progress}
 use Rattle.bz_ports.specs.Outputs.{WritesUnlessClosed}
 use Rattle.bz_ports.proofs.Written.{left-cons}
-use Rattle.bz_ports.proofs.Outputs.{counts_more, appends_nothing, tells_more}
+use Rattle.bz_ports.proofs.Outputs.{counts_more, appends_nothing, reports_more}
 use Rattle.bz_tools.proofs.FormatRuns.{cut_more, status_more, files_more, grown_is, writes_on}
 use Rattle.bz_tools.proofs.formatting.run_files.Goals as goal
 
@@ -50,7 +50,7 @@ loop-name-preserved g c =
                 (W.contents c.args.out.now) (W.contents l.out) (W.contents e.new.out) so_far.0.out step.0.out so_far.3
                 (subst (λ (b : Bool). WritesUnlessClosed b step.0.closes (W.faults l.out) (W.faults e.new.out) (W.contents l.out)
                 (W.contents e.new.out) step.0.out) closed step.3),
-            tells_more (E.faults c.args.err.now) (E.faults l.err) (E.faults e.new.err) (E.contents c.args.err.now) (E.contents l.err)
+            reports_more (E.faults c.args.err.now) (E.faults l.err) (E.faults e.new.err) (E.contents c.args.err.now) (E.contents l.err)
                 (E.contents e.new.err) so_far.0.lines step.0.lines so_far.4 step.4,
           );
       status = λ other. rw (c.grown-progress.ensures) (status_more l.progress.cut e.result.cut l.progress.status e.result.status l.invariant.status e.ensures.status

@@ -10,28 +10,28 @@ use Rattle.bz_view.proofs.expr.+seen.Goals.{row_of-then-operator, row_of-else-op
 
 pub push_expr-returns-in_ok-push_form-in-Node-clause-exprs : goal.push_expr-returns-in_ok-push_form-in-Node-clause-exprs
 push_expr-returns-in_ok-push_form-in-Node-clause-exprs t c =
-    c.in_ok-push_form-in-Node.ensures.exprs ∙ ap (λ x. c.args.exprs.now.items ++ x ∷ []) (made_of_node c.args.part.now c.in-Node.node c.args.break_ c.in-Node.is)
+    c.in_ok-push_form-in-Node.ensures.exprs ∙ ap (λ x. c.args.exprs.now.items ++ x ∷ []) (made_of_node c.args.part.now c.in-Node.node c.args.line_break c.in-Node.is)
 
 pub push_expr-returns-in_ok-push_form-in-Node-clause-loose : goal.push_expr-returns-in_ok-push_form-in-Node-clause-loose
 push_expr-returns-in_ok-push_form-in-Node-clause-loose t c = c.in_ok-push_form-in-Node.ensures.loose ∙ ap (λ ls. c.args.loose.now ++ ls) (loose_of_node c.args.part.now c.in-Node.node c.in-Node.is)
 
-pub push_host-returns-then-is_quiet_behind-clause-items : goal.push_host-returns-then-is_quiet_behind-clause-items
-push_host-returns-then-is_quiet_behind-clause-items t c =
-    (host_quiet c.args.parts.now c.args.at c.index-parts-at.result c.args.above.now c.push_expr.new.loose c.is_quiet_behind.result c.args.items.now.items c.push_expr.new.exprs.items c.requires c.index-parts-at.is c.in_ok-push_expr.ensures.loose
-    (c.is_empty.ensures.0 c.if-is_empty.true) c.is_quiet_behind.ensures c.if-is_quiet_behind.true c.in_ok-push_expr.ensures.exprs).0
+pub push_host-returns-then-is_quiet_after-clause-items : goal.push_host-returns-then-is_quiet_after-clause-items
+push_host-returns-then-is_quiet_after-clause-items t c =
+    (host_quiet c.args.parts.now c.args.at c.index-parts-at.result c.args.above.now c.push_expr.new.loose c.is_quiet_after.result c.args.items.now.items c.push_expr.new.exprs.items c.requires c.index-parts-at.is c.in_ok-push_expr.ensures.loose
+    (c.is_empty.ensures.0 c.if-is_empty.true) c.is_quiet_after.ensures c.if-is_quiet_after.true c.in_ok-push_expr.ensures.exprs).0
 
-pub push_host-returns-then-is_quiet_behind-clause-end_ : goal.push_host-returns-then-is_quiet_behind-clause-end_
-push_host-returns-then-is_quiet_behind-clause-end_ t c =
-    (host_quiet c.args.parts.now c.args.at c.index-parts-at.result c.args.above.now c.push_expr.new.loose c.is_quiet_behind.result c.args.items.now.items c.push_expr.new.exprs.items c.requires c.index-parts-at.is c.in_ok-push_expr.ensures.loose
-    (c.is_empty.ensures.0 c.if-is_empty.true) c.is_quiet_behind.ensures c.if-is_quiet_behind.true c.in_ok-push_expr.ensures.exprs).1
+pub push_host-returns-then-is_quiet_after-clause-end : goal.push_host-returns-then-is_quiet_after-clause-end
+push_host-returns-then-is_quiet_after-clause-end t c =
+    (host_quiet c.args.parts.now c.args.at c.index-parts-at.result c.args.above.now c.push_expr.new.loose c.is_quiet_after.result c.args.items.now.items c.push_expr.new.exprs.items c.requires c.index-parts-at.is c.in_ok-push_expr.ensures.loose
+    (c.is_empty.ensures.0 c.if-is_empty.true) c.is_quiet_after.ensures c.if-is_quiet_after.true c.in_ok-push_expr.ensures.exprs).1
 
 pub push_host-returns-clause-items : goal.push_host-returns-clause-items
 push_host-returns-clause-items t c =
     (host_commented c.args.parts.now c.args.at c.index-parts-at.result c.args.above.now c.push_expr.new.loose c.comment_last.new.above c.args.items.now.items c.push_expr.new.exprs.items c.comment_last.new.items.items c.requires c.index-parts-at.is
     c.in_ok-push_expr.ensures.loose c.in_ok-push_expr.ensures.exprs c.in_ok-comment_last.ensures.above c.in_ok-comment_last.ensures.items).0
 
-pub push_host-returns-clause-end_ : goal.push_host-returns-clause-end_
-push_host-returns-clause-end_ t c =
+pub push_host-returns-clause-end : goal.push_host-returns-clause-end
+push_host-returns-clause-end t c =
     (host_commented c.args.parts.now c.args.at c.index-parts-at.result c.args.above.now c.push_expr.new.loose c.comment_last.new.above c.args.items.now.items c.push_expr.new.exprs.items c.comment_last.new.items.items c.requires c.index-parts-at.is
     c.in_ok-push_expr.ensures.loose c.in_ok-push_expr.ensures.exprs c.in_ok-comment_last.ensures.above c.in_ok-comment_last.ensures.items).1
 
@@ -49,7 +49,7 @@ row_of-loop-at-preserved t c =
       | row_of-else-operator w ↦ w.newline-is ∙ at_operand c.is_operator_in-operator.result _ w.if-operator.false
     ] in
     record {
-      exprs = row_more _ _ _ _ _ _ _ _ _ _ _ _ _ here c.is_operator_in-operator.ensures newline c.breaks_behind-break_.ensures refl c.loop-at.invariant.exprs c.in_ok-push_expr.ensures.exprs;
+      exprs = row_more _ _ _ _ _ _ _ _ _ _ _ _ _ here c.is_operator_in-operator.ensures newline c.breaks_after-line_break.ensures refl c.loop-at.invariant.exprs c.in_ok-push_expr.ensures.exprs;
       loose = loose_more c.loop-at.at _ _ _ _ _ _ _ here c.in_ok-push_gap.ensures c.in_ok-push_expr.ensures.loose c.loop-at.invariant.loose;
     }
 
@@ -71,7 +71,7 @@ pub seq_of-loop-at-preserved : goal.seq_of-loop-at-preserved
 seq_of-loop-at-preserved t c = record {
   within = omega arith;
   items = c.in_ok-push_host.ensures.items ∙ c.loop-at.invariant.items;
-  end_ = c.in_ok-push_host.ensures.end_ ∙ c.loop-at.invariant.end_;
+  end = c.in_ok-push_host.ensures.end ∙ c.loop-at.invariant.end;
 }
 
 pub head_of-returns-clause-loose : goal.head_of-returns-clause-loose
@@ -87,4 +87,4 @@ push_loose-returns-in_ok-_form-in-Node t c = c.in_ok-_form-in-Node.ensures.loose
 
 pub seq_of-returns : goal.seq_of-returns
 seq_of-returns t c =
-    items_done c.args.parts.now (drop c.args.from c.args.parts.now) c.loop-at.at c.loop-at.above c.loop-at.items.items _ _ (omega arith) c.from_vec.ensures c.loop-at.invariant.items c.loop-at.invariant.end_ c.breaks_from.ensures
+    items_done c.args.parts.now (drop c.args.from c.args.parts.now) c.loop-at.at c.loop-at.above c.loop-at.items.items _ _ (omega arith) c.from_vec.ensures c.loop-at.invariant.items c.loop-at.invariant.end c.breaks_from.ensures

@@ -20,7 +20,7 @@ abbrev pub invariant-seq_of-loop-at : goal.invariant-seq_of-loop-at
 invariant-seq_of-loop-at l = record {
   within : l.at ≤ length l.parts + 2;
   items : l.items.items ++ (items_in l.above (map seen (drop l.at l.parts))).0 ≡ (items_in (all_in (first_seen_gap (map seen (drop l.from l.parts)))) (map seen (drop l.from l.parts))).0;
-  end_ : (items_in l.above (map seen (drop l.at l.parts))).1 ≡ (items_in (all_in (first_seen_gap (map seen (drop l.from l.parts)))) (map seen (drop l.from l.parts))).1;
+  end : (items_in l.above (map seen (drop l.at l.parts))).1 ≡ (items_in (all_in (first_seen_gap (map seen (drop l.from l.parts)))) (map seen (drop l.from l.parts))).1;
 }
 
 abbrev pub decreases-seq_of-loop-at : goal.decreases-seq_of-loop-at

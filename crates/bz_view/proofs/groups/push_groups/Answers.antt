@@ -1,11 +1,11 @@
 use Rattle.std.proofs.lemmas.Result.{IfOk-weaker}
 use Rattle.bz_value.specs.Gaps.{lines_of}
-use Rattle.bz_view.proofs.GroupSteps.{groups_pushed, groups_kept, told}
+use Rattle.bz_view.proofs.GroupSteps.{groups_pushed, groups_kept, decoded}
 use Rattle.bz_view.proofs.groups.push_groups.Goals as goal
 
 pub returns-clause-blocks : goal.returns-clause-blocks
 returns-clause-blocks c =
-    told c.push_lines-2.result _ _
+    decoded c.push_lines-2.result _ _
     (λ last pushed. groups_pushed (lines_of c.args.left.now) (lines_of c.args.gap.now) _ c.in_ok-group.group last c.args.items.now _ _ c.new.ensures c.in_ok-group.ensures.blocks pushed)
     c.push_lines-2.ensures.blocks
 

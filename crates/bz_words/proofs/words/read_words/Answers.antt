@@ -16,13 +16,13 @@ loop-byte-preserved c =
     let l = c.loop-byte in
     elim c.if-is_separating.branch [
       | then-is_separating+in_ok-close w ↦ turn_at_space full l.words.items c.if-is_separating.words.items l.word.items c.if-is_separating.word.items
-          l.left.now l.behind_backslash c.in-Some.field-0-0.now c.in-Some.rest.now c.in-Some.ensures.cases.0 l.invariant
+          l.left.now l.after_backslash c.in-Some.field-0-0.now c.in-Some.rest.now c.in-Some.ensures.cases.0 l.invariant
           (sym c.is_separating.ensures ∙ w.if-is_separating.true) (cc w.in_ok-close.ensures) (cc)
       | else-is_separating+then-not-is_dropped+in_ok-push w ↦ turn_at_byte full l.words.items c.if-is_separating.words.items l.word.items c.if-is_separating.word.items
-          l.left.now l.behind_backslash c.in-Some.field-0-0.now c.in-Some.rest.now c.in-Some.ensures.cases.0 l.invariant
+          l.left.now l.after_backslash c.in-Some.field-0-0.now c.in-Some.rest.now c.in-Some.ensures.cases.0 l.invariant
           (sym c.is_separating.ensures ∙ w.if-is_separating.false) (sym w.is_dropped.ensures ∙ search rules) (cc) (cc w.in_ok-push.ensures.items)
       | else-is_separating+else-not-is_dropped w ↦ turn_at_backslash full l.words.items c.if-is_separating.words.items l.word.items c.if-is_separating.word.items
-          l.left.now l.behind_backslash c.in-Some.field-0-0.now c.in-Some.rest.now c.in-Some.ensures.cases.0 l.invariant
+          l.left.now l.after_backslash c.in-Some.field-0-0.now c.in-Some.rest.now c.in-Some.ensures.cases.0 l.invariant
           (sym w.is_dropped.ensures ∙ search rules) (cc) (cc)
     ]
 
@@ -31,6 +31,6 @@ returns c =
     let l = c.loop-byte in
     let none : l.left.now ≡ [] = nil_from_length l.left.now c.in_default.ensures.cases in
     let same : c.close-2.new.words.items ≡ words_of c.args.text.now =
-    c.in_ok-close-2.ensures ∙ onward l.word.items l.left.now [] l.behind_backslash (words_of c.args.text.now) _ l.words.items l.invariant none
-    (words_end l.word.items l.behind_backslash) in
+    c.in_ok-close-2.ensures ∙ onward l.word.items l.left.now [] l.after_backslash (words_of c.args.text.now) _ l.words.items l.invariant none
+    (words_end l.word.items l.after_backslash) in
     record { words = same; utf8 = λ u. subst AreUtf8 (sym same) (words_utf8 c.args.text.now u) }

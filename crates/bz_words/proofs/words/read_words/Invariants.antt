@@ -4,7 +4,7 @@ use Rattle.bz_words.proofs.Pieces.{words_after}
 use Rattle.bz_words.proofs.words.read_words.Given as goal
 
 abbrev pub invariant-loop-byte : goal.invariant-loop-byte
-invariant-loop-byte l = l.words.items ++ words_after l.word.items l.behind_backslash l.left ≡ words_of l.fn.text
+invariant-loop-byte l = l.words.items ++ words_after l.word.items l.after_backslash l.left ≡ words_of l.fn.text
 
 abbrev pub decreases-loop-byte : goal.decreases-loop-byte
 decreases-loop-byte l = length l.left

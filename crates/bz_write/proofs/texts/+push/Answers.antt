@@ -28,9 +28,9 @@ push_stacked-loop-item-preserved t c = stacked_turn _ _ _ _ _ _ _ c.item-item.re
 
 pub push_stacked_item-returns : goal.push_stacked_item-returns
 push_stacked_item-returns t c =
-    subst (λ text. OnOk c.push_behind.result (c.push_behind.new.out.items ≡ text))
-    (item_written _ _ _ _ _ _ _ c.args.item.now _ _ _ c.comments-comments.ensures c.in_ok-inner.ensures c.in_ok-push_line.ensures c.before-2.ensures c.in_ok-push_above.ensures c.in_ok-push_expr.ensures c.in_ok-push.ensures.items c.suffix.ensures)
-    c.push_behind.ensures
+    subst (λ text. OnOk c.push_after.result (c.push_after.new.out.items ≡ text))
+    (item_written _ _ _ _ _ _ _ c.args.item.now _ _ _ c.comments-comments.ensures c.in_ok-inner.ensures c.in_ok-push_new_line.ensures c.before-2.ensures c.in_ok-push_above.ensures c.in_ok-push_expr.ensures c.in_ok-push.ensures.items c.suffix.ensures)
+    c.push_after.ensures
 
 pub push_sequence-returns : goal.push_sequence-returns
 push_sequence-returns t c =

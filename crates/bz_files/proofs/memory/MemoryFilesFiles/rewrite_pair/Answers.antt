@@ -10,7 +10,7 @@ returns-in_err-replace-clause-time c = λ honest.
     let old = c.args.self.now.log.items in
     let mid = c.replace.new.self.log.items in
     let there : get (folder_after old) c.args.file.now ≡ Some c.args.held.now = search rules in
-    one_checks c.args.journal.now c.args.told.now c.args.file.now c.args.text.now (folder_after old) c.args.held.now there
+    one_checks c.args.journal.now c.args.stored.now c.args.file.now c.args.text.now (folder_after old) c.args.held.now there
     (length old) (length mid) (StoodSince old) (StoodSince mid) (c.replace.ensures.time honest)
 
 pub returns-clause-time : goal.returns-clause-time
@@ -19,12 +19,12 @@ returns-clause-time c = λ honest.
     let mid = c.replace.new.self.log.items in
     let new = c.replace-2.new.self.log.items in
     let there : get (folder_after old) c.args.file.now ≡ Some c.args.held.now = search rules in
-    both_check c.args.journal.now c.args.told.now c.args.file.now c.args.text.now (folder_after old) c.args.held.now there
+    both_check c.args.journal.now c.args.stored.now c.args.file.now c.args.text.now (folder_after old) c.args.held.now there
     (folder_after mid) (c.in_ok-replace.ensures.replaced honest) (length old) (length mid) (length new) (StoodSince old) (StoodSince mid) (StoodSince new)
     (c.replace.ensures.time honest) (c.replace-2.ensures.time honest)
 
 pub returns-clause-replaced : goal.returns-clause-replaced
 returns-clause-replaced c = λ honest. on_ok_weaker c.replace-2.result
-    (both c.args.journal.now c.args.told.now c.args.file.now c.args.text.now (folder_after c.args.self.now.log.items)
+    (both c.args.journal.now c.args.stored.now c.args.file.now c.args.text.now (folder_after c.args.self.now.log.items)
     (folder_after c.replace.new.self.log.items) (c.in_ok-replace.ensures.replaced honest) (folder_after c.replace-2.new.self.log.items))
     (c.replace-2.ensures.replaced honest)

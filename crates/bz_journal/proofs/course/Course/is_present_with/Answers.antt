@@ -17,4 +17,4 @@ returns c =
     let stand : IsTrue c.stand_in.result ↔ ((tree_with c.args.lines.now tree).parts ≡ tree.parts) =
     subst (λ (n : Node). IsTrue c.stand_in.result ↔ ((tree_with c.args.lines.now n).parts ≡ n.parts)) same c.stand_in.ensures in
     let text = parts_stay c.one_reading.ensures (tree_with c.args.lines.now tree) tree (present (session_history c.args.self.now)) (with_kind c.args.lines.now tree) c.requires.next reads is in
-    (λ told. text.0 (stand.0 told), λ stays. stand.1 (text.1 stays))
+    (λ printed_answer. text.0 (stand.0 printed_answer), λ stays. stand.1 (text.1 stays))

@@ -1,7 +1,7 @@
 use Rattle.std.proofs.Common.{◌≡◌, drop}
-use Rattle.bz_list.specs.KnownValues.{asked}
+use Rattle.bz_list.specs.KnownValues.{membership}
 use Rattle.bz_list.specs.Listing.{with_lists}
 use Rattle.bz_list.proofs.known.Known.insert_lists.Given as goal
 
 abbrev pub invariant-loop-x : goal.invariant-loop-x
-invariant-loop-x l = with_lists (drop l.x-index l.operands) (asked l.self) ≡ with_lists l.operands (asked l.fn.self)
+invariant-loop-x l = with_lists (drop l.x-index l.operands) (membership l.self) ≡ with_lists l.operands (membership l.fn.self)

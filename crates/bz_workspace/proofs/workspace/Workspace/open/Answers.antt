@@ -5,7 +5,7 @@ use Rattle.bz_workspace.specs.Found.{found_in}
 use Rattle.bz_workspace.specs.Packages as p
 use Rattle.bz_workspace.proofs.FileSteps.{before_added, closed_last, put_last}
 use Rattle.bz_workspace.proofs.FoundSteps.{plain_opens}
-use Rattle.bz_workspace.proofs.OpenedSteps.{added, last_within, puts_behind, puts_there}
+use Rattle.bz_workspace.proofs.OpenedSteps.{added, last_within, puts_after, puts_there}
 use Rattle.bz_workspace.proofs.workspace.Workspace.open.Goals as goal
 
 pub open_first-requires-clause-closed : goal.open_first-requires-clause-closed
@@ -47,7 +47,7 @@ pub returns-in-Ok-clause-kept : goal.returns-in-Ok-clause-kept
 returns-in-Ok-clause-kept g c =
     before_added c.in-Ok.place c.args.self.now c.add.new.self c.open_first.new.self (record { «package» = c.as_bytes-2.result.now; file = None })
     c.in-Ok.ensures.place c.in-Ok.ensures.ok
-    (puts_behind c.in-Ok.place _ _ c.add.new.self c.open_first.new.self c.open_first.ensures.puts)
+    (puts_after c.in-Ok.place _ _ c.add.new.self c.open_first.new.self c.open_first.ensures.puts)
 
 pub returns-in-Ok-clause-adds : goal.returns-in-Ok-clause-adds
 returns-in-Ok-clause-adds g c = λ none.

@@ -1,15 +1,15 @@
 use Rattle.std.proofs.Common.{◌≡◌, ◌∙◌, ◌<◌, ◌-◌, ◌^◌, inl, inr, arith, ap, sym, subst, refl, take, length, Ok, Err, Some, None, [], ◌∷◌, true}
 use Rattle.bz_items.specs.Characters.{Bytes}
 use Rattle.bz_keep.specs.Pair.{journal_name}
-use Rattle.bz_ports.specs.Outputs.{Tells}
-use Rattle.bz_ports.specs.Told.{named_line}
+use Rattle.bz_ports.specs.Outputs.{Reports}
+use Rattle.bz_ports.specs.Reported.{named_line}
 use Rattle.bz_workspace.specs.Journals.{TakesBeside, fault_word, hints_of_journal, journal_beside, lines_of_journal}
 use Rattle.bz_workspace.specs.Packages as p
 use Rattle.bz_workspace.specs.Packages.{opened_with, with_opened}
 use Rattle.bz_workspace.specs.Shown.{opened_in}
 use Rattle.bz_workspace.specs.declared.opening.Opening.{Opening}
 use Rattle.bz_workspace.proofs.FileSteps.{none_stays}
-use Rattle.bz_workspace.proofs.JournalSteps.{none_beside, plain_beside, read_beside, told_gives}
+use Rattle.bz_workspace.proofs.JournalSteps.{none_beside, plain_beside, read_beside, reported_gives}
 use Rattle.bz_workspace.proofs.OpenedSteps.{nothing_put, taken_put}
 use Rattle.bz_workspace.proofs.workspace.Workspace.open_found.Goals as goal
 
@@ -18,17 +18,17 @@ returns-in-Ok-resumed-clause-whole g c = λ honest cut.
     let name = c.args.name.now in
     let text = c.args.text.items in
     let bytes = c.in-Ok-bytes_of.bytes in
-    let told = c.as_slice.result.now in
-    let same : told ≡ bytes.items = c.as_slice.ensures.value in
+    let reported = c.as_slice.result.now in
+    let same : reported ≡ bytes.items = c.as_slice.ensures.value in
     let long = ap length same in
     let ok = bytes.ok in
     let small = bytes.small in
-    let short : length told < 2 ^ 64 - 1 = omega (arith, ok.0, ok.1, small, long) in
+    let short : length reported < 2 ^ 64 - 1 = omega (arith, ok.0, ok.1, small, long) in
     let held = c.in-Ok-bytes_of.ensures.found honest in
     let given = c.in-Ok-resumed.ensures.ok in (
       Some (opened_with name text given.0),
       [],
-      read_beside c.args.journals (g.F.Files.folder c.args.files.now) c.args.package.now name c.as_str-journal.result.now told held.0 text (Ok given.0) (2 ^ 64 - 1)
+      read_beside c.args.journals (g.F.Files.folder c.args.files.now) c.args.package.now name c.as_str-journal.result.now reported held.0 text (Ok given.0) (2 ^ 64 - 1)
           c.if-not-journals.false (c.as_str-journal.ensures.value ∙ c.in-Ok.ensures) held.1 short (same ∙ held.2) given.1,
       c.put.ensures.put ∙ ap (λ (file : p.Opened). with_opened c.args.place (Some file) c.args.self.now) given.2,
       ap (λ (o : Opening). o.place) c.put.ensures.opening,
@@ -40,12 +40,12 @@ returns-in-Ok-bytes_of-clause-whole g c = λ honest cut.
     let name = c.args.name.now in
     let text = c.args.text.items in
     let bytes = c.in-Ok-bytes_of.bytes in
-    let told = c.as_slice.result.now in
-    let same : told ≡ bytes.items = c.as_slice.ensures.value in
+    let reported = c.as_slice.result.now in
+    let same : reported ≡ bytes.items = c.as_slice.ensures.value in
     let long = ap length same in
     let ok = bytes.ok in
     let small = bytes.small in
-    let short : length told < 2 ^ 64 - 1 = omega (arith, ok.0, ok.1, small, long) in
+    let short : length reported < 2 ^ 64 - 1 = omega (arith, ok.0, ok.1, small, long) in
     let held = c.in-Ok-bytes_of.ensures.found honest in
     let fault = c.in-Err-resumed.fault in
     let called : c.as_str-journal.result.now ≡ journal_name name = c.as_str-journal.ensures.value ∙ c.in-Ok.ensures in
@@ -54,13 +54,13 @@ returns-in-Ok-bytes_of-clause-whole g c = λ honest cut.
     let new = c.unresumed.new.err in (
       None,
       lines_of_journal name (Err fault),
-      read_beside c.args.journals (g.F.Files.folder c.args.files.now) c.args.package.now name c.as_str-journal.result.now told held.0 text (Err fault) (2 ^ 64 - 1) c.if-not-journals.false called held.1 short
+      read_beside c.args.journals (g.F.Files.folder c.args.files.now) c.args.package.now name c.as_str-journal.result.now reported held.0 text (Err fault) (2 ^ 64 - 1) c.if-not-journals.false called held.1 short
           (same ∙ held.2)
-          (told_gives c.args.package.now told text fault (c.unresumed.ensures.whole cut) c.in-Err-resumed.ensures.err),
+          (reported_gives c.args.package.now reported text fault (c.unresumed.ensures.whole cut) c.in-Err-resumed.ensures.err),
       sym (none_stays c.args.place c.args.self.now c.requires.closed),
       c.unresumed.ensures.place,
-      subst (λ (journal : Bytes). Tells (errors.faults old) (errors.faults new) (errors.contents old) (errors.contents new)
-          (named_line journal (fault_word fault) ∷ hints_of_journal journal fault)) called c.unresumed.ensures.told,
+      subst (λ (journal : Bytes). Reports (errors.faults old) (errors.faults new) (errors.contents old) (errors.contents new)
+          (named_line journal (fault_word fault) ∷ hints_of_journal journal fault)) called c.unresumed.ensures.reported,
     )
 
 pub returns-in-Err-Absent-clause-whole : goal.returns-in-Err-Absent-clause-whole
@@ -80,19 +80,19 @@ returns-in-Ok-resumed-clause-puts g c =
     let name = c.args.name.now in
     let text = c.args.text.items in
     let bytes = c.in-Ok-bytes_of.bytes in
-    let told = c.as_slice.result.now in
-    let same : told ≡ bytes.items = c.as_slice.ensures.value in
+    let reported = c.as_slice.result.now in
+    let same : reported ≡ bytes.items = c.as_slice.ensures.value in
     let long = ap length same in
     let ok = bytes.ok in
     let small = bytes.small in
-    let short : length told < 2 ^ 64 - 1 = omega (arith, ok.0, ok.1, small, long) in
+    let short : length reported < 2 ^ 64 - 1 = omega (arith, ok.0, ok.1, small, long) in
     let folder = g.F.Files.folder c.args.files.now in
     let given = c.in-Ok-resumed.ensures.ok in
     taken_put (g.F.Files.honest c.args.files.now ≡ true) (journal_beside c.args.journals folder name) c.args.package.now name text c.args.place _ c.args.self.now c.put.new.self
     (Some (opened_in c.in-Ok-resumed.file)) [] (λ honest.
     let held = c.in-Ok-bytes_of.ensures.found honest in
     subst (λ (f : p.Opened). TakesBeside (journal_beside c.args.journals folder name) c.args.package.now name text (Some f) []) (sym given.2)
-    (read_beside c.args.journals folder c.args.package.now name c.as_str-journal.result.now told held.0 text (Ok given.0) (2 ^ 64 - 1) c.if-not-journals.false (c.as_str-journal.ensures.value ∙ c.in-Ok.ensures)
+    (read_beside c.args.journals folder c.args.package.now name c.as_str-journal.result.now reported held.0 text (Ok given.0) (2 ^ 64 - 1) c.if-not-journals.false (c.as_str-journal.ensures.value ∙ c.in-Ok.ensures)
     held.1 short (same ∙ held.2) given.1)) c.put.ensures.put (ap (λ (o : Opening). o.place) c.put.ensures.opening)
 
 pub returns-in-Err-Absent-clause-puts : goal.returns-in-Err-Absent-clause-puts

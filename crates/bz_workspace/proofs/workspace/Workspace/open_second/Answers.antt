@@ -1,5 +1,5 @@
 use Rattle.std.proofs.Common.{◌∙◌, ap, sym, refl, Err, None, [], ◌∷◌, codes, subst, Some, inr}
-use Rattle.bz_ports.specs.Told.{named_line}
+use Rattle.bz_ports.specs.Reported.{named_line}
 use Rattle.bz_workspace.specs.declared.opening.Opening.{Opening}
 use Rattle.bz_workspace.proofs.FileSteps.{none_stays}
 use Rattle.bz_workspace.proofs.FoundSteps.{second_opens, neither_opens}
@@ -31,7 +31,7 @@ returns-in-Err-Absent-clause-second g c = λ honest cut.
           (c.in-Err-Absent.ensures.absent honest (ap Err c.in-Err-Absent.field-0-is)),
       sym (none_stays c.args.place c.args.self.now c.requires.closed),
       ap (λ (o : Opening). o.place) c.fail.ensures.opening,
-      (g.E.Sink.faults c.fail.new.err, g.E.Sink.contents c.fail.new.err, c.fail.ensures.told, (refl, refl)),
+      (g.E.Sink.faults c.fail.new.err, g.E.Sink.contents c.fail.new.err, c.fail.ensures.reported, (refl, refl)),
     )
 
 pub returns-in-Ok-bytes_of-clause-puts : goal.returns-in-Ok-bytes_of-clause-puts

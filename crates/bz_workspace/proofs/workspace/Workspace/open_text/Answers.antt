@@ -1,5 +1,5 @@
 use Rattle.std.proofs.Common.{◌∙◌, ap, refl, None, [], ◌∷◌, map}
-use Rattle.bz_ports.specs.Told.{fault_line}
+use Rattle.bz_ports.specs.Reported.{fault_line}
 use Rattle.bz_workspace.specs.Kept.{texts_of_keys}
 use Rattle.bz_workspace.specs.Packages.{with_opened}
 use Rattle.bz_workspace.specs.Shown.{used_in}
@@ -21,5 +21,5 @@ returns-in_default-clause-whole g c = λ _.
       refused_takes c.args.package.now name c.args.text.items fault c.in-Err.ensures.err c.in_default.not-Memory,
       c.put_file.ensures ∙ ap (with_opened c.args.place None) c.self.view_is,
       ap (λ (o : Opening). o.place) c.without_file-in_default.ensures,
-      (g.E.Sink.faults c.tell_fault.new.err, g.E.Sink.contents c.tell_fault.new.err, c.tell_fault.ensures, (refl, refl)),
+      (g.E.Sink.faults c.report_fault.new.err, g.E.Sink.contents c.report_fault.new.err, c.report_fault.ensures, (refl, refl)),
     )

@@ -1,0 +1,171 @@
+//! Commands that leave the present text as it is, answered by the value beside a session.
+ghost use Rattle.std.specs.Prelude.{◌≡◌, ◌⊎◌, ◌↔◌, None, Ok, Err, IfErr, IfOk, IfSome};
+ghost use Rattle.std.specs.Option.{unwrap_or};
+ghost use Rattle.bz_journal.specs.Clauses.{AreLookupsOf, Bytes, IsBeside, IsIndexOf, MakesOrWants, Node, Refusal, effect, lines_of, printed, session_history, view_of};
+ghost use Rattle.bz_journal.specs.Actions as a;
+
+use crate::action::Reply;
+use crate::beside::Beside;
+use crate::course::{Course, unchanged};
+use crate::meaning::{lines_for, printed_answer, value_of};
+use bz_command::{Outcome, looks_at_lines, run_named};
+use bz_formatter::reads_back;
+use bz_items::{Items, Memory};
+use bz_label::{Target, Which};
+use bz_names::Names;
+use bz_tree::Tree;
+use bz_value::{File, Refusal};
+use bz_words::Command;
+use std::alloc::Global;
+
+/// What is looked up in a text that stays, each made when a command needs it.
+#[derive(Drop)]
+pub(crate) struct Lookups {
+    /// The index of the names of its rules.
+    pub(crate) names: Option<Names>,
+    /// The lines on which its statements begin.
+    pub(crate) lines: Option<Items<u32>>,
+}
+
+impl Lookups {
+    /// Nothing was needed yet.
+    pub(crate) fn none() -> Lookups
+        ensures { (tree : Node) → AreLookupsOf result tree }
+    {
+        Lookups {
+            names: None,
+            lines: None,
+        }
+    }
+}
+
+/// Runs a command on the value of a tree, which stays, by the lines on which its statements begin, where these are kept, and by the
+/// index of its names, where there is one. Errors: those of the command.
+fn run_beside(
+    alloc: Global,
+    command: &Command,
+    target: &Target,
+    current: &[u8],
+    tree: &Tree,
+    lookups: &Lookups,
+    file: &File,
+) -> Result<Outcome, Refusal>
+    requires names { IfSome lookups.now.names (λ index. IsIndexOf index file.now) }
+    requires lines { IfSome lookups.now.lines (λ lines. lines ≡ lines_of tree.now) }
+    ensures ok { IfOk result (λ outcome. (outcome.file ≡ None) → effect command.now target.now current.now (lines_of tree.now) file.now ≡ Ok file.now) }
+    ensures printed { IfOk result (λ outcome. printed command.now target.now current.now (lines_of tree.now) file.now ≡ Ok outcome.printed) }
+    ensures err { IfErr result (λ refusal. (effect command.now target.now current.now (lines_of tree.now) file.now ≡ Err refusal) ⊎ (refusal ≡ Refusal.Memory)) }
+{
+    let names = lookups.names.as_ref();
+    let Some(lines) = &lookups.lines else {
+        let lines = lines_for(alloc, command, target, tree)?;
+        let lines = lines.as_slice();
+        return run_named(alloc, command, target, current, lines, names, file);
+    };
+    let lines = lines.as_slice();
+    run_named(alloc, command, target, current, lines, names, file)
+}
+
+/// What a command answers of the value of the present text; none where it would change that.
+fn answer_of(
+    course: &Course,
+    command: &Command,
+    target: &Target,
+    lookups: &Lookups,
+    file: &File,
+) -> Option<Result<Reply, Refusal>>
+    requires value { file.now ≡ view_of course.now.tree }
+    requires lookups { AreLookupsOf lookups.now course.now.tree }
+    ensures { IfSome result (λ answer. (note : Bytes) → MakesOrWants (a.Do command.now target.now) note (session_history course.now) answer (session_history course.now)) }
+{
+    let alloc = course.alloc();
+    let here = course.present();
+    reads_back(here);
+    match run_beside(
+        alloc,
+        command,
+        target,
+        course.own_package().as_bytes(),
+        here,
+        lookups,
+        file,
+    ) {
+        Ok(outcome) => {
+            let Outcome {
+                file: made,
+                printed,
+            } = outcome;
+            if made.is_some() {
+                return None;
+            }
+            Some(Ok(unchanged(printed_answer(command, printed))))
+        }
+        Err(refusal) => Some(Err(refusal)),
+    }
+}
+
+/// Makes an index of the names of a value, where there is none and the target is a name. The error: memory was refused.
+fn index_names(
+    alloc: Global,
+    target: &Target,
+    names: &mut Option<Names>,
+    file: &File,
+) -> Result<(), Memory>
+    requires { IfSome names.old (λ index. IsIndexOf index file.now) }
+    ensures { IfSome names.new (λ index. IsIndexOf index file.now) }
+{
+    if names.is_some() {
+        return Ok(());
+    }
+    if let Which::Name(_) = &target.which {
+        *names = Some(Names::of(alloc, file.items.as_slice())?);
+    }
+    Ok(())
+}
+
+/// Finds the lines on which the statements of a tree begin, where they are not there and a command depends on them. The error:
+/// memory was refused.
+fn find_lines(
+    alloc: Global,
+    command: &Command,
+    target: &Target,
+    lines: &mut Option<Items<u32>>,
+    tree: &Tree,
+) -> Result<(), Memory>
+    requires { IfSome lines.old (λ lines. lines ≡ lines_of tree.now) }
+    ensures { IfSome lines.new (λ lines. lines ≡ lines_of tree.now) }
+{
+    if lines.is_none() && looks_at_lines(command, target) {
+        *lines = Some(Items::from_vec(tree.lines(alloc)?));
+    }
+    Ok(())
+}
+
+/// What a command answers by the value of the present text, which is made where none is kept, and stays, as does what was looked up;
+/// none where the command would change the text.
+pub(crate) fn answer(
+    course: &Course,
+    beside: &mut Beside,
+    command: &Command,
+    target: &Target,
+) -> Option<Result<Reply, Refusal>>
+    requires { IsBeside course.now.tree beside.old }
+    ensures makes { IfSome result (λ answer. (note : Bytes) → MakesOrWants (a.Do command.now target.now) note (session_history course.now) answer (session_history course.now)) }
+    ensures beside { IsBeside course.now.tree beside.new }
+{
+    let alloc = course.alloc();
+    let here = course.present();
+    let Ok(file) = value_of(alloc, beside.value.take(), here) else {
+        return Some(Err(Refusal::Memory));
+    };
+    let lookups = &mut beside.lookups;
+    if index_names(alloc, target, &mut lookups.names, &file).is_err() {
+        return Some(Err(Refusal::Memory));
+    }
+    if find_lines(alloc, command, target, &mut lookups.lines, here).is_err() {
+        return Some(Err(Refusal::Memory));
+    }
+    let answer = answer_of(course, command, target, &beside.lookups, &file);
+    beside.value = Some(file);
+    answer
+}

@@ -1,0 +1,207 @@
+//! Over the steps of a stranger, each of which is tested. No more than one tree is held at a time.
+ghost use Rattle.std.specs.Prelude.{◌≡◌, ◌↔◌, IsTrue, IfOk, Err, MatchOption, length, reverse};
+ghost use Rattle.sha2.specs.Sha256.{sha256};
+ghost use Rattle.bz_tree.specs.declared.tree.Node.{Node};
+ghost use Rattle.bz_tree.specs.Legal.{NoTree, Reads};
+ghost use Rattle.bz_tree.specs.Spell.{spell_node};
+ghost use Rattle.bz_edit.specs.Steps.{swap_node};
+ghost use Rattle.bz_trail.specs.Trails.{IsTree};
+ghost use Rattle.bz_resume.specs.declared.fault.Halt.TheVariants as h;
+ghost use Rattle.bz_resume.specs.Outlines.{outline_node};
+ghost use Rattle.bz_resume.specs.Agreement.{StepAgrees, StepsAgree};
+
+use crate::fault::Halt;
+use crate::outlining::outline_of;
+use crate::placing::swap;
+use crate::reading::read;
+use crate::touching::is_led_to;
+use bz_edit::{EditFault, Step};
+use bz_items::{Items, Memory};
+use bz_parse::parse;
+use bz_tree::{LENGTH_LIMIT, Node, ReadFault, Tree};
+use sha2::{Digest, Sha256};
+use std::alloc::{AllocError, Global};
+
+/// The root of a tree, where it has this outline. The error: a growth was refused.
+fn root_with(tree: Tree, outline: &[u8]) -> Result<Option<Node>, Memory>
+    ensures { IfOk result (λ found. MatchOption found (outline_node tree ≡ outline.now → ⊥) (λ root. (root ≡ tree) × (outline_node tree ≡ outline.now))) }
+{
+    let Tree { root } = tree;
+    let own = outline_of(&root)?;
+    if own.as_slice() == outline {
+        return Ok(Some(root));
+    }
+    Ok(None)
+}
+
+/// The tree that a text reads as, where it has the outline of a node that spells the text. The error: a growth was refused.
+fn read_as(alloc: Global, text: &[u8], outline: &[u8]) -> Result<Option<Node>, Memory>
+    ensures { (node : Node) → text.now ≡ spell_node node → outline.now ≡ outline_node node
+        → IfOk result (λ found. MatchOption found (IsTree node → ⊥) (λ root. (root ≡ node) × IsTree node)) }
+{
+    match parse(alloc, text) {
+        Ok(tree) => root_with(tree, outline),
+        Err(ReadFault::Memory) => Err(AllocError),
+        Err(_) => Ok(None),
+    }
+}
+
+/// Whether a node is a legal tree within the limit, by its spelling. The node is dropped while its spelling is read, since two
+/// trees take most of the memory of a run; it is the same again after that, where it is a tree. The error: a growth was refused.
+fn is_tree(node: &mut Node, text: &[u8]) -> Result<bool, Memory>
+    requires { text.now ≡ spell_node node.old }
+    ensures fine { IfOk result (λ fine. IsTrue fine ↔ IsTree node.old) }
+    ensures node { IfOk result (λ fine. IsTrue fine → node.new ≡ node.old) }
+{
+    let alloc = node.parts.alloc();
+    let outline = outline_of(node)?;
+    node.parts = Items::new(alloc);
+    match read_as(alloc, text, outline.as_slice())? {
+        Some(root) => {
+            *node = root;
+            Ok(true)
+        }
+        None => Ok(false),
+    }
+}
+
+/// Whether a text has a digest.
+pub(crate) fn has_digest(text: &[u8], digest: &[u8; 32]) -> bool
+    ensures { IsTrue result ↔ (sha256 text.now ≡ digest.now) }
+{
+    let own = Sha256::digest(text);
+    own.as_slice() == digest.as_slice()
+}
+
+/// The same of the node to which a step led from a tree: first by what the step touched, and by the whole text only where that
+/// says nothing.
+fn is_next_tree(node: &mut Node, step: &Step, text: &[u8]) -> Result<bool, Memory>
+    requires { text.now ≡ spell_node node.old }
+    ensures fine { (from : Node) → IsTree from → node.old ≡ swap_node step.now from → IfOk result (λ fine. IsTrue fine ↔ IsTree node.old) }
+    ensures node { IfOk result (λ fine. IsTrue fine → node.new ≡ node.old) }
+{
+    if text.len() <= LENGTH_LIMIT as usize && is_led_to(node, step.edits.as_slice())? {
+        return Ok(true);
+    }
+    is_tree(node, text)
+}
+
+/// Whether a step leads from a tree to a text with this digest; the node is then the next tree, and `text` its text. `next` is room
+/// for a text. The error: a growth was refused.
+fn goes_on(
+    node: &mut Node,
+    text: &mut Vec<u8>,
+    next: &mut Vec<u8>,
+    step: &Step,
+    digest: &[u8; 32],
+) -> Result<bool, Memory>
+    requires tree { IsTree node.old }
+    requires text { text.old.items ≡ spell_node node.old }
+    ensures agrees { IfOk result (λ agrees. IsTrue agrees ↔ StepAgrees step.now node.old digest.now) }
+    ensures node { IfOk result (λ agrees. IsTrue agrees → node.new ≡ swap_node step.now node.old) }
+    ensures text { IfOk result (λ agrees. IsTrue agrees → text.new.items ≡ spell_node node.new) }
+{
+    match swap(node, step) {
+        Ok(()) => {}
+        Err(EditFault::Memory) => return Err(AllocError),
+        Err(EditFault::BadPlace) => return Ok(false),
+    }
+    next.clear();
+    node.spell_into(next)?;
+    if next.as_slice() == text.as_slice() {
+        return Ok(false);
+    }
+    if !has_digest(next.as_slice(), digest) {
+        return Ok(false);
+    }
+    if !is_next_tree(node, step, next.as_slice())? {
+        return Ok(false);
+    }
+    std::mem::swap(text, next);
+    Ok(true)
+}
+
+/// Whether the steps lead on from a tree, the first one first, to texts with these digests. The error: a growth was refused.
+fn lead_on(tree: Tree, steps: &[Step], digests: &[[u8; 32]]) -> Result<bool, Memory>
+    requires { length steps.now ≡ length digests.now }
+    ensures { IfOk result (λ agrees. IsTrue agrees ↔ StepsAgree tree steps.now digests.now) }
+{
+    let alloc = tree.root.parts.alloc();
+    let mut text = Vec::new(alloc);
+    tree.spell_into(&mut text)?;
+    let mut next = Vec::new(alloc);
+    let Tree { root } = tree;
+    let mut node = root;
+    for i in 0..steps.len() {
+        if !goes_on(&mut node, &mut text, &mut next, &steps[i], &digests[i])? {
+            return Ok(false);
+        }
+    }
+    Ok(true)
+}
+
+/// The same, the last one first.
+fn lead_back(tree: Tree, steps: &[Step], digests: &[[u8; 32]]) -> Result<bool, Memory>
+    requires { length steps.now ≡ length digests.now }
+    ensures { IfOk result (λ agrees. IsTrue agrees ↔ StepsAgree tree (reverse steps.now) (reverse digests.now)) }
+{
+    let count = steps.len();
+    let alloc = tree.root.parts.alloc();
+    let mut text = Vec::new(alloc);
+    tree.spell_into(&mut text)?;
+    let mut next = Vec::new(alloc);
+    let Tree { root } = tree;
+    let mut node = root;
+    for i in 0..count {
+        let place = count - 1 - i;
+        if !goes_on(
+            &mut node,
+            &mut text,
+            &mut next,
+            &steps[place],
+            &digests[place],
+        )? {
+            return Ok(false);
+        }
+    }
+    Ok(true)
+}
+
+/// Whether the steps lead on from the tree of a text, the first one first, to texts with these digests. The tree is read here and
+/// used up, so that its owner need not hold it meanwhile.
+pub(crate) fn go_on(
+    alloc: Global,
+    text: &[u8],
+    steps: &[Step],
+    digests: &[[u8; 32]],
+) -> Result<bool, Halt>
+    requires { length steps.now ≡ length digests.now }
+    ensures agrees { IfOk result (λ agrees. (n : Node) → Reads text.now n → IsTrue agrees ↔ StepsAgree n steps.now digests.now) }
+    ensures damaged { (result ≡ Err h.Damaged) → NoTree text.now }
+{
+    if steps.is_empty() {
+        return Ok(true);
+    }
+    let tree = read(alloc, text)?;
+    let agrees = lead_on(tree, steps, digests)?;
+    Ok(agrees)
+}
+
+/// The same, the last one first.
+pub(crate) fn go_back(
+    alloc: Global,
+    text: &[u8],
+    steps: &[Step],
+    digests: &[[u8; 32]],
+) -> Result<bool, Halt>
+    requires { length steps.now ≡ length digests.now }
+    ensures agrees { IfOk result (λ agrees. (n : Node) → Reads text.now n → IsTrue agrees ↔ StepsAgree n (reverse steps.now) (reverse digests.now)) }
+    ensures damaged { (result ≡ Err h.Damaged) → NoTree text.now }
+{
+    if steps.is_empty() {
+        return Ok(true);
+    }
+    let tree = read(alloc, text)?;
+    let agrees = lead_back(tree, steps, digests)?;
+    Ok(agrees)
+}
