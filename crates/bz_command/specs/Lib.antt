@@ -1,8 +1,6 @@
-pub mod CallParts
 pub mod Effect
 pub mod Laws
 pub mod LinesMatter
-pub mod Looks
 pub mod Overfull
 pub mod Printing
 pub mod Renewed
@@ -18,3 +16,4 @@ pub mod WorkedPrints
 pub mod WorkedRules
 pub mod WorkedSubstitutes
 pub mod WorkedValues
+pub mod private

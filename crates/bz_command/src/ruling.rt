@@ -9,7 +9,7 @@ ghost use Rattle.bz_rule.specs.Rules.{has_name};
 ghost use Rattle.bz_load.specs.Fixes.{fix};
 ghost use Rattle.bz_load.specs.NewLoad.{new_load};
 ghost use Rattle.bz_command.specs.Effect.{before_first, after_rule, has_rule_place, loads_changed, on_each, on_meant, on_rules, placed, source_of, with_rule};
-ghost use Rattle.bz_command.specs.Looks.{made_by, one_made_by};
+ghost use Rattle.bz_command.specs.private.Looks.{made_by, one_made_by};
 ghost use Rattle.bz_command.specs.Renewed.{IsOfExtent, are_bare};
 
 use crate::deleting::delete;
@@ -27,7 +27,7 @@ use bz_words::{
 use std::alloc::Global;
 
 /// What an operation makes of an item where it is marked. Whether the item is the same then.
-#[tactic(auto, unfolding(crate::specs::Looks::one_made))]
+#[tactic(auto, unfolding(crate::specs::private::Looks::one_made))]
 fn change_item(work: Work<'_>, mark: bool, item: &mut Item) -> Result<bool, Refusal>
     ensures ok { OnOk result ((if mark then one_made_by work.entry item.old else Ok item.old) ≡ Ok item.new) }
     ensures same { IfOk result (λ same. IsTrue same ↔ (item.new ≡ item.old)) }
@@ -192,7 +192,7 @@ fn copied_source(operation: &Operation, items: &[Item]) -> Result<Option<Expr>, 
 }
 
 /// What an operation makes of each of the items that are marked.
-#[tactic(auto, unfolding(crate::specs::Looks::one_made))]
+#[tactic(auto, unfolding(crate::specs::private::Looks::one_made))]
 fn on_found(work: Work<'_>, marks: &[bool], mut items: Items<Item>) -> Result<Changed, Refusal>
     requires { length marks.now ≡ length items }
     ensures ok { IfOk result (λ changed. on_meant (made_by work.entry) marks.now items ≡ Ok changed.items) }

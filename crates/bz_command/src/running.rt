@@ -5,7 +5,7 @@ ghost use Rattle.std.specs.Option.{unwrap_or};
 ghost use Rattle.bz_names.specs.Index.{IsIndexOf};
 ghost use Rattle.bz_command.specs.Targets.{may_mean_none, meant};
 ghost use Rattle.bz_command.specs.Effect.{effect, lacks_rules, looks_at_rules, printed};
-ghost use Rattle.bz_command.specs.Looks.{IsLook, IsMarked};
+ghost use Rattle.bz_command.specs.private.Looks.{IsLook, IsMarked};
 ghost use Rattle.bz_command.specs.Renewed.{IsOfExtent};
 
 use crate::outcome::{Changed, Extent, Outcome, Ran};

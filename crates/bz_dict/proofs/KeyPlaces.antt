@@ -13,7 +13,7 @@ use Rattle.bz_words.specs.declared.command.Entry.{Entry}
 use Rattle.bz_rule.specs.Rules.{is_text}
 use Rattle.bz_attribute.specs.Attributes.{on_first_that}
 use Rattle.bz_dict.specs.Dicts.{key_of, has_key, entry_made, with_entry_value}
-use Rattle.bz_dict.specs.Keys.{place_at, first_place, AreIndexed, entry_put, entries_put}
+use Rattle.bz_dict.specs.private.Keys.{place_at, first_place, AreIndexed, entry_put, entries_put}
 use Rattle.bz_dict.specs.declared.entries.Change.{Change}
 use Rattle.bz_dict.specs.declared.entries.Change.TheVariants.{Add, Set}
 use Rattle.bz_attribute.proofs.FormsAgain.{if_true, if_false}

@@ -19,7 +19,7 @@ use Rattle.bz_attribute.proofs.KeySets.{equal_texts, text_cmp}
 use Rattle.bz_attribute.proofs.PlainWords.{equal_self}
 use Rattle.bz_attribute.specs.Sets.{texts_of}
 use Rattle.bz_dict.specs.Dicts.{key_of, has_some_key}
-use Rattle.bz_dict.specs.Keys.{place_at, is_chosen}
+use Rattle.bz_dict.specs.private.Keys.{place_at, is_chosen}
 
 same_keys : (one other : Vec ℕ Global) → text_cmp one other ≡ Equal → one.items ≡ other.items
 same_keys one other e = equal_texts one.items other.items (sym (is_eq-slice_cmp one.items other.items) ∙ ap is_eq e)

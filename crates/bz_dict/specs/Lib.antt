@@ -1,3 +1,3 @@
 pub mod Dicts
-pub mod Keys
 pub mod Laws
+pub mod private

@@ -4,7 +4,7 @@ ghost use Rattle.bz_tree.specs.declared.kind.Kind.TheVariants as kinds;
 ghost use Rattle.bz_rule.specs.Values.{has_kind as is_of, on_items};
 ghost use Rattle.bz_value.specs.declared.refusal.Refusal.TheVariants.{NotADict};
 ghost use Rattle.bz_dict.specs.Dicts as d;
-ghost use Rattle.bz_dict.specs.Keys.{AreIndexed, entry_put, entries_put};
+ghost use Rattle.bz_dict.specs.private.Keys.{AreIndexed, entry_put, entries_put};
 
 use crate::entries::{Change, dict_of, entry_made};
 use crate::keys::{place_at, places_of, put_place};

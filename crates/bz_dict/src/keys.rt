@@ -5,7 +5,7 @@ ghost use Rattle.bz_items.specs.Characters.{Bytes};
 ghost use Rattle.bz_value.specs.declared.value.Expr.{Expr as Value};
 ghost use Rattle.bz_attribute.specs.Sets.{texts_of};
 ghost use Rattle.bz_dict.specs.Dicts.{has_some_key};
-ghost use Rattle.bz_dict.specs.Keys.{AreIndexed, place_at as place_in, is_chosen as has_chosen};
+ghost use Rattle.bz_dict.specs.private.Keys.{AreIndexed, place_at as place_in, is_chosen as has_chosen};
 
 use crate::entries::key_of;
 use bz_attribute::{has_text, insert_text};

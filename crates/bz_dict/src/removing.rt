@@ -7,7 +7,7 @@ ghost use Rattle.bz_rule.specs.Rules.{attribute as value_there};
 ghost use Rattle.bz_rule.specs.Values.{has_kind as is_of, items_of as items, on_items};
 ghost use Rattle.bz_value.specs.Empty.{is_empty};
 ghost use Rattle.bz_dict.specs.Dicts as d;
-ghost use Rattle.bz_dict.specs.Keys.{is_chosen as has_chosen};
+ghost use Rattle.bz_dict.specs.private.Keys.{is_chosen as has_chosen};
 
 use crate::keys::{chosen_of, is_chosen};
 use bz_attribute::{has_kind, items_of, remove_first, set_value, take_value};

@@ -1,6 +1,6 @@
 //! Which edits may follow one another.
 ghost use Rattle.std.specs.Prelude.{◌≡◌, ◌+◌, ◌||◌, nat_lt, nat_le};
-ghost use Rattle.bz_edit.specs.Tests.{is_before as comes_before, is_uncovered as uncovered, may_follow as follows, all_follow as follow_all, counts_fit as fit_counts};
+ghost use Rattle.bz_edit.specs.private.Tests.{is_before as comes_before, is_uncovered as uncovered, may_follow as follows, all_follow as follow_all, counts_fit as fit_counts};
 
 use crate::edit::Edit;
 

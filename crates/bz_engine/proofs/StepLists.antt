@@ -7,7 +7,7 @@ use Rattle.bz_line.specs.Requested.{Requested, Request}
 use Rattle.bz_line.specs.Verbs.{prints}
 use Rattle.bz_line.specs.Shown.{requested_in, request_in}
 use Rattle.bz_line.specs.declared.requested.Requested.{Requested as Held}
-use Rattle.bz_engine.specs.Shown.{targets_input_in, shown_in}
+use Rattle.bz_engine.specs.private.Shown.{targets_input_in, shown_in}
 use Rattle.bz_engine.specs.Steps.{step_of, steps_requested, all_steps, is_of_input, is_shown_by, shows_input, names_input}
 
 any_map : {X Y : Type 0} (p : X → Bool) (f : Y → X) (ys : List Y) → list_any p (map f ys) ≡ list_any (λ y. p (f y)) ys

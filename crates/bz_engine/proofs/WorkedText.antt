@@ -7,7 +7,7 @@ use Rattle.bz_token.specs.declared.class.Class.{Class}
 use Rattle.bz_token.specs.declared.class.Class.TheVariants as c
 use Rattle.bz_token.specs.declared.state.State.{State}
 use Rattle.bz_token.specs.declared.state.State.TheVariants.{Word, Ended, Operator, Closed}
-use Rattle.bz_token.specs.Scanner.{keyword_or_name, ends, before_third, longest_front}
+use Rattle.bz_token.specs.private.Scanner.{keyword_or_name, ends, before_third, longest_front}
 use Rattle.bz_token.specs.Tokens.{IsToken}
 use Rattle.bz_token.proofs.Tokens.{some_token}
 use Rattle.bz_lex.specs.Leaves.{AreCoded}

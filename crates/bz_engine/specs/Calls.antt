@@ -22,7 +22,7 @@ use Rattle.bz_engine.specs.Ending.{Left, LeftStands}
 use Rattle.bz_engine.specs.Keeping.{AllAreKept, is_left_at}
 use Rattle.bz_engine.specs.Moments.{AllAreSafe, IsMeanwhile, IsMomentOfSteps}
 use Rattle.bz_engine.specs.Run.{World, Progress}
-use Rattle.bz_engine.specs.Shown.{progress_in}
+use Rattle.bz_engine.specs.private.Shown.{progress_in}
 use Rattle.bz_engine.specs.Steps.{RunStep, action_of}
 use Rattle.bz_engine.specs.declared.run.Run.{Run}
 

@@ -6,10 +6,10 @@ pub mod Keeping
 pub mod Moments
 pub mod Outcome
 pub mod Run
-pub mod Shown
 pub mod Steps
 pub mod Reported
 pub mod Usage
 pub mod Worked
 pub mod WorkedParts
 pub mod WorkedRuns
+pub mod private

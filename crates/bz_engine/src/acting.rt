@@ -10,7 +10,7 @@ ghost use Rattle.bz_workspace.specs.Shown.{opened_in, used_in};
 ghost use Rattle.bz_engine.specs.Calls.{KeepsSome, KeepsStep, ReportsLines, WorksOn, spot, Proceeds};
 ghost use Rattle.bz_engine.specs.Keeping.{AllAreKept, AnswersBeside, DoesBeside, FolderAfter, is_left_at, state_after};
 ghost use Rattle.bz_engine.specs.Run.{Answers, Does, printed_in, answered, reported_of};
-ghost use Rattle.bz_engine.specs.Shown.{progress_in};
+ghost use Rattle.bz_engine.specs.private.Shown.{progress_in};
 ghost use Rattle.bz_engine.specs.Steps.{input_package, step_of};
 
 use crate::opening::open_package;

@@ -7,7 +7,7 @@ ghost use Rattle.bz_ports.specs.Outputs.{Counts};
 ghost use Rattle.bz_workspace.specs.Shown.{opened_in, used_in};
 ghost use Rattle.bz_engine.specs.Calls.{ReportsLines, PrintsAll, PrintsSome, WorksOn};
 ghost use Rattle.bz_engine.specs.Ending.{differs, has_changed, is_input, goes_out, text_out, texts_out, writing_of, all_writings, WritesFiles, fixed_of, all_fixed, fixed_lines, status_of};
-ghost use Rattle.bz_engine.specs.Shown.{progress_in};
+ghost use Rattle.bz_engine.specs.private.Shown.{progress_in};
 ghost use Rattle.bz_engine.specs.Reported.{fixed_line};
 
 use crate::run::Run;

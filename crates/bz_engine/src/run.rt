@@ -1,7 +1,7 @@
 //! How far a run has come.
 ghost use Rattle.std.specs.Prelude.{◌≡◌};
 ghost use Rattle.bz_engine.specs.Run.{nothing_done};
-ghost use Rattle.bz_engine.specs.Shown.{progress_in};
+ghost use Rattle.bz_engine.specs.private.Shown.{progress_in};
 
 use bz_workspace::Workspace;
 use std::alloc::Global;

@@ -5,7 +5,7 @@ ghost use Rattle.bz_line.specs.Paths.{HasPath};
 ghost use Rattle.bz_workspace.specs.Sessions.{action_in};
 ghost use Rattle.bz_line.specs.Shown.{requested_in};
 ghost use Rattle.bz_engine.specs.Steps as s;
-ghost use Rattle.bz_engine.specs.Shown.{targets_input_in, prints_nothing_in, shown_in};
+ghost use Rattle.bz_engine.specs.private.Shown.{targets_input_in, prints_nothing_in, shown_in};
 ghost use Rattle.bz_engine.specs.Steps.{is_of_input, names_input, shows_input, all_steps};
 
 use crate::script::INPUT;

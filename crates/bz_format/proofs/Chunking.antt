@@ -14,7 +14,7 @@ use Rattle.bz_indent.specs.Joined.{bzl_gap_below, BzlLayoutsJoin, BzlDepthsJoin}
 use Rattle.bz_indent.specs.Laws.{BzlLayoutIsAccepted, BzlLayoutReadsBack, LevelKeepsLayout, LevelStays}
 use Rattle.bz_indent.specs.Layout.{bzl_layout}
 use Rattle.bz_indent.specs.Level.{level, level_item}
-use Rattle.bz_format.specs.Chunks.{ReadsAs, IsLast, IsBegun, IsAppended}
+use Rattle.bz_format.specs.private.Chunks.{ReadsAs, IsLast, IsBegun, IsAppended}
 use Rattle.bz_format.specs.Formatted.{FormatsBzlTo}
 use Rattle.bz_format.proofs.PastLimits.{level_proper}
 

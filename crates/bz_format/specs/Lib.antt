@@ -1,4 +1,4 @@
-pub mod Chunks
 pub mod Formatted
 pub mod TreePrograms
 pub mod Words
+pub mod private

@@ -1,6 +1,6 @@
 //! The formatted text of a long .bzl text, made chunk by chunk: its tree and its value are never in memory as a whole.
 ghost use Rattle.std.specs.Prelude.{◌≡◌, ◌≤◌, ◌<◌, IfOk, IfSome, Ok, length, take};
-ghost use Rattle.bz_format.specs.Chunks.{IsAppended, ReadsAs};
+ghost use Rattle.bz_format.specs.private.Chunks.{IsAppended, ReadsAs};
 ghost use Rattle.bz_format.specs.Formatted.{FormatsBzlTo};
 
 use bz_formatter::{CHUNK, TRIES, Unseen, chunk_end, why_unseen};

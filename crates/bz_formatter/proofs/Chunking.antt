@@ -13,7 +13,7 @@ use Rattle.bz_write.specs.Written.{layout}
 use Rattle.bz_tidy.specs.Joined.{TidiedApart}
 use Rattle.bz_tidy.specs.Passes.{tidied}
 use Rattle.bz_tidy.specs.Spliced.{begins_with_load}
-use Rattle.bz_formatter.specs.Chunks.{ReadsAs, IsLast, IsBegun, IsAppended}
+use Rattle.bz_formatter.specs.private.Chunks.{ReadsAs, IsLast, IsBegun, IsAppended}
 use Rattle.bz_formatter.specs.Meaning.{gives, written, Formats}
 use Rattle.bz_formatter.proofs.Writes.{written_given}
 

@@ -19,7 +19,7 @@ use Rattle.bz_value.specs.Frames.{Frame, row, sequence, frame, is_binary}
 use Rattle.bz_value.specs.Proper.{comments_of, in_frame, after_expr, IsEmptyRow, ProperExpr, ProperRow, ProperHead, ProperItems, IsProperItem}
 use Rattle.bz_rule.proofs.Opened.{made, own_parts}
 use Rattle.bz_write.specs.Layout.{new_line_at, gap_after, margin_after, margin_lines, ended, suffix_text, has_comments, is_broken, is_tuple}
-use Rattle.bz_write.specs.Sizes.{row_size, head_size, comma_size, joined_size, stacked_size, body_size, size_in}
+use Rattle.bz_write.specs.private.Sizes.{row_size, head_size, comma_size, joined_size, stacked_size, body_size, size_in}
 use Rattle.bz_write.specs.Written.{text_of, comment_lines, item_text, layout}
 use Rattle.bz_write.proofs.Measured.{statement_length, layout_first}
 use Rattle.bz_write.proofs.Sized.{form_length}

@@ -5,4 +5,4 @@ pub mod Filled
 pub mod TreePrograms
 pub mod Tokens
 pub mod Writing
-pub mod Chunks
+pub mod private

@@ -1,6 +1,6 @@
 //! The formatted text of a long text, made chunk by chunk: its tree and its value are never in memory as a whole.
 ghost use Rattle.std.specs.Prelude.{◌≡◌, ◌≤◌, ◌<◌, ◌++◌, None, IfOk, IfSome, length, take};
-ghost use Rattle.bz_formatter.specs.Chunks.{IsAppended, ReadsAs};
+ghost use Rattle.bz_formatter.specs.private.Chunks.{IsAppended, ReadsAs};
 ghost use Rattle.bz_formatter.specs.Meaning.{gives, Formats};
 
 use crate::cut::{CHUNK, TRIES, Unseen, chunk_end, why_unseen};

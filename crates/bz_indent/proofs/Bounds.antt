@@ -3,7 +3,7 @@ use Rattle.std.proofs.Common.{ℕ, max, ◌≡◌, ◌<◌, ◌≤◌, ◌+◌, 
 use Rattle.std.specs.Prelude.{IsTrue, ◌↔◌}
 use Rattle.bz_suite.specs.declared.value.Statement.{Statement}
 use Rattle.bz_suite.specs.declared.value.Branch.{Branch}
-use Rattle.bz_indent.specs.Depths.{depth_header, depth_statement, deepest_statement, depth_branch, deepest_branch}
+use Rattle.bz_indent.specs.private.Depths.{depth_header, depth_statement, deepest_statement, depth_branch, deepest_branch}
 use Rattle.bz_indent.proofs.Depths.{branch_next, statement_next}
 
 -- the rest is within the bound exactly where the whole is, once the first is within it

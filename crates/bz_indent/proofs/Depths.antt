@@ -22,7 +22,7 @@ use Rattle.bz_suite.specs.declared.value.Statement.TheVariants as s
 use Rattle.bz_suite.specs.declared.value.Branch.{Branch}
 use Rattle.bz_suite.specs.declared.value.BzlItem.{BzlItem}
 use Rattle.bz_suite.specs.declared.value.BzlItem.TheVariants as b
-use Rattle.bz_indent.specs.Depths.{depth_header, depth_statement, depth_branches, depth_statements, deepest_statement, depth_branch, deepest_branch, depth_bzl_items}
+use Rattle.bz_indent.specs.private.Depths.{depth_header, depth_statement, depth_branches, depth_statements, deepest_statement, depth_branch, deepest_branch, depth_bzl_items}
 use Rattle.bz_indent.specs.LaidOut.{gap_to_margin, header_parts, newline_part, simple_part, left_after, left_statements, first_kind, statement_part, branch_parts, statement_parts, bzl_lines, bzl_laid_out}
 use Rattle.bz_indent.specs.Layout.{is_def, indented_lines, before_others}
 use Rattle.bz_indent.proofs.Rows.{branches_after, branches_are}

@@ -3,7 +3,7 @@ use Rattle.std.proofs.Common.{ℕ, zero, suc, ◌≤◌, ◌≡◌, List, [], �
 use Rattle.bz_items.specs.Characters.{Bytes}
 use Rattle.bz_suite.specs.declared.value.BzlItem.{BzlItem}
 use Rattle.bz_suite.specs.declared.value.BzlItem.TheVariants as b
-use Rattle.bz_indent.specs.Depths.{depth_bzl_items}
+use Rattle.bz_indent.specs.private.Depths.{depth_bzl_items}
 use Rattle.bz_indent.specs.Joined.{BzlLayoutsJoin, BzlDepthsJoin}
 use Rattle.bz_indent.specs.Layout.{bzl_item_text, before_others, bzl_layout}
 use Rattle.bz_indent.proofs.Depths.{bzl_laid_out_depth}

@@ -1,4 +1,3 @@
-pub mod Depths
 pub mod LaidOut
 pub mod Joined
 pub mod Laws
@@ -6,3 +5,4 @@ pub mod Layout
 pub mod Level
 pub mod Syntax
 pub mod Worked
+pub mod private

@@ -1,6 +1,6 @@
 //! Whether what a .bzl file says is too deep. No walk goes deeper than the bound.
 ghost use Rattle.std.specs.Prelude.{◌≤◌, ◌↔◌, ◌∷◌, [], IsTrue};
-ghost use Rattle.bz_indent.specs.Depths as depths;
+ghost use Rattle.bz_indent.specs.private.Depths as depths;
 
 use crate::leveling::is_def;
 use bz_suite::{Branch, BzlItem, Statement};

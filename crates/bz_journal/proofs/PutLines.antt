@@ -18,7 +18,7 @@ use Rattle.bz_write.specs.Laws.{LayoutIsAccepted}
 use Rattle.bz_write.specs.Written.{layout}
 use Rattle.bz_journal.specs.declared.lines.Lines.{Lines}
 use Rattle.bz_journal.specs.declared.lines.Lines.TheVariants as l
-use Rattle.bz_journal.specs.Lines.{AreLinesOf, tree_with}
+use Rattle.bz_journal.specs.private.Lines.{AreLinesOf, tree_with}
 
 -- what is before all places stays
 later_stay : (from end : ℕ) (places : List ℕ) (lines parts : List Part) (at : ℕ) (d : Part) → Ascend from end places → at < from → get_or (put_all places lines parts) at d ≡ get_or parts at d

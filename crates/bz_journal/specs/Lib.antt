@@ -1,11 +1,9 @@
 pub mod Actions
 pub mod Clauses
-pub mod Doing
 pub mod Editing
 pub mod History
 pub mod Keeping
 pub mod Lasting
-pub mod Lines
 pub mod Listing
 pub mod Lookups
 pub mod Meaning
@@ -13,3 +11,4 @@ pub mod Shown
 pub mod Stopping
 pub mod Worked
 pub mod State
+pub mod private

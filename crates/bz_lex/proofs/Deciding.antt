@@ -5,13 +5,13 @@ use Rattle.bz_token.specs.declared.class.Class.{Class}
 use Rattle.bz_token.specs.declared.class.Class.TheVariants.{Newline, End}
 use Rattle.bz_token.specs.declared.state.State.{State}
 use Rattle.bz_token.specs.Tokens.{NoToken, TokenAt}
-use Rattle.bz_token.specs.Scanner.{ends, keyword_or_name, before_third, longest_front}
+use Rattle.bz_token.specs.private.Scanner.{ends, keyword_or_name, before_third, longest_front}
 use Rattle.bz_token.proofs.Tokens.{none_token, no_class, third_token, some_token}
 use Rattle.bz_lex.specs.declared.gap.GapFront.{GapFront}
 use Rattle.bz_lex.specs.declared.gap.GapState.{GapState}
 use Rattle.bz_lex.specs.declared.gap.GapState.TheVariants.{Open}
 use Rattle.bz_lex.specs.declared.front.Front.{Front}
-use Rattle.bz_lex.specs.GapStates.{gap_move, gap_state_after, Stops, is_end}
+use Rattle.bz_lex.specs.private.GapStates.{gap_move, gap_state_after, Stops, is_end}
 use Rattle.bz_lex.specs.Places.{Place, Fresh, After, Inside, Last, Over, newlines_at}
 use Rattle.bz_lex.specs.Fronts.{IsGapFront, IsFront, NoLeaf}
 use Rattle.bz_lex.proofs.Forms.{form}

@@ -7,7 +7,7 @@ use Rattle.bz_token.specs.Tokens.{IsToken}
 use Rattle.bz_lex.specs.declared.leaf.Leaf.{Leaf}
 use Rattle.bz_lex.specs.declared.gap.GapState.{GapState}
 use Rattle.bz_lex.specs.declared.gap.GapState.TheVariants.{Open, Escape, EscapeReturn, Comment}
-use Rattle.bz_lex.specs.GapStates.{gap_move, gap_state_after, Stops, is_end}
+use Rattle.bz_lex.specs.private.GapStates.{gap_move, gap_state_after, Stops, is_end}
 use Rattle.bz_lex.specs.Places.{Place, Fresh, After, Inside, Last, Over, newlines_at, May, first, later, inner, newline, no_newline, end, end_at_once}
 use Rattle.bz_lex.proofs.Gaps.{gap_after, gap_from}
 use Rattle.bz_lex.proofs.Tokens.{token_stops}

@@ -12,7 +12,7 @@ use Rattle.bz_lex.specs.declared.gap.GapFront.{GapFront}
 use Rattle.bz_lex.specs.declared.gap.GapState.{GapState}
 use Rattle.bz_lex.specs.declared.gap.GapState.TheVariants.{Open, Escape, EscapeReturn, Comment}
 use Rattle.bz_lex.specs.declared.front.Front.{Front}
-use Rattle.bz_lex.specs.GapStates.{gap_state_after, Stops, is_end}
+use Rattle.bz_lex.specs.private.GapStates.{gap_state_after, Stops, is_end}
 use Rattle.bz_lex.specs.Places.{Place, Fresh, After, Inside, Last, Over, newlines_at, end_at_once}
 use Rattle.bz_lex.specs.Fronts.{IsGapFront, front_leaf, after_front, IsFront, NoLeaf, AnswersFront}
 use Rattle.bz_lex.proofs.Gaps.{one_stop}

@@ -8,7 +8,7 @@ use Rattle.bz_lex.specs.declared.gap.GapState.{GapState}
 use Rattle.bz_lex.specs.declared.gap.GapState.TheVariants.{Open, Escape, EscapeReturn, Comment}
 use Rattle.bz_token.specs.Bytes.{is_blank}
 use Rattle.bz_lex.specs.Gaps.{IsOneLine, IsGap, nothing, blank, escaped, escaped_return, unescaped, comment, last_comment}
-use Rattle.bz_lex.specs.GapStates.{gap_move, and_then, gap_state_after, Stops, is_end}
+use Rattle.bz_lex.specs.private.GapStates.{gap_move, and_then, gap_state_after, Stops, is_end}
 
 abbrev holds : Bool → Option GapState → Bool
 holds u None = false

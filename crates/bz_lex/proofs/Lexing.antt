@@ -10,7 +10,7 @@ use Rattle.bz_lex.specs.declared.gap.GapState.{GapState}
 use Rattle.bz_lex.specs.declared.gap.GapState.TheVariants.{Open}
 use Rattle.bz_lex.specs.declared.front.Front.{Front}
 use Rattle.bz_lex.specs.Gaps.{IsGap}
-use Rattle.bz_lex.specs.GapStates.{gap_state_after, Stops, is_end}
+use Rattle.bz_lex.specs.private.GapStates.{gap_state_after, Stops, is_end}
 use Rattle.bz_lex.specs.Fronts.{IsLexemeFront, front_token, after_front}
 use Rattle.bz_lex.specs.Lexing.{AreLexemes, NoLexemes}
 use Rattle.bz_lex.specs.Stops.{LexedTo, no_token, token_more}

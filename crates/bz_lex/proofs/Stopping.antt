@@ -20,7 +20,7 @@ use Rattle.bz_lex.specs.declared.gap.GapState.TheVariants.{Open, Escape, EscapeR
 use Rattle.bz_lex.specs.Faults.{fault_of, is_lexical}
 use Rattle.bz_lex.specs.Fronts.{IsLexemeStop, NoTokenFor, front_token, after_front}
 use Rattle.bz_lex.specs.Gaps.{IsGap}
-use Rattle.bz_lex.specs.GapStates.{gap_move, gap_state_after, Stops, is_end, broken_off, and_then}
+use Rattle.bz_lex.specs.private.GapStates.{gap_move, gap_state_after, Stops, is_end, broken_off, and_then}
 use Rattle.bz_lex.specs.Lexing.{NoLexemes}
 use Rattle.bz_lex.specs.Positions.{line_at, column_of}
 use Rattle.bz_lex.specs.Stops.{NothingBegins, StopsFor, LexedTo, no_token, token_more, StopsAt, IsFaultAt}

@@ -6,7 +6,7 @@ use Rattle.bz_token.specs.Bytes.{is_blank, is_solid}
 use Rattle.bz_token.specs.Tokens.{IsToken}
 pub use Rattle.bz_token.proofs.Laws.{one_token, begins}
 use Rattle.bz_lex.specs.declared.gap.GapState.TheVariants.{Open}
-use Rattle.bz_lex.specs.GapStates.{gap_move, Stops}
+use Rattle.bz_lex.specs.private.GapStates.{gap_move, Stops}
 
 flipped : (b : Bool) → cond b false true ≡ true → b ≡ false
 flipped true h = absurd (both_ways false refl h)

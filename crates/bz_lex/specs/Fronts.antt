@@ -9,7 +9,7 @@ use Rattle.bz_lex.specs.declared.front.Reason.TheVariants as r
 use Rattle.bz_lex.specs.declared.front.Stop.{Stop}
 use Rattle.bz_token.specs.Tokens.{IsToken, OpensString}
 use Rattle.bz_lex.specs.Gaps.{IsGap}
-use Rattle.bz_lex.specs.GapStates.{gap_state_after, Stops, is_end}
+use Rattle.bz_lex.specs.private.GapStates.{gap_state_after, Stops, is_end}
 use Rattle.bz_lex.specs.Places.{Place, May}
 use Rattle.bz_lex.specs.Stops.{StopsFor}
 

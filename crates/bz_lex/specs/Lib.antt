@@ -1,10 +1,10 @@
 pub mod Gaps
 pub mod Places
 pub mod Leaves
-pub mod GapStates
 pub mod Laws
 pub mod Fronts
 pub mod Positions
 pub mod Faults
 pub mod Lexing
 pub mod Stops
+pub mod private

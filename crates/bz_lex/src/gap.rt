@@ -1,6 +1,6 @@
 ghost use Rattle.std.specs.Prelude.{◌≡◌, ◌≤◌, ◌<◌, ◌-◌, ℕ, Bool, None, Some, IsTrue, get_or, length, take, drop, MatchOption, true, false};
 ghost use Rattle.bz_lex.specs.declared.gap.GapState.TheVariants.{Open};
-ghost use Rattle.bz_lex.specs.GapStates.{gap_move, gap_state_after, Stops, is_end, broken_off};
+ghost use Rattle.bz_lex.specs.private.GapStates.{gap_move, gap_state_after, Stops, is_end, broken_off};
 
 /// How far a gap has been read.
 #[derive(Clone, Copy)]

@@ -20,8 +20,8 @@ use Rattle.bz_attribute.specs.Attributes.{with_value, with_new, by_value}
 use Rattle.bz_attribute.specs.Lists.{body_of, are_one, is_item, fresh, travelled, is_there, arriving, has_lists, items_in, is_no_list, listed, with_more}
 use Rattle.bz_attribute.specs.Made.{string_of, list_of, plus}
 use Rattle.bz_list.specs.Changes.{with_items_added}
-use Rattle.bz_list.specs.KnownValues.{Membership, none_known, with_word, is_known_item, with_item, with_known_items, new_words, new_items}
-use Rattle.bz_list.specs.Adding.{added_by, added_to, shorter_in, shorter, with_added}
+use Rattle.bz_list.specs.private.KnownValues.{Membership, none_known, with_word, is_known_item, with_item, with_known_items, new_words, new_items}
+use Rattle.bz_list.specs.private.Adding.{added_by, added_to, shorter_in, shorter, with_added}
 
 -- ---- an item that comes to another attribute
 

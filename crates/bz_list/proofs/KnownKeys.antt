@@ -19,10 +19,10 @@ use Rattle.bz_attribute.proofs.KeySets.{any_map, any_like, any_inserted, equal_t
 use Rattle.bz_list.specs.declared.known.Key.{Key}
 use Rattle.bz_list.specs.contracts.known.KeyOrd.TheImpl as key_ord
 use Rattle.bz_label.specs.Tables.{is_label_attribute}
-use Rattle.bz_list.specs.KnownValues.{KnownValues, label_meant, membership, none_known, with_word}
+use Rattle.bz_list.specs.private.KnownValues.{KnownValues, label_meant, membership, none_known, with_word}
 use Rattle.bz_list.proofs.KnownSteps.{nothing_known, label_pushed, text_pushed}
 use Rattle.bz_attribute.specs.Sets.{texts_of}
-use Rattle.bz_list.specs.KnownKeys.{label_of_key, labels_of}
+use Rattle.bz_list.specs.private.KnownKeys.{label_of_key, labels_of}
 
 -- ---- labels
 

@@ -15,8 +15,8 @@ use Rattle.bz_items.specs.Characters.{Bytes}
 use Rattle.bz_attribute.specs.Lists.{body_of, items_in, are_one, is_some_item, listed}
 use Rattle.bz_attribute.proofs.KeySets.{equal_texts, or_group, or_none}
 use Rattle.bz_list.specs.declared.known.Chosen.TheVariants as h
-use Rattle.bz_list.specs.Listing.{chooses, with_lists}
-use Rattle.bz_list.specs.KnownValues.{mean_the_same, label_meant, is_among, KnownValues, Membership, membership, none_known, with_word, with_words, is_known_item, with_item, with_known_items}
+use Rattle.bz_list.specs.private.Listing.{chooses, with_lists}
+use Rattle.bz_list.specs.private.KnownValues.{mean_the_same, label_meant, is_among, KnownValues, Membership, membership, none_known, with_word, with_words, is_known_item, with_item, with_known_items}
 
 -- ---- words mean one value both ways
 

@@ -15,7 +15,7 @@ use Rattle.bz_attribute.specs.Lists.{items_in, is_empty_list, listed}
 use Rattle.bz_attribute.proofs.AttributesAgain.{with_value_same}
 use Rattle.bz_attribute.proofs.FormsAgain.{both, own_parts, own_items}
 use Rattle.bz_list.specs.Changes.{cleared}
-use Rattle.bz_list.specs.Listing.{put_back, without_chosen}
+use Rattle.bz_list.specs.private.Listing.{put_back, without_chosen}
 use Rattle.bz_attribute.proofs.ListsThere.{some_filtered, items_there}
 
 -- ---- lists of which no item passes a test

@@ -13,8 +13,8 @@ use Rattle.bz_value.specs.declared.refusal.Refusal.TheVariants.{NoAttribute, Not
 use Rattle.bz_attribute.specs.Lists.{has_lists, items_in}
 use Rattle.bz_attribute.specs.Attributes.{Arguments, by_value}
 use Rattle.bz_list.specs.Changes.{cleared, without_items, is_moved, items_moved, with_items_added, move}
-use Rattle.bz_list.specs.Adding.{added_by}
-use Rattle.bz_list.specs.Listing.{without_chosen, chosen_in}
+use Rattle.bz_list.specs.private.Adding.{added_by}
+use Rattle.bz_list.specs.private.Listing.{without_chosen, chosen_in}
 use Rattle.bz_attribute.proofs.ListsThere.{some_filtered}
 
 module _ (current from to : Bytes) (values : Values) (arguments : List Expr) where

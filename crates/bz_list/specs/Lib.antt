@@ -1,7 +1,3 @@
-pub mod Adding
 pub mod Changes
-pub mod KnownKeys
-pub mod KnownValues
 pub mod Laws
-pub mod Listing
-pub mod Replacing
+pub mod private

@@ -10,8 +10,8 @@ ghost use Rattle.bz_attribute.specs.Attributes.{on_first_that};
 ghost use Rattle.bz_attribute.specs.Lists.{fresh, is_item as is_item_of, items_in, listed, travelled as as_travelled, with_more};
 ghost use Rattle.bz_attribute.specs.Made.{list_of as list_made, plus as sum_made, string_of as string_made};
 ghost use Rattle.bz_list.specs.Changes.{with_items_added};
-ghost use Rattle.bz_list.specs.KnownValues.{Membership, membership, new_words, new_items as items_new};
-ghost use Rattle.bz_list.specs.Adding.{added_by, added_to, shorter, with_added};
+ghost use Rattle.bz_list.specs.private.KnownValues.{Membership, membership, new_words, new_items as items_new};
+ghost use Rattle.bz_list.specs.private.Adding.{added_by, added_to, shorter, with_added};
 
 use crate::known::Known;
 use bz_attribute::{

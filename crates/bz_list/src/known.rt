@@ -11,9 +11,9 @@ ghost use Rattle.bz_tree.specs.declared.kind.Kind.TheVariants as kinds;
 ghost use Rattle.bz_rule.specs.Values.{has_kind as is_of, items_of as items};
 ghost use Rattle.bz_attribute.specs.Lists.{items_in, is_some_item, listed};
 ghost use Rattle.bz_list.specs.Changes.{is_moved};
-ghost use Rattle.bz_list.specs.KnownKeys.{label_of_key, labels_of};
-ghost use Rattle.bz_list.specs.KnownValues.{label_meant, membership, none_known, with_word, with_words, is_known_item, with_item, with_known_items};
-ghost use Rattle.bz_list.specs.Listing.{chooses, with_lists};
+ghost use Rattle.bz_list.specs.private.KnownKeys.{label_of_key, labels_of};
+ghost use Rattle.bz_list.specs.private.KnownValues.{label_meant, membership, none_known, with_word, with_words, is_known_item, with_item, with_known_items};
+ghost use Rattle.bz_list.specs.private.Listing.{chooses, with_lists};
 
 use bz_attribute::{Slot, body_of, has_kind, has_text, insert_text, items_of, operands_of};
 use bz_items::{Memory, Text};
@@ -73,9 +73,9 @@ pub(crate) struct Known {
 }
 
 impl Model for Known {
-    ghost use Rattle.bz_list.specs.KnownValues.{KnownValues};
+    ghost use Rattle.bz_list.specs.private.KnownValues.{KnownValues};
     ghost use Rattle.bz_attribute.specs.Sets.{texts_of};
-    ghost use Rattle.bz_list.specs.KnownKeys.{labels_of};
+    ghost use Rattle.bz_list.specs.private.KnownKeys.{labels_of};
 
     ghost Value = { KnownValues };
 

@@ -8,7 +8,7 @@ ghost use Rattle.bz_rule.specs.Values.{on_items, on_lists};
 ghost use Rattle.bz_value.specs.Empty.{is_empty};
 ghost use Rattle.bz_attribute.specs.Lists.{items_in, listed};
 ghost use Rattle.bz_list.specs.Changes.{remove_values, is_moved, move};
-ghost use Rattle.bz_list.specs.Listing.{chooses, is_left, put_back, without_chosen, chosen_in};
+ghost use Rattle.bz_list.specs.private.Listing.{chooses, is_left, put_back, without_chosen, chosen_in};
 
 use crate::adding::{Added, add_items};
 use crate::known::Chosen;

@@ -17,7 +17,7 @@ use Rattle.bz_attribute.specs.Lists.{body_of}
 use Rattle.bz_attribute.proofs.KeySets.{or_group, or_none}
 use Rattle.bz_load.specs.Loads.{is_alias_of, loads_symbol, is_load_from, symbols_of, is_loaded}
 use Rattle.bz_load.specs.NewLoad.{is_symbol, new_symbols, symbol_made}
-use Rattle.bz_load.specs.Known.{symbol, alias_in, symbol_in, knows, and_symbol, and_loaded, and_each, and_load, and_loads, unknown}
+use Rattle.bz_load.specs.private.Known.{symbol, alias_in, symbol_in, knows, and_symbol, and_loaded, and_each, and_load, and_loads, unknown}
 use Rattle.bz_load.proofs.KeySets.{known_again}
 
 abbrev Test : Type 0

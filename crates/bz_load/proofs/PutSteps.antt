@@ -16,7 +16,7 @@ use Rattle.bz_attribute.proofs.ArgumentPlaces.{is_first, none_passes, changed_at
 use Rattle.bz_attribute.proofs.FormsAgain.{if_true, if_false, items_changed, items_filled, items_same}
 use Rattle.bz_load.specs.Loads.{is_load_from, path_in}
 use Rattle.bz_load.specs.Places.{after_loads}
-use Rattle.bz_load.specs.Placed.{with_more_symbols, load_of, with_load}
+use Rattle.bz_load.specs.private.Placed.{with_more_symbols, load_of, with_load}
 use Rattle.bz_load.proofs.PlaceSteps.{first_at, none_any}
 use Rattle.bz_load.proofs.Splices.{another, put_over}
 

@@ -13,7 +13,7 @@ use Rattle.bz_value.specs.declared.value.Item.{Item}
 use Rattle.bz_items.specs.Characters.{Bytes}
 use Rattle.bz_attribute.proofs.KeySets.{or_group, or_none}
 use Rattle.bz_load.specs.Uses.{all_of, after_head, first_item, with_operands, operands, operand_names_in, is_used}
-use Rattle.bz_load.specs.Known.{knows_name, and_name, and_names, and_operands, and_uses}
+use Rattle.bz_load.specs.private.Known.{knows_name, and_name, and_names, and_operands, and_uses}
 use Rattle.bz_load.proofs.UsesForms.{operands_Form}
 
 abbrev Test : Type 0

@@ -1,10 +1,8 @@
 pub mod Fixes
-pub mod Known
-pub mod KnownKeys
 pub mod Laws
 pub mod Loads
 pub mod NewLoad
-pub mod Placed
 pub mod Places
 pub mod Uses
 pub mod Worked
+pub mod private

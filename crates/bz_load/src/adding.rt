@@ -4,7 +4,7 @@ ghost use Rattle.std.specs.List.{list_any, position};
 ghost use Rattle.bz_value.specs.Exchanged.{IsSpliced};
 ghost use Rattle.bz_load.specs.Loads.{is_load_from as is_from};
 ghost use Rattle.bz_load.specs.NewLoad.{new_load, new_symbols, symbol_made};
-ghost use Rattle.bz_load.specs.Placed.{with_load, with_more_symbols};
+ghost use Rattle.bz_load.specs.private.Placed.{with_load, with_more_symbols};
 
 use crate::known::{insert_loads, unknown};
 use crate::making::load_of;

@@ -1,8 +1,8 @@
 //! The symbols that are loaded from a path, to check whether a symbol is one of them.
 ghost use Rattle.std.specs.Prelude.{◌≡◌, List, ◌∷◌, ◌++◌, not, map, IfOk, OnOk};
 ghost use Rattle.bz_words.specs.declared.command.Symbol.{Symbol};
-ghost use Rattle.bz_load.specs.Known.{and_each, and_load, and_loaded, and_loads, and_symbol, knows, unknown};
-ghost use Rattle.bz_load.specs.KnownKeys.{symbol_of_key, symbols_of_keys};
+ghost use Rattle.bz_load.specs.private.Known.{and_each, and_load, and_loaded, and_loads, and_symbol, knows, unknown};
+ghost use Rattle.bz_load.specs.private.KnownKeys.{symbol_of_key, symbols_of_keys};
 ghost use Rattle.bz_load.specs.NewLoad.{symbol_made as made_of};
 
 use crate::making::symbol_made;

@@ -1,8 +1,8 @@
 //! Loads, and what they load, read off values.
 ghost use Rattle.std.specs.Prelude.{◌≡◌};
 ghost use Rattle.std.specs.Option.{option_copied, option_map};
-ghost use Rattle.bz_load.specs.Known.{alias_in, symbol_in};
-ghost use Rattle.bz_load.specs.KnownKeys.{symbol_of_key};
+ghost use Rattle.bz_load.specs.private.Known.{alias_in, symbol_in};
+ghost use Rattle.bz_load.specs.private.KnownKeys.{symbol_of_key};
 ghost use Rattle.bz_load.specs.Loads.{after_path as following, is_load_item as is_any_load, is_load_from as is_from, path_in as path_of, symbols_of as symbols};
 
 use bz_attribute::{body_of, first_text, has_kind, items_of, parts_of};

@@ -6,7 +6,7 @@ ghost use Rattle.bz_rule.specs.Values.{on_rest, on_items};
 ghost use Rattle.bz_value.specs.Empty.{is_empty};
 ghost use Rattle.bz_attribute.specs.Sets.{texts_of};
 ghost use Rattle.bz_load.specs.Fixes.{end_of, is_commented as has_any, has_own_comments as has_own, is_emptied as empties, path_comments as path_has, symbol_stays as stays_by, unused_loads, used_alone as alone, with_used as used_in};
-ghost use Rattle.bz_load.specs.Known.{knows_name};
+ghost use Rattle.bz_load.specs.private.Known.{knows_name};
 
 use crate::readings::after_path;
 use crate::uses::{Names, used_names};

@@ -1,7 +1,7 @@
 //! The names that a file uses.
 ghost use Rattle.std.specs.Prelude.{◌≡◌, IfOk, OnOk};
 ghost use Rattle.bz_attribute.specs.Sets.{texts_of};
-ghost use Rattle.bz_load.specs.Known.{and_name, and_names, and_operands, and_uses, knows_name};
+ghost use Rattle.bz_load.specs.private.Known.{and_name, and_names, and_operands, and_uses, knows_name};
 ghost use Rattle.bz_load.specs.Uses.{is_used, operands, operand_names_in, with_operands};
 
 use bz_attribute::insert_text;

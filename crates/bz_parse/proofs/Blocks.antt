@@ -22,9 +22,9 @@ use Rattle.bz_tree.specs.Indents.{first_indent}
 use Rattle.bz_tree.specs.Reading.{◌>>=◌, Plan, starts_with, starts, with_part_first, run, wrap, node_part, token_part, reading}
 use Rattle.bz_tree.specs.Suites.{test_header, stands_at, begins_at, is_deeper, put_all, alone, while_next, with_suite, branches_of, statement, suite_of, if_all, read_file}
 use Rattle.bz_states.specs.Tokens.{token_at, Fails}
-use Rattle.bz_parse.specs.Words.{part_at, found_by, Pushes, found_from}
+use Rattle.bz_parse.specs.private.Words.{part_at, found_by, Pushes, found_from}
 use Rattle.bz_states.specs.States.{plan_at}
-use Rattle.bz_parse.specs.Rows.{PutsAll, PutsOne, plan_of_header, header_at, owner_at, suite_at, statement_at, statements_at, branches_at, if_at}
+use Rattle.bz_parse.specs.private.Rows.{PutsAll, PutsOne, plan_of_header, header_at, owner_at, suite_at, statement_at, statements_at, branches_at, if_at}
 use Rattle.bz_parse.proofs.Steps.{bind_same}
 use Rattle.bz_parse.proofs.Pushed.{begins_last}
 use Rattle.bz_tree.proofs.Suites.{statement_takes, owner_takes, same_text, text_same}

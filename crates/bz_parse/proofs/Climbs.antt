@@ -29,10 +29,10 @@ use Rattle.bz_states.specs.declared.state.StatementAt.TheVariants as statement_a
 use Rattle.bz_tree.specs.Shapes.{Terminal, has_token, Nonterminal, level, argument, entry, clause, first_clause, loaded, small, line, param, Shape, done, tok, list, starred, bzl_shape, name, simple, string, equals, stars, products, sums, shifts, comma_mark, open_round, open_square, open_curly}
 use Rattle.bz_tree.specs.Reading.{◌>>=◌, Read, starts_with, first, with_part_first, run, finish, first_of, FoundLevel, as_kind, put_found, follow, node_part, wrap, wrap_found, infix_at, fits_in, suffixes, climb, named_tail, param_tail, token_part, reading, round, square, curly, suffix_plan, clause_plan, small_plan}
 use Rattle.bz_states.specs.Tokens.{terminals_of, token_at, Halts, Fails}
-use Rattle.bz_parse.specs.Words.{part_at, with_found, found_by, found_from}
+use Rattle.bz_parse.specs.private.Words.{part_at, with_found, found_by, found_from}
 use Rattle.bz_states.specs.States.{nonterminal_of, compare_tail, cond_tail, precedence_of}
-use Rattle.bz_parse.specs.Ranks.{begun_at, level_at, climbed, suffixes_at, atom_at, argument_at, param_at}
-use Rattle.bz_parse.specs.Rows.{plan_of_header, header_at, shape_of_header}
+use Rattle.bz_parse.specs.private.Ranks.{begun_at, level_at, climbed, suffixes_at, atom_at, argument_at, param_at}
+use Rattle.bz_parse.specs.private.Rows.{plan_of_header, header_at, shape_of_header}
 use Rattle.bz_tree.proofs.Nested.{items_of_row}
 use Rattle.bz_tree.proofs.Terminals.{full_front}
 use Rattle.bz_tree.proofs.Exact.{all_leaves, token_leaf}

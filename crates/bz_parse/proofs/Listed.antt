@@ -15,7 +15,7 @@ use Rattle.bz_states.specs.declared.state.NodeState.TheVariants as s
 use Rattle.bz_states.specs.declared.state.Tail.TheVariants as in_rest
 use Rattle.bz_states.specs.Tokens.{terminals_of, token_at}
 use Rattle.bz_states.specs.States.{nonterminal_of, plan_at, row_of_items, Expects}
-use Rattle.bz_parse.specs.Words.{part_at, found_from}
+use Rattle.bz_parse.specs.private.Words.{part_at, found_from}
 use Rattle.bz_parse.proofs.Steps.{token_parts, reading_takes}
 use Rattle.bz_parse.proofs.Moves.{Adds, finishes, takes, takes_none, reads, reads_none, chooses_left, chooses_right}
 

@@ -13,7 +13,7 @@ use Rattle.bz_states.specs.declared.state.Move.TheVariants as m
 use Rattle.bz_tree.specs.Shapes.{Terminal, is_one_of, Nonterminal, Shape, none, done, tok, sub, alt, list, each, times}
 use Rattle.bz_tree.specs.Reading.{◌>>=◌, Read, starts_with, starts, first, with_part_first, run, Plan, finish, one, piece, choose, first_of, FoundLevel, as_kind, put_found, follow, node_part, wrap_found, reading}
 use Rattle.bz_states.specs.Tokens.{terminals_of, token_at}
-use Rattle.bz_parse.specs.Words.{part_at, with_found, found_by, found_from, read_by_move}
+use Rattle.bz_parse.specs.private.Words.{part_at, with_found, found_by, found_from, read_by_move}
 use Rattle.bz_states.specs.States.{nonterminal_of, plan_at, again, ExpectedMove, never, whole, one_token, one_part, either, expected_move, Meets, Expects, choices, Few}
 use Rattle.bz_parse.proofs.Steps.{bind_same, token_run, token_parts, reading_takes, after_at, list_step, each_step}
 

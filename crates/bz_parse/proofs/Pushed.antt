@@ -16,8 +16,8 @@ use Rattle.bz_states.specs.declared.state.SuffixAt.TheVariants as suffix_at
 use Rattle.bz_tree.specs.Spell.{depth_part, deepest}
 use Rattle.bz_tree.specs.Reading.{Read, starts_with, fits_in}
 use Rattle.bz_states.specs.Tokens.{terminals_of, Fails}
-use Rattle.bz_parse.specs.Words.{Pushes, found_from}
-use Rattle.bz_parse.specs.Ranks.{fitted_at, begun_at, suffixes_at}
+use Rattle.bz_parse.specs.private.Words.{Pushes, found_from}
+use Rattle.bz_parse.specs.private.Ranks.{fitted_at, begun_at, suffixes_at}
 use Rattle.bz_parse.proofs.Deepest.{deepest_push}
 use Rattle.bz_parse.proofs.Steps.{fails}
 use Rattle.bz_parse.proofs.Moves.{Adds}

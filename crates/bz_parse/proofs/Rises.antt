@@ -11,7 +11,7 @@ use Rattle.bz_states.specs.declared.state.Precedence.TheVariants as g
 use Rattle.bz_tree.specs.Reading.{◌>>=◌, Read, starts_with}
 use Rattle.bz_states.specs.Tokens.{terminals_of}
 use Rattle.bz_states.specs.States.{precedence_of, binds, binds_at}
-use Rattle.bz_parse.specs.Ranks.{climbed, level_at, begun_at, bound, bound_at, rising, risen_at}
+use Rattle.bz_parse.specs.private.Ranks.{climbed, level_at, begun_at, bound, bound_at, rising, risen_at}
 use Rattle.bz_tree.proofs.Terminals.{disjoint, disjoint_at}
 use Rattle.bz_parse.proofs.Climbs.{level_step, begun_stays}
 

@@ -1,4 +1,1 @@
-pub mod Words
-pub mod Indents
-pub mod Ranks
-pub mod Rows
+pub mod private

@@ -3,9 +3,9 @@ ghost use Rattle.std.specs.Prelude.{◌≡◌, ◌∷◌, ◌≤◌, ◌*◌, []
 ghost use Rattle.bz_tree.specs.Reading.{starts_with};
 ghost use Rattle.bz_tree.specs.Spell.{deepest, depth_limit};
 ghost use Rattle.bz_states.specs.Tokens.{terminals_of, Fails};
-ghost use Rattle.bz_parse.specs.Words.{part_at, Pushes, found_from};
+ghost use Rattle.bz_parse.specs.private.Words.{part_at, Pushes, found_from};
 ghost use Rattle.bz_states.specs.States.{nonterminal_of};
-ghost use Rattle.bz_parse.specs.Ranks.{fitted_at, bound_at, level_at, RisesFrom, atom_at, argument_at, param_at};
+ghost use Rattle.bz_parse.specs.private.Ranks.{fitted_at, bound_at, level_at, RisesFrom, atom_at, argument_at, param_at};
 ghost use Rattle.bz_tree.specs.declared.tree.Part.{Part};
 
 use crate::row::{Stack, deeper};
@@ -232,7 +232,7 @@ pub(crate) fn part(
 }
 
 /// A leaf of this sort.
-#[tactic(auto, unfolding(bz_states::specs::Tokens::token_at, crate::specs::Words::part_at))]
+#[tactic(auto, unfolding(bz_states::specs::Tokens::token_at, crate::specs::private::Words::part_at))]
 fn leaf_of(nonterminal: PartNonterminal, stack: &mut Stack, leaves: &mut Leaves) -> Result<u32, ParseHalt>
     ensures ok { IfOk result (λ deep. Pushes (part_at 0 (nonterminal_of nonterminal) leaves.old) stack.old stack.new leaves.new deep) }
     ensures err { Fails result (part_at 0 (nonterminal_of nonterminal) leaves.old) }

@@ -10,9 +10,9 @@ ghost use Rattle.bz_tree.specs.Legal.{IsFileOf};
 ghost use Rattle.bz_tree.specs.Joined.{file_with};
 ghost use Rattle.bz_tree.specs.Suites.{read_file, is_deeper};
 ghost use Rattle.bz_states.specs.Tokens.{Fails};
-ghost use Rattle.bz_parse.specs.Words.{part_at};
+ghost use Rattle.bz_parse.specs.private.Words.{part_at};
 ghost use Rattle.bz_states.specs.States.{plan_at};
-ghost use Rattle.bz_parse.specs.Rows.{PutsAll, PutsOne, plan_of_header, header_at, owner_at, suite_at, statement_at, statements_at, if_at};
+ghost use Rattle.bz_parse.specs.private.Rows.{PutsAll, PutsOne, plan_of_header, header_at, owner_at, suite_at, statement_at, statements_at, if_at};
 
 use crate::grammar::part;
 use crate::row::Stack;

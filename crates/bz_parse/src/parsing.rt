@@ -8,7 +8,7 @@ ghost use Rattle.bz_tree.specs.Legal.{Reads, ReadsBzl, NoTree, NoBzlTree};
 ghost use Rattle.bz_tree.specs.Spell.{limit};
 ghost use Rattle.bz_tree.specs.Joined.{file_with};
 ghost use Rattle.bz_tree.specs.Faults.{IsOfText, IsOther};
-ghost use Rattle.bz_parse.specs.Indents.{is_wrong, IsIndentedAt};
+ghost use Rattle.bz_parse.specs.private.Indents.{is_wrong, IsIndentedAt};
 
 use crate::indented::{file, read_so_far};
 use crate::row::Stack;

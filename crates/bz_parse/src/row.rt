@@ -8,7 +8,7 @@ ghost use Rattle.bz_tree.specs.Legal.{IsBuildPart};
 ghost use Rattle.bz_tree.specs.Shapes.{name, has_token};
 ghost use Rattle.bz_tree.specs.Reading.{node_part};
 ghost use Rattle.bz_states.specs.Tokens.{terminals_of, token_at, Fails};
-ghost use Rattle.bz_parse.specs.Words.{Pushes};
+ghost use Rattle.bz_parse.specs.private.Words.{Pushes};
 
 use bz_items::{Items, Memory};
 use bz_lex::{Class, Leaf};

@@ -10,7 +10,7 @@ use Rattle.bz_write.specs.Written as written
 use Rattle.bz_rule.specs.Values.{has_kind, items_of}
 use Rattle.bz_attribute.specs.Lists.{body_of}
 use Rattle.bz_print.specs.Prints.{spaced, bodies_of, strings_in, in_brackets, printed_value}
-use Rattle.bz_print.specs.Steps.{space_between, printed_body, is_string}
+use Rattle.bz_print.specs.private.Steps.{space_between, printed_body, is_string}
 
 -- ---- all bodies
 

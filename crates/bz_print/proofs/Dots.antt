@@ -5,7 +5,7 @@ use Rattle.bz_tree.specs.Kinds.{kind_number}
 use Rattle.bz_value.specs.declared.value.Form.{Form}
 use Rattle.bz_value.specs.declared.value.Expr.TheVariants as e
 use Rattle.bz_rule.specs.Rules.{joined, dotted_name}
-use Rattle.bz_rule.specs.Named.{each_named}
+use Rattle.bz_rule.specs.private.Named.{each_named}
 use Rattle.bz_rule.proofs.Forms.{dotted_name_Form}
 
 pub dotted_Form : (f : Form) → dotted_name (e.Form f) ≡ (if nat_eq (kind_number f.kind) (kind_number k.Dot) then joined (each_named f.parts) else None)

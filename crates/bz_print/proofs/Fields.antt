@@ -6,7 +6,7 @@ use Rattle.bz_items.specs.Characters.{Bytes}
 use Rattle.bz_words.specs.declared.command.Field.{Field}
 use Rattle.bz_rule.specs.Rules.{Rule}
 use Rattle.bz_print.specs.Prints.{spaced, printed_field, printed_fields}
-use Rattle.bz_print.specs.Steps.{space_between}
+use Rattle.bz_print.specs.private.Steps.{space_between}
 
 fields_first : (line : Option Bytes) (item : Item) (rule : Rule) (x : Field) (xs : List Field) →
     spaced (printed_fields line item rule (x ∷ xs)) ≡ printed_field line item rule x ++ (space_between xs ++ spaced (printed_fields line item rule xs))

@@ -1,3 +1,3 @@
 pub mod Prints
-pub mod Steps
 pub mod Worked
+pub mod private

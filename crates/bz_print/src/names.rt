@@ -3,8 +3,8 @@ ghost use Rattle.std.specs.Prelude.{◌≡◌, ◌++◌, ◌∷◌, OnOk, IfOk, 
 ghost use Rattle.bz_token.specs.declared.class.Class.TheVariants as c;
 ghost use Rattle.bz_rule.specs.Rules as r;
 ghost use Rattle.bz_items.specs.Characters.{full_stop};
-ghost use Rattle.bz_rule.specs.Named.{each_named};
-ghost use Rattle.bz_print.specs.Steps.{text_or_nothing};
+ghost use Rattle.bz_rule.specs.private.Named.{each_named};
+ghost use Rattle.bz_print.specs.private.Steps.{text_or_nothing};
 
 use bz_items::Memory;
 use bz_rule::text_in;

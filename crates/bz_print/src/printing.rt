@@ -4,7 +4,7 @@ ghost use Rattle.std.specs.Option.{option_map, option_map_or};
 ghost use Rattle.bz_rule.specs.Rules as r;
 ghost use Rattle.bz_write.specs.Written as written;
 ghost use Rattle.bz_print.specs.Prints.{missing, spaced, printed_value, without_last, printed_field, printed_fields, printed_item};
-ghost use Rattle.bz_print.specs.Steps.{seen_rule};
+ghost use Rattle.bz_print.specs.private.Steps.{seen_rule};
 
 use crate::rules::{Rule, printed_rule_of};
 use crate::values::{push_space, push_value};

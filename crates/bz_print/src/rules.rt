@@ -2,7 +2,7 @@
 ghost use Rattle.std.specs.Prelude.{◌≡◌, IfOk};
 ghost use Rattle.std.specs.Option.{option_map};
 ghost use Rattle.bz_rule.specs.Rules as r;
-ghost use Rattle.bz_print.specs.Steps.{seen_rule};
+ghost use Rattle.bz_print.specs.private.Steps.{seen_rule};
 
 use crate::names::push_dotted;
 use bz_items::{Memory, Text};

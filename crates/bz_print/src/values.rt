@@ -2,7 +2,7 @@
 ghost use Rattle.std.specs.Prelude.{◌≡◌, ◌++◌, OnOk, map};
 ghost use Rattle.std.specs.List.{list_all};
 ghost use Rattle.bz_print.specs.Prints.{spaced, in_brackets, printed_value};
-ghost use Rattle.bz_print.specs.Steps.{space_between, printed_body, is_string};
+ghost use Rattle.bz_print.specs.private.Steps.{space_between, printed_body, is_string};
 
 use bz_attribute::{body_of, has_kind, items_of};
 use bz_items::Memory;

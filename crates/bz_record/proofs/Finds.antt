@@ -5,7 +5,7 @@ use Rattle.bz_record.specs.declared.content.Record.{Record}
 use Rattle.bz_record.specs.declared.content.Version.{Version}
 use Rattle.bz_record.specs.declared.content.Version.TheVariants.{One, Two}
 use Rattle.bz_record.proofs.Whole.{record_sound, record_complete}
-use Rattle.bz_record.specs.Reading.{record_at}
+use Rattle.bz_record.specs.private.Reading.{record_at}
 use Rattle.bz_record.specs.Texts.{IsRead, IsRecord, record_text}
 
 pub found : (v : Version) (s : List ℕ) (r : Record) → record_at v depth_limit s ≡ Some r → IsRead s r

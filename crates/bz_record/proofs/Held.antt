@@ -22,7 +22,7 @@ use Rattle.bz_exact.specs.Laws.{IsExact}
 use Rattle.bz_exact.specs.Readers.{Reader, after_mark, field_at, listed_at, number_at, ◌>>=◌}
 use Rattle.bz_exact.specs.Spellings.{number_limit}
 use Rattle.bz_items.specs.Characters.{line_feed, space}
-use Rattle.bz_record.specs.Reading.{leaf_read, node_read, choice, either, held_at, leaf_at, node_at, nodes_at, numbered_class_at, numbered_kind_at}
+use Rattle.bz_record.specs.private.Reading.{leaf_read, node_read, choice, either, held_at, leaf_at, node_at, nodes_at, numbered_class_at, numbered_kind_at}
 use Rattle.bz_record.specs.Texts.{AreSmallParts, IsHeld, IsSmallPart, held_row_text, last_number, node_line, part_text, row_length, spaced_number}
 
 -- ---- leaves

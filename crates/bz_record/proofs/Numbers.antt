@@ -16,7 +16,7 @@ use Rattle.bz_exact.specs.Laws.{IsExact}
 use Rattle.bz_exact.specs.Readers.{number_at, ◌>>=◌}
 use Rattle.bz_exact.specs.Spellings.{number_limit}
 use Rattle.bz_items.specs.Characters.{space}
-use Rattle.bz_record.specs.Reading.{numbered_class_at, numbered_kind_at}
+use Rattle.bz_record.specs.private.Reading.{numbered_class_at, numbered_kind_at}
 use Rattle.bz_record.specs.Texts.{spaced_number}
 
 past_end : (n : ℕ) → 255 < n → length kind_list ≤ n - 1

@@ -24,7 +24,7 @@ use Rattle.bz_exact.specs.Laws.{IsExact}
 use Rattle.bz_exact.specs.Readers.{after_mark, counted_at, digest_at, listed_at, number_at, repeated, tested, up_to, ◌>>=◌}
 use Rattle.bz_exact.specs.Spellings.{IsDigest, counted_text, number_limit}
 use Rattle.bz_items.specs.Characters.{line_feed, space}
-use Rattle.bz_record.specs.Reading.{digest_line_at, edit_at, entry_at, held_at, is_short_text, lines_at, note_at, record_at}
+use Rattle.bz_record.specs.private.Reading.{digest_line_at, edit_at, entry_at, held_at, is_short_text, lines_at, note_at, record_at}
 use Rattle.bz_record.specs.Texts.{IsEdit, IsNotedStep, IsHeld, IsNote, IsRecord, counts_text, digest_text, edit_text, end_line, entry_text, last_number, lines_text, note_line, part_text, record_text, short_limit, spaced_number, step_limit, version_line}
 
 abbrev IsPath : List ℕ → Type 0

@@ -3,7 +3,7 @@ ghost use Rattle.std.specs.Prelude.{◌≡◌, ◌-◌, ◌+◌, ◌<◌, ℕ};
 ghost use Rattle.bz_exact.specs.Outcomes.{Gives};
 ghost use Rattle.bz_exact.specs.Readers.{after_mark, listed_at, number_at, repeated};
 ghost use Rattle.bz_items.specs.Characters.{space};
-ghost use Rattle.bz_record.specs.Reading.{digest_line_at, edit_at, entry_at, held_at};
+ghost use Rattle.bz_record.specs.private.Reading.{digest_line_at, edit_at, entry_at, held_at};
 
 use crate::content::{RecordedStep, Version};
 use crate::fields::{read_digest_line, read_note};
@@ -29,7 +29,7 @@ fn read_path(alloc: Global, count: u32, input: &[u8]) -> Result<(Vec<u32>, &[u8]
 }
 
 /// An edit of which the held parts are at most so deep.
-#[tactic(auto, unfolding(crate::specs::Reading::edit_at, bz_exact::specs::Readers::listed_at))]
+#[tactic(auto, unfolding(crate::specs::private::Reading::edit_at, bz_exact::specs::Readers::listed_at))]
 fn read_edit(alloc: Global, depth: u32, input: &[u8]) -> Result<(Edit, &[u8]), Unread>
     ensures { Gives (λ x. (x.0, x.1.now)) result (edit_at depth input.now) }
 {
@@ -70,7 +70,7 @@ fn read_edits(
 }
 
 /// A note and the edits of a step.
-#[tactic(auto, unfolding(crate::specs::Reading::entry_at, bz_exact::specs::Readers::listed_at))]
+#[tactic(auto, unfolding(crate::specs::private::Reading::entry_at, bz_exact::specs::Readers::listed_at))]
 fn read_entry(
     alloc: Global,
     version: Version,

@@ -4,7 +4,7 @@ ghost use Rattle.std.specs.Prelude.{◌≡◌, ◌∷◌, ◌<◌, ◌≤◌, �
 ghost use Rattle.bz_exact.specs.Outcomes.{Gives};
 ghost use Rattle.bz_exact.specs.Readers.{counted_at, tested};
 ghost use Rattle.bz_items.specs.Characters.{space};
-ghost use Rattle.bz_record.specs.Reading.{digest_line_at, is_short_text, leaf_at, note_at, numbered_class_at, numbered_kind_at};
+ghost use Rattle.bz_record.specs.private.Reading.{digest_line_at, is_short_text, leaf_at, note_at, numbered_class_at, numbered_kind_at};
 ghost use Rattle.bz_record.specs.Texts.{version_line};
 
 use crate::content::Version;
@@ -16,7 +16,7 @@ use bz_tree::{Kind, Leaf};
 use std::alloc::Global;
 
 /// The class of a number.
-#[tactic(auto, unfolding(crate::specs::Reading::numbered_class_at))]
+#[tactic(auto, unfolding(crate::specs::private::Reading::numbered_class_at))]
 fn read_class(input: &[u8]) -> Result<(Class, &[u8]), Unread>
     ensures { Gives (λ x. (x.0, x.1.now)) result (numbered_class_at input.now) }
 {
@@ -31,7 +31,7 @@ fn read_class(input: &[u8]) -> Result<(Class, &[u8]), Unread>
 }
 
 /// The kind of a number.
-#[tactic(auto, using(crate::proofs::Numbers::past_kinds), unfolding(crate::specs::Reading::numbered_kind_at))]
+#[tactic(auto, using(crate::proofs::Numbers::past_kinds), unfolding(crate::specs::private::Reading::numbered_kind_at))]
 pub fn read_kind(input: &[u8]) -> Result<(Kind, &[u8]), Unread>
     ensures { Gives (λ x. (x.0, x.1.now)) result (numbered_kind_at input.now) }
 {
@@ -46,7 +46,7 @@ pub fn read_kind(input: &[u8]) -> Result<(Kind, &[u8]), Unread>
 }
 
 /// A line with a digest.
-#[tactic(auto, unfolding(crate::specs::Reading::digest_line_at))]
+#[tactic(auto, unfolding(crate::specs::private::Reading::digest_line_at))]
 pub fn read_digest_line(input: &[u8]) -> Result<([u8; 32], &[u8]), Unread>
     ensures { Gives (λ x. (x.0, x.1.now)) result (digest_line_at input.now) }
 {
@@ -55,7 +55,7 @@ pub fn read_digest_line(input: &[u8]) -> Result<([u8; 32], &[u8]), Unread>
 }
 
 /// What follows the first word of a leaf.
-#[tactic(auto, unfolding(crate::specs::Reading::leaf_at))]
+#[tactic(auto, unfolding(crate::specs::private::Reading::leaf_at))]
 pub fn read_leaf(alloc: Global, input: &[u8]) -> Result<(Leaf, &[u8]), Unread>
     ensures { Gives (λ x. (x.0, x.1.now)) result (leaf_at input.now) }
 {
@@ -74,7 +74,7 @@ pub fn read_leaf(alloc: Global, input: &[u8]) -> Result<(Leaf, &[u8]), Unread>
 }
 
 /// The name of a package, or a note, with its length before it.
-#[tactic(auto, using(crate::proofs::Marks::no_text, crate::proofs::Marks::is_text), unfolding(crate::specs::Reading::is_short_text, bz_exact::specs::Readers::tested))]
+#[tactic(auto, using(crate::proofs::Marks::no_text, crate::proofs::Marks::is_text), unfolding(crate::specs::private::Reading::is_short_text, bz_exact::specs::Readers::tested))]
 pub fn read_short_text(input: &[u8]) -> Result<(&[u8], &[u8]), Unread>
     ensures { Gives (λ x. (x.0.now, x.1.now)) result (tested is_short_text (counted_at space) input.now) }
 {
@@ -99,7 +99,7 @@ pub fn version_line(version: Version) -> &'static [u8]
 }
 
 /// The line of a note, where the version has one.
-#[tactic(auto, unfolding(crate::specs::Reading::note_at))]
+#[tactic(auto, unfolding(crate::specs::private::Reading::note_at))]
 pub fn read_note(version: Version, input: &[u8]) -> Result<(&[u8], &[u8]), Unread>
     ensures { Gives (λ x. (x.0.now, x.1.now)) result (note_at version input.now) }
 {

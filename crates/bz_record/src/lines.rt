@@ -2,7 +2,7 @@
 ghost use Rattle.std.specs.Prelude.{◌≡◌, ◌-◌, ◌+◌, ◌<◌, ◌≤◌, ◌↔◌, ℕ, IsTrue};
 ghost use Rattle.bz_exact.specs.Outcomes.{Gives};
 ghost use Rattle.bz_exact.specs.Readers.{after_mark};
-ghost use Rattle.bz_record.specs.Reading.{lines_at, record_at};
+ghost use Rattle.bz_record.specs.private.Reading.{lines_at, record_at};
 ghost use Rattle.bz_record.specs.Texts.{end_line};
 
 use crate::content::{Record, Version};
@@ -15,7 +15,7 @@ use sha2::{Digest, Sha256};
 use std::alloc::Global;
 
 /// All lines but the last.
-#[tactic(auto, unfolding(crate::specs::Reading::lines_at))]
+#[tactic(auto, unfolding(crate::specs::private::Reading::lines_at))]
 fn read_lines(
     alloc: Global,
     version: Version,
@@ -64,7 +64,7 @@ fn is_end(input: &[u8], lines: &[u8]) -> bool
 }
 
 /// The record that has these bytes in this version.
-#[tactic(auto, using(crate::proofs::Marks::equal_bytes, crate::proofs::Marks::other_bytes), unfolding(crate::specs::Reading::record_at))]
+#[tactic(auto, using(crate::proofs::Marks::equal_bytes, crate::proofs::Marks::other_bytes), unfolding(crate::specs::private::Reading::record_at))]
 pub fn read_in(alloc: Global, version: Version, depth: u32, input: &[u8]) -> Result<Record, Unread>
     ensures { Gives (λ r. r) result (record_at version depth input.now) }
 {

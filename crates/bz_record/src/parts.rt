@@ -2,7 +2,7 @@
 ghost use Rattle.std.specs.Prelude.{◌≡◌, ◌-◌, ◌+◌, ◌<◌, ℕ};
 ghost use Rattle.bz_exact.specs.Outcomes.{Gives};
 ghost use Rattle.bz_exact.specs.Readers.{after_mark, number_at, repeated};
-ghost use Rattle.bz_record.specs.Reading.{choice, held_at, leaf_at, node_at, nodes_at, numbered_kind_at};
+ghost use Rattle.bz_record.specs.private.Reading.{choice, held_at, leaf_at, node_at, nodes_at, numbered_kind_at};
 
 use crate::fields::{read_kind, read_leaf};
 use bz_exact::{Unread, read_mark, read_number, strip_mark};
@@ -12,7 +12,7 @@ use std::alloc::Global;
 
 /// A part of which at most this many nodes are inside each other.
 #[cycle(held)]
-#[tactic(auto, unfolding(crate::specs::Reading::choice))]
+#[tactic(auto, unfolding(crate::specs::private::Reading::choice))]
 fn read_part(alloc: Global, depth: u32, input: &[u8]) -> Result<(Part, &[u8]), Unread>
     ensures { Gives (λ x. (x.0, x.1.now)) result (held_at depth input.now) }
 {
@@ -27,7 +27,7 @@ fn read_part(alloc: Global, depth: u32, input: &[u8]) -> Result<(Part, &[u8]), U
 
 /// What follows the first word of a node.
 #[cycle(held)]
-#[tactic(auto, using(crate::proofs::Inner::one_less), unfolding(crate::specs::Reading::nodes_at))]
+#[tactic(auto, using(crate::proofs::Inner::one_less), unfolding(crate::specs::private::Reading::nodes_at))]
 fn read_node(alloc: Global, depth: u32, input: &[u8]) -> Result<(Node, &[u8]), Unread>
     ensures { Gives (λ x. (x.0, x.1.now)) result (nodes_at depth input.now) }
 {
@@ -39,7 +39,7 @@ fn read_node(alloc: Global, depth: u32, input: &[u8]) -> Result<(Node, &[u8]), U
 
 /// What follows the first word of a node of which the parts are at most so deep.
 #[cycle(held)]
-#[tactic(auto, unfolding(crate::specs::Reading::node_at, bz_exact::specs::Readers::listed_at))]
+#[tactic(auto, unfolding(crate::specs::private::Reading::node_at, bz_exact::specs::Readers::listed_at))]
 fn read_node_of(alloc: Global, depth: u32, input: &[u8]) -> Result<(Node, &[u8]), Unread>
     ensures { Gives (λ x. (x.0, x.1.now)) result (node_at (held_at depth) input.now) }
 {

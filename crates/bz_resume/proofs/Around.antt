@@ -10,7 +10,7 @@ use Rattle.bz_edit.specs.Steps.{swap_node}
 use Rattle.bz_trail.specs.Trails.{IsTree, LeadOn, steps_back, steps_forward, trees}
 use Rattle.bz_trail.proofs.Keeps.{trees_length}
 use Rattle.bz_record.specs.declared.content.Record.{Record}
-use Rattle.bz_resume.specs.Agreement.{StepsAgree, StepsAgreeAround, IsCounted, RecordAgrees, edits_of, recorded_trail}
+use Rattle.bz_resume.specs.private.Agreement.{StepsAgree, StepsAgreeAround, IsCounted, RecordAgrees, edits_of, recorded_trail}
 
 abbrev digest_of : Node → List ℕ
 digest_of n = sha256 (spell_node n)

@@ -9,8 +9,8 @@ use Rattle.bz_tree.proofs.Unique.{one_tree}
 use Rattle.bz_edit.specs.declared.edit.Edit.{Edit}
 use Rattle.bz_edit.specs.Steps.{swap_node}
 use Rattle.bz_trail.specs.Trails.{IsTree}
-use Rattle.bz_resume.specs.Outlines.{outline_node}
-use Rattle.bz_resume.specs.Agreement.{StepAgrees, StepsAgree}
+use Rattle.bz_resume.specs.private.Outlines.{outline_node}
+use Rattle.bz_resume.specs.private.Agreement.{StepAgrees, StepsAgree}
 use Rattle.bz_resume.proofs.Outlined.{one_outline}
 
 -- a text reads as a node that spells it, where the tree that it reads as has the outline of the node, and else the node is no tree

@@ -12,7 +12,7 @@ use Rattle.bz_edit.specs.Steps.{swap_node}
 use Rattle.bz_trail.specs.Trails.{IsTree}
 use Rattle.bz_trail.specs.Shown.{Text}
 use Rattle.bz_record.specs.declared.content.Record.{Record}
-use Rattle.bz_resume.specs.Agreement.{StepsAgree, StepsAgreeAround, IsCounted, IsOpened, StepAgrees, RecordAgrees, MayLead, NoneAgrees, edits_of, notes_of, recorded_trail}
+use Rattle.bz_resume.specs.private.Agreement.{StepsAgree, StepsAgreeAround, IsCounted, IsOpened, StepAgrees, RecordAgrees, MayLead, NoneAgrees, edits_of, notes_of, recorded_trail}
 use Rattle.bz_resume.proofs.Around.{to_whole, from_whole}
 use Rattle.bz_resume.proofs.Loops.{IsGoing, goes_further, stops}
 use Rattle.bz_resume.proofs.Paths.{trail_may}

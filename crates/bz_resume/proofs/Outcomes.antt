@@ -24,7 +24,7 @@ use Rattle.bz_record.proofs.Own.{own_version}
 use Rattle.bz_resume.specs.declared.resumed.Resumed.{Resumed}
 use Rattle.bz_resume.specs.Journals.{History, Journal, NoJournal, AreSmall, record_of, stands, text_at}
 use Rattle.bz_record.specs.Contents.{entries_of}
-use Rattle.bz_resume.specs.Agreement.{IsCounted, IsOpened, RecordAgrees, NoneAgrees, edits_of, notes_of, standing_place, recorded_trail}
+use Rattle.bz_resume.specs.private.Agreement.{IsCounted, IsOpened, RecordAgrees, NoneAgrees, edits_of, notes_of, standing_place, recorded_trail}
 use Rattle.bz_resume.specs.Resumed.{IsResumed, IsStale, StandsFor, trail_of}
 use Rattle.bz_resume.proofs.Entries.{entries_back, entries_edits, entries_notes}
 

@@ -13,7 +13,7 @@ use Rattle.bz_tree.specs.declared.tree.Part.TheVariants as p
 use Rattle.bz_tree.specs.Kinds.{kind_number}
 use Rattle.bz_tree.proofs.Nested.{row_of, items_of_row, part_ind, leaf_or_node}
 use Rattle.bz_tree.proofs.Numbers.{same_kind}
-use Rattle.bz_resume.specs.Outlines.{marked, outline_all, outline_leaf, outline_node, outline_part, outline_row}
+use Rattle.bz_resume.specs.private.Outlines.{marked, outline_all, outline_leaf, outline_node, outline_part, outline_row}
 
 -- ---- a node by the list of its parts
 

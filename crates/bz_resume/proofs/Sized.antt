@@ -13,7 +13,7 @@ use Rattle.bz_tree.proofs.Nested.{part_ind, row_of, items_of_row}
 use Rattle.bz_tree.proofs.Spells.{depth_Node, spell_Node}
 use Rattle.bz_edit.specs.declared.edit.Edit.{Edit}
 use Rattle.bz_edit.specs.Places.{has_place, covered, if_node, node_in, opened_node}
-use Rattle.bz_edit.specs.Plans.{parts_in, total_length}
+use Rattle.bz_edit.specs.private.Plans.{parts_in, total_length}
 use Rattle.bz_edit.specs.Steps.{CountsFit, all_there, swap_node, turned_all}
 use Rattle.bz_edit.proofs.Planning.{parts_Node, length_total}
 use Rattle.bz_edit.proofs.Puts.{child_found}

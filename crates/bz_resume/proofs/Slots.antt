@@ -10,7 +10,7 @@ use Rattle.bz_tree.specs.declared.tree.Part.TheVariants as p
 use Rattle.bz_tree.specs.declared.tree.Part.TheViews.{outs-Node}
 use Rattle.bz_edit.specs.declared.edit.Edit.{Edit}
 use Rattle.bz_edit.specs.Places.{has_place, child, if_node, node_in, opened_node}
-use Rattle.bz_edit.specs.Plans.{parts_in, total_length}
+use Rattle.bz_edit.specs.private.Plans.{parts_in, total_length}
 use Rattle.bz_edit.specs.Steps.{IsBefore, WellFormed, MayFollow, all_there}
 use Rattle.bz_edit.proofs.Planning.{parts_Node, length_total}
 use Rattle.bz_edit.proofs.Puts.{child_found}

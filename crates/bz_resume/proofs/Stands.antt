@@ -9,7 +9,7 @@ use Rattle.bz_edit.specs.declared.edit.Edit.{Edit}
 use Rattle.bz_trail.specs.Trails.{Trail, IsTrail, trail_at}
 use Rattle.bz_trail.specs.Shown.{Moves, Text, texts_of}
 use Rattle.bz_trail.proofs.Keeps.{present_text, texts_length}
-use Rattle.bz_resume.specs.Agreement.{HasStood}
+use Rattle.bz_resume.specs.private.Agreement.{HasStood}
 
 shown_at : (t : Trail) (text : Text) (shown b : Bool) → IsTrail t → shown ≡ bytes_eq text (spell_node t.tree) → shown ≡ b → bytes_eq text (slice_index_or (texts_of t) t.cursor []) ≡ b
 shown_at t text shown b trail is e = ap (bytes_eq text) (present_text t trail) ∙ sym is ∙ e

@@ -22,7 +22,7 @@ use Rattle.bz_edit.specs.declared.edit.Edit.{Edit}
 use Rattle.bz_edit.specs.Steps.{here, if_here, below, if_below, spliced, splice_all, swap_part, swap_list, swap_node}
 use Rattle.bz_edit.proofs.Swaps.{stays, swap_none}
 use Rattle.bz_trail.specs.Trails.{IsTree}
-use Rattle.bz_resume.specs.Alone.{after_alone, IsAlone, AreAlone, EndsLine, IsLineFeed, AreLined, IsAloneAt, IsWithin, IsTouchedAlone, IsHeldAlone, AreTouchedAlone}
+use Rattle.bz_resume.specs.private.Alone.{after_alone, IsAlone, AreAlone, EndsLine, IsLineFeed, AreLined, IsAloneAt, IsWithin, IsTouchedAlone, IsHeldAlone, AreTouchedAlone}
 
 -- ---- a legal file has parts that are legal by themselves
 

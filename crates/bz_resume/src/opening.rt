@@ -3,7 +3,7 @@ ghost use Rattle.std.specs.Prelude.{◌≡◌, ◌+◌, ◌≤◌, ◌↔◌, Is
 ghost use Rattle.bz_tree.specs.declared.tree.Node.{Node};
 ghost use Rattle.bz_tree.specs.Legal.{NoTree, Reads};
 ghost use Rattle.bz_resume.specs.declared.fault.Halt.TheVariants as h;
-ghost use Rattle.bz_resume.specs.Agreement.{StepsAgreeAround, IsCounted, IsOpened, NoneAgrees};
+ghost use Rattle.bz_resume.specs.private.Agreement.{StepsAgreeAround, IsCounted, IsOpened, NoneAgrees};
 
 use crate::fault::Halt;
 use crate::reading::read;

@@ -1,7 +1,7 @@
 //! Outlines of nodes: with one, a node can be dropped before the tree is read that it is compared with.
 ghost use Rattle.std.specs.Prelude.{◌≡◌, ◌∷◌, [], ◌++◌, OnOk, IfOk};
 ghost use Rattle.std.specs.List.{flat_map};
-ghost use Rattle.bz_resume.specs.Outlines.{marked, marked_byte, outline_all, outline_leaf, outline_node, outline_part};
+ghost use Rattle.bz_resume.specs.private.Outlines.{marked, marked_byte, outline_all, outline_leaf, outline_node, outline_part};
 
 use bz_items::Memory;
 use bz_lex::Leaf;

@@ -7,8 +7,8 @@ ghost use Rattle.bz_tree.specs.Spell.{spell_node};
 ghost use Rattle.bz_edit.specs.Steps.{swap_node};
 ghost use Rattle.bz_trail.specs.Trails.{IsTree};
 ghost use Rattle.bz_resume.specs.declared.fault.Halt.TheVariants as h;
-ghost use Rattle.bz_resume.specs.Outlines.{outline_node};
-ghost use Rattle.bz_resume.specs.Agreement.{StepAgrees, StepsAgree};
+ghost use Rattle.bz_resume.specs.private.Outlines.{outline_node};
+ghost use Rattle.bz_resume.specs.private.Agreement.{StepAgrees, StepsAgree};
 
 use crate::fault::Halt;
 use crate::outlining::outline_of;

@@ -2,7 +2,7 @@
 ghost use Rattle.std.specs.Prelude.{◌≡◌, IfOk, Err};
 ghost use Rattle.std.specs.List.{AllByRecursion};
 ghost use Rattle.bz_resume.specs.declared.fault.Halt.TheVariants as h;
-ghost use Rattle.bz_resume.specs.Agreement.{MayLead, are_short as short, edits_of, notes_of};
+ghost use Rattle.bz_resume.specs.private.Agreement.{MayLead, are_short as short, edits_of, notes_of};
 
 use crate::fault::Halt;
 use bz_edit::{Edit, Step};

@@ -4,7 +4,7 @@ ghost use Rattle.std.specs.Str.{bytes_eq};
 ghost use Rattle.bz_tree.specs.Spell.{spell_node};
 ghost use Rattle.bz_trail.specs.Trails.{IsTrail, trail_at};
 ghost use Rattle.bz_trail.specs.Shown.{Moves};
-ghost use Rattle.bz_resume.specs.Agreement.{HasStood};
+ghost use Rattle.bz_resume.specs.private.Agreement.{HasStood};
 
 use bz_edit::Step;
 use bz_items::Memory;

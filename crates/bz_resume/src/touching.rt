@@ -7,7 +7,7 @@ ghost use Rattle.bz_tree.specs.Joined.{AreWholeLines, file_with};
 ghost use Rattle.bz_tree.specs.Split.{bare_end};
 ghost use Rattle.bz_edit.specs.Steps.{swap_node};
 ghost use Rattle.bz_trail.specs.Trails.{IsTree};
-ghost use Rattle.bz_resume.specs.Alone.{AreAlone, AreLined, AreTouchedAlone, EndsLine, IsAlone, IsAloneAt, IsHeldAlone, IsLineFeed, IsTouchedAlone, IsWithin};
+ghost use Rattle.bz_resume.specs.private.Alone.{AreAlone, AreLined, AreTouchedAlone, EndsLine, IsAlone, IsAloneAt, IsHeldAlone, IsLineFeed, IsTouchedAlone, IsWithin};
 
 use bz_edit::Edit;
 use bz_items::Memory;

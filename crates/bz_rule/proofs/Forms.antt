@@ -8,7 +8,7 @@ use Rattle.bz_value.specs.declared.value.Form.{Form}
 use Rattle.bz_value.specs.declared.value.Expr.{Expr, Form', Row_of-Expr, end_of-Expr, more_of-Expr, items-the_row-Expr, items_hidden-the_row-Expr-0}
 use Rattle.bz_value.specs.declared.value.Expr.TheVariants as e
 use Rattle.bz_rule.specs.Rules.{form_in, joined, dotted_name, with_names}
-use Rattle.bz_rule.specs.Named.{each_named, fronts, fronts_in_row, fronts_among}
+use Rattle.bz_rule.specs.private.Named.{each_named, fronts, fronts_in_row, fronts_among}
 
 abbrev parts_after : Expr → (m : Count) × Row_of-Expr m
 parts_after (Form' kind s parts s' items end split open_break comments) = (_, parts)

@@ -1,6 +1,6 @@
-pub mod Named
 pub mod QuoteMarks
 pub mod Rules
 pub mod Seen
 pub mod Values
 pub mod Worked
+pub mod private

@@ -1,7 +1,7 @@
 //! Letting go of values. A drop calls itself for each form in another, and the function of a call may be 32,000 names joined by
 //! dots, each in the next: more than a stack holds.
 ghost use Rattle.std.specs.Prelude.{◌≡◌, ◌<◌, IfSome};
-ghost use Rattle.bz_rule.specs.Named.{fronts, fronts_among};
+ghost use Rattle.bz_rule.specs.private.Named.{fronts, fronts_among};
 
 use bz_value::{Expr, File, Item};
 

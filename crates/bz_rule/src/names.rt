@@ -3,7 +3,7 @@ ghost use Rattle.std.specs.Prelude.{◌≡◌, ◌≢◌, ◌<◌, MatchOption, 
 ghost use Rattle.bz_items.specs.Characters.{Bytes, full_stop};
 ghost use Rattle.bz_token.specs.declared.class.Class.TheVariants as c;
 ghost use Rattle.bz_rule.specs.Rules.{is_text, text_in, dotted, joined, dotted_name};
-ghost use Rattle.bz_rule.specs.Named.{each_named, fronts, fronts_among};
+ghost use Rattle.bz_rule.specs.private.Named.{each_named, fronts, fronts_among};
 
 use crate::parts::{is_text, text_in};
 use bz_tree::{Class, Kind};

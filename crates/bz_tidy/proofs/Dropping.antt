@@ -15,7 +15,7 @@ use Rattle.bz_items.specs.Characters.{Bytes}
 use Rattle.bz_rule.specs.Values.{text_of}
 use Rattle.bz_rule.specs.QuoteMarks.{between}
 use Rattle.bz_tidy.specs.Lists.{precedes, without_repeats, has_no_comment}
-use Rattle.bz_tidy.specs.Repeats.{AreKept, sort_key, last_of, ties_last, precedes_last, is_text_at, repeats_at, tied_places}
+use Rattle.bz_tidy.specs.private.Repeats.{AreKept, sort_key, last_of, ties_last, precedes_last, is_text_at, repeats_at, tied_places}
 use Rattle.bz_tidy.specs.Rising.{NoneBefore, Rises}
 
 -- ---- keys of which none comes before the other

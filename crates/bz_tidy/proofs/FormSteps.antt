@@ -12,7 +12,7 @@ use Rattle.bz_items.specs.Characters.{Bytes}
 use Rattle.bz_write.specs.Flags.{settled_split, with_flags, each_with_flags}
 use Rattle.bz_write.specs.Layout.{is_broken}
 use Rattle.bz_rule.specs.Values.{parts_of, items_of, with_parts, with_items, on_row, on_items}
-use Rattle.bz_rule.specs.Named.{fronts, fronts_among}
+use Rattle.bz_rule.specs.private.Named.{fronts, fronts_among}
 use Rattle.bz_rule.proofs.Forms.{fronts_Form}
 use Rattle.bz_tidy.specs.Passes.{quoted, each_quoted}
 

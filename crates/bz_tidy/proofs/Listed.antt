@@ -24,7 +24,7 @@ use Rattle.bz_tidy.specs.Orders.{sort_by}
 use Rattle.bz_rule.specs.QuoteMarks.{between}
 use Rattle.bz_tidy.specs.Marks.{keep_marks, other_comments}
 use Rattle.bz_tidy.specs.Lists.{above_first, has_above, is_taken, precedes, has_no_comment, without_repeats, in_order, without_marks, marked_by, sorted, settled_list}
-use Rattle.bz_tidy.specs.Sorted.{is_passed}
+use Rattle.bz_tidy.specs.private.Sorted.{is_passed}
 use Rattle.bz_tidy.proofs.Keeping.{Keeps, Settles, both, same_first, same_after}
 use Rattle.bz_tidy.proofs.Sorting.{sort_all, Ordered, Starts, ordered_stays, sort_ordered, sort_map}
 

@@ -6,7 +6,7 @@ use Rattle.bz_tree.specs.Kinds.{kind_number}
 use Rattle.bz_value.specs.declared.value.Expr.{Expr, Token, Form', Row_of-Expr, end_of-Expr, more_of-Expr, items-the_row-Expr}
 use Rattle.bz_value.specs.Frames.{frame}
 use Rattle.bz_rule.specs.Rules.{text_in, dotted, joined, dotted_name, with_names}
-use Rattle.bz_rule.specs.Named.{each_named}
+use Rattle.bz_rule.specs.private.Named.{each_named}
 use Rattle.bz_rule.proofs.Forms.{dotted_name_Form}
 use Rattle.bz_write.specs.Flags.{settled_split, with_flags, each_with_flags}
 use Rattle.bz_tidy.specs.Passes.{rule_kind}

@@ -13,7 +13,7 @@ use Rattle.bz_tidy.specs.Laws.{SortingIsTheOne}
 use Rattle.bz_tidy.specs.Lists.{precedes}
 use Rattle.bz_tidy.specs.Orders.{insert_by, sort_by}
 use Rattle.bz_tidy.specs.Passes.{is_loose_load, is_run_load, load_precedes, loads, name_precedes, path_precedes, symbol_precedes}
-use Rattle.bz_tidy.specs.Ranks.{item_ranks, name_ranks, path_ranks, symbol_ranks}
+use Rattle.bz_tidy.specs.private.Ranks.{item_ranks, name_ranks, path_ranks, symbol_ranks}
 use Rattle.bz_tidy.specs.Sorting.{IsSorting, IsSortingByRuns, one_run, next_run, GivesTheOne}
 use Rattle.bz_tidy.proofs.Cut.{compared, run_sorted, sort_cut}
 use Rattle.bz_tidy.proofs.Stable.{one_order, sort_rises, sort_stable}

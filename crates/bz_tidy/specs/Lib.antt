@@ -8,12 +8,10 @@ pub mod MovedMarks
 pub mod Orders
 pub mod Passes
 pub mod Programs
-pub mod Ranks
-pub mod Repeats
 pub mod Rising
 pub mod Rows
-pub mod Sorted
 pub mod Sorting
 pub mod Spliced
 pub mod Strings
 pub mod Syntax
+pub mod private

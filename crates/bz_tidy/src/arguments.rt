@@ -3,7 +3,7 @@ ghost use Rattle.std.specs.Prelude.{◌≡◌, OnOk};
 ghost use Rattle.bz_tree.specs.declared.kind.Kind.TheVariants as kinds;
 ghost use Rattle.bz_tidy.specs.Orders.{sort_by};
 ghost use Rattle.bz_tidy.specs.Passes.{argument_name, argument_order, argument_precedes};
-ghost use Rattle.bz_tidy.specs.Ranks.{name_ranks};
+ghost use Rattle.bz_tidy.specs.private.Ranks.{name_ranks};
 ghost use Rattle.bz_rule.specs.Values.{has_kind};
 
 use crate::runs::{InRuns, sort_runs};

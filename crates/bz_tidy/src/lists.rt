@@ -4,7 +4,7 @@ ghost use Rattle.std.specs.List.{list_all, list_any};
 ghost use Rattle.bz_token.specs.declared.class.Class.TheVariants as classes;
 ghost use Rattle.bz_tidy.specs.Lists.{above_first, has_above as has_comment_above, in_order, is_taken as is_taken_in, marked_by, precedes, settled_list, sorted, without_marks};
 ghost use Rattle.bz_tidy.specs.Marks.{any_marked as marked_in_any, keep_marks, other_comments};
-ghost use Rattle.bz_tidy.specs.Sorted.{is_passed};
+ghost use Rattle.bz_tidy.specs.private.Sorted.{is_passed};
 ghost use Rattle.bz_rule.specs.Values.{has_class, on_first, with_above};
 
 use crate::marks::{any_marked, is_marked};

@@ -2,7 +2,7 @@
 ghost use Rattle.std.specs.Prelude.{◌≡◌, OnOk};
 ghost use Rattle.bz_tidy.specs.Orders.{sort_by};
 ghost use Rattle.bz_tidy.specs.Passes.{is_loose_load as is_loose, is_run_load, load_path, load_precedes, path_group as group_of, path_of as path_in, path_order as order_of};
-ghost use Rattle.bz_tidy.specs.Ranks.{path_ranks};
+ghost use Rattle.bz_tidy.specs.private.Ranks.{path_ranks};
 
 use crate::runs::{InRuns, sort_runs};
 use bz_items::Memory;

@@ -2,7 +2,7 @@
 //! and there may be too many of them, each in the next, for a walk that calls itself.
 ghost use Rattle.std.specs.Prelude.{◌≡◌, ◌<◌, IsTrue, IfSome, map};
 ghost use Rattle.bz_write.specs.Flags.{with_flags};
-ghost use Rattle.bz_rule.specs.Named.{fronts, fronts_among};
+ghost use Rattle.bz_rule.specs.private.Named.{fronts, fronts_among};
 ghost use Rattle.bz_tidy.specs.Passes.{quoted};
 
 use bz_tree::{Class, Kind};

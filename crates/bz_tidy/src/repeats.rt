@@ -2,7 +2,7 @@
 ghost use Rattle.std.specs.Prelude.{◌≡◌, [], ◌∷◌, IfOk, OnOk, List};
 ghost use Rattle.bz_value.specs.declared.value.Expr.{Expr as Value};
 ghost use Rattle.bz_tidy.specs.Lists.{has_no_comment as is_bare, precedes, without_repeats};
-ghost use Rattle.bz_tidy.specs.Repeats.{AreKept, is_text_at, repeats_at, tied_places, ties_last};
+ghost use Rattle.bz_tidy.specs.private.Repeats.{AreKept, is_text_at, repeats_at, tied_places, ties_last};
 ghost use Rattle.bz_tidy.specs.Rising.{Rises};
 
 use bz_items::Memory;

@@ -14,8 +14,8 @@ use Rattle.bz_token.specs.declared.state.State.TheVariants.{Start, Word, PrefixR
 use Rattle.bz_token.specs.declared.state.Quote.{Quote}
 use Rattle.bz_token.specs.declared.state.Quote.TheVariants.{Single, Double}
 use Rattle.bz_token.specs.Bytes.{is_digit, is_octal, is_hexadecimal, is_high, is_letter}
-use Rattle.bz_token.specs.Machine.{after}
-use Rattle.bz_token.specs.Scanner.{lone_marks, operator_marks, word_move, quote_or_word, quote_byte, move, ends, keyword_or_name}
+use Rattle.bz_token.specs.private.Machine.{after}
+use Rattle.bz_token.specs.private.Scanner.{lone_marks, operator_marks, word_move, quote_or_word, quote_byte, move, ends, keyword_or_name}
 use Rattle.bz_token.specs.Tokens.{IsToken, TokenAt}
 use Rattle.bz_token.proofs.Fronts.{some_next, after_append}
 use Rattle.bz_token.proofs.Laws.{state_of}

@@ -7,7 +7,7 @@ use Rattle.bz_token.specs.declared.class.Class.TheVariants as v
 use Rattle.bz_token.specs.declared.state.State.TheVariants.{Start, Word, PrefixR, PrefixB, PrefixBoth, Zero, Whole, HexMark, Hex, OctMark, Oct, Fraction, ExponentMark, ExponentSign, Exponent}
 use Rattle.bz_token.specs.Bytes.{is_digit, is_octal, is_hexadecimal, is_e, is_letter}
 use Rattle.bz_token.specs.Lexemes.{keywords, marks, IsLetters, none, one, three, IsWord, Each, SomeOf, IsDigits, IsSigned, IsExponent, MayBeExponent, IsNumber, whole, hexadecimal, octal, pointed, point_first, scaled, IsLexeme}
-use Rattle.bz_token.specs.Scanner.{lone_marks, operator_marks, mark_start, text_start, quote_or_word, move, reads, keyword_or_name}
+use Rattle.bz_token.specs.private.Scanner.{lone_marks, operator_marks, mark_start, text_start, quote_or_word, move, reads, keyword_or_name}
 use Rattle.bz_token.proofs.Strings.{string_taken}
 use Rattle.bz_token.proofs.Tables.{every, none_of, is_not, one_text}
 

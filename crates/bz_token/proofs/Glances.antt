@@ -7,8 +7,8 @@ use Rattle.bz_token.specs.declared.class.Class.TheVariants as v
 use Rattle.bz_token.specs.declared.state.State.{State}
 use Rattle.bz_token.specs.declared.state.State.TheVariants.{Start, Word, Opened, Short, Closed, Operator, Ended}
 use Rattle.bz_token.specs.declared.state.Quote.TheVariants.{Double}
-use Rattle.bz_token.specs.Machine.{longest, or_found, or_best}
-use Rattle.bz_token.specs.Scanner.{move, may_end, keyword_or_name, longest_front}
+use Rattle.bz_token.specs.private.Machine.{longest, or_found, or_best}
+use Rattle.bz_token.specs.private.Scanner.{move, may_end, keyword_or_name, longest_front}
 use Rattle.bz_token.specs.Tokens.{TokenAt}
 use Rattle.bz_token.proofs.Longest.{goes_on, sticks, ends_here, ran}
 use Rattle.bz_token.proofs.Tokens.{some_token}

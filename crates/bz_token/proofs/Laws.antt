@@ -10,8 +10,8 @@ use Rattle.bz_token.specs.declared.state.Quote.TheVariants.{Single, Double}
 use Rattle.bz_token.specs.Bytes.{among, is_solid, separators, is_separator, brackets_and_comma, is_quote}
 use Rattle.bz_token.specs.Lexemes.{IsLexeme, is_mark}
 use Rattle.bz_token.specs.Laws.{OneToken, Begins, Separated, Single as SingleLaw}
-use Rattle.bz_token.specs.Machine.{after}
-use Rattle.bz_token.specs.Scanner.{move, ends, keyword_or_name}
+use Rattle.bz_token.specs.private.Machine.{after}
+use Rattle.bz_token.specs.private.Scanner.{move, ends, keyword_or_name}
 use Rattle.bz_token.proofs.Fronts.{longer, same_front, some_next, after_append}
 use Rattle.bz_token.proofs.Tables.{every, one_of, is_none_at}
 use Rattle.bz_token.proofs.Complete.{complete}

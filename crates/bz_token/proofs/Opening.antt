@@ -13,8 +13,8 @@ use Rattle.bz_token.specs.declared.state.Quote.TheVariants.{Single, Double}
 use Rattle.bz_token.specs.Bytes.{among, is_digit, is_hexadecimal, is_octal, is_e, is_x, is_o, is_sign, is_high, is_letter, is_quote}
 use Rattle.bz_token.specs.Laws.{OpensAfterPrefix}
 use Rattle.bz_token.specs.Lexemes.{prefixes, is_prefix, IsString}
-use Rattle.bz_token.specs.Machine.{after, and_next}
-use Rattle.bz_token.specs.Scanner.{lone_marks, operator_marks, mark_start, number_start, text_start, word_move, quote_byte, move, ends, reads, keyword_or_name, before_third, is_in_string}
+use Rattle.bz_token.specs.private.Machine.{after, and_next}
+use Rattle.bz_token.specs.private.Scanner.{lone_marks, operator_marks, mark_start, number_start, text_start, word_move, quote_byte, move, ends, reads, keyword_or_name, before_third, is_in_string}
 use Rattle.bz_token.specs.Tokens.{IsToken, NoToken, OpensString}
 use Rattle.bz_token.proofs.Complete.{is_class_1, at_1}
 use Rattle.bz_token.proofs.Fronts.{longer, same_front, rest_same, some_next}

@@ -6,7 +6,7 @@ use Rattle.bz_token.specs.declared.class.Class.TheVariants as v
 use Rattle.bz_token.specs.declared.state.State.TheVariants.{Start, Fraction, Point, Word}
 use Rattle.bz_token.specs.Laws.{AllTokens, EachMark, EachKeyword, EachNumber, numbers, Cuts, ClassOfNumber}
 use Rattle.bz_token.specs.Lexemes.{marks, keywords, IsLexeme}
-use Rattle.bz_token.specs.Scanner.{reads, keyword_or_name, longest_front}
+use Rattle.bz_token.specs.private.Scanner.{reads, keyword_or_name, longest_front}
 use Rattle.bz_token.proofs.Laws.{separated}
 use Rattle.bz_token.proofs.Sound.{sound}
 use Rattle.bz_token.proofs.Tables.{every}

@@ -11,8 +11,8 @@ use Rattle.bz_token.specs.declared.state.Quote.{Quote}
 use Rattle.bz_token.specs.declared.state.Quote.TheVariants.{Single, Double}
 use Rattle.bz_token.specs.Bytes.{among, is_digit, is_letter}
 use Rattle.bz_token.specs.Lexemes.{none, is_keyword, is_mark, IsLetters, one, IsNumber, whole, hexadecimal, octal, pointed, point_first, scaled, IsQuoted, single, triple, is_prefix, IsString, IsWord, short_end, IsLexeme}
-use Rattle.bz_token.specs.Machine.{after, and_next}
-use Rattle.bz_token.specs.Scanner.{lone_marks, operator_marks, mark_start, number_start, text_start, quote_or_word, doubled_move, quote_byte, move, ends, reads, keyword_or_name}
+use Rattle.bz_token.specs.private.Machine.{after, and_next}
+use Rattle.bz_token.specs.private.Scanner.{lone_marks, operator_marks, mark_start, number_start, text_start, quote_or_word, doubled_move, quote_byte, move, ends, reads, keyword_or_name}
 use Rattle.bz_token.proofs.Strings.{quote_is}
 use Rattle.bz_token.proofs.Tables.{one_of}
 use Rattle.bz_token.proofs.Taken.{ended_reads, operator_reads, star_reads, bang_reads, doubled_reads, IsFraction, AfterDigit, whole_reads, AfterZero, zero_reads, point_reads, EndsShort, short_reads, EndsLong, long_reads, high_reads, three_letters, word_reads}

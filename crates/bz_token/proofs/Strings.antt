@@ -9,8 +9,8 @@ use Rattle.bz_token.specs.declared.state.Quote.{Quote}
 use Rattle.bz_token.specs.declared.state.Quote.TheVariants.{Single, Double}
 use Rattle.bz_token.specs.Bytes.{is_quote}
 use Rattle.bz_token.specs.Lexemes.{IsShort, short_end, short_plain, short_taken, short_line, IsLong, long_end, long_plain, long_taken, single, triple, prefixes, is_prefix, IsString}
-use Rattle.bz_token.specs.Machine.{after}
-use Rattle.bz_token.specs.Scanner.{quote_byte, move, reads}
+use Rattle.bz_token.specs.private.Machine.{after}
+use Rattle.bz_token.specs.private.Scanner.{quote_byte, move, reads}
 use Rattle.bz_token.proofs.Fronts.{after_append}
 use Rattle.bz_token.proofs.Tables.{one_text}
 

@@ -9,8 +9,8 @@ use Rattle.bz_token.specs.declared.state.State.TheVariants.{Word, High, Zero, Wh
 use Rattle.bz_token.specs.declared.state.Quote.{Quote}
 use Rattle.bz_token.specs.Bytes.{among, is_digit, is_octal, is_hexadecimal, is_x, is_o, is_e, is_sign, is_high, is_letter}
 use Rattle.bz_token.specs.Lexemes.{IsLetters, none, one, three, Each, SomeOf, IsDigits, IsSigned, MayBeExponent, IsShort, short_end, short_plain, short_taken, short_line, IsLong, long_end, long_plain, long_taken}
-use Rattle.bz_token.specs.Machine.{after, and_next}
-use Rattle.bz_token.specs.Scanner.{doubled_move, quote_byte, long_move, move, ends, reads}
+use Rattle.bz_token.specs.private.Machine.{after, and_next}
+use Rattle.bz_token.specs.private.Scanner.{doubled_move, quote_byte, long_move, move, ends, reads}
 
 -- ---- marks
 

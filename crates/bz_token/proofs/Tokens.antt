@@ -12,8 +12,8 @@ use Rattle.bz_token.specs.declared.state.Quote.{Quote}
 use Rattle.bz_token.specs.Bytes.{is_quote}
 use Rattle.bz_token.specs.Lexemes.{IsLexeme, IsString, is_prefix}
 use Rattle.bz_token.specs.Tokens.{NoToken, TokenAt}
-use Rattle.bz_token.specs.Machine.{after, takes}
-use Rattle.bz_token.specs.Scanner.{quote_byte, move, ends, may_end, keyword_or_name, before_third, longest_front}
+use Rattle.bz_token.specs.private.Machine.{after, takes}
+use Rattle.bz_token.specs.private.Scanner.{quote_byte, move, ends, may_end, keyword_or_name, before_third, longest_front}
 use Rattle.bz_token.proofs.Fronts.{same_front, rest_same}
 use Rattle.bz_token.proofs.Laws.{state_of}
 use Rattle.bz_token.proofs.Longest.{IsLongest, Found, found}

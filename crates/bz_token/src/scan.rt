@@ -1,6 +1,6 @@
 ghost use Rattle.std.specs.Prelude.{◌≡◌, ◌↔◌, ◌≤◌, ◌<◌, ℕ, false, IsTrue, Some, None, take, drop, length, get_or, MatchOption, IfSome, IsUtf8, IsCharBoundary};
 ghost use Rattle.bz_token.specs.Lexemes.{is_keyword};
-ghost use Rattle.bz_token.specs.Scanner.{move, longest_front, before_third, keyword_or_name};
+ghost use Rattle.bz_token.specs.private.Scanner.{move, longest_front, before_third, keyword_or_name};
 ghost use Rattle.bz_token.specs.Tokens.{NoToken, OpensString, TokenAt};
 
 use crate::Class;

@@ -1,6 +1,6 @@
 ghost use Rattle.std.specs.Prelude.{◌≡◌, IsTrue, Some, None};
 ghost use Rattle.bz_token.specs.Bytes.{among, is_digit, is_hexadecimal, is_octal, is_e, is_x, is_o, is_sign, is_high, is_letter};
-ghost use Rattle.bz_token.specs.Scanner.{lone_marks, operator_marks, mark_start, number_start, text_start, quote_or_word, word_move, high_move, zero_move, whole_move, fraction_move, exponent_move, doubled_move, quote_byte, short_move, long_move, move, ends, may_end, is_in_string};
+ghost use Rattle.bz_token.specs.private.Scanner.{lone_marks, operator_marks, mark_start, number_start, text_start, quote_or_word, word_move, high_move, zero_move, whole_move, fraction_move, exponent_move, doubled_move, quote_byte, short_move, long_move, move, ends, may_end, is_in_string};
 
 use crate::Class;
 

@@ -12,7 +12,7 @@ use Rattle.bz_ports.specs.declared.exit.Cut.TheVariants as c
 use Rattle.bz_ports.proofs.Outputs.{rises_more, writes_more}
 use Rattle.bz_tools.specs.Modes as m
 use Rattle.bz_tools.specs.FormatRun.{Effect, Run, FilesFormatted, FileStep, InputStep, FormatOutcome, RunOf, IsFormatUsageLine, begun, IsCutBy, grown, worse}
-use Rattle.bz_tools.specs.FormatShown.{effect_seen, progress_of}
+use Rattle.bz_tools.specs.private.FormatShown.{effect_seen, progress_of}
 use Rattle.bz_tools.specs.declared.effect.Effect as e
 use Rattle.bz_tools.specs.declared.effect.Progress.{Progress}
 use Rattle.bz_tools.specs.declared.file_type.FileType.{FileType}

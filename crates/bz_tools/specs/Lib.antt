@@ -1,7 +1,7 @@
 pub mod FileKinds
 pub mod FormatExact
 pub mod FormatRun
-pub mod FormatShown
 pub mod Modes
 pub mod Worked
 pub mod FormatAgree
+pub mod private

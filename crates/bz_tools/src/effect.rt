@@ -5,7 +5,7 @@ ghost use Rattle.bz_ports.specs.Outputs.{Reports, Counts, WritesUnlessClosed};
 ghost use Rattle.bz_ports.specs.Reported.{stdin, named_line};
 ghost use Rattle.bz_tools.specs.FormatRun.{Prints, IsCutBy, unread_file, refused, file_out, input_out, is_rewritten, text_status, worse};
 ghost use Rattle.bz_tools.specs.FormatRun as r;
-ghost use Rattle.bz_tools.specs.FormatShown.{effect_seen};
+ghost use Rattle.bz_tools.specs.private.FormatShown.{effect_seen};
 
 use crate::mode::Mode;
 use crate::{Cut, Sink};

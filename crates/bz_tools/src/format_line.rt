@@ -2,7 +2,7 @@
 ghost use Rattle.std.specs.Prelude.{◌≡◌, [], false, Ok, Err, IfOk, IfErr, IfSome, map};
 ghost use Rattle.clap.specs.Words.{app_of, rule_of, found_of, fault_of, matches_of, rows_of};
 ghost use Rattle.bz_tools.specs.Modes.{nameless_buildifier, buildifier_app, mode_rule, type_rule, files_rule, format_line};
-ghost use Rattle.bz_tools.specs.FormatShown.{seen_line, usage_of};
+ghost use Rattle.bz_tools.specs.private.FormatShown.{seen_line, usage_of};
 
 use crate::file_type::FileType;
 use crate::mode::Mode;

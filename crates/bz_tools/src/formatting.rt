@@ -9,7 +9,7 @@ ghost use Rattle.bz_tools.specs.Modes.{format_line};
 ghost use Rattle.bz_tools.specs.FileKinds.{FormatsAs, is_bzl};
 ghost use Rattle.bz_tools.specs.FormatRun as r;
 ghost use Rattle.bz_tools.specs.FormatRun.{IsCutBy, Rewrites, FileStep, InputStep, FormatOutcome, IsFormatUsageLine, no_word_line, begun};
-ghost use Rattle.bz_tools.specs.FormatShown.{effect_seen, progress_of, usage_of};
+ghost use Rattle.bz_tools.specs.private.FormatShown.{effect_seen, progress_of, usage_of};
 
 use crate::effect::{
     BEGUN, Effect, Progress, fail, file_out, grown, input_out, is_rewritten, print, refused,

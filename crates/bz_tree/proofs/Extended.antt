@@ -7,8 +7,8 @@ use Rattle.bz_token.specs.declared.state.State.{State}
 use Rattle.bz_token.specs.declared.state.State.TheVariants.{Start, Opened, Empty, Short, ShortReturn, Long, LongOne, LongTwo}
 use Rattle.bz_token.specs.declared.state.Quote.TheVariants.{Single, Double}
 use Rattle.bz_token.specs.Bytes.{is_blank, is_quote}
-use Rattle.bz_token.specs.Machine.{after, and_next}
-use Rattle.bz_token.specs.Scanner.{move, is_in_string, quote_byte}
+use Rattle.bz_token.specs.private.Machine.{after, and_next}
+use Rattle.bz_token.specs.private.Scanner.{move, is_in_string, quote_byte}
 use Rattle.bz_token.specs.Tokens.{IsToken, NoToken, OpensString}
 use Rattle.bz_token.proofs.Fronts.{some_next}
 use Rattle.bz_token.proofs.Laws.{state_of}

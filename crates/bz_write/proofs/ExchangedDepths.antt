@@ -6,7 +6,7 @@ use Rattle.bz_value.specs.declared.value.Item.{Item}
 use Rattle.bz_write.specs.Depths.{depth_items}
 use Rattle.bz_write.specs.LaidOut.{laid_out}
 use Rattle.bz_value.specs.Exchanged.{AreExchanged}
-use Rattle.bz_write.specs.Marks.{marked_items}
+use Rattle.bz_write.specs.private.Marks.{marked_items}
 use Rattle.bz_write.proofs.Deep.{laid_out_depth}
 use Rattle.bz_write.proofs.Measured.{depth_first}
 

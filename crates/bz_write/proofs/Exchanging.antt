@@ -15,7 +15,7 @@ use Rattle.bz_value.specs.Exchanged.{is_bare, IsExchanged, AreExchanged}
 use Rattle.bz_value.specs.Proper.{comments_of}
 use Rattle.bz_write.specs.Written.{is_load, is_load_kind, is_assign, is_assign_kind, gap_between, comment_lines}
 use Rattle.bz_write.specs.LaidOut.{line_part, before_next, lines_from}
-use Rattle.bz_write.specs.Marks.{marked_places, marked_lines}
+use Rattle.bz_write.specs.private.Marks.{marked_places, marked_lines}
 
 -- ---- what is between items stays
 

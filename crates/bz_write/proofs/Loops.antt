@@ -14,7 +14,7 @@ use Rattle.bz_value.specs.Comments.{HostComments}
 use Rattle.bz_value.specs.Frames.{Frame, row, sequence, frame}
 use Rattle.bz_value.specs.Proper.{comments_of}
 use Rattle.bz_write.specs.declared.brackets.Brackets.{Brackets}
-use Rattle.bz_write.specs.Brackets.{brackets_of}
+use Rattle.bz_write.specs.private.Brackets.{brackets_of}
 use Rattle.bz_write.specs.Layout.{Piece, mark, part, new_line_at, margin_lines, ended, suffix_text, stacked, joined, rowed, headed, laid_in, is_broken, is_tuple, gap_after, margin_after, firsts}
 use Rattle.bz_value.specs.Empty.{is_empty}
 use Rattle.bz_write.specs.LaidOut.{piece_part, part_of, parts_in, layouts, laid_out_body, comma_after, own_lines, left_gap, before_next, lines_from}

@@ -9,8 +9,8 @@ use Rattle.bz_value.specs.Frames.{Frame, row, sequence, frame, has_brackets}
 use Rattle.bz_items.specs.Characters.{Bytes}
 use Rattle.bz_write.specs.Layout.{gap_after, margin_after}
 use Rattle.bz_write.specs.Written.{text_of}
-use Rattle.bz_write.specs.Sizes.{row_size, head_size, comma_size, joined_size, stacked_item_size, stacked_size, body_size, size_in, form_size}
-use Rattle.bz_write.specs.Pending.{pending_size, pending_forms, forms_in, forms_in_row, forms_in_all}
+use Rattle.bz_write.specs.private.Sizes.{row_size, head_size, comma_size, joined_size, stacked_item_size, stacked_size, body_size, size_in, form_size}
+use Rattle.bz_write.specs.private.Pending.{pending_size, pending_forms, forms_in, forms_in_row, forms_in_all}
 use Rattle.bz_write.specs.declared.measure.Pending.{Pending}
 use Rattle.bz_write.proofs.Made.{parts_row, items_row, parts_of_row, items_of_row, two}
 

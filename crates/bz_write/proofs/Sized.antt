@@ -11,7 +11,7 @@ use Rattle.bz_value.specs.Frames.{Frame, row, sequence, frame}
 use Rattle.bz_value.specs.Proper.{comments_of}
 use Rattle.bz_write.specs.Layout.{Piece, mark, new_line_at, margin_lines, ended, suffix_text, stacked, joined, rowed, headed, laid_in, is_broken, is_tuple, gap_after, margin_after, firsts}
 use Rattle.bz_write.specs.Written.{piece_text, text_of}
-use Rattle.bz_write.specs.Sizes.{row_size, head_size, joined_size, stacked_size, body_size, size_in, form_size}
+use Rattle.bz_write.specs.private.Sizes.{row_size, head_size, joined_size, stacked_size, body_size, size_in, form_size}
 use Rattle.bz_write.specs.Writings.{writings, row_text, joined_text, stacked_text, body_text}
 use Rattle.bz_write.proofs.Loops.{stacked_after, stacked_so}
 use Rattle.bz_write.proofs.Made.{text_Form}

@@ -10,8 +10,8 @@ use Rattle.bz_token.specs.declared.state.Quote.TheVariants.{Single, Double}
 use Rattle.bz_token.specs.Bytes.{among, is_quote}
 use Rattle.bz_token.specs.Lexemes.{IsLexeme, in_table, is_mark, marks}
 use Rattle.bz_token.specs.Tokens.{IsToken}
-use Rattle.bz_token.specs.Machine.{after, and_next}
-use Rattle.bz_token.specs.Scanner.{move, ends, keyword_or_name}
+use Rattle.bz_token.specs.private.Machine.{after, and_next}
+use Rattle.bz_token.specs.private.Scanner.{move, ends, keyword_or_name}
 use Rattle.bz_token.proofs.Laws.{state_of, Stops, longest_at, begins}
 use Rattle.bz_write.proofs.Neighbours.{fronts, well_text}
 use Rattle.bz_spaces.specs.Spaces.{brackets_and_separators, is_number}

@@ -4,7 +4,7 @@ use Rattle.bz_tree.specs.declared.tree.Part.{Part}
 use Rattle.bz_value.specs.declared.value.Item.{Item}
 use Rattle.bz_items.specs.Characters.{Bytes}
 use Rattle.bz_write.specs.LaidOut.{own_lines, left_gap, lines_from}
-use Rattle.bz_write.specs.Taken.{before_item}
+use Rattle.bz_write.specs.private.Taken.{before_item}
 use Rattle.bz_write.proofs.Loops.{lines_first}
 
 -- only the first of those that follow says what is before it

@@ -8,8 +8,8 @@ use Rattle.bz_value.specs.Exchanged.{IsSpliced}
 use Rattle.bz_items.specs.Characters.{Bytes}
 use Rattle.bz_write.specs.Written.{gap_between, comment_lines}
 use Rattle.bz_write.specs.LaidOut.{own_lines, left_gap, before_next, lines_from}
-use Rattle.bz_write.specs.Marks.{place_after}
-use Rattle.bz_write.specs.Windows.{is_statement_item, line_count_in, statement_gap, lines_after}
+use Rattle.bz_write.specs.private.Marks.{place_after}
+use Rattle.bz_write.specs.private.Windows.{is_statement_item, line_count_in, statement_gap, lines_after}
 use Rattle.bz_write.proofs.Loops.{lines_first}
 
 -- ---- the lines in front of a place

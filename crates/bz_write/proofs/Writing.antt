@@ -13,7 +13,7 @@ use Rattle.bz_value.specs.Comments.{HostComments}
 use Rattle.bz_value.specs.Frames.{Frame, row, sequence, frame}
 use Rattle.bz_value.specs.Proper.{comments_of}
 use Rattle.bz_write.specs.declared.brackets.Brackets.{Brackets}
-use Rattle.bz_write.specs.Brackets.{brackets_of}
+use Rattle.bz_write.specs.private.Brackets.{brackets_of}
 use Rattle.bz_write.specs.Layout.{Piece, new_line_at, margin_lines, ended, suffix_text, stacked, joined, rowed, headed, laid_in, is_broken, is_tuple, gap_after, margin_after}
 use Rattle.bz_value.specs.declared.value.Item.{Item}
 use Rattle.bz_write.specs.Written.{piece_text, text_of, item_text, layout}

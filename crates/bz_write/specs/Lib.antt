@@ -4,14 +4,8 @@ pub mod LaidOut
 pub mod Flags
 pub mod Laws
 pub mod Rows
-pub mod Brackets
-pub mod RowGaps
-pub mod Sizes
-pub mod Pending
 pub mod Depths
 pub mod Writings
-pub mod Taken
 pub mod Exchanged
-pub mod Marks
-pub mod Windows
 pub mod Appended
+pub mod private

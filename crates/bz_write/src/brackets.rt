@@ -1,7 +1,7 @@
 //! The brackets of sequences.
 ghost use Rattle.std.specs.Prelude.{◌≡◌};
 ghost use Rattle.bz_value.specs.Frames.{frame};
-ghost use Rattle.bz_write.specs.Brackets.{brackets_of};
+ghost use Rattle.bz_write.specs.private.Brackets.{brackets_of};
 
 use bz_tree::Kind;
 

@@ -7,7 +7,7 @@ ghost use Rattle.bz_write.specs.Depths.{depth_items};
 ghost use Rattle.bz_value.specs.Exchanged.{AreExchanged, IsSpliced};
 ghost use Rattle.bz_value.specs.declared.value.Item.{Item};
 ghost use Rattle.bz_write.specs.Exchanged.{marked_length};
-ghost use Rattle.bz_write.specs.Marks.{marked_items};
+ghost use Rattle.bz_write.specs.private.Marks.{marked_items};
 
 use crate::depth::is_within;
 use crate::lines::is_apart;

@@ -3,7 +3,7 @@ ghost use Rattle.std.specs.Prelude.{◌≡◌, ◌++◌, ◌+◌, ◌^◌, ◌<�
 ghost use Rattle.bz_write.specs.LaidOut.{laid_out, own_lines, left_gap};
 ghost use Rattle.bz_tree.specs.Places.{Ascend, put_all};
 ghost use Rattle.bz_value.specs.Exchanged.{AreExchanged};
-ghost use Rattle.bz_write.specs.Marks as marks;
+ghost use Rattle.bz_write.specs.private.Marks as marks;
 
 use crate::gaps::push_comments;
 use crate::lines::{lay_out_item, push_between};

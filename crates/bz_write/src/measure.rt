@@ -3,9 +3,9 @@
 ghost use Rattle.std.specs.Prelude.{◌≡◌, ◌+◌, ◌<◌, ℕ, length, IfOk, OnOk};
 ghost use Rattle.bz_value.specs.declared.value.Expr.TheVariants as e;
 ghost use Rattle.bz_write.specs.Written.{text_of};
-ghost use Rattle.bz_write.specs.Sizes.{row_size, head_size, comma_size, joined_size, stacked_item_size, stacked_size, body_size, form_size};
+ghost use Rattle.bz_write.specs.private.Sizes.{row_size, head_size, comma_size, joined_size, stacked_item_size, stacked_size, body_size, form_size};
 ghost use Rattle.bz_write.specs.Writings.{row_text, body_text};
-ghost use Rattle.bz_write.specs.Pending.{pending_size, pending_forms, forms_in, forms_in_all};
+ghost use Rattle.bz_write.specs.private.Pending.{pending_size, pending_forms, forms_in, forms_in_all};
 
 use crate::breaks::is_broken;
 use crate::gaps::deeper_margin;

@@ -2,7 +2,7 @@
 ghost use Rattle.std.specs.Prelude.{◌≡◌, ◌+◌, ◌<◌, length, IfOk};
 ghost use Rattle.std.specs.Option.{option_copied};
 ghost use Rattle.bz_write.specs.Layout.{new_line_at, margin_lines, suffix_text, ended};
-ghost use Rattle.bz_write.specs.RowGaps.{written_gap};
+ghost use Rattle.bz_write.specs.private.RowGaps.{written_gap};
 ghost use Rattle.bz_write.specs.Written.{comment_lines};
 
 use crate::gaps::deeper_margin;

@@ -2,7 +2,7 @@
 ghost use Rattle.std.specs.Prelude.{◌≡◌, ◌<◌, ◌+◌, ◌++◌, drop, length, IfOk, OnOk};
 ghost use Rattle.bz_value.specs.Proper.{has_break};
 ghost use Rattle.bz_write.specs.Layout as layout;
-ghost use Rattle.bz_write.specs.RowGaps.{written_gap};
+ghost use Rattle.bz_write.specs.private.RowGaps.{written_gap};
 
 use crate::gaps::{NO_LIMIT, deeper_margin, push_new_line};
 use bz_items::{Memory, Text};

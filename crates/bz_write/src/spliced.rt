@@ -3,7 +3,7 @@ ghost use Rattle.std.specs.Prelude.{ℕ, ◌≡◌, ◌++◌, ◌+◌, ◌-◌, 
 ghost use Rattle.bz_value.specs.Exchanged.{IsSpliced};
 ghost use Rattle.bz_value.specs.declared.value.Item.{Item};
 ghost use Rattle.bz_write.specs.LaidOut.{laid_out, lines_from};
-ghost use Rattle.bz_write.specs.Windows as windows;
+ghost use Rattle.bz_write.specs.private.Windows as windows;
 
 use crate::gaps::push_comments;
 use crate::lines::{lay_out_item, lay_out_line, end_after, push_between};

@@ -5,7 +5,7 @@ ghost use Rattle.bz_tree.specs.Spell.{spell_node, depth_of, limit, depth_limit};
 ghost use Rattle.bz_view.specs.View.{view_of};
 ghost use Rattle.bz_write.specs.LaidOut.{laid_out, left_gap, lines_from, own_lines};
 ghost use Rattle.bz_write.specs.Flags.{flags};
-ghost use Rattle.bz_write.specs.Taken.{before_item};
+ghost use Rattle.bz_write.specs.private.Taken.{before_item};
 ghost use Rattle.bz_write.specs.Written.{layout};
 
 use crate::lines::{lay_out_item, end_after, push_between};

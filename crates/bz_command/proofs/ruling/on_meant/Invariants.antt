@@ -1,7 +1,7 @@
 use Rattle.std.proofs.Common.{◌≡◌, ◌↔◌, length, take, drop}
 use Rattle.std.specs.Prelude.{IsTrue}
 use Rattle.bz_command.specs.Effect.{on_meant}
-use Rattle.bz_command.specs.Looks.{one_made_by}
+use Rattle.bz_command.specs.private.Looks.{one_made_by}
 use Rattle.bz_command.proofs.RunningItems.{with_front}
 use Rattle.bz_command.proofs.ruling.on_meant.Given as goal
 

@@ -1,5 +1,5 @@
 use Rattle.std.proofs.Common.{◌≡◌, drop}
-use Rattle.bz_dict.specs.Keys.{AreIndexed, entries_put}
+use Rattle.bz_dict.specs.private.Keys.{AreIndexed, entries_put}
 use Rattle.bz_dict.proofs.changing.put_entries.Given as goal
 
 abbrev pub invariant-loop-entry : goal.invariant-loop-entry

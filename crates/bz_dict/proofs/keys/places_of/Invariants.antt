@@ -1,5 +1,5 @@
 use Rattle.std.proofs.Common.{take}
-use Rattle.bz_dict.specs.Keys.{AreIndexed}
+use Rattle.bz_dict.specs.private.Keys.{AreIndexed}
 use Rattle.bz_dict.proofs.keys.places_of.Given as goal
 
 abbrev pub invariant-loop-at : goal.invariant-loop-at

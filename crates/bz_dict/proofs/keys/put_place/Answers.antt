@@ -1,7 +1,7 @@
 use Rattle.std.proofs.Common.{◌≡◌, true, false, rules}
 use Rattle.std.specs.Prelude.{Some, None, is_some}
 use Rattle.bz_dict.specs.Dicts.{key_of}
-use Rattle.bz_dict.specs.Keys.{place_at}
+use Rattle.bz_dict.specs.private.Keys.{place_at}
 use Rattle.bz_dict.proofs.KeyPlaces.{no_key_pushed, known_pushed, new_pushed}
 use Rattle.bz_dict.proofs.keys.put_place.Goals as goal
 

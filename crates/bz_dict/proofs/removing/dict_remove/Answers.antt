@@ -4,7 +4,7 @@ use Rattle.std.specs.List.{list_any}
 use Rattle.bz_tree.specs.declared.kind.Kind.TheVariants as k
 use Rattle.bz_rule.specs.Rules.{attribute}
 use Rattle.bz_rule.specs.Values.{has_kind, items_of}
-use Rattle.bz_dict.specs.Keys.{is_chosen}
+use Rattle.bz_dict.specs.private.Keys.{is_chosen}
 use Rattle.bz_dict.proofs.RemovingSteps.{removed}
 use Rattle.bz_dict.proofs.removing.dict_remove.Goals as goal
 

@@ -1,6 +1,6 @@
 use Rattle.std.proofs.Common.{rules, not}
 use Rattle.std.proofs.lemmas.Fn.{filter_same}
-use Rattle.bz_dict.specs.Keys.{is_chosen}
+use Rattle.bz_dict.specs.private.Keys.{is_chosen}
 use Rattle.bz_dict.proofs.removing.keep_others.Goals as goal
 
 pub returns : goal.returns

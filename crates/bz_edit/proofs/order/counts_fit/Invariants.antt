@@ -1,5 +1,5 @@
 use Rattle.std.proofs.Common.{◌≡◌, drop}
-use Rattle.bz_edit.specs.Tests.{counts_fit}
+use Rattle.bz_edit.specs.private.Tests.{counts_fit}
 use Rattle.bz_edit.proofs.order.counts_fit.Given as goal
 
 abbrev pub invariant-loop-edit : goal.invariant-loop-edit

@@ -1,5 +1,5 @@
 use Rattle.std.proofs.Common.{◌≡◌, length}
-use Rattle.bz_edit.specs.Tests.{is_before}
+use Rattle.bz_edit.specs.private.Tests.{is_before}
 use Rattle.bz_edit.proofs.order.is_before.Given as goal
 
 abbrev pub invariant-loop-i : goal.invariant-loop-i

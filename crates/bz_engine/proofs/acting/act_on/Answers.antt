@@ -6,7 +6,7 @@ use Rattle.bz_line.specs.Shown.{request_in}
 use Rattle.bz_workspace.specs.Packages.{Opened, file_at}
 use Rattle.bz_engine.specs.Keeping.{is_left_at}
 use Rattle.bz_engine.specs.Run.{reported_of}
-use Rattle.bz_engine.specs.Shown.{progress_in}
+use Rattle.bz_engine.specs.private.Shown.{progress_in}
 use Rattle.bz_engine.specs.Steps.{step_of}
 use Rattle.bz_engine.proofs.ActSteps.{some_of}
 use Rattle.bz_engine.proofs.StandSteps.{package_at}

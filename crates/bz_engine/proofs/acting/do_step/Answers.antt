@@ -6,7 +6,7 @@ use Rattle.bz_items.specs.Characters.{Bytes}
 use Rattle.bz_workspace.specs.Packages.{file_at}
 use Rattle.bz_engine.specs.Calls.{UsesSome}
 use Rattle.bz_engine.specs.Keeping.{AllAreKept}
-use Rattle.bz_engine.specs.Shown.{progress_in}
+use Rattle.bz_engine.specs.private.Shown.{progress_in}
 use Rattle.bz_engine.specs.Steps.{input_package, step_of}
 use Rattle.bz_engine.proofs.CutSteps.{both_whole, by_name, cut_after, neither_read, works_unread}
 use Rattle.bz_engine.proofs.DoSteps.{beside_there, beside_nowhere, done_there, done_nowhere}

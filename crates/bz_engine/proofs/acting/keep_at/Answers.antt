@@ -4,7 +4,7 @@ use Rattle.bz_journal.specs.declared.keeping.KeepFault.TheVariants.{Refused, Pai
 use Rattle.bz_workspace.specs.Keeps.{KeepsAt}
 use Rattle.bz_workspace.specs.Packages.{Opened}
 use Rattle.bz_workspace.specs.Sessions.{action_in}
-use Rattle.bz_engine.specs.Shown.{progress_in}
+use Rattle.bz_engine.specs.private.Shown.{progress_in}
 use Rattle.bz_engine.proofs.ActSteps.{file_put, led_on, led_to, was_refused}
 use Rattle.bz_engine.specs.Run.{Progress}
 use Rattle.bz_engine.proofs.KeepSteps.{changed_of, kept_after, kept_by, kept_open, not_changed, was_kept}

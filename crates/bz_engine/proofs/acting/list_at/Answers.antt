@@ -1,7 +1,7 @@
 use Rattle.std.proofs.Common.{refl}
 use Rattle.bz_workspace.specs.Sessions.{listing}
 use Rattle.bz_workspace.specs.Shown.{opened_in}
-use Rattle.bz_engine.specs.Shown.{progress_in}
+use Rattle.bz_engine.specs.private.Shown.{progress_in}
 use Rattle.bz_engine.proofs.ActSteps.{was_listed}
 use Rattle.bz_engine.proofs.acting.list_at.Goals as goal
 

@@ -5,7 +5,7 @@ use Rattle.bz_engine.specs.Keeping.{AllAreKept}
 use Rattle.bz_engine.specs.Moments.{AllAreSafe, IsMeanwhile, IsMomentOfSteps}
 use Rattle.bz_engine.specs.Outcome.{AreOfInput, unused}
 use Rattle.bz_engine.specs.Run.{World, Progress}
-use Rattle.bz_engine.specs.Shown.{progress_in}
+use Rattle.bz_engine.specs.private.Shown.{progress_in}
 use Rattle.bz_engine.specs.Steps.{all_steps, names_input}
 use Rattle.bz_engine.proofs.Performing.{performed, performed_beside, broken_off, broken_beside, honest_still, uncut, reported_apart, plain_premise, kept_premise}
 use Rattle.bz_engine.specs.Reported.{no_journal_line}

@@ -4,7 +4,7 @@ use Rattle.bz_line.specs.Shown.{request_in}
 use Rattle.bz_line.specs.declared.requested.Request.{Request}
 use Rattle.bz_engine.specs.Calls.{spot}
 use Rattle.bz_engine.specs.Run.{ends_run}
-use Rattle.bz_engine.specs.Shown.{progress_in}
+use Rattle.bz_engine.specs.private.Shown.{progress_in}
 use Rattle.bz_engine.specs.Steps.{RunStep, input_package, step_of}
 use Rattle.bz_engine.proofs.RunSteps.{Done, one_beside, one_runs, part_none, part_more, all_done, done_early, left_at, none_at}
 use Rattle.bz_engine.proofs.running.run_target.Goals as goal

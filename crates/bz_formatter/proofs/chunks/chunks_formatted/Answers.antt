@@ -1,5 +1,5 @@
 use Rattle.std.proofs.Common.{arith, None, [], true, subst, sym}
-use Rattle.bz_formatter.specs.Chunks.{IsBegun}
+use Rattle.bz_formatter.specs.private.Chunks.{IsBegun}
 use Rattle.bz_formatter.specs.Meaning.{gives, Formats}
 use Rattle.bz_formatter.proofs.Chunking.{LayersJoin, nothing_begun, next_begun, still_within, all_formatted}
 use Rattle.bz_formatter.proofs.chunks.chunks_formatted.Goals as goal

@@ -1,6 +1,6 @@
 use Rattle.std.proofs.Common.{◌≤◌, drop}
 use Rattle.std.specs.Prelude.{◌↔◌}
-use Rattle.bz_indent.specs.Depths.{deepest_branch, deepest_statement}
+use Rattle.bz_indent.specs.private.Depths.{deepest_branch, deepest_statement}
 use Rattle.bz_indent.proofs.depth.+depth.Given as goal
 
 abbrev pub invariant-are_branches_within-loop-branch : goal.invariant-are_branches_within-loop-branch

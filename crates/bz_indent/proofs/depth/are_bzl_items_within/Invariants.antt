@@ -1,6 +1,6 @@
 use Rattle.std.proofs.Common.{◌≤◌, drop}
 use Rattle.std.specs.Prelude.{◌↔◌}
-use Rattle.bz_indent.specs.Depths.{depth_bzl_items}
+use Rattle.bz_indent.specs.private.Depths.{depth_bzl_items}
 use Rattle.bz_indent.proofs.depth.are_bzl_items_within.Given as goal
 
 abbrev pub invariant-loop-item : goal.invariant-loop-item

@@ -1,5 +1,5 @@
 use Rattle.std.proofs.Common.{◌≡◌, ◌≤◌, ◌<◌, ◌-◌, ℕ, Some, get_or, length}
-use Rattle.bz_lex.specs.GapStates.{gap_move}
+use Rattle.bz_lex.specs.private.GapStates.{gap_move}
 use Rattle.bz_lex.proofs.gap.run.Given as goal
 
 abbrev pub invariant-bytes : goal.invariant-bytes

@@ -1,6 +1,6 @@
 use Rattle.std.proofs.Common.{[], ap, ◌∙◌}
 use Rattle.bz_attribute.specs.Made.{list_of}
-use Rattle.bz_list.specs.Adding.{added_to}
+use Rattle.bz_list.specs.private.Adding.{added_to}
 use Rattle.bz_list.proofs.AddedItems.{added_there}
 use Rattle.bz_list.proofs.adding.added_alone.Goals as goal
 

@@ -1,7 +1,7 @@
 use Rattle.std.proofs.Common.{ap, ◌∙◌}
-use Rattle.bz_list.specs.Adding.{added_to}
+use Rattle.bz_list.specs.private.Adding.{added_to}
 use Rattle.bz_attribute.specs.Lists.{items_in}
-use Rattle.bz_list.specs.KnownValues.{with_known_items}
+use Rattle.bz_list.specs.private.KnownValues.{with_known_items}
 use Rattle.bz_list.proofs.AddedItems.{added_there}
 use Rattle.bz_list.proofs.adding.more_beside.Goals as goal
 

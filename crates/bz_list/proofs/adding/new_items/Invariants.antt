@@ -1,6 +1,6 @@
 use Rattle.std.proofs.Common.{◌≡◌, ◌++◌}
 use Rattle.std.specs.Vec.Iter.{into_iter_items}
-use Rattle.bz_list.specs.KnownValues.{membership, new_items}
+use Rattle.bz_list.specs.private.KnownValues.{membership, new_items}
 use Rattle.bz_list.proofs.adding.new_items.Given as goal
 
 abbrev pub invariant-loop-x : goal.invariant-loop-x

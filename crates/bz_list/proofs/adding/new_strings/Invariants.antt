@@ -1,6 +1,6 @@
 use Rattle.std.proofs.Common.{◌≡◌, ◌++◌, map, drop}
 use Rattle.bz_attribute.specs.Made.{string_of}
-use Rattle.bz_list.specs.KnownValues.{membership, new_words}
+use Rattle.bz_list.specs.private.KnownValues.{membership, new_words}
 use Rattle.bz_list.proofs.adding.new_strings.Given as goal
 
 abbrev pub invariant-loop-word : goal.invariant-loop-word

@@ -1,7 +1,7 @@
 use Rattle.std.proofs.Common.{◌≡◌, ◌++◌}
 use Rattle.std.specs.List.{filter}
 use Rattle.std.specs.Vec.Iter.{into_iter_items}
-use Rattle.bz_list.specs.Listing.{chooses, is_left}
+use Rattle.bz_list.specs.private.Listing.{chooses, is_left}
 use Rattle.bz_list.proofs.listed.take_chosen.Given as goal
 
 abbrev pub invariant-loop-x : goal.invariant-loop-x

@@ -3,7 +3,7 @@ use Rattle.std.specs.List.{filter, flat_map}
 use Rattle.bz_tree.specs.declared.kind.Kind.TheVariants as k
 use Rattle.bz_rule.specs.Values.{on_items}
 use Rattle.bz_attribute.specs.Lists.{listed}
-use Rattle.bz_list.specs.Listing.{chooses, is_left}
+use Rattle.bz_list.specs.private.Listing.{chooses, is_left}
 use Rattle.bz_list.proofs.listed.take_from_operands.Given as goal
 
 abbrev pub invariant-loop-x : goal.invariant-loop-x

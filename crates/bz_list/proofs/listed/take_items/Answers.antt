@@ -5,7 +5,7 @@ use Rattle.bz_value.specs.declared.value.Expr.{Expr}
 use Rattle.bz_rule.specs.Rules.{attribute}
 use Rattle.bz_value.specs.Empty.{is_empty}
 use Rattle.bz_attribute.specs.Lists.{items_in}
-use Rattle.bz_list.specs.Listing.{chooses, put_back}
+use Rattle.bz_list.specs.private.Listing.{chooses, put_back}
 use Rattle.bz_list.proofs.ListedForms.{left_there}
 use Rattle.bz_list.proofs.listed.take_items.Goals as goal
 

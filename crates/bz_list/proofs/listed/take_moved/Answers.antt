@@ -1,7 +1,7 @@
 use Rattle.std.proofs.Common.{Bool, ap, ◌∙◌}
 use Rattle.bz_value.specs.declared.value.Expr.{Expr}
 use Rattle.bz_rule.specs.Rules.{attribute}
-use Rattle.bz_list.specs.Listing.{without_chosen, chosen_in}
+use Rattle.bz_list.specs.private.Listing.{without_chosen, chosen_in}
 use Rattle.bz_list.proofs.listed.take_moved.Goals as goal
 
 pub returns-clause-left : goal.returns-clause-left

@@ -1,6 +1,6 @@
 use Rattle.std.proofs.Common.{◌≡◌, drop}
-use Rattle.bz_load.specs.Known.{and_loads, knows}
-use Rattle.bz_load.specs.KnownKeys.{symbols_of_keys}
+use Rattle.bz_load.specs.private.Known.{and_loads, knows}
+use Rattle.bz_load.specs.private.KnownKeys.{symbols_of_keys}
 use Rattle.bz_load.proofs.known.insert_loads.Given as goal
 
 abbrev pub invariant-loop-item : goal.invariant-loop-item

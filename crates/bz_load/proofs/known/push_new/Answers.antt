@@ -1,8 +1,8 @@
 use Rattle.std.proofs.Common.{◌++◌, ◌∷◌, [], List, ap, ◌∙◌, map}
 use Rattle.bz_value.specs.declared.value.Expr.{Expr}
-use Rattle.bz_load.specs.Known.{unknown, knows}
+use Rattle.bz_load.specs.private.Known.{unknown, knows}
 use Rattle.bz_load.specs.NewLoad.{symbol_made}
-use Rattle.bz_load.specs.KnownKeys.{symbol_of_key, symbols_of_keys}
+use Rattle.bz_load.specs.private.KnownKeys.{symbol_of_key, symbols_of_keys}
 use Rattle.bz_load.proofs.KnownSteps.{old_pushed, new_pushed}
 use Rattle.bz_load.proofs.known.push_new.Goals as goal
 

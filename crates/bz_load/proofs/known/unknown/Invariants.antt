@@ -1,7 +1,7 @@
 use Rattle.std.proofs.Common.{◌≡◌, ◌++◌, drop, map}
-use Rattle.bz_load.specs.Known.{unknown, knows}
+use Rattle.bz_load.specs.private.Known.{unknown, knows}
 use Rattle.bz_load.specs.NewLoad.{symbol_made}
-use Rattle.bz_load.specs.KnownKeys.{symbols_of_keys}
+use Rattle.bz_load.specs.private.KnownKeys.{symbols_of_keys}
 use Rattle.bz_load.proofs.known.unknown.Given as goal
 
 abbrev pub invariant-loop-symbol : goal.invariant-loop-symbol

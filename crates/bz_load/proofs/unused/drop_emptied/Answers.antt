@@ -3,7 +3,7 @@ use Rattle.std.specs.Prelude.{not}
 use Rattle.std.proofs.lemmas.Fn.{filter_same}
 use Rattle.bz_attribute.specs.Sets.{texts_of}
 use Rattle.bz_load.specs.Fixes.{is_emptied}
-use Rattle.bz_load.specs.Known.{knows_name}
+use Rattle.bz_load.specs.private.Known.{knows_name}
 use Rattle.bz_load.proofs.unused.drop_emptied.Goals as goal
 
 pub returns : goal.returns

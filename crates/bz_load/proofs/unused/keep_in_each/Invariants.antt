@@ -1,7 +1,7 @@
 use Rattle.std.proofs.Common.{◌≡◌, ◌++◌, take, drop, map}
 use Rattle.bz_attribute.specs.Sets.{texts_of}
 use Rattle.bz_load.specs.Fixes.{used_alone}
-use Rattle.bz_load.specs.Known.{knows_name}
+use Rattle.bz_load.specs.private.Known.{knows_name}
 use Rattle.bz_load.proofs.unused.keep_in_each.Given as goal
 
 abbrev pub invariant-loop-item : goal.invariant-loop-item

@@ -1,6 +1,6 @@
 use Rattle.std.proofs.Common.{◌≡◌, drop}
 use Rattle.bz_attribute.specs.Sets.{texts_of}
-use Rattle.bz_load.specs.Known.{and_uses, knows_name}
+use Rattle.bz_load.specs.private.Known.{and_uses, knows_name}
 use Rattle.bz_load.proofs.uses.insert_items.Given as goal
 
 abbrev pub invariant-loop-item : goal.invariant-loop-item

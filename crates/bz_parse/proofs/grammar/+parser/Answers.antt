@@ -8,7 +8,7 @@ use Rattle.bz_states.specs.declared.state.Tail.TheVariants as in_rest
 use Rattle.bz_states.specs.declared.state.LambdaAt.TheVariants as lambda_at
 use Rattle.bz_tree.specs.Reading.{node_part}
 use Rattle.bz_states.specs.Tokens.{terminals_of, token_at}
-use Rattle.bz_parse.specs.Words.{part_at, found_from}
+use Rattle.bz_parse.specs.private.Words.{part_at, found_from}
 use Rattle.bz_states.specs.States.{nonterminal_of}
 use Rattle.bz_parse.proofs.Deepest.{made_depth, leaf_depth}
 use Rattle.bz_parse.proofs.Moves.{finishes, takes, takes_none, reads, reads_none, chooses_left, chooses_right, fewer_taken, fewer_read, fewer_left, fewer_right}

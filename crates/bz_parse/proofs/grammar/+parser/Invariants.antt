@@ -4,8 +4,8 @@ use Rattle.bz_tree.specs.Spell.{depth_part, deepest}
 use Rattle.bz_states.specs.declared.state.NodeState.TheVariants as s
 use Rattle.bz_states.specs.declared.state.ItemsAt.TheVariants as items_at
 use Rattle.bz_states.specs.States.{plan_at, choices, row_of_items}
-use Rattle.bz_parse.specs.Words.{found_from}
-use Rattle.bz_parse.specs.Ranks.{suffixes_at, level_at, RisesFrom}
+use Rattle.bz_parse.specs.private.Words.{found_from}
+use Rattle.bz_parse.specs.private.Ranks.{suffixes_at, level_at, RisesFrom}
 use Rattle.bz_parse.proofs.grammar.+parser.Given as goal
 
 -- each part inside is one deeper; the functions of one depth in the order in which they call each other

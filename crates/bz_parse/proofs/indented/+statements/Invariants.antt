@@ -1,7 +1,7 @@
 use Rattle.std.proofs.Common.{◌≡◌, ◌+◌, ◌*◌, ◌++◌, List, length}
 use Rattle.bz_tree.specs.declared.tree.Part.{Part}
 use Rattle.bz_tree.specs.Suites.{put_all}
-use Rattle.bz_parse.specs.Rows.{branches_at, if_at, statements_at}
+use Rattle.bz_parse.specs.private.Rows.{branches_at, if_at, statements_at}
 use Rattle.bz_parse.proofs.indented.+statements.Given as goal
 
 -- what is in a statement is less deep than it; the functions of one depth in the order in which they call each other

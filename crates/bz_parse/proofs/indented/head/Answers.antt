@@ -1,6 +1,6 @@
 use Rattle.std.proofs.Common.{sym, ◌∙◌, drop, arith}
 use Rattle.bz_states.specs.Tokens.{terminals_of, token_at}
-use Rattle.bz_parse.specs.Words.{part_at}
+use Rattle.bz_parse.specs.private.Words.{part_at}
 use Rattle.bz_states.specs.States.{nonterminal_of}
 use Rattle.bz_parse.proofs.Moves.{finishes, takes, takes_none, reads, reads_none, chooses_left, chooses_right, fewer_taken, fewer_read, fewer_left, fewer_right}
 use Rattle.bz_parse.proofs.Climbs.{handed_on, header_some, header_none}

@@ -1,7 +1,7 @@
 use Rattle.std.proofs.Common.{◌≡◌, ◌+◌, ◌*◌, ◌≤◌, [], length, take, drop}
-use Rattle.bz_parse.specs.Words.{found_by, found_from}
+use Rattle.bz_parse.specs.private.Words.{found_by, found_from}
 use Rattle.bz_states.specs.States.{plan_at, choices}
-use Rattle.bz_parse.specs.Rows.{plan_of_header}
+use Rattle.bz_parse.specs.private.Rows.{plan_of_header}
 use Rattle.bz_parse.proofs.indented.head.Given as goal
 
 abbrev pub invariant-moves : goal.invariant-moves

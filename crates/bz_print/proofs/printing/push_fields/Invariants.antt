@@ -2,7 +2,7 @@ use Rattle.std.proofs.Common.{◌≡◌, ◌++◌, drop}
 use Rattle.std.specs.Prelude.{decimal}
 use Rattle.std.specs.Option.{option_map}
 use Rattle.bz_print.specs.Prints.{spaced, printed_fields}
-use Rattle.bz_print.specs.Steps.{seen_rule}
+use Rattle.bz_print.specs.private.Steps.{seen_rule}
 use Rattle.bz_print.proofs.printing.push_fields.Given as goal
 
 abbrev pub invariant-loop-i : goal.invariant-loop-i

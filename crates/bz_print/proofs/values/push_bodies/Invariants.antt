@@ -1,6 +1,6 @@
 use Rattle.std.proofs.Common.{◌≡◌, ◌++◌, drop, map}
 use Rattle.bz_print.specs.Prints.{spaced}
-use Rattle.bz_print.specs.Steps.{printed_body}
+use Rattle.bz_print.specs.private.Steps.{printed_body}
 use Rattle.bz_print.proofs.values.push_bodies.Given as goal
 
 abbrev pub invariant-loop-i : goal.invariant-loop-i

@@ -1,7 +1,7 @@
 use Rattle.std.proofs.lemmas.Result.{err_from_is_err_and}
 use Rattle.bz_exact.proofs.Loops.{goes_on, halts, is_done}
 use Rattle.bz_exact.specs.Readers.{repeated}
-use Rattle.bz_record.specs.Reading.{entry_at}
+use Rattle.bz_record.specs.private.Reading.{entry_at}
 use Rattle.bz_record.proofs.entries.read_entries.Goals as goal
 
 pub returns-in_err-entry : goal.returns-in_err-entry

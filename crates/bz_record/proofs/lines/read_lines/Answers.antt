@@ -1,6 +1,6 @@
 use Rattle.std.proofs.Common.{refl, ◌≡◌, Some, ap, sym, ◌∙◌}
 use Rattle.bz_exact.specs.Readers.{after_mark}
-use Rattle.bz_record.specs.Reading.{lines_at}
+use Rattle.bz_record.specs.private.Reading.{lines_at}
 use Rattle.bz_record.specs.Texts.{version_line}
 use Rattle.bz_record.proofs.lines.read_lines.Goals as goal
 

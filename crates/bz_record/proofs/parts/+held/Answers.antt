@@ -1,7 +1,7 @@
 use Rattle.std.proofs.lemmas.Result.{err_from_is_err_and}
 use Rattle.bz_exact.proofs.Loops.{goes_on, halts, is_done}
 use Rattle.bz_exact.specs.Readers.{repeated}
-use Rattle.bz_record.specs.Reading.{held_at}
+use Rattle.bz_record.specs.private.Reading.{held_at}
 use Rattle.bz_record.proofs.parts.+held.Goals as goal
 
 pub read_parts-returns-in_err-part : goal.read_parts-returns-in_err-part

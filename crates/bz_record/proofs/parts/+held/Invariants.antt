@@ -1,7 +1,7 @@
 use Rattle.std.proofs.Common.{◌≡◌, ◌-◌, ◌+◌, ◌*◌}
 use Rattle.bz_exact.proofs.Loops.{with_front}
 use Rattle.bz_exact.specs.Readers.{repeated}
-use Rattle.bz_record.specs.Reading.{held_at}
+use Rattle.bz_record.specs.private.Reading.{held_at}
 use Rattle.bz_record.proofs.parts.+held.Given as goal
 
 abbrev pub decreases-read_part : goal.decreases-read_part

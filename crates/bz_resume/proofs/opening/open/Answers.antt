@@ -2,8 +2,8 @@ use Rattle.std.proofs.Common.{Err, ap, sym, ◌∙◌, subst}
 use Rattle.std.specs.List.{AllByRecursion}
 use Rattle.bz_resume.specs.declared.fault.Halt.TheVariants as h
 use Rattle.bz_tree.specs.Legal.{Reads}
-use Rattle.bz_resume.specs.Agreement.{edits_of, notes_of}
-use Rattle.bz_resume.specs.Agreement.{MayLead}
+use Rattle.bz_resume.specs.private.Agreement.{edits_of, notes_of}
+use Rattle.bz_resume.specs.private.Agreement.{MayLead}
 use Rattle.std.proofs.lemmas.Result.{err_from_is_err_and}
 use Rattle.bz_resume.proofs.Opens.{one_err, split_none, none_read, opens_none, opens, is_opened}
 use Rattle.bz_resume.proofs.opening.open.Goals as goal

@@ -1,6 +1,6 @@
 use Rattle.std.proofs.Common.{◌≡◌, ◌++◌, take}
 use Rattle.std.specs.List.{flat_map}
-use Rattle.bz_resume.specs.Outlines.{marked_byte}
+use Rattle.bz_resume.specs.private.Outlines.{marked_byte}
 use Rattle.bz_resume.proofs.outlining.push_text.Given as goal
 
 abbrev pub invariant-loop-byte : goal.invariant-loop-byte

@@ -1,5 +1,5 @@
 use Rattle.std.proofs.Common.{reverse}
-use Rattle.bz_resume.specs.Agreement.{StepsAgree}
+use Rattle.bz_resume.specs.private.Agreement.{StepsAgree}
 use Rattle.bz_resume.proofs.Loops.{agrees_of}
 use Rattle.bz_resume.proofs.replaying.go_back.Goals as goal
 

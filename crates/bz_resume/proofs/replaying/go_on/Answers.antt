@@ -1,4 +1,4 @@
-use Rattle.bz_resume.specs.Agreement.{StepsAgree}
+use Rattle.bz_resume.specs.private.Agreement.{StepsAgree}
 use Rattle.bz_resume.proofs.Loops.{agrees_of}
 use Rattle.bz_resume.proofs.replaying.go_on.Goals as goal
 

@@ -1,6 +1,6 @@
 use Rattle.std.proofs.Common.{take}
 use Rattle.std.specs.List.{AllByRecursion}
-use Rattle.bz_resume.specs.Alone.{IsAlone}
+use Rattle.bz_resume.specs.private.Alone.{IsAlone}
 use Rattle.bz_resume.proofs.touching.are_alone.Given as goal
 
 abbrev pub invariant-loop-part : goal.invariant-loop-part

@@ -1,6 +1,6 @@
 use Rattle.std.proofs.Common.{subst}
 use Rattle.std.proofs.lemmas.Result.{IfOk-weaker}
-use Rattle.bz_resume.specs.Alone.{AreLined, AreTouchedAlone}
+use Rattle.bz_resume.specs.private.Alone.{AreLined, AreTouchedAlone}
 use Rattle.bz_resume.proofs.Touched.{led_to}
 use Rattle.bz_resume.proofs.touching.is_led_to.Goals as goal
 

@@ -1,6 +1,6 @@
 use Rattle.std.proofs.Common.{◌≡◌}
 use Rattle.bz_write.specs.Flags.{with_flags}
-use Rattle.bz_rule.specs.Named.{fronts}
+use Rattle.bz_rule.specs.private.Named.{fronts}
 use Rattle.bz_tidy.specs.Passes.{quoted}
 use Rattle.bz_tidy.proofs.names.is_still.Given as goal
 

@@ -1,6 +1,6 @@
 use Rattle.std.proofs.Common.{rules}
 use Rattle.bz_tidy.specs.Lists.{precedes}
-use Rattle.bz_tidy.specs.Ranks.{item_ranks}
+use Rattle.bz_tidy.specs.private.Ranks.{item_ranks}
 use Rattle.bz_tidy.proofs.Stable.{from_sort_by}
 use Rattle.bz_tidy.proofs.ordering.sort_items.Goals as goal
 

@@ -1,4 +1,4 @@
-use Rattle.bz_tidy.specs.Repeats.{AreKept}
+use Rattle.bz_tidy.specs.private.Repeats.{AreKept}
 use Rattle.bz_tidy.proofs.repeats.drop_repeats.Given as goal
 
 abbrev pub invariant-loop-x : goal.invariant-loop-x

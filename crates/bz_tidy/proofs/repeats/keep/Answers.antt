@@ -2,7 +2,7 @@ use Rattle.std.proofs.Common.{◌≡◌, ◌++◌, ◌∷◌, [], true, false, r
 use Rattle.bz_value.specs.declared.value.Expr.{Expr as Value}
 use Rattle.bz_tidy.specs.Lists.{has_no_comment}
 use Rattle.bz_rule.specs.Values.{text_of}
-use Rattle.bz_tidy.specs.Repeats.{repeats_at, tied_places}
+use Rattle.bz_tidy.specs.private.Repeats.{repeats_at, tied_places}
 use Rattle.bz_tidy.proofs.Dropping.{turn_new, turn_old, turn_dropped, turned}
 use Rattle.bz_tidy.proofs.repeats.keep.Goals as goal
 

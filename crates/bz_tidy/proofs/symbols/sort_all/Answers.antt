@@ -1,6 +1,6 @@
 use Rattle.std.proofs.Common.{rules}
 use Rattle.bz_tidy.specs.Passes.{symbol_precedes}
-use Rattle.bz_tidy.specs.Ranks.{symbol_ranks}
+use Rattle.bz_tidy.specs.private.Ranks.{symbol_ranks}
 use Rattle.bz_tidy.proofs.Stable.{from_sort_by}
 use Rattle.bz_tidy.proofs.symbols.sort_all.Goals as goal
 

@@ -1,5 +1,5 @@
 use Rattle.std.proofs.Common.{sym, ap, ◌∙◌}
-use Rattle.bz_token.specs.Scanner.{is_in_string}
+use Rattle.bz_token.specs.private.Scanner.{is_in_string}
 use Rattle.bz_token.proofs.Opening.{answered, stuck, moved, at_end}
 use Rattle.bz_token.proofs.scan.opens_string.Goals as goal
 

@@ -1,5 +1,5 @@
 use Rattle.std.proofs.Common.{◌≡◌, Some, get_or, arith}
-use Rattle.bz_token.specs.Scanner.{move}
+use Rattle.bz_token.specs.private.Scanner.{move}
 use Rattle.bz_token.proofs.Longest.{one_further}
 use Rattle.bz_token.proofs.scan.run.Goals as goal
 

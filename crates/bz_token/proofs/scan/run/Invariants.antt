@@ -1,5 +1,5 @@
 use Rattle.std.proofs.Common.{◌≡◌, ◌≤◌, ◌<◌, ◌-◌, ℕ, Some, get_or, length}
-use Rattle.bz_token.specs.Scanner.{move}
+use Rattle.bz_token.specs.private.Scanner.{move}
 use Rattle.bz_token.proofs.scan.run.Given as goal
 
 abbrev pub invariant-bytes : goal.invariant-bytes

@@ -1,7 +1,7 @@
 use Rattle.std.proofs.Common.{rules, ◌≡◌, drop, length, ℕ, ◌≤◌, true, false, sym, ap, ◌∙◌}
 use Rattle.std.proofs.lemmas.List.{length-take-le}
 use Rattle.bz_token.specs.declared.state.State.{State}
-use Rattle.bz_token.specs.Scanner.{before_third}
+use Rattle.bz_token.specs.private.Scanner.{before_third}
 use Rattle.bz_token.specs.Tokens.{TokenAt}
 use Rattle.bz_token.proofs.Boundaries.{boundary_at}
 use Rattle.bz_token.proofs.Tokens.{front_of, none_token, no_class, third_token, some_token, whole_rest}

@@ -1,6 +1,6 @@
 use Rattle.std.proofs.Common.{◌≡◌, ◌∙◌, ◌∷◌, [], inl, inr, refl, ap, map, codes, subst, Bor, List, ℕ, true}
 use Rattle.bz_tools.specs.FormatRun as r
-use Rattle.bz_tools.specs.FormatShown.{seen_line}
+use Rattle.bz_tools.specs.private.FormatShown.{seen_line}
 use Rattle.bz_ports.specs.Reported.{named_line}
 use Rattle.bz_ports.specs.declared.exit.Cut.TheVariants as cut
 use Rattle.bz_tools.specs.declared.effect.Progress.{Progress}

@@ -3,7 +3,7 @@ use Rattle.bz_ports.specs.Faults.{AppendsUnlessFailed}
 use Rattle.bz_ports.specs.Near.{nearest}
 use Rattle.bz_tools.specs.FormatRun.{no_word_line}
 use Rattle.bz_tools.specs.Modes.{no_mode, no_type, mode_names, type_names}
-use Rattle.bz_tools.specs.FormatShown.{usage_of}
+use Rattle.bz_tools.specs.private.FormatShown.{usage_of}
 use Rattle.bz_tools.proofs.formatting.report_unusable.Goals as goal
 
 pub returns-in_ok-near-in-NoMode-clause-ok : goal.returns-in_ok-near-in-NoMode-clause-ok

@@ -1,7 +1,7 @@
 use Rattle.std.proofs.Common.{◌≡◌, true, map, drop}
 use Rattle.bz_files.specs.Folder.{Folder}
 use Rattle.bz_tools.specs.FormatRun as r
-use Rattle.bz_tools.specs.FormatShown.{progress_of}
+use Rattle.bz_tools.specs.private.FormatShown.{progress_of}
 use Rattle.bz_ports.specs.declared.exit.Cut.TheVariants as c
 use Rattle.bz_ports.specs.Outputs.{Writes, Reports, Counts}
 use Rattle.bz_tools.proofs.formatting.run_files.Given as goal

@@ -1,7 +1,7 @@
 use Rattle.std.proofs.Common.{◌≤◌, drop}
 use Rattle.std.specs.Prelude.{◌↔◌}
 use Rattle.bz_write.specs.Depths.{depth_items}
-use Rattle.bz_write.specs.Marks.{marked_items}
+use Rattle.bz_write.specs.private.Marks.{marked_items}
 use Rattle.bz_write.proofs.limits.are_marked_within.Given as goal
 
 abbrev pub invariant-loop-i : goal.invariant-loop-i

@@ -1,5 +1,5 @@
 use Rattle.std.proofs.Common.{◌≡◌, ◌≤◌, ◌++◌, [], drop}
-use Rattle.bz_write.specs.Marks.{marked_places, marked_lines}
+use Rattle.bz_write.specs.private.Marks.{marked_places, marked_lines}
 use Rattle.bz_write.proofs.marked.relayout.Given as goal
 
 -- the lines so far and their places, and those of the items that are left, are those of all items

@@ -1,6 +1,6 @@
 use Rattle.std.proofs.Common.{◌≡◌, ◌+◌, drop}
-use Rattle.bz_write.specs.Sizes.{head_size}
-use Rattle.bz_write.specs.Pending.{pending_size, pending_forms, forms_in_all}
+use Rattle.bz_write.specs.private.Sizes.{head_size}
+use Rattle.bz_write.specs.private.Pending.{pending_size, pending_forms, forms_in_all}
 use Rattle.bz_write.proofs.measure.less_head.Given as goal
 
 abbrev pub invariant-loop-expr : goal.invariant-loop-expr

@@ -1,6 +1,6 @@
 use Rattle.std.proofs.Common.{◌≡◌, ◌+◌, drop}
-use Rattle.bz_write.specs.Sizes.{joined_size}
-use Rattle.bz_write.specs.Pending.{pending_size, pending_forms, forms_in_all}
+use Rattle.bz_write.specs.private.Sizes.{joined_size}
+use Rattle.bz_write.specs.private.Pending.{pending_size, pending_forms, forms_in_all}
 use Rattle.bz_write.proofs.measure.less_joined.Given as goal
 
 abbrev pub invariant-loop-i : goal.invariant-loop-i

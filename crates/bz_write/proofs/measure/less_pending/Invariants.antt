@@ -1,5 +1,5 @@
 use Rattle.std.proofs.Common.{◌≡◌, ◌+◌}
-use Rattle.bz_write.specs.Pending.{pending_size, pending_forms}
+use Rattle.bz_write.specs.private.Pending.{pending_size, pending_forms}
 use Rattle.bz_write.proofs.measure.less_pending.Given as goal
 
 abbrev pub invariant-loop-next : goal.invariant-loop-next

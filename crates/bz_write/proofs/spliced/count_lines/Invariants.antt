@@ -1,5 +1,5 @@
 use Rattle.std.proofs.Common.{◌≡◌, ◌≤◌, ◌+◌, drop}
-use Rattle.bz_write.specs.Windows.{line_count_in}
+use Rattle.bz_write.specs.private.Windows.{line_count_in}
 use Rattle.bz_write.proofs.spliced.count_lines.Given as goal
 
 abbrev pub invariant-loop-item : goal.invariant-loop-item

@@ -1,5 +1,5 @@
 use Rattle.std.proofs.Common.{[], drop, arith}
-use Rattle.bz_write.specs.Windows.{statement_gap}
+use Rattle.bz_write.specs.private.Windows.{statement_gap}
 use Rattle.bz_write.proofs.Windows.{gap_found, gap_turn}
 use Rattle.bz_write.proofs.spliced.gap_before.Goals as goal
 

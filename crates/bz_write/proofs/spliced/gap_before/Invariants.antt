@@ -1,5 +1,5 @@
 use Rattle.std.proofs.Common.{◌≡◌, ◌-◌, [], drop}
-use Rattle.bz_write.specs.Windows.{statement_gap}
+use Rattle.bz_write.specs.private.Windows.{statement_gap}
 use Rattle.bz_write.proofs.spliced.gap_before.Given as goal
 
 -- what is left of the items in front makes of the gap so far the one that all of them leave

@@ -1,5 +1,5 @@
 use Rattle.std.proofs.Common.{ap, sym, ◌∙◌, ◌-◌, arith}
-use Rattle.bz_write.specs.Windows.{is_statement_item}
+use Rattle.bz_write.specs.private.Windows.{is_statement_item}
 use Rattle.bz_write.proofs.Windows.{statement_before}
 use Rattle.bz_write.proofs.spliced.last_statement.Goals as goal
 

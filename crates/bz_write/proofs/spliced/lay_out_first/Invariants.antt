@@ -1,6 +1,6 @@
 use Rattle.std.proofs.Common.{◌≡◌, length}
 use Rattle.bz_write.specs.LaidOut.{lines_from}
-use Rattle.bz_write.specs.Windows.{lines_after}
+use Rattle.bz_write.specs.private.Windows.{lines_after}
 use Rattle.bz_write.proofs.spliced.lay_out_first.Given as goal
 
 -- no line so far, and the lines of the items that are left are those of all

@@ -1,7 +1,7 @@
 use Rattle.std.proofs.Common.{◌≡◌, ◌++◌, []}
 use Rattle.std.specs.Vec.Iter.{into_iter_items}
 use Rattle.bz_write.specs.LaidOut.{lines_from}
-use Rattle.bz_write.specs.Taken.{before_item}
+use Rattle.bz_write.specs.private.Taken.{before_item}
 use Rattle.bz_write.proofs.taken.lay_out_each.Given as goal
 
 -- the lines so far, and those of the items that are left, are those of all items

@@ -5,7 +5,7 @@ use Rattle.bz_items.specs.Characters.{Bytes}
 use Rattle.bz_trail.specs.Shown.{TakesUp, texts_of}
 use Rattle.bz_trail.specs.Trails.{trail_at}
 use Rattle.bz_journal.specs.History.{most_steps}
-use Rattle.bz_journal.specs.Lines.{tree_with}
+use Rattle.bz_journal.specs.private.Lines.{tree_with}
 use Rattle.bz_journal.specs.State.{SessionState, IsSession, session_trail}
 use Rattle.bz_journal.proofs.Kept.{HasExtended, extended, session_present}
 use Rattle.bz_journal.proofs.course.Course.extend_with.Goals as goal

@@ -3,7 +3,7 @@ use Rattle.bz_tree.specs.declared.tree.Node.{Node}
 use Rattle.bz_tree.specs.Legal.{Reads}
 use Rattle.bz_tree.specs.Spell.{spell_node}
 use Rattle.bz_journal.specs.History.{present}
-use Rattle.bz_journal.specs.Lines.{tree_with}
+use Rattle.bz_journal.specs.private.Lines.{tree_with}
 use Rattle.bz_journal.specs.Shown.{session_history}
 use Rattle.bz_journal.proofs.PutLines.{with_kind, parts_stay}
 use Rattle.bz_journal.proofs.course.Course.is_present_with.Goals as goal

@@ -1,5 +1,5 @@
 use Rattle.std.proofs.Common.{ap, ◌∙◌}
-use Rattle.bz_list.specs.KnownValues.{with_words}
+use Rattle.bz_list.specs.private.KnownValues.{with_words}
 use Rattle.bz_list.proofs.KnownSteps.{chosen_words}
 use Rattle.bz_list.proofs.known.Chosen.of_words.Goals as goal
 

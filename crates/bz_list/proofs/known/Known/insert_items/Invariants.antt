@@ -1,5 +1,5 @@
 use Rattle.std.proofs.Common.{◌≡◌, drop}
-use Rattle.bz_list.specs.KnownValues.{membership, with_known_items}
+use Rattle.bz_list.specs.private.KnownValues.{membership, with_known_items}
 use Rattle.bz_list.proofs.known.Known.insert_items.Given as goal
 
 abbrev pub invariant-loop-x : goal.invariant-loop-x

@@ -1,6 +1,6 @@
 use Rattle.std.proofs.Common.{◌≡◌, drop}
-use Rattle.bz_list.specs.KnownValues.{membership}
-use Rattle.bz_list.specs.Listing.{with_lists}
+use Rattle.bz_list.specs.private.KnownValues.{membership}
+use Rattle.bz_list.specs.private.Listing.{with_lists}
 use Rattle.bz_list.proofs.known.Known.insert_lists.Given as goal
 
 abbrev pub invariant-loop-x : goal.invariant-loop-x

@@ -1,5 +1,5 @@
 use Rattle.std.proofs.Common.{sym, ap, ◌∙◌}
-use Rattle.bz_list.specs.KnownValues.{membership, with_known_items}
+use Rattle.bz_list.specs.private.KnownValues.{membership, with_known_items}
 use Rattle.bz_list.proofs.KnownSteps.{lists_known}
 use Rattle.bz_list.proofs.known.Known.insert_value.Goals as goal
 

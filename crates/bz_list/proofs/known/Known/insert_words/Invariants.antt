@@ -1,5 +1,5 @@
 use Rattle.std.proofs.Common.{◌≡◌, drop}
-use Rattle.bz_list.specs.KnownValues.{membership, with_words}
+use Rattle.bz_list.specs.private.KnownValues.{membership, with_words}
 use Rattle.bz_list.proofs.known.Known.insert_words.Given as goal
 
 abbrev pub invariant-loop-word : goal.invariant-loop-word

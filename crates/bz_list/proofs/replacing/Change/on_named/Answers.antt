@@ -2,7 +2,7 @@ use Rattle.std.proofs.Common.{ap, ◌∙◌}
 use Rattle.std.specs.List.{position}
 use Rattle.bz_attribute.specs.Attributes.{is_attribute, on_value}
 use Rattle.bz_attribute.proofs.ArgumentPlaces.{changed_there, changed_nowhere}
-use Rattle.bz_list.specs.Replacing.{value_changed_by}
+use Rattle.bz_list.specs.private.Replacing.{value_changed_by}
 use Rattle.bz_list.proofs.replacing.Change.on_named.Goals as goal
 
 pub returns-in_default : goal.returns-in_default

@@ -9,7 +9,7 @@ use Rattle.bz_token.specs.declared.state.Quote.{Quote}
 use Rattle.bz_token.specs.declared.state.Quote.TheVariants.{Single, Double}
 use Rattle.bz_token.specs.Bytes.{among, is_digit, is_hexadecimal, is_octal, is_e, is_x, is_o, is_sign, is_high, is_letter}
 use Rattle.bz_token.specs.Lexemes.{is_keyword}
-use Rattle.bz_token.specs.Machine.{and_next, after, longest}
+use Rattle.bz_token.specs.private.Machine.{and_next, after, longest}
 
 abbrev pub quote_byte : Quote → ℕ
 quote_byte Single = 39

@@ -12,7 +12,7 @@ use Rattle.bz_value.specs.declared.refusal.Refusal.{Refusal}
 use Rattle.bz_value.specs.declared.refusal.Refusal.TheVariants.{NotAList}
 use Rattle.bz_attribute.specs.Lists.{body_of, fresh, arriving, has_lists, items_in, is_no_list, with_more}
 use Rattle.bz_attribute.specs.Made.{list_of, plus, string_of}
-use Rattle.bz_list.specs.KnownValues.{Membership, new_words, new_items}
+use Rattle.bz_list.specs.private.KnownValues.{Membership, new_words, new_items}
 
 -- the items that are added to the items that are there
 abbrev pub added_by : Bytes → Bytes → Added → List Expr → List Expr

@@ -8,7 +8,7 @@ use Rattle.bz_list.specs.declared.known.Chosen.TheVariants as h
 use Rattle.bz_attribute.specs.Attributes.{with_value}
 use Rattle.bz_attribute.specs.Lists.{items_in, listed}
 use Rattle.bz_list.specs.Changes.{cleared, without_items}
-use Rattle.bz_list.specs.KnownValues.{Membership, membership, is_known_item, with_known_items}
+use Rattle.bz_list.specs.private.KnownValues.{Membership, membership, is_known_item, with_known_items}
 
 -- whether a command is meant for an item
 abbrev pub chooses : Chosen → Expr → Bool

@@ -12,7 +12,7 @@ use Rattle.bz_tree.specs.Shapes.{rank}
 use Rattle.bz_tree.specs.Reading.{◌>>=◌, Read, starts_with, fits_in, atom, suffixes, climb, read_argument, read_param, reading}
 use Rattle.bz_states.specs.Tokens.{terminals_of}
 use Rattle.bz_states.specs.States.{precedence_of}
-use Rattle.bz_parse.specs.Words.{found_from}
+use Rattle.bz_parse.specs.private.Words.{found_from}
 
 -- a part, or a node that it begins where this token is after it
 unfoldable pub begun_at : ℕ → TokenSet → NodeState → Part → Read Part
