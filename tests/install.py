@@ -29,7 +29,7 @@ SECONDS = 600
 # the version of glibc with which the programs run, and every later one
 LIBRARY = (2, 34)
 # the file of the crates that has the version
-VERSIONED = "crates/bz_ports/src/lib.rt"
+VERSIONED = "crates/bz_streams/src/lib.rt"
 
 
 class Copy:

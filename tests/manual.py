@@ -15,8 +15,8 @@ from files import report
 from readme import CRATES, TOP, refusals_of_code, texts_in
 
 # the crates in which a program's statuses are, and the file with its options
-STATUSES = {"buildozer": ("buildozer", "bz_engine"), "buildifier": ("buildifier", "bz_tools")}
-OPTIONS = {"buildozer": "bz_line/specs/App.antt", "buildifier": "bz_tools/specs/Modes.antt"}
+STATUSES = {"buildozer": ("buildozer", "bz_buildozer"), "buildifier": ("buildifier", "bz_buildifier")}
+OPTIONS = {"buildozer": "bz_command_line/specs/App.antt", "buildifier": "bz_buildifier/specs/Modes.antt"}
 # refusals of a text; buildifier reports them all, and of the others those of a formatted text
 OF_TEXTS, OF_FORMATTED = range(1, 9), (21, 22)
 READERS = {
@@ -56,7 +56,7 @@ class Pages:
 
 
 def commands_of_code():
-    return texts_in("bz_words/specs/Commands.antt", "commands") + texts_in("bz_line/specs/Operands.antt", r"history_verb_in \(.*")
+    return texts_in("bz_command_syntax/specs/Commands.antt", "commands") + texts_in("bz_command_line/specs/Operands.antt", r"history_verb_in \(.*")
 
 
 def options_of_code(program):
@@ -94,7 +94,7 @@ def words_of_options(pages):
     wrong = []
     for option in ("mode", "type"):
         names = [entry.partition("=")[2].split()[0] for entry in pages.entries("buildifier", "OPTIONS") if entry.startswith(f"--{option}=")]
-        wrong += missing(f"words of --{option}", texts_in("bz_tools/specs/Modes.antt", f"{option}_called name"), names)
+        wrong += missing(f"words of --{option}", texts_in("bz_buildifier/specs/Modes.antt", f"{option}_called name"), names)
     return wrong
 
 

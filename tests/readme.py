@@ -133,7 +133,7 @@ def texts_in(file, name):
 
 def forms_of_code():
     """The forms of commands, as hints print them."""
-    tables = definition("bz_words/specs/Commands.antt", "command_forms") + definition("bz_line/specs/Hints.antt", "verb_forms")
+    tables = definition("bz_command_syntax/specs/Commands.antt", "command_forms") + definition("bz_command_line/specs/Hints.antt", "verb_forms")
     return sorted(re.findall(r"'([^']+)'", tables))
 
 
@@ -201,7 +201,7 @@ def commands(programs, folder):
     """Each command has a row, and no other, with its forms; these begin with its name."""
     forms = sorted({form for row in rows_of("Command") for form in CODE.findall(row[0])})
     told = {form.split()[0] for form in forms}
-    known = texts_in("bz_words/specs/Commands.antt", "commands") + texts_in("bz_line/specs/Operands.antt", r"history_verb_in \(.*")
+    known = texts_in("bz_command_syntax/specs/Commands.antt", "commands") + texts_in("bz_command_line/specs/Operands.antt", r"history_verb_in \(.*")
     return different("commands", sorted(told), sorted(set(known))) + different("forms of commands", forms, forms_of_code())
 
 

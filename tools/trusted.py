@@ -20,7 +20,7 @@ import sys
 
 TOP = pathlib.Path(__file__).resolve().parent.parent
 CRATES = [line.partition(":")[0] for line in (TOP / "crates.txt").read_text().splitlines() if ":" in line and not line.startswith("#")]
-ENGINES = frozenset({("bz_engine", "buildozer"), ("bz_tools", "buildifier")})
+ENGINES = frozenset({("bz_buildozer", "buildozer"), ("bz_buildifier", "buildifier")})
 START = re.compile(r"^(?:(?:abbrev|unfoldable|pub|record|data) )*([^\s:({]+) *[:({]")
 USE = re.compile(r"^\s*(?:ghost |pub )?use Rattle\.([\w.«»+-]+?)(?:\.\{([^}]*)\}| as (\S+?));?$")
 WORD = re.compile(r"[^\s(){}\[\],;]+")

@@ -1,7 +1,7 @@
 #!/usr/bin/env python3
 """Prints the version of these sources: its word, by which the archive is called, and its day, by which the pages are dated.
 
-The version is that which `--version` prints, the constant VERSION of bz_ports. In a repository of git whose present commit has no tag of
+The version is that which `--version` prints, the constant VERSION of bz_streams. In a repository of git whose present commit has no tag of
 that name, the beginning of the commit's name follows it, as 1.0.0-4f55500; where files that git keeps were changed since, so does
 `-changed`. The day is that of the present commit, elsewhere that of README.md.
 """
@@ -12,7 +12,7 @@ import subprocess
 from blocks import TOP
 
 # where the programs have it
-SOURCE = TOP / "crates" / "bz_ports" / "src" / "lib.rt"
+SOURCE = TOP / "crates" / "bz_streams" / "src" / "lib.rt"
 CONSTANT = re.compile(r'^pub const VERSION: &str = "([^"]+)";$', re.MULTILINE)
 
 

@@ -2,8 +2,8 @@
 #![tactic(auto)]
 
 use bz_files::DiskFiles;
-use bz_ports::{Device, report};
-use bz_tools::buildifier;
+use bz_streams::{Device, report};
+use bz_buildifier::buildifier;
 use std::alloc::AllocError;
 use std::env;
 use std::io::ErrorKind;

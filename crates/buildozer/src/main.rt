@@ -1,9 +1,9 @@
 //! buildozer: applies commands to the rules of BUILD files, and takes them back exactly.
 #![tactic(auto)]
 
-use bz_engine::buildozer;
+use bz_buildozer::buildozer;
 use bz_files::DiskFiles;
-use bz_ports::{Device, report};
+use bz_streams::{Device, report};
 use std::alloc::AllocError;
 use std::env;
 use std::io::ErrorKind;

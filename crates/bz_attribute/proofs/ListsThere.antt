@@ -3,9 +3,9 @@ use Rattle.std.proofs.Common.{◌≡◌, Bool, true, false, not, ◌&&◌, ◌||
 use Rattle.std.specs.Prelude.{if◌then◌else◌}
 use Rattle.std.specs.List.{list_any, filter, flat_map}
 use Rattle.std.proofs.lemmas.List.{append-nil}
-use Rattle.bz_tree.specs.declared.kind.Kind.{Kind}
-use Rattle.bz_tree.specs.declared.kind.Kind.TheVariants as k
-use Rattle.bz_tree.specs.Shapes.{is_kind}
+use Rattle.bz_grammar.specs.declared.kind.Kind.{Kind}
+use Rattle.bz_grammar.specs.declared.kind.Kind.TheVariants as k
+use Rattle.bz_grammar.specs.Shapes.{is_kind}
 use Rattle.bz_value.specs.declared.value.Expr.{Expr, Token, Form'}
 use Rattle.bz_rule.specs.Values.{has_kind, parts_of, items_of}
 use Rattle.bz_value.specs.Empty.{is_empty}

@@ -6,8 +6,8 @@ use Rattle.std.proofs.lemmas.Bool.{and_from, or_parts}
 use Rattle.std.proofs.lemmas.List.{take_at}
 use Rattle.std.proofs.lemmas.Slice.Eq.{bytes_eq-Decides}
 use Rattle.bz_items.specs.Characters.{Bytes, apostrophe, backslash, quotation_mark}
-use Rattle.bz_words.specs.Quoted.{is_escaped, quoted_of}
-use Rattle.bz_words.proofs.Strings.{quoted_plain}
+use Rattle.bz_command_syntax.specs.Quoted.{is_escaped, quoted_of}
+use Rattle.bz_command_syntax.proofs.Strings.{quoted_plain}
 use Rattle.bz_rule.specs.Rules.{inner, is_plain_in, body}
 use Rattle.bz_attribute.proofs.FormsAgain.{if_true, both}
 

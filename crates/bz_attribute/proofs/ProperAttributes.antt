@@ -1,11 +1,11 @@
 -- The arguments of a rule with a value put in, with a new attribute, and with fewer.
 use Rattle.std.proofs.Common.{Bool, List, [], ◌∷◌}
 use Rattle.std.specs.Prelude.{IfSome, IfOk, Option, Some, None}
-use Rattle.bz_tree.specs.declared.kind.Kind.TheVariants as k
-use Rattle.bz_tree.specs.Shapes as s
+use Rattle.bz_grammar.specs.declared.kind.Kind.TheVariants as k
+use Rattle.bz_grammar.specs.Shapes as s
 use Rattle.bz_value.specs.declared.value.Expr.{Expr}
 use Rattle.bz_items.specs.Characters.{Bytes}
-use Rattle.bz_words.specs.Proper.{IsAttribute}
+use Rattle.bz_command_syntax.specs.Proper.{IsAttribute}
 use Rattle.bz_rule.specs.Values.{has_kind, on_third}
 use Rattle.bz_rule.specs.Rules.{attribute}
 use Rattle.bz_rule.proofs.ProperArguments.{argument_changed, attribute_value, value_kept}

@@ -6,12 +6,12 @@ use Rattle.std.proofs.lemmas.List.Elements.{All-nil}
 use Rattle.bz_token.specs.declared.class.Class.{Class}
 use Rattle.bz_token.specs.declared.class.Class.TheVariants as c
 use Rattle.bz_token.specs.Lexemes.{IsLexeme, is_mark}
-use Rattle.bz_tree.specs.declared.kind.Kind.{Kind}
-use Rattle.bz_tree.specs.declared.kind.Kind.TheVariants as k
-use Rattle.bz_tree.specs.Shapes as s
-use Rattle.bz_tree.specs.Shapes.{Fits, Listed, After, rank, is_kind}
-use Rattle.bz_tree.specs.Legal.{IsNonterminal}
-use Rattle.bz_tree.specs.Spots.{Spot, Begins, Within}
+use Rattle.bz_grammar.specs.declared.kind.Kind.{Kind}
+use Rattle.bz_grammar.specs.declared.kind.Kind.TheVariants as k
+use Rattle.bz_grammar.specs.Shapes as s
+use Rattle.bz_grammar.specs.Shapes.{Fits, Listed, After, rank, is_kind}
+use Rattle.bz_grammar.specs.Legal.{IsNonterminal}
+use Rattle.bz_grammar.specs.Spots.{Spot, Begins, Within}
 use Rattle.bz_label.specs.Tables.{is_label_attribute}
 use Rattle.bz_label.specs.Read.{shortened}
 use Rattle.bz_value.specs.declared.value.Expr.{Expr, Token, Form'}
@@ -21,11 +21,11 @@ use Rattle.bz_value.specs.Proper.{IsComment, AreComments, comments_of, has_break
 use Rattle.bz_value.specs.Roots.{root}
 use Rattle.bz_value.specs.Roots as r
 use Rattle.bz_value.proofs.FormParts.{AreParts, form_proper}
-use Rattle.bz_words.specs.Proper.{AreUtf8, IsAttribute, IsKind}
-use Rattle.bz_words.specs.Quoted.{quoted_of}
-use Rattle.bz_words.proofs.NameTests.{identifiers_are_names}
-use Rattle.bz_words.proofs.Strings.{quoted_lexeme}
-use Rattle.bz_words.proofs.Utf8Texts.{quoted_utf8}
+use Rattle.bz_command_syntax.specs.Proper.{AreUtf8, IsAttribute, IsKind}
+use Rattle.bz_command_syntax.specs.Quoted.{quoted_of}
+use Rattle.bz_command_syntax.proofs.NameTests.{identifiers_are_names}
+use Rattle.bz_command_syntax.proofs.Strings.{quoted_lexeme}
+use Rattle.bz_command_syntax.proofs.Utf8Texts.{quoted_utf8}
 use Rattle.bz_rule.specs.Values.{has_kind, on_row}
 use Rattle.bz_rule.proofs.ProperChanges.{by_test, by_case, Strung}
 use Rattle.bz_rule.proofs.ProperItems.{IsValue, KeepsRow, row_within, value_within}

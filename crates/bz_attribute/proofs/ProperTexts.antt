@@ -14,9 +14,9 @@ use Rattle.bz_label.specs.Pieces.{is_colon}
 use Rattle.bz_label.specs.Read.{is_own, shortened}
 use Rattle.bz_label.specs.Shorter.{before_colon, after_colon, is_repeated, unrepeated}
 use Rattle.bz_items.specs.Characters.{Bytes, apostrophe, full_stop, quotation_mark}
-use Rattle.bz_words.specs.Identifiers.{is_identifier}
-use Rattle.bz_words.specs.Proper.{AreUtf8, IsAttribute, IsKind}
-use Rattle.bz_words.proofs.Pieces.{joined, joined-onto_first}
+use Rattle.bz_command_syntax.specs.Identifiers.{is_identifier}
+use Rattle.bz_command_syntax.specs.Proper.{AreUtf8, IsAttribute, IsKind}
+use Rattle.bz_command_syntax.proofs.Pieces.{joined, joined-onto_first}
 use Rattle.bz_rule.specs.Rules.{inner, is_plain_in, body}
 use Rattle.bz_rule.proofs.ProperChanges.{by_test, by_case}
 

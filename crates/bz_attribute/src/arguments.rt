@@ -1,7 +1,7 @@
 //! The arguments of a rule, changed. An attribute is a named argument; of several with one name the first is meant.
 ghost use Rattle.std.specs.Prelude.{◌≡◌, OnOk, None, Some, true, if◌then◌else◌};
 ghost use Rattle.std.specs.List.{position, slice_index_or};
-ghost use Rattle.bz_tree.specs.declared.kind.Kind.TheVariants as kinds;
+ghost use Rattle.bz_grammar.specs.declared.kind.Kind.TheVariants as kinds;
 ghost use Rattle.bz_value.specs.declared.value.Expr.{Expr};
 ghost use Rattle.bz_items.specs.Characters.{Bytes};
 ghost use Rattle.bz_rule.specs.Rules.{attribute, value_named};
@@ -11,7 +11,7 @@ ghost use Rattle.bz_attribute.specs.Attributes.{is_attribute, has_attribute, is_
 use crate::making::{argument_of, token};
 use bz_items::{Items, Memory, Text};
 use bz_rule::{attribute, value_named};
-use bz_tree::{Class, Kind};
+use bz_grammar::{Class, Kind};
 use bz_value::Expr;
 use std::alloc::Global;
 use std::mem;

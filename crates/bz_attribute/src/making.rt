@@ -3,17 +3,17 @@
 ghost use Rattle.std.specs.Prelude.{◌≡◌, IfOk, OnOk, [], ◌∷◌, ◌++◌, nat_eq, nat_lt, codes, position, length, ◌<◌, IfSome};
 ghost use Rattle.std.specs.List.{slice_split};
 ghost use Rattle.std.specs.Option.{option_map_or};
-ghost use Rattle.bz_tree.specs.declared.kind.Kind.TheVariants as k;
-ghost use Rattle.bz_tree.specs.Shapes.{rank};
+ghost use Rattle.bz_grammar.specs.declared.kind.Kind.TheVariants as k;
+ghost use Rattle.bz_grammar.specs.Shapes.{rank};
 ghost use Rattle.bz_items.specs.Characters.{full_stop};
 ghost use Rattle.bz_rule.specs.Values.{on_items, with_text};
 ghost use Rattle.bz_attribute.specs.Made.{token, node, sequence, name, mark, shortened_in, string_text, string_of, list_of, binds_looser, operand, plus, function_of, argument_of, rule_made};
 
 use bz_items::{Items, Memory, Text};
 use bz_label::bytes::{is_label_attribute, shortened};
-use bz_tree::{Class, Kind};
+use bz_grammar::{Class, Kind};
 use bz_value::{Comments, Expr, Form, Item, Seq, Token};
-use bz_words::quoted;
+use bz_command_syntax::quoted;
 use std::alloc::{AllocError, Global};
 use std::mem;
 

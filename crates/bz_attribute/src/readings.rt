@@ -2,14 +2,14 @@
 ghost use Rattle.std.specs.Prelude.{◌≡◌};
 ghost use Rattle.std.specs.List.{flat_map, list_any};
 ghost use Rattle.std.specs.Option.{option_copied};
-ghost use Rattle.bz_tree.specs.declared.kind.Kind.TheVariants as kinds;
+ghost use Rattle.bz_grammar.specs.declared.kind.Kind.TheVariants as kinds;
 ghost use Rattle.bz_rule.specs.Values.{has_kind as is_of, has_class as is_in, first_text as first, parts_of as parts, items_of as items, text_of as text};
 ghost use Rattle.bz_attribute.specs.Lists.{has_lists as has_any, is_no_list as is_none, is_empty_list as is_empty, body_of as plain, are_one, is_item as item, items_in, listed};
 
 use crate::arguments::has_kind;
 use bz_label::bytes::{is_label_attribute, same};
 use bz_rule::{body, text_in};
-use bz_tree::{Class, Kind};
+use bz_grammar::{Class, Kind};
 use bz_value::Expr;
 use std::slice;
 

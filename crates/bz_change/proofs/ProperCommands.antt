@@ -1,14 +1,14 @@
 -- What each command on whole attributes makes of the arguments of a rule is arguments.
 use Rattle.std.proofs.Common.{not, List}
 use Rattle.std.specs.Prelude.{IfSome, Option, Ok, Err, if◌then◌else◌}
-use Rattle.bz_tree.specs.declared.kind.Kind.TheVariants as k
-use Rattle.bz_tree.specs.Shapes as s
+use Rattle.bz_grammar.specs.declared.kind.Kind.TheVariants as k
+use Rattle.bz_grammar.specs.Shapes as s
 use Rattle.bz_value.specs.declared.value.Expr.{Expr}
 use Rattle.bz_items.specs.Characters.{Bytes}
-use Rattle.bz_words.specs.Proper.{AreUtf8, IsAttribute}
-use Rattle.bz_words.specs.declared.command.Attributes.{Attributes}
-use Rattle.bz_words.specs.declared.command.Attributes.TheVariants as t
-use Rattle.bz_words.proofs.NameTests.{identifiers_are_names}
+use Rattle.bz_command_syntax.specs.Proper.{AreUtf8, IsAttribute}
+use Rattle.bz_command_syntax.specs.declared.command.Attributes.{Attributes}
+use Rattle.bz_command_syntax.specs.declared.command.Attributes.TheVariants as t
+use Rattle.bz_command_syntax.proofs.NameTests.{identifiers_are_names}
 use Rattle.bz_rule.specs.Values.{with_text, on_row, on_first}
 use Rattle.bz_rule.proofs.ProperArguments.{argument_changed, name_kept}
 use Rattle.bz_rule.proofs.ProperChanges.{by_test}

@@ -11,8 +11,8 @@ use Rattle.bz_token.specs.Bytes.{is_digit}
 use Rattle.bz_token.specs.Lexemes.{IsLexeme, IsDigits, Each, whole}
 use Rattle.bz_label.specs.Tables.{is_list_attribute}
 use Rattle.bz_items.specs.Characters.{Bytes}
-use Rattle.bz_words.specs.Proper.{AreUtf8}
-use Rattle.bz_words.proofs.NameTests.{identifiers_are_names}
+use Rattle.bz_command_syntax.specs.Proper.{AreUtf8}
+use Rattle.bz_command_syntax.proofs.NameTests.{identifiers_are_names}
 use Rattle.bz_rule.proofs.ProperChanges.{by_test, by_case, Strung}
 use Rattle.bz_rule.proofs.ProperItems.{IsValue}
 use Rattle.bz_attribute.specs.Made.{token, string_text}

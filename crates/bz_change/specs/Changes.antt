@@ -3,14 +3,14 @@ use Rattle.std.specs.Prelude.{Bool, true, false, not, ◌&&◌, ◌||◌, List, 
 use Rattle.std.specs.List.{filter}
 use Rattle.std.specs.Str.{all_ascii_digits}
 use Rattle.bz_token.specs.declared.class.Class.TheVariants as c
-use Rattle.bz_tree.specs.declared.kind.Kind.TheVariants as k
+use Rattle.bz_grammar.specs.declared.kind.Kind.TheVariants as k
 use Rattle.bz_label.specs.Tables.{is_list_attribute}
 use Rattle.bz_value.specs.declared.value.Expr.{Expr}
 use Rattle.bz_items.specs.Characters.{Bytes}
-use Rattle.bz_words.specs.declared.command.AttributeOperation.{AttributeOperation}
-use Rattle.bz_words.specs.declared.command.AttributeOperation.TheVariants as wa
-use Rattle.bz_words.specs.declared.command.Attributes.{Attributes}
-use Rattle.bz_words.specs.declared.command.Attributes.TheVariants as a
+use Rattle.bz_command_syntax.specs.declared.command.AttributeOperation.{AttributeOperation}
+use Rattle.bz_command_syntax.specs.declared.command.AttributeOperation.TheVariants as wa
+use Rattle.bz_command_syntax.specs.declared.command.Attributes.{Attributes}
+use Rattle.bz_command_syntax.specs.declared.command.Attributes.TheVariants as a
 use Rattle.bz_rule.specs.Rules.{attribute}
 use Rattle.bz_rule.specs.Values.{has_kind, has_class, text_of, items_of, with_text, on_row, on_first}
 use Rattle.bz_value.specs.declared.refusal.Refusal.TheVariants.{NoAttribute, AttributeExists, NoSource}

@@ -3,7 +3,7 @@ ghost use Rattle.std.specs.Prelude.{◌≡◌, ◌&&◌, IfOk, bytes_eq, map};
 ghost use Rattle.std.specs.List.{list_all, zip};
 ghost use Rattle.std.specs.Char.{is_ascii_digit};
 ghost use Rattle.bz_token.specs.declared.class.Class.TheVariants as c;
-ghost use Rattle.bz_tree.specs.declared.kind.Kind.TheVariants as k;
+ghost use Rattle.bz_grammar.specs.declared.kind.Kind.TheVariants as k;
 ghost use Rattle.bz_rule.specs.Values.{has_kind, has_class, text_of, items_of};
 ghost use Rattle.bz_attribute.specs.Made.{token, string_text};
 ghost use Rattle.bz_change.specs.Changes.{is_constant, is_decimal, single_setting, setting, value_of, are_texts, is_set};
@@ -11,7 +11,7 @@ ghost use Rattle.bz_change.specs.Changes.{is_constant, is_decimal, single_settin
 use bz_attribute::{Slot, list_of, string_text, token};
 use bz_items::{Items, Memory, Text};
 use bz_label::bytes::is_list_attribute;
-use bz_tree::{Class, Kind};
+use bz_grammar::{Class, Kind};
 use bz_value::Expr;
 use std::alloc::Global;
 

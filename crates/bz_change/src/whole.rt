@@ -2,7 +2,7 @@
 ghost use Rattle.std.specs.Prelude.{◌≡◌, ◌⊎◌, Ok, Err, OnOk, IfErr, false, not};
 ghost use Rattle.std.specs.List.{filter};
 ghost use Rattle.std.specs.Option.{option_copied, option_map_or};
-ghost use Rattle.bz_tree.specs.declared.kind.Kind.TheVariants as kinds;
+ghost use Rattle.bz_grammar.specs.declared.kind.Kind.TheVariants as kinds;
 ghost use Rattle.bz_rule.specs.Rules.{attribute};
 ghost use Rattle.bz_rule.specs.Values.{on_first, on_row, with_text};
 ghost use Rattle.bz_attribute.specs.Attributes.{is_attribute, is_other_attribute, on_first_that};
@@ -14,9 +14,9 @@ use bz_attribute::{
 };
 use bz_items::{Items, Memory, Text};
 use bz_rule::attribute;
-use bz_tree::Kind;
+use bz_grammar::Kind;
 use bz_value::{Expr, Refusal};
-use bz_words::Attributes;
+use bz_command_syntax::Attributes;
 use std::alloc::Global;
 use std::mem;
 

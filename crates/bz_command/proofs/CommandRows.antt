@@ -3,25 +3,25 @@ use Rattle.std.proofs.Common.{◌≡◌, ℕ, Bool, true, false, List, [], ◌�
 use Rattle.std.specs.Prelude.{if◌then◌else◌}
 use Rattle.std.specs.Option.{ok_or, option_map_or}
 use Rattle.bz_items.specs.Characters.{Bytes}
-use Rattle.bz_words.specs.Words.{is_nonempty}
-use Rattle.bz_words.specs.Identifiers.{is_identifier, is_rule_kind}
-use Rattle.bz_words.specs.Commands as c
-use Rattle.bz_words.specs.Commands.{ReadCommand}
-use Rattle.bz_words.specs.declared.command.Attributes.{Attributes}
-use Rattle.bz_words.specs.declared.command.Entry.{Entry}
-use Rattle.bz_words.specs.declared.command.Host.{Host}
-use Rattle.bz_words.specs.declared.command.RulePlace.{RulePlace}
-use Rattle.bz_words.specs.declared.command.Symbol.{Symbol}
-use Rattle.bz_words.specs.declared.command.Values.{Values}
-use Rattle.bz_words.specs.declared.command.Operation.{Operation}
-use Rattle.bz_words.specs.declared.command.Operation.TheVariants as w
-use Rattle.bz_words.specs.declared.command.RuleOperation.TheVariants as wr
-use Rattle.bz_words.specs.declared.command.AttributeOperation.TheVariants as wa
-use Rattle.bz_words.specs.declared.command.ValueOperation.TheVariants as wv
-use Rattle.bz_words.specs.declared.command.DictOperation.TheVariants as wd
-use Rattle.bz_words.specs.declared.command.LoadOperation.TheVariants as wl
-use Rattle.bz_words.specs.declared.command.CommentOperation.TheVariants as wc
-use Rattle.bz_words.specs.declared.fault.CommandFault.TheVariants.{Arguments}
+use Rattle.bz_command_syntax.specs.Words.{is_nonempty}
+use Rattle.bz_command_syntax.specs.Identifiers.{is_identifier, is_rule_kind}
+use Rattle.bz_command_syntax.specs.Commands as c
+use Rattle.bz_command_syntax.specs.Commands.{ReadCommand}
+use Rattle.bz_command_syntax.specs.declared.command.Attributes.{Attributes}
+use Rattle.bz_command_syntax.specs.declared.command.Entry.{Entry}
+use Rattle.bz_command_syntax.specs.declared.command.Host.{Host}
+use Rattle.bz_command_syntax.specs.declared.command.RulePlace.{RulePlace}
+use Rattle.bz_command_syntax.specs.declared.command.Symbol.{Symbol}
+use Rattle.bz_command_syntax.specs.declared.command.Values.{Values}
+use Rattle.bz_command_syntax.specs.declared.command.Operation.{Operation}
+use Rattle.bz_command_syntax.specs.declared.command.Operation.TheVariants as w
+use Rattle.bz_command_syntax.specs.declared.command.RuleOperation.TheVariants as wr
+use Rattle.bz_command_syntax.specs.declared.command.AttributeOperation.TheVariants as wa
+use Rattle.bz_command_syntax.specs.declared.command.ValueOperation.TheVariants as wv
+use Rattle.bz_command_syntax.specs.declared.command.DictOperation.TheVariants as wd
+use Rattle.bz_command_syntax.specs.declared.command.LoadOperation.TheVariants as wl
+use Rattle.bz_command_syntax.specs.declared.command.CommentOperation.TheVariants as wc
+use Rattle.bz_command_syntax.specs.declared.fault.CommandFault.TheVariants.{Arguments}
 use Rattle.bz_command.specs.Table.{CommandRow, command_rows, IsAsListed, ReadsAsListed, CommandsAreListed}
 
 -- ---- a command, where its words have the form that it takes

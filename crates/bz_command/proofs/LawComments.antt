@@ -3,8 +3,8 @@ use Rattle.std.proofs.Common.{◌≡◌, ◌≤◌, ℕ, Bool, true, false, not,
 use Rattle.std.specs.Prelude.{if◌then◌else◌, is_some, IfOk, option_map, bytes_eq}
 use Rattle.std.specs.List.{list_any}
 use Rattle.std.specs.Option.{option_and_then, option_map_or}
-use Rattle.bz_tree.specs.declared.kind.Kind.TheVariants as k
-use Rattle.bz_tree.specs.Shapes.{is_kind}
+use Rattle.bz_grammar.specs.declared.kind.Kind.TheVariants as k
+use Rattle.bz_grammar.specs.Shapes.{is_kind}
 use Rattle.bz_label.specs.declared.target.Target.{Target}
 use Rattle.bz_value.specs.declared.value.Form.{Form}
 use Rattle.bz_value.specs.declared.value.Expr.{Expr, Token, Form', items-the_row-Expr}
@@ -13,19 +13,19 @@ use Rattle.bz_value.specs.declared.value.Item.TheVariants as i
 use Rattle.bz_value.specs.Counted.{total, amount, item_amount, one_if}
 use Rattle.bz_value.proofs.Totals.{form_amount}
 use Rattle.bz_items.specs.Characters.{Bytes}
-use Rattle.bz_words.specs.Patterns.{substituted}
-use Rattle.bz_words.specs.declared.command.Operation.{Operation}
-use Rattle.bz_words.specs.declared.command.Operation.TheVariants as w
-use Rattle.bz_words.specs.declared.command.RuleOperation.TheVariants as wr
-use Rattle.bz_words.specs.declared.command.AttributeOperation.TheVariants as wa
-use Rattle.bz_words.specs.declared.command.ValueOperation.TheVariants as wv
-use Rattle.bz_words.specs.declared.command.DictOperation.TheVariants as wd
-use Rattle.bz_words.specs.declared.command.LoadOperation.TheVariants as wl
-use Rattle.bz_words.specs.declared.command.CommentOperation.TheVariants as wc
-use Rattle.bz_words.specs.declared.command.RulePlace.{RulePlace}
-use Rattle.bz_words.specs.declared.command.RulePlace.TheVariants.{End, Before, After}
-use Rattle.bz_words.specs.declared.command.Attributes.{Attributes}
-use Rattle.bz_words.specs.declared.command.Attributes.TheVariants as t
+use Rattle.bz_command_syntax.specs.Patterns.{substituted}
+use Rattle.bz_command_syntax.specs.declared.command.Operation.{Operation}
+use Rattle.bz_command_syntax.specs.declared.command.Operation.TheVariants as w
+use Rattle.bz_command_syntax.specs.declared.command.RuleOperation.TheVariants as wr
+use Rattle.bz_command_syntax.specs.declared.command.AttributeOperation.TheVariants as wa
+use Rattle.bz_command_syntax.specs.declared.command.ValueOperation.TheVariants as wv
+use Rattle.bz_command_syntax.specs.declared.command.DictOperation.TheVariants as wd
+use Rattle.bz_command_syntax.specs.declared.command.LoadOperation.TheVariants as wl
+use Rattle.bz_command_syntax.specs.declared.command.CommentOperation.TheVariants as wc
+use Rattle.bz_command_syntax.specs.declared.command.RulePlace.{RulePlace}
+use Rattle.bz_command_syntax.specs.declared.command.RulePlace.TheVariants.{End, Before, After}
+use Rattle.bz_command_syntax.specs.declared.command.Attributes.{Attributes}
+use Rattle.bz_command_syntax.specs.declared.command.Attributes.TheVariants as t
 use Rattle.bz_rule.specs.Rules.{Call, Rule as RuleRead, only, form_in, called, named, dotted_name, rule_of, attribute, has_name}
 use Rattle.bz_rule.specs.Values.{has_kind, parts_of, with_parts, with_items, with_text, on_row, on_first, first_text}
 use Rattle.bz_rule.proofs.ProperChanges.{by_test, by_case}
@@ -36,9 +36,9 @@ use Rattle.bz_attribute.specs.Attributes.{Arguments}
 use Rattle.bz_change.specs.Changes.{value_of, setting, is_set, set, set_if_absent, rename, copy, copy_no_overwrite}
 use Rattle.bz_list.specs.Changes.{with_items_added, add, in_value, in_attributes, replaced_item, replace, with_body, substituted_item, substitute}
 use Rattle.bz_command.specs.Effect.{NewItem, with_arguments, made_of, on_rule, on_arguments, with_item_first, on_meant, before_first, after_rule, placed, has_rule_place, with_rule, source, on_rules, lacks_rules, kept, on_statement, effect}
-use Rattle.bz_words.specs.declared.command.Host.{Host}
-use Rattle.bz_words.specs.declared.command.Host.TheVariants.{Rule, Attribute, Item as ItemHost}
-use Rattle.bz_words.specs.Printing.{prints}
+use Rattle.bz_command_syntax.specs.declared.command.Host.{Host}
+use Rattle.bz_command_syntax.specs.declared.command.Host.TheVariants.{Rule, Attribute, Item as ItemHost}
+use Rattle.bz_command_syntax.specs.Printing.{prints}
 use Rattle.bz_dict.specs.Dicts.{dict_add}
 use Rattle.bz_dict.proofs.GrownDicts.{dict_add_grows}
 use Rattle.bz_load.proofs.LawComments.{new_load_same}

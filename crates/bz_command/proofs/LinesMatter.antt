@@ -8,14 +8,14 @@ use Rattle.bz_label.specs.declared.target.Which.{Which}
 use Rattle.bz_label.specs.declared.target.Which.TheVariants.{Line}
 use Rattle.bz_items.specs.Characters.{Bytes, line_feed}
 use Rattle.bz_value.specs.declared.value.Item.{Item}
-use Rattle.bz_words.specs.declared.command.Operation.{Operation}
-use Rattle.bz_words.specs.declared.command.Operation.TheVariants as w
-use Rattle.bz_words.specs.declared.command.CommentOperation.TheVariants as wc
-use Rattle.bz_words.specs.declared.command.Field.{Field}
-use Rattle.bz_words.specs.declared.command.Field.TheVariants as f
-use Rattle.bz_words.specs.Printing.{prints}
+use Rattle.bz_command_syntax.specs.declared.command.Operation.{Operation}
+use Rattle.bz_command_syntax.specs.declared.command.Operation.TheVariants as w
+use Rattle.bz_command_syntax.specs.declared.command.CommentOperation.TheVariants as wc
+use Rattle.bz_command_syntax.specs.declared.command.Field.{Field}
+use Rattle.bz_command_syntax.specs.declared.command.Field.TheVariants as f
+use Rattle.bz_command_syntax.specs.Printing.{prints}
 use Rattle.bz_rule.specs.Rules.{Rule, rule_of}
-use Rattle.bz_print.specs.Prints.{printed_field, printed_fields, printed_rule, spaced}
+use Rattle.bz_fields.specs.Prints.{printed_field, printed_fields, printed_rule, spaced}
 use Rattle.bz_value.specs.declared.refusal.Refusal.{Refusal}
 use Rattle.bz_value.specs.declared.refusal.Refusal.TheVariants.{NoTarget}
 use Rattle.bz_command.specs.Effect.{kept, lacks_rules, on_rules}

@@ -5,7 +5,7 @@ use Rattle.std.specs.List.{list_any}
 use Rattle.std.specs.Option.{option_map_or}
 use Rattle.std.proofs.lemmas.Bool.{cases_Bool}
 use Rattle.std.proofs.Math.Nat.{mul-le-mul_right}
-use Rattle.bz_tree.specs.Spell.{limit}
+use Rattle.bz_grammar.specs.Spell.{limit}
 use Rattle.bz_label.specs.declared.target.Target.{Target}
 use Rattle.bz_value.specs.declared.value.Expr.{Expr}
 use Rattle.bz_value.specs.declared.value.Item.{Item}
@@ -13,12 +13,12 @@ use Rattle.bz_value.specs.declared.value.Item.TheVariants as i
 use Rattle.bz_value.specs.Counted.{total, item_amount, one_if, times}
 use Rattle.bz_value.specs.Proper.{IsProper}
 use Rattle.bz_items.specs.Characters.{Bytes}
-use Rattle.bz_words.specs.declared.command.Operation.{Operation}
-use Rattle.bz_words.specs.declared.command.Operation.TheVariants as w
-use Rattle.bz_words.specs.declared.command.CommentOperation.TheVariants as wc
-use Rattle.bz_words.specs.declared.command.Host.{Host}
-use Rattle.bz_words.specs.declared.command.Host.TheVariants.{Rule, Attribute, Item as ItemHost}
-use Rattle.bz_words.specs.Proper.{IsProperCommand}
+use Rattle.bz_command_syntax.specs.declared.command.Operation.{Operation}
+use Rattle.bz_command_syntax.specs.declared.command.Operation.TheVariants as w
+use Rattle.bz_command_syntax.specs.declared.command.CommentOperation.TheVariants as wc
+use Rattle.bz_command_syntax.specs.declared.command.Host.{Host}
+use Rattle.bz_command_syntax.specs.declared.command.Host.TheVariants.{Rule, Attribute, Item as ItemHost}
+use Rattle.bz_command_syntax.specs.Proper.{IsProperCommand}
 use Rattle.bz_rule.specs.Rules.{Rule as RuleRead, rule_of}
 use Rattle.bz_value.specs.declared.refusal.Refusal.{Refusal}
 use Rattle.bz_value.specs.declared.refusal.Refusal.TheVariants.{Memory}

@@ -13,17 +13,17 @@ use Rattle.bz_value.specs.declared.value.Item.{Item}
 use Rattle.bz_value.specs.declared.value.Item.TheVariants as i
 use Rattle.bz_items.specs.Characters.{Bytes}
 use Rattle.bz_value.specs.Proper.{IsProperItem}
-use Rattle.bz_words.specs.Proper.{IsKind, IsProperCommand}
-use Rattle.bz_words.specs.declared.command.Operation.{Operation}
-use Rattle.bz_words.specs.declared.command.Operation.TheVariants as w
-use Rattle.bz_words.specs.declared.command.RuleOperation.TheVariants as wr
-use Rattle.bz_words.specs.declared.command.AttributeOperation.TheVariants as wa
-use Rattle.bz_words.specs.declared.command.ValueOperation.TheVariants as wv
-use Rattle.bz_words.specs.declared.command.DictOperation.TheVariants as wd
-use Rattle.bz_words.specs.declared.command.LoadOperation.TheVariants as wl
-use Rattle.bz_words.specs.declared.command.CommentOperation.TheVariants as wc
-use Rattle.bz_words.specs.declared.command.RulePlace.{RulePlace}
-use Rattle.bz_words.specs.declared.command.RulePlace.TheVariants.{End, Before, After}
+use Rattle.bz_command_syntax.specs.Proper.{IsKind, IsProperCommand}
+use Rattle.bz_command_syntax.specs.declared.command.Operation.{Operation}
+use Rattle.bz_command_syntax.specs.declared.command.Operation.TheVariants as w
+use Rattle.bz_command_syntax.specs.declared.command.RuleOperation.TheVariants as wr
+use Rattle.bz_command_syntax.specs.declared.command.AttributeOperation.TheVariants as wa
+use Rattle.bz_command_syntax.specs.declared.command.ValueOperation.TheVariants as wv
+use Rattle.bz_command_syntax.specs.declared.command.DictOperation.TheVariants as wd
+use Rattle.bz_command_syntax.specs.declared.command.LoadOperation.TheVariants as wl
+use Rattle.bz_command_syntax.specs.declared.command.CommentOperation.TheVariants as wc
+use Rattle.bz_command_syntax.specs.declared.command.RulePlace.{RulePlace}
+use Rattle.bz_command_syntax.specs.declared.command.RulePlace.TheVariants.{End, Before, After}
 use Rattle.bz_rule.specs.Rules.{Rule, rule_of, name_of, is_text, is_rule_of_kind, has_name}
 use Rattle.bz_rule.specs.Values.{with_parts, with_items}
 use Rattle.bz_rule.proofs.ProperChanges.{by_test}
@@ -35,8 +35,8 @@ use Rattle.bz_command.specs.Targets.{is_rule, on_line, first_mark, meant, may_me
 use Rattle.bz_attribute.specs.Attributes.{Arguments}
 use Rattle.bz_change.specs.Changes.{set, set_if_absent, remove, rename, copy, copy_no_overwrite}
 use Rattle.bz_list.specs.Changes.{add, remove_values, replace, substitute, move}
-use Rattle.bz_words.specs.declared.command.Host.TheVariants as r
-use Rattle.bz_words.specs.Printing.{prints}
+use Rattle.bz_command_syntax.specs.declared.command.Host.TheVariants as r
+use Rattle.bz_command_syntax.specs.Printing.{prints}
 use Rattle.bz_dict.specs.Dicts.{dict_add, dict_set, dict_remove}
 use Rattle.bz_dict.proofs.ProperDicts.{dict_add_keeps, dict_set_keeps, dict_remove_keeps}
 use Rattle.bz_load.proofs.ProperLoads.{new_load_keeps, fix_keeps}
@@ -48,7 +48,7 @@ use Rattle.bz_value.specs.declared.refusal.Refusal.{Refusal}
 use Rattle.bz_value.specs.declared.refusal.Refusal.TheVariants.{NoTarget, NameTaken}
 use Rattle.bz_command.specs.Laws.{EffectsStayProper}
 use Rattle.bz_attribute.proofs.ProperAttributes.{Made, Keeps}
-use Rattle.bz_words.proofs.TextMatches.{substituted_utf8}
+use Rattle.bz_command_syntax.proofs.TextMatches.{substituted_utf8}
 use Rattle.bz_change.proofs.ProperCommands.{set_keeps, set_if_absent_keeps, remove_keeps, rename_keeps, copy_keeps, copy_no_overwrite_keeps}
 use Rattle.bz_list.proofs.ProperCommands.{add_keeps, remove_values_keeps, replace_keeps, substitute_keeps, move_keeps}
 use Rattle.bz_attribute.proofs.ProperMade.{made_rule, kind_function}

@@ -1,21 +1,21 @@
 -- What a command makes of a file value.
 use Rattle.std.specs.Prelude.{ℕ, Bool, true, false, not, ◌&&◌, List, [], ◌∷◌, ◌++◌, Option, Some, None, Result, Ok, Err, if◌then◌else◌}
 use Rattle.std.specs.List.{list_any}
-use Rattle.bz_tree.specs.declared.kind.Kind.TheVariants as k
+use Rattle.bz_grammar.specs.declared.kind.Kind.TheVariants as k
 use Rattle.bz_label.specs.declared.target.Target.{Target}
 use Rattle.bz_value.specs.declared.value.Expr.{Expr}
 use Rattle.bz_value.specs.declared.value.Item.{Item}
 use Rattle.bz_value.specs.declared.value.Item.TheVariants as i
 use Rattle.bz_items.specs.Characters.{Bytes}
-use Rattle.bz_words.specs.declared.command.Operation.{Operation}
-use Rattle.bz_words.specs.declared.command.Operation.TheVariants as w
-use Rattle.bz_words.specs.declared.command.RuleOperation.TheVariants as wr
-use Rattle.bz_words.specs.declared.command.AttributeOperation.TheVariants as wa
-use Rattle.bz_words.specs.declared.command.LoadOperation.TheVariants as wl
-use Rattle.bz_words.specs.declared.command.CommentOperation.TheVariants as wc
-use Rattle.bz_words.specs.declared.command.LoadOperation.{LoadOperation}
-use Rattle.bz_words.specs.declared.command.RulePlace.{RulePlace}
-use Rattle.bz_words.specs.declared.command.RulePlace.TheVariants.{End, Before, After}
+use Rattle.bz_command_syntax.specs.declared.command.Operation.{Operation}
+use Rattle.bz_command_syntax.specs.declared.command.Operation.TheVariants as w
+use Rattle.bz_command_syntax.specs.declared.command.RuleOperation.TheVariants as wr
+use Rattle.bz_command_syntax.specs.declared.command.AttributeOperation.TheVariants as wa
+use Rattle.bz_command_syntax.specs.declared.command.LoadOperation.TheVariants as wl
+use Rattle.bz_command_syntax.specs.declared.command.CommentOperation.TheVariants as wc
+use Rattle.bz_command_syntax.specs.declared.command.LoadOperation.{LoadOperation}
+use Rattle.bz_command_syntax.specs.declared.command.RulePlace.{RulePlace}
+use Rattle.bz_command_syntax.specs.declared.command.RulePlace.TheVariants.{End, Before, After}
 use Rattle.bz_rule.specs.Rules.{Rule as RuleRead, rule_of, attribute, has_name}
 use Rattle.bz_rule.specs.Values.{with_items, with_parts, on_row, on_first}
 use Rattle.bz_value.specs.declared.refusal.Refusal.{Refusal}
@@ -29,10 +29,10 @@ use Rattle.bz_dict.specs.Dicts.{dicts_changed}
 use Rattle.bz_load.specs.Fixes.{fix}
 use Rattle.bz_load.specs.NewLoad.{new_load}
 use Rattle.bz_comment.specs.Hosts.{with_comment, without_comments, comment, remove_comment}
-use Rattle.bz_words.specs.Printing.{prints}
+use Rattle.bz_command_syntax.specs.Printing.{prints}
 use Rattle.bz_command.specs.Printing.{printed_rules}
-use Rattle.bz_words.specs.declared.command.Host.{Host}
-use Rattle.bz_words.specs.declared.command.Host.TheVariants.{Rule}
+use Rattle.bz_command_syntax.specs.declared.command.Host.{Host}
+use Rattle.bz_command_syntax.specs.declared.command.Host.TheVariants.{Rule}
 
 -- ---- the meant rules, one after the other
 

@@ -5,15 +5,15 @@ use Rattle.bz_value.specs.declared.value.Item.{Item}
 use Rattle.bz_items.specs.Characters.{Bytes}
 use Rattle.bz_value.specs.Counted.{times}
 use Rattle.bz_value.specs.Proper.{IsProper}
-use Rattle.bz_words.specs.declared.command.Operation.{Operation}
-use Rattle.bz_words.specs.declared.command.Operation.TheVariants as w
-use Rattle.bz_words.specs.declared.command.RuleOperation.TheVariants as wr
-use Rattle.bz_words.specs.declared.command.AttributeOperation.TheVariants as wa
-use Rattle.bz_words.specs.declared.command.ValueOperation.TheVariants as wv
-use Rattle.bz_words.specs.declared.command.DictOperation.TheVariants as wd
-use Rattle.bz_words.specs.declared.command.LoadOperation.TheVariants as wl
-use Rattle.bz_words.specs.declared.command.CommentOperation.TheVariants as wc
-use Rattle.bz_words.specs.Proper.{IsProperCommand}
+use Rattle.bz_command_syntax.specs.declared.command.Operation.{Operation}
+use Rattle.bz_command_syntax.specs.declared.command.Operation.TheVariants as w
+use Rattle.bz_command_syntax.specs.declared.command.RuleOperation.TheVariants as wr
+use Rattle.bz_command_syntax.specs.declared.command.AttributeOperation.TheVariants as wa
+use Rattle.bz_command_syntax.specs.declared.command.ValueOperation.TheVariants as wv
+use Rattle.bz_command_syntax.specs.declared.command.DictOperation.TheVariants as wd
+use Rattle.bz_command_syntax.specs.declared.command.LoadOperation.TheVariants as wl
+use Rattle.bz_command_syntax.specs.declared.command.CommentOperation.TheVariants as wc
+use Rattle.bz_command_syntax.specs.Proper.{IsProperCommand}
 use Rattle.bz_command.specs.Effect.{effect}
 
 -- What a command that was read makes of a proper file value is proper. The target, the current package and the lines may be

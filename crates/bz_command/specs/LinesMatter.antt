@@ -6,10 +6,10 @@ use Rattle.bz_label.specs.declared.target.Which.{Which}
 use Rattle.bz_label.specs.declared.target.Which.TheVariants.{Line}
 use Rattle.bz_value.specs.declared.value.Item.{Item}
 use Rattle.bz_items.specs.Characters.{Bytes}
-use Rattle.bz_words.specs.declared.command.Operation.{Operation}
-use Rattle.bz_words.specs.declared.command.Operation.TheVariants as w
-use Rattle.bz_words.specs.declared.command.Field.{Field}
-use Rattle.bz_words.specs.declared.command.Field.TheVariants as f
+use Rattle.bz_command_syntax.specs.declared.command.Operation.{Operation}
+use Rattle.bz_command_syntax.specs.declared.command.Operation.TheVariants as w
+use Rattle.bz_command_syntax.specs.declared.command.Field.{Field}
+use Rattle.bz_command_syntax.specs.declared.command.Field.TheVariants as f
 use Rattle.bz_command.specs.Effect.{effect, printed}
 
 abbrev pub is_by_line : Which → Bool

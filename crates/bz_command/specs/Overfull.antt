@@ -1,13 +1,13 @@
 -- Where what a command makes is past the limit of a text by the comments alone that it puts in: no pass drops or shortens them.
 use Rattle.std.specs.Prelude.{◌≡◌, ◌<◌, ◌*◌, ◌+◌, ℕ, Bool, true, ◌&&◌, List, ◌∷◌, Result, Ok, Err, IsOk, length, if◌then◌else◌}
 use Rattle.std.specs.List.{list_any}
-use Rattle.bz_tree.specs.Spell.{limit}
+use Rattle.bz_grammar.specs.Spell.{limit}
 use Rattle.bz_value.specs.declared.value.Item.{Item}
 use Rattle.bz_value.specs.Counted.{times}
 use Rattle.bz_value.specs.Proper.{IsProper}
 use Rattle.bz_items.specs.Characters.{Bytes}
 use Rattle.bz_value.specs.declared.refusal.Refusal.{Refusal}
-use Rattle.bz_words.specs.declared.command.Host.{Host}
+use Rattle.bz_command_syntax.specs.declared.command.Host.{Host}
 use Rattle.bz_comment.specs.Hosts.{comment, comment_made, with_comment}
 use Rattle.bz_label.specs.declared.target.Target.{Target}
 use Rattle.bz_command.specs.Effect.{NewItem, on_arguments, on_host_of_item, on_meant}

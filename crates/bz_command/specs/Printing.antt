@@ -5,14 +5,14 @@ use Rattle.bz_value.specs.declared.value.Item.{Item}
 use Rattle.bz_value.specs.declared.value.Item.TheVariants as i
 use Rattle.bz_items.specs.Characters.{Bytes}
 use Rattle.bz_value.specs.Proper.{comments_of}
-use Rattle.bz_words.specs.declared.command.Operation.{Operation}
-use Rattle.bz_words.specs.declared.command.Operation.TheVariants as w
-use Rattle.bz_words.specs.declared.command.CommentOperation.TheVariants as wc
-use Rattle.bz_words.specs.declared.command.Host.{Host}
+use Rattle.bz_command_syntax.specs.declared.command.Operation.{Operation}
+use Rattle.bz_command_syntax.specs.declared.command.Operation.TheVariants as w
+use Rattle.bz_command_syntax.specs.declared.command.CommentOperation.TheVariants as wc
+use Rattle.bz_command_syntax.specs.declared.command.Host.{Host}
 use Rattle.bz_rule.specs.Rules.{rule_of}
 use Rattle.bz_value.specs.declared.refusal.Refusal.{Refusal}
 use Rattle.bz_comment.specs.Hosts.{print_comment}
-use Rattle.bz_print.specs.Prints.{printed_item}
+use Rattle.bz_fields.specs.Prints.{printed_item}
 
 -- the comments of a host in a rule
 abbrev pub printed_comments_of : Bytes → Host → Item → Result Bytes Refusal

@@ -3,10 +3,10 @@
 use Rattle.std.specs.Prelude.{◌≡◌, ℕ, ◌==◌, Bool, true, false, List, [], ◌∷◌, Ok, Err, codes}
 use Rattle.std.specs.List.{list_any}
 use Rattle.bz_items.specs.Characters.{Bytes}
-use Rattle.bz_words.specs.Commands.{ReadCommand, commands}
-use Rattle.bz_words.specs.Printing.{prints}
-use Rattle.bz_words.specs.declared.command.Operation.{Operation}
-use Rattle.bz_words.specs.declared.command.Operation.TheVariants as w
+use Rattle.bz_command_syntax.specs.Commands.{ReadCommand, commands}
+use Rattle.bz_command_syntax.specs.Printing.{prints}
+use Rattle.bz_command_syntax.specs.declared.command.Operation.{Operation}
+use Rattle.bz_command_syntax.specs.declared.command.Operation.TheVariants as w
 use Rattle.bz_command.specs.Effect.{looks_at_rules}
 use Rattle.bz_command.specs.Laws.{keeps_comments}
 

@@ -1,15 +1,15 @@
 -- Worked rows: small file values, and what `delete` makes of them.
 use Rattle.std.specs.Prelude.{◌≡◌, List, [], ◌∷◌, Some, Result, Ok, Err, codes, option_map}
 use Rattle.bz_token.specs.declared.class.Class.TheVariants as c
-use Rattle.bz_tree.specs.declared.kind.Kind.TheVariants as k
+use Rattle.bz_grammar.specs.declared.kind.Kind.TheVariants as k
 use Rattle.bz_value.specs.declared.value.Expr.{Expr}
 use Rattle.bz_value.specs.declared.value.Item.{Item}
 use Rattle.bz_value.specs.declared.value.Item.TheVariants as i
 use Rattle.bz_items.specs.Characters.{Bytes}
 use Rattle.bz_label.specs.declared.target.Which.{Which}
 use Rattle.bz_label.specs.declared.target.Which.TheVariants.{All, Kind as OfKind, Line, Package, Name}
-use Rattle.bz_words.specs.declared.command.Operation.TheVariants as w
-use Rattle.bz_words.specs.declared.command.RuleOperation.TheVariants as wr
+use Rattle.bz_command_syntax.specs.declared.command.Operation.TheVariants as w
+use Rattle.bz_command_syntax.specs.declared.command.RuleOperation.TheVariants as wr
 use Rattle.bz_value.specs.declared.refusal.Refusal.TheVariants.{NoTarget}
 use Rattle.bz_rule.specs.Rules.{rule_of}
 use Rattle.bz_value.specs.declared.refusal.Refusal.{Refusal}

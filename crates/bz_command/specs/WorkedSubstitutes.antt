@@ -3,7 +3,7 @@
 use Rattle.std.specs.Prelude.{◌≡◌, List, [], ◌∷◌, codes}
 use Rattle.bz_label.specs.declared.target.Which.TheVariants.{Name}
 use Rattle.bz_value.specs.declared.value.Expr.{Expr}
-use Rattle.bz_words.specs.Patterns.{substituted}
+use Rattle.bz_command_syntax.specs.Patterns.{substituted}
 use Rattle.bz_value.specs.declared.refusal.Refusal.TheVariants.{NoTarget}
 use Rattle.bz_command.specs.SmallValues.{argument_expr, call, done, leaves, list, literal, made, name, refuses, rule, string_expr, strings}
 

@@ -1,7 +1,7 @@
 //! Whether what a command makes is past the limit of a text by the comments alone that it puts in, known before it is made.
 ghost use Rattle.std.specs.Prelude.{◌≡◌, ◌⊎◌, ◌<◌, ◌*◌, Err, IfErr, IfOk, IsOk, IsTrue, None, length, true};
 ghost use Rattle.std.specs.List.{list_any};
-ghost use Rattle.bz_tree.specs.Spell.{limit};
+ghost use Rattle.bz_grammar.specs.Spell.{limit};
 ghost use Rattle.bz_items.specs.Characters.{Bytes};
 ghost use Rattle.bz_comment.specs.Hosts.{comment_made};
 ghost use Rattle.bz_command.specs.Effect.{effect, on_meant};
@@ -15,9 +15,9 @@ use crate::targets::{is_rule, meant};
 use bz_comment::{comment_made, find_host};
 use bz_items::Memory;
 use bz_label::Target;
-use bz_tree::LENGTH_LIMIT;
+use bz_grammar::LENGTH_LIMIT;
 use bz_value::{File, Item, Refusal};
-use bz_words::{Command, CommentOperation, Host, Operation};
+use bz_command_syntax::{Command, CommentOperation, Host, Operation};
 use std::alloc::Global;
 
 /// Whether this many copies of a text of this length are past the limit.

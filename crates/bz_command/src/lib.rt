@@ -20,3 +20,5 @@ pub use lines::{lines_matter, looks_at_lines};
 pub use outcome::{Extent, Outcome, Ran, Spliced};
 pub use proper_laws::effects_stay_proper;
 pub use running::{run, run_in, run_named};
+pub use bz_command_syntax::{Command, CommandFault};
+pub use bz_value::Refusal;

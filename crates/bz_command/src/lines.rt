@@ -4,7 +4,7 @@ ghost use Rattle.std.specs.List.{list_any};
 ghost use Rattle.bz_command.specs.LinesMatter.{LinesMatter, is_by_line, looks_at_lines, prints_line, prints_lines};
 
 use bz_label::{Target, Which};
-use bz_words::{Command, Field, Operation};
+use bz_command_syntax::{Command, Field, Operation};
 
 /// Whether a target names a line.
 fn is_by_line(which: &Which) -> bool

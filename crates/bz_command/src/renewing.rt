@@ -5,7 +5,7 @@ ghost use Rattle.bz_value.specs.Exchanged.{AreExchanged, is_bare, is_bare_statem
 ghost use Rattle.bz_command.specs.Renewed.{IsOfExtent, are_bare};
 
 use crate::outcome::Extent;
-use bz_tree::Kind;
+use bz_grammar::Kind;
 use bz_value::{Expr, Item};
 
 /// Whether a statement is an expression alone.

@@ -21,7 +21,7 @@ use bz_items::{Items, Memory};
 use bz_load::{WithLoad, fix, new_load};
 use bz_rule::has_name;
 use bz_value::{Expr, Item, Refusal};
-use bz_words::{
+use bz_command_syntax::{
     AttributeOperation, Fixes, LoadOperation, Operation, RuleOperation, RulePlace, Symbol,
 };
 use std::alloc::Global;

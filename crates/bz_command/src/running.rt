@@ -2,7 +2,7 @@
 ghost use Rattle.std.specs.Prelude.{length, ◌≡◌, ◌⊎◌, ◌↔◌, [], true, false, None, Some, Ok, Err, IsOk, IfOk, IfErr, IfSome, IsTrue, OnOk, if◌then◌else◌};
 ghost use Rattle.std.specs.List.{list_any};
 ghost use Rattle.std.specs.Option.{unwrap_or};
-ghost use Rattle.bz_names.specs.Index.{IsIndexOf};
+ghost use Rattle.bz_rule.specs.Index.{IsIndexOf};
 ghost use Rattle.bz_command.specs.Targets.{may_mean_none, meant};
 ghost use Rattle.bz_command.specs.Effect.{effect, lacks_rules, looks_at_rules, printed};
 ghost use Rattle.bz_command.specs.private.Looks.{IsLook, IsMarked};
@@ -15,10 +15,10 @@ use crate::ruling::on_rules;
 use crate::targets::{may_mean_none, meant, meant_by};
 use bz_items::{Items, Text};
 use bz_label::{Target, Which};
-use bz_names::Names;
+use bz_rule::Names;
 use bz_rule::take_apart;
 use bz_value::{File, Item, Refusal};
-use bz_words::{Command, Operation, RuleOperation};
+use bz_command_syntax::{Command, Operation, RuleOperation};
 use std::alloc::Global;
 use std::mem;
 

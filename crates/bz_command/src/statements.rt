@@ -2,7 +2,7 @@
 ghost use Rattle.std.specs.Prelude.{◌≡◌, ◌⊎◌, [], ◌∷◌, Ok, Err, OnOk, IfErr};
 ghost use Rattle.std.specs.Option.{option_copied};
 ghost use Rattle.bz_rule.specs.Rules.{rule_of};
-ghost use Rattle.bz_tree.specs.declared.kind.Kind.TheVariants as k;
+ghost use Rattle.bz_grammar.specs.declared.kind.Kind.TheVariants as k;
 ghost use Rattle.bz_rule.specs.Values.{on_first, on_row};
 ghost use Rattle.bz_comment.specs.Changes.{changed_by};
 ghost use Rattle.bz_command.specs.private.CallParts.{with_list, with_list_in, before_in_call, before_in_row, before_in_statement, before_in};
@@ -18,9 +18,9 @@ use bz_dict::change_dicts;
 use bz_items::{Items, Memory};
 use bz_list::change_values;
 use bz_rule::{attribute, call_of, has_name};
-use bz_tree::Kind;
+use bz_grammar::Kind;
 use bz_value::{Expr, Item, Refusal};
-use bz_words::{CommentOperation, Host, Operation, RuleOperation};
+use bz_command_syntax::{CommentOperation, Host, Operation, RuleOperation};
 use std::alloc::Global;
 use std::mem;
 

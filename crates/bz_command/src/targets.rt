@@ -2,12 +2,12 @@
 ghost use Rattle.std.specs.Prelude.{◌≡◌, ◌∷◌, List, IfOk, IfSome, length, map};
 ghost use Rattle.bz_value.specs.declared.value.Item.{Item};
 ghost use Rattle.bz_rule.specs.Rules.{is_rule_of_kind, has_name};
-ghost use Rattle.bz_names.specs.Index.{IsIndexOf};
+ghost use Rattle.bz_rule.specs.Index.{IsIndexOf};
 ghost use Rattle.bz_command.specs.Targets.{is_rule, on_line, first_mark, meant, may_mean_none};
 
 use bz_items::Memory;
 use bz_label::Which;
-use bz_names::Names;
+use bz_rule::Names;
 use bz_rule::{call_of, has_name, is_named, is_rule_of_kind};
 use bz_value::Item;
 use std::alloc::Global;

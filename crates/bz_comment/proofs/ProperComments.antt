@@ -5,10 +5,10 @@ use Rattle.std.specs.List.{AllByRecursion, list_any}
 use Rattle.std.proofs.lemmas.Bool.{eqb-false, not-true, or_parts}
 use Rattle.std.proofs.lemmas.List.Elements.{All-append, All-cons, All-nil}
 use Rattle.std.proofs.lemmas.Str.{IsUtf8-append}
-use Rattle.bz_tree.specs.declared.kind.Kind.TheVariants as k
-use Rattle.bz_tree.specs.Shapes as s
-use Rattle.bz_tree.specs.Shapes.{Nonterminal}
-use Rattle.bz_tree.specs.Spots.{Spot}
+use Rattle.bz_grammar.specs.declared.kind.Kind.TheVariants as k
+use Rattle.bz_grammar.specs.Shapes as s
+use Rattle.bz_grammar.specs.Shapes.{Nonterminal}
+use Rattle.bz_grammar.specs.Spots.{Spot}
 use Rattle.bz_value.specs.declared.value.Expr.{Expr, Token, Form'}
 use Rattle.bz_value.specs.declared.value.Item.TheVariants as i
 use Rattle.bz_items.specs.Characters.{Bytes, line_feed, number_sign, space}
@@ -18,10 +18,10 @@ use Rattle.bz_value.specs.Gaps.{trimmed}
 use Rattle.bz_value.specs.Proper.{IsComment, AreComments, ProperExpr, comments_of, IsProperItem}
 use Rattle.bz_value.proofs.GapComments.{suffix_fine}
 use Rattle.bz_value.proofs.Lines.{NoneBefore, comment_stops}
-use Rattle.bz_words.specs.Commands.{is_one_line}
-use Rattle.bz_words.specs.Proper.{IsHost}
-use Rattle.bz_words.specs.declared.command.Host.{Host}
-use Rattle.bz_words.specs.declared.command.Host.TheVariants as h
+use Rattle.bz_command_syntax.specs.Commands.{is_one_line}
+use Rattle.bz_command_syntax.specs.Proper.{IsHost}
+use Rattle.bz_command_syntax.specs.declared.command.Host.{Host}
+use Rattle.bz_command_syntax.specs.declared.command.Host.TheVariants as h
 use Rattle.bz_rule.specs.Rules.{attribute}
 use Rattle.bz_rule.specs.Values.{has_kind, on_row, on_items}
 use Rattle.bz_rule.proofs.ProperArguments.{attribute_value}

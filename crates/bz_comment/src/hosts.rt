@@ -1,7 +1,7 @@
 //! The comments of hosts among the arguments of a rule, changed.
 ghost use Rattle.std.specs.Prelude.{◌≡◌, ◌⊎◌, Ok, Err, OnOk, IsOk, IfErr};
 ghost use Rattle.bz_items.specs.Characters.{Bytes};
-ghost use Rattle.bz_tree.specs.declared.kind.Kind.TheVariants as kinds;
+ghost use Rattle.bz_grammar.specs.declared.kind.Kind.TheVariants as kinds;
 ghost use Rattle.bz_rule.specs.Rules.{attribute as value_there};
 ghost use Rattle.bz_rule.specs.Values.{on_items};
 ghost use Rattle.bz_attribute.specs.Attributes.{is_attribute, on_first_that};
@@ -13,9 +13,9 @@ use crate::seeking::{Sought, first_sought, place_of_item, place_of_list};
 use bz_attribute::{has_attribute, has_lists, place_of, set_value, take_value};
 use bz_items::{Items, Memory};
 use bz_rule::attribute;
-use bz_tree::Kind;
+use bz_grammar::Kind;
 use bz_value::{Expr, Refusal};
-use bz_words::Host;
+use bz_command_syntax::Host;
 use std::alloc::Global;
 
 impl Change<'_> {

@@ -7,7 +7,7 @@ ghost use Rattle.bz_comment.specs.Changes.{is_sought as sought_item};
 ghost use Rattle.bz_comment.specs.Hosts.{has_item};
 
 use bz_attribute::{has_kind, is_item, items_of, operands_of};
-use bz_tree::Kind;
+use bz_grammar::Kind;
 use bz_value::Expr;
 
 /// A value that is sought among the items of an attribute, in the current package.

@@ -2,11 +2,11 @@
 use Rattle.std.proofs.Common.{ℕ, ◌≤◌, List, [], ◌∷◌, ◌++◌, Ok, Err}
 use Rattle.std.specs.Prelude.{if◌then◌else◌}
 use Rattle.std.specs.List.{list_any}
-use Rattle.bz_tree.specs.declared.kind.Kind.TheVariants as k
+use Rattle.bz_grammar.specs.declared.kind.Kind.TheVariants as k
 use Rattle.bz_value.specs.declared.value.Expr.{Expr}
 use Rattle.bz_value.specs.Counted.{total}
 use Rattle.bz_items.specs.Characters.{Bytes}
-use Rattle.bz_words.specs.declared.command.Entry.{Entry}
+use Rattle.bz_command_syntax.specs.declared.command.Entry.{Entry}
 use Rattle.bz_rule.specs.Rules.{attribute}
 use Rattle.bz_rule.specs.Values.{has_kind, on_items}
 use Rattle.bz_rule.proofs.ProperChanges.{by_test}

@@ -9,7 +9,7 @@ use Rattle.std.proofs.lemmas.Bool.{cases_Bool}
 use Rattle.std.proofs.lemmas.List.{drop_more, drop_all}
 use Rattle.bz_value.specs.declared.value.Expr.{Expr}
 use Rattle.bz_items.specs.Characters.{Bytes}
-use Rattle.bz_words.specs.declared.command.Entry.{Entry}
+use Rattle.bz_command_syntax.specs.declared.command.Entry.{Entry}
 use Rattle.bz_rule.specs.Rules.{is_text}
 use Rattle.bz_attribute.specs.Attributes.{on_first_that}
 use Rattle.bz_dict.specs.Dicts.{key_of, has_key, entry_made, with_entry_value}

@@ -6,12 +6,12 @@ use Rattle.std.specs.Option.{option_map_or}
 use Rattle.std.proofs.lemmas.Bool.{and_parts, and_from, or_cases, not-true, or_left, or_right}
 use Rattle.std.proofs.lemmas.List.Folds.{list_any-append}
 use Rattle.bz_token.specs.declared.class.Class.TheVariants as c
-use Rattle.bz_tree.specs.declared.kind.Kind.TheVariants as k
+use Rattle.bz_grammar.specs.declared.kind.Kind.TheVariants as k
 use Rattle.bz_value.specs.declared.value.Expr.{Expr, items_hidden-the_row-Expr-0}
 use Rattle.bz_items.specs.Characters.{Bytes}
-use Rattle.bz_words.specs.declared.command.Entry.{Entry}
-use Rattle.bz_words.specs.Quoted.{is_escaped, quoted_of}
-use Rattle.bz_words.specs.Words.{is_nonempty}
+use Rattle.bz_command_syntax.specs.declared.command.Entry.{Entry}
+use Rattle.bz_command_syntax.specs.Quoted.{is_escaped, quoted_of}
+use Rattle.bz_command_syntax.specs.Words.{is_nonempty}
 use Rattle.bz_rule.specs.Rules.{attribute, is_text}
 use Rattle.bz_rule.specs.Values.{has_kind, items_of, on_items}
 use Rattle.bz_rule.proofs.ProperChanges.{by_test, by_case}

@@ -4,12 +4,12 @@ use Rattle.std.specs.Prelude.{if◌then◌else◌}
 use Rattle.std.specs.List.{list_any}
 use Rattle.std.proofs.lemmas.List.Elements.{All-nil}
 use Rattle.bz_token.specs.declared.class.Class.TheVariants as c
-use Rattle.bz_tree.specs.declared.kind.Kind.{Kind}
-use Rattle.bz_tree.specs.declared.kind.Kind.TheVariants as k
-use Rattle.bz_tree.specs.Shapes as s
-use Rattle.bz_tree.specs.Shapes.{is_kind}
-use Rattle.bz_tree.specs.Legal.{IsNonterminal}
-use Rattle.bz_tree.specs.Spots.{Spot, Within}
+use Rattle.bz_grammar.specs.declared.kind.Kind.{Kind}
+use Rattle.bz_grammar.specs.declared.kind.Kind.TheVariants as k
+use Rattle.bz_grammar.specs.Shapes as s
+use Rattle.bz_grammar.specs.Shapes.{is_kind}
+use Rattle.bz_grammar.specs.Legal.{IsNonterminal}
+use Rattle.bz_grammar.specs.Spots.{Spot, Within}
 use Rattle.bz_value.specs.declared.value.Expr.{Expr, Token, Form', items-the_row-Expr}
 use Rattle.bz_value.specs.Comments.{no_comments}
 use Rattle.bz_items.specs.Characters.{Bytes}
@@ -17,9 +17,9 @@ use Rattle.bz_value.specs.Proper.{IsComment, AreComments, after_expr}
 use Rattle.bz_value.specs.Roots.{root}
 use Rattle.bz_value.specs.Roots as r
 use Rattle.bz_value.proofs.FormParts.{AreParts, form_proper}
-use Rattle.bz_words.specs.declared.command.Entry.{Entry}
-use Rattle.bz_words.specs.Proper.{IsAttribute, IsEntry, EachIs, AreSome}
-use Rattle.bz_words.specs.Quoted.{quoted_of}
+use Rattle.bz_command_syntax.specs.declared.command.Entry.{Entry}
+use Rattle.bz_command_syntax.specs.Proper.{IsAttribute, IsEntry, EachIs, AreSome}
+use Rattle.bz_command_syntax.specs.Quoted.{quoted_of}
 use Rattle.bz_value.specs.Empty.{is_empty}
 use Rattle.bz_rule.specs.Values.{has_kind, items_of, with_items, on_row, on_items, on_third}
 use Rattle.bz_value.proofs.LeadParts.{lead_before}

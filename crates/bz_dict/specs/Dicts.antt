@@ -2,14 +2,14 @@
 use Rattle.std.specs.Prelude.{Bool, not, List, [], ◌∷◌, ◌++◌, Option, None, Ok, Err, codes, if◌then◌else◌}
 use Rattle.std.specs.List.{list_any, filter}
 use Rattle.bz_token.specs.declared.class.Class.TheVariants as c
-use Rattle.bz_tree.specs.declared.kind.Kind.TheVariants as k
+use Rattle.bz_grammar.specs.declared.kind.Kind.TheVariants as k
 use Rattle.bz_value.specs.declared.value.Expr.{Expr}
 use Rattle.bz_items.specs.Characters.{Bytes}
 use Rattle.bz_value.specs.Empty.{is_empty}
-use Rattle.bz_words.specs.declared.command.DictOperation.{DictOperation}
-use Rattle.bz_words.specs.declared.command.DictOperation.TheVariants as wd
-use Rattle.bz_words.specs.declared.command.Entry.{Entry}
-use Rattle.bz_words.specs.Quoted.{quoted_of}
+use Rattle.bz_command_syntax.specs.declared.command.DictOperation.{DictOperation}
+use Rattle.bz_command_syntax.specs.declared.command.DictOperation.TheVariants as wd
+use Rattle.bz_command_syntax.specs.declared.command.Entry.{Entry}
+use Rattle.bz_command_syntax.specs.Quoted.{quoted_of}
 use Rattle.bz_rule.specs.Rules.{attribute, is_text}
 use Rattle.bz_rule.specs.Values.{has_kind, parts_of, items_of, on_row, on_items, on_third}
 use Rattle.bz_value.specs.declared.refusal.Refusal.TheVariants.{NotADict}

@@ -1,6 +1,6 @@
 //! Entries that are added to the dict of an attribute, and values that are set in it.
 ghost use Rattle.std.specs.Prelude.{◌≡◌, ◌⊎◌, ◌∷◌, ◌++◌, [], Ok, Err, IfOk, OnOk, IfErr, true, false};
-ghost use Rattle.bz_tree.specs.declared.kind.Kind.TheVariants as kinds;
+ghost use Rattle.bz_grammar.specs.declared.kind.Kind.TheVariants as kinds;
 ghost use Rattle.bz_rule.specs.Values.{has_kind as is_of, on_items};
 ghost use Rattle.bz_value.specs.declared.refusal.Refusal.TheVariants.{NotADict};
 ghost use Rattle.bz_dict.specs.Dicts as d;
@@ -10,9 +10,9 @@ use crate::entries::{Change, dict_of, entry_made};
 use crate::keys::{place_at, places_of, put_place};
 use bz_attribute::{Slot, add_attribute, has_kind, set_value, string_of, swap_value, take_value};
 use bz_items::{Items, Memory};
-use bz_tree::Kind;
+use bz_grammar::Kind;
 use bz_value::{Expr, Refusal};
-use bz_words::Entry;
+use bz_command_syntax::Entry;
 use std::collections::BTreeMap;
 
 /// A new entry goes last.

@@ -2,7 +2,7 @@
 ghost use Rattle.std.specs.Prelude.{◌≡◌, ◌⊎◌, Ok, Err, Some, true, not, OnOk, IfErr};
 ghost use Rattle.std.specs.List.{filter, list_any};
 ghost use Rattle.bz_value.specs.declared.value.Expr.{Expr as Value};
-ghost use Rattle.bz_tree.specs.declared.kind.Kind.TheVariants as kinds;
+ghost use Rattle.bz_grammar.specs.declared.kind.Kind.TheVariants as kinds;
 ghost use Rattle.bz_rule.specs.Rules.{attribute as value_there};
 ghost use Rattle.bz_rule.specs.Values.{has_kind as is_of, items_of as items, on_items};
 ghost use Rattle.bz_value.specs.Empty.{is_empty};
@@ -13,7 +13,7 @@ use crate::keys::{chosen_of, is_chosen};
 use bz_attribute::{has_kind, items_of, remove_first, set_value, take_value};
 use bz_items::{Items, Text};
 use bz_rule::attribute;
-use bz_tree::Kind;
+use bz_grammar::Kind;
 use bz_value::{Expr, Refusal};
 use std::alloc::Global;
 use std::collections::BTreeSet;

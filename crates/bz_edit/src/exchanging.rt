@@ -1,14 +1,14 @@
 //! Exchange by steps.
 ghost use Rattle.std.specs.Prelude.{◌≡◌, ◌≤◌, length, true, false, ◌↔◌, IsOk, OnOk, OnErr, Err};
-ghost use Rattle.bz_tree.specs.Legal.{Legal};
-ghost use Rattle.bz_tree.specs.Spell.{spell_node, limit};
+ghost use Rattle.bz_grammar.specs.Legal.{Legal};
+ghost use Rattle.bz_grammar.specs.Spell.{spell_node, limit};
 ghost use Rattle.bz_edit.specs.Steps.{swap_node, all_there, turned_all, AllApart, CountsFit, all_even as even_all};
 
 use crate::edit::{Edit, EditFault, copy_edits};
 use crate::place::{all_places, swap_each, swap_one};
 use crate::step::Step;
 use bz_items::Items;
-use bz_tree::{Node, Tree};
+use bz_grammar::{Node, Tree};
 
 /// Whether each edit holds as many parts as it covers.
 pub fn all_even(edits: &[Edit]) -> bool

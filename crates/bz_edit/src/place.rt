@@ -5,7 +5,7 @@ ghost use Rattle.bz_edit.specs.Steps.{swap_node, all_there, AllApart, all_even, 
 
 use crate::edit::Edit;
 use bz_items::{Items, Memory};
-use bz_tree::{Node, Part};
+use bz_grammar::{Node, Part};
 
 /// Whether a place is in the tree.
 pub fn has_place(node: &Node, path: &[u32], at: usize, count: usize) -> bool

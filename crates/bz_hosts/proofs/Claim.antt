@@ -3,20 +3,20 @@ use Rattle.std.proofs.Common.{◌≡◌, ℕ, suc, ◌+◌, ◌≤◌, false, �
 use Rattle.std.specs.List.{AllByRecursion, flat_map}
 use Rattle.std.proofs.lemmas.List.{take-map, drop-map}
 use Rattle.bz_lex.specs.declared.leaf.Leaf.{Leaf}
-use Rattle.bz_tree.specs.declared.kind.Kind.{Kind}
-use Rattle.bz_tree.specs.declared.tree.Part.{Part, Row_of-Part, end_of-Part, more_of-Part, Node', items-the_row-Part}
-use Rattle.bz_tree.specs.declared.tree.Part.TheVariants as p
-use Rattle.bz_tree.specs.Shapes as s
-use Rattle.bz_tree.specs.Shapes.{Fits, shape}
-use Rattle.bz_tree.specs.Spell.{leaves_row}
-use Rattle.bz_tree.specs.Legal.{IsNonterminal, LegalPart, LegalRow}
+use Rattle.bz_grammar.specs.declared.kind.Kind.{Kind}
+use Rattle.bz_grammar.specs.declared.tree.Part.{Part, Row_of-Part, end_of-Part, more_of-Part, Node', items-the_row-Part}
+use Rattle.bz_grammar.specs.declared.tree.Part.TheVariants as p
+use Rattle.bz_grammar.specs.Shapes as s
+use Rattle.bz_grammar.specs.Shapes.{Fits, shape}
+use Rattle.bz_grammar.specs.Spell.{leaves_row}
+use Rattle.bz_grammar.specs.Legal.{IsNonterminal, LegalPart, LegalRow}
 use Rattle.bz_value.specs.declared.value.Expr.{Expr}
 use Rattle.bz_value.specs.declared.value.Form.{Form}
 use Rattle.bz_value.specs.Comments.{no_comments}
 use Rattle.bz_value.specs.Frames.{Frame, row, sequence, frame, lead, is_binary, is_comprehension}
 use Rattle.bz_value.specs.Gaps.{all_in}
-use Rattle.bz_view.specs.View.{Seen, seen, seen_row, plain, first_seen_gap, loose_in, row_exprs, items_in, is_split, is_open, seen_node}
-use Rattle.bz_view.proofs.SeenParts.{seen_rows}
+use Rattle.bz_hosts.specs.View.{Seen, seen, seen_row, plain, first_seen_gap, loose_in, row_exprs, items_in, is_split, is_open, seen_node}
+use Rattle.bz_hosts.proofs.SeenParts.{seen_rows}
 use Rattle.bz_hosts.specs.Hosts.{Region, host, Comment, Measured, sizes, measured, in_node, Hosted, ended, by_frame, inside_expr}
 use Rattle.bz_hosts.proofs.Around.{SeesAt}
 use Rattle.bz_hosts.proofs.Parts.{measured_rows, leaves_rows, comments_after, after_parts, parts_after}

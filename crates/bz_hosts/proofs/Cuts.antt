@@ -3,15 +3,15 @@ use Rattle.std.proofs.Common.{◌≡◌, ℕ, suc, Bool, true, false, not, ◌&&
 use Rattle.std.proofs.lemmas.Bool.{and_parts, or_cases, not-true}
 use Rattle.bz_token.specs.declared.class.Class.{Class}
 use Rattle.bz_lex.specs.declared.leaf.Leaf.{Leaf}
-use Rattle.bz_tree.specs.declared.kind.Kind.{Kind}
-use Rattle.bz_tree.specs.declared.kind.Kind.TheVariants as k
-use Rattle.bz_tree.specs.declared.tree.Part.{Part, Node'}
-use Rattle.bz_tree.specs.declared.tree.Part.TheVariants as p
-use Rattle.bz_tree.specs.Shapes as s
-use Rattle.bz_tree.specs.Shapes.{Nonterminal, Terminal, Fits, Listed, shape, items, tok, done, has_token, is_one_of, is_terminal, leaves_at}
-use Rattle.bz_tree.specs.Legal.{IsNonterminal}
-use Rattle.bz_tree.proofs.Balance.{no_such, same_class}
-use Rattle.bz_tree.proofs.Terminals.{disjoint, disjoint-one_of}
+use Rattle.bz_grammar.specs.declared.kind.Kind.{Kind}
+use Rattle.bz_grammar.specs.declared.kind.Kind.TheVariants as k
+use Rattle.bz_grammar.specs.declared.tree.Part.{Part, Node'}
+use Rattle.bz_grammar.specs.declared.tree.Part.TheVariants as p
+use Rattle.bz_grammar.specs.Shapes as s
+use Rattle.bz_grammar.specs.Shapes.{Nonterminal, Terminal, Fits, Listed, shape, items, tok, done, has_token, is_one_of, is_terminal, leaves_at}
+use Rattle.bz_grammar.specs.Legal.{IsNonterminal}
+use Rattle.bz_grammar.proofs.Balance.{no_such, same_class}
+use Rattle.bz_grammar.proofs.Terminals.{disjoint, disjoint-one_of}
 use Rattle.bz_value.specs.Frames.{Frame, row, sequence, frame, lead}
 use Rattle.bz_hosts.specs.Hosts.{is_word_class, is_item_part}
 use Rattle.bz_hosts.proofs.Alternating.{IsMark, Alternating}

@@ -4,27 +4,27 @@ use Rattle.std.specs.List.{AllByRecursion, flat_map}
 use Rattle.std.proofs.lemmas.Grind.{flat_map-append}
 use Rattle.std.proofs.lemmas.Bool.{eqb-true}
 use Rattle.bz_lex.specs.declared.leaf.Leaf.{Leaf}
-use Rattle.bz_tree.specs.declared.kind.Kind.{Kind}
-use Rattle.bz_tree.specs.declared.kind.Kind.TheVariants as k
-use Rattle.bz_tree.specs.declared.tree.Part.{Part, Row_of-Part, Node', items-the_row-Part}
-use Rattle.bz_tree.specs.declared.tree.Part.TheVariants as p
-use Rattle.bz_tree.specs.Shapes as s
-use Rattle.bz_tree.specs.Shapes.{Fits, Several, shape, tok, done, nonterminal_has_kind}
-use Rattle.bz_tree.specs.Spell.{leaves_part, leaves_row, leaves_of}
-use Rattle.bz_tree.specs.Legal.{IsNonterminal, LegalPart, LegalRow}
-use Rattle.bz_tree.specs.Spots.{Begins, after_node, Stands, AtRow, AtParts}
-use Rattle.bz_tree.proofs.Balance.{no_such, parts_of_row}
-use Rattle.bz_tree.proofs.Numbers.{same_kind}
+use Rattle.bz_grammar.specs.declared.kind.Kind.{Kind}
+use Rattle.bz_grammar.specs.declared.kind.Kind.TheVariants as k
+use Rattle.bz_grammar.specs.declared.tree.Part.{Part, Row_of-Part, Node', items-the_row-Part}
+use Rattle.bz_grammar.specs.declared.tree.Part.TheVariants as p
+use Rattle.bz_grammar.specs.Shapes as s
+use Rattle.bz_grammar.specs.Shapes.{Fits, Several, shape, tok, done, nonterminal_has_kind}
+use Rattle.bz_grammar.specs.Spell.{leaves_part, leaves_row, leaves_of}
+use Rattle.bz_grammar.specs.Legal.{IsNonterminal, LegalPart, LegalRow}
+use Rattle.bz_grammar.specs.Spots.{Begins, after_node, Stands, AtRow, AtParts}
+use Rattle.bz_grammar.proofs.Balance.{no_such, parts_of_row}
+use Rattle.bz_grammar.proofs.Numbers.{same_kind}
 use Rattle.bz_value.specs.Comments.{HostComments}
 use Rattle.bz_value.specs.Frames.{frame}
 use Rattle.bz_items.specs.Characters.{Bytes}
 use Rattle.bz_value.specs.Gaps.{GapLine, lines_of, after_first_comment, groups_of, all_but_last, last_group}
-use Rattle.bz_view.specs.View as v
-use Rattle.bz_view.specs.View.{Seen, seen, seen_row, first_seen_gap, blocks, statement, statements_in, file_items, view_of}
-use Rattle.bz_view.proofs.SeenParts.{seen_rows, node_gap, comments_made}
-use Rattle.bz_view.proofs.QuietGaps.{Quiet, Statements, statements_quiet, row_legal}
+use Rattle.bz_hosts.specs.View as v
+use Rattle.bz_hosts.specs.View.{Seen, seen, seen_row, first_seen_gap, blocks, statement, statements_in, file_items, view_of}
+use Rattle.bz_hosts.proofs.SeenParts.{seen_rows, node_gap, comments_made}
+use Rattle.bz_hosts.proofs.QuietGaps.{Quiet, Statements, statements_quiet, row_legal}
 use Rattle.bz_hosts.specs.Hosts.{Region, Comment, comments_at, comments_from, Measured, sizes, measured, measured_row, hosts_from, in_line, regions_from, CommentPlace, outside, texts_at, Hosted, block, hosted_at, hosted_by, hosts_alone, with_group, hosted_in, inside_expr, inside_item}
-use Rattle.bz_hosts.specs.Laws.{HostsByPlace}
+use Rattle.bz_hosts.specs.HostLaws.{HostsByPlace}
 use Rattle.bz_hosts.proofs.Around.{AllInside, all_wider, Sees, SeesAt, sees_after, sees_before}
 use Rattle.bz_hosts.proofs.Gathered.{key, pick_other, GapPlaces, texts_joined, gap_all}
 use Rattle.bz_hosts.proofs.Parts.{size, measured_rows, leaves_rows, size_leaves, Solid, some_leaf, part_solid, comments_after, inner, in_parts, after_parts, parts_from, parts_after}

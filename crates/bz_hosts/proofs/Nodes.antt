@@ -3,18 +3,18 @@ use Rattle.std.proofs.Common.{◌≡◌, ℕ, suc, ◌+◌, ◌≤◌, List, [],
 use Rattle.std.specs.List.{AllByRecursion}
 use Rattle.std.proofs.lemmas.List.{take-map, drop-map}
 use Rattle.bz_lex.specs.declared.leaf.Leaf.{Leaf}
-use Rattle.bz_tree.specs.declared.kind.Kind.{Kind}
-use Rattle.bz_tree.specs.declared.tree.Part.{Part, Row_of-Part, end_of-Part, more_of-Part, Node', items-the_row-Part}
-use Rattle.bz_tree.specs.declared.tree.Part.TheVariants as p
-use Rattle.bz_tree.specs.Shapes as s
-use Rattle.bz_tree.specs.Shapes.{Fits, shape}
-use Rattle.bz_tree.specs.Legal.{IsNonterminal, LegalPart, LegalRow}
+use Rattle.bz_grammar.specs.declared.kind.Kind.{Kind}
+use Rattle.bz_grammar.specs.declared.tree.Part.{Part, Row_of-Part, end_of-Part, more_of-Part, Node', items-the_row-Part}
+use Rattle.bz_grammar.specs.declared.tree.Part.TheVariants as p
+use Rattle.bz_grammar.specs.Shapes as s
+use Rattle.bz_grammar.specs.Shapes.{Fits, shape}
+use Rattle.bz_grammar.specs.Legal.{IsNonterminal, LegalPart, LegalRow}
 use Rattle.bz_value.specs.Frames.{Frame, row, sequence, frame, lead}
 use Rattle.bz_items.specs.Characters.{Bytes}
 use Rattle.bz_value.specs.Gaps.{all_in}
 use Rattle.bz_value.proofs.GapComments.{all_joined}
-use Rattle.bz_view.specs.View.{Seen, seen, plain, loose_in, items_in}
-use Rattle.bz_view.proofs.SeenParts.{all_parted}
+use Rattle.bz_hosts.specs.View.{Seen, seen, plain, loose_in, items_in}
+use Rattle.bz_hosts.proofs.SeenParts.{all_parted}
 use Rattle.bz_hosts.specs.Hosts.{Region, host, between, Comment, comments_at, Measured, sizes, measured, in_row, in_node, hosts_from, CommentPlace, above, texts_at, Hosted, ended, hosted_at, inside_expr}
 use Rattle.bz_hosts.proofs.Around.{AllInside, all_wider, Sees, SeesAt, sees_after, sees_before_bracket, sees_in_sequence}
 use Rattle.bz_hosts.proofs.Gathered.{key, pick, pick_other, pick_none, GapPlaces, texts_joined, gap_all}

@@ -5,21 +5,21 @@ use Rattle.std.proofs.lemmas.Bool.{lt-ltb}
 use Rattle.std.proofs.lemmas.Bool.Decides.{nat_tests}
 use Rattle.std.proofs.lemmas.List.{map-append}
 use Rattle.bz_lex.specs.declared.leaf.Leaf.{Leaf}
-use Rattle.bz_tree.specs.declared.tree.Part.{Part, Node'}
-use Rattle.bz_tree.specs.declared.tree.Part.TheVariants as p
-use Rattle.bz_tree.specs.Shapes as s
-use Rattle.bz_tree.specs.Shapes.{Terminal}
+use Rattle.bz_grammar.specs.declared.tree.Part.{Part, Node'}
+use Rattle.bz_grammar.specs.declared.tree.Part.TheVariants as p
+use Rattle.bz_grammar.specs.Shapes as s
+use Rattle.bz_grammar.specs.Shapes.{Terminal}
 use Rattle.bz_value.specs.declared.value.Expr.{Expr}
 use Rattle.bz_value.specs.Comments.{HostComments}
 use Rattle.bz_items.specs.Characters.{Bytes}
 use Rattle.bz_value.specs.Gaps.{as_list, suffix_in, others_in, all_in}
 use Rattle.bz_value.specs.Proper.{comments_of}
-use Rattle.bz_view.specs.View.{seen, plain, items_in}
-use Rattle.bz_view.proofs.SeenParts.{comments_made}
+use Rattle.bz_hosts.specs.View.{seen, plain, items_in}
+use Rattle.bz_hosts.proofs.SeenParts.{comments_made}
 use Rattle.bz_hosts.specs.Hosts.{Region, host, between, beginning_in, place_at_end, Comment, comments_at, sizes, measured, is_item_part, hosts_from, CommentPlace, suffix_of, above, end_of, texts_at, Hosted, hosted, hosted_at, hosted_by, inside_expr}
 use Rattle.bz_hosts.proofs.Around.{AllInside, Sees, SeesAt, Ended, sees_after, sees_before, sees_in_host, sees_past_host, sees_ended}
 use Rattle.bz_hosts.proofs.Gathered.{key, pick, pick_same, pick_other, pick_joined, GapPlaces, texts_joined, gap_texts, gap_all}
-use Rattle.bz_hosts.proofs.Joined.{Lines, three_none, three_first, three_second, three_third, five_none, five_first, five_third, five_rest}
+use Rattle.bz_hosts.proofs.HostsJoined.{Lines, three_none, three_first, three_second, three_third, five_none, five_first, five_third, five_rest}
 use Rattle.bz_hosts.proofs.Parts.{size, inner, in_parts, after_parts}
 use Rattle.bz_hosts.proofs.Alternating.{IsMark, Alternating, Regions, hosts_closed, hosts_last, hosts_more, hosts_inside}
 use Rattle.bz_hosts.proofs.Insides.{inside_list, inside_made}

@@ -2,21 +2,21 @@
 use Rattle.std.proofs.Common.{◌≡◌, ℕ, suc, ◌+◌, ◌<◌, ◌≤◌, true, false, List, [], ◌∷◌, ◌++◌, Option, Some, None, refl, sym, ap, ◌∙◌, subst, map, append-nil, arith}
 use Rattle.std.specs.List.{AllByRecursion, flat_map}
 use Rattle.bz_lex.specs.declared.leaf.Leaf.{Leaf}
-use Rattle.bz_tree.specs.declared.tree.Part.{Part, Node'}
-use Rattle.bz_tree.specs.declared.tree.Part.TheVariants as p
-use Rattle.bz_tree.specs.Shapes as s
+use Rattle.bz_grammar.specs.declared.tree.Part.{Part, Node'}
+use Rattle.bz_grammar.specs.declared.tree.Part.TheVariants as p
+use Rattle.bz_grammar.specs.Shapes as s
 use Rattle.bz_value.specs.declared.value.Item.{Item}
 use Rattle.bz_items.specs.Characters.{Bytes}
 use Rattle.bz_value.specs.Gaps.{GapLine, lines_of, as_list, after_first_comment, comments_in, first_comment, suffix_in, others_in, all_in}
-use Rattle.bz_view.specs.View.{seen, plain, statement, statements_in}
-use Rattle.bz_view.proofs.QuietGaps.{Quiet}
+use Rattle.bz_hosts.specs.View.{seen, plain, statement, statements_in}
+use Rattle.bz_hosts.proofs.QuietGaps.{Quiet}
 use Rattle.bz_hosts.specs.Hosts.{Region, host, Comment, comments_at, sizes, measured, is_item_part, hosts_from, CommentPlace, suffix_of, above, outside, texts_at, hosted_at, inside_expr, inside_item}
 use Rattle.bz_hosts.proofs.Around.{AllInside, Sees, SeesAt, Ended, sees_after, sees_before, sees_in_host, sees_past_host, sees_ended}
 use Rattle.bz_hosts.proofs.Gathered.{key, pick, pick_same, pick_other, pick_none, GapPlaces, texts_joined, gap_texts}
 use Rattle.bz_hosts.proofs.Parts.{size, inner, in_parts, after_parts}
 use Rattle.bz_hosts.proofs.Alternating.{IsMark, Alternating, Regions, hosts_closed, hosts_last, hosts_more, hosts_inside}
 use Rattle.bz_hosts.proofs.Texts.{PartTexts, InHost}
-use Rattle.bz_hosts.proofs.Joined.{Lines, three_none, three_first, three_second, three_third}
+use Rattle.bz_hosts.proofs.HostsJoined.{Lines, three_none, three_first, three_second, three_third}
 use Rattle.bz_hosts.proofs.Sequences.{From, host_with}
 
 -- Comments of statements from the leaf n on: none has a place of other leaves; and where all comments have at these places no

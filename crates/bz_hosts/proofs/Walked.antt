@@ -3,9 +3,9 @@
 use Rattle.std.proofs.Common.{◌≡◌, ℕ, suc, ◌+◌, List, [], ◌∷◌, ◌++◌, length, refl, sym, ap, ◌∙◌, map, append_assoc, length-append, arith}
 use Rattle.std.specs.List.{AllByRecursion, flat_map}
 use Rattle.bz_lex.specs.declared.leaf.Leaf.{Leaf}
-use Rattle.bz_tree.specs.declared.tree.Part.{Part, Node'}
-use Rattle.bz_tree.specs.declared.tree.Part.TheVariants as p
-use Rattle.bz_tree.specs.Spell.{leaves_part}
+use Rattle.bz_grammar.specs.declared.tree.Part.{Part, Node'}
+use Rattle.bz_grammar.specs.declared.tree.Part.TheVariants as p
+use Rattle.bz_grammar.specs.Spell.{leaves_part}
 use Rattle.bz_items.specs.Characters.{Bytes}
 use Rattle.bz_value.specs.Gaps.{GapLine, lines_of, after_first_comment, groups_of, all_but_last, last_group}
 use Rattle.bz_hosts.specs.Hosts.{Region, Comment, in_line, Hosted, hosted_at, hosts_alone, with_group, lines_before, right_above, bare_lines, hosted_from}

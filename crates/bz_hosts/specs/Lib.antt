@@ -1,3 +1,9 @@
+pub mod HostLaws
+pub mod HostRows
 pub mod Hosts
+pub mod Joined
+pub mod Kept
 pub mod Laws
+pub mod View
+pub mod Walks
 pub mod Worked

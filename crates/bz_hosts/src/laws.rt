@@ -1,14 +1,31 @@
 //! Facts about the definitions, for readers and for the proofs of other crates: the functions do nothing.
 
-ghost use Rattle.bz_hosts.specs.Laws.{HostsByPlace};
-ghost use Rattle.bz_hosts.specs.Worked.{WorkedHosts};
+ghost use Rattle.bz_hosts.specs.Joined.{EmptyReads, ViewsJoin};
+ghost use Rattle.bz_hosts.specs.Kept.{CommentsKept};
+ghost use Rattle.bz_hosts.specs.Laws.{ViewsAreProper};
+ghost use Rattle.bz_hosts.specs.Worked.{WorkedViews};
 
-/// The view of a legal tree has each comment at the host that its place in the text gives it.
-pub fn hosts_by_place()
-    ensures { HostsByPlace }
+use bz_grammar::laws::lines_join;
+
+/// Each comment of a legal tree is in its file value as often as in the tree's gaps: none is lost or doubled.
+pub fn comments_kept()
+    ensures { CommentsKept }
 {}
 
-/// Worked rows: for each a text, its tree, and its comments with their hosts.
-pub fn worked_hosts()
-    ensures { WorkedHosts }
+/// What a legal tree is seen as is a proper file value.
+pub fn views_are_proper()
+    ensures { ViewsAreProper }
+{}
+
+/// The view of a text after one that ends with a line is its own, after that of the other one; and that of no text is nothing.
+pub fn views_join()
+    ensures joined { ViewsJoin }
+    ensures empty { EmptyReads }
+{
+    lines_join();
+}
+
+/// Worked rows of the view: for each a text, its tree, and the file value, or how often its comments occur in it.
+pub fn worked_views()
+    ensures { WorkedViews }
 {}

@@ -4,14 +4,14 @@ use Rattle.std.specs.Option.{unwrap_or}
 use Rattle.std.specs.Str.{bytes_eq}
 use Rattle.std.proofs.lemmas.Slice.Eq.{bytes_eq-Decides}
 use Rattle.bz_items.specs.Characters.{Bytes}
-use Rattle.bz_tree.specs.declared.tree.Node.{Node}
-use Rattle.bz_tree.specs.Legal.{Reads}
-use Rattle.bz_tree.specs.Spell.{spell_node}
-use Rattle.bz_tree.specs.Statements.{lines_of}
+use Rattle.bz_grammar.specs.declared.tree.Node.{Node}
+use Rattle.bz_grammar.specs.Legal.{Reads}
+use Rattle.bz_grammar.specs.Spell.{spell_node}
+use Rattle.bz_grammar.specs.Statements.{lines_of}
 use Rattle.bz_label.specs.declared.target.Target.{Target}
 use Rattle.bz_value.specs.declared.value.Item.{Item}
-use Rattle.bz_view.specs.View.{view_of}
-use Rattle.bz_words.specs.declared.command.Operation.{Operation}
+use Rattle.bz_hosts.specs.View.{view_of}
+use Rattle.bz_command_syntax.specs.declared.command.Operation.{Operation}
 use Rattle.bz_command.specs.Effect.{effect, printed}
 use Rattle.bz_value.specs.declared.refusal.Refusal.{Refusal}
 use Rattle.bz_value.specs.declared.refusal.Refusal.TheVariants.{Memory}

@@ -3,10 +3,10 @@ use Rattle.std.proofs.Common.{◌≡◌, ◌∙◌, ◌+◌, ◌<◌, ◌≤◌,
 use Rattle.std.specs.Prelude.{slice_index_or}
 use Rattle.std.proofs.lemmas.List.{length-map, map-append, take-map, take_all, take_more}
 use Rattle.sha2.specs.Sha256.{sha256}
-use Rattle.bz_tree.specs.declared.tree.Node.{Node}
-use Rattle.bz_trail.specs.Shown.{texts_of}
+use Rattle.bz_grammar.specs.declared.tree.Node.{Node}
+use Rattle.bz_history.specs.Shown.{texts_of}
 use Rattle.bz_edit.specs.declared.edit.Edit.{Edit}
-use Rattle.bz_trail.specs.Trails.{trail_at}
+use Rattle.bz_history.specs.Trails.{trail_at}
 use Rattle.bz_items.specs.Characters.{Bytes}
 use Rattle.bz_journal.specs.declared.action.Reply.TheVariants.{Changed}
 use Rattle.bz_journal.specs.Editing.{AreFirstDigests}

@@ -2,23 +2,23 @@
 use Rattle.std.proofs.Common.{◌≡◌, ◌≢◌, ◌⊎◌, ◌<◌, ◌∙◌, inl, inr, suc, Bool, List, [], ◌∷◌, length, Result, Ok, Err, Option, Some, None, is_ok, true, refl, sym, subst, ap}
 use Rattle.std.specs.Prelude.{IfSome, OnErr}
 use Rattle.std.proofs.lemmas.Bool.{false≢true}
-use Rattle.bz_tree.specs.declared.tree.Node.{Node}
-use Rattle.bz_tree.specs.Legal.{Reads}
-use Rattle.bz_tree.specs.Spell.{spell_node}
-use Rattle.bz_tree.specs.Statements.{lines_of}
+use Rattle.bz_grammar.specs.declared.tree.Node.{Node}
+use Rattle.bz_grammar.specs.Legal.{Reads}
+use Rattle.bz_grammar.specs.Spell.{spell_node}
+use Rattle.bz_grammar.specs.Statements.{lines_of}
 use Rattle.bz_label.specs.declared.target.Target.{Target}
 use Rattle.bz_value.specs.declared.value.Item.{Item}
 use Rattle.bz_value.specs.Exchanged.{AreExchanged}
 use Rattle.bz_items.specs.Characters.{Bytes}
 use Rattle.bz_value.specs.Proper.{IsProper}
-use Rattle.bz_view.specs.View.{view_of}
-use Rattle.bz_write.specs.Written.{layout}
-use Rattle.bz_tidy.specs.Passes.{tidied}
-use Rattle.bz_words.specs.declared.command.Operation.{Operation}
+use Rattle.bz_hosts.specs.View.{view_of}
+use Rattle.bz_layout.specs.Written.{layout}
+use Rattle.bz_passes.specs.Passes.{tidied}
+use Rattle.bz_command_syntax.specs.declared.command.Operation.{Operation}
 use Rattle.bz_command.specs.Effect.{effect, printed}
 use Rattle.bz_value.specs.declared.refusal.Refusal.{Refusal}
 use Rattle.bz_value.specs.declared.refusal.Refusal.TheVariants.{Memory}
-use Rattle.bz_redraw.specs.Relaid.{IsWritten}
+use Rattle.bz_relayout.specs.Relaid.{IsWritten}
 use Rattle.bz_journal.specs.Actions.{Do}
 use Rattle.bz_journal.specs.declared.action.Reply.{Reply}
 use Rattle.bz_journal.specs.Meaning.{gives, refuses, printed_answer, written, EffectMeans}

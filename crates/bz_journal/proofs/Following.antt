@@ -2,7 +2,7 @@
 use Rattle.std.proofs.Common.{◌≡◌, ◌≢◌, ◌∙◌, ◌+◌, ◌-◌, ◌<◌, arith, ℕ, Bool, true, false, [], ◌∷◌, ◌++◌, length, take, refl, sym, ap, subst, inl, inr, Option, Some, None, Ok, Err, nat_lt, if◌then◌else◌}
 use Rattle.std.specs.Prelude.{◌==◌, bytes_eq}
 use Rattle.std.proofs.lemmas.List.{get_or-take, get_or_append_left, length-take-le}
-use Rattle.bz_keep.specs.Resuming.{FollowsKept}
+use Rattle.bz_resume.specs.Resuming.{FollowsKept}
 use Rattle.bz_items.specs.Characters.{Bytes}
 use Rattle.bz_value.specs.declared.refusal.Refusal.{Refusal}
 use Rattle.bz_value.specs.declared.refusal.Refusal.TheVariants.{TooFar, Full, Memory, NoteTooLong}

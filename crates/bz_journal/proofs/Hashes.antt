@@ -1,10 +1,10 @@
 -- What is hashed of a tree.
 use Rattle.std.proofs.Common.{◌≡◌}
 use Rattle.std.specs.List.{flat_map}
-use Rattle.bz_tree.specs.declared.tree.Node.{Node}
-use Rattle.bz_tree.specs.declared.tree.Part as p
-use Rattle.bz_tree.specs.Spell.{spell_part}
-use Rattle.bz_tree.proofs.Spells as below
+use Rattle.bz_grammar.specs.declared.tree.Node.{Node}
+use Rattle.bz_grammar.specs.declared.tree.Part as p
+use Rattle.bz_grammar.specs.Spell.{spell_part}
+use Rattle.bz_grammar.proofs.Spells as below
 
 -- the spelling of a node that is a part is that of its parts
 pub node_spelled : (n : Node) → spell_part (p.Node n) ≡ flat_map spell_part n.parts

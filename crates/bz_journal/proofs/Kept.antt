@@ -1,13 +1,13 @@
 -- What the histories of sessions keep, and what a new text makes of a session.
 use Rattle.std.proofs.Common.{◌≡◌, ◌<◌, ◌+◌, ◌-◌, ℕ, zero, suc, List, [], ◌∷◌, ◌++◌, length, take, sym, ap, subst, ◌∙◌, arith, length-append, length-take-le}
 use Rattle.std.specs.List.{AllByRecursion}
-use Rattle.bz_tree.specs.declared.tree.Node.{Node}
-use Rattle.bz_tree.specs.Spell.{spell_node}
+use Rattle.bz_grammar.specs.declared.tree.Node.{Node}
+use Rattle.bz_grammar.specs.Spell.{spell_node}
 use Rattle.bz_edit.specs.declared.edit.Edit.{Edit}
-use Rattle.bz_trail.specs.Trails.{IsSmall, trail_at}
-use Rattle.bz_trail.specs.Shown.{TakesUp, TrailsKeep, texts_of}
-use Rattle.bz_record.specs.Texts.{IsNote}
-use Rattle.bz_record.specs.declared.content.Version.TheVariants.{Two}
+use Rattle.bz_history.specs.Trails.{IsSmall, trail_at}
+use Rattle.bz_history.specs.Shown.{TakesUp, TrailsKeep, texts_of}
+use Rattle.bz_journal_format.specs.Texts.{IsNote}
+use Rattle.bz_journal_format.specs.declared.content.Version.TheVariants.{Two}
 use Rattle.bz_items.specs.Characters.{Bytes}
 use Rattle.bz_journal.specs.History.{History, IsKept, changed, most_steps, present}
 use Rattle.bz_journal.specs.State.{SessionState, IsSession, session_trail}

@@ -2,27 +2,27 @@
 use Rattle.std.proofs.Common.{◌≡◌, ◌<◌, ◌∙◌, List, length, Bool, true, false, refl, sym, ap, subst, inl, inr, Option, Some, None, Result, Ok, Err, nat_lt, if◌then◌else◌}
 use Rattle.std.specs.Str.{bytes_eq}
 use Rattle.std.proofs.lemmas.Slice.Eq.{bytes_eq-Decides}
-use Rattle.bz_tree.specs.declared.tree.Node.{Node}
-use Rattle.bz_tree.specs.Legal.{Reads}
-use Rattle.bz_tree.specs.Laws.{OneReading}
-use Rattle.bz_tree.specs.Statements.{lines_of}
+use Rattle.bz_grammar.specs.declared.tree.Node.{Node}
+use Rattle.bz_grammar.specs.Legal.{Reads}
+use Rattle.bz_grammar.specs.Laws.{OneReading}
+use Rattle.bz_grammar.specs.Statements.{lines_of}
 use Rattle.bz_label.specs.declared.target.Target.{Target}
 use Rattle.bz_value.specs.declared.value.Item.{Item}
 use Rattle.bz_items.specs.Characters.{Bytes}
 use Rattle.bz_value.specs.Proper.{IsProper}
-use Rattle.bz_view.specs.View.{view_of}
-use Rattle.bz_view.specs.Laws.{ViewsAreProper}
-use Rattle.bz_write.specs.LaidOut.{laid_out}
-use Rattle.bz_write.specs.Laws.{LayoutIsAccepted, LayoutReadsBack}
-use Rattle.bz_tidy.specs.Laws.{ProperStays, TidySettles, TidyStays}
-use Rattle.bz_tidy.specs.Passes.{tidied}
-use Rattle.bz_words.specs.declared.command.Operation.{Operation}
-use Rattle.bz_words.specs.Proper.{IsProperCommand}
+use Rattle.bz_hosts.specs.View.{view_of}
+use Rattle.bz_hosts.specs.Laws.{ViewsAreProper}
+use Rattle.bz_layout.specs.LaidOut.{laid_out}
+use Rattle.bz_layout.specs.Laws.{LayoutIsAccepted, LayoutReadsBack}
+use Rattle.bz_passes.specs.Laws.{ProperStays, TidySettles, TidyStays}
+use Rattle.bz_passes.specs.Passes.{tidied}
+use Rattle.bz_command_syntax.specs.declared.command.Operation.{Operation}
+use Rattle.bz_command_syntax.specs.Proper.{IsProperCommand}
 use Rattle.bz_command.specs.Effect.{effect, printed}
 use Rattle.bz_command.specs.Laws.{EffectsStayProper}
 use Rattle.bz_value.specs.declared.refusal.Refusal.{Refusal}
 use Rattle.bz_value.specs.declared.refusal.Refusal.TheVariants.{Full, NoteTooLong}
-use Rattle.bz_redraw.specs.Relaid.{IsWritten}
+use Rattle.bz_relayout.specs.Relaid.{IsWritten}
 use Rattle.bz_journal.specs.Actions.{Action}
 use Rattle.bz_journal.specs.Actions.{Do, Format, Undo, Redo}
 use Rattle.bz_journal.specs.declared.action.Reply.{Reply}
@@ -31,7 +31,7 @@ use Rattle.bz_journal.specs.Meaning.{Meaning, gives, refuses, printed_answer, wr
 use Rattle.bz_journal.specs.History.{History, Answer, Acts, MakesOrWants, present, changed, unchanged, after_text, after_meaning, most_steps}
 use Rattle.bz_journal.specs.Editing.{IsLayoutOf, WrittenIsLaidOut}
 use Rattle.bz_journal.proofs.Formatting.{present_changed}
-use Rattle.bz_formatter.proofs.Writes.{IsGiven, given}
+use Rattle.bz_build_format.proofs.Writes.{IsGiven, given}
 
 -- What the layers below promise: of reading, of the layout of a proper value, and of tidying.
 pub record LayoutsHold : Type 0 where

@@ -3,7 +3,7 @@ use Rattle.std.proofs.Common.{◌≡◌, ◌≤◌, ◌↔◌, ℕ, List, length
 use Rattle.std.specs.Str.{IsValidUpTo}
 use Rattle.bz_lex.specs.declared.fault.ReadFault.{ReadFault}
 use Rattle.bz_lex.specs.declared.fault.ReadFault.TheVariants.{NotUtf8, Memory}
-use Rattle.bz_tree.specs.Spell.{limit}
+use Rattle.bz_grammar.specs.Spell.{limit}
 
 abbrev AnswersCoding : (A : Type 0) → List ℕ → Result A ReadFault → Type 0
 AnswersCoding A text answer = (at : ℕ) → ((answer ≡ Err (NotUtf8 at)) ↔ ((length text ≤ limit) × IsValidUpTo text at))

@@ -1,18 +1,18 @@
 -- Where what a command makes is past the limit by the comments that it puts in, it means that.
 use Rattle.std.proofs.Common.{◌≡◌, ◌≢◌, ◌⊎◌, ◌≤◌, ◌<◌, ◌*◌, ◌∙◌, inl, inr, ℕ, List, length, Result, Ok, Err, Option, refl, sym, ap, subst, arith}
-use Rattle.bz_tree.specs.declared.tree.Node.{Node}
-use Rattle.bz_tree.specs.Legal.{Reads}
-use Rattle.bz_tree.specs.Spell.{spell_node, limit}
-use Rattle.bz_tree.specs.Statements.{lines_of}
+use Rattle.bz_grammar.specs.declared.tree.Node.{Node}
+use Rattle.bz_grammar.specs.Legal.{Reads}
+use Rattle.bz_grammar.specs.Spell.{spell_node, limit}
+use Rattle.bz_grammar.specs.Statements.{lines_of}
 use Rattle.bz_label.specs.declared.target.Target.{Target}
 use Rattle.bz_value.specs.declared.value.Item.{Item}
 use Rattle.bz_value.specs.Counted.{times}
 use Rattle.bz_items.specs.Characters.{Bytes}
-use Rattle.bz_view.specs.View.{view_of}
-use Rattle.bz_words.specs.declared.command.Operation.{Operation}
+use Rattle.bz_hosts.specs.View.{view_of}
+use Rattle.bz_command_syntax.specs.declared.command.Operation.{Operation}
 use Rattle.bz_command.specs.Effect.{effect, printed}
 use Rattle.bz_command.specs.Overfull.{Overfills}
-use Rattle.bz_formatter.specs.Filled.{CommentsFill, CommentsFit}
+use Rattle.bz_build_format.specs.Filled.{CommentsFill, CommentsFit}
 use Rattle.bz_value.specs.declared.refusal.Refusal.{Refusal}
 use Rattle.bz_value.specs.declared.refusal.Refusal.TheVariants.{Memory, TooLarge}
 use Rattle.bz_journal.specs.Actions.{Do}

@@ -9,10 +9,10 @@ use Rattle.bz_files.specs.declared.files.Files.{Ghosts as FilesOf}
 use Rattle.bz_files.proofs.Elapsing.{each_since, stays}
 use Rattle.bz_items.specs.Characters.{Bytes}
 use Rattle.bz_value.specs.declared.refusal.Refusal.{Refusal}
-use Rattle.bz_keep.specs.Pair.{journal_name}
-use Rattle.bz_keep.specs.Resuming.{Holds, MayResume, OthersStay, Resumes, Survives}
-use Rattle.bz_keep.specs.declared.fault.PairFault.{PairFault}
-use Rattle.bz_keep.specs.declared.fault.PairFault.TheVariants as p
+use Rattle.bz_resume.specs.Pair.{journal_name}
+use Rattle.bz_resume.specs.Resuming.{Holds, MayResume, OthersStay, Resumes, Survives}
+use Rattle.bz_resume.specs.declared.pair_fault.PairFault.{PairFault}
+use Rattle.bz_resume.specs.declared.pair_fault.PairFault.TheVariants as p
 use Rattle.bz_journal.specs.Actions.{Action}
 use Rattle.bz_journal.specs.declared.action.Reply.{Reply}
 use Rattle.bz_journal.specs.declared.keeping.KeepFault.{KeepFault}

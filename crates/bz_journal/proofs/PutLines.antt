@@ -2,20 +2,20 @@
 use Rattle.std.proofs.Common.{◌≡◌, ◌↔◌, ◌<◌, ◌+◌, ◌∙◌, ℕ, zero, suc, List, [], ◌∷◌, ◌++◌, ◌≤◌, drop, length, slice_range, take, get_or, slice_set, refl, sym, ap, subst, arith, append_assoc, length-set}
 use Rattle.std.proofs.lemmas.List.{append_cancel_left, append_cancel_right, get_or-set_same, get_or-set_other, set-get_or, take-append-drop}
 use Rattle.std.proofs.lemmas.List.Folds.{drop_split}
-use Rattle.bz_tree.specs.declared.kind.Kind.{Kind}
-use Rattle.bz_tree.specs.declared.tree.Node.{Node}
-use Rattle.bz_tree.specs.declared.tree.Part.{Part}
-use Rattle.bz_tree.specs.Laws.{OneReading}
-use Rattle.bz_tree.specs.Legal.{Legal, Reads}
-use Rattle.bz_tree.specs.Places.{Ascend, put_all}
-use Rattle.bz_tree.specs.Spell.{spell_node}
-use Rattle.bz_trail.specs.Trails.{IsTree}
+use Rattle.bz_grammar.specs.declared.kind.Kind.{Kind}
+use Rattle.bz_grammar.specs.declared.tree.Node.{Node}
+use Rattle.bz_grammar.specs.declared.tree.Part.{Part}
+use Rattle.bz_grammar.specs.Laws.{OneReading}
+use Rattle.bz_grammar.specs.Legal.{Legal, Reads}
+use Rattle.bz_grammar.specs.Places.{Ascend, put_all}
+use Rattle.bz_grammar.specs.Spell.{spell_node}
+use Rattle.bz_history.specs.Trails.{IsTree}
 use Rattle.bz_value.specs.declared.value.Item.{Item}
 use Rattle.bz_items.specs.Characters.{Bytes}
 use Rattle.bz_value.specs.Proper.{IsProper}
-use Rattle.bz_write.specs.LaidOut.{laid_out}
-use Rattle.bz_write.specs.Laws.{LayoutIsAccepted}
-use Rattle.bz_write.specs.Written.{layout}
+use Rattle.bz_layout.specs.LaidOut.{laid_out}
+use Rattle.bz_layout.specs.Laws.{LayoutIsAccepted}
+use Rattle.bz_layout.specs.Written.{layout}
 use Rattle.bz_journal.specs.declared.lines.Lines.{Lines}
 use Rattle.bz_journal.specs.declared.lines.Lines.TheVariants as l
 use Rattle.bz_journal.specs.private.Lines.{AreLinesOf, tree_with}

@@ -2,13 +2,13 @@
 use Rattle.std.proofs.Common.{◌≡◌, ◌≤◌, ℕ, List, [], length, map, IsUtf8, refl, sym, ap, subst, ◌∙◌, arith, Some}
 use Rattle.std.specs.Prelude.{slice_index_or, Result, Ok, Err, IfOk, IfErr}
 use Rattle.sha2.specs.Sha256.{sha256}
-use Rattle.bz_tree.specs.declared.tree.Node.{Node}
-use Rattle.bz_tree.specs.Laws.{OneReading}
-use Rattle.bz_tree.specs.Legal.{Reads}
-use Rattle.bz_tree.specs.Spell.{spell_node, limit}
+use Rattle.bz_grammar.specs.declared.tree.Node.{Node}
+use Rattle.bz_grammar.specs.Laws.{OneReading}
+use Rattle.bz_grammar.specs.Legal.{Reads}
+use Rattle.bz_grammar.specs.Spell.{spell_node, limit}
 use Rattle.bz_edit.specs.declared.edit.Edit.{Edit}
-use Rattle.bz_trail.specs.Trails.{IsSmall, trail_at}
-use Rattle.bz_trail.specs.Shown.{TrailsKeep, texts_of}
+use Rattle.bz_history.specs.Trails.{IsSmall, trail_at}
+use Rattle.bz_history.specs.Shown.{TrailsKeep, texts_of}
 use Rattle.bz_items.specs.Characters.{Bytes}
 use Rattle.bz_resume.specs.declared.fault.ResumeFault.{ResumeFault}
 use Rattle.bz_resume.specs.declared.fault.ResumeFault.TheVariants as f
@@ -18,7 +18,7 @@ use Rattle.bz_resume.specs.Resumed as r
 use Rattle.bz_resume.specs.Resumed.{StandsFor}
 use Rattle.bz_journal.specs.History.{History, present}
 use Rattle.bz_files.specs.Folder.{Folder}
-use Rattle.bz_keep.specs.Resuming.{FollowsKept, MayResume, Resumes}
+use Rattle.bz_resume.specs.Resuming.{FollowsKept, MayResume, Resumes}
 use Rattle.bz_journal.specs.Lasting.{GoesOn, IsAgain, IsKnownSession, IsResumedSession, IsSavedSession, saved}
 use Rattle.bz_journal.specs.Shown.{session_history}
 use Rattle.bz_journal.specs.State.{SessionState, IsSession, session_trail}

@@ -6,7 +6,7 @@ pub use Rattle.bz_command.specs.Renewed.{IsOfExtent}
 pub use Rattle.bz_edit.specs.declared.edit.Edit.{Edit}
 pub use Rattle.bz_files.specs.Faults.{Rises}
 pub use Rattle.bz_files.specs.Folder.{Elapses, Folder}
-pub use Rattle.bz_formatter.specs.Fixed.{IsFormatted}
+pub use Rattle.bz_build_format.specs.Fixed.{IsFormatted}
 pub use Rattle.bz_items.specs.Characters.{Bytes}
 pub use Rattle.bz_journal.specs.Actions.{MakesText, action_in}
 pub use Rattle.bz_journal.specs.private.Doing.{EndsAt, HasMade}
@@ -23,25 +23,25 @@ pub use Rattle.bz_journal.specs.State.{SessionState, session_trail}
 pub use Rattle.bz_journal.specs.Stopping.{StoppedIsResumed}
 pub use Rattle.bz_journal.specs.Worked.{WorkedHistories}
 pub use Rattle.bz_journal.specs.declared.action.Reply.{Reply}
-pub use Rattle.bz_keep.specs.Pair.{journal_name}
-pub use Rattle.bz_keep.specs.Resuming.{Holds, OthersStay, Resumes, Survives}
-pub use Rattle.bz_keep.specs.declared.fault.PairFault.{PairFault}
-pub use Rattle.bz_names.specs.Index.{IsIndexOf}
-pub use Rattle.bz_record.specs.Texts.{IsOtherVersion}
-pub use Rattle.bz_redraw.specs.Relaid.{IsWritten}
+pub use Rattle.bz_resume.specs.Pair.{journal_name}
+pub use Rattle.bz_resume.specs.Resuming.{Holds, OthersStay, Resumes, Survives}
+pub use Rattle.bz_resume.specs.declared.pair_fault.PairFault.{PairFault}
+pub use Rattle.bz_rule.specs.Index.{IsIndexOf}
+pub use Rattle.bz_journal_format.specs.Texts.{IsOtherVersion}
+pub use Rattle.bz_relayout.specs.Relaid.{IsWritten}
 pub use Rattle.bz_resume.specs.Journals.{AreSmall, Journal, NoJournal}
 pub use Rattle.bz_resume.specs.Resumed.{IsStale, StandsFor}
-pub use Rattle.bz_tidy.specs.Passes.{tidied}
-pub use Rattle.bz_trail.specs.Shown.{StepsAreBetween, StepsLead, TakesUp, texts_of}
-pub use Rattle.bz_trail.specs.Trails.{HasLeast, IsSmall, IsTrail, IsTree, are_even, steps_back, steps_forward, trail_at}
-pub use Rattle.bz_tree.specs.Faults.{IsOfText}
-pub use Rattle.bz_tree.specs.Legal.{Accepted}
-pub use Rattle.bz_tree.specs.Places.{Ascend, put_all}
-pub use Rattle.bz_tree.specs.Spell.{limit, spell_leaf, spell_node, spell_part}
-pub use Rattle.bz_tree.specs.Statements.{lines_of}
-pub use Rattle.bz_tree.specs.declared.tree.Node.{Node}
+pub use Rattle.bz_passes.specs.Passes.{tidied}
+pub use Rattle.bz_history.specs.Shown.{StepsAreBetween, StepsLead, TakesUp, texts_of}
+pub use Rattle.bz_history.specs.Trails.{HasLeast, IsSmall, IsTrail, IsTree, are_even, steps_back, steps_forward, trail_at}
+pub use Rattle.bz_grammar.specs.Faults.{IsOfText}
+pub use Rattle.bz_grammar.specs.Legal.{Accepted}
+pub use Rattle.bz_grammar.specs.Places.{Ascend, put_all}
+pub use Rattle.bz_grammar.specs.Spell.{limit, spell_leaf, spell_node, spell_part}
+pub use Rattle.bz_grammar.specs.Statements.{lines_of}
+pub use Rattle.bz_grammar.specs.declared.tree.Node.{Node}
 pub use Rattle.bz_value.specs.declared.value.Item.{Item}
-pub use Rattle.bz_view.specs.View.{view_of}
-pub use Rattle.bz_write.specs.Written.{layout}
+pub use Rattle.bz_hosts.specs.View.{view_of}
+pub use Rattle.bz_layout.specs.Written.{layout}
 pub use Rattle.sha2.specs.Hashers.{Holds256}
 pub use Rattle.sha2.specs.Sha256.{sha256}

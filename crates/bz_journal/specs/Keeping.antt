@@ -5,11 +5,11 @@ use Rattle.bz_files.specs.Faults.{Rises}
 use Rattle.bz_files.specs.Folder.{Elapses, Folder}
 use Rattle.bz_files.specs.declared.files.Files.{Ghosts as FilesOf}
 use Rattle.bz_items.specs.Characters.{Bytes}
-use Rattle.bz_formatter.specs.Fixed.{IsFormatted}
-use Rattle.bz_keep.specs.Pair.{journal_name}
-use Rattle.bz_keep.specs.Resuming.{Holds, OthersStay, Resumes, Survives}
-use Rattle.bz_keep.specs.declared.fault.PairFault.TheVariants as f
-use Rattle.bz_trail.specs.Trails.{IsSmall}
+use Rattle.bz_build_format.specs.Fixed.{IsFormatted}
+use Rattle.bz_resume.specs.Pair.{journal_name}
+use Rattle.bz_resume.specs.Resuming.{Holds, OthersStay, Resumes, Survives}
+use Rattle.bz_resume.specs.declared.pair_fault.PairFault.TheVariants as f
+use Rattle.bz_history.specs.Trails.{IsSmall}
 use Rattle.bz_journal.specs.Actions.{Action}
 use Rattle.bz_journal.specs.declared.action.Reply.{Reply}
 use Rattle.bz_journal.specs.declared.keeping.KeepFault.{KeepFault}

@@ -1,9 +1,9 @@
 -- What is looked up in a text that stays.
 use Rattle.std.specs.Prelude.{◌≡◌, IfSome}
-use Rattle.bz_tree.specs.declared.tree.Node.{Node}
-use Rattle.bz_tree.specs.Statements.{lines_of}
-use Rattle.bz_view.specs.View.{view_of}
-use Rattle.bz_names.specs.Index.{IsIndexOf}
+use Rattle.bz_grammar.specs.declared.tree.Node.{Node}
+use Rattle.bz_grammar.specs.Statements.{lines_of}
+use Rattle.bz_hosts.specs.View.{view_of}
+use Rattle.bz_rule.specs.Index.{IsIndexOf}
 use Rattle.bz_journal.specs.declared.answering.Lookups.{Lookups}
 
 -- What was looked up is that of the tree: the index that of the names in its view, and the lines those of its statements.

@@ -1,7 +1,7 @@
 -- A session as contracts see it.
 use Rattle.std.specs.Prelude.{◌≡◌, ◌≤◌, ◌+◌, true, take, length}
-use Rattle.bz_trail.specs.Trails.{Trail, steps_back, steps_forward, are_even}
-use Rattle.bz_trail.specs.Shown.{texts_of}
+use Rattle.bz_history.specs.Trails.{Trail, steps_back, steps_forward, are_even}
+use Rattle.bz_history.specs.Shown.{texts_of}
 use Rattle.bz_journal.specs.History.{History}
 use Rattle.bz_journal.specs.State.{SessionState, session_trail}
 use Rattle.bz_journal.specs.Actions.{Action}

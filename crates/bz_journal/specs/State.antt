@@ -2,11 +2,11 @@
 use Rattle.std.specs.Prelude.{ℕ, ◌≡◌, ◌≤◌, List, length, refl, IsUtf8}
 use Rattle.std.specs.List.{AllByRecursion}
 use Rattle.std.specs.Coded.{Coded, code_by, coded×, coded_ℕ, coded_list}
-use Rattle.bz_tree.specs.declared.tree.Node.{Node}
+use Rattle.bz_grammar.specs.declared.tree.Node.{Node}
 use Rattle.bz_edit.specs.declared.edit.Edit.{Edit}
-use Rattle.bz_trail.specs.Trails.{Trail, IsTrail, trail_at}
-use Rattle.bz_record.specs.Texts.{IsNote}
-use Rattle.bz_record.specs.declared.content.Version.TheVariants.{Two}
+use Rattle.bz_history.specs.Trails.{Trail, IsTrail, trail_at}
+use Rattle.bz_journal_format.specs.Texts.{IsNote}
+use Rattle.bz_journal_format.specs.declared.content.Version.TheVariants.{Two}
 use Rattle.bz_items.specs.Characters.{Bytes}
 use Rattle.bz_journal.specs.History.{most_steps}
 

@@ -4,8 +4,8 @@ use Rattle.std.specs.FinMap.{get}
 use Rattle.bz_edit.specs.declared.edit.Edit.{Edit}
 use Rattle.bz_files.specs.Folder.{Folder}
 use Rattle.bz_items.specs.Characters.{Bytes}
-use Rattle.bz_keep.specs.Pair.{journal_name}
-use Rattle.bz_keep.specs.Resuming.{Survives}
+use Rattle.bz_resume.specs.Pair.{journal_name}
+use Rattle.bz_resume.specs.Resuming.{Survives}
 use Rattle.bz_resume.specs.declared.fault.ResumeFault.{ResumeFault}
 use Rattle.bz_resume.specs.declared.fault.ResumeFault.TheVariants as f
 use Rattle.bz_resume.specs.Journals.{Journal}

@@ -8,13 +8,13 @@ use crate::action::{Action, Reply};
 use crate::digests::put_after;
 use crate::lines::{Lines, stand_in, take_up_lines};
 use bz_edit::Step;
-use bz_formatter::{formatted, formatted_once, reads_back};
+use bz_build_format::{formatted, formatted_once, reads_back};
 use bz_items::{Memory, Text};
-use bz_parse::parse;
-use bz_trail::laws::{starts_small, texts_kept};
-use bz_trail::{go_back, go_forward, take_up};
-use bz_tree::laws::{one_reading, one_tree};
-use bz_tree::{ReadFault, Tree};
+use bz_tree::parse;
+use bz_history::laws::{starts_small, texts_kept};
+use bz_history::{go_back, go_forward, take_up};
+use bz_grammar::laws::{one_reading, one_tree};
+use bz_grammar::{ReadFault, Tree};
 use bz_value::Refusal;
 use std::alloc::Global;
 use std::marker::Model;
@@ -45,7 +45,7 @@ pub(crate) struct Course {
 
 impl Model for Course {
     ghost use Rattle.std.specs.Prelude.{string_bytes};
-    ghost use Rattle.bz_tree.specs.contracts.tree.Tree as t;
+    ghost use Rattle.bz_grammar.specs.contracts.tree.Tree as t;
     ghost use Rattle.bz_edit.specs.contracts.step.Step as s;
     ghost use Rattle.bz_journal.specs.State.{SessionState, IsSession, state_code};
 

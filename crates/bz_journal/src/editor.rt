@@ -13,7 +13,7 @@ use crate::keeping::{KeepFault, Written, persist};
 use crate::session::Session;
 use bz_files::Files;
 use bz_items::{Memory, Text};
-use bz_tree::ReadFault;
+use bz_grammar::ReadFault;
 use bz_value::Refusal;
 use std::alloc::Global;
 use std::marker::Model;
@@ -44,7 +44,7 @@ pub struct Editor {
 
 impl Model for Editor {
     ghost use Rattle.std.specs.Prelude.{◌≡◌, IfSome};
-    ghost use Rattle.bz_tree.specs.contracts.tree.Tree as t;
+    ghost use Rattle.bz_grammar.specs.contracts.tree.Tree as t;
     ghost use Rattle.bz_edit.specs.contracts.step.Step as s;
     ghost use Rattle.bz_journal.specs.History.{present};
     ghost use Rattle.bz_journal.specs.State.{SessionState, state_code};

@@ -6,7 +6,7 @@ ghost use Rattle.bz_journal.specs.Actions as a;
 use crate::action::Reply;
 use bz_files::Files;
 use bz_items::Memory;
-use bz_keep::{PairFault, keep};
+use bz_resume::{PairFault, keep};
 use bz_value::Refusal;
 use std::alloc::Global;
 

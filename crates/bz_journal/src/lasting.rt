@@ -10,8 +10,8 @@ use crate::session::Session;
 use bz_items::{Memory, Text};
 use bz_resume::laws::reopened;
 use bz_resume::{Content, ResumeFault, Resumed, Saved, resume, save_into};
-use bz_trail::laws::texts_kept;
-use bz_tree::laws::one_reading;
+use bz_history::laws::texts_kept;
+use bz_grammar::laws::one_reading;
 use std::alloc::Global;
 
 /// The path of a package. The error: memory was refused.

@@ -5,11 +5,11 @@ ghost use Rattle.bz_journal.specs.Clauses.{AlikeActs, AlikeGoesOn, HasLeast, IsK
 use crate::course::Course;
 use crate::editor::Editor;
 use crate::session::Session;
-use bz_formatter::comments_fill;
-use bz_tidy::{proper_stays, tidy_settles, tidy_stays};
-use bz_trail::laws::{small_steps, steps_lead, texts_kept};
-use bz_tree::laws::one_reading;
-use bz_write::{layout_is_accepted, layout_reads_back};
+use bz_build_format::comments_fill;
+use bz_passes::{proper_stays, tidy_settles, tidy_stays};
+use bz_history::laws::{small_steps, steps_lead, texts_kept};
+use bz_grammar::laws::one_reading;
+use bz_layout::{layout_is_accepted, layout_reads_back};
 
 /// Worked rows: what undo, redo and new texts make of small histories.
 pub fn worked_histories()

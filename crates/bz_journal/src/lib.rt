@@ -24,3 +24,4 @@ pub use laws::{
     alike_goes_on, editor_holds, history_kept, session_holds, stopped_is_resumed, worked_histories,
 };
 pub use session::Session;
+pub use bz_files::{DiskFiles, FileFault, Files, MemoryFiles};

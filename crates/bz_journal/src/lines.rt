@@ -4,9 +4,9 @@ ghost use Rattle.bz_journal.specs.Clauses.{AreIn, Ascend, IsTrail, IsTree, Takes
 
 use bz_edit::Step;
 use bz_items::Memory;
-use bz_redraw::{Relaid, Respliced};
-use bz_trail::{take_up_across, take_up_at};
-use bz_tree::{Part, Tree};
+use bz_relayout::{Relaid, Respliced};
+use bz_history::{take_up_across, take_up_at};
+use bz_grammar::{Part, Tree};
 
 /// Lines that are laid out anew, and where they are in a tree.
 #[derive(Drop)]

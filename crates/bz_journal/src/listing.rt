@@ -2,7 +2,7 @@
 ghost use Rattle.std.specs.Prelude.{◌≡◌, ◌+◌, ◌++◌, IfOk, OnOk, length};
 ghost use Rattle.bz_journal.specs.Clauses.{lines_of_texts, noted, text_line, text_lines_from};
 
-use bz_exact::{hex_digits, push_number};
+use bz_journal_format::{hex_digits, push_number};
 use bz_items::{Memory, Text};
 use std::alloc::Global;
 

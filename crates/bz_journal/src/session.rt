@@ -14,8 +14,8 @@ use crate::listing::listed;
 use bz_edit::{Step, weight};
 use bz_files::Files;
 use bz_items::{Memory, Text};
-use bz_trail::laws::texts_kept;
-use bz_tree::{ReadFault, Tree};
+use bz_history::laws::texts_kept;
+use bz_grammar::{ReadFault, Tree};
 use bz_value::Refusal;
 use core::mem::replace_with;
 use sha2::{Digest, Sha256};
@@ -46,10 +46,10 @@ pub struct Session {
 impl Model for Session {
     ghost use Rattle.std.specs.Prelude.{◌≡◌, map, string_bytes};
     ghost use Rattle.sha2.specs.Sha256.{sha256};
-    ghost use Rattle.bz_tree.specs.contracts.tree.Tree as t;
+    ghost use Rattle.bz_grammar.specs.contracts.tree.Tree as t;
     ghost use Rattle.bz_edit.specs.contracts.step.Step as s;
-    ghost use Rattle.bz_trail.specs.Shown.{texts_of};
-    ghost use Rattle.bz_trail.specs.Trails.{trail_at};
+    ghost use Rattle.bz_history.specs.Shown.{texts_of};
+    ghost use Rattle.bz_history.specs.Trails.{trail_at};
     ghost use Rattle.bz_journal.specs.State.{SessionState, IsSession, state_code};
 
     ghost Value = { SessionState };

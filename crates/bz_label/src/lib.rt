@@ -13,3 +13,4 @@ mod target;
 
 pub use label::{Label, LabelFault};
 pub use target::{Target, TargetFault, Which};
+pub use bytes::{is_sorted, key_cmp, priority, same, shortened as shorten};

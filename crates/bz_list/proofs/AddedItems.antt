@@ -8,7 +8,7 @@ use Rattle.bz_label.specs.Tables.{is_label_attribute}
 use Rattle.bz_label.specs.Read.{shortened}
 use Rattle.bz_value.specs.declared.value.Expr.{Expr}
 use Rattle.bz_items.specs.Characters.{Bytes}
-use Rattle.bz_words.specs.Quoted.{quoted_of}
+use Rattle.bz_command_syntax.specs.Quoted.{quoted_of}
 use Rattle.bz_rule.specs.Rules.{attribute}
 use Rattle.bz_rule.specs.Values.{with_text}
 use Rattle.bz_attribute.proofs.KeySets.{or_group, or_none}

@@ -5,7 +5,7 @@ use Rattle.std.proofs.lemmas.Bool.{cases_Bool, and_parts, and_from, or_cases, no
 use Rattle.std.proofs.lemmas.List.{append-nil}
 use Rattle.bz_value.specs.declared.value.Expr.{Expr, items_hidden-the_row-Expr-0}
 use Rattle.bz_items.specs.Characters.{Bytes}
-use Rattle.bz_words.specs.Quoted.{is_escaped}
+use Rattle.bz_command_syntax.specs.Quoted.{is_escaped}
 use Rattle.bz_rule.specs.Values.{items_of}
 use Rattle.bz_rule.proofs.ProperChanges.{by_test}
 use Rattle.bz_attribute.proofs.FormsAgain.{if_true, if_false}

@@ -14,7 +14,7 @@ use Rattle.bz_label.proofs.LabelFunctions.{same_exactly, is_shortened}
 use Rattle.bz_label.proofs.Shorter.{shortened_same}
 use Rattle.bz_value.specs.declared.value.Expr.{Expr}
 use Rattle.bz_items.specs.Characters.{Bytes}
-use Rattle.bz_words.specs.Quoted.{is_escaped}
+use Rattle.bz_command_syntax.specs.Quoted.{is_escaped}
 use Rattle.bz_attribute.specs.Lists.{body_of, are_one, is_item}
 use Rattle.bz_attribute.specs.Made.{shortened_in, string_of}
 use Rattle.bz_rule.proofs.ProperChanges.{by_test}

@@ -4,7 +4,7 @@ use Rattle.std.specs.Prelude.{Option, Some, Ok, Err, if◌then◌else◌}
 use Rattle.std.specs.List.{list_any, filter}
 use Rattle.bz_value.specs.declared.value.Expr.{Expr}
 use Rattle.bz_items.specs.Characters.{Bytes}
-use Rattle.bz_words.specs.declared.command.Values.{Values}
+use Rattle.bz_command_syntax.specs.declared.command.Values.{Values}
 use Rattle.bz_rule.specs.Rules.{attribute}
 use Rattle.bz_rule.specs.Values.{on_lists}
 use Rattle.bz_value.specs.Empty.{is_empty}

@@ -2,13 +2,13 @@
 use Rattle.std.proofs.Common.{Bool, not, List, [], map}
 use Rattle.std.specs.Prelude.{IsUtf8, Ok, Err, if◌then◌else◌}
 use Rattle.std.specs.List.{filter, list_any}
-use Rattle.bz_tree.specs.Shapes as s
+use Rattle.bz_grammar.specs.Shapes as s
 use Rattle.bz_value.specs.declared.value.Expr.{Expr}
 use Rattle.bz_items.specs.Characters.{Bytes}
-use Rattle.bz_words.specs.Proper.{AreUtf8, IsAttribute}
-use Rattle.bz_words.specs.declared.command.Attributes.{Attributes}
-use Rattle.bz_words.specs.declared.command.Attributes.TheVariants as t
-use Rattle.bz_words.specs.declared.command.Values.{Values}
+use Rattle.bz_command_syntax.specs.Proper.{AreUtf8, IsAttribute}
+use Rattle.bz_command_syntax.specs.declared.command.Attributes.{Attributes}
+use Rattle.bz_command_syntax.specs.declared.command.Attributes.TheVariants as t
+use Rattle.bz_command_syntax.specs.declared.command.Values.{Values}
 use Rattle.bz_rule.specs.Values.{parts_of, first_text, on_lists}
 use Rattle.bz_rule.proofs.ProperChanges.{by_test, Stays}
 use Rattle.bz_rule.proofs.ProperItems.{IsValue, all_kept, all_changed}

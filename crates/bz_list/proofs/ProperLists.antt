@@ -5,11 +5,11 @@ use Rattle.std.specs.List.{AllByRecursion, filter, flat_map, list_any}
 use Rattle.std.specs.Option.{option_and_then, option_map_or}
 use Rattle.bz_token.specs.declared.class.Class.{Class}
 use Rattle.bz_token.specs.declared.class.Class.TheVariants as c
-use Rattle.bz_tree.specs.declared.kind.Kind.{Kind}
-use Rattle.bz_tree.specs.declared.kind.Kind.TheVariants as k
-use Rattle.bz_tree.specs.Shapes as s
-use Rattle.bz_tree.specs.Shapes.{is_class, is_kind}
-use Rattle.bz_tree.specs.Spots.{Spot, Within}
+use Rattle.bz_grammar.specs.declared.kind.Kind.{Kind}
+use Rattle.bz_grammar.specs.declared.kind.Kind.TheVariants as k
+use Rattle.bz_grammar.specs.Shapes as s
+use Rattle.bz_grammar.specs.Shapes.{is_class, is_kind}
+use Rattle.bz_grammar.specs.Spots.{Spot, Within}
 use Rattle.bz_label.specs.Tables.{is_label_attribute}
 use Rattle.bz_label.specs.Read.{shortened}
 use Rattle.bz_value.specs.declared.value.Expr.{Expr, Token, Form', items-the_row-Expr}
@@ -18,9 +18,9 @@ use Rattle.bz_value.specs.Comments.{HostComments}
 use Rattle.bz_items.specs.Characters.{Bytes}
 use Rattle.bz_value.specs.Proper.{ProperExpr, after_expr}
 use Rattle.bz_value.proofs.FormParts.{AreParts}
-use Rattle.bz_words.specs.Patterns.{substituted}
-use Rattle.bz_words.specs.Proper.{AreUtf8}
-use Rattle.bz_words.specs.Quoted.{quoted_of}
+use Rattle.bz_command_syntax.specs.Patterns.{substituted}
+use Rattle.bz_command_syntax.specs.Proper.{AreUtf8}
+use Rattle.bz_command_syntax.specs.Quoted.{quoted_of}
 use Rattle.bz_rule.specs.Rules.{body}
 use Rattle.bz_rule.specs.Values.{has_kind, has_class, text_of, parts_of, items_of, with_text, on_row, on_items, on_lists}
 use Rattle.bz_rule.proofs.ProperChanges.{by_test, by_case, Stays, row_stays, items_stay, lists_stay, string_in_place}

@@ -4,13 +4,13 @@ use Rattle.std.specs.List.{list_any, filter}
 use Rattle.std.specs.Option.{option_map_or}
 use Rattle.bz_value.specs.declared.value.Expr.{Expr}
 use Rattle.bz_items.specs.Characters.{Bytes}
-use Rattle.bz_words.specs.Patterns.{substituted}
-use Rattle.bz_words.specs.declared.command.ValueOperation.{ValueOperation}
-use Rattle.bz_words.specs.declared.command.ValueOperation.TheVariants as wv
-use Rattle.bz_words.specs.declared.command.Attributes.{Attributes}
-use Rattle.bz_words.specs.declared.command.Attributes.TheVariants as a
-use Rattle.bz_words.specs.declared.command.Values.{Values}
-use Rattle.bz_words.specs.declared.command.Values.TheVariants as v
+use Rattle.bz_command_syntax.specs.Patterns.{substituted}
+use Rattle.bz_command_syntax.specs.declared.command.ValueOperation.{ValueOperation}
+use Rattle.bz_command_syntax.specs.declared.command.ValueOperation.TheVariants as wv
+use Rattle.bz_command_syntax.specs.declared.command.Attributes.{Attributes}
+use Rattle.bz_command_syntax.specs.declared.command.Attributes.TheVariants as a
+use Rattle.bz_command_syntax.specs.declared.command.Values.{Values}
+use Rattle.bz_command_syntax.specs.declared.command.Values.TheVariants as v
 use Rattle.bz_rule.specs.Rules.{attribute}
 use Rattle.bz_rule.specs.Values.{parts_of, with_text, first_text, on_lists}
 use Rattle.bz_value.specs.declared.refusal.Refusal.TheVariants.{NoAttribute, NotAList}

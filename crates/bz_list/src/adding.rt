@@ -2,7 +2,7 @@
 //! needed is handed to `drop`: dropped by the end of its scope, each form of it would be a path of that function's proof.
 ghost use Rattle.std.specs.Prelude.{◌≡◌, ◌⊎◌, ◌++◌, ◌∷◌, [], List, ℕ, Ok, Err, IfOk, OnOk, IfErr, map};
 ghost use Rattle.std.specs.List.{list_any, position};
-ghost use Rattle.bz_tree.specs.declared.kind.Kind.TheVariants as kinds;
+ghost use Rattle.bz_grammar.specs.declared.kind.Kind.TheVariants as kinds;
 ghost use Rattle.bz_value.specs.declared.value.Expr.{Expr as Value};
 ghost use Rattle.bz_items.specs.Characters.{Bytes};
 ghost use Rattle.bz_rule.specs.Values.{has_kind as is_of, on_items};
@@ -20,9 +20,9 @@ use bz_attribute::{
 };
 use bz_items::{Items, Memory, Text};
 use bz_label::bytes::{is_label_attribute, shortened};
-use bz_tree::Kind;
+use bz_grammar::Kind;
 use bz_value::{Expr, Refusal};
-use bz_words::quoted;
+use bz_command_syntax::quoted;
 
 /// What is added to an attribute.
 #[derive(Drop)]

@@ -8,7 +8,7 @@ use crate::replacing::Change;
 use bz_attribute::Slot;
 use bz_items::Items;
 use bz_value::{Expr, Refusal};
-use bz_words::ValueOperation;
+use bz_command_syntax::ValueOperation;
 use std::alloc::Global;
 
 // Changes the arguments in place; after a refusal part of them may be lost.

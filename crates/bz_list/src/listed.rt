@@ -1,7 +1,7 @@
 //! Commands on the items of an attribute's lists.
 ghost use Rattle.std.specs.Prelude.{◌≡◌, ◌⊎◌, ◌++◌, ◌∷◌, List, Ok, Err, IfOk, OnOk, IfErr, map, not};
 ghost use Rattle.std.specs.List.{filter, flat_map};
-ghost use Rattle.bz_tree.specs.declared.kind.Kind.TheVariants as kinds;
+ghost use Rattle.bz_grammar.specs.declared.kind.Kind.TheVariants as kinds;
 ghost use Rattle.bz_value.specs.declared.value.Expr.{Expr as Value};
 ghost use Rattle.bz_rule.specs.Rules.{attribute as value_there};
 ghost use Rattle.bz_rule.specs.Values.{on_items, on_lists};
@@ -17,9 +17,9 @@ use bz_attribute::{
 };
 use bz_items::{Items, Memory, Text};
 use bz_rule::attribute;
-use bz_tree::Kind;
+use bz_grammar::Kind;
 use bz_value::{Expr, Refusal};
-use bz_words::Values;
+use bz_command_syntax::Values;
 use std::mem;
 
 /// Puts an item to those that are taken, where the command is meant for it, else to those that are left.

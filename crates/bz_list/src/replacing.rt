@@ -1,7 +1,7 @@
 //! Commands on the bodies of strings: in the items of lists, or in a value itself.
 ghost use Rattle.std.specs.Prelude.{◌≡◌, IfOk, OnOk, map};
 ghost use Rattle.std.specs.Option.{option_map_or};
-ghost use Rattle.bz_tree.specs.declared.kind.Kind.TheVariants as kinds;
+ghost use Rattle.bz_grammar.specs.declared.kind.Kind.TheVariants as kinds;
 ghost use Rattle.bz_rule.specs.Values.{on_items, on_lists, on_third, with_text};
 ghost use Rattle.bz_attribute.specs.Attributes.{is_attribute, on_first_that, on_value};
 ghost use Rattle.bz_list.specs.Changes.{in_attributes, replaced_item, substituted_item};
@@ -12,9 +12,9 @@ use bz_attribute::{
     string_text,
 };
 use bz_items::{Items, Memory, Text};
-use bz_tree::Kind;
+use bz_grammar::Kind;
 use bz_value::Expr;
-use bz_words::{Attributes, Pattern};
+use bz_command_syntax::{Attributes, Pattern};
 use std::alloc::Global;
 
 /// What is done to an item.

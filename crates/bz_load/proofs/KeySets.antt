@@ -6,7 +6,7 @@ use Rattle.std.proofs.lemmas.Bool.{and_parts}
 use Rattle.std.proofs.Math.Path.{fun_ext}
 use Rattle.indexmap.specs.IndexSet.{insert_key}
 use Rattle.bz_items.specs.Characters.{Bytes}
-use Rattle.bz_words.specs.declared.command.Symbol.{Symbol}
+use Rattle.bz_command_syntax.specs.declared.command.Symbol.{Symbol}
 use Rattle.bz_attribute.proofs.KeySets.{any_map, or_twice, or_turn, equal_texts}
 use Rattle.bz_load.specs.declared.readings.Loaded.{Loaded}
 use Rattle.bz_load.specs.contracts.readings.LoadedPartialEq.TheImpl as loaded_eq

@@ -6,10 +6,10 @@ use Rattle.std.specs.Option.{option_map_or}
 use Rattle.std.proofs.lemmas.Bool.{and_parts, or_parts, not-true}
 use Rattle.std.proofs.lemmas.List.Elements.{recursion_from_All}
 use Rattle.bz_token.specs.declared.class.Class.TheVariants as c
-use Rattle.bz_tree.specs.declared.kind.Kind.TheVariants as k
-use Rattle.bz_tree.specs.Shapes as s
-use Rattle.bz_tree.specs.Shapes.{Terminal, has_token}
-use Rattle.bz_tree.specs.Spots.{Begins}
+use Rattle.bz_grammar.specs.declared.kind.Kind.TheVariants as k
+use Rattle.bz_grammar.specs.Shapes as s
+use Rattle.bz_grammar.specs.Shapes.{Terminal, has_token}
+use Rattle.bz_grammar.specs.Spots.{Begins}
 use Rattle.bz_value.specs.declared.value.Expr.{Expr, Token, Form', items-the_row-Expr}
 use Rattle.bz_value.specs.declared.value.Item.{Item}
 use Rattle.bz_value.specs.declared.value.Item.TheVariants as i
@@ -20,8 +20,8 @@ use Rattle.bz_value.specs.Proper.{comments_of, IsProperItem}
 use Rattle.bz_value.specs.Roots.{root}
 use Rattle.bz_value.proofs.Totals.{append_total, form_amount}
 use Rattle.bz_value.specs.Empty.{is_empty, is_none}
-use Rattle.bz_words.specs.Quoted.{quoted_of}
-use Rattle.bz_words.specs.declared.command.Symbol.{Symbol}
+use Rattle.bz_command_syntax.specs.Quoted.{quoted_of}
+use Rattle.bz_command_syntax.specs.declared.command.Symbol.{Symbol}
 use Rattle.bz_rule.specs.Values.{has_kind, parts_of, items_of, with_items, on_items, on_rest}
 use Rattle.bz_rule.proofs.ProperSequences.{IsItem, AreOf}
 use Rattle.bz_attribute.specs.Made.{token, node, mark, name}

@@ -6,9 +6,9 @@ use Rattle.std.specs.Option.{option_map_or}
 use Rattle.std.proofs.lemmas.Bool.{and_parts}
 use Rattle.std.proofs.lemmas.List.Elements.{All-nil, All-from_recursion, recursion_from_All}
 use Rattle.bz_token.specs.declared.class.Class.TheVariants as c
-use Rattle.bz_tree.specs.declared.kind.Kind.TheVariants as k
-use Rattle.bz_tree.specs.Shapes as s
-use Rattle.bz_tree.specs.Spots.{Spot, Begins, Within}
+use Rattle.bz_grammar.specs.declared.kind.Kind.TheVariants as k
+use Rattle.bz_grammar.specs.Shapes as s
+use Rattle.bz_grammar.specs.Spots.{Spot, Begins, Within}
 use Rattle.bz_value.specs.declared.value.Expr.{Expr}
 use Rattle.bz_value.specs.declared.value.Item.{Item}
 use Rattle.bz_value.specs.declared.value.Item.TheVariants as i
@@ -17,11 +17,11 @@ use Rattle.bz_items.specs.Characters.{Bytes}
 use Rattle.bz_value.specs.Proper.{IsComment, AreComments, after_expr, IsProperItem}
 use Rattle.bz_value.specs.Roots as r
 use Rattle.bz_value.proofs.FormParts.{AreParts, form_proper}
-use Rattle.bz_words.specs.Proper.{IsSymbol, IsAttribute, EachIs, AreSome}
-use Rattle.bz_words.specs.Quoted.{quoted_of}
-use Rattle.bz_words.specs.declared.command.Symbol.{Symbol}
-use Rattle.bz_words.specs.declared.command.Fixes.{Fixes}
-use Rattle.bz_words.proofs.NameTests.{identifiers_are_names}
+use Rattle.bz_command_syntax.specs.Proper.{IsSymbol, IsAttribute, EachIs, AreSome}
+use Rattle.bz_command_syntax.specs.Quoted.{quoted_of}
+use Rattle.bz_command_syntax.specs.declared.command.Symbol.{Symbol}
+use Rattle.bz_command_syntax.specs.declared.command.Fixes.{Fixes}
+use Rattle.bz_command_syntax.proofs.NameTests.{identifiers_are_names}
 use Rattle.bz_rule.specs.Rules.{is_text}
 use Rattle.bz_rule.specs.Values.{has_kind, items_of, with_items, on_items, on_rest}
 use Rattle.bz_rule.proofs.ProperChanges.{by_test, by_case}

@@ -3,7 +3,7 @@
 use Rattle.std.specs.Prelude.{Bool, false, not, ◌&&◌, ◌||◌, List, [], ◌∷◌, Option, Some, None, codes, map, if◌then◌else◌}
 use Rattle.std.specs.List.{list_any, filter}
 use Rattle.std.specs.Option.{option_map_or}
-use Rattle.bz_tree.specs.declared.kind.Kind.TheVariants as k
+use Rattle.bz_grammar.specs.declared.kind.Kind.TheVariants as k
 use Rattle.bz_value.specs.declared.value.Expr.{Expr, Form'}
 use Rattle.bz_value.specs.declared.value.Expr.TheVariants as e
 use Rattle.bz_value.specs.declared.value.Item.{Item}
@@ -12,7 +12,7 @@ use Rattle.bz_value.specs.Comments.{HostComments}
 use Rattle.bz_value.specs.Proper.{comments_of}
 use Rattle.bz_items.specs.Characters.{Bytes}
 use Rattle.bz_value.specs.Empty.{is_empty, is_none}
-use Rattle.bz_words.specs.declared.command.Fixes.{Fixes}
+use Rattle.bz_command_syntax.specs.declared.command.Fixes.{Fixes}
 use Rattle.bz_rule.specs.Rules.{is_rule_of_kind as is_rule_of}
 use Rattle.bz_rule.specs.Values.{has_kind, items_of, on_items, on_rest}
 use Rattle.bz_rule.specs.QuoteMarks.{local_name}

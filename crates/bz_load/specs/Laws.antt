@@ -5,10 +5,10 @@ use Rattle.bz_value.specs.declared.value.Item.{Item}
 use Rattle.bz_value.specs.Counted.{times}
 use Rattle.bz_items.specs.Characters.{Bytes}
 use Rattle.bz_value.specs.Proper.{IsProper}
-use Rattle.bz_words.specs.Proper.{IsSymbol, AreSome}
-use Rattle.bz_words.specs.Quoted.{is_escaped}
-use Rattle.bz_words.specs.declared.command.Symbol.{Symbol}
-use Rattle.bz_words.specs.declared.command.Fixes.{Fixes}
+use Rattle.bz_command_syntax.specs.Proper.{IsSymbol, AreSome}
+use Rattle.bz_command_syntax.specs.Quoted.{is_escaped}
+use Rattle.bz_command_syntax.specs.declared.command.Symbol.{Symbol}
+use Rattle.bz_command_syntax.specs.declared.command.Fixes.{Fixes}
 use Rattle.bz_attribute.specs.Attributes.{without_first}
 use Rattle.bz_load.specs.NewLoad.{new_load}
 use Rattle.bz_load.specs.Uses.{is_used}

@@ -12,9 +12,9 @@ use crate::places::insert_after_loads;
 use crate::readings::is_load_from;
 use bz_attribute::append_to;
 use bz_items::{Items, Memory};
-use bz_tree::Kind;
+use bz_grammar::Kind;
 use bz_value::{Expr, Item};
-use bz_words::Symbol;
+use bz_command_syntax::Symbol;
 use indexmap::IndexSet;
 use std::alloc::Global;
 

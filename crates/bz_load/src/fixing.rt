@@ -6,7 +6,7 @@ use crate::package::move_package;
 use crate::unused::drop_unused;
 use bz_items::{Items, Memory};
 use bz_value::Item;
-use bz_words::Fixes;
+use bz_command_syntax::Fixes;
 use std::alloc::Global;
 
 /// Copies of the items.

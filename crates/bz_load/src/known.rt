@@ -1,6 +1,6 @@
 //! The symbols that are loaded from a path, to check whether a symbol is one of them.
 ghost use Rattle.std.specs.Prelude.{◌≡◌, List, ◌∷◌, ◌++◌, not, map, IfOk, OnOk};
-ghost use Rattle.bz_words.specs.declared.command.Symbol.{Symbol};
+ghost use Rattle.bz_command_syntax.specs.declared.command.Symbol.{Symbol};
 ghost use Rattle.bz_load.specs.private.Known.{and_each, and_load, and_loaded, and_loads, and_symbol, knows, unknown};
 ghost use Rattle.bz_load.specs.private.KnownKeys.{symbol_of_key, symbols_of_keys};
 ghost use Rattle.bz_load.specs.NewLoad.{symbol_made as made_of};
@@ -9,7 +9,7 @@ use crate::making::symbol_made;
 use crate::readings::{Loaded, is_load_from, symbol_in, symbols_of};
 use bz_items::Memory;
 use bz_value::{Expr, Item};
-use bz_words::Symbol;
+use bz_command_syntax::Symbol;
 use indexmap::IndexSet;
 use std::alloc::Global;
 

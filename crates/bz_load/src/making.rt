@@ -1,17 +1,17 @@
 //! New loads, and new symbols of loads.
 ghost use Rattle.std.specs.Prelude.{◌≡◌, IfOk, [], ◌∷◌, codes};
 ghost use Rattle.bz_token.specs.declared.class.Class.TheVariants as c;
-ghost use Rattle.bz_tree.specs.declared.kind.Kind.TheVariants as k;
-ghost use Rattle.bz_words.specs.Quoted.{quoted_of};
+ghost use Rattle.bz_grammar.specs.declared.kind.Kind.TheVariants as k;
+ghost use Rattle.bz_command_syntax.specs.Quoted.{quoted_of};
 ghost use Rattle.bz_attribute.specs.Made.{token, node, sequence, name, mark};
 ghost use Rattle.bz_value.specs.declared.value.Item.TheVariants as i;
 ghost use Rattle.bz_load.specs.NewLoad.{symbol_made};
 
 use bz_attribute::{new_token, node, sequence, token};
 use bz_items::{Items, Memory, Text};
-use bz_tree::{Class, Kind};
+use bz_grammar::{Class, Kind};
 use bz_value::{Expr, Item};
-use bz_words::{Symbol, quoted};
+use bz_command_syntax::{Symbol, quoted};
 use std::alloc::Global;
 
 /// A word as a string.

@@ -7,7 +7,7 @@ ghost use Rattle.bz_load.specs.Loads.{after_path as following, is_load_item as i
 
 use bz_attribute::{body_of, first_text, has_kind, items_of, parts_of};
 use bz_rule::is_text;
-use bz_tree::Kind;
+use bz_grammar::Kind;
 use bz_value::{Expr, Item};
 
 /// A symbol that is loaded: its name in the file that loads it, and its name in the file that is loaded.

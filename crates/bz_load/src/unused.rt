@@ -1,7 +1,7 @@
 //! Symbols that nothing uses are loaded no more.
 ghost use Rattle.std.specs.Prelude.{◌≡◌, ◌&&◌, OnOk, not, map};
 ghost use Rattle.std.specs.List.{filter, list_any};
-ghost use Rattle.bz_tree.specs.declared.kind.Kind.TheVariants as k;
+ghost use Rattle.bz_grammar.specs.declared.kind.Kind.TheVariants as k;
 ghost use Rattle.bz_rule.specs.Values.{on_rest, on_items};
 ghost use Rattle.bz_value.specs.Empty.{is_empty};
 ghost use Rattle.bz_attribute.specs.Sets.{texts_of};
@@ -13,7 +13,7 @@ use crate::uses::{Names, used_names};
 use bz_attribute::{has_kind, has_text, items_of};
 use bz_items::{Items, Memory};
 use bz_rule::local_name;
-use bz_tree::Kind;
+use bz_grammar::Kind;
 use bz_value::{Comments, Expr, Item};
 use std::alloc::Global;
 use std::mem;

@@ -6,7 +6,7 @@ ghost use Rattle.bz_load.specs.Uses.{is_used, operands, operand_names_in, with_o
 
 use bz_attribute::insert_text;
 use bz_items::Memory;
-use bz_tree::{Class, Kind};
+use bz_grammar::{Class, Kind};
 use bz_value::{Expr, Item};
 use std::alloc::Global;
 use std::collections::BTreeSet;

@@ -3,13 +3,13 @@ use Rattle.std.proofs.Common.{ℕ, ◌≡◌, ◌+◌, ◌<◌, List, [], ◌∷
 use Rattle.std.proofs.lemmas.List.{length-map, length-reverse, map-append, reverse-reverse, take_at, drop_at, get_or_at, drop_more, take-append-drop}
 use Rattle.std.proofs.lemmas.Grind.{reverse_onto}
 use Rattle.sha2.specs.Sha256.{sha256}
-use Rattle.bz_tree.specs.declared.tree.Node.{Node}
-use Rattle.bz_tree.specs.Spell.{spell_node}
+use Rattle.bz_grammar.specs.declared.tree.Node.{Node}
+use Rattle.bz_grammar.specs.Spell.{spell_node}
 use Rattle.bz_edit.specs.declared.edit.Edit.{Edit}
 use Rattle.bz_edit.specs.Steps.{swap_node}
-use Rattle.bz_trail.specs.Trails.{IsTree, LeadOn, steps_back, steps_forward, trees}
-use Rattle.bz_trail.proofs.Keeps.{trees_length}
-use Rattle.bz_record.specs.declared.content.Record.{Record}
+use Rattle.bz_history.specs.Trails.{IsTree, LeadOn, steps_back, steps_forward, trees}
+use Rattle.bz_history.proofs.Keeps.{trees_length}
+use Rattle.bz_journal_format.specs.declared.content.Record.{Record}
 use Rattle.bz_resume.specs.private.Agreement.{StepsAgree, StepsAgreeAround, IsCounted, RecordAgrees, edits_of, recorded_trail}
 
 abbrev digest_of : Node → List ℕ

@@ -2,13 +2,13 @@
 use Rattle.std.proofs.Common.{ℕ, ◌≡◌, ◌+◌, ◌<◌, ◌≤◌, ◌↔◌, Bool, List, [], ◌∷◌, length, drop, get_or, sym, ap, ◌∙◌, subst}
 use Rattle.std.specs.Prelude.{IsTrue, IfOk, MatchOption, Result, Ok, Err, Option, Some, None}
 use Rattle.std.proofs.lemmas.List.{drop_more, drop_all}
-use Rattle.bz_tree.specs.declared.tree.Node.{Node}
-use Rattle.bz_tree.specs.Legal.{Reads}
-use Rattle.bz_tree.specs.Spell.{spell_node, limit}
-use Rattle.bz_tree.proofs.Unique.{one_tree}
+use Rattle.bz_grammar.specs.declared.tree.Node.{Node}
+use Rattle.bz_grammar.specs.Legal.{Reads}
+use Rattle.bz_grammar.specs.Spell.{spell_node, limit}
+use Rattle.bz_grammar.proofs.Unique.{one_tree}
 use Rattle.bz_edit.specs.declared.edit.Edit.{Edit}
 use Rattle.bz_edit.specs.Steps.{swap_node}
-use Rattle.bz_trail.specs.Trails.{IsTree}
+use Rattle.bz_history.specs.Trails.{IsTree}
 use Rattle.bz_resume.specs.private.Outlines.{outline_node}
 use Rattle.bz_resume.specs.private.Agreement.{StepAgrees, StepsAgree}
 use Rattle.bz_resume.proofs.Outlined.{one_outline}

@@ -4,14 +4,14 @@ use Rattle.std.specs.Prelude.{IsTrue, Result, Err}
 use Rattle.std.specs.List.{AllByRecursion}
 use Rattle.std.proofs.lemmas.Bool.{false≢true}
 use Rattle.std.proofs.lemmas.List.{length-reverse, get_or-reverse}
-use Rattle.bz_tree.specs.declared.tree.Node.{Node}
-use Rattle.bz_tree.specs.Legal.{NoTree, Reads}
-use Rattle.bz_tree.specs.Spell.{spell_node, limit}
+use Rattle.bz_grammar.specs.declared.tree.Node.{Node}
+use Rattle.bz_grammar.specs.Legal.{NoTree, Reads}
+use Rattle.bz_grammar.specs.Spell.{spell_node, limit}
 use Rattle.bz_edit.specs.declared.edit.Edit.{Edit}
 use Rattle.bz_edit.specs.Steps.{swap_node}
-use Rattle.bz_trail.specs.Trails.{IsTree}
-use Rattle.bz_trail.specs.Shown.{Text}
-use Rattle.bz_record.specs.declared.content.Record.{Record}
+use Rattle.bz_history.specs.Trails.{IsTree}
+use Rattle.bz_history.specs.Shown.{Text}
+use Rattle.bz_journal_format.specs.declared.content.Record.{Record}
 use Rattle.bz_resume.specs.private.Agreement.{StepsAgree, StepsAgreeAround, IsCounted, IsOpened, StepAgrees, RecordAgrees, MayLead, NoneAgrees, edits_of, notes_of, recorded_trail}
 use Rattle.bz_resume.proofs.Around.{to_whole, from_whole}
 use Rattle.bz_resume.proofs.Loops.{IsGoing, goes_further, stops}

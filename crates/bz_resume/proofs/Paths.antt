@@ -6,16 +6,16 @@ use Rattle.std.proofs.lemmas.Bool.{and_parts, lt-ltb}
 use Rattle.std.proofs.lemmas.Option.{same_Some}
 use Rattle.std.proofs.lemmas.List.{reverse-reverse, take-append-drop}
 use Rattle.std.proofs.lemmas.Grind.{reverse_onto}
-use Rattle.bz_tree.specs.declared.tree.Node.{Node}
-use Rattle.bz_tree.specs.declared.tree.Part.{Part}
-use Rattle.bz_tree.specs.declared.tree.Part.TheVariants as p
-use Rattle.bz_tree.specs.Spell.{depth_part, deepest, depth_limit}
-use Rattle.bz_tree.proofs.Spells.{depth_Node}
+use Rattle.bz_grammar.specs.declared.tree.Node.{Node}
+use Rattle.bz_grammar.specs.declared.tree.Part.{Part}
+use Rattle.bz_grammar.specs.declared.tree.Part.TheVariants as p
+use Rattle.bz_grammar.specs.Spell.{depth_part, deepest, depth_limit}
+use Rattle.bz_grammar.proofs.Spells.{depth_Node}
 use Rattle.bz_edit.specs.declared.edit.Edit.{Edit}
 use Rattle.bz_edit.specs.Places.{has_place}
 use Rattle.bz_edit.specs.Steps.{all_there, swap_node}
 use Rattle.bz_edit.proofs.Puts.{child_found}
-use Rattle.bz_trail.specs.Trails.{Trail, IsTrail, IsTree, StepLeads, LeadOn}
+use Rattle.bz_history.specs.Trails.{Trail, IsTrail, IsTree, StepLeads, LeadOn}
 use Rattle.bz_resume.specs.private.Agreement.{MayLead, are_short}
 
 item_depth : (xs : List Part) (i : ℕ) (x : Part) → slice_get xs i ≡ Some x → depth_part x ≤ deepest xs

@@ -4,22 +4,22 @@ use Rattle.std.specs.Prelude.{slice_index_or}
 use Rattle.std.specs.List.{AllByRecursion}
 use Rattle.std.proofs.lemmas.List.{length-map, reverse-reverse, take-append-drop}
 use Rattle.sha2.specs.Sha256.{sha256}
-use Rattle.bz_tree.specs.declared.tree.Node.{Node}
-use Rattle.bz_tree.specs.Spell.{spell_node, depth_limit}
+use Rattle.bz_grammar.specs.declared.tree.Node.{Node}
+use Rattle.bz_grammar.specs.Spell.{spell_node, depth_limit}
 use Rattle.bz_edit.specs.declared.edit.Edit.{Edit}
 use Rattle.bz_edit.specs.Steps.{swap_node}
-use Rattle.bz_trail.specs.Trails.{Trail, IsTrail, IsTree, LeadOn, trail_at}
-use Rattle.bz_trail.specs.Shown.{Text, texts_of}
-use Rattle.bz_trail.proofs.Keeps.{present_text, texts_length}
-use Rattle.bz_record.specs.declared.content.RecordedStep.{RecordedStep}
-use Rattle.bz_record.specs.declared.content.Record.{Record}
-use Rattle.bz_record.specs.declared.content.Version.TheVariants.{Two}
-use Rattle.bz_exact.specs.Spellings.{number_limit, IsDigest}
-use Rattle.bz_record.specs.Texts.{IsEdit, IsNotedStep, IsNote, IsRecord}
-use Rattle.bz_record.proofs.Digests.{digest_fits}
+use Rattle.bz_history.specs.Trails.{Trail, IsTrail, IsTree, LeadOn, trail_at}
+use Rattle.bz_history.specs.Shown.{Text, texts_of}
+use Rattle.bz_history.proofs.Keeps.{present_text, texts_length}
+use Rattle.bz_journal_format.specs.declared.content.RecordedStep.{RecordedStep}
+use Rattle.bz_journal_format.specs.declared.content.Record.{Record}
+use Rattle.bz_journal_format.specs.declared.content.Version.TheVariants.{Two}
+use Rattle.bz_journal_format.specs.Spellings.{number_limit, IsDigest}
+use Rattle.bz_journal_format.specs.Texts.{IsEdit, IsNotedStep, IsNote, IsRecord}
+use Rattle.bz_journal_format.proofs.Digests.{digest_fits}
 use Rattle.bz_resume.specs.Journals.{History, Journal, MaySave, journal_text, record_of, text_at}
-use Rattle.bz_record.specs.Contents.{entries_of}
-use Rattle.bz_record.proofs.Paired.{entries_length}
+use Rattle.bz_journal_format.specs.Contents.{entries_of}
+use Rattle.bz_journal_format.proofs.Paired.{entries_length}
 use Rattle.bz_resume.proofs.Paths.{all_joined, all_reversed}
 use Rattle.bz_resume.proofs.Sized.{step_fits}
 use Rattle.bz_resume.proofs.Slots.{few_edits}

@@ -1,7 +1,7 @@
 //! A record opened: its text read, and its steps tested.
 ghost use Rattle.std.specs.Prelude.{◌≡◌, ◌+◌, ◌≤◌, ◌↔◌, IsTrue, IfOk, Err, length};
-ghost use Rattle.bz_tree.specs.declared.tree.Node.{Node};
-ghost use Rattle.bz_tree.specs.Legal.{NoTree, Reads};
+ghost use Rattle.bz_grammar.specs.declared.tree.Node.{Node};
+ghost use Rattle.bz_grammar.specs.Legal.{NoTree, Reads};
 ghost use Rattle.bz_resume.specs.declared.fault.Halt.TheVariants as h;
 ghost use Rattle.bz_resume.specs.private.Agreement.{StepsAgreeAround, IsCounted, IsOpened, NoneAgrees};
 
@@ -12,7 +12,7 @@ use crate::splitting::split;
 use crate::replaying::{go_back, go_on, has_digest};
 use bz_edit::Step;
 use bz_items::Items;
-use bz_record::Record;
+use bz_journal_format::Record;
 use std::alloc::Global;
 
 /// Whether the steps before the cursor lead back from the tree of a text, and the others forward, to texts with these digests.

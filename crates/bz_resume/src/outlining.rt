@@ -5,7 +5,7 @@ ghost use Rattle.bz_resume.specs.private.Outlines.{marked, marked_byte, outline_
 
 use bz_items::Memory;
 use bz_lex::Leaf;
-use bz_tree::{Node, Part};
+use bz_grammar::{Node, Part};
 
 fn push_byte(byte: u8, out: &mut Vec<u8>) -> Result<(), Memory>
     ensures { OnOk result (out.new.items ≡ out.old.items ++ marked_byte byte) }

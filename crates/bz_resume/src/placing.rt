@@ -3,7 +3,7 @@ ghost use Rattle.std.specs.Prelude.{◌≡◌, ◌↔◌, false, Err, OnOk};
 ghost use Rattle.bz_edit.specs.Steps.{IsStep, all_there, swap_node};
 
 use bz_edit::{EditFault, Step, all_places, swap_each};
-use bz_tree::Node;
+use bz_grammar::Node;
 
 /// The node becomes the one that a step makes of it. The errors: a place is not in the node, which is then as before, or a growth
 /// was refused; the node is then somewhere between.

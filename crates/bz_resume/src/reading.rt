@@ -1,10 +1,10 @@
 ghost use Rattle.std.specs.Prelude.{◌≡◌, IfOk, Err};
-ghost use Rattle.bz_tree.specs.Legal.{NoTree, Reads};
+ghost use Rattle.bz_grammar.specs.Legal.{NoTree, Reads};
 ghost use Rattle.bz_resume.specs.declared.fault.Halt.TheVariants as h;
 
 use crate::fault::Halt;
-use bz_parse::parse;
-use bz_tree::{ReadFault, Tree};
+use bz_tree::parse;
+use bz_grammar::{ReadFault, Tree};
 use std::alloc::Global;
 
 /// The tree of a text.

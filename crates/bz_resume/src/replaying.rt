@@ -1,11 +1,11 @@
 //! Over the steps of a stranger, each of which is tested. No more than one tree is held at a time.
 ghost use Rattle.std.specs.Prelude.{◌≡◌, ◌↔◌, IsTrue, IfOk, Err, MatchOption, length, reverse};
 ghost use Rattle.sha2.specs.Sha256.{sha256};
-ghost use Rattle.bz_tree.specs.declared.tree.Node.{Node};
-ghost use Rattle.bz_tree.specs.Legal.{NoTree, Reads};
-ghost use Rattle.bz_tree.specs.Spell.{spell_node};
+ghost use Rattle.bz_grammar.specs.declared.tree.Node.{Node};
+ghost use Rattle.bz_grammar.specs.Legal.{NoTree, Reads};
+ghost use Rattle.bz_grammar.specs.Spell.{spell_node};
 ghost use Rattle.bz_edit.specs.Steps.{swap_node};
-ghost use Rattle.bz_trail.specs.Trails.{IsTree};
+ghost use Rattle.bz_history.specs.Trails.{IsTree};
 ghost use Rattle.bz_resume.specs.declared.fault.Halt.TheVariants as h;
 ghost use Rattle.bz_resume.specs.private.Outlines.{outline_node};
 ghost use Rattle.bz_resume.specs.private.Agreement.{StepAgrees, StepsAgree};
@@ -17,8 +17,8 @@ use crate::reading::read;
 use crate::touching::is_led_to;
 use bz_edit::{EditFault, Step};
 use bz_items::{Items, Memory};
-use bz_parse::parse;
-use bz_tree::{LENGTH_LIMIT, Node, ReadFault, Tree};
+use bz_tree::parse;
+use bz_grammar::{LENGTH_LIMIT, Node, ReadFault, Tree};
 use sha2::{Digest, Sha256};
 use std::alloc::{AllocError, Global};
 

@@ -1,7 +1,7 @@
 //! Resuming a journal.
 ghost use Rattle.std.specs.Prelude.{◌≡◌, ◌↔◌, List, IfOk, Err};
 ghost use Rattle.bz_edit.specs.declared.edit.Edit.{Edit};
-ghost use Rattle.bz_record.specs.Texts.{IsOtherVersion};
+ghost use Rattle.bz_journal_format.specs.Texts.{IsOtherVersion};
 ghost use Rattle.bz_resume.specs.declared.fault.ResumeFault.TheVariants as f;
 ghost use Rattle.bz_resume.specs.Journals.{History, Journal, NoJournal};
 ghost use Rattle.bz_resume.specs.Resumed.{IsKnown, IsResumed, IsStale};
@@ -10,7 +10,7 @@ use crate::fault::{Halt, ResumeFault};
 use crate::opening::open;
 use crate::resumed::Resumed;
 use crate::standing::stand;
-use bz_record::{RecordFault, read_record};
+use bz_journal_format::{RecordFault, read_record};
 use std::alloc::Global;
 
 /// What a journal says, at the text that the file has now.

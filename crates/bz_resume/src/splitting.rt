@@ -7,8 +7,8 @@ ghost use Rattle.bz_resume.specs.private.Agreement.{MayLead, are_short as short,
 use crate::fault::Halt;
 use bz_edit::{Edit, Step};
 use bz_items::{Items, Text};
-use bz_record::RecordedStep;
-use bz_tree::DEPTH_LIMIT;
+use bz_journal_format::RecordedStep;
+use bz_grammar::DEPTH_LIMIT;
 use std::alloc::Global;
 
 /// Whether no path is as long as a tree is deep.

@@ -1,16 +1,16 @@
 //! Where a trail matches the text of a file.
 ghost use Rattle.std.specs.Prelude.{◌≡◌, ◌≤◌, IfOk, OnOk, length};
 ghost use Rattle.std.specs.Str.{bytes_eq};
-ghost use Rattle.bz_tree.specs.Spell.{spell_node};
-ghost use Rattle.bz_trail.specs.Trails.{IsTrail, trail_at};
-ghost use Rattle.bz_trail.specs.Shown.{Moves};
+ghost use Rattle.bz_grammar.specs.Spell.{spell_node};
+ghost use Rattle.bz_history.specs.Trails.{IsTrail, trail_at};
+ghost use Rattle.bz_history.specs.Shown.{Moves};
 ghost use Rattle.bz_resume.specs.private.Agreement.{HasStood};
 
 use bz_edit::Step;
 use bz_items::Memory;
-use bz_trail::laws::texts_kept;
-use bz_trail::{go_back, go_forward};
-use bz_tree::Tree;
+use bz_history::laws::texts_kept;
+use bz_history::{go_back, go_forward};
+use bz_grammar::Tree;
 
 /// Whether the tree spells this text. The error: a growth was refused.
 fn spells(tree: &Tree, text: &[u8]) -> Result<bool, Memory>

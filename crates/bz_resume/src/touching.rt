@@ -1,18 +1,18 @@
 //! Whether a step leads to a legal tree, by the statements that it touches: only these are read anew.
 ghost use Rattle.std.specs.Prelude.{◌≡◌, ◌≤◌, [], ◌∷◌, IsTrue, IfOk, IfSome, length};
 ghost use Rattle.std.specs.List.{AllByRecursion};
-ghost use Rattle.bz_tree.specs.declared.tree.Node.{Node};
-ghost use Rattle.bz_tree.specs.Spell.{spell_node, limit};
-ghost use Rattle.bz_tree.specs.Joined.{AreWholeLines, file_with};
-ghost use Rattle.bz_tree.specs.Split.{bare_end};
+ghost use Rattle.bz_grammar.specs.declared.tree.Node.{Node};
+ghost use Rattle.bz_grammar.specs.Spell.{spell_node, limit};
+ghost use Rattle.bz_grammar.specs.Joined.{AreWholeLines, file_with};
+ghost use Rattle.bz_grammar.specs.Split.{bare_end};
 ghost use Rattle.bz_edit.specs.Steps.{swap_node};
-ghost use Rattle.bz_trail.specs.Trails.{IsTree};
+ghost use Rattle.bz_history.specs.Trails.{IsTree};
 ghost use Rattle.bz_resume.specs.private.Alone.{AreAlone, AreLined, AreTouchedAlone, EndsLine, IsAlone, IsAloneAt, IsHeldAlone, IsLineFeed, IsTouchedAlone, IsWithin};
 
 use bz_edit::Edit;
 use bz_items::Memory;
-use bz_parse::parse;
-use bz_tree::{Class, Node, Part, ReadFault, Tree};
+use bz_tree::parse;
+use bz_grammar::{Class, Node, Part, ReadFault, Tree};
 use std::alloc::AllocError;
 
 /// Whether the part is the end of a text, with nothing before it.

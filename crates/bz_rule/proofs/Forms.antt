@@ -1,9 +1,9 @@
 -- A form as an expression, and back.
 use Rattle.std.proofs.Common.{suc, ◌≡◌, List, ap, ◌∙◌, nat_eq, refl, Option, Some, None, if◌then◌else◌, ◌∷◌}
 use mathlib.Core.Former.{Count}
-use Rattle.bz_tree.specs.declared.kind.Kind.{Kind}
-use Rattle.bz_tree.specs.declared.kind.Kind.TheVariants as k
-use Rattle.bz_tree.specs.Kinds.{kind_number}
+use Rattle.bz_grammar.specs.declared.kind.Kind.{Kind}
+use Rattle.bz_grammar.specs.declared.kind.Kind.TheVariants as k
+use Rattle.bz_grammar.specs.Kinds.{kind_number}
 use Rattle.bz_value.specs.declared.value.Form.{Form}
 use Rattle.bz_value.specs.declared.value.Expr.{Expr, Form', Row_of-Expr, end_of-Expr, more_of-Expr, items-the_row-Expr, items_hidden-the_row-Expr-0}
 use Rattle.bz_value.specs.declared.value.Expr.TheVariants as e

@@ -5,9 +5,9 @@ use Rattle.std.specs.Str.{IsUtf8}
 use Rattle.bz_token.specs.declared.class.Class.{Class}
 use Rattle.bz_token.specs.declared.class.Class.TheVariants as c
 use Rattle.bz_token.specs.Lexemes.{IsString}
-use Rattle.bz_tree.specs.declared.kind.Kind.{Kind}
-use Rattle.bz_tree.specs.declared.kind.Kind.TheVariants as k
-use Rattle.bz_tree.specs.Shapes.{is_class}
+use Rattle.bz_grammar.specs.declared.kind.Kind.{Kind}
+use Rattle.bz_grammar.specs.declared.kind.Kind.TheVariants as k
+use Rattle.bz_grammar.specs.Shapes.{is_class}
 use Rattle.bz_value.specs.declared.value.Expr.{Expr, Token, Form', items-the_row-Expr}
 use Rattle.bz_value.specs.declared.value.Expr.TheVariants as e
 use Rattle.bz_value.specs.Comments.{HostComments}

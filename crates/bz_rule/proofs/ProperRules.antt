@@ -2,10 +2,10 @@
 use Rattle.std.proofs.Common.{◌≡◌, Bool, true, List, [], ◌∷◌, subst}
 use Rattle.std.specs.Prelude.{Option, Some, None, IfSome, option_map}
 use Rattle.std.specs.Option.{option_and_then}
-use Rattle.bz_tree.specs.declared.kind.Kind.TheVariants as k
-use Rattle.bz_tree.specs.Shapes as s
-use Rattle.bz_tree.specs.Legal.{IsNonterminal}
-use Rattle.bz_tree.specs.Spots.{Spot, Begins}
+use Rattle.bz_grammar.specs.declared.kind.Kind.TheVariants as k
+use Rattle.bz_grammar.specs.Shapes as s
+use Rattle.bz_grammar.specs.Legal.{IsNonterminal}
+use Rattle.bz_grammar.specs.Spots.{Spot, Begins}
 use Rattle.bz_value.specs.declared.value.Expr.{Expr, Token, Form', items-the_row-Expr}
 use Rattle.bz_value.specs.declared.value.Item.{Item}
 use Rattle.bz_value.specs.declared.value.Item.TheVariants as i

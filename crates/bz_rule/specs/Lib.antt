@@ -1,3 +1,5 @@
+pub mod Held
+pub mod Index
 pub mod QuoteMarks
 pub mod Rules
 pub mod Seen

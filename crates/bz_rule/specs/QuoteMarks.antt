@@ -1,6 +1,6 @@
 -- The quote marks of strings, and what is between them.
 use Rattle.std.specs.Prelude.{ℕ, Bool, false, ◌&&◌, ◌||◌, ◌-◌, ◌*◌, [], ◌∷◌, if◌then◌else◌, take, drop, length, nat_eq, nat_le}
-use Rattle.bz_tree.specs.declared.kind.Kind.TheVariants as k
+use Rattle.bz_grammar.specs.declared.kind.Kind.TheVariants as k
 use Rattle.bz_value.specs.declared.value.Expr.{Expr}
 use Rattle.bz_items.specs.Characters.{Bytes, apostrophe, quotation_mark}
 use Rattle.bz_rule.specs.Values.{has_kind, text_of, first_text, parts_of}

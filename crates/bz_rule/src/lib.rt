@@ -2,14 +2,17 @@
 #![tactic(auto)]
 
 mod apart;
+mod index;
 mod laws;
 mod names;
 mod parts;
+mod places;
 mod plain;
 mod quote_marks;
 mod rules;
 
 pub use apart::take_apart;
+pub use index::Names;
 pub use laws::worked_bodies;
 pub use names::{is_dotted, is_named};
 pub use parts::{form_in, is_text, only, text_in};

@@ -6,7 +6,7 @@ ghost use Rattle.bz_rule.specs.Rules.{is_text, text_in, dotted, joined, dotted_n
 ghost use Rattle.bz_rule.specs.private.Named.{each_named, fronts, fronts_among};
 
 use crate::parts::{is_text, text_in};
-use bz_tree::{Class, Kind};
+use bz_grammar::{Class, Kind};
 use bz_value::Expr;
 
 // What is before this end of a text.

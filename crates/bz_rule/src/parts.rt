@@ -3,7 +3,7 @@ ghost use Rattle.std.specs.Prelude.{◌≡◌, Option};
 ghost use Rattle.std.specs.Option.{option_copied};
 ghost use Rattle.bz_rule.specs.Rules.{form_in, text_in, only, is_text};
 
-use bz_tree::{Class, Kind};
+use bz_grammar::{Class, Kind};
 use bz_value::{Expr, Form};
 
 /// The form, where the expression is one of this kind.

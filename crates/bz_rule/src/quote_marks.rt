@@ -3,7 +3,7 @@ ghost use Rattle.std.specs.Prelude.{◌≡◌, ◌≤◌};
 ghost use Rattle.bz_rule.specs.QuoteMarks.{begins_thrice, marks_of, inside, between, unprefixed, local_name};
 ghost use Rattle.bz_rule.specs.Values.{first_text, text_of};
 
-use bz_tree::Kind;
+use bz_grammar::Kind;
 use bz_value::Expr;
 
 fn begins_thrice(text: &[u8]) -> bool

@@ -7,7 +7,7 @@ ghost use Rattle.bz_rule.specs.Seen.{seen};
 use crate::names::{is_dotted, is_named};
 use crate::parts::{form_in, is_text, only, text_in};
 use crate::plain::body;
-use bz_tree::{Class, Kind};
+use bz_grammar::{Class, Kind};
 use bz_value::{Expr, Form, Item};
 
 /// A statement that is a call: what is called, and the arguments. It is a rule where that is a name, or names joined by

@@ -8,7 +8,7 @@ use Rattle.bz_states.specs.declared.symbol.Symbol.{Symbol}
 use Rattle.bz_states.specs.declared.symbol.Symbol.TheVariants as y
 use Rattle.bz_states.specs.declared.token.TokenSet.{TokenSet}
 use Rattle.bz_states.specs.declared.token.TokenSet.TheVariants as t
-use Rattle.bz_tree.specs.Shapes.{Terminal, any, this, is_class, is_one_of}
+use Rattle.bz_grammar.specs.Shapes.{Terminal, any, this, is_class, is_one_of}
 use Rattle.bz_states.specs.Tokens.{bare, terminals_of}
 use Rattle.bz_states.specs.Symbols.{SymbolEntry, example, known, keyword_table, mark_table, symbol_of_token}
 

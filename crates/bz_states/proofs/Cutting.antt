@@ -7,8 +7,8 @@ use Rattle.bz_lex.specs.declared.place.Place.{Place}
 use Rattle.bz_lex.specs.Places.{next}
 use Rattle.bz_lex.specs.Fronts.{IsFront, NoLeaf, AnswersFront, front_leaf, front_token, after_front}
 use Rattle.bz_lex.proofs.Coming.{to_come, come_first, come_none}
-use Rattle.bz_tree.specs.Shapes.{Terminal, any, this, is_class, is_one_of}
-use Rattle.bz_tree.specs.Reading.{starts_with}
+use Rattle.bz_grammar.specs.Shapes.{Terminal, any, this, is_class, is_one_of}
+use Rattle.bz_grammar.specs.Reading.{starts_with}
 use Rattle.bz_states.specs.Tokens.{bare, terminals_of}
 use Rattle.bz_states.specs.declared.symbol.Symbol.{Symbol}
 use Rattle.bz_states.specs.declared.symbol.Symbol.TheVariants as y

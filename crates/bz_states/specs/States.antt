@@ -1,8 +1,8 @@
 -- The parser's states: what is left to read in each, and the move that this requires.
 use Rattle.std.specs.Prelude.{◌≡◌, ℕ, zero, suc, ◌+◌, ◌≤◌, Bool, true, false, List, codes}
 use Rattle.bz_lex.specs.declared.leaf.Leaf.{Leaf}
-use Rattle.bz_tree.specs.declared.kind.Kind.{Kind}
-use Rattle.bz_tree.specs.declared.kind.Kind.TheVariants as k
+use Rattle.bz_grammar.specs.declared.kind.Kind.{Kind}
+use Rattle.bz_grammar.specs.declared.kind.Kind.TheVariants as k
 use Rattle.bz_states.specs.declared.token.TokenSet.{TokenSet}
 use Rattle.bz_states.specs.declared.token.TokenSet.TheVariants as t
 use Rattle.bz_states.specs.declared.state.PartNonterminal.{PartNonterminal as Place}
@@ -48,9 +48,9 @@ use Rattle.bz_states.specs.declared.state.Move.{Move}
 use Rattle.bz_states.specs.declared.state.Move.TheVariants as m
 use Rattle.bz_states.specs.declared.state.Precedence.{Precedence}
 use Rattle.bz_states.specs.declared.state.Precedence.TheVariants as g
-use Rattle.bz_tree.specs.Shapes.{Terminal, Nonterminal, rank, level, argument, entry, clause, first_clause, loaded, small, line, param, or_level, test, expr, Shape, none, done, tok, sub, alt, list, each, times, items, slice_end, starred, bzl_shape, assigns, comma_mark, colon_mark, one_keyword, open_round, close_round, open_square, close_square}
-use Rattle.bz_tree.specs.Reading.{starts, starts_with, first, first_of, Plan, finish, one, piece, choose, round, square, curly, suffix_plan, clause_plan, small_plan, more_items, clauses}
-use Rattle.bz_tree.specs.Suites.{def_header, for_header, test_header, else_header}
+use Rattle.bz_grammar.specs.Shapes.{Terminal, Nonterminal, rank, level, argument, entry, clause, first_clause, loaded, small, line, param, or_level, test, expr, Shape, none, done, tok, sub, alt, list, each, times, items, slice_end, starred, bzl_shape, assigns, comma_mark, colon_mark, one_keyword, open_round, close_round, open_square, close_square}
+use Rattle.bz_grammar.specs.Reading.{starts, starts_with, first, first_of, Plan, finish, one, piece, choose, round, square, curly, suffix_plan, clause_plan, small_plan, more_items, clauses}
+use Rattle.bz_grammar.specs.Suites.{def_header, for_header, test_header, else_header}
 use Rattle.bz_states.specs.Tokens.{terminals_of}
 
 abbrev pub nonterminal_of : Place → Nonterminal

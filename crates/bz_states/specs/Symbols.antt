@@ -6,8 +6,8 @@ use Rattle.bz_lex.specs.declared.leaf.Leaf.{Leaf}
 use Rattle.bz_states.specs.declared.symbol.Symbol.{Symbol}
 use Rattle.bz_states.specs.declared.symbol.Symbol.TheVariants as y
 use Rattle.bz_states.specs.declared.token.TokenSet.{TokenSet}
-use Rattle.bz_tree.specs.Shapes.{is_one_of}
-use Rattle.bz_tree.specs.Reading.{starts_with}
+use Rattle.bz_grammar.specs.Shapes.{is_one_of}
+use Rattle.bz_grammar.specs.Reading.{starts_with}
 use Rattle.bz_states.specs.Tokens.{bare, terminals_of}
 
 abbrev mark : List ℕ → Leaf

@@ -2,13 +2,13 @@
 use Rattle.std.specs.Prelude.{◌≡◌, ℕ, List, [], ◌++◌, Option, None, Result, Ok, Err, codes}
 use Rattle.bz_token.specs.declared.class.Class.{Class}
 use Rattle.bz_lex.specs.declared.leaf.Leaf.{Leaf}
-use Rattle.bz_tree.specs.declared.tree.Part.{Part}
+use Rattle.bz_grammar.specs.declared.tree.Part.{Part}
 use Rattle.bz_states.specs.declared.token.TokenSet.{TokenSet}
 use Rattle.bz_states.specs.declared.token.TokenSet.TheVariants as t
 use Rattle.bz_states.specs.declared.token.ParseHalt.{ParseHalt}
 use Rattle.bz_states.specs.declared.token.ParseHalt.TheVariants as h
-use Rattle.bz_tree.specs.Shapes.{Terminal, name, string, simple, newline, end, open_round, close_round, open_square, close_square, open_curly, close_curly, comma_mark, colon_mark, semicolon, dot, equals, assigns, stars, signs, orders, shifts, sums, products, flows, one_mark, one_keyword, clause, stmt, expr}
-use Rattle.bz_tree.specs.Reading.{Read, token_part, starts, first_of, suffix_plan}
+use Rattle.bz_grammar.specs.Shapes.{Terminal, name, string, simple, newline, end, open_round, close_round, open_square, close_square, open_curly, close_curly, comma_mark, colon_mark, semicolon, dot, equals, assigns, stars, signs, orders, shifts, sums, products, flows, one_mark, one_keyword, clause, stmt, expr}
+use Rattle.bz_grammar.specs.Reading.{Read, token_part, starts, first_of, suffix_plan}
 
 abbrev pub terminals_of : TokenSet → List Terminal
 terminals_of t.Name = name

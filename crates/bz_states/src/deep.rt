@@ -3,7 +3,7 @@ ghost use Rattle.std.specs.Prelude.{◌≡◌};
 
 use crate::state::{LAMBDA, NOT, PartNonterminal, Precedence, UNARY, precedence_at};
 use crate::token::{Leaves, TokenSet};
-use bz_tree::{Part, first_of};
+use bz_grammar::{Part, first_of};
 
 /// Marks where the part, right before the next leaf, holds the first node inside more than this many levels.
 pub fn mark_deep_part(part: &Part, depth: u32, leaves: &mut Leaves)

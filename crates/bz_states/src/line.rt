@@ -2,7 +2,7 @@
 ghost use Rattle.std.specs.Prelude.{◌≡◌, ◌≤◌, ◌++◌, ℕ, List, IfSome, length};
 ghost use Rattle.bz_lex.specs.Gaps.{indent};
 ghost use Rattle.bz_lex.specs.Stops.{BeginsLine};
-ghost use Rattle.bz_tree.specs.Spell.{limit};
+ghost use Rattle.bz_grammar.specs.Spell.{limit};
 
 use bz_lex::{Class, Place, leaf_front};
 

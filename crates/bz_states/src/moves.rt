@@ -1,5 +1,5 @@
 //! What comes next in headers, slices and statements: the longest rows of the table, beside those of src/state.rt.
-ghost use Rattle.bz_tree.specs.Reading.{finish};
+ghost use Rattle.bz_grammar.specs.Reading.{finish};
 ghost use Rattle.bz_states.specs.States.{left_of_header, left_of_slice, left_of_statement, Expects, Few};
 
 use crate::state::{
@@ -7,7 +7,7 @@ use crate::state::{
     StatementAt, TEST, Tail,
 };
 use crate::token::TokenSet;
-use bz_tree::Kind;
+use bz_grammar::Kind;
 
 impl HeaderAt {
     pub(crate) fn next(self) -> Move

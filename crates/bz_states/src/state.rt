@@ -1,10 +1,10 @@
 //! The table of the grammar: what comes next inside a node.
 ghost use Rattle.std.specs.Prelude.{◌≡◌};
-ghost use Rattle.bz_tree.specs.Reading.{finish};
+ghost use Rattle.bz_grammar.specs.Reading.{finish};
 ghost use Rattle.bz_states.specs.States.{precedence_of, operator_of, plan_at, left_in_rest, row_of_items, row_of_operands, row_of_brackets, left_in_items, left_in_operands, left_of_clauses, left_of_names, left_of_lambda, left_of_starred, left_in_round, left_in_brackets, left_of_suffix, Expects, Few};
 
 use crate::token::TokenSet;
-use bz_tree::Kind;
+use bz_grammar::Kind;
 
 /// The alternatives of the grammar that make no node.
 #[derive(Clone, Copy)]

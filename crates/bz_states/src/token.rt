@@ -1,13 +1,13 @@
 //! The tokens that the grammar requires, and the leaves of a text, of which the next one is known.
 ghost use Rattle.std.specs.Prelude.{◌≡◌, ◌↔◌, ◌≤◌, ◌<◌, ◌&&◌, ◌∷◌, [], ℕ, nat_le, false, Some, None, length, drop, MatchOption, IfOk, IsTrue};
-ghost use Rattle.bz_tree.specs.Shapes.{is_one_of};
-ghost use Rattle.bz_tree.specs.Reading.{starts_with};
-ghost use Rattle.bz_tree.specs.Indents.{first_indent};
-ghost use Rattle.bz_tree.specs.Suites.{stands_at};
+ghost use Rattle.bz_grammar.specs.Shapes.{is_one_of};
+ghost use Rattle.bz_grammar.specs.Reading.{starts_with};
+ghost use Rattle.bz_grammar.specs.Indents.{first_indent};
+ghost use Rattle.bz_grammar.specs.Suites.{stands_at};
 ghost use Rattle.bz_lex.specs.Gaps.{indent};
 ghost use Rattle.bz_states.specs.declared.token.TokenSet.TheVariants as t;
-ghost use Rattle.bz_tree.specs.declared.tree.Part.TheVariants as p;
-ghost use Rattle.bz_tree.specs.Spell.{limit};
+ghost use Rattle.bz_grammar.specs.declared.tree.Part.TheVariants as p;
+ghost use Rattle.bz_grammar.specs.Spell.{limit};
 ghost use Rattle.bz_lex.proofs.Coming.{to_come};
 ghost use Rattle.bz_lex.specs.Fronts.{AnswersFront};
 ghost use Rattle.bz_states.specs.Symbols.{example, DecidesFirst};

@@ -1,32 +1,6 @@
-//! The seven passes over file values that come before the layout.
+//! Tidying: the seven passes over the value of a BUILD file, and the one over that of a .bzl file. The work is in the crates below;
+//! this one has their names in one place.
 #![tactic(auto)]
 
-mod arguments;
-mod exchanged;
-mod flags;
-mod labels;
-mod laws;
-mod lists;
-mod loads;
-mod marks;
-mod names;
-mod ordering;
-mod proper_laws;
-mod quotes;
-mod repeats;
-mod runs;
-mod spliced;
-mod strings;
-mod symbols;
-mod tidying;
-mod walk;
-
-pub use exchanged::tidy_marked;
-pub use flags::settle;
-pub use laws::{
-    comments_stay, exchanged_tidied, flags_settle, marks_move, sorting_is_the_one, tidied_apart,
-    tidy_settles, tidy_stays, worked_passes, worked_programs,
-};
-pub use proper_laws::{program_stays, proper_stays, tokens_stay};
-pub use spliced::{Window, begins_with_load, tidy_spliced};
-pub use tidying::tidy;
+pub use bz_bzl_layout::level;
+pub use bz_passes::tidy;

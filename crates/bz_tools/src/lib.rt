@@ -1,14 +1,8 @@
-//! The program buildifier as an engine over any reader, writers and files: what the words of a command line mean, and what
-//! a run of them does.
+//! The engines of both programs, with the readers, writers and files that they run over. The work is in the crates below; this one
+//! has their names in one place.
 #![tactic(auto)]
 
-mod effect;
-mod file_type;
-mod format_line;
-mod formatting;
-mod laws;
-mod mode;
-
-pub use bz_ports::{Cut, Device, Exit, MemorySink, MemorySource, PortFault, Sink, Source};
-pub use formatting::buildifier;
-pub use laws::{cut_runs_are_begun, outcomes_agree, whole_runs_are_exact, worked_formats};
+pub use bz_buildifier::buildifier;
+pub use bz_buildozer::buildozer;
+pub use bz_files::{DiskFiles, FileFault, Files, MemoryFiles};
+pub use bz_streams::{Cut, Device, Exit, MemorySink, MemorySource, PortFault, Sink, Source};

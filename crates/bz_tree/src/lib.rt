@@ -1,15 +1,12 @@
-//! Trees: kinds, the table of shapes, legal trees, and the law that no text has two of them.
+//! The parser: a text is read as the one legal tree that spells it, or refused with its first fault.
 #![tactic(auto)]
 
-mod kind;
-pub mod laws;
-mod older;
-mod same;
-mod statement;
-mod tree;
+mod grammar;
+mod indented;
+mod parsing;
+mod row;
 
-pub use bz_lex::{Class, DEPTH_LIMIT, LENGTH_LIMIT, Leaf, ReadFault};
-pub use kind::Kind;
-pub use older::have_newer;
-pub use statement::first_of;
-pub use tree::{BzlTree, Node, Part, Tree, copy_all};
+pub use parsing::{parse, parse_bzl, unexpected_at};
+pub use bz_grammar::laws;
+pub use bz_grammar::{BzlTree, Class, DEPTH_LIMIT, Kind, LENGTH_LIMIT, Leaf, Node, Part, ReadFault, Tree};
+pub use bz_lex::lex;

@@ -1,11 +1,11 @@
 -- An expression that is proper along a line is proper at its start: neither is inside brackets.
 use Rattle.std.proofs.Common.{◌≡◌, Bool, refl, sym, ap, ◌∙◌}
-use Rattle.bz_tree.specs.declared.kind.Kind.{Kind}
-use Rattle.bz_tree.specs.declared.kind.Kind.TheVariants as k
-use Rattle.bz_tree.specs.Spots.{Spot, onward, Role, opens, closes, ends, plain, role, following_token, after_node}
+use Rattle.bz_grammar.specs.declared.kind.Kind.{Kind}
+use Rattle.bz_grammar.specs.declared.kind.Kind.TheVariants as k
+use Rattle.bz_grammar.specs.Spots.{Spot, onward, Role, opens, closes, ends, plain, role, following_token, after_node}
 use Rattle.bz_value.specs.declared.value.Expr.{Expr, Token, Form', Row_of-Expr, end_of-Expr, more_of-Expr}
 use Rattle.bz_value.specs.Frames.{frame, is_binary}
-use Rattle.bz_tree.specs.Shapes.{Shape}
+use Rattle.bz_grammar.specs.Shapes.{Shape}
 use Rattle.bz_value.specs.Proper.{after_expr, ProperBy, ProperRowBy, ProperHeadBy}
 use Rattle.bz_value.proofs.FormParts.{framed}
 

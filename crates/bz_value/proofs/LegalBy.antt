@@ -1,14 +1,14 @@
 -- Parts that are legal by a grammar: every node has the shape that the grammar gives its kind.
 use Rattle.std.proofs.Common.{List, sym, subst}
 use Rattle.std.specs.List.{AllByRecursion}
-use Rattle.bz_tree.specs.declared.kind.Kind.{Kind}
-use Rattle.bz_tree.specs.declared.kind.Kind.TheVariants as k
-use Rattle.bz_tree.specs.declared.tree.Node.{Node}
-use Rattle.bz_tree.specs.declared.tree.Part.{Part, Row_of-Part, end_of-Part, more_of-Part, Node', items-the_row-Part}
-use Rattle.bz_tree.specs.declared.tree.Part.TheVariants as p
-use Rattle.bz_tree.specs.Shapes.{Shape, Fits, shape, bzl_shape}
-use Rattle.bz_tree.specs.Legal.{IsNonterminal, LegalPart, LegalRow, LegalBzlPart, LegalBzlRow}
-use Rattle.bz_tree.proofs.Nested.{row_of, items_of_row}
+use Rattle.bz_grammar.specs.declared.kind.Kind.{Kind}
+use Rattle.bz_grammar.specs.declared.kind.Kind.TheVariants as k
+use Rattle.bz_grammar.specs.declared.tree.Node.{Node}
+use Rattle.bz_grammar.specs.declared.tree.Part.{Part, Row_of-Part, end_of-Part, more_of-Part, Node', items-the_row-Part}
+use Rattle.bz_grammar.specs.declared.tree.Part.TheVariants as p
+use Rattle.bz_grammar.specs.Shapes.{Shape, Fits, shape, bzl_shape}
+use Rattle.bz_grammar.specs.Legal.{IsNonterminal, LegalPart, LegalRow, LegalBzlPart, LegalBzlRow}
+use Rattle.bz_grammar.proofs.Nested.{row_of, items_of_row}
 use Rattle.bz_value.specs.LineShapes.{line_shape}
 use Rattle.bz_value.proofs.Wider.{IsWider}
 

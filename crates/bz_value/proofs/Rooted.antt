@@ -1,12 +1,12 @@
 -- All that the table of shapes sees of a part is its root: parts of equal roots fit equal shapes.
 use Rattle.std.proofs.Common.{Bool, true, ◌≡◌, suc, List, [], ◌∷◌, ◌++◌, inl, inr, refl, sym, ap, ◌∙◌, subst, take, drop}
 use Rattle.bz_lex.specs.declared.leaf.Leaf.{Leaf}
-use Rattle.bz_tree.specs.declared.kind.Kind.{Kind}
-use Rattle.bz_tree.specs.declared.kind.Kind.TheVariants as k
-use Rattle.bz_tree.specs.declared.tree.Part.{Part}
-use Rattle.bz_tree.specs.Shapes as s
-use Rattle.bz_tree.specs.Shapes.{Nonterminal, Terminal, Shape, Fits, Listed, After, Several, Times, no_more, once_more, shape, items, has_token, has_nonterminal, is_one_of, is_terminal, tok, done}
-use Rattle.bz_tree.specs.Legal.{IsNonterminal}
+use Rattle.bz_grammar.specs.declared.kind.Kind.{Kind}
+use Rattle.bz_grammar.specs.declared.kind.Kind.TheVariants as k
+use Rattle.bz_grammar.specs.declared.tree.Part.{Part}
+use Rattle.bz_grammar.specs.Shapes as s
+use Rattle.bz_grammar.specs.Shapes.{Nonterminal, Terminal, Shape, Fits, Listed, After, Several, Times, no_more, once_more, shape, items, has_token, has_nonterminal, is_one_of, is_terminal, tok, done}
+use Rattle.bz_grammar.specs.Legal.{IsNonterminal}
 use Rattle.bz_items.specs.Characters.{comma}
 use Rattle.bz_value.specs.Frames.{Frame, row, sequence, frame, lead}
 use Rattle.bz_value.specs.LineShapes.{line_shape}

@@ -1,14 +1,14 @@
 -- What is proper by a grammar is proper by a wider one; that of the lines of .bzl files is wider than that of BUILD files.
 use Rattle.std.proofs.Common.{Bool, List, [], ◌∷◌, inl, inr}
 use Rattle.std.proofs.lemmas.Bool.{or_left}
-use Rattle.bz_tree.specs.declared.kind.Kind.{Kind}
-use Rattle.bz_tree.specs.declared.kind.Kind.TheVariants as k
-use Rattle.bz_tree.specs.declared.tree.Part.{Part, Node'}
-use Rattle.bz_tree.specs.declared.tree.Part.TheVariants as p
-use Rattle.bz_tree.specs.Shapes as s
-use Rattle.bz_tree.specs.Shapes.{Shape, Fits, shape}
-use Rattle.bz_tree.specs.Legal.{IsNonterminal}
-use Rattle.bz_tree.specs.Spots.{Spot, Within}
+use Rattle.bz_grammar.specs.declared.kind.Kind.{Kind}
+use Rattle.bz_grammar.specs.declared.kind.Kind.TheVariants as k
+use Rattle.bz_grammar.specs.declared.tree.Part.{Part, Node'}
+use Rattle.bz_grammar.specs.declared.tree.Part.TheVariants as p
+use Rattle.bz_grammar.specs.Shapes as s
+use Rattle.bz_grammar.specs.Shapes.{Shape, Fits, shape}
+use Rattle.bz_grammar.specs.Legal.{IsNonterminal}
+use Rattle.bz_grammar.specs.Spots.{Spot, Within}
 use Rattle.bz_value.specs.declared.value.Expr.{Expr, Token, Form', Row_of-Expr, end_of-Expr, more_of-Expr}
 use Rattle.bz_value.specs.Frames.{frame, is_binary}
 use Rattle.bz_value.specs.LineShapes.{line_shape}

@@ -1,7 +1,7 @@
 -- How the nodes of each kind are kept in a file value: as a sequence in brackets, or as the row of their parts.
 use Rattle.std.specs.Prelude.{ℕ, Bool, true, false}
-use Rattle.bz_tree.specs.declared.kind.Kind.{Kind}
-use Rattle.bz_tree.specs.declared.kind.Kind.TheVariants as k
+use Rattle.bz_grammar.specs.declared.kind.Kind.{Kind}
+use Rattle.bz_grammar.specs.declared.kind.Kind.TheVariants as k
 
 -- a row of parts, or a sequence between two brackets
 pub data Frame : Type 0 where

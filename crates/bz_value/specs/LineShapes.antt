@@ -1,7 +1,7 @@
 -- The grammar of what is in the lines of a .bzl file.
-use Rattle.bz_tree.specs.declared.kind.Kind.{Kind}
-use Rattle.bz_tree.specs.declared.kind.Kind.TheVariants as k
-use Rattle.bz_tree.specs.Shapes.{Shape, none, bzl_shape}
+use Rattle.bz_grammar.specs.declared.kind.Kind.{Kind}
+use Rattle.bz_grammar.specs.declared.kind.Kind.TheVariants as k
+use Rattle.bz_grammar.specs.Shapes.{Shape, none, bzl_shape}
 
 -- The whole grammar, but that nothing has the shape of a function, a branch, a loop or a suite: these hold lines and are in
 -- none.

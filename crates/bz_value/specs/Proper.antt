@@ -3,11 +3,11 @@ use Rattle.std.specs.Prelude.{◌≡◌, ◌≢◌, Bool, true, false, not, ◌&
 use Rattle.bz_token.specs.declared.class.Class.{Class}
 use Rattle.bz_token.specs.declared.class.Class.TheVariants as c
 use Rattle.bz_token.specs.Lexemes.{IsLexeme}
-use Rattle.bz_tree.specs.declared.tree.Part.{Part}
-use Rattle.bz_tree.specs.declared.kind.Kind.{Kind}
-use Rattle.bz_tree.specs.Shapes.{Shape, Fits, shape}
-use Rattle.bz_tree.specs.Legal.{IsNonterminal}
-use Rattle.bz_tree.specs.Spots.{Spot, Begins, Within, role, following_token, after_node}
+use Rattle.bz_grammar.specs.declared.tree.Part.{Part}
+use Rattle.bz_grammar.specs.declared.kind.Kind.{Kind}
+use Rattle.bz_grammar.specs.Shapes.{Shape, Fits, shape}
+use Rattle.bz_grammar.specs.Legal.{IsNonterminal}
+use Rattle.bz_grammar.specs.Spots.{Spot, Begins, Within, role, following_token, after_node}
 use Rattle.bz_value.specs.declared.value.Expr.{Expr, Token, Form', Row_of-Expr, end_of-Expr, more_of-Expr}
 use Rattle.bz_value.specs.declared.value.Item.{Item}
 use Rattle.bz_value.specs.declared.value.Item.TheVariants as i

@@ -3,7 +3,7 @@ ghost use Rattle.std.specs.Prelude.{◌≡◌, ◌≤◌};
 ghost use Rattle.bz_value.specs.Frames.{frame, has_brackets, is_binary, is_comprehension, is_statement, lead};
 ghost use Rattle.bz_value.specs.Proper.{is_operator_class};
 
-use bz_tree::{Class, Kind};
+use bz_grammar::{Class, Kind};
 
 /// Whether a node of the kind holds a sequence between brackets.
 pub fn is_sequence(kind: Kind) -> bool

@@ -3,7 +3,7 @@ ghost use Rattle.std.specs.Prelude.{◌≡◌};
 
 use crate::comments::Comments;
 use bz_items::{Items, Text};
-use bz_tree::{Class, Kind};
+use bz_grammar::{Class, Kind};
 use std::marker::Model;
 
 /// A token. `line_break`: of a binary operator, that the operand after it begins on a new line.

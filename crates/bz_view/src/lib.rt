@@ -1,20 +1,9 @@
-//! The view of a tree as a file value, and the hosts of comments by their places.
+//! File values: what a tree says, and the tree or the text that says what a value does. The work is in the crates below; this one
+//! has their names in one place.
 #![tactic(auto)]
 
-mod before;
-mod commented;
-mod expr;
-mod groups;
-mod joined;
-mod laws;
-mod marks;
-mod taken;
-mod viewing;
-
-pub use before::{gap_at, gap_before, gap_of_last};
-pub use expr::{head_of, row_of, seq_of};
-pub use groups::push_groups;
-pub use joined::ends_with_line;
-pub use laws::{comments_kept, views_are_proper, views_join, worked_views};
-pub use taken::into_view;
-pub use viewing::{push_statements, view};
+pub use bz_bzl_layout::set_bzl;
+pub use bz_bzl_value::{Branch, BzlFile, BzlItem, Statement, view_bzl};
+pub use bz_hosts::view;
+pub use bz_layout::{SetFault, set};
+pub use bz_value::{Comments, Expr, File, Form, Item, Seq, Token};

@@ -3,10 +3,10 @@ use Rattle.std.proofs.Common.{◌≡◌, ◌⊎◌, ◌↔◌, ◌≤◌, ◌<�
 use Rattle.std.specs.Str.{IsValidUpTo}
 use Rattle.bz_lex.specs.declared.fault.ReadFault.{ReadFault}
 use Rattle.bz_lex.specs.declared.fault.ReadFault.TheVariants as f
-use Rattle.bz_tree.specs.Spell.{limit}
-use Rattle.bz_tree.specs.Faults.{IsOfText, IsFaultOf}
-use Rattle.bz_tree.specs.Legal.{Accepted}
-use Rattle.bz_ports.specs.Reported.{fault_line}
+use Rattle.bz_grammar.specs.Spell.{limit}
+use Rattle.bz_grammar.specs.Faults.{IsOfText, IsFaultOf}
+use Rattle.bz_grammar.specs.Legal.{Accepted}
+use Rattle.bz_streams.specs.Reported.{fault_line}
 use Rattle.bz_workspace.specs.Opens.{Takes}
 
 abbrev pub Refused : List ℕ → ReadFault → Type 0

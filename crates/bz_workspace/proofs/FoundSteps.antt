@@ -1,10 +1,10 @@
 -- Which file of a package is opened, by what its names and its journal hold.
 use Rattle.std.proofs.Common.{◌≡◌, ◌+◌, Bool, false, List, [], ◌∷◌, Option, Some, None, refl, sym, ap, subst, ◌∙◌, take, codes}
 use Rattle.std.specs.FinMap.{get}
-use Rattle.bz_tree.specs.Spell.{limit}
+use Rattle.bz_grammar.specs.Spell.{limit}
 use Rattle.bz_items.specs.Characters.{Bytes}
 use Rattle.bz_files.specs.Folder.{Folder}
-use Rattle.bz_ports.specs.Reported.{named_line}
+use Rattle.bz_streams.specs.Reported.{named_line}
 use Rattle.bz_workspace.specs.Found.{PackagesFound, first_name, found_at, found_in, second_name}
 use Rattle.bz_workspace.specs.Journals.{OpensBeside, TakesBeside, journal_beside}
 use Rattle.bz_workspace.specs.Opens.{Opens}

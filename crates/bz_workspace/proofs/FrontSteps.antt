@@ -4,10 +4,10 @@ use Rattle.std.proofs.lemmas.List.{take_all}
 use Rattle.std.proofs.lemmas.Bool.{cases_lt}
 use Rattle.bz_lex.specs.declared.fault.ReadFault.{ReadFault}
 use Rattle.bz_lex.specs.declared.fault.ReadFault.TheVariants as f
-use Rattle.bz_tree.specs.Spell.{limit}
-use Rattle.bz_tree.specs.Legal.{Accepted}
+use Rattle.bz_grammar.specs.Spell.{limit}
+use Rattle.bz_grammar.specs.Legal.{Accepted}
 use Rattle.bz_items.specs.Characters.{Bytes}
-use Rattle.bz_tree.specs.Faults.{IsFaultOf}
+use Rattle.bz_grammar.specs.Faults.{IsFaultOf}
 use Rattle.bz_workspace.specs.Opens.{FrontsAreReportedAlike, Takes}
 use Rattle.bz_workspace.specs.Packages.{Opened}
 

@@ -9,18 +9,18 @@ use Rattle.std.proofs.lemmas.Bool.{cases_lt}
 use Rattle.std.proofs.lemmas.Slice.Eq.{bytes_eq-Decides}
 use Rattle.bz_edit.specs.declared.edit.Edit.{Edit}
 use Rattle.bz_items.specs.Characters.{Bytes}
-use Rattle.bz_tree.specs.Legal.{Accepted}
-use Rattle.bz_tree.specs.Spell.{limit}
-use Rattle.bz_trail.specs.Trails.{trail_at}
-use Rattle.bz_trail.proofs.Keeps.{trail_kept}
-use Rattle.bz_record.specs.Texts.{IsOtherVersion}
+use Rattle.bz_grammar.specs.Legal.{Accepted}
+use Rattle.bz_grammar.specs.Spell.{limit}
+use Rattle.bz_history.specs.Trails.{trail_at}
+use Rattle.bz_history.proofs.Keeps.{trail_kept}
+use Rattle.bz_journal_format.specs.Texts.{IsOtherVersion}
 use Rattle.bz_resume.specs.declared.fault.ResumeFault.{ResumeFault}
 use Rattle.bz_resume.specs.declared.fault.ResumeFault.TheVariants as f
 use Rattle.bz_resume.specs.Journals.{Journal, NoJournal, stands, text_at}
 use Rattle.bz_resume.specs.Resumed.{IsStale}
 use Rattle.bz_resume.proofs.Outcomes.{not_other, one_journal}
 use Rattle.bz_files.specs.Folder.{Folder}
-use Rattle.bz_keep.specs.Pair.{journal_name}
+use Rattle.bz_resume.specs.Pair.{journal_name}
 use Rattle.bz_journal.specs.History.{History}
 use Rattle.bz_journal.specs.Lasting.{IsResumedSession}
 use Rattle.bz_journal.specs.Shown.{session_history}

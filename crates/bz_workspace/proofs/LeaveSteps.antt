@@ -4,7 +4,7 @@ use Rattle.std.specs.Prelude.{◌==◌, bytes_eq, length}
 use Rattle.bz_items.specs.Characters.{Bytes}
 use Rattle.bz_value.specs.declared.refusal.Refusal.TheVariants.{TooFar, Full, NoteTooLong}
 use Rattle.bz_files.specs.declared.files.Files.{Ghosts as FilesOf}
-use Rattle.bz_keep.specs.Resuming.{Resumes}
+use Rattle.bz_resume.specs.Resuming.{Resumes}
 use Rattle.bz_journal.specs.Actions.{Action}
 use Rattle.bz_journal.specs.Actions.{Do, Format, Undo, Redo}
 use Rattle.bz_journal.specs.declared.action.Reply.{Reply}

@@ -3,7 +3,7 @@ use Rattle.std.proofs.Common.{arith, ◌≡◌, ◌≢◌, ◌⊎◌, inl, inr, 
 use Rattle.std.proofs.lemmas.List.{append_cancel_right}
 use Rattle.bz_items.specs.Characters.{Bytes}
 use Rattle.bz_files.specs.Folder.{new_name}
-use Rattle.bz_keep.specs.Pair.{journal_name}
+use Rattle.bz_resume.specs.Pair.{journal_name}
 use Rattle.bz_workspace.specs.Found.{in_package, first_name, second_name, IsNameOf, PackagesAreApart}
 
 -- what is before the name in the folder of a package

@@ -3,7 +3,7 @@ use Rattle.std.specs.Prelude.{◌≡◌, ◌≢◌, ◌⊎◌, [], ◌∷◌, �
 use Rattle.std.specs.FinMap.{get}
 use Rattle.bz_items.specs.Characters.{Bytes}
 use Rattle.bz_files.specs.Folder.{Folder, new_name}
-use Rattle.bz_keep.specs.Pair.{journal_name}
+use Rattle.bz_resume.specs.Pair.{journal_name}
 
 -- a file of a package, by its path below the current folder; the root package has the empty path
 abbrev pub in_package : Bytes → Bytes → Bytes

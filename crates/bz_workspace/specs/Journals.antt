@@ -3,17 +3,17 @@ use Rattle.std.specs.Prelude.{◌≡◌, ◌≢◌, ◌⊎◌, ◌++◌, ℕ, Bo
 use Rattle.std.specs.Option.{option_map}
 use Rattle.std.specs.FinMap.{get}
 use Rattle.bz_edit.specs.declared.edit.Edit.{Edit}
-use Rattle.bz_record.specs.Texts.{IsOtherVersion}
+use Rattle.bz_journal_format.specs.Texts.{IsOtherVersion}
 use Rattle.bz_resume.specs.declared.fault.ResumeFault.{ResumeFault}
 use Rattle.bz_resume.specs.declared.fault.ResumeFault.TheVariants as f
 use Rattle.bz_resume.specs.Journals.{Journal, NoJournal, stands}
 use Rattle.bz_resume.specs.Resumed.{IsStale}
 use Rattle.bz_items.specs.Characters.{Bytes}
-use Rattle.bz_tree.specs.Legal.{Accepted}
+use Rattle.bz_grammar.specs.Legal.{Accepted}
 use Rattle.bz_files.specs.Folder.{Folder}
-use Rattle.bz_keep.specs.Pair.{journal_name}
-use Rattle.bz_keep.specs.Resuming.{Holds}
-use Rattle.bz_ports.specs.Reported.{named_line}
+use Rattle.bz_resume.specs.Pair.{journal_name}
+use Rattle.bz_resume.specs.Resuming.{Holds}
+use Rattle.bz_streams.specs.Reported.{named_line}
 use Rattle.bz_journal.specs.History.{History, present}
 use Rattle.bz_workspace.specs.Found.{IsNameOf, PackagesFound}
 use Rattle.bz_workspace.specs.Opens.{Opens, Takes}

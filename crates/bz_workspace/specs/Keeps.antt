@@ -5,9 +5,9 @@ use Rattle.bz_edit.specs.declared.edit.Edit.{Edit}
 use Rattle.bz_files.specs.declared.files.Files.{Ghosts as FilesOf}
 use Rattle.bz_files.specs.Faults.{Rises}
 use Rattle.bz_files.specs.Folder.{Elapses, Folder}
-use Rattle.bz_keep.specs.declared.fault.PairFault.TheVariants as f
-use Rattle.bz_keep.specs.Pair.{journal_name}
-use Rattle.bz_keep.specs.Resuming.{Holds, OthersStay, Resumes, Survives}
+use Rattle.bz_resume.specs.declared.pair_fault.PairFault.TheVariants as f
+use Rattle.bz_resume.specs.Pair.{journal_name}
+use Rattle.bz_resume.specs.Resuming.{Holds, OthersStay, Resumes, Survives}
 use Rattle.bz_resume.specs.Journals.{journal_text}
 use Rattle.bz_items.specs.Characters.{Bytes}
 use Rattle.bz_journal.specs.Actions.{Action}

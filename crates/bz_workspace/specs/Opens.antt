@@ -1,13 +1,13 @@
 -- How a package is opened, and what an action does in one.
 use Rattle.std.specs.Prelude.{◌≡◌, ◌⊎◌, ◌↔◌, ◌+◌, ℕ, List, [], ◌∷◌, take, codes, Option, Some, None}
 use Rattle.bz_lex.specs.declared.fault.ReadFault.{ReadFault}
-use Rattle.bz_tree.specs.Legal.{Accepted}
-use Rattle.bz_tree.specs.Spell.{limit}
+use Rattle.bz_grammar.specs.Legal.{Accepted}
+use Rattle.bz_grammar.specs.Spell.{limit}
 use Rattle.bz_items.specs.Characters.{Bytes}
 use Rattle.bz_journal.specs.Actions.{Action}
-use Rattle.bz_tree.specs.Faults.{IsFaultOf}
+use Rattle.bz_grammar.specs.Faults.{IsFaultOf}
 use Rattle.bz_journal.specs.History.{History, Answer, opened, Acts}
-use Rattle.bz_ports.specs.Reported.{named_line, fault_line}
+use Rattle.bz_streams.specs.Reported.{named_line, fault_line}
 use Rattle.bz_workspace.specs.Packages.{Opened, Used, file_at, opened_with, with_opened}
 use Rattle.bz_workspace.specs.Found.{PackagesFound, second_name}
 

@@ -1,12 +1,12 @@
 //! What opening a file takes: its name, its bytes and its session.
 ghost use Rattle.std.specs.Prelude.{◌≡◌, ◌≢◌, ◌⊎◌, ◌≤◌, ◌∷◌, length, take, true, Some, None, Ok, Err, IfOk, IfErr, IsErrOf, string_bytes};
 ghost use Rattle.std.specs.FinMap.{get};
-ghost use Rattle.bz_tree.specs.Legal.{Accepted};
+ghost use Rattle.bz_grammar.specs.Legal.{Accepted};
 ghost use Rattle.bz_items.specs.Characters.{Bytes};
-ghost use Rattle.bz_tree.specs.Faults.{IsFaultOf};
-ghost use Rattle.bz_ports.specs.Faults.{Rises, AppendsUnlessFailed};
-ghost use Rattle.bz_ports.specs.Outputs.{Reports};
-ghost use Rattle.bz_ports.specs.Reported.{named_line};
+ghost use Rattle.bz_grammar.specs.Faults.{IsFaultOf};
+ghost use Rattle.bz_streams.specs.Faults.{Rises, AppendsUnlessFailed};
+ghost use Rattle.bz_streams.specs.Outputs.{Reports};
+ghost use Rattle.bz_streams.specs.Reported.{named_line};
 ghost use Rattle.bz_journal.specs.History.{History};
 ghost use Rattle.bz_workspace.specs.Found.{in_package};
 ghost use Rattle.bz_workspace.specs.Journals.{JournalGives, fault_word, hints_of_journal, stale_hint};
@@ -20,7 +20,7 @@ use bz_files::{FileFault, Files};
 use bz_items::{Memory, Text};
 use bz_journal::{Editor, ResumeFault, Session};
 use bz_lex::ReadFault;
-use bz_ports::{Cut, Sink, report, report_named};
+use bz_streams::{Cut, Sink, report, report_named};
 use std::alloc::Global;
 
 /// What came of opening a package.

@@ -4,7 +4,7 @@ use crate::trees::read_fault_text;
 use bz_files::{Files, MemoryFiles};
 use bz_items::Memory;
 use bz_journal::{Action, KeepFault, Reply, ResumeFault, Session};
-use bz_keep::PairFault;
+use bz_resume::PairFault;
 use sheets::{Case, CaseFault, Page};
 use std::alloc::Global;
 

@@ -3,8 +3,8 @@
 use bz_edit::advance;
 use bz_journal::{Editor, Session, editor_holds, history_kept, session_holds};
 use bz_label::{Label, LabelFault, Target, TargetFault};
-use bz_parse::parse;
-use bz_tree::ReadFault;
+use bz_tree::parse;
+use bz_grammar::ReadFault;
 use sheets::{Case, CaseFault, Page};
 use std::alloc::Global;
 
@@ -38,63 +38,63 @@ fn call_tokens_and_trees() {
     bz_token::opens_after_prefix();
     bz_lex::laws::one_lexing();
     bz_lex::laws::coded_leaves();
-    bz_tree::laws::one_reading();
-    bz_tree::laws::one_file();
-    bz_tree::laws::legal_by_nodes();
-    bz_tree::laws::one_bzl_reading();
-    bz_tree::laws::legal_by_lines();
-    bz_tree::laws::worked_command_lines();
-    bz_tree::laws::kind_of_number();
+    bz_grammar::laws::one_reading();
+    bz_grammar::laws::one_file();
+    bz_grammar::laws::legal_by_nodes();
+    bz_grammar::laws::one_bzl_reading();
+    bz_grammar::laws::legal_by_lines();
+    bz_grammar::laws::worked_command_lines();
+    bz_grammar::laws::kind_of_number();
 }
 
 fn call_values() {
     bz_value::worked_gaps();
-    bz_view::worked_views();
-    bz_view::views_are_proper();
-    bz_view::comments_kept();
+    bz_hosts::worked_views();
+    bz_hosts::views_are_proper();
+    bz_hosts::comments_kept();
     bz_rule::worked_bodies();
     bz_hosts::hosts_by_place();
     bz_hosts::worked_hosts();
-    bz_write::flags_keep_layout();
-    bz_write::layout_is_accepted();
-    bz_write::layout_reads_back();
-    bz_write::relaid_has_length();
-    bz_write::worked_rows();
-    bz_tidy::worked_passes();
-    bz_tidy::tidy_settles();
-    bz_tidy::tidy_stays();
-    bz_tidy::comments_stay();
-    bz_tidy::proper_stays();
-    bz_tidy::marks_move();
-    bz_tidy::sorting_is_the_one();
-    bz_tidy::flags_settle();
-    bz_tidy::exchanged_tidied();
-    bz_tidy::worked_programs();
-    bz_tidy::program_stays();
-    bz_tidy::tokens_stay();
+    bz_layout::flags_keep_layout();
+    bz_layout::layout_is_accepted();
+    bz_layout::layout_reads_back();
+    bz_layout::relaid_has_length();
+    bz_layout::worked_rows();
+    bz_passes::worked_passes();
+    bz_passes::tidy_settles();
+    bz_passes::tidy_stays();
+    bz_passes::comments_stay();
+    bz_passes::proper_stays();
+    bz_passes::marks_move();
+    bz_passes::sorting_is_the_one();
+    bz_passes::flags_settle();
+    bz_passes::exchanged_tidied();
+    bz_passes::worked_programs();
+    bz_passes::program_stays();
+    bz_passes::tokens_stay();
 }
 
 fn call_suites() {
-    bz_suite::bzl_view_is_proper();
-    bz_suite::bzl_comments_kept();
-    bz_suite::worked_bzl_views();
-    bz_suite::build_files_say_the_same();
-    bz_suite::build_items_are_bzl_items();
-    bz_indent::level_stays();
-    bz_indent::level_keeps_comments();
-    bz_indent::level_keeps_layout();
-    bz_indent::level_keeps_program();
-    bz_indent::bzl_layout_is_accepted();
-    bz_indent::bzl_layout_is_too_deep();
-    bz_indent::bzl_layout_reads_back();
-    bz_indent::worked_bzl_layouts();
-    bz_indent::build_items_are_laid_out_the_same();
-    bz_indent::build_items_are_levelled_the_same();
-    bz_indent::build_items_are_the_same_program();
-    bz_indent::build_files_are_laid_out_the_same();
-    bz_format::formatted_bzl_once();
-    bz_format::bzl_views_keep_programs();
-    bz_format::words_kept();
+    bz_bzl_value::bzl_view_is_proper();
+    bz_bzl_value::bzl_comments_kept();
+    bz_bzl_value::worked_bzl_views();
+    bz_bzl_value::build_files_say_the_same();
+    bz_bzl_value::build_items_are_bzl_items();
+    bz_bzl_layout::level_stays();
+    bz_bzl_layout::level_keeps_comments();
+    bz_bzl_layout::level_keeps_layout();
+    bz_bzl_layout::level_keeps_program();
+    bz_bzl_layout::bzl_layout_is_accepted();
+    bz_bzl_layout::bzl_layout_is_too_deep();
+    bz_bzl_layout::bzl_layout_reads_back();
+    bz_bzl_layout::worked_bzl_layouts();
+    bz_bzl_layout::build_items_are_laid_out_the_same();
+    bz_bzl_layout::build_items_are_levelled_the_same();
+    bz_bzl_layout::build_items_are_the_same_program();
+    bz_bzl_layout::build_files_are_laid_out_the_same();
+    bz_bzl_format::formatted_bzl_once();
+    bz_bzl_format::bzl_views_keep_programs();
+    bz_bzl_format::words_kept();
 }
 
 fn call_words() {
@@ -102,13 +102,13 @@ fn call_words() {
     bz_label::laws::key_laws();
     bz_label::laws::label_functions();
     bz_label::laws::shorter_forms();
-    bz_words::text_stays_text();
-    bz_words::identifiers_are_names();
-    bz_words::worked_words();
-    bz_words::worked_identifiers();
-    bz_words::worked_command_effects();
-    bz_words::worked_strings();
-    bz_line::worked_command_lines();
+    bz_command_syntax::text_stays_text();
+    bz_command_syntax::identifiers_are_names();
+    bz_command_syntax::worked_words();
+    bz_command_syntax::worked_identifiers();
+    bz_command_syntax::worked_command_effects();
+    bz_command_syntax::worked_strings();
+    bz_command_line::worked_command_lines();
 }
 
 fn call_effects() {
@@ -132,7 +132,7 @@ fn call_effects() {
     bz_comment::comment_loses_none();
     bz_comment::own_comment_loses_none();
     bz_comment::worked_comments();
-    bz_print::worked_prints();
+    bz_fields::worked_prints();
     bz_command::worked_effects();
     bz_command::worked_command_effects();
     bz_command::effects_stay_proper();
@@ -145,18 +145,18 @@ fn call_histories() {
     bz_files::worked_folders();
     bz_files::folder_reads_back();
     bz_files::other_files_stay();
-    bz_trail::laws::starts_small();
-    bz_trail::laws::texts_kept();
-    bz_trail::laws::steps_lead();
-    bz_trail::laws::small_steps();
+    bz_history::laws::starts_small();
+    bz_history::laws::texts_kept();
+    bz_history::laws::steps_lead();
+    bz_history::laws::small_steps();
     bz_journal::worked_histories();
     bz_journal::alike_goes_on();
     bz_journal::stopped_is_resumed();
-    bz_formatter::formatted_once();
-    bz_formatter::comments_fill();
-    bz_formatter::views_keep_programs();
-    bz_formatter::tokens_kept();
-    bz_formatter::writing_keeps_program();
+    bz_build_format::formatted_once();
+    bz_build_format::comments_fill();
+    bz_build_format::views_keep_programs();
+    bz_build_format::tokens_kept();
+    bz_build_format::writing_keeps_program();
 }
 
 /// Calls the laws that speak of values. Whether each value was there.
@@ -185,7 +185,7 @@ fn one_target(alloc: Global) -> Result<(), TargetFault> {
 fn one_tree(alloc: Global) -> Result<(), ReadFault> {
     let tree = parse(alloc, b"x = [1]\n")?;
     let other = parse(alloc, b"x = [1]\n")?;
-    bz_tree::laws::one_tree(&tree, &other);
+    bz_grammar::laws::one_tree(&tree, &other);
     Ok(())
 }
 

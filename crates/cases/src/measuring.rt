@@ -6,11 +6,11 @@
 //! as, or the fault of a text that has none to standard error. `copies` prints of each of several texts whether all that it says is copied.
 use crate::copying::answer_copies;
 use bz_lex::lex;
-use bz_parse::parse;
-use bz_tidy::tidy;
-use bz_tree::{ReadFault, Tree};
-use bz_view::view;
-use bz_write::set;
+use bz_tree::parse;
+use bz_passes::tidy;
+use bz_grammar::{ReadFault, Tree};
+use bz_hosts::view;
+use bz_layout::set;
 use std::alloc::Global;
 use std::fs;
 use std::io::Write;

@@ -5,9 +5,9 @@ use crate::trees::{apart, read_fault_text};
 use bz_items::Memory;
 use bz_journal::{Action, Reply, Session};
 use bz_label::{Target, TargetFault};
-use bz_tree::ReadFault;
+use bz_grammar::ReadFault;
 use bz_value::Refusal;
-use bz_words::{Command, CommandFault};
+use bz_command_syntax::{Command, CommandFault};
 use sheets::{Case, CaseFault, Page};
 use std::alloc::Global;
 

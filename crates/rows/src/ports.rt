@@ -1,7 +1,7 @@
 //! Readers and writers that fail, and those of std's.
 use crate::run::{BYTEWISE, Devices, Left, edit};
 use crate::worked::{INPUT, WITHOUT_X};
-use bz_tools::{Cut, Device, Sink, Source};
+use bz_buildifier::{Cut, Device, Sink, Source};
 use std::alloc::Global;
 
 /// How many reads of a byte there are: one for each of the input, and one at its end.

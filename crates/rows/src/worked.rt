@@ -1,6 +1,6 @@
 //! The rows that buildozer was worked out by: delete, undo and redo over standard input.
 use crate::run::{BYTEWISE, Devices, SOUND, edit};
-use bz_tools::Cut;
+use bz_buildifier::Cut;
 use std::alloc::Global;
 
 /// Words, the devices of a run of them on `INPUT`, and what it leaves.

@@ -55,14 +55,14 @@ impl Question for Query {
 
 /// Calls each law: functions that do nothing, whose contracts say something of all runs.
 fn call_laws() {
-    bz_ports::lines_are_whole();
-    bz_engine::worked_refusals();
-    bz_engine::worked_runs();
-    bz_engine::outcomes_are_exact();
-    bz_tools::worked_formats();
-    bz_tools::whole_runs_are_exact();
-    bz_tools::cut_runs_are_begun();
-    bz_tools::outcomes_agree();
+    bz_streams::lines_are_whole();
+    bz_buildozer::worked_refusals();
+    bz_buildozer::worked_runs();
+    bz_buildozer::outcomes_are_exact();
+    bz_buildifier::worked_formats();
+    bz_buildifier::whole_runs_are_exact();
+    bz_buildifier::cut_runs_are_begun();
+    bz_buildifier::outcomes_agree();
 }
 
 fn main(rt: HostRuntime) -> Result<()> {

@@ -11,7 +11,7 @@ use Rattle.std.specs.declared.alloc.Global.{Global}
 use Rattle.bz_value.specs.declared.value.Expr.{Expr}
 use Rattle.bz_items.specs.Characters.{Bytes}
 use Rattle.bz_attribute.specs.Sets.{texts_of}
-use Rattle.bz_words.specs.declared.command.Entry.{Entry}
+use Rattle.bz_command_syntax.specs.declared.command.Entry.{Entry}
 use Rattle.bz_dict.specs.declared.entries.Change.{Change}
 use Rattle.bz_dict.specs.declared.entries.Change.TheVariants.{Add, Set}
 use Rattle.bz_dict.specs.Dicts.{key_of, has_key, with_entry, with_entries, with_entry_set, with_entries_set}

@@ -2,7 +2,7 @@
 use Rattle.std.specs.Prelude.{◌≡◌, ◌⊎◌, Err, OnErr}
 use Rattle.bz_value.specs.declared.refusal.Refusal.TheVariants.{Memory}
 use Rattle.bz_items.specs.Characters.{Bytes}
-use Rattle.bz_trail.specs.Trails.{IsSmall}
+use Rattle.bz_history.specs.Trails.{IsSmall}
 use Rattle.bz_journal.specs.Actions.{Action}
 use Rattle.bz_journal.specs.History.{Answer, History, MakesOrWants}
 use Rattle.bz_journal.specs.Shown.{session_history}

@@ -1,12 +1,12 @@
 -- Lines in the place of others of a tree.
 use Rattle.std.specs.Prelude.{◌≡◌, ◌≤◌, ◌+◌, List, [], length}
-use Rattle.bz_tree.specs.declared.tree.Node.{Node}
-use Rattle.bz_tree.specs.Places.{Ascend}
-use Rattle.bz_tree.specs.Spell.{depth_of, depth_limit, limit}
+use Rattle.bz_grammar.specs.declared.tree.Node.{Node}
+use Rattle.bz_grammar.specs.Places.{Ascend}
+use Rattle.bz_grammar.specs.Spell.{depth_of, depth_limit, limit}
 use Rattle.bz_edit.specs.Places.{parts_put, with_parts_in}
 use Rattle.bz_value.specs.declared.value.Item.{Item}
-use Rattle.bz_write.specs.LaidOut.{laid_out}
-use Rattle.bz_write.specs.Written.{layout}
+use Rattle.bz_layout.specs.LaidOut.{laid_out}
+use Rattle.bz_layout.specs.Written.{layout}
 use Rattle.bz_journal.specs.declared.lines.Lines.{Lines}
 use Rattle.bz_journal.specs.declared.lines.Lines.TheVariants as l
 

@@ -5,7 +5,7 @@ use Rattle.bz_label.specs.Tables.{is_label_attribute}
 use Rattle.bz_label.specs.Read.{shortened}
 use Rattle.bz_value.specs.declared.value.Expr.{Expr}
 use Rattle.bz_items.specs.Characters.{Bytes}
-use Rattle.bz_words.specs.Quoted.{quoted_of}
+use Rattle.bz_command_syntax.specs.Quoted.{quoted_of}
 use Rattle.bz_list.specs.declared.adding.Added.{Added}
 use Rattle.bz_list.specs.declared.adding.Added.TheVariants as a
 use Rattle.bz_value.specs.declared.refusal.Refusal.{Refusal}

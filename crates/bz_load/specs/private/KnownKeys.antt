@@ -1,6 +1,6 @@
 -- The keys of the set of the code, as the symbols that they represent.
 use Rattle.std.specs.Prelude.{List, map}
-use Rattle.bz_words.specs.declared.command.Symbol.{Symbol}
+use Rattle.bz_command_syntax.specs.declared.command.Symbol.{Symbol}
 use Rattle.bz_load.specs.declared.readings.Loaded.{Loaded}
 
 abbrev pub symbol_of_key : Loaded → Symbol

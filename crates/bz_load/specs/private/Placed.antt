@@ -2,12 +2,12 @@
 use Rattle.std.specs.Prelude.{List, [], ◌∷◌, ◌++◌, codes, if◌then◌else◌}
 use Rattle.std.specs.List.{list_any}
 use Rattle.bz_token.specs.declared.class.Class.TheVariants as c
-use Rattle.bz_tree.specs.declared.kind.Kind.TheVariants as k
+use Rattle.bz_grammar.specs.declared.kind.Kind.TheVariants as k
 use Rattle.bz_value.specs.declared.value.Expr.{Expr}
 use Rattle.bz_value.specs.declared.value.Item.{Item}
 use Rattle.bz_value.specs.declared.value.Item.TheVariants as i
 use Rattle.bz_items.specs.Characters.{Bytes}
-use Rattle.bz_words.specs.Quoted.{quoted_of}
+use Rattle.bz_command_syntax.specs.Quoted.{quoted_of}
 use Rattle.bz_rule.specs.Values.{on_items}
 use Rattle.bz_attribute.specs.Made.{token, sequence}
 use Rattle.bz_attribute.specs.Attributes.{on_first_that}

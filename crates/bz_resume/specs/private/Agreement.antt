@@ -2,15 +2,15 @@
 use Rattle.std.specs.Prelude.{ℕ, ◌≡◌, ◌+◌, ◌≤◌, Bool, true, ◌&&◌, nat_lt, List, [], ◌∷◌, map, length, reverse, take, drop, slice_index_or, Option, Some, None, if◌then◌else◌}
 use Rattle.std.specs.Str.{bytes_eq}
 use Rattle.sha2.specs.Sha256.{sha256}
-use Rattle.bz_tree.specs.declared.tree.Node.{Node}
-use Rattle.bz_tree.specs.Legal.{Reads}
-use Rattle.bz_tree.specs.Spell.{spell_node, depth_limit}
+use Rattle.bz_grammar.specs.declared.tree.Node.{Node}
+use Rattle.bz_grammar.specs.Legal.{Reads}
+use Rattle.bz_grammar.specs.Spell.{spell_node, depth_limit}
 use Rattle.bz_edit.specs.declared.edit.Edit.{Edit}
 use Rattle.bz_edit.specs.Steps.{IsStep, swap_node}
-use Rattle.bz_trail.specs.Trails.{StepLeads, IsTrail, Trail, trail_at}
-use Rattle.bz_trail.specs.Shown.{Moves, Text, texts_of}
-use Rattle.bz_record.specs.declared.content.RecordedStep.{RecordedStep}
-use Rattle.bz_record.specs.declared.content.Record.{Record}
+use Rattle.bz_history.specs.Trails.{StepLeads, IsTrail, Trail, trail_at}
+use Rattle.bz_history.specs.Shown.{Moves, Text, texts_of}
+use Rattle.bz_journal_format.specs.declared.content.RecordedStep.{RecordedStep}
+use Rattle.bz_journal_format.specs.declared.content.Record.{Record}
 use Rattle.bz_resume.specs.declared.resumed.Resumed.{Resumed}
 
 abbrev pub edits_of : List RecordedStep → List (List Edit)

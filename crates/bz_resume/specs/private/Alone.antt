@@ -3,11 +3,11 @@ use Rattle.std.specs.Prelude.{◌≡◌, ◌⊎◌, ℕ, List, [], ◌∷◌, �
 use Rattle.std.specs.List.{AllByRecursion}
 use Rattle.bz_items.specs.Characters.{line_feed}
 use Rattle.bz_lex.specs.declared.leaf.Leaf.{Leaf}
-use Rattle.bz_tree.specs.declared.tree.Part.{Part, Node'}
-use Rattle.bz_tree.specs.declared.tree.Part.TheVariants as p
-use Rattle.bz_tree.specs.Legal.{Legal}
-use Rattle.bz_tree.specs.Joined.{AreWholeLines, file_with}
-use Rattle.bz_tree.specs.Split.{bare_end}
+use Rattle.bz_grammar.specs.declared.tree.Part.{Part, Node'}
+use Rattle.bz_grammar.specs.declared.tree.Part.TheVariants as p
+use Rattle.bz_grammar.specs.Legal.{Legal}
+use Rattle.bz_grammar.specs.Joined.{AreWholeLines, file_with}
+use Rattle.bz_grammar.specs.Split.{bare_end}
 use Rattle.bz_edit.specs.declared.edit.Edit.{Edit}
 
 -- what is after a part in a file that has it alone

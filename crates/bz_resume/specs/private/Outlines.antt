@@ -4,10 +4,10 @@ use Rattle.std.specs.Prelude.{ℕ, List, [], ◌∷◌, ◌++◌}
 use Rattle.std.specs.List.{flat_map}
 use Rattle.bz_token.specs.Classes.{class_number}
 use Rattle.bz_lex.specs.declared.leaf.Leaf.{Leaf}
-use Rattle.bz_tree.specs.declared.tree.Node.{Node}
-use Rattle.bz_tree.specs.declared.tree.Part.{Part, Row_of-Part, end_of-Part, more_of-Part, Node'}
-use Rattle.bz_tree.specs.declared.tree.Part as p
-use Rattle.bz_tree.specs.Kinds.{kind_number}
+use Rattle.bz_grammar.specs.declared.tree.Node.{Node}
+use Rattle.bz_grammar.specs.declared.tree.Part.{Part, Row_of-Part, end_of-Part, more_of-Part, Node'}
+use Rattle.bz_grammar.specs.declared.tree.Part as p
+use Rattle.bz_grammar.specs.Kinds.{kind_number}
 
 -- a byte after a 1
 abbrev pub marked_byte : ℕ → List ℕ

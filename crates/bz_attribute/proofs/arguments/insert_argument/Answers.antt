@@ -1,6 +1,6 @@
 use Rattle.std.proofs.Common.{◌≡◌, List, sym, ap, ◌∙◌, arith}
 use Rattle.std.specs.List.{insert, position}
-use Rattle.bz_tree.specs.declared.kind.Kind.TheVariants as kinds
+use Rattle.bz_grammar.specs.declared.kind.Kind.TheVariants as kinds
 use Rattle.bz_value.specs.declared.value.Expr.{Expr}
 use Rattle.bz_rule.specs.Values.{has_kind}
 use Rattle.bz_attribute.specs.Attributes.{inserted}

@@ -2,10 +2,10 @@ use Rattle.std.proofs.Common.{◌≡◌, rules, sym, ap, ◌∙◌}
 use Rattle.std.specs.Prelude.{Some}
 use Rattle.std.specs.List.{slice_index_or}
 use denote.Enum.Bare.{same_true}
-use Rattle.bz_tree.specs.contracts.kind.Kind.{the_type}
-use Rattle.bz_tree.specs.declared.kind.Kind.{Kind}
-use Rattle.bz_tree.specs.declared.kind.Kind.TheVariants as k
-use Rattle.bz_tree.specs.Shapes.{is_kind}
+use Rattle.bz_grammar.specs.contracts.kind.Kind.{the_type}
+use Rattle.bz_grammar.specs.declared.kind.Kind.{Kind}
+use Rattle.bz_grammar.specs.declared.kind.Kind.TheVariants as k
+use Rattle.bz_grammar.specs.Shapes.{is_kind}
 use Rattle.bz_value.specs.declared.value.Form.{Form}
 use Rattle.bz_attribute.proofs.ArgumentForms.{value_taken}
 use Rattle.bz_attribute.proofs.arguments.swap_value.Goals as goal

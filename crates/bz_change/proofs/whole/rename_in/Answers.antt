@@ -1,6 +1,6 @@
 use Rattle.std.proofs.Common.{ap, ◌∙◌}
 use Rattle.std.specs.List.{position}
-use Rattle.bz_tree.specs.declared.kind.Kind.TheVariants as kinds
+use Rattle.bz_grammar.specs.declared.kind.Kind.TheVariants as kinds
 use Rattle.bz_rule.specs.Values.{on_first, on_row, with_text}
 use Rattle.bz_attribute.specs.Attributes.{is_attribute}
 use Rattle.bz_attribute.proofs.ArgumentPlaces.{changed_there, changed_nowhere}

@@ -1,6 +1,6 @@
 use Rattle.std.proofs.Common.{◌∙◌, ap, subst, sym}
-use Rattle.bz_words.specs.declared.command.Operation.TheVariants as w
-use Rattle.bz_words.specs.Proper.{IsProperCommand}
+use Rattle.bz_command_syntax.specs.declared.command.Operation.TheVariants as w
+use Rattle.bz_command_syntax.specs.Proper.{IsProperCommand}
 use Rattle.bz_value.specs.Proper.{IsProper}
 use Rattle.bz_command.proofs.Overfull.{over_answered, refusal_answered}
 use Rattle.bz_command.proofs.filling.overfills.Goals as goal

@@ -1,5 +1,5 @@
 use Rattle.std.proofs.Common.{ap, ◌∙◌}
-use Rattle.bz_tree.specs.declared.kind.Kind.TheVariants as k
+use Rattle.bz_grammar.specs.declared.kind.Kind.TheVariants as k
 use Rattle.bz_value.specs.declared.value.Expr.{Expr}
 use Rattle.bz_rule.specs.Values.{on_row, on_third}
 use Rattle.bz_attribute.specs.Made.{string_of}

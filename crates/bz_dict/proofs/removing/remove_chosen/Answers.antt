@@ -1,7 +1,7 @@
 use Rattle.std.proofs.Common.{◌≡◌, Bool, not, sym, ap, ◌∙◌, rules}
 use Rattle.std.specs.Prelude.{true, false}
 use Rattle.std.specs.List.{filter}
-use Rattle.bz_tree.specs.declared.kind.Kind.TheVariants as k
+use Rattle.bz_grammar.specs.declared.kind.Kind.TheVariants as k
 use Rattle.bz_value.specs.declared.value.Expr.{Expr}
 use Rattle.bz_rule.specs.Values.{items_of, on_items}
 use Rattle.bz_value.specs.Empty.{is_empty}

@@ -1,5 +1,5 @@
 use Rattle.std.proofs.Common.{◌≡◌, ◌∙◌, ap, false, is_some, refl, sym, true≢false, Option, None, Some}
-use Rattle.bz_view.specs.View.{view_of}
+use Rattle.bz_hosts.specs.View.{view_of}
 use Rattle.bz_journal.specs.Shown.{session_history}
 use Rattle.bz_journal.proofs.Edited.{edited_refused, edited_same}
 use Rattle.bz_journal.proofs.answering.answer_of.Goals as goal

@@ -1,10 +1,10 @@
 use Rattle.std.proofs.Common.{◌∙◌, ◌≤◌, List, length, subst, sym}
-use Rattle.bz_tree.specs.declared.tree.Node.{Node}
-use Rattle.bz_tree.specs.Spell.{limit, spell_node}
+use Rattle.bz_grammar.specs.declared.tree.Node.{Node}
+use Rattle.bz_grammar.specs.Spell.{limit, spell_node}
 use Rattle.bz_value.specs.declared.value.Item.{Item}
 use Rattle.bz_value.specs.Proper.{IsProper}
-use Rattle.bz_view.specs.View.{view_of}
-use Rattle.bz_redraw.specs.Relaid.{IsWritten}
+use Rattle.bz_hosts.specs.View.{view_of}
+use Rattle.bz_relayout.specs.Relaid.{IsWritten}
 use Rattle.bz_journal.specs.Shown.{session_history}
 use Rattle.bz_journal.proofs.Edited.{new_taken, none_seen}
 use Rattle.bz_journal.proofs.beside.take_up_new.Goals as goal

@@ -1,12 +1,12 @@
 use Rattle.std.proofs.Common.{◌∙◌, ◌≤◌, List, ap, length, subst, sym}
-use Rattle.bz_tree.specs.declared.tree.Node.{Node}
-use Rattle.bz_tree.specs.Spell.{limit, spell_node}
+use Rattle.bz_grammar.specs.declared.tree.Node.{Node}
+use Rattle.bz_grammar.specs.Spell.{limit, spell_node}
 use Rattle.bz_value.specs.declared.value.Item.{Item}
 use Rattle.bz_items.specs.Characters.{Bytes}
 use Rattle.bz_value.specs.Proper.{IsProper}
-use Rattle.bz_view.specs.View.{view_of}
-use Rattle.bz_write.specs.Written.{layout}
-use Rattle.bz_redraw.specs.Relaid.{IsWritten}
+use Rattle.bz_hosts.specs.View.{view_of}
+use Rattle.bz_layout.specs.Written.{layout}
+use Rattle.bz_relayout.specs.Relaid.{IsWritten}
 use Rattle.bz_journal.specs.Shown.{session_history}
 use Rattle.bz_journal.proofs.Edited.{value_taken}
 use Rattle.bz_journal.proofs.beside.take_up_value.Goals as goal

@@ -1,7 +1,7 @@
 use Rattle.std.proofs.Common.{◌++◌, take, List, ℕ}
 use Rattle.std.specs.List.{flat_map}
 use Rattle.sha2.specs.Hashers.{Holds256}
-use Rattle.bz_tree.specs.Spell.{spell_part}
+use Rattle.bz_grammar.specs.Spell.{spell_part}
 use Rattle.bz_journal.proofs.digest.+hash.Given as goal
 
 -- what was hashed before, and after it the text of the parts so far

@@ -1,5 +1,5 @@
 use Rattle.std.proofs.Common.{◌∙◌, subst}
-use Rattle.bz_keep.proofs.Checking.{never_err}
+use Rattle.bz_resume.proofs.Checking.{never_err}
 use Rattle.bz_journal.specs.History.{Answer}
 use Rattle.bz_journal.specs.Keeping.{HasActed}
 use Rattle.bz_journal.proofs.Persisting.{kept_both, kept_neither, kept_unmade, since_err, since_some}

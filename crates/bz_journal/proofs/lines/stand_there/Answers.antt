@@ -1,6 +1,6 @@
 use Rattle.std.proofs.Common.{◌≡◌, ◌<◌, ◌∙◌, arith, length, refl, slice_index_or, sym}
 use Rattle.std.proofs.lemmas.Bool.{false≢true}
-use Rattle.bz_tree.specs.declared.tree.Part.{Part}
+use Rattle.bz_grammar.specs.declared.tree.Part.{Part}
 use Rattle.bz_edit.proofs.Lines.{ascend_at}
 use Rattle.bz_journal.proofs.PutLines.{line_passed, lines_there}
 use Rattle.bz_journal.proofs.lines.stand_there.Goals as goal

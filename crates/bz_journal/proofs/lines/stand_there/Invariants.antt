@@ -1,5 +1,5 @@
 use Rattle.std.proofs.Common.{◌≡◌, drop}
-use Rattle.bz_tree.specs.Places.{put_all}
+use Rattle.bz_grammar.specs.Places.{put_all}
 use Rattle.bz_journal.proofs.lines.stand_there.Given as goal
 
 -- the lines so far are in their places

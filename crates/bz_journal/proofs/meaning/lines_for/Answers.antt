@@ -1,5 +1,5 @@
 use Rattle.std.proofs.Common.{◌∙◌, sym}
-use Rattle.bz_tree.specs.Statements.{lines_of}
+use Rattle.bz_grammar.specs.Statements.{lines_of}
 use Rattle.bz_journal.proofs.meaning.lines_for.Goals as goal
 
 pub returns-clause-printed : goal.returns-clause-printed

@@ -1,7 +1,7 @@
 use Rattle.std.proofs.Common.{◌≡◌, ◌∙◌, ap, map, sym}
 use Rattle.std.proofs.lemmas.Bool.{false≢true}
 use Rattle.sha2.specs.Sha256.{sha256}
-use Rattle.bz_tree.specs.Spell.{spell_node}
+use Rattle.bz_grammar.specs.Spell.{spell_node}
 use Rattle.bz_journal.specs.Actions.{action_in}
 use Rattle.bz_journal.specs.History.{History}
 use Rattle.bz_journal.specs.Shown.{session_history}

@@ -1,6 +1,6 @@
 use Rattle.std.proofs.Common.{ap, ◌∙◌, ◌++◌}
 use Rattle.std.specs.List.{position}
-use Rattle.bz_tree.specs.declared.kind.Kind.TheVariants as k
+use Rattle.bz_grammar.specs.declared.kind.Kind.TheVariants as k
 use Rattle.bz_rule.specs.Values.{has_kind, on_items}
 use Rattle.bz_attribute.proofs.ArgumentPlaces.{changed_there, changed_nowhere}
 use Rattle.bz_list.proofs.adding.append_to_first.Goals as goal

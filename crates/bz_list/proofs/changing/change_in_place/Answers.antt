@@ -1,7 +1,7 @@
 use Rattle.std.proofs.Common.{◌≡◌, List, sym, ap, ◌∙◌, subst}
 use Rattle.std.specs.Prelude.{Ok, OnOk}
 use Rattle.bz_items.specs.Characters.{Bytes}
-use Rattle.bz_words.specs.declared.command.ValueOperation.{ValueOperation}
+use Rattle.bz_command_syntax.specs.declared.command.ValueOperation.{ValueOperation}
 use Rattle.bz_attribute.specs.Attributes.{Arguments}
 use Rattle.bz_list.specs.Changes.{add, in_attributes, in_value, replaced_item, substituted_item, values_changed}
 use Rattle.bz_list.proofs.changing.change_in_place.Goals as goal

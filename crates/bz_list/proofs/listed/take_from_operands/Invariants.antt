@@ -1,6 +1,6 @@
 use Rattle.std.proofs.Common.{◌≡◌, ◌++◌, take, drop, map}
 use Rattle.std.specs.List.{filter, flat_map}
-use Rattle.bz_tree.specs.declared.kind.Kind.TheVariants as k
+use Rattle.bz_grammar.specs.declared.kind.Kind.TheVariants as k
 use Rattle.bz_rule.specs.Values.{on_items}
 use Rattle.bz_attribute.specs.Lists.{listed}
 use Rattle.bz_list.specs.private.Listing.{chooses, is_left}

@@ -1,7 +1,7 @@
 use Rattle.std.proofs.Common.{Err, ap, sym, ◌∙◌, subst}
 use Rattle.std.specs.List.{AllByRecursion}
 use Rattle.bz_resume.specs.declared.fault.Halt.TheVariants as h
-use Rattle.bz_tree.specs.Legal.{Reads}
+use Rattle.bz_grammar.specs.Legal.{Reads}
 use Rattle.bz_resume.specs.private.Agreement.{edits_of, notes_of}
 use Rattle.bz_resume.specs.private.Agreement.{MayLead}
 use Rattle.std.proofs.lemmas.Result.{err_from_is_err_and}

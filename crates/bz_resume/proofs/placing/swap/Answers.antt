@@ -1,5 +1,5 @@
 use Rattle.std.proofs.Common.{◌∙◌}
-use Rattle.bz_trail.proofs.Turn.{apart_there}
+use Rattle.bz_history.proofs.Turn.{apart_there}
 use Rattle.bz_resume.proofs.placing.swap.Goals as goal
 
 pub swap_each-requires-clause-apart : goal.swap_each-requires-clause-apart

@@ -1,8 +1,8 @@
 use Rattle.std.proofs.Common.{ap, sym, ◌∙◌, ◌++◌, refl}
 use Rattle.std.proofs.lemmas.Result.{on_ok_weaker}
-use Rattle.bz_record.specs.declared.content.Record.{Record}
-use Rattle.bz_record.specs.declared.content.Version.TheVariants.{Two}
-use Rattle.bz_record.specs.Texts.{record_text}
+use Rattle.bz_journal_format.specs.declared.content.Record.{Record}
+use Rattle.bz_journal_format.specs.declared.content.Version.TheVariants.{Two}
+use Rattle.bz_journal_format.specs.Texts.{record_text}
 use Rattle.bz_resume.specs.Saved.{saved_history, saved_trail}
 use Rattle.bz_resume.proofs.Saves.{is_saved, record_made}
 use Rattle.bz_resume.proofs.saving.save_into.Goals as goal

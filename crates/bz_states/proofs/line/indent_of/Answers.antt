@@ -1,5 +1,5 @@
 use Rattle.std.proofs.Common.{◌∙◌, arith}
-use Rattle.bz_tree.proofs.Blanks.{blanks_from, blanks_whole}
+use Rattle.bz_grammar.proofs.Blanks.{blanks_from, blanks_whole}
 use Rattle.bz_states.proofs.line.indent_of.Goals as goal
 
 pub returns-then-byte-ne9 : goal.returns-then-byte-ne9

@@ -1,6 +1,6 @@
 use Rattle.std.proofs.Common.{ap, ◌∙◌}
 use Rattle.std.specs.List.{position}
-use Rattle.bz_tree.specs.declared.kind.Kind.TheVariants as k
+use Rattle.bz_grammar.specs.declared.kind.Kind.TheVariants as k
 use Rattle.bz_rule.specs.Values.{on_items}
 use Rattle.bz_attribute.specs.Attributes.{on_first_that}
 use Rattle.bz_comment.specs.Hosts.{has_item}

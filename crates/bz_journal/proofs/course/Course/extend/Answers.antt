@@ -1,9 +1,9 @@
 use Rattle.std.proofs.Common.{List, ◌≡◌, ◌<◌, ◌+◌, ◌++◌, ◌∷◌, [], ◌∙◌, ap, sym, subst, rules, take, string_bytes}
-use Rattle.bz_tree.specs.declared.tree.Node.{Node}
-use Rattle.bz_tree.specs.Spell.{spell_node}
+use Rattle.bz_grammar.specs.declared.tree.Node.{Node}
+use Rattle.bz_grammar.specs.Spell.{spell_node}
 use Rattle.bz_items.specs.Characters.{Bytes}
-use Rattle.bz_trail.specs.Shown.{TakesUp, texts_of}
-use Rattle.bz_trail.specs.Trails.{trail_at}
+use Rattle.bz_history.specs.Shown.{TakesUp, texts_of}
+use Rattle.bz_history.specs.Trails.{trail_at}
 use Rattle.bz_journal.specs.History.{most_steps}
 use Rattle.bz_journal.specs.State.{SessionState, IsSession, session_trail}
 use Rattle.bz_journal.proofs.Kept.{HasExtended, extended, session_present}

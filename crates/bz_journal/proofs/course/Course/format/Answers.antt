@@ -1,5 +1,5 @@
 use Rattle.std.proofs.Common.{refl}
-use Rattle.bz_tree.specs.Spell.{spell_node}
+use Rattle.bz_grammar.specs.Spell.{spell_node}
 use Rattle.bz_journal.specs.Shown.{session_history}
 use Rattle.bz_journal.proofs.Acting.{formats_refused, formats_given}
 use Rattle.bz_journal.proofs.Formatting.{formatted_after}

@@ -1,5 +1,5 @@
 use Rattle.std.proofs.Common.{◌∙◌, ap, subst}
-use Rattle.bz_tree.specs.Spell.{spell_node}
+use Rattle.bz_grammar.specs.Spell.{spell_node}
 use Rattle.bz_journal.specs.State.{SessionState, IsSession}
 use Rattle.bz_journal.proofs.Kept.{session_kept, session_present}
 use Rattle.bz_journal.proofs.session.Session.present.Goals as goal

@@ -1,5 +1,5 @@
 use Rattle.std.proofs.Common.{ap, ◌∙◌}
-use Rattle.bz_tree.specs.Reading.{starts_with}
+use Rattle.bz_grammar.specs.Reading.{starts_with}
 use Rattle.bz_states.specs.Tokens.{terminals_of}
 use Rattle.bz_states.proofs.token.Leaves.next_is.Goals as goal
 

@@ -1,8 +1,8 @@
 use Rattle.std.proofs.Common.{◌≡◌, ◌∙◌, ◌<◌, ◌-◌, ◌^◌, inl, inr, arith, ap, sym, subst, refl, take, length, Ok, Err, Some, None, [], ◌∷◌, true}
 use Rattle.bz_items.specs.Characters.{Bytes}
-use Rattle.bz_keep.specs.Pair.{journal_name}
-use Rattle.bz_ports.specs.Outputs.{Reports}
-use Rattle.bz_ports.specs.Reported.{named_line}
+use Rattle.bz_resume.specs.Pair.{journal_name}
+use Rattle.bz_streams.specs.Outputs.{Reports}
+use Rattle.bz_streams.specs.Reported.{named_line}
 use Rattle.bz_workspace.specs.Journals.{TakesBeside, fault_word, hints_of_journal, journal_beside, lines_of_journal}
 use Rattle.bz_workspace.specs.Packages as p
 use Rattle.bz_workspace.specs.Packages.{opened_with, with_opened}

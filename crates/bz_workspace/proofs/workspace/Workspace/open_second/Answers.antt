@@ -1,5 +1,5 @@
 use Rattle.std.proofs.Common.{◌∙◌, ap, sym, refl, Err, None, [], ◌∷◌, codes, subst, Some, inr}
-use Rattle.bz_ports.specs.Reported.{named_line}
+use Rattle.bz_streams.specs.Reported.{named_line}
 use Rattle.bz_workspace.specs.declared.opening.Opening.{Opening}
 use Rattle.bz_workspace.proofs.FileSteps.{none_stays}
 use Rattle.bz_workspace.proofs.FoundSteps.{second_opens, neither_opens}

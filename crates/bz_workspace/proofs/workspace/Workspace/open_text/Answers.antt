@@ -1,5 +1,5 @@
 use Rattle.std.proofs.Common.{◌∙◌, ap, refl, None, [], ◌∷◌, map}
-use Rattle.bz_ports.specs.Reported.{fault_line}
+use Rattle.bz_streams.specs.Reported.{fault_line}
 use Rattle.bz_workspace.specs.Kept.{texts_of_keys}
 use Rattle.bz_workspace.specs.Packages.{with_opened}
 use Rattle.bz_workspace.specs.Shown.{used_in}

@@ -1,0 +1,97 @@
+-- What is written of a value: the layout of it tidied.
+use Rattle.std.proofs.Common.{◌∙◌, ◌≡◌, ◌≤◌, ◌<◌, ℕ, List, length, true, false, Bool, refl, [], Option, None, nat_lt, subst, sym, ap, arith, if◌then◌else◌}
+use Rattle.std.proofs.lemmas.Bool.Decides.{nat_tests}
+use Rattle.std.proofs.lemmas.Bool.{ltb-false, false≢true}
+use Rattle.bz_grammar.specs.declared.tree.Node.{Node}
+use Rattle.bz_grammar.specs.Spell.{spell_node, depth_of, depth_limit, limit}
+use Rattle.bz_grammar.specs.Legal.{Reads}
+use Rattle.bz_value.specs.declared.value.Item.{Item}
+use Rattle.bz_items.specs.Characters.{Bytes}
+use Rattle.bz_layout.specs.Written.{layout}
+use Rattle.bz_layout.specs.LaidOut.{laid_out}
+use Rattle.bz_passes.specs.Passes.{tidied}
+use Rattle.bz_value.specs.declared.refusal.Refusal.TheVariants.{TooLarge, TooDeep}
+use Rattle.bz_build_format.specs.Meaning.{Meaning, gives, refuses, written}
+
+abbrev limited : ℕ → Bytes → Option Bytes → Meaning
+limited depth text printed = if nat_lt limit (length text) then refuses TooLarge else (if nat_lt depth_limit depth then refuses TooDeep else gives text printed)
+
+too_large : (depth : ℕ) (text : Bytes) (printed : Option Bytes) → limit < length text → limited depth text printed ≡ refuses TooLarge
+too_large depth text printed h = let over : nat_lt limit (length text) ≡ true = grind (arith, nat_tests) in rw over
+
+too_deep : (depth : ℕ) (text : Bytes) (printed : Option Bytes) → length text ≤ limit → depth_limit < depth → limited depth text printed ≡ refuses TooDeep
+too_deep depth text printed h d =
+    let within : nat_lt limit (length text) ≡ false = grind (arith, nat_tests) in
+    let over : nat_lt depth_limit depth ≡ true = grind (arith, nat_tests) in
+    rw (within, over)
+
+fitting : (depth : ℕ) (text : Bytes) (printed : Option Bytes) → length text ≤ limit → depth ≤ depth_limit → limited depth text printed ≡ gives text printed
+fitting depth text printed h d =
+    let within : nat_lt limit (length text) ≡ false = grind (arith, nat_tests) in
+    let shallow : nat_lt depth_limit depth ≡ false = grind (arith, nat_tests) in
+    rw (within, shallow)
+
+-- Below, `tidy` is the value that was tidied.
+pub written_too_large : (items tidy : List Item) → tidy ≡ tidied items → limit < length (layout tidy) → (printed : Option Bytes) → written items printed ≡ refuses TooLarge
+written_too_large items tidy is h printed =
+    too_large (depth_of (laid_out (tidied items))) (layout (tidied items)) printed (subst (λ (xs : List Item). limit < length (layout xs)) is h)
+
+pub written_too_deep : (items tidy : List Item) → tidy ≡ tidied items → length (layout tidy) ≤ limit → depth_limit < depth_of (laid_out tidy) → (printed : Option Bytes) → written items printed ≡ refuses TooDeep
+written_too_deep items tidy is h d printed =
+    too_deep (depth_of (laid_out (tidied items))) (layout (tidied items)) printed
+    (subst (λ (xs : List Item). length (layout xs) ≤ limit) is h) (subst (λ (xs : List Item). depth_limit < depth_of (laid_out xs)) is d)
+
+-- the text that the writer gives
+pub written_given : (items tidy : List Item) (text : Bytes) → tidy ≡ tidied items → text ≡ layout tidy → length (layout tidy) ≤ limit → depth_of (laid_out tidy) ≤ depth_limit
+    → (printed : Option Bytes) → written items printed ≡ gives text printed
+written_given items tidy text tidy_is text_is long deep printed =
+    ap (λ (xs : List Item). limited (depth_of (laid_out xs)) (layout xs) printed) (sym tidy_is)
+    ∙ fitting (depth_of (laid_out tidy)) (layout tidy) printed long deep ∙ ap (λ (t : Bytes). gives t printed) (sym text_is)
+
+-- the spelling of the tree that the writer gives
+pub written_spelled : (items tidy : List Item) (tree : Node) → tidy ≡ tidied items → tree ≡ laid_out tidy → spell_node tree ≡ layout tidy → Reads (spell_node tree) tree
+    → (printed : Option Bytes) → written items printed ≡ gives (spell_node tree) printed
+written_spelled items tidy tree tidy_is laid_out_is spelled reads printed =
+    written_given items tidy (spell_node tree) tidy_is spelled (subst (λ (t : Bytes). length t ≤ limit) spelled reads.2)
+    (subst (λ (t : Node). depth_of t ≤ depth_limit) laid_out_is reads.0.depth) printed
+
+-- ---- what is known where a text is given
+
+pub record IsGiven (items : List Item) (text : Bytes) (requested printed : Option Bytes) : Type 0 where
+  pub layout_is : text ≡ layout (tidied items)
+  pub same : printed ≡ requested
+  pub long : length (layout (tidied items)) ≤ limit
+  pub deep : depth_of (laid_out (tidied items)) ≤ depth_limit
+
+abbrev text_in : Bytes → Meaning → Bytes
+text_in other (gives text printed) = text
+text_in other (refuses refusal) = other
+
+abbrev printed_in : Meaning → Option Bytes
+printed_in (gives text printed) = printed
+printed_in (refuses refusal) = None
+
+abbrev is_given : Meaning → Bool
+is_given (gives text printed) = true
+is_given (refuses refusal) = false
+
+-- what the tests say where a text is given
+within : (long deep : Bool) (all text : Bytes) (requested printed : Option Bytes)
+    → (if long then refuses TooLarge else (if deep then refuses TooDeep else gives all requested)) ≡ gives text printed → (long ≡ false) × (deep ≡ false)
+within true deep all text requested printed e = absurd (false≢true (ap is_given e))
+within false true all text requested printed e = absurd (false≢true (ap is_given e))
+within false false all text requested printed e = (refl, refl)
+
+limits : (depth : ℕ) (all text : Bytes) (requested printed : Option Bytes) → limited depth all requested ≡ gives text printed
+    → (text ≡ all) × (printed ≡ requested) × (length all ≤ limit) × (depth ≤ depth_limit)
+limits depth all text requested printed e =
+    let tests : (nat_lt limit (length all) ≡ false) × (nat_lt depth_limit depth ≡ false) = within (nat_lt limit (length all)) (nat_lt depth_limit depth) all text requested printed e in
+    let long : length all ≤ limit = ltb-false limit (length all) tests.0 in
+    let deep : depth ≤ depth_limit = ltb-false depth_limit depth tests.1 in
+    let same : gives all requested ≡ gives text printed = sym (fitting depth all requested long deep) ∙ e in
+    (sym (ap (text_in []) same), sym (ap printed_in same), long, deep)
+
+pub given : (items : List Item) (text : Bytes) (requested printed : Option Bytes) → written items requested ≡ gives text printed → IsGiven items text requested printed
+given items text requested printed e =
+    let found = limits (depth_of (laid_out (tidied items))) (layout (tidied items)) text requested printed e in
+    record { layout_is = found.0; same = found.1; long = found.2; deep = found.3 }

@@ -1,0 +1,22 @@
+use Rattle.std.proofs.Common.{List, None, sym, ap, ◌∙◌}
+use Rattle.bz_value.specs.declared.value.Item.{Item}
+use Rattle.bz_build_format.specs.Meaning.{written}
+use Rattle.bz_build_format.proofs.ReadFaults.{unread_answered}
+use Rattle.bz_build_format.proofs.formatter.format.Goals as goal
+
+pub returns-in-Err : goal.returns-in-Err
+returns-in-Err c = record {
+  formats = unread_answered _ c.args.text.now c.in-Err.fault c.of_read_fault.result c.of_read_fault.ensures c.in-Err.ensures.refused
+      c.in-Err.ensures.too_large c.in-Err.ensures.not_utf8;
+  fixed = tt;
+}
+
+pub returns-in-Ok-written_text-clause-fixed : goal.returns-in-Ok-written_text-clause-fixed
+returns-in-Ok-written_text-clause-fixed c = c.formatted_once.ensures c.args.text.now c.in-Ok-written_text.formatted (
+  c.in-Ok.tree,
+  c.in-Ok.ensures.ok,
+  sym (c.in-Ok-written_text.ensures.ok None) ∙ ap (λ (items : List Item). written items None) c.in-Ok-value_of.ensures,
+)
+
+pub returns-in-Some-clause-fixed : goal.returns-in-Some-clause-fixed
+returns-in-Some-clause-fixed c = c.formatted_once.ensures c.args.text.now c.in-Some.formatted c.in-Some.ensures

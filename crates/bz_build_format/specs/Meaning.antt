@@ -1,0 +1,28 @@
+-- What a meaning is, and what formatting a text means.
+use Rattle.std.specs.Prelude.{◌≡◌, List, Option, None, nat_lt, length, if◌then◌else◌}
+use Rattle.bz_grammar.specs.declared.tree.Node.{Node}
+use Rattle.bz_grammar.specs.Spell.{depth_of, depth_limit, limit}
+use Rattle.bz_grammar.specs.Legal.{Reads}
+use Rattle.bz_value.specs.declared.value.Item.{Item}
+use Rattle.bz_items.specs.Characters.{Bytes}
+use Rattle.bz_hosts.specs.View.{view_of}
+use Rattle.bz_layout.specs.Written.{layout}
+use Rattle.bz_layout.specs.LaidOut.{laid_out}
+use Rattle.bz_passes.specs.Passes.{tidied}
+use Rattle.bz_value.specs.declared.refusal.Refusal.{Refusal}
+use Rattle.bz_value.specs.declared.refusal.Refusal.TheVariants.{TooLarge, TooDeep}
+
+-- A text, and what is printed where something is; or a refusal.
+pub data Meaning : Type 0 where
+  gives : Bytes → Option Bytes → Meaning
+  refuses : Refusal → Meaning
+
+-- A new value gives the layout of it tidied, within the limits of a text: its length is looked at first, then its depth.
+abbrev pub written : List Item → Option Bytes → Meaning
+written items printed =
+    if nat_lt limit (length (layout (tidied items))) then refuses TooLarge
+    else (if nat_lt depth_limit (depth_of (laid_out (tidied items))) then refuses TooDeep else gives (layout (tidied items)) printed)
+
+-- A text that reads as a tree is formatted to the layout of its value tidied, or that is refused.
+abbrev pub Formats : Bytes → Meaning → Type 0
+Formats text m = (tree : Node) × Reads text tree × (m ≡ written (view_of tree) None)

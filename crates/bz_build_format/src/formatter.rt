@@ -1,0 +1,68 @@
+//! The formatted text of a text.
+ghost use Rattle.std.specs.Prelude.{◌≡◌, ◌≢◌, ◌⊎◌, IfOk};
+ghost use Rattle.bz_build_format.specs.Faults.{FormatsTo};
+ghost use Rattle.bz_build_format.specs.Fixed.{IsFormatted};
+
+use crate::chunks::chunks_formatted;
+use crate::laws::formatted_once;
+use crate::writing::{value_of, written_text};
+use bz_items::Text;
+use bz_tree::parse;
+use bz_grammar::ReadFault;
+use bz_value::Refusal;
+use std::alloc::Global;
+use thiserror::Error;
+
+/// Why there is no formatted text.
+#[derive(Debug, Drop, Error)]
+pub enum FormatFault {
+    /// The text is not accepted.
+    #[error("{0}")]
+    Unread(ReadFault),
+    /// The formatted text would be longer than `LENGTH_LIMIT`.
+    #[error("TooLarge")]
+    TooLarge,
+    /// The tree of the formatted text would be deeper than `DEPTH_LIMIT`.
+    #[error("TooDeep")]
+    TooDeep,
+    /// A growth was refused.
+    #[error("Memory")]
+    Memory,
+}
+
+/// Why there is no formatted text of a text that is not read.
+pub fn of_read_fault(fault: ReadFault) -> FormatFault
+    ensures { ((result ≡ FormatFault.Unread fault) × (fault ≢ ReadFault.Memory)) ⊎ (result ≡ FormatFault.Memory) }
+{
+    match fault {
+        ReadFault::Memory => FormatFault::Memory,
+        fault => FormatFault::Unread(fault),
+    }
+}
+
+/// The formatted text of a text: its value tidied and laid out, which keeps the program; to format it once more gives it
+/// again. Errors: `Unread`
+/// where the text is not accepted, with the fault of reading it; `TooLarge` and `TooDeep` where the formatted text would
+/// be past a limit; `Memory`: a growth was refused.
+pub fn format(alloc: Global, text: &[u8]) -> Result<Text, FormatFault>
+    ensures formats { FormatsTo text.now result }
+    ensures fixed { IfOk result (λ formatted. IsFormatted text.now formatted) }
+{
+    formatted_once();
+    if let Some(formatted) = chunks_formatted(alloc, text) {
+        return Ok(formatted);
+    }
+    let tree = match parse(alloc, text) {
+        Ok(tree) => tree,
+        Err(fault) => return Err(of_read_fault(fault)),
+    };
+    let Ok(value) = value_of(alloc, tree) else {
+        return Err(FormatFault::Memory);
+    };
+    match written_text(alloc, value) {
+        Ok(formatted) => Ok(formatted),
+        Err(Refusal::TooLarge) => Err(FormatFault::TooLarge),
+        Err(Refusal::TooDeep) => Err(FormatFault::TooDeep),
+        Err(_) => Err(FormatFault::Memory),
+    }
+}

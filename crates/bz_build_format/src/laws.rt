@@ -1,0 +1,67 @@
+//! Facts about the definitions, for readers: the functions do nothing.
+ghost use Rattle.bz_build_format.specs.Filled.{CommentsFill, CommentsFit};
+ghost use Rattle.bz_build_format.specs.Fixed.{FixedPoint};
+ghost use Rattle.bz_build_format.specs.Tokens.{FormattingKeepsTokens, TreeProgramsKeepTokens};
+ghost use Rattle.bz_build_format.specs.TreePrograms.{ViewsKeepPrograms};
+ghost use Rattle.bz_build_format.specs.Writing.{WritingKeepsProgram};
+
+use bz_passes::{comments_stay, program_stays, proper_stays, tidy_settles, tidy_stays, tokens_stay};
+use bz_grammar::laws::one_reading;
+use bz_hosts::{comments_kept, views_are_proper};
+use bz_layout::{layout_is_accepted, layout_reads_back};
+
+/// A formatted text is formatted to itself, its value is that of the text it was made of, tidied, each comment is in it
+/// as often as in that text, and the program of that text is kept, with each token of it that is no string as often.
+pub fn formatted_once()
+    ensures { FixedPoint }
+{
+    one_reading();
+    views_are_proper();
+    comments_kept();
+    layout_is_accepted();
+    layout_reads_back();
+    proper_stays();
+    tidy_settles();
+    tidy_stays();
+    comments_stay();
+    program_stays();
+    tokens_stay();
+    views_keep_programs();
+}
+
+/// The program of the value of a tree is that of the tree: nothing is lost but gaps, brackets and the marks between parts.
+pub fn views_keep_programs()
+    ensures { ViewsKeepPrograms }
+{}
+
+/// Each token of a text is in its program as often, and in the formatted text as often as in the text, but for strings, commas,
+/// semicolons, brackets and newlines.
+pub fn tokens_kept()
+    ensures program { TreeProgramsKeepTokens }
+    ensures formatted { FormattingKeepsTokens }
+{
+    formatted_once();
+}
+
+/// The text that is written of a proper value, as of what a command makes of one, keeps the value's program.
+pub fn writing_keeps_program()
+    ensures { WritingKeepsProgram }
+{
+    one_reading();
+    layout_is_accepted();
+    layout_reads_back();
+    proper_stays();
+    tidy_settles();
+    program_stays();
+}
+
+/// Where a comment occurs so often in a proper value that its copies alone are past the limit of a text, so is what is written of
+/// the value; in the value of a text none does.
+pub fn comments_fill()
+    ensures fill { CommentsFill }
+    ensures fit { CommentsFit }
+{
+    comments_kept();
+    proper_stays();
+    comments_stay();
+}

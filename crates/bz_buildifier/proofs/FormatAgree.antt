@@ -1,0 +1,294 @@
+-- Two runs that no failure cuts agree.
+use Rattle.std.proofs.Common.{◌≡◌, ◌⊎◌, ◌≤◌, ◌<◌, ◌∙◌, ◌∷◌, ◌++◌, ◌||◌, inl, inr, List, [], length, Bool, true, false, Some, None, Ok, Err, Result, refl, sym, ap, subst, arith}
+use Rattle.std.specs.Prelude.{IfOk, if◌then◌else◌}
+use Rattle.std.specs.List.{All}
+use Rattle.std.specs.FinMap.{get}
+use Rattle.bz_items.specs.Characters.{Bytes}
+use Rattle.bz_lex.specs.declared.fault.ReadFault.{ReadFault}
+use Rattle.bz_grammar.specs.declared.tree.Node.{Node}
+use Rattle.bz_grammar.specs.Laws.{OneReading, OneBzlReading}
+use Rattle.bz_grammar.specs.Spell.{limit}
+use Rattle.bz_files.specs.Folder.{Folder, IsAside, SameFolders}
+use Rattle.bz_hosts.specs.View.{view_of}
+use Rattle.bz_build_format.specs.Meaning.{Meaning, gives, refuses, written, Formats}
+use Rattle.bz_build_format.specs.declared.formatter.FormatFault.{FormatFault}
+use Rattle.bz_build_format.specs.declared.formatter.FormatFault.TheVariants as f
+use Rattle.bz_value.specs.declared.refusal.Refusal.TheVariants as r
+use Rattle.bz_bzl_format.specs.Formatted.{bzl_formatted, formatted_tree}
+use Rattle.bz_grammar.specs.Legal.{ReadsBzl}
+use Rattle.bz_streams.specs.Exits.{first_cut}
+use Rattle.bz_streams.specs.Ports.{IsInput}
+use Rattle.bz_streams.specs.Reported.{stdin, fault_line}
+use Rattle.bz_streams.specs.declared.exit.Cut.{Cut}
+use Rattle.bz_streams.specs.declared.exit.Cut.TheVariants as c
+use Rattle.bz_buildifier.specs.Modes as m
+use Rattle.bz_buildifier.specs.FileKinds.{FormatsAs, is_bzl}
+use Rattle.bz_buildifier.specs.FormatRun.{Effect, Run, FilesFormatted, InputStep, input_unread, input_without_memory, input_unformatted, input_printed, FormatOutcome, FormatOutcomeOf, RunOf, IsFormatUsageLine, no_word_line, begun, grown, out_after, worse, output_effect, input_out, text_status, refused}
+use Rattle.bz_buildifier.specs.FormatExact.{ExactStep, exact_absent, exact_unformatted, exact_formatted, Exact}
+use Rattle.bz_buildifier.specs.FormatAgree.{LinesAreAlike, SameReports, Agree, OutcomesAgree}
+use Rattle.bz_buildifier.specs.declared.file_type.FileType.{FileType}
+use Rattle.bz_buildifier.specs.declared.mode.Mode.{Mode}
+use Rattle.bz_buildifier.proofs.FormatWhole.{exact_run}
+
+-- ---- what formatting a text answers is fixed
+
+record OneEach : Type 0 where
+  pub build : OneReading
+  pub bzl : OneBzlReading
+
+one_meaning : OneEach → (text : Bytes) (one other : Meaning) → Formats text one → Formats text other → other ≡ one
+one_meaning laws text one other formats others =
+    others.2 ∙ ap (λ (n : Node). written (view_of n) None) (laws.build text others.0 formats.0 others.1 formats.1) ∙ sym formats.2
+
+one_formatted : OneEach → (bzl : Bool) (text one other : Bytes) → FormatsAs bzl text (Ok one) → FormatsAs bzl text (Ok other) → other ≡ one
+one_formatted laws true text one other formats others =
+    others.2 ∙ ap bzl_formatted (laws.bzl text others.0 formats.0 others.1 formats.1) ∙ sym formats.2
+one_formatted laws false text one other formats others =
+    let same = one_meaning laws text (gives one None) (gives other None) formats others in cc
+
+ok_or_large : OneEach → (bzl : Bool) (text new : Bytes) → FormatsAs bzl text (Ok new) → FormatsAs bzl text (Err f.TooLarge) → ⊥
+ok_or_large laws true text new formats large =
+    let same : bzl_formatted large.0 ≡ new = ap bzl_formatted (laws.bzl text large.0 formats.0 large.1 formats.1) ∙ sym formats.2 in
+    let long : limit < length new = subst (λ (bytes : Bytes). limit < length bytes) same large.2 in
+    let short : length new ≤ limit = formats.3 in omega (arith, long, short)
+ok_or_large laws false text new formats large =
+    let same = one_meaning laws text (gives new None) (refuses r.TooLarge) formats large in absurd (cc same)
+
+ok_or_deep : OneEach → (bzl : Bool) (text new : Bytes) → FormatsAs bzl text (Ok new) → FormatsAs bzl text (Err f.TooDeep) → ⊥
+ok_or_deep laws true text new formats deep =
+    let same : formats.0 ≡ deep.0 = laws.bzl text formats.0 deep.0 formats.1 deep.1 in
+    deep.4 (formatted_tree formats.0) (subst (λ (n : Node). ReadsBzl (bzl_formatted n) (formatted_tree formats.0)) same formats.4.0)
+ok_or_deep laws false text new formats deep =
+    let same = one_meaning laws text (gives new None) (refuses r.TooDeep) formats deep in absurd (cc same)
+
+large_or_deep : OneEach → (bzl : Bool) (text : Bytes) → FormatsAs bzl text (Err f.TooLarge) → FormatsAs bzl text (Err f.TooDeep) → ⊥
+large_or_deep laws true text large deep =
+    let same : bzl_formatted large.0 ≡ bzl_formatted deep.0 = ap bzl_formatted (laws.bzl text large.0 deep.0 large.1 deep.1) in
+    let long : limit < length (bzl_formatted deep.0) = subst (λ (bytes : Bytes). limit < length bytes) same large.2 in
+    let short : length (bzl_formatted deep.0) ≤ limit = deep.2 in omega (arith, long, short)
+large_or_deep laws false text large deep =
+    let same = one_meaning laws text (refuses r.TooLarge) (refuses r.TooDeep) large deep in absurd (cc same)
+
+unread_or_ok : (bzl : Bool) (text new : Bytes) (fault : ReadFault) → FormatsAs bzl text (Err (f.Unread fault)) → FormatsAs bzl text (Ok new) → ⊥
+unread_or_ok true text new fault unread formats = unread.0 formats.0 formats.1
+unread_or_ok false text new fault unread formats = unread.0 (formats.0, formats.1)
+
+unread_or_large : (bzl : Bool) (text : Bytes) (fault : ReadFault) → FormatsAs bzl text (Err (f.Unread fault)) → FormatsAs bzl text (Err f.TooLarge) → ⊥
+unread_or_large true text fault unread large = unread.0 large.0 large.1
+unread_or_large false text fault unread large = unread.0 (large.0, large.1)
+
+unread_or_deep : (bzl : Bool) (text : Bytes) (fault : ReadFault) → FormatsAs bzl text (Err (f.Unread fault)) → FormatsAs bzl text (Err f.TooDeep) → ⊥
+unread_or_deep true text fault unread deep = unread.0 deep.0 deep.1
+unread_or_deep false text fault unread deep = unread.0 (deep.0, deep.1)
+
+-- ---- effects
+
+record Alike (one other : Effect) : Type 0 where
+  pub out : other.out ≡ one.out
+  pub lines : SameReports one.lines other.lines
+  pub status : other.status ≡ one.status
+  pub cut : other.cut ≡ one.cut
+  pub closes : other.closes ≡ one.closes
+
+same_reports : (lines : List Bytes) → SameReports lines lines
+same_reports [] = tt
+same_reports (line ∷ lines) = (inl refl, same_reports lines)
+
+more_reports : (lines others more others' : List Bytes) → SameReports lines others → SameReports more others' → SameReports (lines ++ more) (others ++ others')
+more_reports [] [] more others' same again = again
+more_reports [] (other ∷ others) more others' same again = absurd same
+more_reports (line ∷ lines) [] more others' same again = absurd same
+more_reports (line ∷ lines) (other ∷ others) more others' same again = (same.0, more_reports lines others more others' same.1 again)
+
+same_effect : (one other : Effect) → other ≡ one → Alike one other
+same_effect one other same = subst (λ (e : Effect). Alike one e) (sym same) (record { out = refl; lines = same_reports one.lines; status = refl; cut = refl; closes = refl })
+
+not_memory_effect : (name : Bytes) → (refused name f.Memory).cut ≡ c.Whole → ⊥
+not_memory_effect name is = cc is
+
+same_refusal : OneEach → (bzl : Bool) (text name : Bytes) (fault other : FormatFault) → FormatsAs bzl text (Err fault) → FormatsAs bzl text (Err other)
+    → (refused name fault).cut ≡ c.Whole → (refused name other).cut ≡ c.Whole → Alike (refused name fault) (refused name other)
+same_refusal laws bzl text name (f.Unread fault) (f.Unread other) one two whole whole' =
+    record { out = refl; lines = (inr (name, fault, other, refl, refl), tt); status = refl; cut = refl; closes = refl }
+same_refusal laws bzl text name f.TooLarge f.TooLarge one two whole whole' = same_effect (refused name f.TooLarge) (refused name f.TooLarge) refl
+same_refusal laws bzl text name f.TooDeep f.TooDeep one two whole whole' = same_effect (refused name f.TooDeep) (refused name f.TooDeep) refl
+same_refusal laws bzl text name (f.Unread fault) f.TooLarge one two whole whole' = absurd (unread_or_large bzl text fault one two)
+same_refusal laws bzl text name (f.Unread fault) f.TooDeep one two whole whole' = absurd (unread_or_deep bzl text fault one two)
+same_refusal laws bzl text name f.TooLarge (f.Unread other) one two whole whole' = absurd (unread_or_large bzl text other two one)
+same_refusal laws bzl text name f.TooDeep (f.Unread other) one two whole whole' = absurd (unread_or_deep bzl text other two one)
+same_refusal laws bzl text name f.TooLarge f.TooDeep one two whole whole' = absurd (large_or_deep laws bzl text one two)
+same_refusal laws bzl text name f.TooDeep f.TooLarge one two whole whole' = absurd (large_or_deep laws bzl text two one)
+same_refusal laws bzl text name f.Memory other one two whole whole' = absurd (not_memory_effect name whole)
+same_refusal laws bzl text name (f.Unread fault) f.Memory one two whole whole' = absurd (not_memory_effect name whole')
+same_refusal laws bzl text name f.TooLarge f.Memory one two whole whole' = absurd (not_memory_effect name whole')
+same_refusal laws bzl text name f.TooDeep f.Memory one two whole whole' = absurd (not_memory_effect name whole')
+
+not_both : OneEach → (bzl : Bool) (text name new : Bytes) (fault : FormatFault) → FormatsAs bzl text (Ok new) → FormatsAs bzl text (Err fault) → (refused name fault).cut ≡ c.Whole → ⊥
+not_both laws bzl text name new (f.Unread fault) formats reported whole = unread_or_ok bzl text new fault reported formats
+not_both laws bzl text name new f.TooLarge formats reported whole = ok_or_large laws bzl text new formats reported
+not_both laws bzl text name new f.TooDeep formats reported whole = ok_or_deep laws bzl text new formats reported
+not_both laws bzl text name new f.Memory formats reported whole = not_memory_effect name whole
+
+-- by effects that are these
+alike_as : (one other one' other' : Effect) → one' ≡ one → other' ≡ other → Alike one other → Alike one' other'
+alike_as one other one' other' is is' alike =
+    subst (λ (e : Effect). Alike e other') (sym is) (subst (λ (e : Effect). Alike one e) (sym is') alike)
+
+cut_as : (one one' : Effect) → one' ≡ one → one'.cut ≡ c.Whole → one.cut ≡ c.Whole
+cut_as one one' is whole = sym (ap (λ (e : Effect). e.cut) is) ∙ whole
+
+-- ---- one file
+
+same_text : (folder : Folder) (name text other : Bytes) → get folder name ≡ Some text → get folder name ≡ Some other → other ≡ text
+same_text folder name text other there there' = let same = sym there' ∙ there in cc
+
+never_both : (folder : Folder) (name text : Bytes) → get folder name ≡ None → get folder name ≡ Some text → ⊥
+never_both folder name text none there = let same = sym none ∙ there in cc same
+
+Same : Effect → Effect → Folder → Folder → Type 0
+Same one other after after' = Alike one other × (after' ≡ after)
+
+one_step : OneEach → (mode : Mode) (file_type : FileType) (name : Bytes) (folder after after' : Folder) (one other : Effect)
+    → ExactStep mode file_type name folder one after → ExactStep mode file_type name folder other after' → Same one other after after'
+unfolding Same
+one_step laws mode file_type name folder after after' one other (exact_absent none is stays) (exact_absent none' is' stays') =
+    (same_effect one other (is' ∙ sym is), stays' ∙ sym stays)
+one_step laws mode file_type name folder after after' one other (exact_absent none is stays) (exact_unformatted text fault there formats is' whole stays') =
+    absurd (never_both folder name text none there)
+one_step laws mode file_type name folder after after' one other (exact_absent none is stays) (exact_formatted text new there formats is' rewritten) =
+    absurd (never_both folder name text none there)
+one_step laws mode file_type name folder after after' one other (exact_unformatted text fault there formats is whole stays) (exact_absent none is' stays') =
+    absurd (never_both folder name text none there)
+one_step laws mode file_type name folder after after' one other (exact_formatted text new there formats is rewritten) (exact_absent none is' stays') =
+    absurd (never_both folder name text none there)
+one_step laws mode file_type name folder after after' one other (exact_unformatted text fault there formats is whole stays) (exact_unformatted text' fault' there' formats' is' whole' stays') = (
+  alike_as (refused name fault) (refused name fault') one other is is' (same_refusal laws (is_bzl file_type name) text name fault fault' formats
+      (subst (λ (t : Bytes). FormatsAs (is_bzl file_type name) t (Err fault')) (same_text folder name text text' there there') formats')
+      (cut_as (refused name fault) one is whole) (cut_as (refused name fault') other is' whole')),
+  stays' ∙ sym stays,
+)
+one_step laws mode file_type name folder after after' one other (exact_unformatted text fault there formats is whole stays) (exact_formatted text' new there' formats' is' rewritten) =
+    absurd (not_both laws (is_bzl file_type name) text name new fault
+    (subst (λ (t : Bytes). FormatsAs (is_bzl file_type name) t (Ok new)) (same_text folder name text text' there there') formats') formats
+    (cut_as (refused name fault) one is whole))
+one_step laws mode file_type name folder after after' one other (exact_formatted text new there formats is rewritten) (exact_unformatted text' fault there' formats' is' whole stays') =
+    absurd (not_both laws (is_bzl file_type name) text name new fault formats
+    (subst (λ (t : Bytes). FormatsAs (is_bzl file_type name) t (Err fault)) (same_text folder name text text' there there') formats')
+    (cut_as (refused name fault) other is' whole))
+one_step laws mode file_type name folder after after' one other (exact_formatted text new there formats is rewritten) (exact_formatted text' new' there' formats' is' rewritten') =
+    let texts : text' ≡ text = same_text folder name text text' there there' in
+    let news : new' ≡ new = one_formatted laws (is_bzl file_type name) text new new' formats (subst (λ (t : Bytes). FormatsAs (is_bzl file_type name) t (Ok new')) texts formats') in (
+      same_effect one other (is' ∙ (rw (texts, news) (sym is))),
+      rewritten' ∙ (rw (texts, news) (sym rewritten)),
+    )
+
+-- ---- runs
+
+grown_agree : (run run' : Run) (one other : Effect) → Agree run run' → Alike one other → Agree (grown run one) (grown run' other)
+grown_agree run run' one other agree alike = record {
+  out = rw (agree.closed, agree.out, alike.out) refl;
+  lines = more_reports run.lines run'.lines one.lines other.lines agree.lines alike.lines;
+  status = rw (agree.status, alike.status) refl;
+  cut = rw (agree.cut, alike.cut) refl;
+  closed = rw (agree.closed, alike.closes) refl;
+}
+
+self_agree : Agree begun begun
+self_agree = record { out = refl; lines = tt; status = refl; cut = refl; closed = refl }
+
+runs_agree : OneEach → (mode : Mode) (file_type : FileType) (names : List Bytes) (run run' one other : Run) (folder after after' : Folder) → Agree run run'
+    → Exact mode file_type names run folder one after → Exact mode file_type names run' folder other after' → Agree one other × (after' ≡ after)
+unfolding Same
+runs_agree laws mode file_type [] run run' one other folder after after' agree exact exact' = (
+  subst (λ (r : Run). Agree r other) (sym exact.0) (subst (λ (r : Run). Agree run r) (sym exact'.0) agree),
+  exact'.1 ∙ sym exact.1,
+)
+runs_agree laws mode file_type (name ∷ names) run run' one other folder after after' agree exact exact' =
+    let step = one_step laws mode file_type name folder exact.1 exact'.1 exact.0 exact'.0 exact.2 exact'.2 in
+    runs_agree laws mode file_type names (grown run exact.0) (grown run' exact'.0) one other exact.1 after after'
+    (grown_agree run run' exact.0 exact'.0 agree step.0) exact.3
+    (subst (λ (mid : Folder). Exact mode file_type names (grown run' exact'.0) mid other after') step.1 exact'.3)
+
+files_agree : OneEach → (mode : Mode) (file_type : FileType) (names : List Bytes) (one other : Run) (folder after after' : Folder)
+    → FilesFormatted mode file_type names begun folder one after → FilesFormatted mode file_type names begun folder other after'
+    → one.cut ≡ c.Whole → other.cut ≡ c.Whole → All (λ name. IsAside name → ⊥) names → Agree one other × SameFolders after after'
+files_agree laws mode file_type names one other folder after after' runs runs' whole whole' others =
+    let exact = exact_run mode file_type names begun one folder folder after runs whole (λ name aside. refl) others in
+    let exact' = exact_run mode file_type names begun other folder folder after' runs' whole' (λ name aside. refl) others in
+    let found = runs_agree laws mode file_type names begun begun one other folder exact.0 exact'.0 self_agree exact.1 exact'.1 in
+    (found.0, λ name aside. exact'.2 name aside ∙ ap (λ (g : Folder). get g name) found.1 ∙ sym (exact.2 name aside))
+
+-- ---- standard input
+
+data Exactly (mode : Mode) (file_type : FileType) (input : Bytes) (effect : Effect) : Type 0 where
+  not_formatted : (fault : FormatFault) → FormatsAs (is_bzl file_type stdin) input (Err fault) → effect ≡ refused stdin fault → Exactly mode file_type input effect
+  was_printed : (new : Bytes) → FormatsAs (is_bzl file_type stdin) input (Ok new) → effect ≡ output_effect (input_out mode input new) (text_status mode input new)
+      → Exactly mode file_type input effect
+
+exactly : (mode : Mode) (file_type : FileType) (input : Bytes) (effect : Effect) → InputStep mode file_type (Some input) effect → effect.cut ≡ c.Whole → Exactly mode file_type input effect
+exactly mode file_type input effect (input_unread is) whole = absurd (cc (sym (ap (λ (e : Effect). e.cut) is) ∙ whole))
+exactly mode file_type input effect (input_without_memory is) whole = absurd (cc (sym (ap (λ (e : Effect). e.cut) is) ∙ whole))
+exactly mode file_type input effect (input_unformatted text fault of formats is) whole =
+    not_formatted fault (subst (λ (t : Bytes). FormatsAs (is_bzl file_type stdin) t (Err fault)) of formats) is
+exactly mode file_type input effect (input_printed text new of formats (inl is)) whole =
+    was_printed new (subst (λ (t : Bytes). FormatsAs (is_bzl file_type stdin) t (Ok new)) of formats) (is ∙ ap (λ (t : Bytes). output_effect (input_out mode t new) (text_status mode t new)) of)
+exactly mode file_type input effect (input_printed text new of formats (inr failed)) whole = absurd (cc (sym (ap (λ (e : Effect). e.cut) failed.1) ∙ whole))
+
+inputs_alike : OneEach → (mode : Mode) (file_type : FileType) (input : Bytes) (one other : Effect) → Exactly mode file_type input one → Exactly mode file_type input other
+    → one.cut ≡ c.Whole → other.cut ≡ c.Whole → Alike one other
+inputs_alike laws mode file_type input one other (not_formatted fault formats is) (not_formatted fault' formats' is') whole whole' =
+    alike_as (refused stdin fault) (refused stdin fault') one other is is' (same_refusal laws (is_bzl file_type stdin) input stdin fault fault' formats formats'
+    (cut_as (refused stdin fault) one is whole) (cut_as (refused stdin fault') other is' whole'))
+inputs_alike laws mode file_type input one other (not_formatted fault formats is) (was_printed new formats' is') whole whole' =
+    absurd (not_both laws (is_bzl file_type stdin) input stdin new fault formats' formats (cut_as (refused stdin fault) one is whole))
+inputs_alike laws mode file_type input one other (was_printed new formats is) (not_formatted fault formats' is') whole whole' =
+    absurd (not_both laws (is_bzl file_type stdin) input stdin new fault formats formats' (cut_as (refused stdin fault) other is' whole'))
+inputs_alike laws mode file_type input one other (was_printed new formats is) (was_printed new' formats' is') whole whole' =
+    let news : new' ≡ new = one_formatted laws (is_bzl file_type stdin) input new new' formats formats' in
+    same_effect one other (is' ∙ (rw (news) (sym is)))
+
+-- a run over one text is whole where its effect is
+begun_cut : (effect : Effect) (run : Run) → run ≡ grown begun effect → run.cut ≡ c.Whole → effect.cut ≡ c.Whole
+begun_cut effect run is whole = sym (ap (λ (r : Run). r.cut) is) ∙ whole
+
+-- ---- whole runs
+
+run_of_agree : OneEach → (mode : Mode) (file_type : FileType) (names : List Bytes) (input : Bytes) (one other : Run) (folder after after' : Folder)
+    → RunOf mode file_type names (Some input) folder one after → RunOf mode file_type names (Some input) folder other after'
+    → one.cut ≡ c.Whole → other.cut ≡ c.Whole → All (λ name. IsAside name → ⊥) names → Agree one other × SameFolders after after'
+run_of_agree laws mode file_type [] input one other folder after after' run run' whole whole' others =
+    let w = begun_cut run.0 one run.2 whole in
+    let w' = begun_cut run'.0 other run'.2 whole' in
+    let alike = inputs_alike laws mode file_type input run.0 run'.0 (exactly mode file_type input run.0 run.1 w) (exactly mode file_type input run'.0 run'.1 w') w w' in (
+      subst (λ (r : Run). Agree r other) (sym run.2) (subst (λ (r : Run). Agree (grown begun run.0) r) (sym run'.2) (grown_agree begun begun run.0 run'.0 self_agree alike)),
+      λ name aside. ap (λ (g : Folder). get g name) (run'.3 ∙ sym run.3),
+    )
+run_of_agree laws mode file_type (name ∷ names) input one other folder after after' run run' whole whole' others =
+    files_agree laws mode file_type (name ∷ names) one other folder after after' run run' whole whole' others
+
+-- the line of words that are no line of buildifier's is fixed, but where clap finds the fault
+one_line : (usage : m.FormatUsage) (line other : Bytes) → (usage ≡ m.clap_fault → ⊥) → IsFormatUsageLine usage line → IsFormatUsageLine usage other → other ≡ line
+one_line m.clap_fault line other some is is' = absurd (some refl)
+one_line (m.no_mode name) line other some is is' = is' ∙ sym is
+one_line (m.no_type name) line other some is is' = is' ∙ sym is
+
+of_agree : OneEach → (read : Result m.FormatLine m.FormatUsage) (input : Bytes) (one other : Run) (folder after after' : Folder)
+    → FormatOutcomeOf read (Some input) folder one after → FormatOutcomeOf read (Some input) folder other after'
+    → one.cut ≡ c.Whole → other.cut ≡ c.Whole → (read ≡ Err m.clap_fault → ⊥) → IfOk read (λ line. All (λ name. IsAside name → ⊥) line.files)
+    → Agree one other × SameFolders after after'
+of_agree laws (Err usage) input one other folder after after' outcome outcome' whole whole' some others =
+    let lines : outcome'.0 ≡ outcome.0 = one_line usage outcome.0 outcome'.0 (λ is. some (ap Err is)) outcome.1 outcome'.1 in
+    let same : other ≡ one = outcome'.2 ∙ (rw (lines) (sym outcome.2)) in (
+      subst (λ (r : Run). Agree one r) (sym same) (record { out = refl; lines = same_reports one.lines; status = refl; cut = refl; closed = refl }),
+      λ name aside. ap (λ (g : Folder). get g name) (outcome'.3 ∙ sym outcome.3),
+    )
+of_agree laws (Ok line) input one other folder after after' outcome outcome' whole whole' some others =
+    run_of_agree laws line.mode line.file_type line.files input one other folder after after' outcome outcome' whole whole' others
+
+pub outcomes_agree : OneReading → OneBzlReading → OutcomesAgree
+outcomes_agree build bzl words input folder after after' one other (inl wants) outcome' whole whole' some others =
+    absurd (cc (sym (ap (λ (r : Run). r.cut) wants.0) ∙ whole))
+outcomes_agree build bzl words input folder after after' one other (inr outcome) (inl wants) whole whole' some others =
+    absurd (cc (sym (ap (λ (r : Run). r.cut) wants.0) ∙ whole'))
+outcomes_agree build bzl words input folder after after' one other (inr outcome) (inr outcome') whole whole' some others =
+    of_agree (record { build = build; bzl = bzl }) (m.format_line words) input one other folder after after' outcome outcome' whole whole' some others

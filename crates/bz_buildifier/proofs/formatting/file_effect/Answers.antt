@@ -1,0 +1,93 @@
+use Rattle.std.proofs.Common.{◌≡◌, ◌∙◌, refl, sym, subst, ap, List, ℕ, true, false, Some, Ok, Err}
+use Rattle.std.specs.FinMap.{get}
+use Rattle.bz_files.specs.Folder.{Folder}
+use Rattle.bz_buildifier.specs.FileKinds.{FormatsAs, is_bzl}
+use Rattle.bz_buildifier.specs.FormatRun as r
+use Rattle.bz_buildifier.specs.FormatRun.{unread, without_memory, unformatted, kept, rewritten, Rewrites, Prints, is_rewritten, file_out, text_status}
+use Rattle.bz_buildifier.proofs.FormatSteps.{quiet, unread_quiet, refused_quiet, rewrites_quiet, whole_file, refused_file}
+use Rattle.bz_buildifier.proofs.formatting.file_effect.Goals as goal
+
+pub returns-in-Err-clause-step : goal.returns-in-Err-clause-step
+returns-in-Err-clause-step g c = λ honest.
+    let effect = r.unread_file c.args.name.now c.in-Err.fault in (
+      effect,
+      unread c.in-Err.fault (λ is. c.in-Err.ensures.absent honest (ap Err is)) refl (c.in-Err.ensures.same honest),
+      c.unread_file.ensures.effect,
+      quiet c.args.closed effect (g.W.Sink.faults c.args.out.now) (g.W.Sink.contents c.args.out.now) (unread_quiet c.args.name.now c.in-Err.fault),
+      c.unread_file.ensures.reported,
+    )
+
+pub returns-in-Err-format_named-clause-step : goal.returns-in-Err-format_named-clause-step
+returns-in-Err-format_named-clause-step g c = λ honest.
+    let name = c.args.name.now in
+    let fault = c.in-Err-format_named.fault in
+    let text = c.read_most.new.into.items in
+    let found = c.in-Ok.ensures.found honest in
+    let formats : FormatsAs (is_bzl c.args.file_type c.args.name.now) text (Err fault) = subst (λ (t : List ℕ). FormatsAs (is_bzl c.args.file_type c.args.name.now) t (Err fault)) c.deref.ensures.value c.in-Err-format_named.ensures in
+    let of_file : FormatsAs (is_bzl c.args.file_type c.args.name.now) found.0 (Err fault) = refused_file (is_bzl c.args.file_type name) found.0 c.new-text.result.items text fault found.2 c.new-text.ensures.items formats in
+    let effect = r.refused name fault in (
+      effect,
+      unformatted found.0 fault found.1 of_file refl (c.in-Ok.ensures.same honest),
+      c.refused.ensures.effect,
+      quiet c.args.closed effect (g.W.Sink.faults c.args.out.now) (g.W.Sink.contents c.args.out.now) (refused_quiet name fault),
+      c.refused.ensures.reported,
+    )
+
+pub returns-then-is_rewritten-clause-step : goal.returns-then-is_rewritten-clause-step
+returns-then-is_rewritten-clause-step g c = λ honest.
+    let name = c.args.name.now in
+    let before = g.F.Files.folder c.args.files.now in
+    let after = g.F.Files.folder c.rewrite.new.files in
+    let new = c.in-Ok-format_named.new in
+    let text = c.read_most.new.into.items in
+    let found = c.in-Ok.ensures.found honest in
+    let formats : FormatsAs (is_bzl c.args.file_type c.args.name.now) text (Ok new) = subst (λ (t : List ℕ). FormatsAs (is_bzl c.args.file_type c.args.name.now) t (Ok new)) c.deref.ensures.value c.in-Ok-format_named.ensures in
+    let there : get before name ≡ Some text =
+    whole_file (is_bzl c.args.file_type name) before name found.0 c.new-text.result.items text new found.1 found.2 c.new-text.ensures.items formats in
+    let differs : is_rewritten c.args.mode text new ≡ true =
+    rw (c.deref-2.ensures.value, c.as_slice.ensures) at (sym c.is_rewritten.ensures ∙ c.if-is_rewritten.true) in
+    let step = c.rewrite.ensures.step (c.in-Ok.ensures.honest ∙ honest) in
+    let rewrites : Rewrites name text new before step.0 after =
+    subst (λ (folder : Folder). Rewrites name text new folder step.0 after) (c.in-Ok.ensures.same honest)
+    (subst (λ (slice : List ℕ). Rewrites name slice new (g.F.Files.folder c.read_most.new.self) step.0 after) c.deref-then-is_rewritten.ensures.value
+    (subst (λ (slice : List ℕ). Rewrites name c.deref-then-is_rewritten.result.now slice (g.F.Files.folder c.read_most.new.self) step.0 after)
+    c.as_slice-then-is_rewritten.ensures step.1)) in (
+      step.0,
+      rewritten text new there formats differs rewrites,
+      step.2,
+      quiet c.args.closed step.0 (g.W.Sink.faults c.args.out.now) (g.W.Sink.contents c.args.out.now) (rewrites_quiet name text new before after step.0 rewrites),
+      step.3,
+    )
+
+pub returns-in-Ok-file_out-clause-step : goal.returns-in-Ok-file_out-clause-step
+returns-in-Ok-file_out-clause-step g c = λ honest.
+    let name = c.args.name.now in
+    let mode = c.args.mode in
+    let before = g.F.Files.folder c.args.files.now in
+    let new = c.in-Ok-format_named.new in
+    let text = c.read_most.new.into.items in
+    let found = c.in-Ok.ensures.found honest in
+    let formats : FormatsAs (is_bzl c.args.file_type c.args.name.now) text (Ok new) = subst (λ (t : List ℕ). FormatsAs (is_bzl c.args.file_type c.args.name.now) t (Ok new)) c.deref.ensures.value c.in-Ok-format_named.ensures in
+    let there : get before name ≡ Some text =
+    whole_file (is_bzl c.args.file_type name) before name found.0 c.new-text.result.items text new found.1 found.2 c.new-text.ensures.items formats in
+    let stays : is_rewritten mode text new ≡ false =
+    rw (c.deref-2.ensures.value, c.as_slice.ensures) at (sym c.is_rewritten.ensures ∙ c.if-is_rewritten.false) in
+    let out : c.as_slice-in-Ok-file_out.result.now ≡ file_out mode name text new =
+    c.as_slice-in-Ok-file_out.ensures ∙ (rw (c.deref-4.ensures.value) at c.in-Ok-file_out.ensures) in
+    let status : c.text_status-status.result ≡ text_status mode text new =
+    rw (c.deref-3.ensures.value, c.as_slice-2.ensures) at c.text_status-status.ensures in
+    let step = c.print.ensures.step in
+    let prints : Prints c.args.closed (file_out mode name text new) (text_status mode text new) step.0 =
+    subst (λ (bytes : List ℕ). Prints c.args.closed bytes (text_status mode text new) step.0) out
+    (subst (λ (n : ℕ). Prints c.args.closed c.as_slice-in-Ok-file_out.result.now n step.0) status step.1) in
+    (step.0, kept text new there formats stays prints (c.in-Ok.ensures.same honest), step.2, step.3, step.4)
+
+pub returns-clause-step : goal.returns-clause-step
+returns-clause-step g c = λ honest.
+    let effect = r.memory_effect c.args.name.now in (
+      effect,
+      without_memory refl (c.in-Ok.ensures.same honest),
+      c.fail.ensures.effect,
+      quiet c.args.closed effect (g.W.Sink.faults c.args.out.now) (g.W.Sink.contents c.args.out.now) (record { stays = refl; nothing = refl }),
+      c.fail.ensures.reported,
+    )

@@ -1,0 +1,74 @@
+use Rattle.std.proofs.Common.{◌≡◌, ◌∙◌, refl, sym, subst, List, ℕ, false, Ok, Err}
+use Rattle.bz_buildifier.specs.FileKinds.{FormatsAs, is_bzl}
+use Rattle.bz_streams.specs.Reported.{stdin}
+use Rattle.bz_buildifier.specs.FormatRun as r
+use Rattle.bz_buildifier.specs.FormatRun.{input_unread, input_without_memory, input_unformatted, input_printed, Prints, input_out, text_status}
+use Rattle.bz_streams.specs.declared.exit.Cut.TheVariants as cut
+use Rattle.bz_buildifier.proofs.FormatSteps.{quiet, refused_quiet, ok_of_front, err_of_front}
+use Rattle.bz_buildifier.proofs.formatting.input_effect.Goals as goal
+
+pub returns-in-Err-Read-clause-step : goal.returns-in-Err-Read-clause-step
+returns-in-Err-Read-clause-step g c =
+    let effect = r.unopened stdin cut.Read in (
+      effect,
+      input_unread refl,
+      c.fail.ensures.effect,
+      quiet false effect (g.W.Sink.faults c.args.out.now) (g.W.Sink.contents c.args.out.now) (record { stays = refl; nothing = refl }),
+      c.fail.ensures.reported,
+    )
+
+pub returns-in-Err-Memory-clause-step : goal.returns-in-Err-Memory-clause-step
+returns-in-Err-Memory-clause-step g c =
+    let effect = r.memory_effect stdin in (
+      effect,
+      input_without_memory refl,
+      c.fail-in-Err-Memory.ensures.effect,
+      quiet false effect (g.W.Sink.faults c.args.out.now) (g.W.Sink.contents c.args.out.now) (record { stays = refl; nothing = refl }),
+      c.fail-in-Err-Memory.ensures.reported,
+    )
+
+pub returns-in-Err-clause-step : goal.returns-in-Err-clause-step
+returns-in-Err-clause-step g c =
+    let fault = c.in-Err.fault in
+    let formats : FormatsAs (is_bzl c.args.file_type stdin) c.in-Ok.text.items (Err fault) = subst (λ (t : List ℕ). FormatsAs (is_bzl c.args.file_type stdin) t (Err fault)) c.deref.ensures.value c.in-Err.ensures in
+    let some = err_of_front (is_bzl c.args.file_type stdin) (g.R.Source.remaining c.args.input.now) c.in-Ok.text.items fault c.in-Ok.ensures.ok formats in
+    let effect = r.refused stdin fault in (
+      effect,
+      input_unformatted some.0 fault some.1 some.2 refl,
+      c.refused.ensures.effect,
+      quiet false effect (g.W.Sink.faults c.args.out.now) (g.W.Sink.contents c.args.out.now) (refused_quiet stdin fault),
+      c.refused.ensures.reported,
+    )
+
+pub returns-in-Ok-input_out-clause-step : goal.returns-in-Ok-input_out-clause-step
+returns-in-Ok-input_out-clause-step g c =
+    let mode = c.args.mode in
+    let new = c.in-Ok-format_named.new in
+    let front = c.in-Ok.text.items in
+    let formats : FormatsAs (is_bzl c.args.file_type stdin) front (Ok new) = subst (λ (t : List ℕ). FormatsAs (is_bzl c.args.file_type stdin) t (Ok new)) c.deref.ensures.value c.in-Ok-format_named.ensures in
+    let some = ok_of_front (is_bzl c.args.file_type stdin) (g.R.Source.remaining c.args.input.now) front new c.in-Ok.ensures.ok formats in
+    let out : c.as_slice-in-Ok-input_out.result.now ≡ input_out mode front new =
+    c.as_slice-in-Ok-input_out.ensures ∙ (rw (c.deref-3.ensures.value) at c.in-Ok-input_out.ensures) in
+    let status : c.text_status-status.result ≡ text_status mode front new =
+    rw (c.deref-2.ensures.value, c.as_slice.ensures) at c.text_status-status.ensures in
+    let step = c.print.ensures.step in
+    let prints : Prints false (input_out mode front new) (text_status mode front new) step.0 =
+    subst (λ (bytes : List ℕ). Prints false bytes (text_status mode front new) step.0) out
+    (subst (λ (n : ℕ). Prints false c.as_slice-in-Ok-input_out.result.now n step.0) status step.1) in (
+      step.0,
+      input_printed some.0 new some.1 (subst (λ (text : List ℕ). FormatsAs (is_bzl c.args.file_type stdin) text (Ok new)) (sym some.2) formats)
+          (subst (λ (text : List ℕ). Prints false (input_out mode text new) (text_status mode text new) step.0) (sym some.2) prints),
+      step.2,
+      step.3,
+      step.4,
+    )
+
+pub returns-clause-step : goal.returns-clause-step
+returns-clause-step g c =
+    let effect = r.memory_effect stdin in (
+      effect,
+      input_without_memory refl,
+      c.fail-in-Err-input_out.ensures.effect,
+      quiet false effect (g.W.Sink.faults c.args.out.now) (g.W.Sink.contents c.args.out.now) (record { stays = refl; nothing = refl }),
+      c.fail-in-Err-input_out.ensures.reported,
+    )

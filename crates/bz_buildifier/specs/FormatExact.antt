@@ -1,0 +1,41 @@
+-- What whole runs over files do: no failure cuts them, and names that end in `.bznew` are set aside.
+use Rattle.std.specs.Prelude.{◌≡◌, List, [], ◌∷◌, ◌++◌, if◌then◌else◌, true, Some, None, Ok, Err}
+use Rattle.std.specs.List.{All}
+use Rattle.std.specs.FinMap.{get}
+use Rattle.bz_items.specs.Characters.{Bytes}
+use Rattle.bz_files.specs.Folder.{Folder, IsAside, SameFolders, with_file}
+use Rattle.bz_build_format.specs.declared.formatter.FormatFault.{FormatFault}
+use Rattle.bz_buildifier.specs.FileKinds.{FormatsAs, is_bzl}
+use Rattle.bz_buildifier.specs.FormatRun.{Effect, Run, FilesFormatted, begun, grown, output_effect, refused, unopened, file_out, text_status, is_rewritten}
+use Rattle.bz_streams.specs.declared.exit.Cut.TheVariants as c
+use Rattle.bz_buildifier.specs.declared.file_type.FileType.{FileType}
+use Rattle.bz_buildifier.specs.declared.mode.Mode.{Mode}
+
+-- A file is absent, is not formatted, or is formatted; in the last case the folder has the formatted text there where the
+-- mode rewrites it, and all else leaves the folder.
+pub data ExactStep (mode : Mode) (file_type : FileType) (name : Bytes) (folder : Folder) (effect : Effect) (after : Folder) : Type 0 where
+  exact_absent : get folder name ≡ None → effect ≡ unopened name c.Whole → after ≡ folder → ExactStep mode file_type name folder effect after
+  exact_unformatted : (text : Bytes) (fault : FormatFault) → get folder name ≡ Some text → FormatsAs (is_bzl file_type name) text (Err fault) → effect ≡ refused name fault
+      → effect.cut ≡ c.Whole → after ≡ folder → ExactStep mode file_type name folder effect after
+  exact_formatted : (text new : Bytes) → get folder name ≡ Some text → FormatsAs (is_bzl file_type name) text (Ok new)
+      → effect ≡ output_effect (file_out mode name text new) (text_status mode text new)
+      → after ≡ (if is_rewritten mode text new then with_file folder name new else folder) → ExactStep mode file_type name folder effect after
+
+abbrev pub Exact : Mode → FileType → List Bytes → Run → Folder → Run → Folder → Type 0
+Exact mode file_type [] run folder after folder' = (after ≡ run) × (folder' ≡ folder)
+Exact mode file_type (name ∷ names) run folder after folder' =
+    (effect : Effect) × (mid : Folder) × ExactStep mode file_type name folder effect mid × Exact mode file_type names (grown run effect) mid after folder'
+
+-- A whole run over files of other names does exactly that, and the folder then is the one that this gives.
+abbrev pub WholeRunsAreExact : Type 0
+WholeRunsAreExact = (mode : Mode) (file_type : FileType) (names : List Bytes) (run : Run) (folder after : Folder) → FilesFormatted mode file_type names begun folder run after
+    → run.cut ≡ c.Whole → All (λ name. IsAside name → ⊥) names
+    → (exact : Folder) × Exact mode file_type names begun folder run exact × SameFolders exact after
+
+-- A run that a failure of standard output cuts has done, up to some file, what an exact run over the files so far does; what was to be
+-- written by then is the output of that run, and nothing was written after it.
+abbrev pub CutRunsAreBegun : Type 0
+CutRunsAreBegun = (mode : Mode) (file_type : FileType) (names : List Bytes) (run : Run) (folder after : Folder) → FilesFormatted mode file_type names begun folder run after
+    → run.cut ≡ c.Write → All (λ name. IsAside name → ⊥) names
+    → (front rest : List Bytes) × (names ≡ front ++ rest) × (run.closed ≡ true)
+    × (exact : Run) × (last : Folder) × Exact mode file_type front begun folder exact last × (exact.cut ≡ c.Whole) × (exact.out ≡ run.out)

@@ -1,0 +1,207 @@
+-- What buildifier makes of standard input, or of files one after the other.
+use Rattle.std.specs.Prelude.{◌≡◌, ◌⊎◌, ◌==◌, ◌||◌, ℕ, List, [], ◌∷◌, ◌++◌, codes, bytes_eq, Bool, true, false, not, if◌then◌else◌, Option, Some, None, Result, Ok, Err}
+use Rattle.std.specs.FinMap.{get}
+use Rattle.bz_items.specs.Characters.{Bytes}
+use Rattle.bz_files.specs.Folder.{Folder, SameBut, new_name, with_file, IsReplacing}
+use Rattle.bz_files.specs.declared.files.FileFault.{FileFault}
+use Rattle.bz_files.specs.declared.files.FileFault.TheVariants as file
+use Rattle.bz_build_format.specs.declared.formatter.FormatFault.{FormatFault}
+use Rattle.bz_build_format.specs.declared.formatter.FormatFault.TheVariants as f
+use Rattle.bz_streams.specs.declared.exit.Cut.{Cut}
+use Rattle.bz_streams.specs.declared.exit.Cut.TheVariants as c
+use Rattle.bz_streams.specs.Exits.{first_cut}
+use Rattle.bz_streams.specs.Faults.{Rises}
+use Rattle.bz_streams.specs.Near.{nearest}
+use Rattle.bz_streams.specs.Ports.{IsInput}
+use Rattle.bz_streams.specs.Reported.{stdin, named_line, fault_line}
+use Rattle.bz_buildifier.specs.declared.file_type.FileType.{FileType}
+use Rattle.bz_buildifier.specs.declared.mode.Mode.{Mode}
+use Rattle.bz_buildifier.specs.declared.mode.Mode.TheVariants.{Fix, Check, PrintIfChanged}
+use Rattle.bz_buildifier.specs.FileKinds.{FormatsAs, is_bzl}
+use Rattle.bz_buildifier.specs.Modes.{FormatLine, FormatUsage, clap_fault, no_mode, no_type, format_line, mode_names, type_names}
+
+-- ---- what one text does
+
+-- what it writes on standard output, what it prints on standard error, its status, and the failure that cuts it, if one
+-- does; a failure of standard output closes it
+pub record Effect : Type 0 where
+  pub out : Bytes
+  pub lines : List Bytes
+  pub status : ℕ
+  pub cut : Cut
+  pub closes : Bool
+
+abbrev pub output_effect : Bytes → ℕ → Effect
+output_effect out status = record { out = out; lines = []; status = status; cut = c.Whole; closes = false }
+
+-- standard output fails
+abbrev pub unprinted : Bytes → Effect
+unprinted out = record { out = out; lines = named_line (codes "<stdout>") (codes "cannot write") ∷ []; status = 3; cut = c.Write; closes = true }
+
+abbrev pub report_effect : Bytes → ℕ → Cut → Effect
+report_effect line status cut = record { out = []; lines = line ∷ []; status = status; cut = cut; closes = false }
+
+abbrev pub unopened : Bytes → Cut → Effect
+unopened name cut = report_effect (named_line name (codes "cannot open")) 3 cut
+
+abbrev pub memory_effect : Bytes → Effect
+memory_effect name = report_effect (named_line name (codes "Memory")) 3 c.Memory
+
+abbrev pub unwritten : Bytes → Effect
+unwritten name = report_effect (named_line name (codes "cannot write")) 3 c.Files
+
+-- a text that is not formatted
+abbrev pub refused : Bytes → FormatFault → Effect
+refused name (f.Unread fault) = report_effect (fault_line name fault) 1 c.Whole
+refused name f.TooLarge = report_effect (named_line name (codes "TooLarge")) 3 c.Whole
+refused name f.TooDeep = report_effect (named_line name (codes "TooDeep")) 3 c.Whole
+refused name f.Memory = memory_effect name
+
+-- ---- the modes
+
+-- A file is rewritten where it differs.
+abbrev pub is_rewritten : Mode → Bytes → Bytes → Bool
+is_rewritten Fix text new = not (bytes_eq new text)
+is_rewritten Check text new = false
+is_rewritten PrintIfChanged text new = false
+
+-- what a file writes on standard output
+abbrev pub file_out : Mode → Bytes → Bytes → Bytes → Bytes
+file_out Fix name text new = []
+file_out Check name text new = if bytes_eq new text then [] else name ++ codes " # reformat\n"
+file_out PrintIfChanged name text new = if bytes_eq new text then [] else new
+
+-- Standard input has no place to be rewritten: its formatted text goes to standard output.
+abbrev pub input_out : Mode → Bytes → Bytes → Bytes
+input_out Fix text new = new
+input_out Check text new = file_out Check stdin text new
+input_out PrintIfChanged text new = file_out PrintIfChanged stdin text new
+
+-- 4 where `check` finds a difference
+abbrev pub text_status : Mode → Bytes → Bytes → ℕ
+text_status Fix text new = 0
+text_status Check text new = if bytes_eq new text then 0 else 4
+text_status PrintIfChanged text new = 0
+
+-- Standard output takes a text, or fails, unless it is closed.
+abbrev pub Prints : Bool → Bytes → ℕ → Effect → Type 0
+Prints closed out status effect = (effect ≡ output_effect out status) ⊎ ((closed ≡ false) × (effect ≡ unprinted out))
+
+-- The file holds the text that was formatted right before it is written, and the folder then has the formatted text at its name; or that
+-- fails, and where the file doesn't hold the text the folder stays.
+abbrev pub Rewrites : Bytes → Bytes → Bytes → Folder → Effect → Folder → Type 0
+Rewrites name text new folder effect after =
+    ((effect ≡ output_effect [] 0) × (get folder name ≡ Some text) × SameBut (λ other. other ≡ new_name name) (with_file folder name new) after)
+    ⊎ ((effect ≡ unwritten name) × ((get folder name ≡ Some text → ⊥) → after ≡ folder) × IsReplacing name new folder after)
+
+-- ---- one file
+
+-- a file that is not read
+abbrev pub unread_file : Bytes → FileFault → Effect
+unread_file name file.Memory = memory_effect name
+unread_file name file.Absent = unopened name c.Whole
+unread_file name file.Open = unopened name c.Files
+unread_file name file.Write = unopened name c.Files
+
+-- A file that is not read is reported, an absent one among them. What is read is formatted, or reported. Where the mode rewrites
+-- a file the folder changes; all else leaves the folder.
+pub data FileStep (mode : Mode) (file_type : FileType) (name : Bytes) (closed : Bool) (folder : Folder) (effect : Effect) (after : Folder) : Type 0 where
+  unread : (fault : FileFault) → (fault ≡ file.Absent → get folder name ≡ None) → effect ≡ unread_file name fault → after ≡ folder
+      → FileStep mode file_type name closed folder effect after
+  without_memory : effect ≡ memory_effect name → after ≡ folder → FileStep mode file_type name closed folder effect after
+  unformatted : (text : Bytes) (fault : FormatFault) → get folder name ≡ Some text → FormatsAs (is_bzl file_type name) text (Err fault) → effect ≡ refused name fault
+      → after ≡ folder → FileStep mode file_type name closed folder effect after
+  kept : (text new : Bytes) → get folder name ≡ Some text → FormatsAs (is_bzl file_type name) text (Ok new) → is_rewritten mode text new ≡ false
+      → Prints closed (file_out mode name text new) (text_status mode text new) effect → after ≡ folder
+      → FileStep mode file_type name closed folder effect after
+  rewritten : (text new : Bytes) → get folder name ≡ Some text → FormatsAs (is_bzl file_type name) text (Ok new) → is_rewritten mode text new ≡ true
+      → Rewrites name text new folder effect after → FileStep mode file_type name closed folder effect after
+
+-- ---- standard input
+
+pub data InputStep (mode : Mode) (file_type : FileType) (known : Option Bytes) (effect : Effect) : Type 0 where
+  input_unread : effect ≡ unopened stdin c.Read → InputStep mode file_type known effect
+  input_without_memory : effect ≡ memory_effect stdin → InputStep mode file_type known effect
+  input_unformatted : (text : Bytes) (fault : FormatFault) → IsInput known text → FormatsAs (is_bzl file_type stdin) text (Err fault) → effect ≡ refused stdin fault
+      → InputStep mode file_type known effect
+  input_printed : (text new : Bytes) → IsInput known text → FormatsAs (is_bzl file_type stdin) text (Ok new)
+      → Prints false (input_out mode text new) (text_status mode text new) effect → InputStep mode file_type known effect
+
+-- ---- whole runs
+
+-- what a run has done so far
+pub record Run : Type 0 where
+  pub out : Bytes
+  pub lines : List Bytes
+  pub status : ℕ
+  pub cut : Cut
+  pub closed : Bool
+
+abbrev pub begun : Run
+begun = record { out = []; lines = []; status = 0; cut = c.Whole; closed = false }
+
+-- 3 where one of two is that, else 1, else 4, else 0
+abbrev pub worse : ℕ → ℕ → ℕ
+worse a b = if a == 3 || b == 3 then 3 else (if a == 1 || b == 1 then 1 else (if a == 4 || b == 4 then 4 else 0))
+
+-- what is to be on standard output after one text more; once it is closed nothing more comes there
+abbrev pub out_after : Run → Effect → Bytes
+out_after run effect = if run.closed then run.out else run.out ++ effect.out
+
+abbrev pub grown : Run → Effect → Run
+grown run effect = record {
+  out = out_after run effect;
+  lines = run.lines ++ effect.lines;
+  status = worse run.status effect.status;
+  cut = first_cut run.cut effect.cut;
+  closed = run.closed || effect.closes;
+}
+
+-- One file after the other.
+abbrev pub FilesFormatted : Mode → FileType → List Bytes → Run → Folder → Run → Folder → Type 0
+FilesFormatted mode file_type [] run folder after folder' = (after ≡ run) × (folder' ≡ folder)
+FilesFormatted mode file_type (name ∷ names) run folder after folder' =
+    (effect : Effect) × (mid : Folder) × FileStep mode file_type name run.closed folder effect mid × FilesFormatted mode file_type names (grown run effect) mid after folder'
+
+-- Without files it is standard input.
+abbrev pub RunOf : Mode → FileType → List Bytes → Option Bytes → Folder → Run → Folder → Type 0
+RunOf mode file_type [] known folder after folder' = (effect : Effect) × InputStep mode file_type known effect × (after ≡ grown begun effect) × (folder' ≡ folder)
+RunOf mode file_type (name ∷ names) known folder after folder' = FilesFormatted mode file_type (name ∷ names) begun folder after folder'
+
+-- a word of an option that may have been meant
+abbrev pub meant_word : Bytes → Option Bytes → Bytes
+meant_word option None = []
+meant_word option (Some word) = codes "buildifier: did you mean '--" ++ (option ++ (codes "=" ++ (word ++ codes "'?\n")))
+
+-- a text that is none of an option's words; after its line is one of the word that is near, if one is
+abbrev pub no_word_line : Bytes → Bytes → Option Bytes → Bytes
+no_word_line option name near = codes "buildifier: no " ++ (option ++ (codes ": " ++ (name ++ (codes "\n" ++ meant_word option near))))
+
+-- Of a fault that clap finds the text is clap's.
+abbrev pub IsFormatUsageLine : FormatUsage → Bytes → Type 0
+IsFormatUsageLine clap_fault line = Unit {0}
+IsFormatUsageLine (no_mode name) line = line ≡ no_word_line (codes "mode") name (nearest name mode_names)
+IsFormatUsageLine (no_type name) line = line ≡ no_word_line (codes "type") name (nearest name type_names)
+
+-- Words that are no line of buildifier's have status 2; nothing is then read.
+abbrev pub FormatOutcomeOf : Result FormatLine FormatUsage → Option Bytes → Folder → Run → Folder → Type 0
+FormatOutcomeOf (Err usage) known folder after folder' =
+    (line : Bytes) × IsFormatUsageLine usage line × (after ≡ record begun { lines = line ∷ []; status = 2 }) × (folder' ≡ folder)
+FormatOutcomeOf (Ok line) known folder after folder' = RunOf line.mode line.file_type line.files known folder after folder'
+
+-- Words, the bytes of standard input where they are known, and the folder before: what the run has done at its end, and
+-- the folder after. Memory may be refused before anything is done, which is reported.
+abbrev pub FormatOutcome : List Bytes → Option Bytes → Folder → Run → Folder → Type 0
+FormatOutcome words known folder after folder' =
+    ((after ≡ record begun { lines = named_line (codes "buildifier") (codes "Memory") ∷ []; status = 3; cut = c.Memory }) × (folder' ≡ folder))
+    ⊎ FormatOutcomeOf (format_line words) known folder after folder'
+
+-- ---- why a run of files is cut
+
+-- It is cut where a count of faults rose; where none is, none has risen. (Files, then standard output, each before and after.)
+abbrev pub IsCutBy : Cut → ℕ → ℕ → ℕ → ℕ → Type 0
+IsCutBy c.Whole files files' out out' = (files' ≡ files) × (out' ≡ out)
+IsCutBy c.Memory files files' out out' = Unit {0}
+IsCutBy c.Read files files' out out' = ⊥
+IsCutBy c.Write files files' out out' = Rises out out'
+IsCutBy c.Files files files' out out' = Rises files files'

@@ -1,0 +1,42 @@
+-- Worked rows: what buildifier's words, modes and faults mean.
+use Rattle.std.specs.Prelude.{◌≡◌, [], ◌∷◌, codes, Ok, Err, true, false}
+use Rattle.bz_lex.specs.declared.fault.ReadFault.TheVariants.{Unexpected}
+use Rattle.bz_files.specs.declared.files.FileFault.TheVariants.{Absent}
+use Rattle.bz_build_format.specs.declared.formatter.FormatFault.TheVariants.{Unread, TooLarge}
+use Rattle.bz_streams.specs.Reported.{stdin}
+use Rattle.bz_buildifier.specs.FormatRun.{file_out, input_out, is_rewritten, text_status, worse, refused, unread_file, unwritten, unprinted}
+use Rattle.bz_buildifier.specs.FileKinds.{is_bzl}
+use Rattle.bz_buildifier.specs.Modes.{format_line, no_mode, no_type, clap_fault}
+use Rattle.bz_buildifier.specs.declared.file_type.FileType.TheVariants.{Auto, Build, Bzl}
+use Rattle.bz_buildifier.specs.declared.mode.Mode.TheVariants.{Fix, Check, PrintIfChanged}
+
+abbrev FormatLines : Type 0
+FormatLines = (format_line [] ≡ Ok (record { mode = Fix; file_type = Auto; files = [] }))
+    × (format_line (codes "--mode=check" ∷ codes "BUILD" ∷ codes "a/BUILD" ∷ []) ≡ Ok (record { mode = Check; file_type = Auto; files = codes "BUILD" ∷ codes "a/BUILD" ∷ [] }))
+    × (format_line (codes "BUILD" ∷ codes "--mode" ∷ codes "print_if_changed" ∷ []) ≡ Ok (record { mode = PrintIfChanged; file_type = Auto; files = codes "BUILD" ∷ [] }))
+    × (format_line (codes "--type=bzl" ∷ []) ≡ Ok (record { mode = Fix; file_type = Bzl; files = [] }))
+    × (format_line (codes "--type=diff" ∷ codes "--mode=diff" ∷ []) ≡ Err (no_mode (codes "diff"))) × (format_line (codes "--type=module" ∷ []) ≡ Err (no_type (codes "module")))
+    × (format_line (codes "--mode=fix" ∷ codes "--mode=fix" ∷ []) ≡ Err clap_fault) × (format_line (codes "--help" ∷ []) ≡ Err clap_fault)
+    × (format_line (codes "--version" ∷ codes "BUILD" ∷ []) ≡ Err clap_fault)
+
+-- what a text that differs does in each mode, what one does that is the same, and of which status a run of two is
+abbrev Formats : Type 0
+Formats = (file_out Check (codes "BUILD") (codes "x( )\n") (codes "x()\n") ≡ codes "BUILD # reformat\n")
+    × (input_out Check (codes "x( )\n") (codes "x()\n") ≡ codes "<stdin> # reformat\n")
+    × (input_out Fix (codes "x()\n") (codes "x()\n") ≡ codes "x()\n") × (input_out PrintIfChanged (codes "x()\n") (codes "x()\n") ≡ [])
+    × (is_rewritten Fix (codes "x( )\n") (codes "x()\n") ≡ true) × (is_rewritten Fix (codes "x()\n") (codes "x()\n") ≡ false)
+    × (text_status Check (codes "x( )\n") (codes "x()\n") ≡ 4) × (worse 4 1 ≡ 1) × (worse 3 1 ≡ 3) × (worse 0 4 ≡ 4) × (worse 0 0 ≡ 0)
+
+-- which files are formatted as .bzl files
+abbrev FileKinds : Type 0
+FileKinds = (is_bzl Auto (codes "a/b.bzl") ≡ true) × (is_bzl Auto (codes "bzl") ≡ false) × (is_bzl Auto stdin ≡ false) × (is_bzl Bzl stdin ≡ true) × (is_bzl Build (codes "b.bzl") ≡ false)
+
+abbrev FormatReported : Type 0
+FormatReported = ((refused (codes "a/BUILD") (Unread (Unexpected 1 7))).lines ≡ codes "a/BUILD:1:7: Unexpected\n" ∷ [])
+    × ((refused stdin TooLarge).lines ≡ codes "<stdin>: TooLarge\n" ∷ [])
+    × ((unread_file (codes "BUILD") Absent).lines ≡ codes "BUILD: cannot open\n" ∷ [])
+    × ((unwritten (codes "BUILD")).lines ≡ codes "BUILD: cannot write\n" ∷ [])
+    × ((unprinted (codes "x")).lines ≡ codes "<stdout>: cannot write\n" ∷ [])
+
+abbrev pub WorkedFormats : Type 0
+WorkedFormats = FormatLines × Formats × FileKinds × FormatReported

@@ -1,0 +1,220 @@
+//! What becomes of a text that buildifier reads, and of a run over several.
+ghost use Rattle.std.specs.Prelude.{◌≡◌, ◌⊎◌, ◌||◌, ◌∷◌, ◌++◌, [], false, codes, IfOk, OnOk};
+ghost use Rattle.bz_streams.specs.Exits.{first_cut};
+ghost use Rattle.bz_streams.specs.Outputs.{Reports, Counts, WritesUnlessClosed};
+ghost use Rattle.bz_streams.specs.Reported.{stdin, named_line};
+ghost use Rattle.bz_buildifier.specs.FormatRun.{Prints, IsCutBy, unread_file, refused, file_out, input_out, is_rewritten, text_status, worse};
+ghost use Rattle.bz_buildifier.specs.FormatRun as r;
+ghost use Rattle.bz_buildifier.specs.private.FormatShown.{effect_seen};
+
+use crate::mode::Mode;
+use crate::{Cut, Sink};
+use bz_files::FileFault;
+use bz_build_format::FormatFault;
+use bz_items::{Memory, Text};
+use bz_streams::{STDIN, first_cut, report_fault, report_named, write_whole};
+use std::alloc::Global;
+
+/// What becomes of one text.
+#[derive(Clone, Copy)]
+pub(crate) struct Effect {
+    /// Its part of the status.
+    pub(crate) status: u8,
+    /// The failure, if there was one.
+    pub(crate) cut: Cut,
+    /// Standard output has failed.
+    pub(crate) closes: bool,
+}
+
+/// How far a run has come.
+#[derive(Clone, Copy)]
+pub(crate) struct Progress {
+    /// The status so far.
+    pub(crate) status: u8,
+    /// The first failure so far.
+    pub(crate) cut: Cut,
+    /// Standard output has failed, and nothing more is written there.
+    pub(crate) closed: bool,
+}
+
+/// The progress of a run that begins.
+pub(crate) const BEGUN: Progress = Progress {
+    status: 0,
+    cut: Cut::Whole,
+    closed: false,
+};
+
+// The statuses of runs, but for usage.
+const DONE: u8 = 0;
+
+const REFUSED: u8 = 1;
+
+const FAILED: u8 = 3;
+
+const DIFFERS: u8 = 4;
+
+/// 3 where one of two statuses is that, else 1, else 4, else 0.
+fn worse(a: u8, b: u8) -> u8
+    ensures { result ≡ worse a b }
+{
+    if a == FAILED || b == FAILED {
+        return FAILED;
+    }
+    if a == REFUSED || b == REFUSED {
+        return REFUSED;
+    }
+    if a == DIFFERS || b == DIFFERS {
+        return DIFFERS;
+    }
+    DONE
+}
+
+/// What a run comes to by one text more.
+pub(crate) fn grown(progress: Progress, effect: Effect) -> Progress
+    ensures { result ≡ record { status = worse progress.status effect.status; cut = first_cut progress.cut effect.cut; closed = progress.closed || effect.closes } }
+{
+    Progress {
+        status: worse(progress.status, effect.status),
+        cut: first_cut(progress.cut, effect.cut),
+        closed: progress.closed || effect.closes,
+    }
+}
+
+/// A failure, or a file that is absent, is reported.
+pub(crate) fn fail<'a, E: Sink>(err: &mut E, name: &'a str, word: &'a str, cut: Cut) -> Effect
+    ensures effect { result ≡ record { status = 3; cut = cut; closes = false } }
+    ensures reported { Reports (E.faults err.old) (E.faults err.new) (E.contents err.old) (E.contents err.new) (named_line name.entry.now word.entry.now ∷ []) }
+{
+    report_named(err, name, word);
+    Effect {
+        status: FAILED,
+        cut,
+        closes: false,
+    }
+}
+
+/// Reports why a file was not read.
+pub(crate) fn unread_file<E: Sink>(err: &mut E, name: &str, fault: FileFault) -> Effect
+    ensures effect { result ≡ effect_seen (unread_file name.now fault) }
+    ensures reported { Reports (E.faults err.old) (E.faults err.new) (E.contents err.old) (E.contents err.new) (unread_file name.now fault).lines }
+{
+    match fault {
+        FileFault::Memory => fail(err, name, "Memory", Cut::Memory),
+        FileFault::Absent => fail(err, name, "cannot open", Cut::Whole),
+        FileFault::Open | FileFault::Write => fail(err, name, "cannot open", Cut::Files),
+    }
+}
+
+/// Reports why a text has no formatted text.
+pub(crate) fn refused<E: Sink>(err: &mut E, name: &str, fault: &FormatFault) -> Effect
+    ensures effect { result ≡ effect_seen (refused name.now fault.now) }
+    ensures reported { Reports (E.faults err.old) (E.faults err.new) (E.contents err.old) (E.contents err.new) (refused name.now fault.now).lines }
+{
+    match fault {
+        FormatFault::Unread(fault) => {
+            report_fault(err, name, fault);
+            Effect {
+                status: REFUSED,
+                cut: Cut::Whole,
+                closes: false,
+            }
+        }
+        FormatFault::TooLarge => fail(err, name, "TooLarge", Cut::Whole),
+        FormatFault::TooDeep => fail(err, name, "TooDeep", Cut::Whole),
+        FormatFault::Memory => fail(err, name, "Memory", Cut::Memory),
+    }
+}
+
+/// Whether a file is rewritten.
+pub(crate) fn is_rewritten(mode: Mode, text: &[u8], new: &[u8]) -> bool
+    ensures { result ≡ is_rewritten mode text.now new.now }
+{
+    match mode {
+        Mode::Fix => new != text,
+        Mode::Check | Mode::PrintIfChanged => false,
+    }
+}
+
+/// The status of a text that was formatted.
+pub(crate) fn text_status(mode: Mode, text: &[u8], new: &[u8]) -> u8
+    ensures { result ≡ text_status mode text.now new.now }
+{
+    if let Mode::Check = mode
+        && new != text
+    {
+        return DIFFERS;
+    }
+    DONE
+}
+
+// The line of a file that differs.
+fn reformat_line(alloc: Global, name: &str) -> Result<Text, Memory>
+    ensures { IfOk result (λ line. line ≡ name.now ++ codes " # reformat\n") }
+{
+    let mut line = Vec::from_slice(alloc, name.as_bytes())?;
+    line.extend_from_slice(b" # reformat\n")?;
+    Ok(Text::from_vec(line))
+}
+
+/// What a file writes on standard output. The error: memory was refused.
+pub(crate) fn file_out(
+    alloc: Global,
+    mode: Mode,
+    name: &str,
+    text: &[u8],
+    new: Text,
+) -> Result<Text, Memory>
+    ensures { IfOk result (λ out. out ≡ file_out mode name.now text.now new) }
+{
+    let differs = new.as_slice() != text;
+    match mode {
+        Mode::Check if differs => reformat_line(alloc, name),
+        Mode::PrintIfChanged if differs => Ok(new),
+        _ => Ok(Text::from_vec(Vec::new(alloc))),
+    }
+}
+
+/// What standard input writes on standard output. The error: memory was refused.
+pub(crate) fn input_out(alloc: Global, mode: Mode, text: &[u8], new: Text) -> Result<Text, Memory>
+    ensures { IfOk result (λ out. out ≡ input_out mode text.now new) }
+{
+    match mode {
+        Mode::Fix => Ok(new),
+        Mode::Check | Mode::PrintIfChanged => file_out(alloc, mode, STDIN, text, new),
+    }
+}
+
+/// Writes a text on standard output, unless that has failed before; a failure is reported.
+pub(crate) fn print<W: Sink, E: Sink>(
+    out: &mut W,
+    err: &mut E,
+    closed: bool,
+    text: &[u8],
+    status: u8,
+) -> Effect
+    ensures step { (effect : r.Effect) × Prints closed text.now status effect × (result ≡ effect_seen effect)
+        × WritesUnlessClosed closed effect.closes (W.faults out.old) (W.faults out.new) (W.contents out.old) (W.contents out.new) effect.out
+        × Reports (E.faults err.old) (E.faults err.new) (E.contents err.old) (E.contents err.new) effect.lines }
+    ensures cut { IsCutBy result.cut 0 0 (W.faults out.old) (W.faults out.new) }
+    ensures counts { Counts (W.faults out.old) (W.faults out.new) }
+{
+    let done = Effect {
+        status,
+        cut: Cut::Whole,
+        closes: false,
+    };
+    if closed {
+        return done;
+    }
+    match write_whole(out, text) {
+        Ok(()) => done,
+        Err(_) => {
+            let _ = fail(err, "<stdout>", "cannot write", Cut::Write);
+            Effect {
+                status: FAILED,
+                cut: Cut::Write,
+                closes: true,
+            }
+        }
+    }
+}

@@ -1,0 +1,326 @@
+//! The program buildifier over any reader, writers and files.
+ghost use Rattle.std.specs.Prelude.{◌≡◌, ◌≢◌, ◌⊎◌, ◌≤◌, [], ◌∷◌, List, ℕ, true, false, IfOk, OnOk, OnErr, IsErr, Some, codes, map, option_map};
+ghost use Rattle.std.specs.FinMap.{get};
+ghost use Rattle.bz_streams.specs.Faults.{Rises, AppendsUnlessFailed};
+ghost use Rattle.bz_streams.specs.Outputs.{Reports, Counts, Writes, WritesUnlessClosed};
+ghost use Rattle.bz_streams.specs.Reported.{stdin, named_line};
+ghost use Rattle.bz_buildifier.specs.Modes as m;
+ghost use Rattle.bz_buildifier.specs.Modes.{format_line};
+ghost use Rattle.bz_buildifier.specs.FileKinds.{FormatsAs, is_bzl};
+ghost use Rattle.bz_buildifier.specs.FormatRun as r;
+ghost use Rattle.bz_buildifier.specs.FormatRun.{IsCutBy, Rewrites, FileStep, InputStep, FormatOutcome, IsFormatUsageLine, no_word_line, begun};
+ghost use Rattle.bz_buildifier.specs.private.FormatShown.{effect_seen, progress_of, usage_of};
+
+use crate::effect::{
+    BEGUN, Effect, Progress, fail, file_out, grown, input_out, is_rewritten, print, refused,
+    text_status, unread_file,
+};
+use crate::file_type::FileType;
+use crate::format_line::{FormatLine, FormatUsage, read_format_line};
+use crate::mode::Mode;
+use crate::{Cut, Exit, Sink, Source};
+use bz_files::Files;
+use bz_bzl_format::format_bzl;
+use bz_build_format::{FormatFault, format};
+use bz_items::Text;
+use bz_streams::{InputFault, MOST, STDIN, read_most, report, report_clap};
+use std::alloc::{AllocError, Global};
+use std::convert::AsStr;
+
+// The status of words that are no line of the program's.
+const USAGE: u8 = 2;
+
+// Rewrites a file that still holds the text that was formatted; a failure is reported.
+fn rewrite<F: Files, E: Sink>(
+    files: &mut F,
+    err: &mut E,
+    name: &str,
+    text: &[u8],
+    new: &[u8],
+) -> Effect
+    ensures step { F.honest files.old ≡ true → (effect : r.Effect) × Rewrites name.now text.now new.now (F.folder files.old) effect (F.folder files.new)
+        × (result ≡ effect_seen effect)
+        × Reports (E.faults err.old) (E.faults err.new) (E.contents err.old) (E.contents err.new) effect.lines }
+    ensures open { result.closes ≡ false }
+    ensures status { result.cut ≢ Cut.Whole → result.status ≡ 3 }
+    ensures cut { ((result.cut ≡ Cut.Whole) × (F.faults files.new ≡ F.faults files.old))
+        ⊎ ((result.cut ≡ Cut.Files) × Rises (F.faults files.old) (F.faults files.new)) }
+    ensures count { F.faults files.old ≤ F.faults files.new }
+    ensures honest { F.honest files.new ≡ F.honest files.old }
+{
+    match files.rewrite(name, text, new) {
+        Ok(()) => Effect {
+            status: 0,
+            cut: Cut::Whole,
+            closes: false,
+        },
+        Err(_) => fail(err, name, "cannot write", Cut::Files),
+    }
+}
+
+// The formatted text of the text of a file of this name.
+fn format_named(
+    alloc: Global,
+    file_type: FileType,
+    name: &str,
+    text: &[u8],
+) -> Result<Text, FormatFault>
+    ensures { FormatsAs (is_bzl file_type name.now) text.now result }
+{
+    if file_type.is_bzl(name) {
+        format_bzl(alloc, text)
+    } else {
+        format(alloc, text)
+    }
+}
+
+// Reads a file, formats it, and does what the mode wants. Of a text that is too long no more is read than the byte that shows it.
+fn file_effect<F: Files, W: Sink, E: Sink>(
+    alloc: Global,
+    mode: Mode,
+    file_type: FileType,
+    name: &str,
+    closed: bool,
+    files: &mut F,
+    out: &mut W,
+    err: &mut E,
+) -> Effect
+    ensures step { F.honest files.old ≡ true → (effect : r.Effect) × FileStep mode file_type name.now closed (F.folder files.old) effect (F.folder files.new)
+        × (result ≡ effect_seen effect)
+        × WritesUnlessClosed closed effect.closes (W.faults out.old) (W.faults out.new) (W.contents out.old) (W.contents out.new) effect.out
+        × Reports (E.faults err.old) (E.faults err.new) (E.contents err.old) (E.contents err.new) effect.lines }
+    ensures status { result.cut ≢ Cut.Whole → result.status ≡ 3 }
+    ensures cut { IsCutBy result.cut (F.faults files.old) (F.faults files.new) (W.faults out.old) (W.faults out.new) }
+    ensures files { Counts (F.faults files.old) (F.faults files.new) }
+    ensures counts { Counts (W.faults out.old) (W.faults out.new) }
+    ensures honest { F.honest files.new ≡ F.honest files.old }
+{
+    let mut text = Vec::new(alloc);
+    match files.read_most(name, MOST, &mut text) {
+        Ok(()) => {}
+        Err(fault) => return unread_file(err, name, fault),
+    }
+    let new = match format_named(alloc, file_type, name, &text) {
+        Ok(new) => new,
+        Err(fault) => return refused(err, name, &fault),
+    };
+    if is_rewritten(mode, &text, new.as_slice()) {
+        return rewrite(files, err, name, &text, new.as_slice());
+    }
+    let status = text_status(mode, &text, new.as_slice());
+    match file_out(alloc, mode, name, &text, new) {
+        Ok(bytes) => print(out, err, closed, bytes.as_slice(), status),
+        Err(_) => fail(err, name, "Memory", Cut::Memory),
+    }
+}
+
+// Reads standard input, formats it, and does what the mode wants.
+fn input_effect<R: Source, W: Sink, E: Sink>(
+    alloc: Global,
+    mode: Mode,
+    file_type: FileType,
+    input: &mut R,
+    out: &mut W,
+    err: &mut E,
+) -> Effect
+    ensures step { (effect : r.Effect) × InputStep mode file_type (R.remaining input.old) effect
+        × (result ≡ effect_seen effect)
+        × Writes effect.closes (W.faults out.old) (W.faults out.new) (W.contents out.old) (W.contents out.new) effect.out
+        × Reports (E.faults err.old) (E.faults err.new) (E.contents err.old) (E.contents err.new) effect.lines }
+    ensures status { result.cut ≢ Cut.Whole → result.status ≡ 3 }
+    ensures files { result.cut ≢ Cut.Files }
+    ensures unwritten { result.cut ≡ Cut.Read → out.new ≡ out.old }
+    ensures read { result.cut ≡ Cut.Read → Rises (R.faults input.old) (R.faults input.new) }
+    ensures write { result.cut ≡ Cut.Write → Rises (W.faults out.old) (W.faults out.new) }
+    ensures sound { R.sound input.old ≡ true → result.cut ≢ Cut.Read }
+    ensures reader { result.cut ≢ Cut.Read → R.faults input.new ≡ R.faults input.old }
+    ensures writer { result.cut ≢ Cut.Write → W.faults out.new ≡ W.faults out.old }
+{
+    let text = match read_most(alloc, input, MOST) {
+        Ok(text) => text,
+        Err(InputFault::Read) => return fail(err, STDIN, "cannot open", Cut::Read),
+        Err(InputFault::Memory) => return fail(err, STDIN, "Memory", Cut::Memory),
+    };
+    let new = match format_named(alloc, file_type, STDIN, &text) {
+        Ok(new) => new,
+        Err(fault) => return refused(err, STDIN, &fault),
+    };
+    let status = text_status(mode, &text, new.as_slice());
+    match input_out(alloc, mode, &text, new) {
+        Ok(bytes) => print(out, err, false, bytes.as_slice(), status),
+        Err(_) => fail(err, STDIN, "Memory", Cut::Memory),
+    }
+}
+
+// One file after the other.
+fn run_files<F: Files, W: Sink, E: Sink>(
+    alloc: Global,
+    mode: Mode,
+    file_type: FileType,
+    names: &[&str],
+    files: &mut F,
+    out: &mut W,
+    err: &mut E,
+) -> Progress
+    ensures runs { F.honest files.old ≡ true → (run : r.Run) × (result ≡ progress_of run)
+        × r.FilesFormatted mode file_type (map (λ name. name.now) names.now) begun (F.folder files.old) run (F.folder files.new)
+        × Writes run.closed (W.faults out.old) (W.faults out.new) (W.contents out.old) (W.contents out.new) run.out
+        × Reports (E.faults err.old) (E.faults err.new) (E.contents err.old) (E.contents err.new) run.lines }
+    ensures status { result.cut ≢ Cut.Whole → result.status ≡ 3 }
+    ensures cut { IsCutBy result.cut (F.faults files.old) (F.faults files.new) (W.faults out.old) (W.faults out.new) }
+    ensures honest { F.honest files.new ≡ F.honest files.old }
+{
+    let mut progress = BEGUN;
+    for &name in names {
+        let effect = file_effect(
+            alloc,
+            mode,
+            file_type,
+            name,
+            progress.closed,
+            files,
+            out,
+            err,
+        );
+        progress = grown(progress, effect);
+    }
+    progress
+}
+
+// Reports that an option has no such word, and the one that is near, if one is.
+fn report_no_word<'a, E: Sink>(err: &mut E, option: &'a str, name: &'a str, near: Option<&'a str>)
+    ensures { AppendsUnlessFailed (E.faults err.old) (E.faults err.new) (E.contents err.old) (E.contents err.new)
+        (no_word_line option.entry.now name.entry.now (option_map (λ s. s.now) near.entry)) }
+{
+    match near {
+        Some(word) => report(
+            err,
+            &[
+                "buildifier: no ",
+                option,
+                ": ",
+                name,
+                "\nbuildifier: did you mean '--",
+                option,
+                "=",
+                word,
+                "'?\n",
+            ],
+        ),
+        None => report(err, &["buildifier: no ", option, ": ", name, "\n"]),
+    }
+}
+
+// Reports why the words are no line of the program's. The error: memory was refused, to the words, to the text of a fault
+// that clap finds or to the search for a word that is near; nothing is then printed.
+fn report_unusable<E: Sink>(
+    alloc: Global,
+    err: &mut E,
+    fault: &FormatUsage<'_>,
+) -> Result<(), AllocError>
+    ensures ok { OnOk result ((usage : m.FormatUsage) × (line : List ℕ) × (usage_of fault.now ≡ Some usage) × IsFormatUsageLine usage line
+        × AppendsUnlessFailed (E.faults err.old) (E.faults err.new) (E.contents err.old) (E.contents err.new) line) }
+    ensures err { OnErr result (err.new ≡ err.old) }
+{
+    match fault {
+        FormatUsage::Line(error) => report_clap(alloc, err, error),
+        FormatUsage::NoMode(name) => {
+            report_no_word(err, "mode", name, Mode::near(alloc, name)?);
+            Ok(())
+        }
+        FormatUsage::NoType(name) => {
+            report_no_word(err, "type", name, FileType::near(alloc, name)?);
+            Ok(())
+        }
+        FormatUsage::Memory => Err(AllocError),
+    }
+}
+
+// Memory was refused before anything was done, which is reported.
+fn memory_exit<E: Sink>(err: &mut E) -> Exit
+    ensures exit { result ≡ record { status = 3; cut = Cut.Memory } }
+    ensures reported { Reports (E.faults err.old) (E.faults err.new) (E.contents err.old) (E.contents err.new) (named_line (codes "buildifier") (codes "Memory") ∷ []) }
+{
+    let Effect { status, cut, .. } = fail(err, "buildifier", "Memory", Cut::Memory);
+    Exit { status, cut }
+}
+
+// The words are no line of the program's, or memory was refused. Each is reported.
+fn unusable<E: Sink>(alloc: Global, fault: &FormatUsage<'_>, err: &mut E) -> Exit
+    ensures { ((usage : m.FormatUsage) × (line : List ℕ) × (usage_of fault.now ≡ Some usage) × IsFormatUsageLine usage line
+        × AppendsUnlessFailed (E.faults err.old) (E.faults err.new) (E.contents err.old) (E.contents err.new) line
+        × (result ≡ record { status = 2; cut = Cut.Whole }))
+        ⊎ ((result ≡ record { status = 3; cut = Cut.Memory })
+        × Reports (E.faults err.old) (E.faults err.new) (E.contents err.old) (E.contents err.new) (named_line (codes "buildifier") (codes "Memory") ∷ [])) }
+{
+    match report_unusable(alloc, err, fault) {
+        Ok(()) => Exit {
+            status: USAGE,
+            cut: Cut::Whole,
+        },
+        Err(_) => memory_exit(err),
+    }
+}
+
+/// Reads the words of a line. Without files it formats standard input, else each file in order; all are tried. By type `auto` a file
+/// whose name ends in `.bzl` is formatted as one, every other file and standard input as a BUILD file; by `build` and `bzl` all are
+/// formatted as such files. Mode `fix`
+/// rewrites a file that differs, where it still holds the text that was formatted, and writes the formatted text of
+/// standard input to `out`; `check` writes a line there for a text that differs; `print_if_changed` writes its formatted
+/// text there. Statuses: 2 where the words are no line of the program's (nothing is then read); else 3 where a file could
+/// not be opened, read or written, memory was refused, or a formatted text would be past a limit or would not last; else 1 where a text is
+/// not accepted; else 4 where `check` found a difference; else 0. Each fault is reported by one line on `err`, whose faults are
+/// passed over, and that of an unknown mode or type by one more where one is near; where memory is refused to the words, or to that
+/// search, the line is `buildifier: Memory`. After a fault of `out` nothing more is written there; files still are.
+pub fn buildifier<S: AsStr, R: Source, W: Sink, E: Sink, F: Files>(
+    alloc: Global,
+    words: &[S],
+    input: &mut R,
+    out: &mut W,
+    err: &mut E,
+    files: &mut F,
+) -> Exit
+    // Where the files are honest, or none is named, a run does what the words, the bytes of standard input and the folder mean.
+    ensures run { (F.honest files.old ≡ true) ⊎ IfOk (format_line (map S.text words.now)) (λ line. line.files ≡ [])
+        → (run : r.Run) × FormatOutcome (map S.text words.now) (R.remaining input.old) (F.folder files.old) run (F.folder files.new)
+        × (result ≡ record { status = run.status; cut = run.cut })
+        × Writes run.closed (W.faults out.old) (W.faults out.new) (W.contents out.old) (W.contents out.new) run.out
+        × Reports (E.faults err.old) (E.faults err.new) (E.contents err.old) (E.contents err.new) run.lines }
+    ensures status { result.cut ≢ Cut.Whole → result.status ≡ 3 }
+
+    // Words that are no line of the program's leave all as it was; named files leave the input unread; without them no
+    // file is touched, and where standard input fails nothing is written.
+    ensures unread { IsErr (format_line (map S.text words.now)) → (input.new ≡ input.old) × (out.new ≡ out.old) × (files.new ≡ files.old) }
+    ensures named { IfOk (format_line (map S.text words.now)) (λ line. line.files ≢ [] → input.new ≡ input.old) }
+    ensures unnamed { IfOk (format_line (map S.text words.now)) (λ line. line.files ≡ [] → files.new ≡ files.old) }
+    ensures unwritten { result.cut ≡ Cut.Read → out.new ≡ out.old }
+
+    // A run is cut by the reader, the writer or the files where that counted a fault; where none did it is whole or wants memory.
+    ensures read_cause { result.cut ≡ Cut.Read → Rises (R.faults input.old) (R.faults input.new) }
+    ensures sound { R.sound input.old ≡ true → result.cut ≢ Cut.Read }
+    ensures write_cause { result.cut ≡ Cut.Write → Rises (W.faults out.old) (W.faults out.new) }
+    ensures files_cause { result.cut ≡ Cut.Files → Rises (F.faults files.old) (F.faults files.new) }
+    ensures steady { result.cut ≡ Cut.Whole → (R.faults input.new ≡ R.faults input.old) × (W.faults out.new ≡ W.faults out.old)
+        × (F.faults files.new ≡ F.faults files.old) }
+    ensures honest { F.honest files.new ≡ F.honest files.old }
+{
+    let line = match read_format_line(alloc, words) {
+        Ok(line) => line,
+        Err(fault) => return unusable(alloc, &fault, err),
+    };
+    let names = line.files.as_slice();
+    if names.is_empty() {
+        let effect = input_effect(alloc, line.mode, line.file_type, input, out, err);
+        return ended(grown(BEGUN, effect));
+    }
+    ended(run_files(alloc, line.mode, line.file_type, names, files, out, err))
+}
+
+fn ended(progress: Progress) -> Exit
+    ensures { result ≡ record { status = progress.status; cut = progress.cut } }
+{
+    Exit {
+        status: progress.status,
+        cut: progress.cut,
+    }
+}

@@ -1,0 +1,100 @@
+-- Steps on rules of standard input use no other package, and so write no file.
+use Rattle.std.proofs.Common.{◌≡◌, inl, inr, ℕ, zero, suc, List, [], ◌∷◌, ◌++◌, map, Option, Some, None, Bool, true, refl, ap, subst, sym, ◌∙◌, bytes_eq}
+use Rattle.std.specs.List.{All, flat_map}
+use Rattle.std.proofs.lemmas.List.Elements.{All-head, All-tail}
+use Rattle.bz_items.specs.Characters.{Bytes}
+use Rattle.bz_label.specs.declared.target.Target.{Target}
+use Rattle.bz_command_line.specs.Requested.{Requested, Request}
+use Rattle.bz_workspace.specs.Packages.{Opened, Used, with_opened, file_at}
+use Rattle.bz_buildozer.specs.Ending.{Writing, file_writing, all_writings}
+use Rattle.bz_buildozer.specs.Outcome.{AreOfInput}
+use Rattle.bz_buildozer.specs.Run.{World, Progress, nothing_done, Uses, Answers, Does, RunsSteps}
+use Rattle.bz_buildozer.specs.Steps.{RunStep, step_of, steps_requested, all_steps, input_package}
+
+-- each of these packages is that of standard input
+abbrev pub AreInput : List Used → Type 0
+AreInput [] = Unit {0}
+AreInput (used ∷ more) = (used.«package» ≡ input_package) × AreInput more
+
+-- each of these steps is on rules of standard input
+abbrev pub AreStepsOfInput : List RunStep → Type 0
+AreStepsOfInput [] = Unit {0}
+AreStepsOfInput (step ∷ steps) = (step.target.«package» ≡ input_package) × AreStepsOfInput steps
+
+-- ---- what is written
+
+no_writing : (to_stdout : Bool) (file : Option Opened) → file_writing true to_stdout file ≡ []
+no_writing to_stdout None = refl
+no_writing to_stdout (Some file) = refl
+
+pub no_writings : (to_stdout : Bool) (used : List Used) → AreInput used → all_writings to_stdout used ≡ []
+no_writings to_stdout [] are = refl
+no_writings to_stdout (used ∷ more) are =
+    ap (λ (current : Bytes). file_writing (bytes_eq current input_package) to_stdout used.file ++ all_writings to_stdout more) are.0
+    ∙ ap (λ (files : List Writing). files ++ all_writings to_stdout more) (no_writing to_stdout used.file)
+    ∙ no_writings to_stdout more are.1
+
+-- ---- what steps use
+
+one_more : (used : List Used) (last : Used) → last.«package» ≡ input_package → AreInput used → AreInput (used ++ last ∷ [])
+one_more [] last is are = (is, tt)
+one_more (used ∷ more) last is are = (are.0, one_more more last is are.1)
+
+kept : (place : ℕ) (file : Option Opened) (used : List Used) → AreInput used → AreInput (with_opened place file used)
+kept place file [] are = tt
+kept zero file (used ∷ more) are = are
+kept (suc place) file (used ∷ more) are = (are.0, kept place file more are.1)
+
+used_on : (world : World) (current : Bytes) (before : List Used) (place : ℕ) (lines : List Bytes) (after : List Used) → current ≡ input_package
+    → Uses world current before place lines after → AreInput before → AreInput after
+used_on world current before place lines after is (inl again) are = subst AreInput (sym again.2) are
+used_on world current before place lines after is (inr (absent, number, (found, file, finds, opens, new))) are =
+    subst AreInput (sym new) (one_more before _ is are)
+
+answers_on : (step : RunStep) (place : ℕ) (file : Option Opened) (state : Progress) (lines : List Bytes) (after : Progress) → Answers step place file state lines after
+    → AreInput state.used → AreInput after.used
+answers_on step place None state lines after (reported, is) are = subst (λ (now : Progress). AreInput now.used) (sym is) are
+answers_on step place (Some file) state lines after (answer, history, leads, reported, is) are =
+    subst (λ (now : Progress). AreInput now.used) (sym is) (kept place _ state.used are)
+
+does_on : (world : World) (step : RunStep) (before : Progress) (lines : List Bytes) (after : Progress) → step.target.«package» ≡ input_package
+    → Does world step before lines after → AreInput before.used → AreInput after.used
+does_on world step before lines after is does are =
+    answers_on step does.place (file_at does.place does.used) (record before { used = does.used }) does.answer after does.answers
+    (used_on world step.target.«package» before.used does.place does.opening does.used is does.uses are)
+
+runs_on : (world : World) (keep_going : Bool) (steps : List RunStep) (before : Progress) (lines : List Bytes) (after : Progress) → AreStepsOfInput steps
+    → RunsSteps world keep_going steps before lines after → AreInput before.used → AreInput after.used
+runs_on world keep_going [] before lines after of_input (reported, is) are = subst (λ (now : Progress). AreInput now.used) (sym is) are
+runs_on world keep_going (step ∷ steps) before lines after of_input (inl (ended, reported, is)) are = subst (λ (now : Progress). AreInput now.used) (sym is) are
+runs_on world keep_going (step ∷ steps) before lines after of_input (inr (goes, (mid, first, rest, does, runs, reported))) are =
+    runs_on world keep_going steps mid rest after of_input.1 runs (does_on world step before first mid of_input.0 does are)
+
+-- ---- the steps of lines
+
+appended : (first more : List RunStep) → AreStepsOfInput first → AreStepsOfInput more → AreStepsOfInput (first ++ more)
+appended [] more are others = others
+appended (step ∷ first) more are others = (are.0, appended first more are.1 others)
+
+on_target : (target : Target) (commands : List Request) → target.«package» ≡ input_package → AreStepsOfInput (map (step_of target) commands)
+on_target target [] is = tt
+on_target target (request ∷ commands) is = (is, on_target target commands is)
+
+on_targets : (commands : List Request) (targets : List Target) → All (λ target. target.«package» ≡ input_package) targets
+    → AreStepsOfInput (flat_map (λ target. map (step_of target) commands) targets)
+on_targets commands [] all = tt
+on_targets commands (target ∷ targets) all =
+    appended (map (step_of target) commands) _ (on_target target commands (All-head (λ (other : Target). other.«package» ≡ input_package) target targets all))
+    (on_targets commands targets (All-tail (λ (other : Target). other.«package» ≡ input_package) target targets all))
+
+pub on_lines : (lines : List Requested) → AreOfInput lines → AreStepsOfInput (all_steps lines)
+on_lines [] all = tt
+on_lines (line ∷ lines) all =
+    appended (steps_requested line) (all_steps lines) (on_targets line.commands line.targets (All-head (λ (requested : Requested). All (λ target. target.«package» ≡ input_package) requested.targets) line lines all))
+    (on_lines lines (All-tail (λ (requested : Requested). All (λ target. target.«package» ≡ input_package) requested.targets) line lines all))
+
+-- Lines on rules of standard input alone write no file.
+pub nothing_written : (to_stdout : Bool) (world : World) (keep_going : Bool) (lines : List Requested) (reported : List Bytes) (state : Progress) → AreOfInput lines
+    → RunsSteps world keep_going (all_steps lines) nothing_done reported state → all_writings to_stdout state.used ≡ []
+nothing_written to_stdout world keep_going lines reported state are runs =
+    no_writings to_stdout state.used (runs_on world keep_going (all_steps lines) nothing_done reported state (on_lines lines are) runs tt)

@@ -1,0 +1,429 @@
+-- One step of a run with journals: each open file is safe at each moment.
+use Rattle.std.proofs.Common.{arith, ◌≡◌, ◌≢◌, ◌⊎◌, inl, inr, ◌∙◌, ◌++◌, ◌+◌, ◌≤◌, ℕ, zero, suc, List, [], ◌∷◌, length, Option, Some, None, Bool, true, false, true≢false, Result, Ok, Err, refl, sym, ap, subst, bytes_eq}
+use Rattle.std.specs.Prelude.{IfSome, if◌then◌else◌, unwrap_or}
+use Rattle.std.specs.FinMap.{get}
+use Rattle.std.specs.Option.{option_map, option_map_or}
+use Rattle.std.proofs.lemmas.Bool.Decides.{eqb_tells}
+use Rattle.std.proofs.lemmas.Slice.Eq.{bytes_eq-Decides}
+use Rattle.bz_items.specs.Characters.{Bytes}
+use Rattle.bz_files.specs.Folder.{Elapses, Folder, IsAside, new_name}
+use Rattle.bz_files.specs.declared.files.Files.{Ghosts as FilesOf}
+use Rattle.bz_files.proofs.Elapsing.{elapsed_on, weakened}
+use Rattle.bz_journal.specs.declared.keeping.KeepFault.{KeepFault}
+use Rattle.bz_journal.specs.declared.keeping.KeepFault.TheVariants.{Refused, Pair}
+use Rattle.bz_journal.specs.Keeping.{Keeps}
+use Rattle.bz_resume.specs.Pair.{journal_name}
+use Rattle.bz_resume.specs.Resuming.{Holds, OthersStay, Resumes, Survives}
+use Rattle.bz_workspace.specs.Found.{IsApartFrom, IsNameOf}
+use Rattle.bz_workspace.specs.Journals.{Adds, IsOpenedIn, TakesBeside}
+use Rattle.bz_workspace.specs.Keeps.{KeepsAt, KeepsFile, KeepsFolder, after_keeping}
+use Rattle.bz_workspace.specs.Packages.{Opened, Used, file_at, package_number, with_opened}
+use Rattle.bz_workspace.specs.Sessions.{Action, History, Reply, present}
+use Rattle.bz_workspace.proofs.LeaveSteps.{acts_leaves}
+use Rattle.bz_workspace.proofs.NameSteps.{apart as packages_apart, journal_not_new, not_new}
+use Rattle.bz_buildozer.specs.Calls.{KeepsStep, UsesSome}
+use Rattle.bz_buildozer.specs.Keeping.{IsApart}
+use Rattle.bz_buildozer.specs.Moments.{AllAreSafe, IsBetween, IsMeanwhile, IsMomentOfSteps, IsSafe, Joins, MayAct}
+use Rattle.bz_buildozer.specs.Steps.{RunStep}
+use Rattle.bz_buildozer.proofs.ActSteps.{file_put}
+use Rattle.bz_buildozer.proofs.StandSteps.{apart_from, apart_kept, apart_last, not_after, not_here, takes_stand, reported_still}
+
+-- ---- a file in another folder
+
+holds_still : (folder now : Folder) (name current text : Bytes) (texts : List Bytes) → get now name ≡ get folder name
+    → get now (journal_name name) ≡ get folder (journal_name name) → Holds folder name current text texts → Holds now name current text texts
+holds_still folder now name current text texts same journal holds =
+    record { holds = same ∙ holds.holds; history = reported_still folder now name current text texts journal holds.history }
+
+between_still : (folder now : Folder) (name : Bytes) (h after : History) → get now name ≡ get folder name
+    → get now (journal_name name) ≡ get folder (journal_name name) → IsBetween folder name h after → IsBetween now name h after
+between_still folder now name h after same journal (inl first) = inl (holds_still folder now name h.«package» (present h) h.texts same journal first)
+between_still folder now name h after same journal (inr (inl reported)) =
+    inr (inl (holds_still folder now name h.«package» (present h) after.texts same journal reported))
+between_still folder now name h after same journal (inr (inr done)) =
+    inr (inr (holds_still folder now name h.«package» (present after) after.texts same journal done))
+
+safe_still : (folder now : Folder) (file : Opened) → get now file.name ≡ get folder file.name
+    → get now (journal_name file.name) ≡ get folder (journal_name file.name) → IsSafe folder file → IsSafe now file
+safe_still folder now file same journal (inl (stays, holds)) =
+    inl (stays, holds_still folder now file.name file.history.«package» (present file.history) file.history.texts same journal holds)
+safe_still folder now file same journal (inr (left, (h, action, note, fault, keeps, between))) =
+    inr (left, (h, action, note, fault, keeps, between_still folder now file.name h file.history same journal between))
+
+-- ---- files of other packages
+
+-- the name of an open file, and that of its journal, are none of those that keeping the file of another package replaces
+other_safe : (folder now : Folder) (current other name : Bytes) (file : Opened) → IsNameOf current name → other ≢ current → IsNameOf other file.name
+    → OthersStay name folder now → IsSafe folder file → IsSafe now file
+other_safe folder now current other name file named differs is stay safe =
+    let apart = packages_apart other current file.name name differs is named in
+    safe_still folder now file (stay file.name apart.0.file_is apart.0.journal apart.0.new apart.0.new_journal)
+    (stay (journal_name file.name) apart.1.file_is apart.1.journal apart.1.new apart.1.new_journal) safe
+
+-- an open file of a package, with a name of it, is safe
+abbrev IsSafeOf : Folder → Bytes → Opened → Type 0
+IsSafeOf folder current file = IsNameOf current file.name × IsSafe folder file
+
+may_be_safe : (folder now : Folder) (current other name : Bytes) (file : Option Opened) → IsNameOf current name → other ≢ current → OthersStay name folder now
+    → IfSome file (IsSafeOf folder other) → IfSome file (IsSafeOf now other)
+may_be_safe folder now current other name None named differs stay safe = tt
+may_be_safe folder now current other name (Some file) named differs stay safe =
+    (safe.0, other_safe folder now current other name file named differs safe.0 stay safe.1)
+
+others_safe : (folder now : Folder) (current name : Bytes) (used : List Used) → IsNameOf current name → IsApart current used → OthersStay name folder now
+    → AllAreSafe folder used → AllAreSafe now used
+others_safe folder now current name [] named apart stay all = tt
+others_safe folder now current name (used ∷ more) named apart stay all = (
+  may_be_safe folder now current used.«package» name used.file named apart.0 stay all.0,
+  all.1,
+  others_safe folder now current name more named apart.1 stay all.2,
+)
+
+-- the package of an open file, from which all differ that differ from each
+safe_at : (folder : Folder) (place : ℕ) (used : List Used) (file : Opened) → file_at place used ≡ Some file → AllAreSafe folder used
+    → (current : Bytes) × IsSafeOf folder current file × ((other : Bytes) → IsApart other used → current ≢ other)
+safe_at folder place [] file at all = absurd (let e = at in cc)
+safe_at folder zero (used ∷ more) file at all =
+    (used.«package», subst (λ (it : Option Opened). IfSome it (IsSafeOf folder used.«package»)) at all.0, λ other apart. apart.0)
+safe_at folder (suc place) (used ∷ more) file at all =
+    let found = safe_at folder place more file at all.2 in (found.0, found.1, λ other apart. found.2 other apart.1)
+
+-- files of two places are of two packages
+two_apart : (folder : Folder) (place at : ℕ) (used : List Used) (file other : Opened) → file_at place used ≡ Some file → file_at at used ≡ Some other
+    → at ≢ place → AllAreSafe folder used → IsApartFrom file.name other.name × IsApartFrom file.name (journal_name other.name)
+two_apart folder place at [] file other here there differ all = absurd (let e = here in cc)
+two_apart folder zero zero (used ∷ more) file other here there differ all = absurd (differ refl)
+two_apart folder zero (suc at) (used ∷ more) file other here there differ all =
+    let first = safe_at folder zero (used ∷ more) file here all in
+    let second = safe_at folder at more other there all.2 in
+    let named : IsNameOf used.«package» file.name = (subst (λ (it : Option Opened). IfSome it (IsSafeOf folder used.«package»)) here all.0).0 in
+    packages_apart second.0 used.«package» other.name file.name (second.2 used.«package» all.1) second.1.0 named
+two_apart folder (suc place) zero (used ∷ more) file other here there differ all =
+    let second = safe_at folder place more file here all.2 in
+    let named : IsNameOf used.«package» other.name = (subst (λ (it : Option Opened). IfSome it (IsSafeOf folder used.«package»)) there all.0).0 in
+    packages_apart used.«package» second.0 other.name file.name (λ same. second.2 used.«package» all.1 (sym same)) named second.1.0
+two_apart folder (suc place) (suc at) (used ∷ more) file other here there differ all =
+    two_apart folder place at more file other here there (λ same. differ (ap suc same)) all.2
+
+all_safe_after : (place : ℕ) (used : List Used) (file next : Opened) (folder now : Folder) → file_at place used ≡ Some file → next.name ≡ file.name
+    → IsSafe now next → OthersStay file.name folder now → AllAreSafe folder used → AllAreSafe now (with_opened place (Some next) used)
+all_safe_after place [] file next folder now at same safe stay all = tt
+all_safe_after zero (used ∷ more) file next folder now at same safe stay all =
+    let stood : IsSafeOf folder used.«package» file = subst (λ (it : Option Opened). IfSome it (IsSafeOf folder used.«package»)) at all.0 in (
+      (subst (IsNameOf used.«package») (sym same) stood.0, safe),
+      all.1,
+      others_safe folder now used.«package» file.name more stood.0 all.1 stay all.2,
+    )
+all_safe_after (suc place) (used ∷ more) file next folder now at same safe stay all =
+    let found = safe_at folder place more file at all.2 in (
+      may_be_safe folder now found.0 used.«package» file.name used.file found.1.0 (λ is. found.2 used.«package» all.1 (sym is)) stay all.0,
+      apart_kept used.«package» place (Some next) more all.1,
+      all_safe_after place more file next folder now at same safe stay all.2,
+    )
+
+-- ---- names of a run
+
+-- no open file of these has this name, and no journal of one
+abbrev pub IsUnlike : List Used → Bytes → Type 0
+IsUnlike used name = (place : ℕ) (file : Opened) → file_at place used ≡ Some file → (name ≢ file.name) × (name ≢ journal_name file.name)
+
+unlike_all : (folder : Folder) (current name : Bytes) (used : List Used) → IsNameOf current name → IsApart current used → AllAreSafe folder used
+    → IsUnlike used name × IsUnlike used (journal_name name)
+unlike_all folder current name used named apart all = (
+  (λ place file at. let is = (apart_of place file at).0 in (is.file_is, is.journal)),
+  (λ place file at. let is = (apart_of place file at).1 in (is.file_is, is.journal)),
+)
+  where
+    apart_of : (place : ℕ) (file : Opened) → file_at place used ≡ Some file → IsApartFrom file.name name × IsApartFrom file.name (journal_name name)
+    apart_of place file at =
+        let found = safe_at folder place used file at all in
+        packages_apart current found.0 name file.name (λ same. found.2 current apart (sym same)) named found.1.0
+
+-- where each file is safe, and other names are as they were when the run began
+all_meanwhile : (began folder : Folder) (used : List Used) → AllAreSafe folder used
+    → ((name : Bytes) → IsUnlike used name → (IsAside name → ⊥) → get folder name ≡ get began name) → IsMeanwhile began used used folder
+all_meanwhile began folder used all others =
+    record { files = λ place file next here there. inl (safe_at folder place used next there all).1.1; others = others }
+
+-- ---- a package that is opened
+
+pub file_in_front : (place : ℕ) (used : List Used) (one : Used) (file : Opened) → file_at place used ≡ Some file → file_at place (used ++ one ∷ []) ≡ Some file
+file_in_front place [] one file at = absurd (let e = at in cc)
+file_in_front zero (used ∷ more) one file at = at
+file_in_front (suc place) (used ∷ more) one file at = file_in_front place more one file at
+
+safe_last : (folder : Folder) (used : List Used) (one : Used) → AllAreSafe folder used → IfSome one.file (IsSafeOf folder one.«package»)
+    → IsApart one.«package» used → AllAreSafe folder (used ++ one ∷ [])
+safe_last folder [] one all safe apart = (safe, tt, tt)
+safe_last folder (used ∷ more) one all safe apart =
+    (all.0, apart_last used.«package» more one all.1 (λ is. apart.0 (sym is)), safe_last folder more one all.2 safe apart.1)
+
+opened_safe : (folder : Folder) (current : Bytes) (file : Option Opened) → IfSome file (IsOpenedIn true folder current) → IfSome file (IsSafeOf folder current)
+opened_safe folder current None opened = tt
+opened_safe folder current (Some file) opened =
+    let kept = takes_stand folder current file.name file.read (get folder (journal_name file.name)) (Some file) [] opened.named opened.there refl opened.opens in
+    (kept.named, inl (kept.stays, kept.holds))
+
+-- its file is as it was when the run began
+opened_began : (began folder : Folder) (current : Bytes) (used : List Used) (file : Option Opened) → IsApart current used → AllAreSafe folder used
+    → ((name : Bytes) → IsUnlike used name → (IsAside name → ⊥) → get folder name ≡ get began name) → IfSome file (IsOpenedIn true folder current)
+    → IfSome file (IsOpenedIn true began current)
+opened_began began folder current used None apart all others opened = tt
+opened_began began folder current used (Some file) apart all others opened =
+    let unlike = unlike_all folder current file.name used opened.named apart all in
+    let same = others file.name unlike.0 (λ aside. not_new current file.name aside.0 opened.named aside.1) in
+    let journal = others (journal_name file.name) unlike.1 (λ aside. journal_not_new file.name aside.0 aside.1) in record {
+      named = opened.named;
+      there = sym same ∙ opened.there;
+      opens = subst (λ (beside : Option Bytes). TakesBeside beside current file.name file.read (Some file) []) journal opened.opens;
+    }
+
+pub joined : (began folder : Folder) (current : Bytes) (before after : List Used) (found : Option ℕ) → UsesSome folder current found before after
+    → AllAreSafe folder before → IsMeanwhile began before before folder
+    → Joins began current before after × AllAreSafe folder after × IsMeanwhile began after after folder
+joined began folder current before after found (inl (place, number, same, at)) all mean =
+    (inl same, subst (AllAreSafe folder) (sym same) all, subst (λ (used : List Used). IsMeanwhile began used used folder) (sym same) mean)
+joined began folder current before after found (inr (none, inl (same, at))) all mean =
+    (inl same, subst (AllAreSafe folder) (sym same) all, subst (λ (used : List Used). IsMeanwhile began used used folder) (sym same) mean)
+joined began folder current before after found (inr (none, inr (file, is, at, opened))) all mean =
+    let apart = apart_from current before none in
+    let one : Used = record { «package» = current; file = file } in
+    let more = safe_last folder before one all (opened_safe folder current file opened) apart in (
+      inr (none, (file, opened_began began folder current before file apart all mean.others opened, is)),
+      subst (AllAreSafe folder) (sym is) more,
+      subst (λ (used : List Used). IsMeanwhile began used used folder) (sym is) (all_meanwhile began folder (before ++ one ∷ []) more
+          (λ name unlike aside. mean.others name (λ place it there. unlike place it (file_in_front place before one it there)) aside)),
+    )
+
+-- the number of the package that is used
+number_last : (current : Bytes) (file : Option Opened) (used : List Used) → package_number current used ≡ None
+    → package_number current (used ++ record { «package» = current; file = file } ∷ []) ≡ Some (length used)
+number_last current file [] none =
+    ap (λ (b : Bool). if b then Some 0 else option_map (λ (place : ℕ). place + 1) (package_number current [])) ((bytes_eq-Decides current current).1 refl)
+number_last current file (used ∷ more) none = go (bytes_eq used.«package» current) refl (number_last current file more)
+  where
+    plus_one : (n : ℕ) → n + 1 ≡ suc n
+    plus_one n = omega arith
+
+    go : (b : Bool) → bytes_eq used.«package» current ≡ b
+        → (package_number current more ≡ None → package_number current (more ++ record { «package» = current; file = file } ∷ []) ≡ Some (length more))
+        → package_number current ((used ∷ more) ++ record { «package» = current; file = file } ∷ []) ≡ Some (length (used ∷ more))
+    go true is rest = absurd (not_here (bytes_eq used.«package» current) (package_number current more) none is)
+    go false is rest =
+        ap (λ (b : Bool). if b then Some 0 else option_map (λ (place : ℕ). place + 1) (package_number current (more ++ record { «package» = current; file = file } ∷ []))) is
+        ∙ ap (option_map (λ (place : ℕ). place + 1)) (rest (not_after (bytes_eq used.«package» current) (package_number current more) none))
+        ∙ ap Some (plus_one (length more))
+
+placed : (place at : ℕ) (file : Option Opened) → option_map (λ (_ : Opened). place) file ≡ Some at → place ≡ at
+placed place at None is = absurd (let e = is in cc)
+placed place at (Some file) is = ap (λ (found : Option ℕ). unwrap_or found 0) is
+
+pub number_there : (folder : Folder) (current : Bytes) (before after : List Used) (found : Option ℕ) (at : ℕ) → UsesSome folder current found before after
+    → found ≡ Some at → package_number current after ≡ Some at
+number_there folder current before after found at (inl (place, number, same, is)) there =
+    ap (package_number current) same ∙ number ∙ ap Some (placed place at (file_at place before) (sym is ∙ there))
+number_there folder current before after found at (inr (none, inl (same, is))) there = absurd (let e = sym is ∙ there in cc)
+number_there folder current before after found at (inr (none, inr (file, new, is, opened))) there =
+    ap (package_number current) new ∙ number_last current file before none ∙ ap Some (placed (length before) at file (sym is ∙ there))
+
+-- ---- an action that is kept
+
+other_at : (place at : ℕ) (file : Option Opened) (used : List Used) → at ≢ place → file_at at (with_opened place file used) ≡ file_at at used
+other_at place at file [] differ = refl
+other_at zero zero file (one ∷ more) differ = absurd (differ refl)
+other_at zero (suc at) file (one ∷ more) differ = refl
+other_at (suc place) zero file (one ∷ more) differ = refl
+other_at (suc place) (suc at) file (one ∷ more) differ = other_at place at file more (λ same. differ (ap suc same))
+
+pub one_file : (found : Option Opened) (one other : Opened) → found ≡ Some one → found ≡ Some other → one ≡ other
+one_file found one other is also = ap (λ (it : Option Opened). unwrap_or it one) (sym is ∙ also)
+
+-- a name that is unlike those after a step is unlike those before it
+pub unlike_put : (place : ℕ) (before after : List Used) (file next : Opened) → file_at place before ≡ Some file → after ≡ with_opened place (Some next) before
+    → next.name ≡ file.name → (name : Bytes) → IsUnlike after name → IsUnlike before name × ((name ≢ file.name) × (name ≢ journal_name file.name))
+unlike_put place before after file next there put named name unlike = (
+  (λ at one here. elim (eqb_tells at place) [
+    | inl same ↦
+        let is : one ≡ file = one_file (file_at place before) one file (subst (λ (n : ℕ). file_at n before ≡ Some one) same.1 here) there in (
+          (λ e. apart.0 (e ∙ ap (λ (f : Opened). f.name) is ∙ sym named)),
+          (λ e. apart.1 (e ∙ ap (λ (f : Opened). journal_name f.name) is ∙ ap journal_name (sym named))),
+        )
+    | inr other ↦ unlike at one (ap (file_at at) put ∙ other_at place at (Some next) before other.1 ∙ here)
+  ]),
+  ((λ e. apart.0 (e ∙ sym named)), (λ e. apart.1 (e ∙ ap journal_name (sym named)))),
+)
+  where
+    apart : (name ≢ next.name) × (name ≢ journal_name next.name)
+    apart = unlike place next (file_put place before after file next there put)
+
+-- an action is under way in an open file
+module _ (began folder : Folder) (place : ℕ) (before after : List Used) (file next : Opened) (there : file_at place before ≡ Some file)
+    (put : after ≡ with_opened place (Some next) before) (named : next.name ≡ file.name) (stays : file.left ≡ false)
+    (all : AllAreSafe folder before) (mean : IsMeanwhile began before before folder) where
+  module _ (now : Folder) (between : IsBetween now file.name file.history next.history) (stay : OthersStay file.name folder now) where
+    others_then : (name : Bytes) → IsUnlike after name → (IsAside name → ⊥) → get now name ≡ get began name
+    others_then name unlike aside =
+        let both = unlike_put place before after file next there put named name unlike in
+        stay name both.1.0 both.1.1 (λ e. aside (file.name, e)) (λ e. aside (journal_name file.name, e)) ∙ mean.others name both.0 aside
+
+    meanwhile : IsMeanwhile began before after now
+    meanwhile = record {
+      files = λ at one two here then_here. elim (eqb_tells at place) [
+        | inl same ↦
+            let first : one ≡ file = one_file (file_at place before) one file (subst (λ (n : ℕ). file_at n before ≡ Some one) same.1 here) there in
+            let second : two ≡ next = one_file (file_at place after) two next (subst (λ (n : ℕ). file_at n after ≡ Some two) same.1 then_here)
+            (file_put place before after file next there put) in
+            inr (
+              ap (λ (f : Opened). f.left) first ∙ stays,
+              subst (λ (f : Opened). IsBetween now f.name f.history two.history) (sym first)
+                  (subst (λ (f : Opened). IsBetween now file.name file.history f.history) (sym second) between),
+            )
+        | inr other ↦
+            let two_there : file_at at before ≡ Some two = sym (ap (file_at at) put ∙ other_at place at (Some next) before other.1) ∙ then_here in
+            let apart = two_apart folder place at before file two there two_there other.1 all in
+            inl (safe_still folder now two (stay two.name apart.0.file_is apart.0.journal apart.0.new apart.0.new_journal)
+            (stay (journal_name two.name) apart.1.file_is apart.1.journal apart.1.new apart.1.new_journal)
+            (safe_at folder at before two two_there all).1.1)
+      ];
+      others = others_then;
+    }
+
+-- the name and the history after what was kept
+name_kept : (answer : Result Reply KeepFault) (history : History) (file : Opened) → (after_keeping answer history file).name ≡ file.name
+name_kept (Ok reply) history file = refl
+name_kept (Err (Refused refusal)) history file = refl
+name_kept (Err (Pair fault)) history file = refl
+
+history_kept : (answer : Result Reply KeepFault) (history : History) (file : Opened) → (after_keeping answer history file).history ≡ history
+history_kept (Ok reply) history file = refl
+history_kept (Err (Refused refusal)) history file = refl
+history_kept (Err (Pair fault)) history file = refl
+
+-- the file goes on with a history
+abbrev GoesOn : Folder → Bytes → History → Type 0
+GoesOn folder name h = Holds folder name h.«package» (present h) h.texts
+
+module _ {F : Type 0} (files : FilesOf F) (file : Opened) (old new : F) where
+  -- a moment of keeping an action
+  at_moment : (history : History) (now : Folder) → GoesOn (files.folder old) file.name file.history
+      → (now ≡ files.folder old) ⊎ Survives file.name file.history history (files.folder old) now
+      → IsBetween now file.name file.history history × OthersStay file.name (files.folder old) now
+  at_moment history now holds (inl same) =
+      (inl (subst (λ (f : Folder). GoesOn f file.name file.history) (sym same) holds), λ name a b c d. ap (λ (f : Folder). get f name) same)
+  at_moment history now holds (inr survives) = (survives.holds, survives.others)
+
+  unmoved : (history : History) → history ≡ file.history → new ≡ old → GoesOn (files.folder old) file.name file.history → GoesOn (files.folder new) file.name history
+  unmoved history same still holds =
+      subst (GoesOn (files.folder new) file.name) (sym same) (subst (λ (f : F). GoesOn (files.folder f) file.name file.history) (sym still) holds)
+
+  safe_after : (action : Action) (note : Bytes) (answer : Result Reply KeepFault) (history : History) → files.honest old ≡ true → file.left ≡ false
+      → GoesOn (files.folder old) file.name file.history → Keeps action note file.history answer history
+      → KeepsFile files file.name file.history history answer old new → IsBetween (files.folder new) file.name file.history history
+      → IsSafe (files.folder new) (after_keeping answer history file)
+  safe_after action note (Ok reply) history honest stays holds keeps pair between = inl (
+    stays,
+    elim (acts_leaves action note file.history history (Ok reply) keeps) [
+      | inl same ↦ unmoved history same (pair.still (ap (λ (h : History). h.cursor) same)) holds
+      | inr went ↦ subst (λ (current : Bytes). Holds (files.folder new) file.name current (present history) history.texts) (sym went.2)
+          (pair.kept honest (present file.history, holds) went.1).0
+    ],
+  )
+  safe_after action note (Err (Refused refusal)) history honest stays holds keeps pair between =
+      elim (acts_leaves action note file.history history (Err refusal) keeps) [
+        | inl same ↦ inl (stays, unmoved history same (pair.refused tt) holds)
+        | inr went ↦ absurd (let e = went.0.1 in cc)
+      ]
+  safe_after action note (Err (Pair fault)) history honest stays holds keeps pair between =
+      inr (refl, (file.history, action, note, fault, keeps, between))
+
+-- the file that isn't left alone goes on
+goes_on_there : (folder : Folder) (file : Opened) → file.left ≡ false → IsSafe folder file → GoesOn folder file.name file.history
+goes_on_there folder file stays (inl safe) = safe.1
+goes_on_there folder file stays (inr left) = absurd (true≢false (sym left.0 ∙ stays))
+
+module _ {F : Type 0} (files : FilesOf F) (counts : (held : F) (t : ℕ) → t ≤ files.moment held → files.since held t (files.folder held)) (began : Folder) where
+  acted : (place : ℕ) (action : Action) (note : Bytes) (before after : List Used) (answer : Result Reply KeepFault) (old new : F)
+      → (done : KeepsAt files place action note before answer after old new) → done.file.left ≡ false → files.honest old ≡ true
+      → AllAreSafe (files.folder old) before → IsMeanwhile began before before (files.folder old)
+      → AllAreSafe (files.folder new) after × IsMeanwhile began after after (files.folder new)
+      × Elapses (files.moment old) (files.moment new) (files.since old) (files.since new) (IsMeanwhile began before after)
+  acted place action note before after answer old new done stays honest all mean =
+      let file = done.file in
+      let history = done.history in
+      let next = after_keeping answer history file in
+      let folder = files.folder old in
+      let named = name_kept answer history file in
+      let holds = goes_on_there folder file stays (safe_at folder place before file done.there all).1.1 in
+      let resumes : Resumes folder file.name file.history.«package» file.history.texts = (present file.history, holds) in
+      let time = done.pair.time honest resumes in
+      let last = at_moment files file old new history (files.folder new) holds
+      (done.pair.each honest resumes (files.folder new) (counts new (files.moment old) time.later)) in
+      let safe = subst (AllAreSafe (files.folder new)) (sym done.kept)
+      (all_safe_after place before file next folder (files.folder new) done.there named
+      (safe_after files file old new action note answer history honest stays holds done.keeps done.pair last.0) last.1 all) in
+      let is_between = λ (now : Folder). λ (is : IsBetween now file.name file.history history).
+      subst (IsBetween now file.name file.history) (sym (history_kept answer history file)) is in (
+        safe,
+        all_meanwhile began (files.folder new) after safe
+            (others_then began folder place before after file next done.there done.kept named stays all mean (files.folder new) (is_between (files.folder new) last.0) last.1),
+        weakened (files.moment old) (files.moment new) (files.since old) (files.since new)
+            (λ (now : Folder). (now ≡ folder) ⊎ Survives file.name file.history history folder now) (IsMeanwhile began before after)
+            (λ now is. let both = at_moment files file old new history now holds is in
+            meanwhile began folder place before after file next done.there done.kept named stays all mean now (is_between now both.0) both.1) time,
+      )
+
+  -- ---- one step
+
+  -- after a step each open file is safe again, and at each of its moments
+  abbrev pub Steps : RunStep → List Used → List Used → F → F → Type 0
+  Steps step before after old new = AllAreSafe (files.folder old) before → IsMeanwhile began before before (files.folder old)
+      → AllAreSafe (files.folder new) after × IsMeanwhile began after after (files.folder new)
+      × Elapses (files.moment old) (files.moment new) (files.since old) (files.since new) (IsMomentOfSteps began (step ∷ []) before)
+      × ((rest : List RunStep) (now : Folder) → IsMomentOfSteps began rest after now → IsMomentOfSteps began (step ∷ rest) before now)
+
+  module _ (step : RunStep) (before mid after : List Used) (old between new : F) (joins : Joins began step.target.«package» before mid) (moves : MayAct step mid after)
+      (safe : AllAreSafe (files.folder between) mid) (mean : IsMeanwhile began mid mid (files.folder between)) (same : files.folder between ≡ files.folder old)
+      (first : KeepsFolder files old between) where
+    stepped : AllAreSafe (files.folder new) after → IsMeanwhile began after after (files.folder new)
+        → Elapses (files.moment between) (files.moment new) (files.since between) (files.since new) (IsMeanwhile began mid after)
+        → AllAreSafe (files.folder new) after × IsMeanwhile began after after (files.folder new)
+        × Elapses (files.moment old) (files.moment new) (files.since old) (files.since new) (IsMomentOfSteps began (step ∷ []) before)
+        × ((rest : List RunStep) (now : Folder) → IsMomentOfSteps began rest after now → IsMomentOfSteps began (step ∷ rest) before now)
+    stepped all next time = (
+      all,
+      next,
+      elapsed_on (files.moment old) (files.moment between) (files.moment new) (files.since old) (files.since between) (files.since new)
+          (IsMomentOfSteps began (step ∷ []) before) (IsMeanwhile began mid after) (λ now is. (mid, after, joins, moves, inl is))
+          (weakened (files.moment old) (files.moment between) (files.since old) (files.since between) (λ (now : Folder). now ≡ files.folder old)
+          (IsMomentOfSteps began (step ∷ []) before)
+          (λ now is. (mid, mid, joins, inl refl, inl (subst (IsMeanwhile began mid mid) (same ∙ sym is) mean))) first) time,
+      (λ rest now is. (mid, after, joins, moves, inr is)),
+    )
+
+  pub step_still : (step : RunStep) (before mid after : List Used) (found : Option ℕ) (old new : F) → UsesSome (files.folder old) step.target.«package» found before mid
+      → files.folder new ≡ files.folder old → KeepsFolder files old new → after ≡ mid → Steps step before after old new
+  step_still step before mid after found old new uses same first is all mean =
+      let opened = joined began (files.folder old) step.target.«package» before mid found uses all mean in
+      let safe = subst (λ (f : Folder). AllAreSafe f mid) (sym same) opened.1 in
+      let still = subst (IsMeanwhile began mid mid) (sym same) opened.2 in
+      stepped step before mid after old new new opened.0 (inl is) safe still same first (subst (AllAreSafe (files.folder new)) (sym is) safe)
+      (subst (λ (used : List Used). IsMeanwhile began used used (files.folder new)) (sym is) still)
+      (record { later = omega arith; nothing_else = λ t now le stood. inl stood; keeps = λ t now le stood. stood })
+
+  pub step_acted : (step : RunStep) (at : ℕ) (before mid after : List Used) (found : Option ℕ) (old between new : F)
+      → UsesSome (files.folder old) step.target.«package» found before mid → found ≡ Some at → files.folder between ≡ files.folder old → KeepsFolder files old between
+      → files.honest between ≡ true → KeepsStep files step at mid after between new → Steps step before after old new
+  step_acted step at before mid after found old between new uses there same first honest (inl (is, still)) all mean =
+      subst (λ (held : F). AllAreSafe (files.folder held) after × IsMeanwhile began after after (files.folder held)
+      × Elapses (files.moment old) (files.moment held) (files.since old) (files.since held) (IsMomentOfSteps began (step ∷ []) before)
+      × ((rest : List RunStep) (now : Folder) → IsMomentOfSteps began rest after now → IsMomentOfSteps began (step ∷ rest) before now)) (sym still)
+      (step_still step before mid after found old between uses same first is all mean)
+  step_acted step at before mid after found old between new uses there same first honest (inr (stays, (action, requested, (answer, done)))) all mean =
+      let opened = joined began (files.folder old) step.target.«package» before mid found uses all mean in
+      let safe = subst (λ (f : Folder). AllAreSafe f mid) (sym same) opened.1 in
+      let still = subst (IsMeanwhile began mid mid) (sym same) opened.2 in
+      let left : done.file.left ≡ false = sym (ap (λ (found : Option Opened). option_map_or (λ (file : Opened). file.left) found false) done.there) ∙ stays in
+      let number = number_there (files.folder old) step.target.«package» before mid found at uses there in
+      let moved = acted at action step.request.text mid after answer between new done left honest safe still in
+      stepped step before mid after old between new opened.0
+      (inr (at, done.file, action, answer, done.history, number, done.there, left, requested, done.keeps, done.kept)) safe still same first moved.0 moved.1 moved.2

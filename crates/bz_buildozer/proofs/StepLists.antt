@@ -1,0 +1,60 @@
+-- Tests over lists of commands, targets and lines.
+use Rattle.std.proofs.Common.{ap, ◌∙◌, ◌≡◌, refl, List, [], ◌∷◌, map, Bool, true, false, ◌||◌, ◌&&◌, not}
+use Rattle.std.specs.List.{flat_map, list_any}
+use Rattle.std.proofs.Math.Bool.{and-false}
+use Rattle.std.proofs.lemmas.List.Folds.{list_any-append}
+use Rattle.bz_command_line.specs.Requested.{Requested, Request}
+use Rattle.bz_command_line.specs.Verbs.{prints}
+use Rattle.bz_command_line.specs.Shown.{requested_in, request_in}
+use Rattle.bz_command_line.specs.declared.requested.Requested.{Requested as Held}
+use Rattle.bz_buildozer.specs.private.Shown.{targets_input_in, shown_in}
+use Rattle.bz_buildozer.specs.Steps.{step_of, steps_requested, all_steps, is_of_input, is_shown_by, shows_input, names_input}
+
+any_map : {X Y : Type 0} (p : X → Bool) (f : Y → X) (ys : List Y) → list_any p (map f ys) ≡ list_any (λ y. p (f y)) ys
+any_map p f [] = refl
+any_map p f (y ∷ ys) = ap (λ b. p (f y) || b) (any_map p f ys)
+
+any_flat : {X Y : Type 0} (p : X → Bool) (f : Y → List X) (ys : List Y) → list_any p (flat_map f ys) ≡ list_any (λ y. list_any p (f y)) ys
+any_flat p f [] = refl
+any_flat p f (y ∷ ys) = list_any-append p (f y) (flat_map f ys) ∙ ap (λ b. list_any p (f y) || b) (any_flat p f ys)
+
+any_same : {X : Type 0} (p q : X → Bool) → ((x : X) → p x ≡ q x) → (xs : List X) → list_any p xs ≡ list_any q xs
+any_same p q same [] = refl
+any_same p q same (x ∷ xs) = ap (λ b. b || list_any p xs) (same x) ∙ ap (λ b. q x || b) (any_same p q same xs)
+
+-- a test that is one part for all
+any_and : {X : Type 0} (b : Bool) (q : X → Bool) (xs : List X) → list_any (λ x. b && q x) xs ≡ (b && list_any q xs)
+any_and true q xs = refl
+any_and false q [] = refl
+any_and false q (x ∷ xs) = any_and false q xs
+
+and_step : (a b rest all : Bool) → all ≡ (rest && b) → ((a && b) || all) ≡ ((a || rest) && b)
+and_step true true rest all e = refl
+and_step true false rest all e = e ∙ and-false rest
+and_step false b rest all e = e
+
+and_any : {X : Type 0} (p : X → Bool) (b : Bool) (xs : List X) → list_any (λ x. p x && b) xs ≡ (list_any p xs && b)
+and_any p b [] = refl
+and_any p b (x ∷ xs) = and_step (p x) b (list_any p xs) (list_any (λ x. p x && b) xs) (and_any p b xs)
+
+-- a command that doesn't print
+abbrev prints_nothing : Request → Bool
+prints_nothing request = not (prints request.verb)
+
+-- a line shows the text of standard input where it means rules of it and has a command that doesn't print
+shown_by_line : (requested : Requested) → list_any is_shown_by (steps_requested requested) ≡ (list_any is_of_input requested.targets && list_any prints_nothing requested.commands)
+shown_by_line requested =
+    any_flat is_shown_by (λ target. map (step_of target) requested.commands) requested.targets
+    ∙ any_same (λ target. list_any is_shown_by (map (step_of target) requested.commands)) (λ target. is_of_input target && list_any prints_nothing requested.commands)
+    (λ target. any_map is_shown_by (step_of target) requested.commands ∙ any_and (is_of_input target) prints_nothing requested.commands) requested.targets
+    ∙ and_any is_of_input (list_any prints_nothing requested.commands) requested.targets
+
+pub shown_by_lines : (lines : List Held) → shows_input (all_steps (map requested_in lines)) ≡ list_any shown_in lines
+shown_by_lines lines =
+    any_flat is_shown_by steps_requested (map requested_in lines)
+    ∙ any_map (λ (requested : Requested). list_any is_shown_by (steps_requested requested)) requested_in lines
+    ∙ any_same (λ (line : Held). list_any is_shown_by (steps_requested (requested_in line))) shown_in
+    (λ line. shown_by_line (requested_in line) ∙ ap (λ b. targets_input_in line && b) (any_map prints_nothing request_in line.commands.items)) lines
+
+pub named_in_lines : (lines : List Held) → names_input (map requested_in lines) ≡ list_any targets_input_in lines
+named_in_lines lines = any_map (λ (requested : Requested). list_any is_of_input requested.targets) requested_in lines

@@ -1,0 +1,125 @@
+use Rattle.std.proofs.Common.{◌≡◌, ◌∙◌, ◌++◌, true, refl, ap, sym, subst}
+use Rattle.bz_command_line.specs.Shown.{request_in}
+use Rattle.bz_streams.proofs.Outputs.{counts_more, reports_more}
+use Rattle.bz_files.specs.Folder.{Folder}
+use Rattle.bz_items.specs.Characters.{Bytes}
+use Rattle.bz_workspace.specs.Packages.{file_at}
+use Rattle.bz_buildozer.specs.Calls.{UsesSome}
+use Rattle.bz_buildozer.specs.Keeping.{AllAreKept}
+use Rattle.bz_buildozer.specs.private.Shown.{progress_in}
+use Rattle.bz_buildozer.specs.Steps.{input_package, step_of}
+use Rattle.bz_buildozer.proofs.CutSteps.{both_whole, by_name, cut_after, neither_read, works_unread}
+use Rattle.bz_buildozer.proofs.DoSteps.{beside_there, beside_nowhere, done_there, done_nowhere}
+use Rattle.bz_buildozer.proofs.OpenSteps.{left_after}
+use Rattle.bz_buildozer.proofs.SafeSteps.{step_acted, step_still}
+use Rattle.bz_buildozer.proofs.StandSteps.{uses_stand}
+use Rattle.bz_buildozer.proofs.ReadSteps.{step_there, step_nowhere}
+use Rattle.bz_buildozer.proofs.acting.do_step.Goals as goal
+
+pub returns-in-Some : goal.returns-in-Some
+returns-in-Some g c =
+    let opening = c.open_package-opening in
+    let name = c.package_of-package.result.now in
+    let named = c.package_of-package.ensures in
+    let folder = g.F.Files.folder in
+    let is_honest = g.F.Files.honest c.args.files.now ≡ true in
+    let step = step_of c.args.target.now (request_in c.args.request.now) in
+    let before = progress_in c.args.run.now in
+    let after = progress_in c.act_on.new.run in
+    let used = opening.new.workspace in
+    let at = c.in-Some.place in
+    let works = c.act_on.ensures.works in
+    let unread = works_unread c.act_on.result (g.F.Files.faults opening.new.files) (g.F.Files.faults c.act_on.new.files) works.cut in
+    record {
+      does = λ plain can whole known left.
+          let both = both_whole opening.result.cut c.act_on.result c.first_cut.result c.first_cut.ensures whole in
+          let opened = opening.ensures.uses plain (by_name is_honest name c.args.target.now.«package» input_package named can) both.0 known left in
+          let done = c.act_on.ensures.whole plain both.1 in (
+            opened.1 ++ done.0,
+            done_there (record { folder = g.F.Files.folder c.args.files.now; known = known }) step before after used opening.result.place opened.0 at name
+                opened.1 done.0 named opened.2 c.in-Some.is opened.3 done.1,
+            left_after known (g.R.Source.remaining opening.new.input) step at (file_at at used) (record before { used = used }) after done.0 done.1 opened.4,
+            reports_more (g.E.Sink.faults c.args.err.now) (g.E.Sink.faults opening.new.err) (g.E.Sink.faults c.act_on.new.err)
+                (g.E.Sink.contents c.args.err.now) (g.E.Sink.contents opening.new.err) (g.E.Sink.contents c.act_on.new.err) opened.1 done.0 opened.5 done.2,
+          );
+      folder = λ plain can. ap g.F.Files.folder (c.act_on.ensures.still plain)
+          ∙ opening.ensures.folder plain (by_name is_honest name c.args.target.now.«package» input_package named can);
+      input = λ plain is.
+          step_there step opening.result.cut c.act_on.result c.first_cut.result opening.result.place at at before used after
+          (opening.ensures.input plain (named ∙ is)) c.in-Some.is c.first_cut.ensures (c.act_on.ensures.kinds plain)
+          (λ whole. let done = c.act_on.ensures.whole plain whole in (done.0, done.1));
+      keeps = λ kept honest whole stand.
+          let both = both_whole opening.result.cut c.act_on.result c.first_cut.result c.first_cut.ensures whole in
+          let opened = opening.ensures.beside kept honest both.0 in
+          let still = opening.ensures.kept kept honest in
+          let stood = uses_stand (folder c.args.files.now) name before.used opened.0 opened.1 used opened.2 stand in
+          let done = c.act_on.ensures.beside kept (opening.ensures.honest ∙ honest) (subst (λ (f : Folder). AllAreKept f used) (sym still) stood) both.1 in (
+            opened.1 ++ done.0,
+            beside_there step (folder c.args.files.now) (folder opening.new.files) (folder c.act_on.new.files) before after used opening.result.place opened.0 at name
+                opened.1 done.0 named still opened.2 c.in-Some.is opened.3 done.1,
+            reports_more (g.E.Sink.faults c.args.err.now) (g.E.Sink.faults opening.new.err) (g.E.Sink.faults c.act_on.new.err)
+                (g.E.Sink.contents c.args.err.now) (g.E.Sink.contents opening.new.err) (g.E.Sink.contents c.act_on.new.err) opened.1 done.0 opened.4 done.2,
+          );
+      safely = λ kept honest began.
+          step_acted g.F.Files g.met.F.Files.counts_now began step at before.used used after.used opening.result.place c.args.files.now opening.new.files
+          c.act_on.new.files (subst (λ (n : Bytes). UsesSome (folder c.args.files.now) n opening.result.place before.used used) named (opening.ensures.some kept honest))
+          c.in-Some.is (opening.ensures.kept kept honest) (opening.ensures.time kept honest) (opening.ensures.honest ∙ honest) (c.act_on.ensures.keeps kept);
+      unread = λ kept.
+          let same = opening.ensures.unread kept in (
+            same.0,
+            same.1,
+            (λ is. neither_read opening.result.cut c.act_on.result same.2 unread (sym c.first_cut.ensures ∙ is)),
+          );
+      works = λ sound is. neither_read opening.result.cut c.act_on.result (opening.ensures.works sound) unread (sym c.first_cut.ensures ∙ is);
+      sound = opening.ensures.sound;
+      cut = cut_after opening.result.cut c.act_on.result c.first_cut.result (g.R.Source.faults c.args.input.now) (g.R.Source.faults opening.new.input)
+          (g.F.Files.faults c.args.files.now) (g.F.Files.faults opening.new.files) (g.F.Files.faults c.act_on.new.files) c.first_cut.ensures works.cut
+          opening.ensures.cut opening.ensures.read_faults opening.ensures.counts works.counts;
+      read_faults = opening.ensures.read_faults;
+      counts = counts_more (g.F.Files.faults c.args.files.now) (g.F.Files.faults opening.new.files) (g.F.Files.faults c.act_on.new.files)
+          opening.ensures.counts works.counts;
+      honest = works.honest ∙ opening.ensures.honest;
+    }
+
+pub returns-in-None : goal.returns-in-None
+returns-in-None g c =
+    let opening = c.open_package-opening in
+    let name = c.package_of-package.result.now in
+    let named = c.package_of-package.ensures in
+    let folder = g.F.Files.folder in
+    let is_honest = g.F.Files.honest c.args.files.now ≡ true in
+    let before = progress_in c.args.run.now in
+    let used = opening.new.workspace in
+    record {
+      does = λ plain can whole known left.
+          let opened = opening.ensures.uses plain (by_name is_honest name c.args.target.now.«package» input_package named can) whole known left in (
+            opened.1,
+            done_nowhere (record { folder = g.F.Files.folder c.args.files.now; known = known }) (step_of c.args.target.now (request_in c.args.request.now))
+                before used opening.result.place opened.0 name opened.1 named opened.2 c.in-None.is opened.3,
+            opened.4,
+            opened.5,
+          );
+      folder = λ plain can. opening.ensures.folder plain (by_name is_honest name c.args.target.now.«package» input_package named can);
+      input = λ plain is.
+          step_nowhere opening.result.cut opening.result.place before used (record before { used = used; failed = true })
+          (opening.ensures.input plain (named ∙ is)) refl;
+      keeps = λ kept honest whole stand.
+          let opened = opening.ensures.beside kept honest whole in (
+            opened.1,
+            beside_nowhere (step_of c.args.target.now (request_in c.args.request.now)) (folder c.args.files.now) (folder opening.new.files) before used
+                opening.result.place opened.0 name opened.1 named (opening.ensures.kept kept honest) opened.2 c.in-None.is opened.3,
+            opened.4,
+          );
+      safely = λ kept honest began.
+          step_still g.F.Files g.met.F.Files.counts_now began (step_of c.args.target.now (request_in c.args.request.now)) before.used used used opening.result.place
+          c.args.files.now opening.new.files
+          (subst (λ (n : Bytes). UsesSome (folder c.args.files.now) n opening.result.place before.used used) named (opening.ensures.some kept honest))
+          (opening.ensures.kept kept honest) (opening.ensures.time kept honest) refl;
+      unread = opening.ensures.unread;
+      works = opening.ensures.works;
+      sound = opening.ensures.sound;
+      cut = opening.ensures.cut;
+      read_faults = opening.ensures.read_faults;
+      counts = opening.ensures.counts;
+      honest = opening.ensures.honest;
+    }

@@ -1,0 +1,13 @@
+use Rattle.std.proofs.Common.{◌≡◌, ◌||◌, ◌++◌, map, drop}
+use Rattle.std.specs.List.{list_any}
+use Rattle.bz_workspace.specs.Shown.{used_in}
+use Rattle.bz_buildozer.specs.Ending.{has_changed, texts_out}
+use Rattle.bz_buildozer.proofs.ending.put_texts.Given as goal
+
+-- what is left makes of it what all packages do
+abbrev pub invariant-loop-used : goal.invariant-loop-used
+invariant-loop-used l = record {
+  changed : (l.changed || list_any has_changed (map used_in (drop l.used-index l.packages))) ≡ list_any has_changed (map used_in l.packages);
+  output : l.output.items ++ texts_out l.shown l.to_stdout (map used_in (drop l.used-index l.packages))
+      ≡ l.fn.output.items ++ texts_out l.shown l.to_stdout (map used_in l.packages);
+}

@@ -1,0 +1,145 @@
+use Rattle.std.proofs.Common.{[], ◌∙◌, true≢false, inl, inr, refl, map, ap, subst, sym}
+use Rattle.bz_command_line.specs.Shown.{requested_in}
+use Rattle.bz_buildozer.specs.Calls.{PassesBy}
+use Rattle.bz_buildozer.specs.Keeping.{AllAreKept}
+use Rattle.bz_buildozer.specs.Moments.{AllAreSafe, IsMeanwhile, IsMomentOfSteps}
+use Rattle.bz_buildozer.specs.Outcome.{AreOfInput, unused}
+use Rattle.bz_buildozer.specs.Run.{World, Progress}
+use Rattle.bz_buildozer.specs.private.Shown.{progress_in}
+use Rattle.bz_buildozer.specs.Steps.{all_steps, names_input}
+use Rattle.bz_buildozer.proofs.Performing.{performed, performed_beside, broken_off, broken_beside, honest_still, uncut, reported_apart, plain_premise, kept_premise}
+use Rattle.bz_buildozer.specs.Reported.{no_journal_line}
+use Rattle.bz_buildozer.proofs.Outcomes.{both_true, lines_premise, stands_unused, reported_once}
+use Rattle.bz_buildozer.proofs.MomentSteps.{unused_yet}
+use Rattle.bz_buildozer.proofs.UnusedSteps.{no_more_time, no_time}
+use Rattle.bz_buildozer.proofs.ReadSteps.{nothing_left, read_before}
+use Rattle.bz_buildozer.proofs.engine.perform.Goals as goal
+
+pub returns-then-lacks_journal-clause-whole : goal.returns-then-lacks_journal-clause-whole
+returns-then-lacks_journal-clause-whole g c premise is_whole =
+    let folder = g.F.Files.folder c.args.files.now in (
+      unused folder no_journal_line,
+      inl (sym c.lacks_journal.ensures ∙ c.if-lacks_journal.true, refl),
+      stands_unused folder folder no_journal_line 1 (g.W.Sink.contents c.args.out.now) (g.E.Sink.faults c.args.err.now)
+          (g.E.Sink.faults c.report_no_journal.new.err) (g.E.Sink.contents c.args.err.now) (g.E.Sink.contents c.report_no_journal.new.err) refl refl
+          (reported_once (g.E.Sink.faults c.args.err.now) (g.E.Sink.faults c.report_no_journal.new.err) (g.E.Sink.contents c.args.err.now)
+          (g.E.Sink.contents c.report_no_journal.new.err) no_journal_line c.report_no_journal.ensures),
+    )
+
+pub returns-then-lacks_journal-clause-usage : goal.returns-then-lacks_journal-clause-usage
+returns-then-lacks_journal-clause-usage g c is =
+    let both = both_true c.args.options.journal (names_input (map requested_in c.args.lines.now)) (sym c.lacks_journal.ensures ∙ c.if-lacks_journal.true) in (
+      both.0,
+      both.1,
+      reported_once (g.E.Sink.faults c.args.err.now) (g.E.Sink.faults c.report_no_journal.new.err) (g.E.Sink.contents c.args.err.now)
+          (g.E.Sink.contents c.report_no_journal.new.err) no_journal_line c.report_no_journal.ensures,
+    )
+
+pub returns-then-lacks_journal-clause-moments : goal.returns-then-lacks_journal-clause-moments
+returns-then-lacks_journal-clause-moments g c kept honest = no_time g.F.Files.moment g.F.Files.since c.args.files.now c.args.files.now
+    (IsMomentOfSteps (g.F.Files.folder c.args.files.now) (all_steps (map requested_in c.args.lines.now)) []) refl
+
+pub returns-clause-unread : goal.returns-clause-unread
+returns-clause-unread g c kept named =
+    let neither = sym c.lacks_journal.ensures ∙ c.if-lacks_journal.false in
+    absurd (true≢false (sym (rw (kept, named) refl) ∙ neither))
+
+pub returns-clause-whole : goal.returns-clause-whole
+returns-clause-whole g c given is_whole =
+    let neither = sym c.lacks_journal.ensures ∙ c.if-lacks_journal.false in
+    let premise = lines_premise (g.F.Files.honest c.args.files.now) c.args.options.journal (map requested_in c.args.lines.now) neither given in
+    let ended = c.finish.ensures.whole is_whole in
+    let ran = c.run_lines-cut in
+    let lines = map requested_in c.args.lines.now in
+    let folder = g.F.Files.folder in
+    let known = g.R.Source.remaining c.args.input.now in
+    let world : World = record { folder = folder c.args.files.now; known = known } in
+    let options = c.args.options in
+    let begun_is = c.begun-run.ensures in
+    let start = progress_in c.begun-run.result in
+    let state = progress_in ran.new.run in
+    elim (reported_apart options.journal) [
+      | inl plain ↦
+          let can = plain_premise (g.F.Files.honest c.args.files.now) options.journal (AreOfInput lines) premise in
+          let done = ran.ensures.does plain can ended.0 known (λ _. refl) in
+          let still = honest_still (g.F.Files.honest c.args.files.now) (g.F.Files.honest ran.new.files) options.to_stdout world
+          options.keep_going lines start done.0 state ran.ensures.honest begun_is done.1 can in
+          performed options lines world start done.0 state c.shows_input-shown.result c.finish.result.status
+          (folder ran.new.files) (folder c.finish.new.files) (g.W.Sink.contents c.args.out.now) (g.W.Sink.contents c.finish.new.out)
+          (g.E.Sink.faults c.args.err.now) (g.E.Sink.faults ran.new.err) (g.E.Sink.faults c.finish.new.err)
+          (g.E.Sink.contents c.args.err.now) (g.E.Sink.contents ran.new.err) (g.E.Sink.contents c.finish.new.err)
+          neither plain begun_is done.1 c.shows_input-shown.ensures ended.1 (ran.ensures.folder plain can) (c.finish.ensures.writes plain still ended.0 (inl is_whole))
+          ended.2 done.3 ended.5
+      | inr kept ↦
+          let honest = kept_premise (g.F.Files.honest c.args.files.now) options.journal (AreOfInput lines) kept premise in
+          let done = ran.ensures.keeps kept honest ended.0 (subst (λ (from : Progress). AllAreKept (folder c.args.files.now) from.used) (sym begun_is) tt) in
+          performed_beside options lines world start done.0 state c.shows_input-shown.result c.finish.result.status
+          (folder ran.new.files) (folder c.finish.new.files) (g.W.Sink.contents c.args.out.now) (g.W.Sink.contents c.finish.new.out)
+          (g.E.Sink.faults c.args.err.now) (g.E.Sink.faults ran.new.err) (g.E.Sink.faults c.finish.new.err)
+          (g.E.Sink.contents c.args.err.now) (g.E.Sink.contents ran.new.err) (g.E.Sink.contents c.finish.new.err)
+          neither kept begun_is done.1 c.shows_input-shown.ensures ended.1 (ap folder (c.finish.ensures.kept kept)) ended.2 done.2 ended.5
+    ]
+
+pub returns-clause-write : goal.returns-clause-write
+returns-clause-write g c given is_write =
+    let neither = sym c.lacks_journal.ensures ∙ c.if-lacks_journal.false in
+    let premise = lines_premise (g.F.Files.honest c.args.files.now) c.args.options.journal (map requested_in c.args.lines.now) neither given in
+    let ran = c.run_lines-cut in
+    let lines = map requested_in c.args.lines.now in
+    let folder = g.F.Files.folder in
+    let known = g.R.Source.remaining c.args.input.now in
+    let world : World = record { folder = folder c.args.files.now; known = known } in
+    let options = c.args.options in
+    let begun_is = c.begun-run.ensures in
+    let start = progress_in c.begun-run.result in
+    let state = progress_in ran.new.run in
+    let ended = c.finish.ensures.write is_write (λ is. uncut ran.result (g.R.Source.faults c.args.input.now) (g.R.Source.faults ran.new.input)
+    (g.F.Files.faults c.args.files.now) (g.F.Files.faults ran.new.files) is ran.ensures.cut) in
+    elim (reported_apart options.journal) [
+      | inl plain ↦
+          let can = plain_premise (g.F.Files.honest c.args.files.now) options.journal (AreOfInput lines) premise in
+          let done = ran.ensures.does plain can ended.0 known (λ _. refl) in
+          let still = honest_still (g.F.Files.honest c.args.files.now) (g.F.Files.honest ran.new.files) options.to_stdout world
+          options.keep_going lines start done.0 state ran.ensures.honest begun_is done.1 can in
+          broken_off options lines world start done.0 state c.shows_input-shown.result (folder ran.new.files) (folder c.finish.new.files)
+          (g.W.Sink.contents c.args.out.now) (g.W.Sink.contents c.finish.new.out) neither plain begun_is done.1 c.shows_input-shown.ensures
+          (ran.ensures.folder plain can) (c.finish.ensures.writes plain still ended.0 (inr is_write)) ended.1
+      | inr kept ↦
+          let honest = kept_premise (g.F.Files.honest c.args.files.now) options.journal (AreOfInput lines) kept premise in
+          let done = ran.ensures.keeps kept honest ended.0 (subst (λ (from : Progress). AllAreKept (folder c.args.files.now) from.used) (sym begun_is) tt) in
+          broken_beside options lines world start done.0 state c.shows_input-shown.result (folder ran.new.files) (folder c.finish.new.files)
+          (g.W.Sink.contents c.args.out.now) (g.W.Sink.contents c.finish.new.out) neither kept begun_is done.1 c.shows_input-shown.ensures
+          (ap folder (c.finish.ensures.kept kept)) ended.1
+    ]
+
+pub returns-clause-reads_nothing : goal.returns-clause-reads_nothing
+returns-clause-reads_nothing g c kept =
+    let unread = c.run_lines-cut.ensures.unread kept in
+    (unread.0, unread.1, λ is. unread.2 (read_before c.finish.result.cut c.run_lines-cut.result _ c.finish.ensures.cause is))
+
+pub returns-clause-read : goal.returns-clause-read
+returns-clause-read g c of_input is_read =
+    let before = read_before c.finish.result.cut c.run_lines-cut.result _ c.finish.ensures.cause is_read in
+    elim (reported_apart c.args.options.journal) [
+      | inl plain ↦
+          nothing_left (progress_in c.begun-run.result) (progress_in c.run_lines-cut.new.run) c.run_lines-cut.result c.shows_input-shown.result c.args.options.to_stdout
+          (g.W.Sink.contents c.args.out.now) (g.W.Sink.contents c.finish.new.out) c.begun-run.ensures (c.run_lines-cut.ensures.input plain of_input)
+          before c.finish.ensures.output
+      | inr kept ↦ absurd ((c.run_lines-cut.ensures.unread kept).2 before)
+    ]
+
+pub returns-clause-moments : goal.returns-clause-moments
+returns-clause-moments g c kept honest =
+    let ran = c.run_lines-cut in
+    let files = g.F.Files in
+    let folder = files.folder c.args.files.now in
+    let steps = all_steps (map requested_in c.args.lines.now) in
+    let begun_is = c.begun-run.ensures in
+    let done = ran.ensures.safely kept honest folder (subst (λ (from : Progress). AllAreSafe folder from.used) (sym begun_is) tt)
+    (subst (λ (from : Progress). IsMeanwhile folder from.used from.used folder) (sym begun_is) (unused_yet folder)) in
+    no_more_time files.moment files.since c.args.files.now ran.new.files c.finish.new.files (IsMomentOfSteps folder steps []) (c.finish.ensures.kept kept)
+    (subst (λ (from : Progress). PassesBy files (IsMomentOfSteps folder steps from.used) c.args.files.now ran.new.files) begun_is done.2)
+
+pub returns-clause-sound : goal.returns-clause-sound
+returns-clause-sound g c sound is =
+    c.run_lines-cut.ensures.works sound (read_before c.finish.result.cut c.run_lines-cut.result _ c.finish.ensures.cause is)

@@ -1,0 +1,81 @@
+use Rattle.std.proofs.Common.{◌≡◌, ap, sym, ◌∙◌}
+use Rattle.bz_files.specs.Folder.{Folder}
+use Rattle.bz_buildozer.specs.Run.{World}
+use Rattle.bz_buildozer.proofs.Outcomes.{script_unread, script_done}
+use Rattle.bz_buildozer.proofs.MomentSteps.{by_no_script, by_script}
+use Rattle.bz_buildozer.proofs.UnusedSteps.{no_more_time}
+use Rattle.bz_buildozer.proofs.UsageSteps.{read_reported, script_missing}
+use Rattle.bz_buildozer.proofs.engine.run_script.Goals as goal
+
+pub returns-in-Err-clause-whole : goal.returns-in-Err-clause-whole
+returns-in-Err-clause-whole g c honest is_whole =
+    let whole = sym c.report_unread.ensures.cut ∙ is_whole in
+    let reported = c.report_unread.ensures.whole whole in
+    let world : World = record { folder = g.F.Files.folder c.args.files.now; known = g.R.Source.remaining c.args.input.now } in
+    script_unread c.args.options c.args.name.now c.reported_name.result.now world (g.F.Files.folder c.read_bytes.new.files) c.report_unread.result.status
+    (g.W.Sink.contents c.args.out.now) (g.E.Sink.faults c.args.err.now) (g.E.Sink.faults c.report_unread.new.err) (g.E.Sink.contents c.args.err.now)
+    (g.E.Sink.contents c.report_unread.new.err) (c.read_bytes.ensures.folder honest) (c.in-Err.ensures.err.0 whole honest) c.reported_name.ensures reported.0 reported.1
+
+pub returns-in-Ok-clause-whole : goal.returns-in-Ok-clause-whole
+returns-in-Ok-clause-whole g c honest is_whole =
+    let known = g.R.Source.remaining c.args.input.now in
+    let done = c.run_text.ensures.whole (c.read_bytes.ensures.honest ∙ honest) is_whole known (λ other. ap g.R.Source.remaining (sym (c.read_bytes.ensures.input other))) in (
+      done.0,
+      script_done c.args.options c.args.name.now c.in-Ok.bytes.items c.deref.result.now (g.F.Files.folder c.args.files.now)
+          (g.F.Files.folder c.read_bytes.new.files) known done.0 c.deref.ensures.value (c.read_bytes.ensures.folder honest) (c.in-Ok.ensures.ok.0 honest) done.1,
+      done.2,
+    )
+
+pub returns-in-Ok-clause-write : goal.returns-in-Ok-clause-write
+returns-in-Ok-clause-write g c honest is_write =
+    let known = g.R.Source.remaining c.args.input.now in
+    let done = c.run_text.ensures.write (c.read_bytes.ensures.honest ∙ honest) is_write known (λ other. ap g.R.Source.remaining (sym (c.read_bytes.ensures.input other))) in (
+      done.0,
+      script_done c.args.options c.args.name.now c.in-Ok.bytes.items c.deref.result.now (g.F.Files.folder c.args.files.now)
+          (g.F.Files.folder c.read_bytes.new.files) known done.0 c.deref.ensures.value (c.read_bytes.ensures.folder honest) (c.in-Ok.ensures.ok.0 honest) done.1,
+      done.2,
+      done.3,
+    )
+
+pub returns-in-Err-clause-usage : goal.returns-in-Err-clause-usage
+returns-in-Err-clause-usage g c is is_whole =
+    let whole = sym c.report_unread.ensures.cut ∙ is_whole in
+    script_missing (g.F.Files.honest c.args.files.now)
+    (record { folder = g.F.Files.folder c.args.files.now; known = g.R.Source.remaining c.args.input.now }) c.args.options c.args.name.now c.reported_name.result.now
+    (g.E.Sink.faults c.args.err.now) (g.E.Sink.faults c.report_unread.new.err) (g.E.Sink.contents c.args.err.now) (g.E.Sink.contents c.report_unread.new.err)
+    (c.in-Err.ensures.err.0 whole) c.reported_name.ensures (c.report_unread.ensures.whole whole).1
+
+pub returns-in-Ok-clause-usage : goal.returns-in-Ok-clause-usage
+returns-in-Ok-clause-usage g c is is_whole =
+    let world : World = record { folder = g.F.Files.folder c.args.files.now; known = g.R.Source.remaining c.args.input.now } in
+    read_reported (g.F.Files.honest c.args.files.now) world c.args.options c.args.name.now c.in-Ok.bytes.items c.deref.result.now (g.E.Sink.faults c.args.err.now)
+    (g.E.Sink.faults c.run_text.new.err) (g.E.Sink.contents c.args.err.now) (g.E.Sink.contents c.run_text.new.err) c.deref.ensures.value c.in-Ok.ensures.ok.0
+    (c.run_text.ensures.usage is)
+
+pub returns-in-Ok-clause-unused_time : goal.returns-in-Ok-clause-unused_time
+returns-in-Ok-clause-unused_time g c is honest =
+    no_more_time g.F.Files.moment g.F.Files.since c.args.files.now c.read_bytes.new.files c.run_text.new.files
+    (λ (now : Folder). now ≡ g.F.Files.folder c.args.files.now) (c.run_text.ensures.unused is).2 (c.read_bytes.ensures.time honest)
+
+pub returns-in-Err-clause-unread_kept : goal.returns-in-Err-clause-unread_kept
+returns-in-Err-clause-unread_kept g c kept other =
+    let same = c.read_bytes.ensures.input other in (ap g.R.Source.remaining same, ap g.R.Source.faults same)
+
+pub returns-in-Ok-clause-unread_kept : goal.returns-in-Ok-clause-unread_kept
+returns-in-Ok-clause-unread_kept g c kept other =
+    let same = c.read_bytes.ensures.input other in
+    let still = c.run_text.ensures.unread_kept kept in
+    (still.0 ∙ ap g.R.Source.remaining same, still.1 ∙ ap g.R.Source.faults same)
+
+pub returns-in-Err-clause-moments : goal.returns-in-Err-clause-moments
+returns-in-Err-clause-moments g c kept honest =
+    by_no_script g.F.Files c.args.files.now c.read_bytes.new.files (g.R.Source.remaining c.args.input.now) c.args.name.now (c.read_bytes.ensures.time honest)
+
+pub returns-in-Ok-clause-moments : goal.returns-in-Ok-clause-moments
+returns-in-Ok-clause-moments g c kept honest =
+    by_script g.F.Files c.args.files.now c.run_text.new.files (g.R.Source.remaining c.args.input.now) c.args.name.now c.in-Ok.bytes.items c.deref.result.now
+    c.read_bytes.new.files (c.read_bytes.ensures.folder honest) c.deref.ensures.value (c.in-Ok.ensures.ok.0 honest) (c.read_bytes.ensures.time honest)
+    (c.run_text.ensures.moments kept (c.read_bytes.ensures.honest ∙ honest))
+
+pub returns-in-Ok-clause-sound : goal.returns-in-Ok-clause-sound
+returns-in-Ok-clause-sound g c sound = c.run_text.ensures.sound (c.read_bytes.ensures.sound ∙ sound)

@@ -1,0 +1,139 @@
+use Rattle.std.proofs.Common.{◌≡◌, ◌∙◌, List, [], length, inl, inr, ap, refl, sym, subst, Bool, Option, true≢false}
+use Rattle.bz_items.specs.Characters.{Bytes}
+use Rattle.bz_workspace.specs.Found.{found_in}
+use Rattle.bz_workspace.specs.Journals.{OpensBeside}
+use Rattle.bz_workspace.specs.Packages.{Used, package_number}
+use Rattle.bz_workspace.specs.declared.opening.Opening.{Opening}
+use Rattle.bz_streams.specs.declared.exit.Cut.TheVariants as cut
+use Rattle.bz_buildozer.specs.Cuts.{IsLeft}
+use Rattle.bz_streams.specs.Ports.{IsInput}
+use Rattle.bz_buildozer.specs.Steps.{input_package}
+use Rattle.bz_buildozer.proofs.OpenSteps.{adds_more, is_found, last_place, left_after_use, left_after_input, place_again, uses_found, uses_input}
+use Rattle.bz_buildozer.proofs.ReadSteps.{opens_first, opens_again, uses_so}
+use Rattle.bz_buildozer.proofs.opening.open_package.Goals as goal
+
+pub returns-then-wants_input-clause-uses : goal.returns-then-wants_input-clause-uses
+returns-then-wants_input-clause-uses g c = λ plain can whole known left.
+    let requested = c.wants_input.ensures.yes c.if-wants_input.true in
+    let done = c.open_input.ensures.whole whole in
+    let old = c.args.workspace.now in
+    let new = c.open_input.new.workspace in (
+      length old,
+      done.2,
+      uses_input (record { folder = g.F.Files.folder c.args.files.now; known = known }) c.args.package.now done.0 old new done.1 done.2 requested.1 requested.2
+          (subst (λ (bytes : Option Bytes). IsInput bytes done.0) (left requested.2) done.3) done.4 done.5,
+      last_place old new input_package done.1 c.open_input.result.place done.5 done.6,
+      left_after_input known (g.R.Source.remaining c.open_input.new.input) old new (record { «package» = input_package; file = done.1 }) refl done.5,
+      done.7,
+    )
+
+pub returns-clause-uses : goal.returns-clause-uses
+returns-clause-uses g c = λ plain can whole known left.
+    let old = c.args.workspace.now in
+    let new = c.open.new.self in
+    let name = c.args.package.now in
+    let remaining = g.R.Source.remaining c.args.input.now in
+    elim (is_found (package_number name old)) [
+      | inl none ↦
+          let other = λ (is : name ≡ input_package).
+          c.wants_input.ensures.other c.if-wants_input.false plain is (sym (ap (λ (n : Bytes). package_number n old) is) ∙ none) in
+          elim can [
+            | inl honest ↦
+                let done = c.open.ensures.first plain honest whole none in (
+                  length old,
+                  done.1,
+                  uses_found (record { folder = g.F.Files.folder c.args.files.now; known = known }) name old new done.0 done.1 other none done.2 done.3,
+                  last_place old new name done.0 c.open.result.place done.3 done.4,
+                  left_after_use known remaining old new (record { «package» = name; file = done.0 }) done.3 left,
+                  done.5,
+                )
+            | inr is ↦ absurd (other is)
+          ]
+      | inr some ↦
+          let done = c.open.ensures.again some.0 some.1 in (
+            some.0,
+            [],
+            inl (some.1, refl, done.1),
+            place_again some.0 old new c.open.result cut.Whole done.0 done.1,
+            subst (λ (used : List Used). IsLeft known used remaining) (sym done.1) left,
+            (ap g.E.Sink.faults done.3, ap g.E.Sink.contents done.3),
+          )
+    ]
+
+pub returns-then-wants_input-clause-beside : goal.returns-then-wants_input-clause-beside
+returns-then-wants_input-clause-beside g c = λ kept honest whole.
+    absurd (true≢false (sym kept ∙ (c.wants_input.ensures.yes c.if-wants_input.true).0))
+
+pub returns-clause-beside : goal.returns-clause-beside
+returns-clause-beside g c = λ kept honest whole.
+    let old = c.args.workspace.now in
+    let new = c.open.new.self in
+    let name = c.args.package.now in
+    let folder = g.F.Files.folder c.args.files.now in
+    elim (is_found (package_number name old)) [
+      | inl none ↦
+          let done = c.open.ensures.opens honest whole none in (
+            length old,
+            done.1,
+            inr (none, refl, (done.0, subst (λ (journals : Bool). OpensBeside journals folder name (found_in folder name) done.0 done.1) kept done.2, done.3)),
+            last_place old new name done.0 c.open.result.place done.3 done.4,
+            done.5,
+          )
+      | inr some ↦
+          let done = c.open.ensures.again some.0 some.1 in (
+            some.0,
+            [],
+            inl (some.1, refl, done.1),
+            place_again some.0 old new c.open.result cut.Whole done.0 done.1,
+            (ap g.E.Sink.faults done.3, ap g.E.Sink.contents done.3),
+          )
+    ]
+
+pub returns-clause-folder : goal.returns-clause-folder
+returns-clause-folder g c = λ plain can.
+    let old = c.args.workspace.now in
+    let name = c.args.package.now in
+    elim can [
+      | inl honest ↦ c.open.ensures.folder honest
+      | inr is ↦ elim (is_found (package_number name old)) [
+        | inl none ↦ absurd (c.wants_input.ensures.other c.if-wants_input.false plain is (sym (ap (λ (n : Bytes). package_number n old) is) ∙ none))
+        | inr some ↦ ap g.F.Files.folder (c.open.ensures.again some.0 some.1).2
+      ]
+    ]
+
+pub returns-then-wants_input-clause-input : goal.returns-then-wants_input-clause-input
+returns-then-wants_input-clause-input g c = λ plain is.
+    let requested = c.wants_input.ensures.yes c.if-wants_input.true in
+    opens_first c.args.workspace.now c.open_input.new.workspace c.open_input.result.place c.open_input.result.cut requested.2 c.open_input.ensures.failed
+    (λ whole. let done = c.open_input.ensures.whole whole in (done.1, done.5))
+
+pub returns-clause-input : goal.returns-clause-input
+returns-clause-input g c = λ plain is.
+    let old = c.args.workspace.now in
+    let name = c.args.package.now in
+    elim (is_found (package_number name old)) [
+      | inl none ↦ absurd (c.wants_input.ensures.other c.if-wants_input.false plain is (sym (ap (λ (n : Bytes). package_number n old) is) ∙ none))
+      | inr some ↦
+          let done = c.open.ensures.again some.0 some.1 in
+          opens_again some.0 old c.open.new.self c.open.result.place c.open.result.cut (ap (λ (o : Opening). o.place) done.0)
+          (ap (λ (o : Opening). o.cut) done.0) done.1 (uses_so name old some.0 is some.1)
+    ]
+
+pub returns-then-wants_input-clause-some : goal.returns-then-wants_input-clause-some
+returns-then-wants_input-clause-some g c = λ kept honest. absurd (true≢false (sym kept ∙ (c.wants_input.ensures.yes c.if-wants_input.true).0))
+
+pub returns-then-wants_input-clause-time : goal.returns-then-wants_input-clause-time
+returns-then-wants_input-clause-time g c = λ kept honest. absurd (true≢false (sym kept ∙ (c.wants_input.ensures.yes c.if-wants_input.true).0))
+
+pub returns-clause-some : goal.returns-clause-some
+returns-clause-some g c = λ kept honest.
+    let old = c.args.workspace.now in
+    let new = c.open.new.self in
+    let name = c.args.package.now in
+    let folder = g.F.Files.folder c.args.files.now in
+    elim (is_found (package_number name old)) [
+      | inl none ↦ inr (none, adds_more name c.args.journals folder c.open.result.place old new (g.F.Files.honest c.args.files.now) kept honest (c.open.ensures.adds none))
+      | inr some ↦
+          let done = c.open.ensures.again some.0 some.1 in
+          inl (some.0, some.1, done.1, ap (λ (o : Opening). o.place) done.0)
+    ]

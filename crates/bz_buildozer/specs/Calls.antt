@@ -1,0 +1,184 @@
+-- What a call does to the ports of a run. Each relation takes the ghost members of a port's bound, which a clause writes `R.Source`,
+-- `W.Sink`, `E.Sink` or `F.Files`, and the port before and after.
+use Rattle.std.specs.Prelude.{◌≡◌, ◌≢◌, ◌⊎◌, ◌++◌, ℕ, List, Option, Some, None, Result, Bool, true, false}
+use Rattle.std.specs.Option.{option_map}
+use Rattle.std.specs.Io.KnownBytes.{Appends}
+use Rattle.bz_items.specs.Characters.{Bytes}
+use Rattle.bz_files.specs.Folder.{Folder, Elapses}
+use Rattle.bz_files.specs.declared.files.Files.{Ghosts as FilesOf}
+use Rattle.bz_streams.specs.Faults.{AppendsSome, AppendsUnlessFailed}
+use Rattle.bz_streams.specs.Outputs.{Reports, Counts}
+use Rattle.bz_streams.specs.declared.exit.Cut.{Cut}
+use Rattle.bz_streams.specs.declared.exit.Cut.TheVariants as c
+use Rattle.bz_streams.specs.declared.sink.Sink.{Ghosts as SinkOf}
+use Rattle.bz_streams.specs.declared.source.Source.{Ghosts as SourceOf}
+use Rattle.bz_journal.specs.declared.keeping.KeepFault.{KeepFault}
+use Rattle.bz_workspace.specs.Journals.{Adds, IsOpenedIn}
+use Rattle.bz_workspace.specs.Keeps.{KeepsAt}
+use Rattle.bz_workspace.specs.Packages.{Used, file_at, package_number}
+use Rattle.bz_workspace.specs.Sessions.{Action, Reply}
+use Rattle.bz_buildozer.specs.Cuts.{AreCutBy, IsEndedBy, IsLeft, CutsFiles, ReadsOnce}
+use Rattle.bz_buildozer.specs.Ending.{Left, LeftStands}
+use Rattle.bz_buildozer.specs.Keeping.{AllAreKept, is_left_at}
+use Rattle.bz_buildozer.specs.Moments.{AllAreSafe, IsMeanwhile, IsMomentOfSteps}
+use Rattle.bz_buildozer.specs.Run.{World, Progress}
+use Rattle.bz_buildozer.specs.private.Shown.{progress_in}
+use Rattle.bz_buildozer.specs.Steps.{RunStep, action_of}
+use Rattle.bz_buildozer.specs.declared.run.Run.{Run}
+
+-- ---- standard error
+
+-- A line was printed, whole unless its writing failed.
+abbrev pub ReportsLine : {E : Type 0} → SinkOf E → E → E → Bytes → Type 0
+ReportsLine sink old new line = AppendsUnlessFailed (sink.faults old) (sink.faults new) (sink.contents old) (sink.contents new) line
+
+-- Lines were printed one after the other, each whole unless its writing failed.
+abbrev pub ReportsLines : {E : Type 0} → SinkOf E → E → E → List Bytes → Type 0
+ReportsLines sink old new lines = Reports (sink.faults old) (sink.faults new) (sink.contents old) (sink.contents new) lines
+
+-- ---- standard output
+
+-- These bytes were printed, all of them.
+abbrev pub PrintsAll : {W : Type 0} → SinkOf W → W → W → Bytes → Type 0
+PrintsAll sink old new bytes = Appends (sink.contents old) (sink.contents new) bytes
+
+-- A beginning of these bytes was printed.
+abbrev pub PrintsSome : {W : Type 0} → SinkOf W → W → W → Bytes → Type 0
+PrintsSome sink old new bytes = AppendsSome (sink.contents old) (sink.contents new) bytes
+
+-- ---- what can be read
+
+-- the folder as it is, and these bytes of standard input
+abbrev pub world_with : {F : Type 0} → FilesOf F → F → Option Bytes → World
+world_with files held known = record { folder = files.folder held; known = known }
+
+-- the folder as it is, and what is left of standard input
+abbrev pub world_of : {R F : Type 0} → SourceOf R → FilesOf F → R → F → World
+world_of source files input held = world_with files held (source.remaining input)
+
+-- Each folder since the beginning of the call, but those that had occurred by then, has P.
+abbrev pub PassesBy : {F : Type 0} → FilesOf F → (Folder → Type 0) → F → F → Type 0
+PassesBy files P old new = Elapses (files.moment old) (files.moment new) (files.since old) (files.since new) P
+
+-- Nothing is read of standard input, and it has not failed.
+abbrev pub IsStill : {R : Type 0} → SourceOf R → R → R → Type 0
+IsStill source old new = (source.remaining new ≡ source.remaining old) × (source.faults new ≡ source.faults old)
+
+-- The same, and it cuts no run. (Why a run is cut.)
+abbrev pub ReadsNothing : {R : Type 0} → SourceOf R → Cut → R → R → Type 0
+ReadsNothing source cut old new = (source.remaining new ≡ source.remaining old) × (source.faults new ≡ source.faults old) × (cut ≢ c.Read)
+
+-- ---- faults
+
+-- Steps are cut where standard input or files counted a fault; where they are not, neither did.
+abbrev pub AreCutOver : {R F : Type 0} → SourceOf R → FilesOf F → Cut → R → R → F → F → Type 0
+AreCutOver source files cut input input' held held' = AreCutBy cut (source.faults input) (source.faults input') (files.faults held) (files.faults held')
+
+-- A run is cut where standard input, standard output or files counted a fault; where it is not, none did.
+abbrev pub IsEndedOver : {R W F : Type 0} → SourceOf R → SinkOf W → FilesOf F → Cut → R → R → W → W → F → F → Type 0
+IsEndedOver source sink files cut input input' out out' held held' =
+    IsEndedBy cut (source.faults input) (source.faults input') (sink.faults out) (sink.faults out') (files.faults held) (files.faults held')
+
+-- Files are worked on: a fault of theirs cuts what is done, and they stay as honest as they were. (Why it is cut.)
+pub record WorksOn {F : Type 0} (files : FilesOf F) (why : Cut) (old new : F) : Type 0 where
+  pub cut : CutsFiles why (files.faults old) (files.faults new)
+  pub counts : Counts (files.faults old) (files.faults new)
+  pub honest : files.honest new ≡ files.honest old
+
+-- ---- steps
+
+-- A package is opened where it is used first, whatever comes. (The folder, and the number of the package where its file is open.)
+abbrev pub UsesSome : Folder → Bytes → Option ℕ → List Used → List Used → Type 0
+UsesSome folder current number before after =
+    ((place : ℕ) × (package_number current before ≡ Some place) × (after ≡ before) × (number ≡ option_map (λ _. place) (file_at place before)))
+    ⊎ ((package_number current before ≡ None) × Adds current (IsOpenedIn true folder current) number before after)
+
+-- An action with a note is done in the open file of the package with this number, and kept there or not.
+abbrev pub KeepsSome : {F : Type 0} → FilesOf F → ℕ → Action → Bytes → List Used → List Used → F → F → Type 0
+KeepsSome files place action note before after old new = (answer : Result Reply KeepFault) × KeepsAt files place action note before answer after old new
+
+-- What a step does in an open file, whatever comes: nothing; or its action is done there, and kept or not.
+abbrev pub KeepsStep : {F : Type 0} → FilesOf F → RunStep → ℕ → List Used → List Used → F → F → Type 0
+KeepsStep files step place before after old new = ((after ≡ before) × (new ≡ old))
+    ⊎ ((is_left_at place before ≡ false) × ((action : Action) × (action_of step.target step.request.verb ≡ Some action)
+    × KeepsSome files place action step.request.text before after old new))
+
+-- Where a run is: how far it has come, what is left of standard input, the files, and standard error. (Of each, the count of faults.)
+pub record RunSpot : Type 1 where
+  pub state : Progress
+  pub left : Option Bytes
+  pub read_faults : ℕ
+  pub sound : Bool
+  pub folder : Folder
+  pub moment : ℕ
+  pub since : ℕ → Folder → Type 0
+  pub honest : Bool
+  pub file_faults : ℕ
+  pub reported : Option Bytes
+  pub faults : ℕ
+
+abbrev pub spot : {R F E : Type 0} → SourceOf R → FilesOf F → SinkOf E → Run → R → F → E → RunSpot
+spot source files errors run input held err = record {
+  state = progress_in run;
+  left = source.remaining input;
+  read_faults = source.faults input;
+  sound = source.sound input;
+  folder = files.folder held;
+  moment = files.moment held;
+  since = files.since held;
+  honest = files.honest held;
+  file_faults = files.faults held;
+  reported = errors.contents err;
+  faults = errors.faults err;
+}
+
+-- This is done from one spot to another in a world with this folder; its lines are printed. (Of standard input all is left until package
+-- `-` is used.)
+abbrev pub DoesBetween : Folder → (World → Progress → List Bytes → Progress → Type 0) → RunSpot → RunSpot → Type 0
+DoesBetween folder Does old new = (known : Option Bytes) → IsLeft known old.state.used old.left → (lines : List Bytes)
+    × Does (record { folder = folder; known = known }) old.state lines new.state
+    × IsLeft known new.state.used new.left
+    × Reports old.faults new.faults old.reported new.reported lines
+
+-- Nothing is read of standard input, from one spot to another. (Why that is cut.)
+abbrev pub ReadsNoInput : Cut → RunSpot → RunSpot → Type 0
+ReadsNoInput why old new = (new.left ≡ old.left) × (new.read_faults ≡ old.read_faults) × (why ≢ c.Read)
+
+-- This is done from one spot to another, and in the folder, where each open file is; and its lines are printed.
+abbrev pub KeepsBetween : (Folder → Progress → List Bytes → Folder → Progress → Type 0) → RunSpot → RunSpot → Type 0
+KeepsBetween Keeps old new = AllAreKept old.folder old.state.used → (lines : List Bytes)
+    × Keeps old.folder old.state lines new.folder new.state
+    × Reports old.faults new.faults old.reported new.reported lines
+
+-- From one spot to another of a run that began with any folder: where each open file was safe each one is again, each folder is at a
+-- moment of these steps, and one that is at a moment of further steps after them is at one of all.
+abbrev pub PassesSafely : List RunStep → RunSpot → RunSpot → Type 0
+PassesSafely steps old new = (began : Folder) → AllAreSafe old.folder old.state.used → IsMeanwhile began old.state.used old.state.used old.folder
+    → AllAreSafe new.folder new.state.used × IsMeanwhile began new.state.used new.state.used new.folder
+    × Elapses old.moment new.moment old.since new.since (IsMomentOfSteps began steps old.state.used)
+    × ((rest : List RunStep) (now : Folder) → IsMomentOfSteps began rest new.state.used now
+    → IsMomentOfSteps began (steps ++ rest) old.state.used now)
+
+-- What a run does from one spot to another by these steps, without journals or with them, and why it is cut. Where files are not honest the premise is
+-- that only standard input is used. With journals standard input isn't read.
+pub record Proceeds (journals : Bool) (Premise : Type 0) (steps : List RunStep) (Does : World → Progress → List Bytes → Progress → Type 0)
+    (Keeps : Folder → Progress → List Bytes → Folder → Progress → Type 0) (why : Cut) (old new : RunSpot) : Type 0 where
+  pub does : journals ≡ false → (old.honest ≡ true) ⊎ Premise → why ≡ c.Whole → DoesBetween old.folder Does old new
+  pub folder : journals ≡ false → (old.honest ≡ true) ⊎ Premise → new.folder ≡ old.folder
+  pub input : journals ≡ false → Premise → ReadsOnce why old.state new.state
+  pub keeps : journals ≡ true → old.honest ≡ true → why ≡ c.Whole → KeepsBetween Keeps old new
+  pub safely : journals ≡ true → old.honest ≡ true → PassesSafely steps old new
+  pub unread : journals ≡ true → ReadsNoInput why old new
+  pub works : old.sound ≡ true → why ≢ c.Read
+  pub sound : new.sound ≡ old.sound
+  pub cut : AreCutBy why old.read_faults new.read_faults old.file_faults new.file_faults
+  pub read_faults : Counts old.read_faults new.read_faults
+  pub counts : Counts old.file_faults new.file_faults
+  pub honest : new.honest ≡ old.honest
+
+-- ---- what a run leaves
+
+-- The writers and the folder hold what is left. (The status, standard output and standard error before and after, and the files after.)
+abbrev pub LeavesAfter : {W E F : Type 0} → SinkOf W → SinkOf E → FilesOf F → Left → ℕ → W → W → E → E → F → Type 0
+LeavesAfter sink errors files left status out out' err err' held' =
+    LeftStands left status (files.folder held') (sink.contents out) (sink.contents out') (errors.faults err) (errors.faults err') (errors.contents err) (errors.contents err')

@@ -1,0 +1,81 @@
+-- Words, standard input and a folder have at most one outcome, but for what is left open: clap's text, which fault of a text that
+-- can't be read is reported, names that end in `.bznew`, the bytes of journals, and whether `regex` takes a pattern.
+use Rattle.std.specs.Prelude.{◌≡◌, ◌⊎◌, true, List, [], ◌∷◌, Some, Ok, Err}
+use Rattle.bz_lex.specs.declared.fault.ReadFault.{ReadFault}
+use Rattle.bz_grammar.specs.Legal.{Accepted}
+use Rattle.bz_items.specs.Characters.{Bytes}
+use Rattle.bz_files.specs.Folder.{IsAside, SameBut}
+use Rattle.bz_grammar.specs.Faults.{IsFaultOf}
+use Rattle.bz_resume.specs.Pair.{journal_name}
+use Rattle.bz_command_line.specs.Requested.{Refused, of_operand}
+use Rattle.bz_command_line.specs.Line.{Given, operands, script, CommandLine, of_clap, command_line_of}
+use Rattle.bz_command_line.specs.Refused.{IsPatternFault, IsFirstRefused, IsFirstFault}
+use Rattle.bz_command_line.specs.Script.{lines_in}
+use Rattle.bz_streams.specs.Reported.{fault_line}
+use Rattle.bz_buildozer.specs.Ending.{Left}
+use Rattle.bz_buildozer.specs.Outcome.{WordsOutcome, IsScript, unused}
+use Rattle.bz_buildozer.specs.Run.{World, Finds}
+use Rattle.bz_buildozer.specs.Reported.{operand_line}
+
+-- ---- lines
+
+-- Two lines report a fault of one text that is read for a package and isn't accepted. The faults are TooLarge or NotUtf8 exactly where
+-- the text is that; what else it is, and its place, may differ.
+pub record ReportFaults (world : World) (line other : Bytes) : Type 0 where
+  pub current : Bytes
+  pub name : Bytes
+  pub text : Bytes
+  pub first : ReadFault
+  pub second : ReadFault
+  pub found : Finds world current (Some (name, text))
+  pub refused : Accepted text → ⊥
+  pub one : IsFaultOf text first
+  pub two : IsFaultOf text second
+  pub reported : line ≡ fault_line name first
+  pub reported_other : other ≡ fault_line name second
+
+-- clap finds a fault in the words, and reports it in its own text
+abbrev pub AreClaps : List Bytes → Type 0
+AreClaps words = command_line_of words ≡ Err of_clap
+
+abbrev pub SameLine : List Bytes → World → Bytes → Bytes → Type 0
+SameLine words world line other = (line ≡ other) ⊎ ReportFaults world line other ⊎ AreClaps words
+
+-- as many lines, each the same as the other
+abbrev pub SameLines : List Bytes → World → List Bytes → List Bytes → Type 0
+SameLines words world [] [] = Unit {0}
+SameLines words world [] (other ∷ others) = ⊥
+SameLines words world (line ∷ lines) [] = ⊥
+SameLines words world (line ∷ lines) (other ∷ others) = SameLine words world line other × SameLines words world lines others
+
+-- ---- outcomes
+
+-- What a file of this name holds is left open: the name is set aside, or is that of a journal and the words request journals.
+abbrev pub IsLeftOpen : List Bytes → Bytes → Type 0
+IsLeftOpen words name = IsAside name
+    ⊎ (((line : CommandLine) × (command_line_of words ≡ Ok line) × (line.options.journal ≡ true)) × ((file : Bytes) × (name ≡ journal_name file)))
+
+-- The same output, status and lines, and the same folder, but for names that are left open.
+pub record SameLeft (words : List Bytes) (world : World) (left other : Left) : Type 0 where
+  pub output : left.output ≡ other.output
+  pub status : left.status ≡ other.status
+  pub lines : SameLines words world left.lines other.lines
+  pub folder : SameBut (IsLeftOpen words) left.folder other.folder
+
+-- Nothing is done, and the pattern of this operand is reported as one that `regex` refuses.
+abbrev pub IsReportedPattern : Refused → World → Left → Type 0
+IsReportedPattern refused world left = IsPatternFault refused.operand refused.fault × (left ≡ unused world.folder (operand_line refused))
+
+-- The operand is among the words, or in the file of lines.
+abbrev pub GivenReportsPattern : Given → World → Left → Type 0
+GivenReportsPattern (operands texts) world left = (refused : Refused) × IsFirstRefused texts refused × IsReportedPattern refused world left
+GivenReportsPattern (script name) world left =
+    (text : Bytes) × IsScript world name (Some text) × (refused : Refused) × IsFirstFault (lines_in text) (of_operand refused) × IsReportedPattern refused world left
+
+abbrev pub ReportsPattern : List Bytes → World → Left → Type 0
+ReportsPattern words world left = (line : CommandLine) × (command_line_of words ≡ Ok line) × GivenReportsPattern line.given world left
+
+-- Two outcomes of words are the same, unless one of them is that a pattern is refused.
+abbrev pub OutcomesAreExact : Type 0
+OutcomesAreExact = (words : List Bytes) (world : World) (bytes : Bytes) (left other : Left) → world.known ≡ Some bytes → WordsOutcome words world left
+    → WordsOutcome words world other → ReportsPattern words world left ⊎ ReportsPattern words world other ⊎ SameLeft words world left other

@@ -1,0 +1,88 @@
+-- The folder at each moment of a run with journals, whatever cuts the run or stops it.
+use Rattle.std.specs.Prelude.{◌≡◌, ◌≢◌, ◌⊎◌, true, false, ℕ, List, [], ◌∷◌, ◌++◌, Option, Some, None, Result, Ok, Err, IfSome}
+use Rattle.std.specs.FinMap.{get}
+use Rattle.bz_items.specs.Characters.{Bytes}
+use Rattle.bz_files.specs.Folder.{Folder, IsAside}
+use Rattle.bz_journal.specs.declared.keeping.KeepFault.{KeepFault}
+use Rattle.bz_journal.specs.declared.keeping.KeepFault.TheVariants.{Pair}
+use Rattle.bz_journal.specs.Keeping.{Keeps}
+use Rattle.bz_resume.specs.declared.pair_fault.PairFault.{PairFault}
+use Rattle.bz_resume.specs.Pair.{journal_name}
+use Rattle.bz_resume.specs.Resuming.{Holds}
+use Rattle.bz_command_line.specs.Requested.{Requested, operand_group}
+use Rattle.bz_command_line.specs.Line.{Given, operands, script}
+use Rattle.bz_command_line.specs.Script.{script_of}
+use Rattle.bz_workspace.specs.Found.{IsNameOf}
+use Rattle.bz_workspace.specs.Journals.{IsOpenedIn}
+use Rattle.bz_workspace.specs.Keeps.{after_keeping}
+use Rattle.bz_workspace.specs.Packages.{Opened, Used, package_number, file_at, with_opened}
+use Rattle.bz_workspace.specs.Sessions.{Action, History, Reply, present}
+use Rattle.bz_buildozer.specs.Keeping.{IsApart}
+use Rattle.bz_buildozer.specs.Outcome.{IsScript}
+use Rattle.bz_buildozer.specs.Run.{World}
+use Rattle.bz_buildozer.specs.Steps.{RunStep, action_of, all_steps}
+
+-- ---- files that can be gone on with
+
+-- In its package a file goes on with the texts of one of two histories, and it holds the present text of either: its journal is
+-- replaced first.
+abbrev pub IsBetween : Folder → Bytes → History → History → Type 0
+IsBetween folder name h after = Holds folder name h.«package» (present h) h.texts
+    ⊎ (Holds folder name h.«package» (present h) after.texts ⊎ Holds folder name h.«package» (present after) after.texts)
+
+-- An open file holds its present text and goes on with its history. One that is left alone is between that and the history from which
+-- the action led that was not kept.
+abbrev pub IsSafe : Folder → Opened → Type 0
+IsSafe folder file = ((file.left ≡ false) × Holds folder file.name file.history.«package» (present file.history) file.history.texts)
+    ⊎ ((file.left ≡ true) × ((h : History) × (action : Action) × (note : Bytes) × (fault : PairFault)
+    × Keeps action note h (Err (Pair fault)) file.history × IsBetween folder file.name h file.history))
+
+-- A step leads a run from these packages to those, and this is the folder meanwhile: each open file is safe, or between its history
+-- before the step and the one after it; and each name but those of open files, of their journals, and those set aside is as it was
+-- when the run began.
+pub record IsMeanwhile (began : Folder) (before after : List Used) (now : Folder) : Type 0 where
+  pub files : (place : ℕ) (file then : Opened) → file_at place before ≡ Some file → file_at place after ≡ Some then
+      → IsSafe now then ⊎ ((file.left ≡ false) × IsBetween now file.name file.history then.history)
+  pub others : (name : Bytes) → ((place : ℕ) (file : Opened) → file_at place after ≡ Some file → (name ≢ file.name) × (name ≢ journal_name file.name))
+      → (IsAside name → ⊥) → get now name ≡ get began name
+
+-- each open file has a name that the file of its package may have, and is safe; all packages differ
+abbrev pub AllAreSafe : Folder → List Used → Type 0
+AllAreSafe folder [] = Unit {0}
+AllAreSafe folder (used ∷ more) = IfSome used.file (λ file. IsNameOf used.«package» file.name × IsSafe folder file) × IsApart used.«package» more × AllAreSafe folder more
+
+-- ---- steps
+
+-- The package of a step is one that was used before, or the last one from now on: with a file as the folder had it when the run began, or
+-- with none, where none could be opened. Where memory was refused nothing changes.
+abbrev pub Joins : Folder → Bytes → List Used → List Used → Type 0
+Joins began current before after = (after ≡ before)
+    ⊎ ((package_number current before ≡ None) × ((file : Option Opened) × IfSome file (IsOpenedIn true began current)
+    × (after ≡ before ++ record { «package» = current; file = file } ∷ [])))
+
+-- Nothing is done; or in the open file of the step's package, which isn't left alone, its action is done and kept, or not kept, or refused.
+abbrev pub MayAct : RunStep → List Used → List Used → Type 0
+MayAct step before after = (after ≡ before)
+    ⊎ ((place : ℕ) × (file : Opened) × (action : Action) × (answer : Result Reply KeepFault) × (history : History)
+    × (package_number step.target.«package» before ≡ Some place) × (file_at place before ≡ Some file) × (file.left ≡ false)
+    × (action_of step.target step.request.verb ≡ Some action) × Keeps action step.request.text file.history answer history
+    × (after ≡ with_opened place (Some (after_keeping answer history file)) before))
+
+-- a folder at a moment of a run of these steps, which has used these packages: the first step is under way, or is done and the moment is one
+-- of those after it
+abbrev pub IsMomentOfSteps : Folder → List RunStep → List Used → Folder → Type 0
+IsMomentOfSteps began [] used now = IsMeanwhile began used used now
+IsMomentOfSteps began (step ∷ steps) used now = (mid : List Used) × (after : List Used) × Joins began step.target.«package» used mid × MayAct step mid after
+    × (IsMeanwhile began mid after now ⊎ IsMomentOfSteps began steps after now)
+
+-- ---- runs
+
+-- what is requested by operands, or by the lines of a file
+abbrev pub RequestsFor : World → Given → List Requested → Type 0
+RequestsFor world (operands texts) lines = (requested : Requested) × (operand_group texts ≡ Ok requested) × (lines ≡ requested ∷ [])
+RequestsFor world (script name) lines = (text : Bytes) × IsScript world name (Some text) × (script_of text ≡ Ok lines)
+
+-- a folder at a moment of a run: it is as it was, or at a moment of the steps that are requested
+abbrev pub IsMomentOfRun : World → Given → Folder → Type 0
+IsMomentOfRun world given now = (now ≡ world.folder)
+    ⊎ ((lines : List Requested) × RequestsFor world given lines × IsMomentOfSteps world.folder (all_steps lines) [] now)

@@ -1,0 +1,144 @@
+-- What a run of buildozer does, by its words, the bytes of standard input and the folder.
+use Rattle.std.specs.Prelude.{◌≡◌, ◌≢◌, ◌⊎◌, ◌&&◌, ℕ, List, [], ◌∷◌, codes, bytes_eq, if◌then◌else◌, Bool, true, false, Option, Some, None, Result, Ok, Err, IfOk, IsErr}
+use Rattle.std.specs.List.{All}
+use Rattle.std.specs.FinMap.{get}
+use Rattle.std.specs.Str.{IsUtf8, IsValidUpTo}
+use Rattle.bz_lex.specs.declared.fault.ReadFault.TheVariants.{NotUtf8}
+use Rattle.bz_items.specs.Characters.{Bytes}
+use Rattle.bz_files.specs.Folder.{Folder}
+use Rattle.bz_command_line.specs.Requested.{Requested, Usage, operand_group}
+use Rattle.bz_command_line.specs.Line.{Given, operands, script, LineUsage, CommandLine, command_line_of}
+use Rattle.bz_command_line.specs.Refused.{IsGroupFault, IsScriptFault}
+use Rattle.bz_command_line.specs.Script.{script_of}
+use Rattle.bz_command_line.specs.declared.line.Options.{Options}
+use Rattle.bz_streams.specs.Reported.{stdin, named_line, fault_line}
+use Rattle.bz_buildozer.specs.Ending.{Left, Performs}
+use Rattle.bz_buildozer.specs.Keeping.{PerformsBeside}
+use Rattle.bz_buildozer.specs.Run.{World}
+use Rattle.bz_streams.specs.Ports.{IsInput}
+use Rattle.bz_buildozer.specs.Steps.{RunStep, input_package, all_steps, names_input}
+use Rattle.bz_buildozer.specs.Reported.{IsUsageLine, IsLineUsageLine, input_line, no_journal_line}
+
+-- A fault of usage is reported by one line, and all else is as it was.
+abbrev pub unused : Folder → Bytes → Left
+unused folder line = record { output = []; lines = line ∷ []; status = 1; folder = folder }
+
+-- ---- steps
+
+-- Steps are done on files alone, or with their journals.
+abbrev pub StepsLeave : Options → List RunStep → World → Left → Type 0
+StepsLeave options steps world left =
+    ((options.journal ≡ false) × Performs options steps world left) ⊎ ((options.journal ≡ true) × PerformsBeside options steps world left)
+
+-- What lines request is done, unless that needs a journal of standard input, which has none.
+abbrev pub LinesLeave : Options → List Requested → World → Left → Type 0
+LinesLeave options lines world left =
+    ((options.journal && names_input lines ≡ true) × (left ≡ unused world.folder no_journal_line))
+    ⊎ ((options.journal && names_input lines ≡ false) × StepsLeave options (all_steps lines) world left)
+
+-- ---- operands among the words
+
+abbrev pub OperandsOutcome : Options → List Bytes → World → Left → Type 0
+OperandsOutcome options texts world left =
+    ((usage : Usage) × (line : Bytes) × IsGroupFault texts usage × IsUsageLine [] usage line × (left ≡ unused world.folder line))
+    ⊎ ((requested : Requested) × (operand_group texts ≡ Ok requested) × LinesLeave options (requested ∷ []) world left)
+
+-- ---- operands in a file of lines
+
+-- The lines are in standard input for `-`, else in a file of the folder.
+abbrev pub IsScript : World → Bytes → Option Bytes → Type 0
+IsScript world name text =
+    ((name ≡ input_package) × ((bytes : Bytes) × IsInput world.known bytes × (text ≡ Some bytes)))
+    ⊎ ((name ≢ input_package) × (text ≡ get world.folder name))
+
+-- the name by which the file of lines is reported
+abbrev pub reported_name : Bytes → Bytes
+reported_name name = if bytes_eq name input_package then stdin else name
+
+-- What lines request is done; rules of standard input can't be meant where the lines are in it, and then no step reads what is left
+-- of it.
+abbrev pub LinesOutcome : Options → Bool → List Requested → World → Left → Type 0
+LinesOutcome options of_input lines world left =
+    ((of_input && names_input lines ≡ true) × (left ≡ unused world.folder input_line))
+    ⊎ ((of_input && names_input lines ≡ false) × ((known : Option Bytes) × (of_input ≡ false → known ≡ world.known)
+    × LinesLeave options lines (record world { known = known }) left))
+
+-- A file of lines is there, is text, and requests something; else that is reported.
+abbrev pub TextOutcome : Options → Bytes → Option Bytes → World → Left → Type 0
+TextOutcome options name None world left = left ≡ unused world.folder (named_line (reported_name name) (codes "cannot open"))
+TextOutcome options name (Some text) world left =
+    ((at : ℕ) × IsValidUpTo text at × (left ≡ unused world.folder (fault_line (reported_name name) (NotUtf8 at))))
+    ⊎ (IsUtf8 text × ((usage : Usage) × (line : Bytes) × IsScriptFault text usage × IsUsageLine (reported_name name) usage line
+    × (left ≡ unused world.folder line)))
+    ⊎ (IsUtf8 text × ((lines : List Requested) × (script_of text ≡ Ok lines) × LinesOutcome options (bytes_eq name input_package) lines world left))
+
+abbrev pub ScriptOutcome : Options → Bytes → World → Left → Type 0
+ScriptOutcome options name world left = (text : Option Bytes) × IsScript world name text × TextOutcome options name text world left
+
+-- ---- whole lines
+
+abbrev pub GivenOutcome : Options → Given → World → Left → Type 0
+GivenOutcome options (operands texts) world left = OperandsOutcome options texts world left
+GivenOutcome options (script name) world left = ScriptOutcome options name world left
+
+abbrev pub LineOutcome : Result CommandLine LineUsage → World → Left → Type 0
+LineOutcome (Err usage) world left = (line : Bytes) × IsLineUsageLine usage line × (left ≡ unused world.folder line)
+LineOutcome (Ok line) world left = GivenOutcome line.options line.given world left
+
+abbrev pub WordsOutcome : List Bytes → World → Left → Type 0
+WordsOutcome words world left = LineOutcome (command_line_of words) world left
+
+-- the words name a file of lines
+abbrev pub TakesScript : List Bytes → Type 0
+TakesScript words = (options : Options) × (name : Bytes) × (command_line_of words ≡ Ok (record { options = options; given = script name }))
+
+-- The words request journals.
+abbrev pub KeepsJournals : List Bytes → Type 0
+KeepsJournals words = IfOk (command_line_of words) (λ line. line.options.journal ≡ true)
+
+-- ---- lines that reach no file
+
+-- Each target of these lines is one of standard input.
+abbrev pub AreOfInput : List Requested → Type 0
+AreOfInput lines = All (λ requested. All (λ target. target.«package» ≡ input_package) requested.targets) lines
+
+-- The same, and a line has a target.
+abbrev pub AreOfInputAndSome : List Requested → Type 0
+AreOfInputAndSome lines = AreOfInput lines × (names_input lines ≡ true)
+
+abbrev pub IsOfInput : Given → Type 0
+IsOfInput (operands texts) = IfOk (operand_group texts) (λ requested. AreOfInput (requested ∷ []))
+IsOfInput (script name) = ⊥
+
+-- The words name no file, and no package but standard input.
+abbrev pub NamesNoFile : List Bytes → Type 0
+NamesNoFile words = IfOk (command_line_of words) (λ line. IsOfInput line.given)
+
+-- ---- words that request nothing
+
+-- operands that are refused, or lack a command or a target, or mean rules of standard input where journals are kept
+abbrev pub GivesNothing : Options → Given → Type 0
+GivesNothing options (operands texts) = IsErr (operand_group texts)
+    ⊎ ((options.journal ≡ true) × ((requested : Requested) × (operand_group texts ≡ Ok requested) × (names_input (requested ∷ []) ≡ true)))
+GivesNothing options (script name) = ⊥
+
+-- The lines, if any, aren't in standard input.
+abbrev pub StandApart : Given → Type 0
+StandApart (operands texts) = Unit {0}
+StandApart (script name) = name ≢ input_package
+
+abbrev pub TakesNoInput : List Bytes → Type 0
+TakesNoInput words = IfOk (command_line_of words) (λ line. StandApart line.given)
+
+-- The lines, if any, aren't in a file.
+abbrev pub StandInNoFile : Given → Type 0
+StandInNoFile (operands texts) = Unit {0}
+StandInNoFile (script name) = name ≡ input_package
+
+abbrev pub TakesNoFile : List Bytes → Type 0
+TakesNoFile words = IfOk (command_line_of words) (λ line. StandInNoFile line.given)
+
+-- words that are no line, or whose operands request nothing
+abbrev pub LineGivesNothing : Result CommandLine LineUsage → Type 0
+LineGivesNothing (Err usage) = Unit {0}
+LineGivesNothing (Ok line) = GivesNothing line.options line.given

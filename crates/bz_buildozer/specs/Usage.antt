@@ -1,0 +1,47 @@
+-- Why a run has status 1, by the one line that it prints.
+use Rattle.std.specs.Prelude.{◌≡◌, ◌⊎◌, ◌&&◌, ℕ, List, [], ◌∷◌, codes, bytes_eq, Bool, true, Option, Some, None, Result, Ok, Err}
+use Rattle.std.specs.Str.{IsUtf8, IsValidUpTo}
+use Rattle.bz_lex.specs.declared.fault.ReadFault.TheVariants.{NotUtf8}
+use Rattle.bz_items.specs.Characters.{Bytes}
+use Rattle.bz_command_line.specs.Requested.{Requested, Usage, operand_group}
+use Rattle.bz_command_line.specs.Line.{Given, operands, script, CommandLine, LineUsage}
+use Rattle.bz_command_line.specs.Refused.{IsGroupFault, IsScriptFault}
+use Rattle.bz_command_line.specs.Script.{script_of}
+use Rattle.bz_command_line.specs.declared.line.Options.{Options}
+use Rattle.bz_streams.specs.Reported.{named_line, fault_line}
+use Rattle.bz_buildozer.specs.Outcome.{IsScript, reported_name}
+use Rattle.bz_buildozer.specs.Run.{World}
+use Rattle.bz_buildozer.specs.Steps.{input_package, names_input}
+use Rattle.bz_buildozer.specs.Reported.{IsUsageLine, IsLineUsageLine, input_line, no_journal_line}
+
+-- Lines mean rules of standard input, where journals are kept.
+abbrev pub ReportsNoJournal : Options → List Requested → Bytes → Type 0
+ReportsNoJournal options lines line = (options.journal ≡ true) × (names_input lines ≡ true) × (line ≡ no_journal_line)
+
+-- Operands are refused, and the first one is reported, or lack a command or a target.
+abbrev pub OperandsReport : Options → List Bytes → Bytes → Type 0
+OperandsReport options texts line =
+    ((usage : Usage) × IsGroupFault texts usage × IsUsageLine [] usage line)
+    ⊎ ((requested : Requested) × (operand_group texts ≡ Ok requested) × ReportsNoJournal options (requested ∷ []) line)
+
+-- Rules of standard input are meant where the lines are in it.
+abbrev pub LinesReport : Options → Bool → List Requested → Bytes → Type 0
+LinesReport options of_input lines line =
+    ((of_input && names_input lines ≡ true) × (line ≡ input_line)) ⊎ ReportsNoJournal options lines line
+
+-- A file of lines is not there, is no text, or requests nothing.
+abbrev pub TextReports : Options → Bytes → Option Bytes → Bytes → Type 0
+TextReports options name None line = line ≡ named_line (reported_name name) (codes "cannot open")
+TextReports options name (Some text) line =
+    ((at : ℕ) × IsValidUpTo text at × (line ≡ fault_line (reported_name name) (NotUtf8 at)))
+    ⊎ (IsUtf8 text × ((usage : Usage) × IsScriptFault text usage × IsUsageLine (reported_name name) usage line))
+    ⊎ (IsUtf8 text × ((lines : List Requested) × (script_of text ≡ Ok lines) × LinesReport options (bytes_eq name input_package) lines line))
+
+-- The file of lines is that of the world, where the files are honest.
+abbrev pub GivenReports : Bool → World → Options → Given → Bytes → Type 0
+GivenReports honest world options (operands texts) line = OperandsReport options texts line
+GivenReports honest world options (script name) line = (text : Option Bytes) × (honest ≡ true → IsScript world name text) × TextReports options name text line
+
+abbrev pub LineReports : Bool → World → Result CommandLine LineUsage → Bytes → Type 0
+LineReports honest world (Err usage) line = IsLineUsageLine usage line
+LineReports honest world (Ok whole) line = GivenReports honest world whole.options whole.given line

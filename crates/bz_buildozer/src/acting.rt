@@ -1,0 +1,258 @@
+//! One step.
+ghost use Rattle.std.specs.Prelude.{◌≡◌, ◌≢◌, ◌⊎◌, ◌&&◌, ◌++◌, [], ◌∷◌, ℕ, List, Some, None, Ok, Err, true, false, IsSome, OnOk, OnErr};
+ghost use Rattle.bz_workspace.specs.Sessions.{action_in, History, Answer, Leads, listing};
+ghost use Rattle.bz_workspace.specs.Sessions as Reply;
+ghost use Rattle.bz_command_line.specs.Paths.{HasPath};
+ghost use Rattle.bz_command_line.specs.Shown.{request_in};
+ghost use Rattle.bz_workspace.specs.Packages as p;
+ghost use Rattle.bz_workspace.specs.Packages.{file_at};
+ghost use Rattle.bz_workspace.specs.Shown.{opened_in, used_in};
+ghost use Rattle.bz_buildozer.specs.Calls.{KeepsSome, KeepsStep, ReportsLines, WorksOn, spot, Proceeds};
+ghost use Rattle.bz_buildozer.specs.Keeping.{AllAreKept, AnswersBeside, DoesBeside, FolderAfter, is_left_at, state_after};
+ghost use Rattle.bz_buildozer.specs.Run.{Answers, Does, printed_in, answered, reported_of};
+ghost use Rattle.bz_buildozer.specs.private.Shown.{progress_in};
+ghost use Rattle.bz_buildozer.specs.Steps.{input_package, step_of};
+
+use crate::opening::open_package;
+use crate::run::Run;
+use crate::step::{action_of, package_of};
+use crate::reported::report_refusal;
+use bz_files::Files;
+use bz_items::at;
+use bz_resume::PairFault;
+use bz_label::Target;
+use bz_command_line::Request;
+use bz_streams::{Cut, Sink, Source, first_cut, report_named};
+use bz_value::Refusal;
+use bz_workspace::{Action, KeepFault, Opened, Reply, Used, Workspace};
+use std::alloc::{AllocError, Global};
+
+// The file of a package, which is open.
+fn file_of(used: &Used) -> &Opened
+    requires { IsSome (used_in used.now).file }
+    ensures { (used_in used.now).file ≡ Some (opened_in result.now) }
+{
+    match &used.file {
+        Some(file) => file,
+        None => unreachable!(),
+    }
+}
+
+// The open file of the package with this number.
+fn open_file(workspace: &Workspace, place: usize) -> &Opened
+    requires { IsSome (file_at place workspace.now) }
+    ensures { file_at place workspace.now ≡ Some (opened_in result.now) }
+{
+    match at(workspace.used(), place) {
+        Some(used) => file_of(used),
+        None => unreachable!(),
+    }
+}
+
+// Appends what a reply prints. The error: memory was refused, and nothing is appended.
+fn put_printed(reply: &Reply, printed: &mut Vec<u8>) -> Result<(), AllocError>
+    ensures ok { OnOk result (printed.new.items ≡ printed.old.items ++ printed_in reply.now) }
+    ensures err { OnErr result (printed.new.items ≡ printed.old.items) }
+{
+    if let Reply::Printed(text) = reply {
+        printed.extend_from_slice(text.as_slice())?;
+    }
+    Ok(())
+}
+
+// A command is refused, which is reported by its file.
+fn refuse<E: Sink>(run: &mut Run, place: usize, command: &str, refusal: Refusal, err: &mut E) -> Cut
+    requires { IsSome (file_at place run.old.workspace) }
+    ensures kinds { (result ≡ Cut.Whole) ⊎ (result ≡ Cut.Memory) }
+    ensures whole { result ≡ Cut.Whole → (refusal ≢ Refusal.Memory) }
+    ensures state { progress_in run.new ≡ record (progress_in run.old) { failed = true } }
+    ensures reported { (file : p.Opened) → file_at place run.old.workspace ≡ Some file
+        → ReportsLines E.Sink err.old err.new (reported_of file.name command.now (Err refusal)) }
+{
+    run.failed = true;
+    let name = open_file(&run.workspace, place).name.as_str();
+    report_refusal(err, name, command, refusal);
+    match refusal {
+        Refusal::Memory => Cut::Memory,
+        _ => Cut::Whole,
+    }
+}
+
+// Does an action in the open file of the package with this number: what it prints is kept, and a refusal is reported.
+fn act_at<E: Sink>(
+    run: &mut Run,
+    place: usize,
+    action: &Action<'_>,
+    command: &str,
+    err: &mut E,
+) -> Cut
+    requires { IsSome (file_at place run.old.workspace) }
+    ensures kinds { (result ≡ Cut.Whole) ⊎ (result ≡ Cut.Memory) }
+    ensures whole { result ≡ Cut.Whole → (file : p.Opened) × (answer : Answer) × (history : History) × (file_at place run.old.workspace ≡ Some file)
+        × Leads (action_in action.now) command.now file.history answer history × (progress_in run.new ≡ answered place file answer history (progress_in run.old))
+        × ReportsLines E.Sink err.old err.new (reported_of file.name command.now answer) }
+{
+    match run.workspace.act(place, action, command) {
+        Ok(reply) => match put_printed(&reply, &mut run.printed) {
+            Ok(()) => Cut::Whole,
+            Err(_) => refuse(run, place, command, Refusal::Memory, err),
+        },
+        Err(refusal) => refuse(run, place, command, refusal, err),
+    }
+}
+
+// Lists the texts of the open file of the package with this number.
+fn list_at<E: Sink>(alloc: Global, run: &mut Run, place: usize, command: &str, err: &mut E) -> Cut
+    requires { IsSome (file_at place run.old.workspace) }
+    ensures kinds { (result ≡ Cut.Whole) ⊎ (result ≡ Cut.Memory) }
+    ensures whole { result ≡ Cut.Whole → (file : p.Opened) × (file_at place run.old.workspace ≡ Some file)
+        × (progress_in run.new ≡ answered place file (Ok (Reply.Printed (listing file.history))) file.history (progress_in run.old))
+        × ReportsLines E.Sink err.old err.new [] }
+    ensures same { run.new.workspace ≡ run.old.workspace }
+{
+    let Ok(text) = open_file(&run.workspace, place).editor.listing(alloc) else {
+        return refuse(run, place, command, Refusal::Memory, err);
+    };
+    match put_printed(&Reply::Printed(text), &mut run.printed) {
+        Ok(()) => Cut::Whole,
+        Err(_) => refuse(run, place, command, Refusal::Memory, err),
+    }
+}
+
+// Whether journals are kept, and the file of the package with this number is left alone, since its journal and it could not both be
+// written in this run.
+fn is_left_at(journals: bool, workspace: &Workspace, place: usize) -> bool
+    requires { IsSome (file_at place workspace.now) }
+    ensures { result ≡ (journals && is_left_at place workspace.now) }
+{
+    journals && open_file(workspace, place).left
+}
+
+// The journal and the file of a package were not both replaced, which is reported.
+fn leave<E: Sink>(run: &mut Run, place: usize, fault: PairFault, err: &mut E) -> Cut
+    requires { IsSome (file_at place run.old.workspace) }
+    ensures state { progress_in run.new ≡ record (progress_in run.old) { failed = true } }
+    ensures cut { ((result ≡ Cut.Whole) × (fault ≡ PairFault.Changed)) ⊎ ((result ≡ Cut.Memory) × (fault ≡ PairFault.Memory))
+        ⊎ ((result ≡ Cut.Files) × ((fault ≡ PairFault.Write) ⊎ (fault ≡ PairFault.Open))) }
+{
+    run.failed = true;
+    let name = open_file(&run.workspace, place).name.as_str();
+    match fault {
+        PairFault::Memory => {
+            report_named(err, name, "Memory");
+            Cut::Memory
+        }
+        PairFault::Changed => {
+            report_named(err, name, "cannot write");
+            Cut::Whole
+        }
+        PairFault::Open | PairFault::Write => {
+            report_named(err, name, "cannot write");
+            Cut::Files
+        }
+    }
+}
+
+// Does an action in the open file of the package with this number, as `act_at` does, and keeps its journal and it.
+fn keep_at<F: Files, E: Sink>(
+    run: &mut Run,
+    place: usize,
+    action: &Action<'_>,
+    command: &str,
+    files: &mut F,
+    err: &mut E,
+) -> Cut
+    requires { IsSome (file_at place run.old.workspace) }
+    ensures whole { F.honest files.old ≡ true → AllAreKept (F.folder files.old) run.old.workspace → result ≡ Cut.Whole
+        → (file : p.Opened) × (answer : Answer) × (history : History) × (file_at place run.old.workspace ≡ Some file)
+        × Leads (action_in action.now) command.now file.history answer history
+        × FolderAfter answer file history (F.folder files.old) (F.folder files.new)
+        × (progress_in run.new ≡ state_after place file answer history (progress_in run.old))
+        × ReportsLines E.Sink err.old err.new (reported_of file.name command.now answer) }
+    ensures keeps { KeepsSome F.Files place (action_in action.now) command.now run.old.workspace run.new.workspace files.old files.new }
+    ensures works { WorksOn F.Files result files.old files.new }
+{
+    match run.workspace.keep(place, action, command, files) {
+        Ok(reply) => match put_printed(&reply, &mut run.printed) {
+            Ok(()) => Cut::Whole,
+            Err(_) => refuse(run, place, command, Refusal::Memory, err),
+        },
+        Err(KeepFault::Refused(refusal)) => refuse(run, place, command, refusal, err),
+        Err(KeepFault::Pair(fault)) => leave(run, place, fault, err),
+    }
+}
+
+// Does a command on a target in the open file of the package with this number, unless that is left alone; where journals are kept, its
+// journal and it are kept after an action.
+fn act_on<F: Files, E: Sink>(
+    alloc: Global,
+    journals: bool,
+    run: &mut Run,
+    place: usize,
+    target: &Target,
+    request: &Request<'_>,
+    files: &mut F,
+    err: &mut E,
+) -> Cut
+    requires { IsSome (file_at place run.old.workspace) }
+    ensures kinds { journals ≡ false → (result ≡ Cut.Whole) ⊎ (result ≡ Cut.Memory) }
+    ensures whole { journals ≡ false → result ≡ Cut.Whole → (lines : List (List ℕ))
+        × Answers (step_of target.now (request_in request.now)) place (file_at place run.old.workspace) (progress_in run.old) lines (progress_in run.new)
+        × ReportsLines E.Sink err.old err.new lines }
+    ensures still { journals ≡ false → files.new ≡ files.old }
+    ensures beside { journals ≡ true → F.honest files.old ≡ true → AllAreKept (F.folder files.old) run.old.workspace → result ≡ Cut.Whole
+        → (lines : List (List ℕ)) × AnswersBeside (step_of target.now (request_in request.now)) place (file_at place run.old.workspace)
+        (F.folder files.old) (progress_in run.old) lines (F.folder files.new) (progress_in run.new)
+        × ReportsLines E.Sink err.old err.new lines }
+    ensures keeps { journals ≡ true → KeepsStep F.Files (step_of target.now (request_in request.now)) place run.old.workspace run.new.workspace files.old files.new }
+    ensures left { journals ≡ true → is_left_at place run.old.workspace ≡ true
+        → (result ≡ Cut.Whole) × (files.new ≡ files.old) × (err.new ≡ err.old) × (progress_in run.new ≡ record (progress_in run.old) { failed = true }) }
+    ensures works { WorksOn F.Files result files.old files.new }
+{
+    if is_left_at(journals, &run.workspace, place) {
+        run.failed = true;
+        return Cut::Whole;
+    }
+    match action_of(&request.verb, target) {
+        None => list_at(alloc, run, place, request.text, err),
+        Some(action) => {
+            if journals {
+                keep_at(run, place, &action, request.text, files, err)
+            } else {
+                act_at(run, place, &action, request.text, err)
+            }
+        }
+    }
+}
+
+/// Does one step: opens its package, if that was not used before, and does its command there. Where journals are kept, that is done on
+/// the file and its journal.
+pub(crate) fn do_step<R: Source, F: Files, E: Sink>(
+    alloc: Global,
+    journals: bool,
+    run: &mut Run,
+    target: &Target,
+    request: &Request<'_>,
+    input: &mut R,
+    files: &mut F,
+    err: &mut E,
+) -> Cut
+    requires { HasPath target.now }
+    ensures { Proceeds journals (target.now.«package» ≡ input_package) (step_of target.now (request_in request.now) ∷ []) (λ world. Does world (step_of target.now (request_in request.now)))
+        (DoesBeside (step_of target.now (request_in request.now))) result
+        (spot R.Source F.Files E.Sink run.old input.old files.old err.old) (spot R.Source F.Files E.Sink run.new input.new files.new err.new) }
+{
+    let package = package_of(target);
+    let workspace = &mut run.workspace;
+    let opening = open_package(alloc, journals, workspace, package, input, files, err);
+    match opening.place {
+        Some(place) => first_cut(
+            opening.cut,
+            act_on(alloc, journals, run, place, target, request, files, err),
+        ),
+        None => {
+            run.failed = true;
+            opening.cut
+        }
+    }
+}

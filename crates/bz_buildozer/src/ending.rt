@@ -1,0 +1,273 @@
+//! What a run leaves after its steps.
+ghost use Rattle.std.specs.Prelude.{◌≡◌, ◌≢◌, ◌⊎◌, ◌++◌, [], ◌∷◌, ℕ, Some, None, true, false, map, option_map, if◌then◌else◌, IfOk, IfErr};
+ghost use Rattle.std.specs.List.{list_any};
+ghost use Rattle.bz_workspace.specs.Sessions.{present};
+ghost use Rattle.bz_streams.specs.Faults.{Rises};
+ghost use Rattle.bz_streams.specs.Outputs.{Counts};
+ghost use Rattle.bz_workspace.specs.Shown.{opened_in, used_in};
+ghost use Rattle.bz_buildozer.specs.Calls.{ReportsLines, PrintsAll, PrintsSome, WorksOn};
+ghost use Rattle.bz_buildozer.specs.Ending.{differs, has_changed, is_input, goes_out, text_out, texts_out, writing_of, all_writings, WritesFiles, fixed_of, all_fixed, fixed_lines, status_of};
+ghost use Rattle.bz_buildozer.specs.private.Shown.{progress_in};
+ghost use Rattle.bz_buildozer.specs.Reported.{fixed_line};
+
+use crate::run::Run;
+use crate::script::INPUT;
+use bz_files::Files;
+use bz_items::Memory;
+use bz_command_line::Options;
+use bz_streams::{Cut, Exit, Sink, first_cut, report, report_named, write_whole};
+use bz_workspace::{Opened, Used};
+use std::alloc::Global;
+
+const CHANGED: u8 = 0;
+
+/// The status of words that request nothing.
+pub(crate) const USAGE: u8 = 1;
+
+/// The status of a run of which a step or a port failed.
+pub(crate) const FAILED: u8 = 2;
+
+const SAME: u8 = 3;
+
+/// The name by which standard output is reported.
+const STDOUT: &str = "<stdout>";
+
+fn is_input(used: &Used) -> bool
+    ensures { result ≡ is_input (used_in used.now) }
+{
+    used.package.as_slice() == INPUT.as_bytes()
+}
+
+// Whether a text goes to standard output.
+fn goes_out(of_input: bool, shown: bool, to_stdout: bool, changed: bool) -> bool
+    ensures { result ≡ goes_out of_input shown to_stdout changed }
+{
+    if of_input {
+        shown
+    } else {
+        to_stdout && changed
+    }
+}
+
+// Appends what a package gives to standard output. Whether its text is another one than was read.
+fn put_text(used: &Used, shown: bool, to_stdout: bool, output: &mut Vec<u8>) -> Result<bool, Memory>
+    ensures { IfOk result (λ changed. (changed ≡ has_changed (used_in used.now))
+        × (output.new.items ≡ output.old.items ++ text_out shown to_stdout (used_in used.now))) }
+{
+    let Some(file) = &used.file else {
+        return Ok(false);
+    };
+    let start = output.len();
+    file.editor.text_into(output)?;
+    let changed = &output[start..] != file.read.as_slice();
+    if !goes_out(is_input(used), shown, to_stdout, changed) {
+        output.truncate(start);
+    }
+    Ok(changed)
+}
+
+// Appends what the packages give to standard output, in order. Whether some text is another one than was read.
+fn put_texts(
+    packages: &[Used],
+    shown: bool,
+    to_stdout: bool,
+    output: &mut Vec<u8>,
+) -> Result<bool, Memory>
+    ensures { IfOk result (λ changed. (changed ≡ list_any has_changed (map used_in packages.now))
+        × (output.new.items ≡ output.old.items ++ texts_out shown to_stdout (map used_in packages.now))) }
+{
+    let mut changed = false;
+    for used in packages {
+        if put_text(used, shown, to_stdout, output)? {
+            changed = true;
+        }
+    }
+    Ok(changed)
+}
+
+// Writes what was printed, and the texts after it. Whether some text is another one than was read. The error, which is
+// reported: memory was refused, and nothing is written; or standard output failed.
+fn print_all<W: Sink, E: Sink>(
+    packages: &[Used],
+    shown: bool,
+    to_stdout: bool,
+    printed: Vec<u8>,
+    out: &mut W,
+    err: &mut E,
+) -> Result<bool, Cut>
+    ensures ok { IfOk result (λ changed. (changed ≡ list_any has_changed (map used_in packages.now))
+        × PrintsAll W.Sink out.old out.new (printed.items ++ texts_out shown to_stdout (map used_in packages.now))
+        × (W.faults out.new ≡ W.faults out.old) × (err.new ≡ err.old)) }
+    ensures err { IfErr result (λ cut. ((cut ≡ Cut.Memory) × (out.new ≡ out.old)) ⊎ ((cut ≡ Cut.Write)
+        × PrintsSome W.Sink out.old out.new (printed.items ++ texts_out shown to_stdout (map used_in packages.now))
+        × Rises (W.faults out.old) (W.faults out.new))) }
+    ensures output { PrintsSome W.Sink out.old out.new (printed.items ++ texts_out shown to_stdout (map used_in packages.now)) }
+{
+    let mut output = printed;
+    let Ok(changed) = put_texts(packages, shown, to_stdout, &mut output) else {
+        report_named(err, STDOUT, "Memory");
+        return Err(Cut::Memory);
+    };
+    match write_whole(out, &output) {
+        Ok(()) => Ok(changed),
+        Err(_) => {
+            report_named(err, STDOUT, "cannot write");
+            Err(Cut::Write)
+        }
+    }
+}
+
+// The text of a file at the end, where it is another one than was read. The error: memory was refused.
+fn new_text(alloc: Global, file: &Opened) -> Result<Option<Vec<u8>>, Memory>
+    ensures { IfOk result (λ new. option_map (λ text. text.items) new
+        ≡ (if differs (opened_in file.now) then Some (present (opened_in file.now).history) else None)) }
+{
+    let mut text = Vec::new(alloc);
+    file.editor.text_into(&mut text)?;
+    if text.as_slice() == file.read.as_slice() {
+        Ok(None)
+    } else {
+        Ok(Some(text))
+    }
+}
+
+// Reports that a file was written, unless the run is quiet.
+fn report_written<E: Sink>(quiet: bool, name: &str, err: &mut E)
+    ensures { ReportsLines E.Sink err.old err.new (if quiet then [] else fixed_line name.now ∷ []) }
+{
+    if !quiet {
+        report(err, &["fixed ", name, "\n"]);
+    }
+}
+
+// Writes the file of a package, where it changed and is to be written. With its journal it was written before, which is reported.
+fn write_file<F: Files, E: Sink>(
+    alloc: Global,
+    options: Options,
+    used: &Used,
+    files: &mut F,
+    err: &mut E,
+) -> Cut
+    ensures reported { result ≡ Cut.Whole → ReportsLines E.Sink err.old err.new
+        (fixed_lines options.quiet (fixed_of options.journal options.to_stdout (used_in used.now))) }
+    ensures writes { options.journal ≡ false → (F.honest files.old ≡ true) ⊎ (writing_of options.to_stdout (used_in used.now) ≡ []) → result ≡ Cut.Whole
+        → WritesFiles (writing_of options.to_stdout (used_in used.now)) (F.folder files.old) (F.folder files.new) }
+    ensures kept { options.journal ≡ true → files.new ≡ files.old }
+    ensures works { WorksOn F.Files result files.old files.new }
+{
+    let Some(file) = &used.file else {
+        return Cut::Whole;
+    };
+    let name = file.name.as_str();
+    if options.journal {
+        if file.written {
+            report_written(options.quiet, name, err);
+        }
+        return Cut::Whole;
+    }
+    if options.to_stdout || is_input(used) {
+        return Cut::Whole;
+    }
+    match new_text(alloc, file) {
+        Ok(Some(text)) => match files.rewrite(name, file.read.as_slice(), &text) {
+            Ok(()) => {
+                report_written(options.quiet, name, err);
+                Cut::Whole
+            }
+            Err(_) => {
+                report_named(err, name, "cannot write");
+                Cut::Files
+            }
+        },
+        Ok(None) => Cut::Whole,
+        Err(_) => {
+            report_named(err, name, "Memory");
+            Cut::Memory
+        }
+    }
+}
+
+// Writes the files that changed, in order; each is tried. With journals they were written before, which is reported.
+fn write_files<F: Files, E: Sink>(
+    alloc: Global,
+    options: Options,
+    packages: &[Used],
+    files: &mut F,
+    err: &mut E,
+) -> Cut
+    ensures reported { result ≡ Cut.Whole → ReportsLines E.Sink err.old err.new
+        (fixed_lines options.quiet (all_fixed options.journal options.to_stdout (map used_in packages.now))) }
+    ensures writes { options.journal ≡ false → (F.honest files.old ≡ true) ⊎ (all_writings options.to_stdout (map used_in packages.now) ≡ []) → result ≡ Cut.Whole
+        → WritesFiles (all_writings options.to_stdout (map used_in packages.now)) (F.folder files.old) (F.folder files.new) }
+    ensures kept { options.journal ≡ true → files.new ≡ files.old }
+    ensures works { WorksOn F.Files result files.old files.new }
+{
+    let mut cut = Cut::Whole;
+    for used in packages {
+        let later = write_file(alloc, options, used, files, err);
+        cut = first_cut(cut, later);
+    }
+    cut
+}
+
+fn ended(failed: bool, changed: bool, cut: Cut) -> Exit
+    ensures cut { result.cut ≡ cut }
+    ensures failed { cut ≢ Cut.Whole → result.status ≡ 2 }
+    ensures whole { cut ≡ Cut.Whole → result.status ≡ (if failed then 2 else (if changed then 0 else 3)) }
+    ensures used { result.status ≢ 1 }
+{
+    let status = if failed || cut != Cut::Whole {
+        FAILED
+    } else if changed {
+        CHANGED
+    } else {
+        SAME
+    };
+    Exit { status, cut }
+}
+
+/// Ends a run that this failure cut, if one did: standard output is given what was printed and the texts after it, and
+/// the files that changed are written, each where it still holds what was read of it; with their journals they were written before, which is
+/// reported. A failure is reported, and what is left is done all the same. Of two failures it is that of the files which cuts the run.
+pub(crate) fn finish<W: Sink, F: Files, E: Sink>(
+    alloc: Global,
+    options: Options,
+    shown: bool,
+    run: Run,
+    cut: Cut,
+    out: &mut W,
+    files: &mut F,
+    err: &mut E,
+) -> Exit
+    ensures whole { result.cut ≡ Cut.Whole → (cut ≡ Cut.Whole) × (result.status ≡ status_of (progress_in run))
+        × PrintsAll W.Sink out.old out.new ((progress_in run).printed ++ texts_out shown options.to_stdout (progress_in run).used)
+        × (W.faults out.new ≡ W.faults out.old) × (F.faults files.new ≡ F.faults files.old)
+        × ReportsLines E.Sink err.old err.new (fixed_lines options.quiet (all_fixed options.journal options.to_stdout (progress_in run).used)) }
+    ensures writes { options.journal ≡ false → (F.honest files.old ≡ true) ⊎ (all_writings options.to_stdout (progress_in run).used ≡ [])
+        → cut ≡ Cut.Whole → (result.cut ≡ Cut.Whole) ⊎ (result.cut ≡ Cut.Write)
+        → WritesFiles (all_writings options.to_stdout (progress_in run).used) (F.folder files.old) (F.folder files.new) }
+    ensures kept { options.journal ≡ true → files.new ≡ files.old }
+    ensures status { result.cut ≢ Cut.Whole → result.status ≡ 2 }
+    ensures used { result.status ≢ 1 }
+    ensures write { result.cut ≡ Cut.Write → cut ≢ Cut.Write → (cut ≡ Cut.Whole)
+        × PrintsSome W.Sink out.old out.new ((progress_in run).printed ++ texts_out shown options.to_stdout (progress_in run).used)
+        × Rises (W.faults out.old) (W.faults out.new) }
+    ensures output { PrintsSome W.Sink out.old out.new ((progress_in run).printed ++ texts_out shown options.to_stdout (progress_in run).used) }
+    ensures cause { (result.cut ≡ cut) ⊎ ((cut ≡ Cut.Whole) × ((result.cut ≡ Cut.Memory) ⊎ (result.cut ≡ Cut.Write)
+        ⊎ ((result.cut ≡ Cut.Files) × Rises (F.faults files.old) (F.faults files.new)))) }
+    ensures counts { Counts (F.faults files.old) (F.faults files.new) }
+    ensures honest { F.honest files.new ≡ F.honest files.old }
+{
+    let Run {
+        workspace,
+        printed,
+        failed,
+    } = run;
+    let packages = workspace.used();
+    let output = print_all(packages, shown, options.to_stdout, printed, out, err);
+    let written = write_files(alloc, options, packages, files, err);
+    match output {
+        Ok(changed) => ended(failed, changed, first_cut(cut, written)),
+        Err(later) => ended(failed, true, first_cut(cut, first_cut(written, later))),
+    }
+}

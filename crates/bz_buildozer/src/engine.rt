@@ -1,0 +1,289 @@
+//! The program buildozer over any reader, writers and files.
+ghost use Rattle.std.specs.Prelude.{bytes_eq, ◌≡◌, ◌≢◌, ◌⊎◌, ◌&&◌, ◌∷◌, [], List, ℕ, Option, true, map, Some, Ok, IfOk};
+ghost use Rattle.std.specs.List.{All};
+ghost use Rattle.bz_files.specs.Folder.{Folder};
+ghost use Rattle.bz_command_line.specs.Requested as a;
+ghost use Rattle.bz_command_line.specs.Line.{command_line_of};
+ghost use Rattle.bz_command_line.specs.Line.{operands as words_given, script};
+ghost use Rattle.bz_command_line.specs.Paths.{HasPath};
+ghost use Rattle.bz_command_line.specs.Script.{script_of};
+ghost use Rattle.bz_command_line.specs.Shown.{requested_in};
+ghost use Rattle.bz_workspace.specs.Keeps.{KeepsFolder};
+ghost use Rattle.bz_buildozer.specs.Calls.{ReportsLines, PrintsAll, PrintsSome, IsStill, ReadsNothing, world_with, world_of, PassesBy, IsEndedOver, LeavesAfter};
+ghost use Rattle.bz_buildozer.specs.Ending.{Left};
+ghost use Rattle.bz_buildozer.specs.Moments.{IsMomentOfRun, IsMomentOfSteps};
+ghost use Rattle.bz_buildozer.specs.Outcome.{LinesLeave, WordsOutcome, OperandsOutcome, TextOutcome, ScriptOutcome, AreOfInput, AreOfInputAndSome, IsOfInput, GivesNothing, KeepsJournals, LineGivesNothing, NamesNoFile, TakesNoFile, TakesNoInput, TakesScript};
+ghost use Rattle.bz_buildozer.specs.Steps.{all_steps, input_package, names_input};
+ghost use Rattle.bz_buildozer.specs.Reported.{no_journal_line};
+ghost use Rattle.bz_buildozer.specs.Usage.{OperandsReport, TextReports, GivenReports, LineReports};
+
+use crate::ending::finish;
+use crate::run::begun;
+use crate::running::run_lines;
+use crate::script::{INPUT, read_bytes, reported_name};
+use crate::step::{names_input, shows_input};
+use crate::reported::{UNUSED, report_input, report_line_usage, report_no_journal, report_unread, report_usage};
+use bz_files::Files;
+use bz_command_line::{Requested, Given, Options, read_group, read_line, read_script};
+use bz_streams::{Cut, Exit, Sink, Source, report_fault};
+use bz_grammar::ReadFault;
+use std::alloc::Global;
+use std::convert::AsStr;
+use std::slice::from_ref;
+
+// Whether rules of standard input are meant where journals are kept: it has none.
+fn lacks_journal(options: Options, lines: &[Requested<'_>]) -> bool
+    ensures { result ≡ (options.journal && names_input (map requested_in lines.now)) }
+{
+    options.journal && names_input(lines)
+}
+
+// Does what lines request, on files alone or with their journals, and ends the run; unless that needs a journal of standard input.
+fn perform<R: Source, W: Sink, E: Sink, F: Files>(
+    alloc: Global,
+    options: Options,
+    lines: &[Requested<'_>],
+    input: &mut R,
+    out: &mut W,
+    err: &mut E,
+    files: &mut F,
+) -> Exit
+    requires { All (λ requested. All HasPath requested.targets.items) lines.now }
+    ensures whole { (F.honest files.old ≡ true) ⊎ AreOfInputAndSome (map requested_in lines.now)
+        → result.cut ≡ Cut.Whole → (left : Left)
+        × LinesLeave options (map requested_in lines.now) (world_of R.Source F.Files input.old files.old) left
+        × LeavesAfter W.Sink E.Sink F.Files left result.status out.old out.new err.old err.new files.new }
+    ensures write { (F.honest files.old ≡ true) ⊎ AreOfInputAndSome (map requested_in lines.now)
+        → result.cut ≡ Cut.Write → (left : Left)
+        × LinesLeave options (map requested_in lines.now) (world_of R.Source F.Files input.old files.old) left
+        × PrintsSome W.Sink out.old out.new left.output × (F.folder files.new ≡ left.folder) }
+    ensures unread { options.journal ≡ true → names_input (map requested_in lines.now) ≡ true → (input.new ≡ input.old) × (out.new ≡ out.old) × (files.new ≡ files.old) }
+    ensures reads_nothing { options.journal ≡ true → ReadsNothing R.Source result.cut input.old input.new }
+    ensures unused { result.status ≡ 1 → (input.new ≡ input.old) × (out.new ≡ out.old) × (files.new ≡ files.old) }
+    ensures usage { result.status ≡ 1 → (options.journal ≡ true) × (names_input (map requested_in lines.now) ≡ true)
+        × ReportsLines E.Sink err.old err.new (no_journal_line ∷ []) }
+    ensures read { AreOfInput (map requested_in lines.now) → result.cut ≡ Cut.Read → PrintsAll W.Sink out.old out.new [] }
+    ensures moments { options.journal ≡ true → F.honest files.old ≡ true
+        → PassesBy F.Files (IsMomentOfSteps (F.folder files.old) (all_steps (map requested_in lines.now)) []) files.old files.new }
+    ensures sound { R.sound input.old ≡ true → result.cut ≢ Cut.Read }
+    ensures status { result.cut ≢ Cut.Whole → result.status ≡ 2 }
+    ensures ended { IsEndedOver R.Source W.Sink F.Files result.cut input.old input.new out.old out.new files.old files.new }
+    ensures honest { F.honest files.new ≡ F.honest files.old }
+{
+    if lacks_journal(options, lines) {
+        report_no_journal(err);
+        return UNUSED;
+    }
+    let mut run = begun(alloc);
+    let cut = run_lines(alloc, options, lines, &mut run, input, files, err);
+    let shown = shows_input(lines);
+    finish(alloc, options, shown, run, cut, out, files, err)
+}
+
+// Operands among the words.
+fn run_operands<R: Source, W: Sink, E: Sink, F: Files>(
+    alloc: Global,
+    options: Options,
+    operands: &[&str],
+    input: &mut R,
+    out: &mut W,
+    err: &mut E,
+    files: &mut F,
+) -> Exit
+    ensures whole { (F.honest files.old ≡ true) ⊎ IsOfInput (words_given (map (λ s. s.now) operands.now))
+        → result.cut ≡ Cut.Whole → (left : Left)
+        × OperandsOutcome options (map (λ s. s.now) operands.now) (world_of R.Source F.Files input.old files.old) left
+        × LeavesAfter W.Sink E.Sink F.Files left result.status out.old out.new err.old err.new files.new }
+    ensures write { (F.honest files.old ≡ true) ⊎ IsOfInput (words_given (map (λ s. s.now) operands.now))
+        → result.cut ≡ Cut.Write → (left : Left)
+        × OperandsOutcome options (map (λ s. s.now) operands.now) (world_of R.Source F.Files input.old files.old) left
+        × PrintsSome W.Sink out.old out.new left.output × (F.folder files.new ≡ left.folder) }
+    ensures unread { GivesNothing options (words_given (map (λ s. s.now) operands.now)) → (input.new ≡ input.old) × (out.new ≡ out.old) × (files.new ≡ files.old) }
+    ensures unused { result.status ≡ 1 → (input.new ≡ input.old) × (out.new ≡ out.old) × (files.new ≡ files.old) }
+    ensures usage { result.status ≡ 1 → (line : List ℕ) × OperandsReport options (map (λ s. s.now) operands.now) line
+        × ReportsLines E.Sink err.old err.new (line ∷ []) }
+    ensures unread_kept { options.journal ≡ true → IsStill R.Source input.old input.new }
+    ensures read { IsOfInput (words_given (map (λ s. s.now) operands.now)) → result.cut ≡ Cut.Read → PrintsAll W.Sink out.old out.new [] }
+    ensures moments { options.journal ≡ true → F.honest files.old ≡ true
+        → PassesBy F.Files (IsMomentOfRun (world_of R.Source F.Files input.old files.old) (words_given (map (λ s. s.now) operands.now))) files.old files.new }
+    ensures sound { R.sound input.old ≡ true → result.cut ≢ Cut.Read }
+    ensures status { result.cut ≢ Cut.Whole → result.status ≡ 2 }
+    ensures ended { IsEndedOver R.Source W.Sink F.Files result.cut input.old input.new out.old out.new files.old files.new }
+    ensures honest { F.honest files.new ≡ F.honest files.old }
+{
+    match read_group(alloc, operands) {
+        Ok(requested) => perform(alloc, options, from_ref(&requested), input, out, err, files),
+        Err(fault) => report_usage(alloc, err, "", &fault),
+    }
+}
+
+// Whether rules of standard input are meant where the lines are read from there.
+fn edits_input(name: &str, lines: &[Requested<'_>]) -> bool
+    ensures { result ≡ (bytes_eq name.now input_package && names_input (map requested_in lines.now)) }
+{
+    name == INPUT && names_input(lines)
+}
+
+// What a text of lines by this name requests.
+fn run_text<R: Source, W: Sink, E: Sink, F: Files>(
+    alloc: Global,
+    options: Options,
+    name: &str,
+    bytes: &[u8],
+    input: &mut R,
+    out: &mut W,
+    err: &mut E,
+    files: &mut F,
+) -> Exit
+    ensures whole { F.honest files.old ≡ true → result.cut ≡ Cut.Whole
+        → (known : Option (List ℕ)) → (name.now ≢ input_package → known ≡ R.remaining input.old)
+        → (left : Left) × TextOutcome options name.now (Some bytes.now) (world_with F.Files files.old known) left
+        × LeavesAfter W.Sink E.Sink F.Files left result.status out.old out.new err.old err.new files.new }
+    ensures write { F.honest files.old ≡ true → result.cut ≡ Cut.Write
+        → (known : Option (List ℕ)) → (name.now ≢ input_package → known ≡ R.remaining input.old)
+        → (left : Left) × TextOutcome options name.now (Some bytes.now) (world_with F.Files files.old known) left
+        × PrintsSome W.Sink out.old out.new left.output × (F.folder files.new ≡ left.folder) }
+    ensures unused { result.status ≡ 1 → (input.new ≡ input.old) × (out.new ≡ out.old) × (files.new ≡ files.old) }
+    ensures usage { result.status ≡ 1 → (line : List ℕ) × TextReports options name.now (Some bytes.now) line
+        × ReportsLines E.Sink err.old err.new (line ∷ []) }
+    ensures unread_kept { options.journal ≡ true → IsStill R.Source input.old input.new }
+    ensures moments { options.journal ≡ true → F.honest files.old ≡ true → PassesBy F.Files (λ now. (lines : List a.Requested)
+        × (script_of bytes.now ≡ Ok lines) × IsMomentOfSteps (F.folder files.old) (all_steps lines) [] now) files.old files.new }
+    ensures sound { R.sound input.old ≡ true → result.cut ≢ Cut.Read }
+    ensures status { result.cut ≢ Cut.Whole → result.status ≡ 2 }
+    ensures ended { IsEndedOver R.Source W.Sink F.Files result.cut input.old input.new out.old out.new files.old files.new }
+    ensures honest { F.honest files.new ≡ F.honest files.old }
+{
+    let text = match str::from_utf8(bytes) {
+        Ok(text) => text,
+        Err(fault) => {
+            let at = fault.valid_up_to();
+            report_fault(err, reported_name(name), &ReadFault::NotUtf8 { at });
+            return UNUSED;
+        }
+    };
+    let lines = match read_script(alloc, text) {
+        Ok(lines) => lines,
+        Err(fault) => return report_usage(alloc, err, reported_name(name), &fault),
+    };
+    let lines = lines.as_slice();
+    if edits_input(name, lines) {
+        report_input(err);
+        return UNUSED;
+    }
+    perform(alloc, options, lines, input, out, err, files)
+}
+
+// A file of lines.
+fn run_script<R: Source, W: Sink, E: Sink, F: Files>(
+    alloc: Global,
+    options: Options,
+    name: &str,
+    input: &mut R,
+    out: &mut W,
+    err: &mut E,
+    files: &mut F,
+) -> Exit
+    ensures whole { F.honest files.old ≡ true → result.cut ≡ Cut.Whole → (left : Left)
+        × ScriptOutcome options name.now (world_of R.Source F.Files input.old files.old) left
+        × LeavesAfter W.Sink E.Sink F.Files left result.status out.old out.new err.old err.new files.new }
+    ensures write { F.honest files.old ≡ true → result.cut ≡ Cut.Write → (left : Left)
+        × ScriptOutcome options name.now (world_of R.Source F.Files input.old files.old) left
+        × PrintsSome W.Sink out.old out.new left.output × (F.folder files.new ≡ left.folder) }
+    ensures unused { result.status ≡ 1 → out.new ≡ out.old }
+    ensures unused_input { result.status ≡ 1 → name.now ≢ input_package → input.new ≡ input.old }
+    ensures unused_files { result.status ≡ 1 → name.now ≡ input_package → files.new ≡ files.old }
+    ensures unused_time { result.status ≡ 1 → F.honest files.old ≡ true → KeepsFolder F.Files files.old files.new }
+    ensures usage { result.status ≡ 1 → result.cut ≡ Cut.Whole → (line : List ℕ)
+        × GivenReports (F.honest files.old) (world_of R.Source F.Files input.old files.old) options (script name.now) line
+        × ReportsLines E.Sink err.old err.new (line ∷ []) }
+    ensures unread_kept { options.journal ≡ true → name.now ≢ input_package → IsStill R.Source input.old input.new }
+    ensures moments { options.journal ≡ true → F.honest files.old ≡ true
+        → PassesBy F.Files (IsMomentOfRun (world_of R.Source F.Files input.old files.old) (script name.now)) files.old files.new }
+    ensures sound { R.sound input.old ≡ true → result.cut ≢ Cut.Read }
+    ensures status { result.cut ≢ Cut.Whole → (result.status ≡ 2) ⊎ (result.status ≡ 1) }
+    ensures ended { IsEndedOver R.Source W.Sink F.Files result.cut input.old input.new out.old out.new files.old files.new }
+    ensures honest { F.honest files.new ≡ F.honest files.old }
+{
+    match read_bytes(alloc, name, input, files) {
+        Ok(bytes) => run_text(alloc, options, name, &bytes, input, out, err, files),
+        Err(cut) => report_unread(err, reported_name(name), cut),
+    }
+}
+
+/// Reads the words of a line, and does what they or a file of lines request, up to the first step that fails; with `-k`
+/// all steps. A package's file is read where it is used first. After the last step `out` is given what commands printed,
+/// then the text of standard input, unless each command on it prints, and with `--stdout` the text of each file that
+/// changed; without it those files are written, each where it still holds what was read of it, and reported by a line on `err`
+/// unless `--quiet` was given. With `--journal` each action that changes a text replaces FILE.journal and then the file, and what is
+/// reported at the end is which files were written. Statuses: 1 where the words or lines request nothing, or the file of lines was not read
+/// (nothing is then done); else 2 where a step or a port failed or memory was refused; else 0 where some text at the end is
+/// another one than was read; else 3. Each fault is reported by a line on `err`, whose own faults are passed over.
+pub fn buildozer<S: AsStr, R: Source, W: Sink, E: Sink, F: Files>(
+    alloc: Global,
+    words: &[S],
+    input: &mut R,
+    out: &mut W,
+    err: &mut E,
+    files: &mut F,
+) -> Exit
+    // Where the files are honest, or none is named, a whole run leaves what the words, the bytes of standard input and the folder
+    // mean, without journals as with them.
+    ensures whole { (F.honest files.old ≡ true) ⊎ NamesNoFile (map S.text words.now)
+        → result.cut ≡ Cut.Whole → (left : Left)
+        × WordsOutcome (map S.text words.now) (world_of R.Source F.Files input.old files.old) left
+        × LeavesAfter W.Sink E.Sink F.Files left result.status out.old out.new err.old err.new files.new }
+
+    // Where standard output fails, a beginning of what it is to be given is there, and the files are as a whole run leaves them.
+    ensures write { (F.honest files.old ≡ true) ⊎ NamesNoFile (map S.text words.now)
+        → result.cut ≡ Cut.Write → (left : Left)
+        × WordsOutcome (map S.text words.now) (world_of R.Source F.Files input.old files.old) left
+        × PrintsSome W.Sink out.old out.new left.output × (F.folder files.new ≡ left.folder) }
+
+    // Words that request nothing leave the input, the output and the files as they were.
+    ensures unread { LineGivesNothing (command_line_of (map S.text words.now)) → (input.new ≡ input.old) × (out.new ≡ out.old) × (files.new ≡ files.old) }
+
+    // A run of status 1 that no port cut says in one line why, with journals as without: of operands the first one that is refused.
+    ensures usage { result.status ≡ 1 → result.cut ≡ Cut.Whole → (line : List ℕ)
+        × LineReports (F.honest files.old) (world_of R.Source F.Files input.old files.old) (command_line_of (map S.text words.now)) line
+        × ReportsLines E.Sink err.old err.new (line ∷ []) }
+
+    // A run of status 1 leaves the output as it was. So it leaves the input, unless lines are in it, and the files, unless lines
+    // are in one; then these are no more than read, and a folder of honest ones is the same at each moment.
+    ensures unused { result.status ≡ 1 → out.new ≡ out.old }
+    ensures unused_input { result.status ≡ 1 → TakesNoInput (map S.text words.now) → input.new ≡ input.old }
+    ensures unused_files { result.status ≡ 1 → TakesNoFile (map S.text words.now) → files.new ≡ files.old }
+    ensures unused_time { result.status ≡ 1 → F.honest files.old ≡ true → KeepsFolder F.Files files.old files.new }
+
+    // Where standard input can't be read, and no file and no package but it is named, nothing is written to standard output.
+    ensures read { NamesNoFile (map S.text words.now) → result.cut ≡ Cut.Read → PrintsAll W.Sink out.old out.new [] }
+
+    // A run with journals reads nothing of standard input, unless lines are in it.
+    ensures unread_kept { KeepsJournals (map S.text words.now) → TakesNoInput (map S.text words.now) → IsStill R.Source input.old input.new }
+
+    // Whatever cuts or stops a run with journals, each folder since it began is one at a moment of its steps: each file that it has open
+    // goes on with the texts that its history has at that step or at the one before, and other names are as they were.
+    ensures moments { F.honest files.old ≡ true → IfOk (command_line_of (map S.text words.now)) (λ line. line.options.journal ≡ true
+        → (now : Folder) → F.since files.new (F.moment files.old) now → IsMomentOfRun (world_of R.Source F.Files input.old files.old) line.given now) }
+
+    // Where standard input never fails, it cuts no run.
+    ensures sound { R.sound input.old ≡ true → result.cut ≢ Cut.Read }
+
+    // Without a file of lines each run that is cut has status 2.
+    ensures status { result.cut ≢ Cut.Whole → (result.status ≡ 2) ⊎ ((result.status ≡ 1) × TakesScript (map S.text words.now)) }
+
+    // A run is cut by a port that counted a fault; where none did it is whole, or wants memory.
+    ensures ended { IsEndedOver R.Source W.Sink F.Files result.cut input.old input.new out.old out.new files.old files.new }
+    ensures honest { F.honest files.new ≡ F.honest files.old }
+{
+    let line = match read_line(alloc, words) {
+        Ok(line) => line,
+        Err(fault) => return report_line_usage(alloc, err, &fault),
+    };
+    match &line.given {
+        Given::Operands(operands) => {
+            run_operands(alloc, line.options, operands, input, out, err, files)
+        }
+        Given::Script(name) => run_script(alloc, line.options, name, input, out, err, files),
+    }
+}

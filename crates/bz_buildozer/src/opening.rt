@@ -1,0 +1,105 @@
+//! The package of a step.
+ghost use Rattle.std.specs.Prelude.{◌≡◌, ◌≢◌, ◌⊎◌, ◌≤◌, ◌++◌, [], ◌∷◌, ℕ, List, Option, Some, None, true, false, length, option_map, IfSome, IsSome};
+ghost use Rattle.bz_streams.specs.Outputs.{Counts};
+ghost use Rattle.bz_streams.specs.Reported.{stdin};
+ghost use Rattle.bz_workspace.specs.Keeps.{KeepsFolder};
+ghost use Rattle.bz_workspace.specs.Opens.{Opens};
+ghost use Rattle.bz_workspace.specs.Packages.{Opened, package_number, file_at};
+ghost use Rattle.bz_buildozer.specs.Calls.{ReportsLines, ReadsNothing, UsesSome, world_with, AreCutOver};
+ghost use Rattle.bz_buildozer.specs.Cuts.{AreCutBy, IsLeft, OpensInput};
+ghost use Rattle.bz_buildozer.specs.Keeping.{UsesBeside};
+ghost use Rattle.bz_buildozer.specs.Run.{Uses};
+ghost use Rattle.bz_streams.specs.Ports.{IsInput};
+ghost use Rattle.bz_buildozer.specs.Steps.{input_package};
+
+use crate::script::INPUT;
+use bz_files::Files;
+use bz_streams::{Cut, InputFault, MOST, STDIN, Sink, Source, read_most, report_named};
+use bz_workspace::{Opening, Workspace};
+use std::alloc::Global;
+
+// Standard input was not read, which is reported.
+fn refused_opening<E: Sink>(err: &mut E, word: &str, cut: Cut) -> Opening
+    ensures { result ≡ record { place = None; cut = cut } }
+{
+    report_named(err, STDIN, word);
+    Opening { place: None, cut }
+}
+
+// Reads and opens standard input. It is kept as used first, so that it is not read a second time.
+fn open_input<R: Source, E: Sink>(
+    alloc: Global,
+    workspace: &mut Workspace,
+    input: &mut R,
+    err: &mut E,
+) -> Opening
+    requires { package_number input_package workspace.old ≡ None }
+    ensures whole { result.cut ≡ Cut.Whole → (text : List ℕ) × (file : Option Opened) × (lines : List (List ℕ)) × IsInput (R.remaining input.old) text
+        × Opens input_package (Some (stdin, text)) file lines × (workspace.new ≡ workspace.old ++ record { «package» = input_package; file = file } ∷ [])
+        × (result.place ≡ option_map (λ _. length workspace.old) file)
+        × ReportsLines E.Sink err.old err.new lines }
+    ensures there { IfSome result.place (λ at. IsSome (file_at at workspace.new)) }
+    ensures failed { result.cut ≡ Cut.Read → (result.place ≡ None) × (workspace.new ≡ workspace.old ++ record { «package» = input_package; file = None } ∷ []) }
+    ensures works { R.sound input.old ≡ true → result.cut ≢ Cut.Read }
+    ensures sound { R.sound input.new ≡ R.sound input.old }
+    ensures cut { (files : ℕ) → AreCutBy result.cut (R.faults input.old) (R.faults input.new) files files }
+    ensures read_faults { Counts (R.faults input.old) (R.faults input.new) }
+{
+    let Ok(place) = workspace.add(INPUT.as_bytes()) else {
+        return refused_opening(err, "Memory", Cut::Memory);
+    };
+    match read_most(alloc, input, MOST) {
+        Ok(text) => workspace.open_text(place, INPUT, STDIN, text, err),
+        Err(InputFault::Read) => refused_opening(err, "cannot open", Cut::Read),
+        Err(InputFault::Memory) => refused_opening(err, "Memory", Cut::Memory),
+    }
+}
+
+// Whether standard input is to be read: no journals are kept, the package means it, and was not used before.
+fn wants_input(journals: bool, workspace: &Workspace, package: &str) -> bool
+    ensures yes { result ≡ true → (journals ≡ false) × («package».now ≡ input_package) × (package_number input_package workspace.now ≡ None) }
+    ensures other { result ≡ false → journals ≡ false → «package».now ≡ input_package → package_number input_package workspace.now ≡ None → ⊥ }
+{
+    !journals && package == INPUT && workspace.place(INPUT.as_bytes()).is_none()
+}
+
+/// The open file of a package, which is read where it is used first, and its journal with it where journals are kept; standard
+/// input has none, and isn't read then. Where there is no file, that was reported at its first use.
+pub(crate) fn open_package<R: Source, F: Files, E: Sink>(
+    alloc: Global,
+    journals: bool,
+    workspace: &mut Workspace,
+    package: &str,
+    input: &mut R,
+    files: &mut F,
+    err: &mut E,
+) -> Opening
+    requires { length «package».now ≤ 65536 }
+    ensures uses { journals ≡ false → (F.honest files.old ≡ true) ⊎ («package».now ≡ input_package) → result.cut ≡ Cut.Whole → (known : Option (List ℕ))
+        → IsLeft known workspace.old (R.remaining input.old) → (place : ℕ) × (lines : List (List ℕ))
+        × Uses (world_with F.Files files.old known) «package».now workspace.old place lines workspace.new
+        × (result.place ≡ option_map (λ _. place) (file_at place workspace.new)) × IsLeft known workspace.new (R.remaining input.new)
+        × ReportsLines E.Sink err.old err.new lines }
+    ensures beside { journals ≡ true → F.honest files.old ≡ true → result.cut ≡ Cut.Whole → (place : ℕ) × (lines : List (List ℕ))
+        × UsesBeside (F.folder files.old) «package».now workspace.old place lines workspace.new
+        × (result.place ≡ option_map (λ _. place) (file_at place workspace.new))
+        × ReportsLines E.Sink err.old err.new lines }
+    ensures some { journals ≡ true → F.honest files.old ≡ true → UsesSome (F.folder files.old) «package».now result.place workspace.old workspace.new }
+    ensures time { journals ≡ true → F.honest files.old ≡ true → KeepsFolder F.Files files.old files.new }
+    ensures kept { journals ≡ true → F.honest files.old ≡ true → F.folder files.new ≡ F.folder files.old }
+    ensures there { IfSome result.place (λ at. IsSome (file_at at workspace.new)) }
+    ensures folder { journals ≡ false → (F.honest files.old ≡ true) ⊎ («package».now ≡ input_package) → F.folder files.new ≡ F.folder files.old }
+    ensures input { journals ≡ false → «package».now ≡ input_package → OpensInput result.cut result.place workspace.old workspace.new }
+    ensures unread { journals ≡ true → ReadsNothing R.Source result.cut input.old input.new }
+    ensures works { R.sound input.old ≡ true → result.cut ≢ Cut.Read }
+    ensures sound { R.sound input.new ≡ R.sound input.old }
+    ensures cut { AreCutOver R.Source F.Files result.cut input.old input.new files.old files.new }
+    ensures read_faults { Counts (R.faults input.old) (R.faults input.new) }
+    ensures counts { Counts (F.faults files.old) (F.faults files.new) }
+    ensures honest { F.honest files.new ≡ F.honest files.old }
+{
+    if wants_input(journals, workspace, package) {
+        return open_input(alloc, workspace, input, err);
+    }
+    workspace.open(package, journals, files, err)
+}

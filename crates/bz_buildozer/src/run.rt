@@ -1,0 +1,26 @@
+//! How far a run has come.
+ghost use Rattle.std.specs.Prelude.{◌≡◌};
+ghost use Rattle.bz_buildozer.specs.Run.{nothing_done};
+ghost use Rattle.bz_buildozer.specs.private.Shown.{progress_in};
+
+use bz_workspace::Workspace;
+use std::alloc::Global;
+
+/// The packages used, what was printed, and whether a step has failed.
+#[derive(Drop)]
+pub(crate) struct Run {
+    pub(crate) workspace: Workspace,
+    pub(crate) printed: Vec<u8>,
+    pub(crate) failed: bool,
+}
+
+/// A run that begins.
+pub(crate) fn begun(alloc: Global) -> Run
+    ensures { progress_in result ≡ nothing_done }
+{
+    Run {
+        workspace: Workspace::new(alloc),
+        printed: Vec::new(alloc),
+        failed: false,
+    }
+}

@@ -1,0 +1,95 @@
+//! Commands and targets as a session takes them.
+ghost use Rattle.std.specs.Prelude.{◌≡◌, map, option_map};
+ghost use Rattle.std.specs.List.{list_any};
+ghost use Rattle.bz_command_line.specs.Paths.{HasPath};
+ghost use Rattle.bz_workspace.specs.Sessions.{action_in};
+ghost use Rattle.bz_command_line.specs.Shown.{requested_in};
+ghost use Rattle.bz_buildozer.specs.Steps as s;
+ghost use Rattle.bz_buildozer.specs.private.Shown.{targets_input_in, prints_nothing_in, shown_in};
+ghost use Rattle.bz_buildozer.specs.Steps.{is_of_input, names_input, shows_input, all_steps};
+
+use crate::script::INPUT;
+use bz_label::Target;
+use bz_command_line::{Requested, Request, Verb};
+use bz_workspace::Action;
+
+/// What the session of the target's file is to do; to list its texts is no action.
+pub(crate) fn action_of<'a>(verb: &'a Verb, target: &'a Target) -> Option<Action<'a>>
+    ensures { option_map action_in result ≡ s.action_of target.entry.now verb.entry.now }
+{
+    match verb {
+        Verb::Do(command) => Some(Action::Do(command, target)),
+        Verb::Undo(count) => Some(Action::Undo(*count)),
+        Verb::Redo(count) => Some(Action::Redo(*count)),
+        Verb::Journal => None,
+    }
+}
+
+/// The path of the target's package.
+pub(crate) fn package_of(target: &Target) -> &str
+    requires { HasPath target.now }
+    ensures { result.now ≡ target.now.«package» }
+{
+    str::from_utf8(target.package.as_slice()).unwrap()
+}
+
+// Whether rules of standard input are meant.
+fn is_of_input(target: &Target) -> bool
+    ensures { result ≡ is_of_input target.now }
+{
+    target.package.as_slice() == INPUT.as_bytes()
+}
+
+// Whether a command doesn't print.
+fn prints_nothing(request: &Request<'_>) -> bool
+    ensures { result ≡ prints_nothing_in request.now }
+{
+    !request.verb.prints()
+}
+
+// Whether rules of standard input are meant in a line.
+fn targets_input(line: &Requested<'_>) -> bool
+    ensures { result ≡ targets_input_in line.now }
+{
+    line.targets.iter().any(|target| is_of_input(target))
+}
+
+// Whether a command among them doesn't print.
+fn any_prints_nothing(commands: &[Request<'_>]) -> bool
+    ensures { result ≡ list_any prints_nothing_in commands.now }
+{
+    commands.iter().any(|request| prints_nothing(request))
+}
+
+// Whether a line has a command on rules of standard input that doesn't print.
+fn is_shown(line: &Requested<'_>) -> bool
+    ensures { result ≡ shown_in line.now }
+{
+    targets_input(line) && any_prints_nothing(&line.commands)
+}
+
+fn any_targets_input(lines: &[Requested<'_>]) -> bool
+    ensures { result ≡ list_any targets_input_in lines.now }
+{
+    lines.iter().any(|line| targets_input(line))
+}
+
+fn any_shown(lines: &[Requested<'_>]) -> bool
+    ensures { result ≡ list_any shown_in lines.now }
+{
+    lines.iter().any(|line| is_shown(line))
+}
+
+/// Whether rules of standard input are meant in one of the lines.
+pub(crate) fn names_input(lines: &[Requested<'_>]) -> bool
+    ensures { result ≡ names_input (map requested_in lines.now) }
+{
+    any_targets_input(lines)
+}
+
+/// Whether the text of standard input is shown: a command on it is not one that prints.
+pub(crate) fn shows_input(lines: &[Requested<'_>]) -> bool
+    ensures { result ≡ shows_input (all_steps (map requested_in lines.now)) }
+{
+    any_shown(lines)
+}

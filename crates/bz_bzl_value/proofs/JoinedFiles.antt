@@ -1,0 +1,218 @@
+-- What a .bzl file says after another one.
+use Rattle.std.proofs.Common.{◌≡◌, ◌<◌, ◌≤◌, List, [], ◌∷◌, ◌++◌, refl, sym, ap, ap₂, ◌∙◌, subst, map, length, append_assoc, arith}
+use Rattle.std.specs.List.{AllByRecursion, flat_map}
+use Rattle.std.proofs.lemmas.Grind.{flat_map-append}
+use Rattle.std.proofs.lemmas.List.{append-nil}
+use Rattle.bz_items.specs.Characters.{Bytes}
+use Rattle.bz_lex.specs.declared.leaf.Leaf.{Leaf}
+use Rattle.bz_grammar.specs.declared.tree.Node.{Node}
+use Rattle.bz_grammar.specs.declared.tree.Part.{Part, Node'}
+use Rattle.bz_grammar.specs.declared.tree.Part.TheVariants as p
+use Rattle.bz_grammar.specs.Spell.{leaves_part}
+use Rattle.bz_grammar.proofs.Spells.{leaves_Node}
+use Rattle.bz_grammar.specs.Joined.{last_token, AreWholeLines, file_with, BzlLinesJoin}
+use Rattle.bz_value.specs.Gaps.{before_groups, comments_in, all_in, groups_of, all_but_last, last_group}
+use Rattle.bz_value.specs.Indented.{indented}
+use Rattle.bz_hosts.specs.View.{blocks, seen, first_seen_gap}
+use Rattle.bz_bzl_value.specs.declared.value.BzlItem.{BzlItem}
+use Rattle.bz_bzl_value.specs.declared.value.BzlItem.TheVariants as b
+use Rattle.bz_bzl_value.specs.declared.value.Statement.{Statement}
+use Rattle.bz_bzl_value.specs.Joined.{lines_after, lines_at_end, first_lines, EndsWithStatement, BeginsBare, EndsInNewline, EndsInLine, BzlViewsJoin}
+use Rattle.bz_bzl_value.specs.View.{ReadStatements, stated, indented_comments, indented_lines_before, bzl_item, block_items, bzl_items, bzl_view_of}
+use Rattle.bz_bzl_value.proofs.BlankLines.{Blank, Alike, before_blank, none_blank}
+use Rattle.bz_bzl_value.proofs.KeptBranches.{Lines}
+use Rattle.bz_bzl_value.proofs.Lined.{plain_lines, lines_are}
+use Rattle.bz_bzl_value.proofs.Parts.{lines_first}
+
+-- ---- groups of blank lines
+
+record NoGroups (groups : List (List Bytes)) : Type 0 where
+  all : blocks groups ≡ []
+  front : blocks (all_but_last groups) ≡ []
+  last : last_group groups ≡ []
+
+no_groups : (groups : List (List Bytes)) → AllByRecursion (λ g. g ≡ []) groups → NoGroups groups
+no_groups [] h = record { all = refl; front = refl; last = refl }
+no_groups ((text ∷ g) ∷ groups) h = absurd (let e : text ∷ g ≡ [] = h.0 in cc)
+no_groups ([] ∷ []) h = record { all = refl; front = refl; last = refl }
+no_groups ([] ∷ g ∷ groups) h = let w = no_groups (g ∷ groups) h.1 in record { all = w.all; front = w.front; last = w.last }
+
+all_empty : (lines : Lines) → Blank lines → AllByRecursion (λ g. g ≡ []) (groups_of (plain_lines lines))
+all_empty [] h = (refl, tt)
+all_empty (l ∷ lines) h = subst (λ o. AllByRecursion (λ g. g ≡ []) (before_groups o (groups_of (plain_lines lines)))) (sym h.0) (refl, all_empty lines h.1)
+
+none_grouped : (lines : Lines) → Blank lines → NoGroups (groups_of (plain_lines lines))
+none_grouped lines h = no_groups (groups_of (plain_lines lines)) (all_empty lines h)
+
+-- ---- parts after blank lines
+
+abbrev before : List Part → Lines
+before xs = indented_lines_before (map stated xs) []
+
+same_items : (l m : Lines) (xs : List Part) → Blank l → Blank m → bzl_items l xs ≡ bzl_items m xs
+same_items l m [] h i = refl
+same_items l m (p.Leaf e ∷ xs) h i = ap (λ own. map bzl_item own ++ bzl_items [] xs) ((none_grouped l h).all ∙ sym (none_grouped m i).all)
+same_items l m (Node' kind size row ∷ xs) h i =
+    let v = none_grouped l h in
+    let w = none_grouped m i in
+    let read : List Bytes → ReadStatements (List Statement) = λ above. (stated (Node' kind size row)).statement above (before xs) in
+    ap₂ (λ front above. map bzl_item front ++ (map b.Statement (read above).0 ++ bzl_items (read above).1 xs)) (v.front ∙ sym w.front) (v.last ∙ sym w.last)
+
+same_after : (l m : Lines) (x : Part) (after : Lines) → Blank l → Blank m → lines_after l x after ≡ lines_after m x after
+same_after l m (p.Leaf e) after h i = refl
+same_after l m (Node' kind size row) after h i = ap (λ above. ((stated (Node' kind size row)).statement above after).1) ((none_grouped l h).last ∙ sym (none_grouped m i).last)
+
+-- ---- the last statement before a text that begins bare
+
+-- what it leaves of blank lines, where it leaves nothing of none
+after_blank : (lines : Lines) (x : Part) (a c : Lines) → Blank a → c ≡ [] → lines_after lines x c ≡ [] → Blank (lines_after lines x a)
+after_blank lines (p.Leaf l) a c h e n = tt
+after_blank lines (Node' kind size row) a c h e n =
+    let above : List Bytes = last_group (groups_of (plain_lines lines)) in
+    let w : Alike ((stated (Node' kind size row)).statement above a) ((stated (Node' kind size row)).statement above c) = before_blank (Node' kind size row) above a c h e in
+    subst Blank (sym (w.1.2 ∙ ap (λ z. z ++ w.1.0) n)) w.1.1
+
+nothing_left : (lines : Lines) (e : Leaf) → lines ≡ [] → bzl_items lines (p.Leaf e ∷ []) ≡ []
+nothing_left lines e n = ap (λ z. bzl_items z (p.Leaf e ∷ [])) n
+
+one_joined : (lines : Lines) (x : Part) (e : Leaf) (ys : List Part) → e.gap ≡ [] → lines_after lines x (indented e.gap) ≡ [] → Blank (before ys)
+    → bzl_items lines (x ∷ ys) ≡ bzl_items lines (x ∷ p.Leaf e ∷ []) ++ bzl_items (before ys) ys
+one_joined lines (p.Leaf l) e ys n left h =
+    let own : List BzlItem = block_items (groups_of (plain_lines lines)) in
+    ap (λ z. own ++ z) (same_items [] (before ys) ys tt h) ∙ ap (λ z. z ++ bzl_items (before ys) ys) (sym (append-nil own))
+one_joined lines (Node' kind size row) e ys n left h =
+    let front : List BzlItem = block_items (all_but_last (groups_of (plain_lines lines))) in
+    let above : List Bytes = last_group (groups_of (plain_lines lines)) in
+    let read : Lines → ReadStatements (List Statement) = λ after. (stated (Node' kind size row)).statement above after in
+    let own : List BzlItem = map b.Statement (read (indented e.gap)).0 in
+    let w : Alike (read (before ys)) (read (indented e.gap)) = before_blank (Node' kind size row) above (before ys) (indented e.gap) h (ap indented n) in
+    let blank : Blank (read (before ys)).1 = after_blank lines (Node' kind size row) (before ys) (indented e.gap) h (ap indented n) left in
+    let bare : own ++ bzl_items (read (indented e.gap)).1 (p.Leaf e ∷ []) ≡ own = ap (λ z. own ++ z) (nothing_left (read (indented e.gap)).1 e left) ∙ append-nil own in
+    ap₂ (λ own z. front ++ (map b.Statement own ++ z)) w.0 (same_items (read (before ys)).1 (before ys) ys blank h)
+    ∙ (sym (append_assoc front own (bzl_items (before ys) ys)) ∙ ap (λ z. (front ++ z) ++ bzl_items (before ys) ys) (sym bare))
+
+-- ---- files
+
+items_joined : (lines : Lines) (x : Part) (xs : List Part) (e : Leaf) (ys : List Part) → e.gap ≡ [] → lines_at_end lines (x ∷ (xs ++ p.Leaf e ∷ [])) ≡ [] → Blank (before ys)
+    → bzl_items lines (x ∷ (xs ++ ys)) ≡ bzl_items lines (x ∷ (xs ++ p.Leaf e ∷ [])) ++ bzl_items (before ys) ys
+items_joined lines x [] e ys n left h = one_joined lines x e ys n left h
+items_joined lines (p.Leaf l) (x ∷ xs) e ys n left h =
+    let own : List BzlItem = block_items (groups_of (plain_lines lines)) in
+    ap (λ z. own ++ z) (items_joined [] x xs e ys n left h) ∙ sym (append_assoc own (bzl_items [] (x ∷ (xs ++ p.Leaf e ∷ []))) (bzl_items (before ys) ys))
+items_joined lines (Node' kind size row) (x ∷ xs) e ys n left h =
+    let front : List BzlItem = block_items (all_but_last (groups_of (plain_lines lines))) in
+    let read : ReadStatements (List Statement) = (stated (Node' kind size row)).statement (last_group (groups_of (plain_lines lines))) (before (x ∷ (xs ++ ys))) in
+    let own : List BzlItem = map b.Statement read.0 in
+    let one : List BzlItem = bzl_items read.1 (x ∷ (xs ++ p.Leaf e ∷ [])) in
+    let two : List BzlItem = bzl_items (before ys) ys in
+    ap (λ z. front ++ (own ++ z)) (items_joined read.1 x xs e ys n left h) ∙ (ap (λ z. front ++ z) (sym (append_assoc own one two)) ∙ sym (append_assoc front (own ++ one) two))
+
+left_both : (lines : Lines) (x : Part) (xs : List Part) (e : Leaf) (y : Part) (ys : List Part) → e.gap ≡ [] → lines_at_end lines (x ∷ (xs ++ p.Leaf e ∷ [])) ≡ [] → Blank (before (y ∷ ys))
+    → lines_at_end (before (y ∷ ys)) (y ∷ ys) ≡ [] → lines_at_end lines (x ∷ (xs ++ y ∷ ys)) ≡ []
+left_both lines x [] e y [] n left h g = ap (lines_after lines x) (g ∙ sym (ap indented n)) ∙ left
+left_both lines x [] e y (z ∷ ys) n left h g =
+    ap (λ l. lines_at_end l (z ∷ ys)) (same_after (lines_after lines x (before (y ∷ z ∷ ys))) (before (y ∷ z ∷ ys)) y (before (z ∷ ys)) (after_blank lines x (before (y ∷ z ∷ ys)) (indented e.gap) h (ap indented n) left) h) ∙ g
+left_both lines w (x ∷ xs) e y ys n left h g = left_both (lines_after lines w (before (x ∷ (xs ++ y ∷ ys)))) x xs e y ys n left h g
+
+-- both of a text's parts, of which the one may be empty
+view_joined : (xs : List Part) (e : Leaf) (ys : List Part) → e.gap ≡ [] → lines_at_end (before (xs ++ p.Leaf e ∷ [])) (xs ++ p.Leaf e ∷ []) ≡ [] → Blank (before ys)
+    → bzl_items (before (xs ++ ys)) (xs ++ ys) ≡ bzl_items (before (xs ++ p.Leaf e ∷ [])) (xs ++ p.Leaf e ∷ []) ++ bzl_items (before ys) ys
+view_joined [] e ys n left h = sym (ap (λ z. z ++ bzl_items (before ys) ys) (nothing_left (indented e.gap) e (ap indented n)))
+view_joined (x ∷ xs) e ys n left h = items_joined (before (x ∷ xs)) x xs e ys n left h
+
+ends_joined : (xs : List Part) (e : Leaf) (ys zs : List Part) (last : Part) → ys ≡ zs ++ last ∷ [] → e.gap ≡ [] → lines_at_end (before (xs ++ p.Leaf e ∷ [])) (xs ++ p.Leaf e ∷ []) ≡ [] → Blank (before ys)
+    → lines_at_end (before ys) ys ≡ [] → lines_at_end (before (xs ++ ys)) (xs ++ ys) ≡ []
+ends_joined [] e ys zs last i n left h g = g
+ends_joined (x ∷ xs) e [] [] last i n left h g = absurd cc
+ends_joined (x ∷ xs) e [] (z ∷ zs) last i n left h g = absurd cc
+ends_joined (x ∷ xs) e (y ∷ ys) zs last i n left h g = left_both (before (x ∷ xs)) x xs e y ys n left h g
+
+-- ---- the last token
+
+last_both : (ls ms : List Leaf) → last_token ls ≡ 10 ∷ [] → last_token ms ≡ 10 ∷ [] → last_token (ls ++ ms) ≡ 10 ∷ []
+last_both [] ms h g = g
+last_both (l ∷ []) [] h g = h
+last_both (l ∷ []) (m ∷ ms) h g = g
+last_both (l ∷ m ∷ ls) ms h g = last_both (m ∷ ls) ms h g
+
+last_after : (ls : List Leaf) (l : Leaf) → last_token (ls ++ l ∷ []) ≡ l.token
+last_after [] l = refl
+last_after (m ∷ []) l = refl
+last_after (m ∷ n ∷ ls) l = last_after (n ∷ ls) l
+
+whole_both : (xs ys : List Part) → AreWholeLines xs → AreWholeLines ys → AreWholeLines (xs ++ ys)
+whole_both xs ys h g = subst (λ ls. last_token ls ≡ 10 ∷ []) (sym (flat_map-append leaves_part xs ys)) (last_both (flat_map leaves_part xs) (flat_map leaves_part ys) h g)
+
+pub leaf_newline : (x : Part) (l : Leaf) → x ≡ p.Leaf l → l.token ≡ 10 ∷ [] → EndsInNewline x
+leaf_newline x l i e = ([], l, ap leaves_part i, e)
+
+pub node_newline : (x : Part) (n : Node) (ps front : List Part) (last : Part) → x ≡ p.Node n → ps ≡ n.parts → ps ≡ front ++ last ∷ [] → EndsInNewline last → EndsInNewline x
+node_newline x n ps front last i j k (before_last, l, leaves, token) =
+    let own : List Leaf = flat_map leaves_part front in (
+      own ++ before_last,
+      l,
+      ap leaves_part i
+          ∙ (leaves_Node n
+          ∙ (ap (flat_map leaves_part) (sym j ∙ k)
+          ∙ (flat_map-append leaves_part front (last ∷ []) ∙ (ap (λ ls. own ++ ls) (append-nil (leaves_part last) ∙ leaves) ∙ sym (append_assoc own before_last (l ∷ [])))))),
+      token,
+    )
+
+whole_by_last : (front : List Part) (x : Part) → EndsInNewline x → AreWholeLines (front ++ x ∷ [])
+whole_by_last front x (before_last, l, leaves, token) =
+    let own : List Leaf = flat_map leaves_part front in
+    ap last_token (flat_map-append leaves_part front (x ∷ []) ∙ (ap (λ ls. own ++ ls) (append-nil (leaves_part x) ∙ leaves) ∙ sym (append_assoc own before_last (l ∷ []))))
+    ∙ (last_after (own ++ before_last) l ∙ token)
+
+pub in_line : (parts front rest : List Part) (x y : Part) → parts ≡ rest ++ y ∷ [] → rest ≡ front ++ x ∷ [] → ((e : Leaf) × (y ≡ p.Leaf e) × (e.gap ≡ [])) → EndsInNewline x → EndsInLine parts
+in_line parts front rest x y i j (e, is, none) h = (rest, e, i ∙ ap (λ z. rest ++ z ∷ []) is, subst AreWholeLines (sym j) (whole_by_last front x h), none)
+
+-- ---- what the code looks at
+
+pub ends_so : (n : Node) (ps : List Part) → ps ≡ n.parts → lines_at_end (before ps) ps ≡ [] → EndsInLine ps → EndsWithStatement n
+ends_so n ps i left (lines, end, parts, whole, nothing) = record {
+  lines = lines;
+  end = end;
+  parts = sym i ∙ parts;
+  whole = whole;
+  nothing = nothing;
+  left = subst (λ qs. lines_at_end (before qs) qs ≡ []) i left;
+}
+
+pub bare_so : (n : Node) (ps : List Part) (gap : Bytes) → ps ≡ n.parts → gap ≡ first_seen_gap (map seen ps) → all_in gap ≡ [] → BeginsBare n
+bare_so n ps gap i j h =
+    ap (λ qs. indented_comments (before qs)) (sym i) ∙ (ap indented_comments (sym (lines_first ps)) ∙ (ap (λ g. indented_comments (indented g)) (sym j) ∙ (ap comments_in (lines_are gap) ∙ h)))
+
+-- one statement further
+pub goes_on : (x : Part) (xs : List Part) (lines left all : Lines) → 0 < length xs → left ≡ lines_after lines x (before xs) → lines_at_end lines (x ∷ xs) ≡ all → lines_at_end left xs ≡ all
+goes_on x [] lines left all h e g = absurd (omega (arith, h))
+goes_on x (y ∷ xs) lines left all h e g = ap (λ l. lines_at_end l (y ∷ xs)) e ∙ g
+
+pub is_end : (x : Part) (xs : List Part) (lines all : Lines) → length xs ≤ 0 → lines ≡ [] → lines_at_end lines (x ∷ xs) ≡ all → all ≡ []
+is_end x [] lines all h n g = sym g ∙ n
+is_end x (y ∷ xs) lines all h n g = absurd (omega (arith, h))
+
+pub none_left : (xs : List Part) → length xs ≤ 0 → lines_at_end (before xs) xs ≡ []
+none_left [] h = refl
+none_left (x ∷ xs) h = absurd (omega (arith, h))
+
+-- ---- the law
+
+ends_both : (n m : Node) (h : EndsWithStatement n) → Blank (first_lines m) → EndsWithStatement m → EndsWithStatement (file_with (h.lines ++ m.parts))
+ends_both n m h blank g = record {
+  lines = h.lines ++ g.lines;
+  end = g.end;
+  parts = ap (λ ys. h.lines ++ ys) g.parts ∙ sym (append_assoc h.lines g.lines (p.Leaf g.end ∷ []));
+  whole = whole_both h.lines g.lines h.whole g.whole;
+  nothing = g.nothing;
+  left = ends_joined h.lines h.end m.parts g.lines (p.Leaf g.end) g.parts h.nothing (subst (λ ps. lines_at_end (before ps) ps ≡ []) h.parts h.left) blank g.left;
+}
+
+pub bzl_views_join : BzlLinesJoin → BzlViewsJoin
+bzl_views_join law s t n m h bare r q le =
+    let blank : Blank (first_lines m) = none_blank (first_lines m) bare in (
+      file_with (h.lines ++ m.parts),
+      law s t n m h.lines h.end h.parts h.whole h.nothing r q le,
+      view_joined h.lines h.end m.parts h.nothing (subst (λ ps. lines_at_end (before ps) ps ≡ []) h.parts h.left) blank ∙ ap (λ ps. bzl_items (before ps) ps ++ bzl_view_of m) (sym h.parts),
+      ends_both n m h blank,
+    )

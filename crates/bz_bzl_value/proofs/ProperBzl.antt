@@ -1,0 +1,72 @@
+-- What a legal .bzl file says is proper.
+use Rattle.std.proofs.Common.{List, [], ◌∷◌, ◌++◌, inl, inr, subst, map}
+use Rattle.std.specs.List.{AllByRecursion, flat_map}
+use Rattle.std.proofs.lemmas.List.Elements.{All-from_recursion}
+use Rattle.bz_items.specs.Characters.{Bytes}
+use Rattle.bz_lex.specs.Leaves.{IsCodedLeaf}
+use Rattle.bz_grammar.specs.declared.kind.Kind.TheVariants as k
+use Rattle.bz_grammar.specs.declared.tree.Part.{Part, Node'}
+use Rattle.bz_grammar.specs.declared.tree.Part.TheVariants as p
+use Rattle.bz_grammar.specs.Shapes as s
+use Rattle.bz_grammar.specs.Shapes.{Fits, Several, bzl_shape, tok, done}
+use Rattle.bz_grammar.specs.Legal.{IsNonterminal, LegalBzlPart}
+use Rattle.bz_grammar.specs.Spell.{leaves_part, leaves_of}
+use Rattle.bz_grammar.specs.Spots.{Begins, BzlStands, AtParts}
+use Rattle.bz_grammar.proofs.Balance.{no_such}
+use Rattle.bz_value.specs.Gaps.{groups_of, all_but_last, last_group}
+use Rattle.bz_value.proofs.GapComments.{Groups, all_joined, groups_fine, groups_front, groups_last}
+use Rattle.bz_hosts.proofs.ProperFiles.{lexed}
+use Rattle.bz_hosts.proofs.ProperParts.{IsLexed}
+use Rattle.bz_hosts.proofs.SeenParts.{all_parted}
+use Rattle.bz_bzl_value.specs.declared.value.Statement.{Statement}
+use Rattle.bz_bzl_value.specs.declared.value.BzlItem.{BzlItem}
+use Rattle.bz_bzl_value.specs.declared.value.BzlItem.TheVariants as b
+use Rattle.bz_bzl_value.specs.Laws.{BzlViewIsProper}
+use Rattle.bz_bzl_value.specs.Proper.{IsProperBzlItem}
+use Rattle.bz_bzl_value.specs.View.{ReadStatements, stated, indented_lines_before, block_items, bzl_items, bzl_view_of}
+use Rattle.bz_bzl_value.proofs.HeadParts.{after_stmt}
+use Rattle.bz_bzl_value.proofs.KeptBranches.{Lines}
+use Rattle.bz_bzl_value.proofs.Lined.{plain_lines}
+use Rattle.bz_bzl_value.proofs.ProperBranches.{AllKnown, before_lines}
+use Rattle.bz_bzl_value.proofs.ProperLines.{AreFineLines}
+use Rattle.bz_bzl_value.proofs.ProperSuites.{part_known}
+use Rattle.bz_bzl_value.proofs.ProperValues.{AreSome, blocks_proper, statements_proper}
+
+-- ---- the leaves
+
+-- ---- the file
+
+abbrev AreProperItems : List BzlItem → Type 0
+AreProperItems items = AllByRecursion IsProperBzlItem items
+
+-- statements and the end, where these lines are before the first of them
+items_proper : (lines : Lines) (xs : List Part) → AreFineLines lines → Several (IsNonterminal s.stmt) (Fits IsNonterminal (tok s.end done)) xs → AllKnown xs → AtParts BzlStands Begins Begins xs → AreProperItems (bzl_items lines xs)
+items_proper lines [] f h g at_ = tt
+items_proper lines (p.Leaf l ∷ []) f (inl h) g at_ =
+    let groups : List (List Bytes) = groups_of (plain_lines lines) in
+    all_joined IsProperBzlItem (block_items groups) [] (blocks_proper groups (groups_fine (plain_lines lines) f)) tt
+items_proper lines (p.Leaf l ∷ y ∷ xs) f (inl h) g at_ = absurd h.1
+items_proper lines (p.Leaf l ∷ xs) f (inr h) g at_ = no_such h.0
+items_proper lines (Node' kind n r ∷ xs) f (inl h) g at_ = no_such h.0
+items_proper lines (Node' kind n r ∷ xs) f (inr h) g at_ =
+    let groups : List (List Bytes) = groups_of (plain_lines lines) in
+    let fine : Groups groups = groups_fine (plain_lines lines) f in
+    let after : Lines = indented_lines_before (map stated xs) [] in
+    let read : ReadStatements (List Statement) = (stated (Node' kind n r)).statement (last_group groups) after in
+    let there : AtParts BzlStands Begins Begins xs = subst (λ z. AtParts BzlStands Begins z xs) (after_stmt (Node' kind n r) Begins Begins h.0) at_.1 in
+    let one : AreSome read.0 × AreFineLines read.1 = g.0.statement h.0 at_.0 (last_group groups) after (groups_last groups fine) (before_lines xs [] g.1 tt) in
+    all_joined IsProperBzlItem (block_items (all_but_last groups)) (map b.Statement read.0 ++ bzl_items read.1 xs) (blocks_proper (all_but_last groups) (groups_front groups fine))
+    (all_joined IsProperBzlItem (map b.Statement read.0) (bzl_items read.1 xs) (statements_proper read.0 one.0.1) (items_proper read.1 xs one.1 h.1 g.1 there))
+
+all_known : (xs : List Part) → AllByRecursion LegalBzlPart xs → AllByRecursion IsLexed (flat_map leaves_part xs) → AllByRecursion IsCodedLeaf (flat_map leaves_part xs) → AllKnown xs
+all_known [] h v u = tt
+all_known (x ∷ xs) h v u =
+    let a = all_parted IsLexed (leaves_part x) (flat_map leaves_part xs) v in
+    let w = all_parted IsCodedLeaf (leaves_part x) (flat_map leaves_part xs) u in
+    (part_known x h.0 a.0 w.0, all_known xs h.1 a.1 w.1)
+
+pub bzl_view_proper : BzlViewIsProper
+bzl_view_proper n h =
+    let fits : Fits IsNonterminal (bzl_shape k.File) n.parts = subst (λ kd. Fits IsNonterminal (bzl_shape kd) n.parts) h.file.root h.file.shapes.0 in
+    let known : AllKnown n.parts = all_known n.parts h.file.shapes.1 (lexed (leaves_of n) h.tokens) h.coded in
+    All-from_recursion IsProperBzlItem (bzl_view_of n) (items_proper (indented_lines_before (map stated n.parts) []) n.parts (before_lines n.parts [] known tt) fits known h.gaps)

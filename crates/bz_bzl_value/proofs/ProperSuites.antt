@@ -1,0 +1,194 @@
+-- Statements and suites of a legal .bzl file are proper.
+use Rattle.std.proofs.Common.{◌≡◌, true, false, List, [], ◌∷◌, ◌++◌, inl, inr, Option, None, refl, sym, ap, ◌∙◌, subst, map}
+use Rattle.std.specs.List.{AllByRecursion}
+use Rattle.std.proofs.lemmas.List.Elements.{All-from_recursion}
+use Rattle.bz_items.specs.Characters.{Bytes}
+use Rattle.bz_lex.specs.Leaves.{IsCodedLeaf}
+use Rattle.bz_grammar.specs.declared.kind.Kind.{Kind}
+use Rattle.bz_grammar.specs.declared.kind.Kind.TheVariants as k
+use Rattle.bz_grammar.specs.declared.tree.Part.{Part, Row_of-Part, end_of-Part, more_of-Part, Node', items-the_row-Part}
+use Rattle.bz_grammar.specs.declared.tree.Part.TheVariants as p
+use Rattle.bz_grammar.specs.Shapes as s
+use Rattle.bz_grammar.specs.Shapes.{Fits, Several, done, bzl_shape, nonterminal_has_kind, has_token}
+use Rattle.bz_grammar.specs.Legal.{IsNonterminal, LegalBzlPart, LegalBzlRow}
+use Rattle.bz_grammar.specs.Spell.{leaves_part, leaves_row}
+use Rattle.bz_grammar.specs.Spots.{Spot, Begins, Along, onward, after_part, BzlStands, AtLeaves, AtParts}
+use Rattle.bz_grammar.proofs.Balance.{no_such, parts_of_row}
+use Rattle.bz_value.specs.Comments.{HostComments}
+use Rattle.bz_value.specs.Frames.{Frame, row, sequence, frame}
+use Rattle.bz_value.specs.Gaps.{suffix_in, all_in}
+use Rattle.bz_value.specs.Indented.{indented}
+use Rattle.bz_value.specs.LineShapes.{line_shape}
+use Rattle.bz_value.specs.Proper.{IsComment, MaybeComment, AreComments}
+use Rattle.bz_value.proofs.Begun.{moved_expr}
+use Rattle.bz_value.proofs.GapComments.{Group, all_joined, suffix_fine, all_fine}
+use Rattle.bz_hosts.specs.View.{Seen, seen, seen_row, seen_node, last_gap, statements_in}
+use Rattle.bz_hosts.proofs.InnerParts.{nonterminal_inner, nonterminal_goes, token_goes}
+use Rattle.bz_hosts.proofs.ProperFiles.{last_decoded}
+use Rattle.bz_hosts.proofs.ProperParts.{IsLexed, line_proper}
+use Rattle.bz_hosts.proofs.QuietGaps.{Statements}
+use Rattle.bz_hosts.proofs.RowParts.{on_twice}
+use Rattle.bz_hosts.proofs.SeenParts.{all_parted, comments_made, part_decoded}
+use Rattle.bz_bzl_value.specs.declared.value.Statement.{Statement}
+use Rattle.bz_bzl_value.specs.declared.value.Statement.TheVariants as st
+use Rattle.bz_bzl_value.specs.Proper.{is_simple, has_simple_kind, IsProperStatement}
+use Rattle.bz_bzl_value.specs.View.{ReadStatements, stated, simple_statements, line_read, indented_lines_before, after_first_line, walked, margin_of, suite_read, suite_in, suffix_before, only_comment, statement_read, compound_read, branches, indented_comments}
+use Rattle.bz_bzl_value.proofs.HeadParts.{after_stmt}
+use Rattle.bz_bzl_value.proofs.KeptBranches.{Lines}
+use Rattle.bz_bzl_value.proofs.KeptGaps.{newline_ends}
+use Rattle.bz_bzl_value.proofs.Parts.{part_of, parts_seen, stated_rows}
+use Rattle.bz_bzl_value.proofs.ProperBranches.{Reads, Ends, Known, AllKnown, all_decoded, before_lines, Compound, compound_statement}
+use Rattle.bz_bzl_value.proofs.ProperLines.{AreFineLines, gap_lines, lines_joined, lines_after, comments_fine, only_fine, ends_fine}
+use Rattle.bz_bzl_value.proofs.ProperValues.{HasSome, AreSome, some_joined, compound_proper}
+
+-- ---- simple statements
+
+node_simple : (kind : Kind) (ss : List Seen) (cs : HostComments) (f : Frame) → has_simple_kind ((seen_node f kind ss).make cs false) ≡ is_simple kind
+node_simple kind ss cs row = refl
+node_simple kind ss cs (sequence opener closer) = refl
+
+small_simple : (kind : Kind) → nonterminal_has_kind s.small kind ≡ true → is_simple kind ≡ true
+small_simple k.Bare h = refl
+small_simple k.Assign h = refl
+small_simple k.Load h = refl
+small_simple k.Return h = refl
+small_simple k.Flow h = refl
+small_simple _ h = no_such h
+
+simple_made : (x : Part) (cs : HostComments) → IsNonterminal s.small x → has_simple_kind ((seen x).make cs false) ≡ true
+simple_made (p.Leaf l) cs h = no_such h
+simple_made (Node' kind n r) cs h = node_simple kind (seen_row r) cs (frame kind) ∙ small_simple kind h
+
+abbrev with_host : List Bytes → Option Bytes → Part → HostComments
+with_host above suffix x = record { before = above ++ (seen x).loose; suffix = suffix }
+
+simple_proper : (here : Spot) (x : Part) (above : List Bytes) (suffix : Option Bytes) → onward here ≡ onward Begins → IsNonterminal s.small x → Known x → AtLeaves BzlStands here x → Group above → MaybeComment suffix
+    → IsProperStatement (st.Simple ((seen x).make (with_host above suffix x) false))
+simple_proper here x above suffix e h g at_ a m =
+    let cs : HostComments = with_host above suffix x in (
+      simple_made x cs h,
+      moved_expr line_shape ((seen x).make cs false) here Begins e (g.fit (nonterminal_inner s.small x refl h) here at_ cs false),
+      subst AreComments (sym (comments_made x cs false)) (All-from_recursion IsComment (above ++ (seen x).loose) (all_joined IsComment above (seen x).loose a g.decoded.loose), m),
+    )
+
+-- the statements of a line, from one on that is here
+simple_some : (outer here : Spot) (above : List Bytes) (xs : List Part) → onward here ≡ onward Begins → Statements xs → AllKnown xs → AtParts BzlStands outer here xs → Group above → AreSome (simple_statements (statements_in above (map seen xs)))
+simple_some outer here above [] e h g at_ a = absurd h
+simple_some outer here above (x ∷ []) e h g at_ a = absurd h.1
+simple_some outer here above (x ∷ y ∷ []) e h g at_ a = (tt, (simple_proper here x above (suffix_in (seen y).gap) e h.0 g.0 at_.0 a (suffix_fine (seen y).gap g.1.0.decoded.coded), tt))
+simple_some outer here above (x ∷ y ∷ z ∷ []) e h g at_ a = (tt, (simple_proper here x above (suffix_in (seen z).gap) e h.0 g.0 at_.0 a (suffix_fine (seen z).gap g.1.1.0.decoded.coded), tt))
+simple_some outer here above (x ∷ y ∷ z ∷ u ∷ xs) e (h, inl j) g at_ a = absurd j.1
+simple_some outer here above (x ∷ y ∷ z ∷ u ∷ xs) e (h, inr (m, inr j)) g at_ a = absurd j.1.1
+simple_some outer here above (x ∷ y ∷ z ∷ u ∷ xs) e (h, inr (m, inl j)) g at_ a =
+    let there : after_part outer (after_part outer here x) y ≡ onward here = token_goes s.semicolon y refl m outer (after_part outer here x) ∙ (ap onward (nonterminal_goes s.small x refl h outer here) ∙ on_twice here) in
+    let rest : AreSome (simple_statements (statements_in [] (map seen (z ∷ u ∷ xs)))) = simple_some outer (onward here) [] (z ∷ u ∷ xs) (on_twice here ∙ e) j g.1.1 (subst (λ q. AtParts BzlStands outer q (z ∷ u ∷ xs)) there at_.1.1) tt in
+    (tt, (simple_proper here x above None e h g.0 at_.0 a tt, rest.1))
+
+-- the gap of a line's newline
+line_reads : (outer here : Spot) (xs : List Part) → onward here ≡ onward Begins → Statements xs → AllKnown xs → AtParts BzlStands outer here xs → Reads (line_read (map seen xs))
+line_reads outer here xs e h g at_ above after a f =
+    let gap : Bytes = last_gap (map seen xs) in
+    let following : AreFineLines (after_first_line (indented gap)) = lines_after (indented gap) (gap_lines gap (last_decoded (map seen xs) (all_decoded xs g))) in
+    (simple_some outer here above xs e h g at_ a, lines_joined (after_first_line (indented gap)) after following f)
+
+-- ---- statements one after the other
+
+abbrev pub StatementParts : List Part → Type 0
+StatementParts xs = AllByRecursion (λ x. IsNonterminal s.stmt x) xs
+
+-- the statements are proper, and what the lines left say is comments
+abbrev Walks : ReadStatements (List Statement) → Type 0
+Walks read = AllByRecursion IsProperStatement read.0 × AreFineLines read.1
+
+walked_proper : (outer : Spot) (lines : Lines) (xs : List Part) (after : Lines) → AreFineLines lines → StatementParts xs → AllKnown xs → AtParts BzlStands outer Begins xs → AreFineLines after → Walks (walked lines (map stated xs) after)
+walked_proper outer lines [] after l h g at_ f = (tt, l)
+walked_proper outer lines (x ∷ xs) after l h g at_ f =
+    let there : AtParts BzlStands outer Begins xs = subst (λ z. AtParts BzlStands outer z xs) (after_stmt x outer Begins h.0) at_.1 in
+    let read : ReadStatements (List Statement) = (stated x).statement (indented_comments lines) (indented_lines_before (map stated xs) after) in
+    let one : AreSome read.0 × AreFineLines read.1 = g.0.statement h.0 at_.0 (indented_comments lines) (indented_lines_before (map stated xs) after) (comments_fine lines l) (before_lines xs after g.1 f) in
+    let more : Walks (walked read.1 (map stated xs) after) = walked_proper outer read.1 xs after one.1 h.1 g.1 there f in
+    (all_joined IsProperStatement read.0 (walked read.1 (map stated xs) after).0 one.0.1 more.0, more.1)
+
+-- and there is at least one
+walked_some : (lines : Lines) (x : Part) (xs : List Part) (after : Lines) → AreFineLines lines → IsNonterminal s.stmt x → Known x → AllKnown xs → AtLeaves BzlStands Begins x → AreFineLines after → HasSome (walked lines (map stated (x ∷ xs)) after).0
+walked_some lines x xs after l h g i at_ f =
+    let read : ReadStatements (List Statement) = (stated x).statement (indented_comments lines) (indented_lines_before (map stated xs) after) in
+    let one : AreSome read.0 × AreFineLines read.1 = g.statement h at_ (indented_comments lines) (indented_lines_before (map stated xs) after) (comments_fine lines l) (before_lines xs after i f) in
+    some_joined read.0 (walked read.1 (map stated xs) after).0 one.0.0
+
+-- ---- suites
+
+suite_reads : (outer : Spot) (x : Part) (xs : List Part) → StatementParts (x ∷ xs) → AllKnown (x ∷ xs) → AtParts BzlStands outer Begins (x ∷ xs) → Ends (suite_read (map stated (x ∷ xs)))
+suite_reads outer x xs h g at_ after f =
+    let lines : Lines = indented_lines_before (map stated (x ∷ xs)) [] in
+    let fine : AreFineLines lines = before_lines (x ∷ xs) [] g tt in
+    let all : Walks (walked lines (map stated (x ∷ xs)) after) = walked_proper outer lines (x ∷ xs) after fine h g at_ f in
+    ((walked_some lines x xs after fine h.0 g.0 g.1 at_.0 f, all.0), ends_fine (margin_of (map stated (x ∷ xs))) (walked lines (map stated (x ∷ xs)) after).1 all.1)
+
+several_statements : (xs : List Part) → Several (IsNonterminal s.stmt) (Fits IsNonterminal done) xs → StatementParts xs
+several_statements [] h = tt
+several_statements (x ∷ xs) (inl h) = absurd h
+several_statements (x ∷ xs) (inr h) = (h.0, several_statements xs h.1)
+
+-- ---- nodes
+
+-- what is read of these parts as a suite, with its header's suffix
+abbrev SuiteOf : Kind → List Part → Type 0
+SuiteOf kind xs = MaybeComment (suffix_before kind (map stated xs)) × Ends (suite_in kind (map stated xs))
+
+suite_node : (xs : List Part) → Fits IsNonterminal (bzl_shape k.Suite) xs → AllKnown xs → AtParts BzlStands Along Along xs → SuiteOf k.Suite xs
+suite_node [] f g at_ = absurd f
+suite_node (mark ∷ []) f g at_ = absurd f.1
+suite_node (mark ∷ x ∷ xs) f g at_ =
+    let there : AtParts BzlStands Along Begins (x ∷ xs) = subst (λ z. AtParts BzlStands Along z (x ∷ xs)) (newline_ends mark Along Along f.0) at_.1 in (
+      subst (λ y. MaybeComment (only_comment (all_in y.gap))) (sym (part_of mark)) (only_fine (all_in (seen mark).gap) (all_fine (seen mark).gap g.0.decoded.coded)),
+      suite_reads Along x xs (f.1.0, several_statements xs f.1.1) g.1 there,
+    )
+
+line_node : (xs : List Part) → Statements xs → AllKnown xs → AtParts BzlStands Along Along xs → SuiteOf k.Line xs
+line_node xs f g at_ = (
+  tt,
+  λ after b.
+      let line : Reads (line_read (map (λ x. x.part) (map stated xs))) = subst (λ ss. Reads (line_read ss)) (sym (parts_seen xs)) (line_reads Along Along xs refl f g at_) in
+      let one = line [] after tt b in
+      (one.0, (tt, one.1)),
+)
+
+node_suite : (kind : Kind) (xs : List Part) → nonterminal_has_kind s.suite kind ≡ true → Fits IsNonterminal (bzl_shape kind) xs → AllKnown xs → AtParts BzlStands Along Along xs → SuiteOf kind xs
+node_suite k.Line xs h f g at_ = line_node xs f g at_
+node_suite k.Suite xs h f g at_ = suite_node xs f g at_
+node_suite _ xs h f g at_ = no_such h
+
+compound_reads : (kind : Kind) (xs : List Part) → Compound kind xs → Reads (compound_read kind (map stated xs))
+compound_reads kind xs h above after a f =
+    let all = h above after after a f f in
+    ((tt, (compound_proper (branches kind [] above after (map stated xs) after).0 all.0 all.1.0, tt)), all.1.1)
+
+node_statement : (kind : Kind) (xs : List Part) → nonterminal_has_kind s.stmt kind ≡ true → Fits IsNonterminal (bzl_shape kind) xs → AllKnown xs → AtParts BzlStands Begins Begins xs → Reads (statement_read kind (map stated xs))
+node_statement k.Line xs h f g at_ = subst (λ ss. Reads (line_read ss)) (sym (parts_seen xs)) (line_reads Begins Begins xs refl f g at_)
+node_statement k.Def xs h f g at_ = compound_reads k.Def xs (compound_statement k.Def xs refl refl f g at_)
+node_statement k.IfStmt xs h f g at_ = compound_reads k.IfStmt xs (compound_statement k.IfStmt xs refl refl f g at_)
+node_statement k.ForStmt xs h f g at_ = compound_reads k.ForStmt xs (compound_statement k.ForStmt xs refl refl f g at_)
+node_statement _ xs h f g at_ = no_such h
+
+-- ---- parts
+
+mutual
+  pub part_known : (x : Part) → LegalBzlPart x → AllByRecursion IsLexed (leaves_part x) → AllByRecursion IsCodedLeaf (leaves_part x) → Known x
+  part_known (p.Leaf l) h v u = record { decoded = part_decoded (p.Leaf l) u; fit = line_proper (p.Leaf l) h v u; statement = λ i at_. no_such i; suite = λ i at_. no_such i }
+  part_known (Node' kind n r) h v u =
+      let xs : List Part = items-the_row-Part _ r in
+      let known : AllKnown xs = parts_known _ r h.1 v u in
+      record {
+        decoded = part_decoded (Node' kind n r) u;
+        fit = line_proper (Node' kind n r) h v u;
+        statement = λ i at_. subst (λ ss. Reads (statement_read kind ss)) (sym (stated_rows _ r)) (node_statement kind xs i h.0 known (parts_of_row BzlStands Begins Begins _ r at_));
+        suite = λ i at_. subst (λ ss. MaybeComment (suffix_before kind ss) × Ends (suite_in kind ss)) (sym (stated_rows _ r)) (node_suite kind xs i h.0 known (parts_of_row BzlStands Along Along _ r at_));
+      }
+
+  pub parts_known : (m : _) (r : Row_of-Part m) → LegalBzlRow r → AllByRecursion IsLexed (leaves_row r) → AllByRecursion IsCodedLeaf (leaves_row r) → AllKnown (items-the_row-Part m r)
+  parts_known m end_of-Part h v u = tt
+  parts_known m (more_of-Part x rest) h v u =
+      let a = all_parted IsLexed (leaves_part x) (leaves_row rest) v in
+      let c = all_parted IsCodedLeaf (leaves_part x) (leaves_row rest) u in
+      (part_known x h.0 a.0 c.0, parts_known _ rest h.1 a.1 c.1)

@@ -1,0 +1,219 @@
+-- What a .bzl file says: its statements without gaps, each comment at its host.
+use Rattle.std.specs.Prelude.{ℕ, Bool, true, false, ◌||◌, List, [], ◌∷◌, ◌++◌, Option, Some, None, map, take, drop, length, if◌then◌else◌, nat_le}
+use Rattle.bz_lex.specs.Gaps.{indent}
+use Rattle.bz_grammar.specs.declared.kind.Kind.{Kind}
+use Rattle.bz_grammar.specs.declared.kind.Kind.TheVariants as k
+use Rattle.bz_grammar.specs.declared.tree.Node.{Node}
+use Rattle.bz_grammar.specs.declared.tree.Part.{Part, Row_of-Part, end_of-Part, more_of-Part, Node'}
+use Rattle.bz_grammar.specs.declared.tree.Part.TheVariants as p
+use Rattle.bz_grammar.specs.Shapes.{is_kind, is_one_of, colon_mark}
+use Rattle.bz_value.specs.declared.value.Form.{Form}
+use Rattle.bz_value.specs.declared.value.Item.{Item}
+use Rattle.bz_value.specs.declared.value.Item.TheVariants as i
+use Rattle.bz_items.specs.Characters.{Bytes}
+use Rattle.bz_value.specs.Gaps.{comments_in, all_in, groups_of, all_but_last, last_group}
+use Rattle.bz_value.specs.Indented.{IndentedGapLine, indented}
+use Rattle.bz_hosts.specs.View.{Seen, seen, plain, first_seen_gap, last_gap, loose_in, row_exprs, items_in, is_split, statements_in, blocks}
+use Rattle.bz_bzl_value.specs.declared.value.Statement.{Statement}
+use Rattle.bz_bzl_value.specs.declared.value.Statement.TheVariants as s
+use Rattle.bz_bzl_value.specs.declared.value.Branch.{Branch}
+use Rattle.bz_bzl_value.specs.declared.value.BzlItem.{BzlItem}
+use Rattle.bz_bzl_value.specs.declared.value.BzlItem.TheVariants as b
+
+-- ---- lines
+
+-- the comments of lines, in their order
+abbrev pub indented_comments : List IndentedGapLine → List Bytes
+indented_comments lines = comments_in (map (λ l. l.line) lines)
+
+-- the lines after the first one of a gap
+abbrev pub after_first_line : List IndentedGapLine → List IndentedGapLine
+after_first_line [] = []
+after_first_line (line ∷ lines) = lines
+
+-- Of the comment lines after the last statement of a suite with an indent of this length: its end comments are those up to the
+-- first one that is indented less.
+abbrev pub is_taken_line : ℕ → ℕ → Option Bytes → Bool
+is_taken_line margin indent None = true
+is_taken_line margin indent (Some comment) = nat_le margin indent
+
+abbrev pub end_comments : ℕ → List IndentedGapLine → List Bytes
+end_comments margin [] = []
+end_comments margin (l ∷ lines) = if is_taken_line margin l.indent l.line.comment then indented_comments (l ∷ []) ++ end_comments margin lines else []
+
+-- what is left of the lines after them
+abbrev pub after_end : ℕ → List IndentedGapLine → List IndentedGapLine
+after_end margin [] = []
+after_end margin (l ∷ lines) = if is_taken_line margin l.indent l.line.comment then after_end margin lines else l ∷ lines
+
+-- ---- parts
+
+-- What statements were read, and the lines that are left of those after them.
+abbrev pub ReadStatements : Type 0 → Type 0
+ReadStatements X = X × List IndentedGapLine
+
+-- the statements of a suite, and its end comments
+abbrev pub SuiteRead : Type 0
+SuiteRead = ReadStatements (List Statement × List Bytes)
+
+-- A part that was read: as a part of a row; whether it is a colon; as a suite its header's suffix; as a statement, by the
+-- comments above it and the lines after it; as a suite, by the lines after it.
+pub record Stated : Type 0 where
+  pub part : Seen
+  pub is_colon : Bool
+  pub suffix : Option Bytes
+  pub statement : List Bytes → List IndentedGapLine → ReadStatements (List Statement)
+  pub suite : List IndentedGapLine → SuiteRead
+
+-- the lines right before the first of these parts; where there is none, those that are after all
+abbrev pub indented_lines_before : List Stated → List IndentedGapLine → List IndentedGapLine
+indented_lines_before [] after = after
+indented_lines_before (x ∷ xs) after = indented x.part.gap
+
+-- ---- lines of simple statements
+
+abbrev pub simple_statements : List Item → List Statement
+simple_statements [] = []
+simple_statements (i.Block texts ∷ items) = simple_statements items
+simple_statements (i.Stmt x ∷ items) = s.Simple x ∷ simple_statements items
+
+-- What is in the gap of a Newline after its first line is before what follows.
+abbrev pub line_read : List Seen → List Bytes → List IndentedGapLine → ReadStatements (List Statement)
+line_read ss above after = (simple_statements (statements_in above ss), after_first_line (indented (last_gap ss)) ++ after)
+
+-- ---- statements one after the other
+
+-- above: the lines before the first of them; after: those after the last
+abbrev pub walked : List IndentedGapLine → List Stated → List IndentedGapLine → ReadStatements (List Statement)
+walked above [] after = ([], above)
+walked above (x ∷ xs) after =
+    let one : ReadStatements (List Statement) = x.statement (indented_comments above) (indented_lines_before xs after) in
+    let more : ReadStatements (List Statement) = walked one.1 xs after in
+    (one.0 ++ more.0, more.1)
+
+-- ---- suites
+
+-- the length of the indent of the first statement
+abbrev pub margin_of : List Stated → ℕ
+margin_of xs = length (indent (first_seen_gap (map (λ x. x.part) xs)))
+
+-- the statements after a suite's newline
+abbrev pub suite_read : List Stated → List IndentedGapLine → SuiteRead
+suite_read xs after =
+    let all : ReadStatements (List Statement) = walked (indented_lines_before xs []) xs after in
+    ((all.0, end_comments (margin_of xs) all.1), after_end (margin_of xs) all.1)
+
+-- ---- headers
+
+-- the comment in the gap of a suite's newline
+abbrev pub only_comment : List Bytes → Option Bytes
+only_comment [] = None
+only_comment (text ∷ texts) = Some text
+
+-- The parts of a header up to its colon. Of a Def: the word, the name, and the parameters as a sequence.
+abbrev pub def_head : List Seen → List Bytes → Option Bytes → Form
+def_head ss above suffix = record {
+  kind = k.Def;
+  parts = map plain (take 2 ss);
+  seq = record { items = (items_in (all_in (first_seen_gap (drop 3 ss))) (drop 3 ss)).0; end = (items_in (all_in (first_seen_gap (drop 3 ss))) (drop 3 ss)).1; split = is_split (drop 3 ss) };
+  open_break = false;
+  comments = record { before = above ++ loose_in (take 3 ss); suffix = suffix };
+}
+
+abbrev pub row_head : Kind → List Seen → List Bytes → Option Bytes → Form
+row_head kind ss above suffix = record {
+  kind = kind;
+  parts = row_exprs false false false ss;
+  seq = record { items = []; end = []; split = false };
+  open_break = false;
+  comments = record { before = above ++ loose_in ss; suffix = suffix };
+}
+
+abbrev pub head : Kind → List Seen → List Bytes → Option Bytes → Form
+head kind ss above suffix = if is_kind kind k.Def then def_head ss above suffix else row_head kind ss above suffix
+
+-- The headers of a statement, each with its suite. parts: those of the header so far; above: the comments above the header;
+-- left: the lines that are left where no header follows.
+abbrev mutual
+  pub branches : Kind → List Seen → List Bytes → List IndentedGapLine → List Stated → List IndentedGapLine → ReadStatements (List Branch)
+  branches kind parts above left [] after = ([], left)
+  branches kind parts above left (x ∷ xs) after =
+      if x.is_colon then with_suite kind parts above left xs after else branches kind (parts ++ x.part ∷ []) above left xs after
+
+  pub with_suite : Kind → List Seen → List Bytes → List IndentedGapLine → List Stated → List IndentedGapLine → ReadStatements (List Branch)
+  with_suite kind parts above left [] after = ([], left)
+  with_suite kind parts above left (x ∷ xs) after =
+      let own : SuiteRead = x.suite (indented_lines_before xs after) in
+      let more : ReadStatements (List Branch) = branches kind [] (indented_comments own.1) own.1 xs after in
+      (record { head = head kind parts above x.suffix; statements = own.0.0; end = own.0.1 } ∷ more.0, more.1)
+
+-- ---- parts of each kind
+
+abbrev pub is_compound : Kind → Bool
+is_compound kind = is_kind kind k.Def || (is_kind kind k.IfStmt || is_kind kind k.ForStmt)
+
+abbrev pub compound_read : Kind → List Stated → List Bytes → List IndentedGapLine → ReadStatements (List Statement)
+compound_read kind xs above after =
+    let all : ReadStatements (List Branch) = branches kind [] above after xs after in
+    (s.Compound all.0 ∷ [], all.1)
+
+abbrev pub statement_read : Kind → List Stated → List Bytes → List IndentedGapLine → ReadStatements (List Statement)
+statement_read kind xs above after =
+    if is_kind kind k.Line then line_read (map (λ x. x.part) xs) above after
+    else (if is_compound kind then compound_read kind xs above after else ([], after))
+
+-- a suite, or a line in its place
+abbrev pub suite_in : Kind → List Stated → List IndentedGapLine → SuiteRead
+suite_in kind xs after =
+    if is_kind kind k.Line then (((line_read (map (λ x. x.part) xs) [] after).0, []), (line_read (map (λ x. x.part) xs) [] after).1)
+    else (if is_kind kind k.Suite then suite_read (drop 1 xs) after else (([], []), after))
+
+abbrev pub suffix_before : Kind → List Stated → Option Bytes
+suffix_before kind xs = if is_kind kind k.Suite then only_comment (all_in (first_seen_gap (map (λ x. x.part) xs))) else None
+
+abbrev mutual
+  pub stated : Part → Stated
+  stated (p.Leaf l) = record {
+    part = seen (p.Leaf l);
+    is_colon = is_one_of colon_mark l;
+    suffix = None;
+    statement = λ above after. ([], after);
+    suite = λ after. (([], []), after);
+  }
+  stated (Node' kind size row) = record {
+    part = seen (Node' kind size row);
+    is_colon = false;
+    suffix = suffix_before kind (stated_row row);
+    statement = statement_read kind (stated_row row);
+    suite = suite_in kind (stated_row row);
+  }
+
+  pub stated_row : {m : _} → Row_of-Part m → List Stated
+  stated_row end_of-Part = []
+  stated_row (more_of-Part x rest) = stated x ∷ stated_row rest
+
+-- ---- the file
+
+-- an item of a BUILD file as one of a .bzl file
+abbrev pub bzl_item : Item → BzlItem
+bzl_item (i.Block texts) = b.Block texts
+bzl_item (i.Stmt x) = b.Statement (s.Simple x)
+
+-- comment lines on their own
+abbrev pub block_items : List (List Bytes) → List BzlItem
+block_items groups = map bzl_item (blocks groups)
+
+-- Comment lines that follow each other form a group. A group whose last line is followed by a line without token and
+-- comment, or by no token at all, is a Block of its own; otherwise it is above the next statement.
+-- lines: those before the first of these parts
+abbrev pub bzl_items : List IndentedGapLine → List Part → List BzlItem
+bzl_items lines [] = []
+bzl_items lines (p.Leaf l ∷ xs) = block_items (groups_of (map (λ l. l.line) lines)) ++ bzl_items [] xs
+bzl_items lines (Node' kind size row ∷ xs) =
+    let groups : List (List Bytes) = groups_of (map (λ l. l.line) lines) in
+    let own : ReadStatements (List Statement) = (stated (Node' kind size row)).statement (last_group groups) (indented_lines_before (map stated xs) []) in
+    block_items (all_but_last groups) ++ (map b.Statement own.0 ++ bzl_items own.1 xs)
+
+-- what a .bzl file's tree says
+abbrev pub bzl_view_of : Node → List BzlItem
+bzl_view_of n = bzl_items (indented_lines_before (map stated n.parts) []) n.parts

@@ -1,0 +1,375 @@
+//! What the tree of a .bzl file says.
+ghost use Rattle.std.specs.Prelude.{◌≡◌, ◌++◌, ◌<◌, [], ◌∷◌, List, map, drop, length, IfOk, IsTrue, OnOk};
+ghost use Rattle.bz_lex.specs.Gaps.{indent};
+ghost use Rattle.bz_value.specs.Indented.{indented};
+ghost use Rattle.bz_grammar.specs.declared.tree.Part.{Part};
+ghost use Rattle.bz_hosts.specs.View.{seen};
+ghost use Rattle.bz_bzl_value.specs.Joined.{lines_after, lines_at_end};
+ghost use Rattle.bz_bzl_value.specs.View.{bzl_items, bzl_view_of, block_items, branches, bzl_item, compound_read, line_read, indented_lines_before, margin_of, simple_statements, stated, statement_read, suite_in, walked};
+ghost use Rattle.bz_value.specs.Gaps.{groups_of, all_but_last, last_group};
+
+use crate::headers::{after_first_part, colon_from, head, is_compound, is_kind, suffix_before};
+use crate::rest::{Rest, past_first_indented_line, comments, is_spent, rest_of_gap, take_end};
+use crate::value::{Branch, BzlFile, BzlItem, Statement};
+use bz_items::{Items, Memory, Text};
+use bz_grammar::{BzlTree, Kind, Node, Part};
+use bz_value::Item;
+use bz_hosts::{gap_at, gap_before, gap_of_last, push_groups, push_statements};
+use std::alloc::Global;
+
+/// How many spaces and tabs are at the end of a gap.
+fn indent_len(gap: &[u8]) -> usize
+    ensures { result ≡ length (indent gap.now) }
+{
+    let mut at = gap.len();
+    'blanks: while at > 0 {
+        let byte = gap[at - 1];
+        if byte != b' ' && byte != b'\t' {
+            return gap.split_at(at).1.len();
+        }
+        at -= 1;
+    }
+    gap.len()
+}
+
+/// How many spaces and tabs are right before the first token of the first part.
+fn margin_of(parts: &[Part]) -> usize
+    ensures { result ≡ margin_of (map stated parts.now) }
+{
+    indent_len(gap_at(parts, 0))
+}
+
+/// The gap of the part with this index; past the last part the one after all of them.
+fn gap_after<'a>(parts: &'a [Part], at: usize, after: &'a [u8]) -> &'a [u8]
+    ensures { indented result.now ≡ indented_lines_before (map stated (drop at parts.now)) (indented after.now) }
+{
+    match parts.get(at) {
+        Some(part) => gap_before(part),
+        None => after,
+    }
+}
+
+/// Appends simple statements that are items.
+fn push_simple(items: Items<Item>, out: &mut Items<Statement>) -> Result<(), Memory>
+    ensures { OnOk result (out.new ≡ out.old ++ simple_statements items) }
+{
+    for item in items.into_vec() {
+        if let Item::Stmt(expr) = item {
+            out.push(Statement::Simple(expr))?;
+        }
+    }
+    Ok(())
+}
+
+/// Appends the statements of a line, the first with these comments above it; gives the lines that are left before what follows.
+fn push_line<'a>(
+    alloc: Global,
+    parts: &'a [Part],
+    above: Items<Text>,
+    after: &'a [u8],
+    out: &mut Items<Statement>,
+) -> Result<Rest<'a>, Memory>
+    ensures out { OnOk result (out.new ≡ out.old ++ (line_read (map seen parts.now) above (indented after.now)).0) }
+    ensures rest { IfOk result (λ rest. indented rest.left.now ++ indented rest.gap.now ≡ (line_read (map seen parts.now) above (indented after.now)).1) }
+{
+    let mut items = Items::new(alloc);
+    push_statements(alloc, parts, above, &mut items)?;
+    push_simple(items, out)?;
+    Ok(Rest {
+        left: past_first_indented_line(gap_of_last(parts)),
+        gap: after,
+    })
+}
+
+/// Appends a statement with these comments above it; gives the lines that are left of those after it.
+#[cycle(stated)]
+fn push_statement<'a>(
+    alloc: Global,
+    part: &'a Part,
+    above: Items<Text>,
+    after: &'a [u8],
+    out: &mut Items<Statement>,
+) -> Result<Rest<'a>, Memory>
+    ensures out { OnOk result (out.new ≡ out.old ++ ((stated part.now).statement above (indented after.now)).0) }
+    ensures rest { IfOk result (λ rest. indented rest.left.now ++ indented rest.gap.now ≡ ((stated part.now).statement above (indented after.now)).1) }
+{
+    match part {
+        Part::Leaf(_) => Ok(rest_of_gap(after)),
+        Part::Node(node) => {
+            let rest = push_node(alloc, node, above, after, out)?;
+            Ok(rest)
+        }
+    }
+}
+
+/// The same of a node.
+#[cycle(stated)]
+fn push_node<'a>(
+    alloc: Global,
+    node: &'a Node,
+    above: Items<Text>,
+    after: &'a [u8],
+    out: &mut Items<Statement>,
+) -> Result<Rest<'a>, Memory>
+    ensures out { OnOk result (out.new ≡ out.old ++ (statement_read node.now.kind (map stated node.now.parts) above (indented after.now)).0) }
+    ensures rest { IfOk result (λ rest. indented rest.left.now ++ indented rest.gap.now ≡ (statement_read node.now.kind (map stated node.now.parts) above (indented after.now)).1) }
+{
+    let parts = node.parts.as_slice();
+    if is_kind(node.kind, Kind::Line) {
+        let rest = push_line(alloc, parts, above, after, out)?;
+        return Ok(rest);
+    }
+    if is_compound(node.kind) {
+        let rest = push_compound(alloc, node.kind, parts, above, after, out)?;
+        return Ok(rest);
+    }
+    Ok(rest_of_gap(after))
+}
+
+/// Appends a statement with suites.
+#[cycle(stated)]
+fn push_compound<'a>(
+    alloc: Global,
+    kind: Kind,
+    parts: &'a [Part],
+    above: Items<Text>,
+    after: &'a [u8],
+    out: &mut Items<Statement>,
+) -> Result<Rest<'a>, Memory>
+    ensures out { OnOk result (out.new ≡ out.old ++ (compound_read kind (map stated parts.now) above (indented after.now)).0) }
+    ensures rest { IfOk result (λ rest. indented rest.left.now ++ indented rest.gap.now ≡ (compound_read kind (map stated parts.now) above (indented after.now)).1) }
+{
+    let mut own = Items::new(alloc);
+    let rest = push_branches(alloc, kind, parts, above, after, &mut own)?;
+    out.push(Statement::Compound(own))?;
+    Ok(rest)
+}
+
+/// Appends the headers of a statement, each with its suite.
+#[cycle(stated)]
+fn push_branches<'a>(
+    alloc: Global,
+    kind: Kind,
+    parts: &'a [Part],
+    above: Items<Text>,
+    after: &'a [u8],
+    own: &mut Items<Branch>,
+) -> Result<Rest<'a>, Memory>
+    ensures own { OnOk result (own.new ≡ own.old ++ (branches kind [] above (indented after.now) (map stated parts.now) (indented after.now)).0) }
+    ensures rest { IfOk result (λ rest. indented rest.left.now ++ indented rest.gap.now ≡ (branches kind [] above (indented after.now) (map stated parts.now) (indented after.now)).1) }
+{
+    let mut above = above;
+    let mut rest = rest_of_gap(after);
+    let mut from = 0;
+    while let Some(colon) = colon_from(parts, from) {
+        let Some(suite) = parts.get(colon + 1) else {
+            return Ok(rest);
+        };
+        let suffix = suffix_before(alloc, suite)?;
+        let head = head(alloc, kind, &parts[from..colon], above, suffix)?;
+        let mut statements = Items::new(alloc);
+        let mut end = Items::new(alloc);
+        let following = gap_after(parts, colon + 2, after);
+        rest = push_suite(alloc, suite, following, &mut statements, &mut end)?;
+        own.push(Branch {
+            head,
+            statements,
+            end,
+        })?;
+        above = comments(alloc, rest)?;
+        from = colon + 2;
+    }
+    Ok(rest)
+}
+
+/// Appends the statements of a suite, or of a line in its place, and its end comments; gives the lines that are left of those
+/// after it.
+#[cycle(stated)]
+fn push_suite<'a>(
+    alloc: Global,
+    part: &'a Part,
+    after: &'a [u8],
+    statements: &mut Items<Statement>,
+    end: &mut Items<Text>,
+) -> Result<Rest<'a>, Memory>
+    ensures statements { OnOk result (statements.new ≡ statements.old ++ ((stated part.now).suite (indented after.now)).0.0) }
+    ensures end { OnOk result (end.new ≡ end.old ++ ((stated part.now).suite (indented after.now)).0.1) }
+    ensures rest { IfOk result (λ rest. indented rest.left.now ++ indented rest.gap.now ≡ ((stated part.now).suite (indented after.now)).1) }
+{
+    match part {
+        Part::Leaf(_) => Ok(rest_of_gap(after)),
+        Part::Node(node) => {
+            let rest = push_suite_of(alloc, node, after, statements, end)?;
+            Ok(rest)
+        }
+    }
+}
+
+/// The same of a node.
+#[cycle(stated)]
+fn push_suite_of<'a>(
+    alloc: Global,
+    node: &'a Node,
+    after: &'a [u8],
+    statements: &mut Items<Statement>,
+    end: &mut Items<Text>,
+) -> Result<Rest<'a>, Memory>
+    ensures statements { OnOk result (statements.new ≡ statements.old ++ (suite_in node.now.kind (map stated node.now.parts) (indented after.now)).0.0) }
+    ensures end { OnOk result (end.new ≡ end.old ++ (suite_in node.now.kind (map stated node.now.parts) (indented after.now)).0.1) }
+    ensures rest { IfOk result (λ rest. indented rest.left.now ++ indented rest.gap.now ≡ (suite_in node.now.kind (map stated node.now.parts) (indented after.now)).1) }
+{
+    let parts = node.parts.as_slice();
+    if is_kind(node.kind, Kind::Line) {
+        let rest = push_line(alloc, parts, Items::new(alloc), after, statements)?;
+        return Ok(rest);
+    }
+    if !is_kind(node.kind, Kind::Suite) {
+        return Ok(rest_of_gap(after));
+    }
+    let own = after_first_part(parts);
+    let rest = push_all_statements(alloc, own, after, statements)?;
+    let rest = take_end(alloc, margin_of(own), rest, end)?;
+    Ok(rest)
+}
+
+/// Appends the statements of a suite; gives the lines that are left of those after it.
+#[cycle(stated)]
+fn push_all_statements<'a>(
+    alloc: Global,
+    parts: &'a [Part],
+    after: &'a [u8],
+    out: &mut Items<Statement>,
+) -> Result<Rest<'a>, Memory>
+    ensures out { OnOk result (out.new ≡ out.old ++ (walked (indented_lines_before (map stated parts.now) []) (map stated parts.now) (indented after.now)).0) }
+    ensures rest { IfOk result (λ rest. indented rest.left.now ++ indented rest.gap.now ≡ (walked (indented_lines_before (map stated parts.now) []) (map stated parts.now) (indented after.now)).1) }
+{
+    let mut rest = rest_of_gap(gap_at(parts, 0));
+    for at in 0..parts.len() {
+        let above = comments(alloc, rest)?;
+        let following = gap_after(parts, at + 1, after);
+        rest = push_statement(alloc, &parts[at], above, following, out)?;
+    }
+    Ok(rest)
+}
+
+/// An item of a BUILD file as one of a .bzl file.
+fn item_of(item: Item) -> BzlItem
+    ensures { result ≡ bzl_item item }
+{
+    match item {
+        Item::Block(texts) => BzlItem::Block(texts),
+        Item::Stmt(expr) => BzlItem::Statement(Statement::Simple(expr)),
+    }
+}
+
+/// Appends items of a BUILD file as those of a .bzl file.
+fn push_plain(items: Items<Item>, out: &mut Items<BzlItem>) -> Result<(), Memory>
+    ensures { OnOk result (out.new ≡ out.old ++ map bzl_item items) }
+{
+    for item in items.into_vec() {
+        out.push(item_of(item))?;
+    }
+    Ok(())
+}
+
+/// Appends the groups of comment lines of these lines but for the last one, which it gives.
+fn push_blocks(
+    alloc: Global,
+    rest: Rest<'_>,
+    items: &mut Items<BzlItem>,
+) -> Result<Items<Text>, Memory>
+    ensures items { OnOk result (items.new ≡ items.old ++ block_items (all_but_last (groups_of (map (λ l. l.line) (indented rest.entry.left.now ++ indented rest.entry.gap.now))))) }
+    ensures last { IfOk result (λ last. last ≡ last_group (groups_of (map (λ l. l.line) (indented rest.entry.left.now ++ indented rest.entry.gap.now)))) }
+{
+    let mut blocks = Items::new(alloc);
+    let last = push_groups(alloc, rest.left, rest.gap, &mut blocks)?;
+    push_plain(blocks, items)?;
+    Ok(last)
+}
+
+/// Appends comment lines on their own, if there are any.
+fn push_last(lines: Items<Text>, items: &mut Items<BzlItem>) -> Result<(), Memory>
+    ensures { OnOk result (items.new ≡ items.old ++ block_items (lines ∷ [])) }
+{
+    if !lines.is_empty() {
+        items.push(BzlItem::Block(lines))?;
+    }
+    Ok(())
+}
+
+/// Appends all groups of comment lines of these lines.
+fn push_end(alloc: Global, rest: Rest<'_>, items: &mut Items<BzlItem>) -> Result<(), Memory>
+    ensures { OnOk result (items.new ≡ items.old ++ block_items (groups_of (map (λ l. l.line) (indented rest.entry.left.now ++ indented rest.entry.gap.now)))) }
+{
+    let last = push_blocks(alloc, rest, items)?;
+    push_last(last, items)?;
+    Ok(())
+}
+
+/// Appends statements of the file as items.
+fn push_items(statements: Items<Statement>, items: &mut Items<BzlItem>) -> Result<(), Memory>
+    ensures { OnOk result (items.new ≡ items.old ++ map BzlItem.Statement statements) }
+{
+    for statement in statements.into_vec() {
+        items.push(BzlItem::Statement(statement))?;
+    }
+    Ok(())
+}
+
+/// What the tree of a .bzl file says: its statements with their suites, each comment at its host. The error: memory was
+/// refused.
+pub fn view_bzl(alloc: Global, tree: &BzlTree) -> Result<BzlFile, Memory>
+    ensures { IfOk result (λ file. file.items ≡ bzl_view_of tree.now) }
+{
+    let (items, _) = items_of(alloc, tree.root.parts.as_slice())?;
+    Ok(BzlFile { items })
+}
+
+/// The items of the statements of a file and of its end, and whether no line is left before the end. The error: memory was refused.
+pub fn items_of(alloc: Global, parts: &[Part]) -> Result<(Items<BzlItem>, bool), Memory>
+    ensures items { IfOk result (λ seen. seen.0 ≡ bzl_items (indented_lines_before (map stated parts.now) []) parts.now) }
+    ensures left { IfOk result (λ seen. IsTrue seen.1 → lines_at_end (indented_lines_before (map stated parts.now) []) parts.now ≡ []) }
+{
+    let mut items = Items::new(alloc);
+    let mut rest = rest_of_gap(gap_at(parts, 0));
+    let mut spent = true;
+    for at in 0..parts.len() {
+        spent = is_spent(rest);
+        rest = push_part(
+            alloc,
+            rest,
+            &parts[at],
+            gap_after(parts, at + 1, &[]),
+            &mut items,
+        )?;
+    }
+    Ok((items, spent))
+}
+
+/// Appends the items of a statement of a file, or those of its end, where these lines are before it; gives the lines that are
+/// left of the gap after it.
+fn push_part<'a>(
+    alloc: Global,
+    rest: Rest<'_>,
+    part: &'a Part,
+    after: &'a [u8],
+    items: &mut Items<BzlItem>,
+) -> Result<Rest<'a>, Memory>
+    ensures left { IfOk result (λ left. indented left.left.now ++ indented left.gap.now ≡ lines_after (indented rest.entry.left.now ++ indented rest.entry.gap.now) part.now (indented after.now)) }
+    ensures items { IfOk result (λ left. (xs : List Part) → indented after.now ≡ indented_lines_before (map stated xs) []
+        → items.new ++ bzl_items (indented left.left.now ++ indented left.gap.now) xs ≡ items.old ++ bzl_items (indented rest.entry.left.now ++ indented rest.entry.gap.now) (part.now ∷ xs)) }
+{
+    match part {
+        Part::Leaf(_) => {
+            push_end(alloc, rest, items)?;
+            Ok(rest_of_gap(&[]))
+        }
+        Part::Node(_) => {
+            let last = push_blocks(alloc, rest, items)?;
+            let mut statements = Items::new(alloc);
+            let left = push_statement(alloc, part, last, after, &mut statements)?;
+            push_items(statements, items)?;
+            Ok(left)
+        }
+    }
+}

@@ -1,0 +1,36 @@
+-- The package of a target that is read in a text of characters.
+use Rattle.std.proofs.Common.{◌≡◌, ◌++◌, List, [], ◌∷◌, false, Result, Ok, Err, All, IsUtf8, codes, subst, sym, inl, inr, arith, append_assoc}
+use Rattle.std.specs.Prelude.{if◌then◌else◌}
+use Rattle.std.specs.Result.{is_ok, is_err}
+use Rattle.std.proofs.lemmas.Bool.{true≢false}
+use Rattle.std.proofs.lemmas.List.Elements.{All-nil, All-cons, All-append}
+use Rattle.bz_items.specs.Characters.{Bytes}
+use Rattle.bz_label.specs.Targets.{IsSpelled, IsTarget}
+use Rattle.bz_label.specs.declared.target.Target.{Target}
+use Rattle.bz_command_syntax.proofs.Utf8Texts.{beside_ascii}
+use Rattle.bz_command_line.specs.Paths.{HasPath}
+
+slashes_cut : (path : Bytes) → IsUtf8 (codes "//" ++ path) → IsUtf8 path
+slashes_cut path u = (beside_ascii (codes "/") 47 path (omega arith) u).1
+
+colon_cut : (path word : Bytes) → IsUtf8 (path ++ codes ":" ++ word) → IsUtf8 path
+colon_cut path word u = (beside_ascii path 58 word (omega arith) (subst IsUtf8 (append_assoc path (codes ":") word) u)).0
+
+path_utf8 : (text path word : Bytes) → IsSpelled text path word → IsUtf8 text → IsUtf8 path
+path_utf8 text path word (inl is) u = colon_cut path word (subst IsUtf8 is u)
+path_utf8 text path word (inr (inl is)) u = slashes_cut path (colon_cut (codes "//" ++ path) word (subst IsUtf8 is u))
+path_utf8 text path word (inr (inr is)) u = slashes_cut path (subst IsUtf8 is.0 u)
+
+pub has_path : (text : Bytes) (target : Target) → IsTarget text target → IsUtf8 text → HasPath target
+has_path text target is u = (path_utf8 text target.«package» is.word is.spelled u, is.room)
+
+-- one element more
+pub all_more : {X : Type 0} (P : X → Type 0) (old new : List X) (last : X) → new ≡ old ++ last ∷ [] → All P old → P last → All P new
+all_more P old new last split each one =
+    subst (All P) (sym split) (All-append P old (last ∷ []) each (All-cons P last [] one (All-nil P)))
+
+-- an element is pushed
+pub all_pushed : {X E : Type 0} (P : X → Type 0) (old new : List X) (last : X) (result : Result (Unit {0}) E)
+    → new ≡ (if is_ok result then old ++ last ∷ [] else old) → is_err result ≡ false → All P old → P last → All P new
+all_pushed P old new last (Ok done) split ok each one = all_more P old new last split each one
+all_pushed P old new last (Err fault) split ok each one = absurd (true≢false ok)

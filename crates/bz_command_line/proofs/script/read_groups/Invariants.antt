@@ -1,0 +1,12 @@
+use Rattle.std.proofs.Common.{◌≡◌, All, Ok, map, take}
+use Rattle.bz_command_line.specs.Paths.{HasPath}
+use Rattle.bz_command_line.specs.Script.{operand_groups}
+use Rattle.bz_command_line.specs.Shown.{requested_in}
+use Rattle.bz_command_line.proofs.Texts.{texts_in}
+use Rattle.bz_command_line.proofs.script.read_groups.Given as goal
+
+abbrev pub invariant-loop-line : goal.invariant-loop-line
+invariant-loop-line l = record {
+  answered : operand_groups (texts_in (take l.line-index l.lines)) ≡ Ok (map requested_in l.groups.items);
+  paths : All (λ requested. All HasPath requested.targets.items) l.groups.items;
+}

@@ -1,0 +1,71 @@
+-- What the operands of one line request: commands, in order, and targets, in order.
+use Rattle.std.specs.Prelude.{ℕ, List, [], ◌∷◌, ◌++◌, if◌then◌else◌, Result, Ok, Err}
+use Rattle.bz_items.specs.Characters.{Bytes}
+use Rattle.bz_label.specs.declared.target.Target.{Target}
+use Rattle.bz_command_line.specs.Operands.{is_target, operand_target, verb_of}
+use Rattle.bz_command_line.specs.declared.verb.Verb.{Verb}
+use Rattle.bz_command_line.specs.declared.verb.OperandFault.{OperandFault}
+
+-- a command, and its text
+pub record Request : Type 0 where
+  pub verb : Verb
+  pub text : Bytes
+
+pub record Requested : Type 0 where
+  pub commands : List Request
+  pub targets : List Target
+
+-- an operand that is refused
+pub record Refused : Type 0 where
+  pub operand : Bytes
+  pub fault : OperandFault
+
+abbrev pub nothing_requested : Requested
+nothing_requested = record { commands = []; targets = [] }
+
+abbrev pub both : Requested → Requested → Requested
+both first more = record { commands = first.commands ++ more.commands; targets = first.targets ++ more.targets }
+
+abbrev pub wanted : Bytes → Result Verb OperandFault → Result Requested Refused
+wanted operand (Ok verb) = Ok (record { commands = record { verb = verb; text = operand } ∷ []; targets = [] })
+wanted operand (Err fault) = Err (record { operand = operand; fault = fault })
+
+abbrev pub aimed : Bytes → Result Target OperandFault → Result Requested Refused
+aimed operand (Ok target) = Ok (record { commands = []; targets = target ∷ [] })
+aimed operand (Err fault) = Err (record { operand = operand; fault = fault })
+
+-- what one operand requests
+abbrev pub requested_by : Bytes → Result Requested Refused
+requested_by operand = if is_target operand then aimed operand (operand_target operand) else wanted operand (verb_of operand)
+
+-- The first refused operand, in order, is reported.
+abbrev pub joined_operands : Result Requested Refused → Result Requested Refused → Result Requested Refused
+joined_operands (Ok first) (Ok more) = Ok (both first more)
+joined_operands (Ok first) (Err refused) = Err refused
+joined_operands (Err refused) more = Err refused
+
+abbrev pub requested_of : List Bytes → Result Requested Refused
+requested_of [] = Ok nothing_requested
+requested_of (operand ∷ operands) = joined_operands (requested_by operand) (requested_of operands)
+
+-- why commands and targets of one line are none
+pub data Usage : Type 0 where
+  of_operand : Refused → Usage
+  no_command : Usage
+  no_target : Usage
+  no_line : Usage
+  nul : ℕ → Usage
+
+-- A line has a command and a target of its own.
+abbrev pub complete : List Request → List Target → Result Requested Usage
+complete [] targets = Err no_command
+complete (command ∷ commands) [] = Err no_target
+complete (command ∷ commands) (target ∷ targets) = Ok (record { commands = command ∷ commands; targets = target ∷ targets })
+
+abbrev pub accepted : Result Requested Refused → Result Requested Usage
+accepted (Ok requested) = complete requested.commands requested.targets
+accepted (Err refused) = Err (of_operand refused)
+
+-- one line: its operands, of which one at least is a command and one a target
+abbrev pub operand_group : List Bytes → Result Requested Usage
+operand_group operands = accepted (requested_of operands)

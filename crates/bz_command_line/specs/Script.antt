@@ -1,0 +1,62 @@
+-- What a file of lines requests. Its lines end at newlines, each with or without one carriage return before it, and the operands of a
+-- line are separated by `|`.
+use Rattle.std.specs.Prelude.{ℕ, ◌+◌, ◌==◌, Bool, false, not, List, [], ◌∷◌, drop, filter, position, option_map, if◌then◌else◌, Option, Some, None, Result, Ok, Err}
+use Rattle.std.specs.List.{list_any, slice_split}
+use Rattle.std.specs.Str.Lines.{lines}
+use Rattle.bz_items.specs.Characters.{Bytes, number_sign, vertical_bar}
+use Rattle.bz_command_line.specs.Operands.{begins_with}
+use Rattle.bz_command_line.specs.Requested.{Requested, Usage, no_line, nul, operand_group}
+
+-- the bytes of U+FEFF
+abbrev pub byte_order_mark : Bytes
+byte_order_mark = 239 ∷ 187 ∷ 191 ∷ []
+
+-- The mark at the beginning of a text is passed over.
+abbrev pub without_mark : Bytes → Bytes
+without_mark text = if begins_with byte_order_mark text then drop 3 text else text
+
+abbrev pub script_lines : Bytes → List Bytes
+script_lines text = lines (without_mark text)
+
+abbrev pub has_nul : Bytes → Bool
+has_nul line = list_any (λ byte. byte == 0) line
+
+-- the first line with a NUL byte, from 1
+abbrev pub line_with_nul : List Bytes → Option ℕ
+line_with_nul all = option_map (λ at. at + 1) (position has_nul all)
+
+-- A line is passed over where it is empty or begins with `#`.
+abbrev pub is_read : Bytes → Bool
+is_read [] = false
+is_read (first ∷ rest) = not (first == number_sign)
+
+abbrev pub lines_in : Bytes → List Bytes
+lines_in text = filter is_read (script_lines text)
+
+abbrev pub operands_in : Bytes → List Bytes
+operands_in line = slice_split (λ byte. byte == vertical_bar) line
+
+-- The first fault, in order, is reported.
+abbrev pub in_front : Result Requested Usage → Result (List Requested) Usage → Result (List Requested) Usage
+in_front (Ok group) (Ok groups) = Ok (group ∷ groups)
+in_front (Ok group) (Err usage) = Err usage
+in_front (Err usage) groups = Err usage
+
+-- what each of these lines requests
+abbrev pub operand_groups : List Bytes → Result (List Requested) Usage
+operand_groups [] = Ok []
+operand_groups (line ∷ lines) = in_front (operand_group (operands_in line)) (operand_groups lines)
+
+-- There is a line at least.
+abbrev pub some_groups : List Bytes → Result (List Requested) Usage
+some_groups [] = Err no_line
+some_groups (line ∷ lines) = operand_groups (line ∷ lines)
+
+-- A NUL byte is reported before all else.
+abbrev pub without_nul : Option ℕ → List Bytes → Result (List Requested) Usage
+without_nul (Some line) lines = Err (nul line)
+without_nul None lines = some_groups lines
+
+-- what the lines of a file request
+abbrev pub script_of : Bytes → Result (List Requested) Usage
+script_of text = without_nul (line_with_nul (script_lines text)) (lines_in text)

@@ -1,0 +1,52 @@
+-- What was read, as contracts see it.
+use Rattle.std.specs.Prelude.{map, ◌++◌, Option, Some, None}
+use Rattle.bz_items.specs.Characters.{Bytes}
+use Rattle.bz_command_line.specs.Requested as a
+use Rattle.bz_command_line.specs.Line as l
+use Rattle.bz_command_line.specs.declared.requested.Requested.{Requested}
+use Rattle.bz_command_line.specs.declared.requested.Request.{Request}
+use Rattle.bz_command_line.specs.declared.requested.Refused.{Refused}
+use Rattle.bz_command_line.specs.declared.group.UsageFault.{UsageFault}
+use Rattle.bz_command_line.specs.declared.group.UsageFault.TheVariants as u
+use Rattle.bz_command_line.specs.declared.hint.Hint.{Hint}
+use Rattle.bz_command_line.specs.declared.line.Given.{Given}
+use Rattle.bz_command_line.specs.declared.line.Given.TheVariants as g
+use Rattle.bz_command_line.specs.declared.line.CommandLine.{CommandLine}
+use Rattle.bz_command_line.specs.declared.line.LineFault.{LineFault}
+use Rattle.bz_command_line.specs.declared.line.LineFault.TheVariants as f
+
+abbrev pub given_in : Given → l.Given
+given_in (g.Operands operands) = l.operands (map (λ s. s.now) operands.items)
+given_in (g.Script file) = l.script file.now
+
+abbrev pub line_in : CommandLine → l.CommandLine
+line_in line = record { options = line.options; given = given_in line.given }
+
+-- why words are no line, where memory is not the cause
+abbrev pub line_usage_in : LineFault → Option l.LineUsage
+line_usage_in (f.Clap error) = Some l.of_clap
+line_usage_in f.BesideScript = Some l.beside_script
+line_usage_in f.BesideStdout = Some l.beside_stdout
+line_usage_in f.Memory = None
+
+abbrev pub request_in : Request → a.Request
+request_in request = record { verb = request.verb; text = request.text.now }
+
+abbrev pub requested_in : Requested → a.Requested
+requested_in requested = record { commands = map request_in requested.commands.items; targets = requested.targets.items }
+
+abbrev pub refused_in : Refused → a.Refused
+refused_in refused = record { operand = refused.operand.now; fault = refused.fault }
+
+-- why operands or lines request nothing, where memory is not the cause
+abbrev pub usage_in : UsageFault → Option a.Usage
+usage_in (u.Operand refused) = Some (a.of_operand (refused_in refused))
+usage_in u.NoCommand = Some a.no_command
+usage_in u.NoTarget = Some a.no_target
+usage_in u.NoLine = Some a.no_line
+usage_in (u.Nul line) = Some (a.nul line)
+usage_in u.Memory = None
+
+-- the line that the pieces of a hint give, or nothing
+abbrev pub hint_text : Hint → Bytes
+hint_text hint = hint.front.now ++ hint.word.now ++ hint.back.now

@@ -1,0 +1,219 @@
+//! The words of a command line: options, and where commands and targets are.
+ghost use Rattle.std.specs.Prelude.{◌≡◌, [], false, Some, Ok, Err, IfOk, IfErr, IfSome, map};
+ghost use Rattle.clap.specs.Words.{app_of, new_rule, rule_of, found_of, fault_of, matches_of, rows_of};
+ghost use Rattle.clap.specs.declared.builder.action.ArgAction.TheVariants.{SetTrue};
+ghost use Rattle.bz_command_line.specs.App.{nameless, buildozer_app, lines_app, options_app, keep_going_rule, script_rule, operand_rule};
+ghost use Rattle.bz_command_line.specs.Line.{is_flag_set, options_of, given_of, command_line_of};
+ghost use Rattle.bz_command_line.specs.Shown.{given_in, line_in, line_usage_in};
+
+use bz_streams::{VERSION, argument_text, argument_texts};
+use clap::error::ErrorKind;
+use clap::{Arg, ArgAction, ArgMatches, Command};
+use std::alloc::{AllocError, Global};
+use std::convert::AsStr;
+
+/// How the lines are run.
+#[derive(Clone, Copy, Debug)]
+pub struct Options {
+    /// `-k`: a line that fails doesn't keep the next ones from being run.
+    pub keep_going: bool,
+    /// `--stdout`: what a file becomes is written to standard output.
+    pub to_stdout: bool,
+    /// `--quiet`: nothing is printed of what was done.
+    pub quiet: bool,
+    /// `--journal`: FILE.journal is kept beside each file, so that a later run can undo.
+    pub journal: bool,
+}
+
+/// Where commands and targets are.
+#[derive(Debug, Drop)]
+pub enum Given<'a> {
+    /// Among the words: these are all of them that are no option's.
+    Operands(Vec<&'a str>),
+    /// In a file of lines, of this name: `-f FILE`. `-` means standard input.
+    Script(&'a str),
+}
+
+/// What the words of a command line say.
+#[derive(Debug, Drop)]
+pub struct CommandLine<'a> {
+    pub options: Options,
+    pub given: Given<'a>,
+}
+
+/// Why words are no line of the program's.
+#[derive(Debug, Drop)]
+pub enum LineFault {
+    /// They don't fit the program's options, or one is there twice; clap's text says why.
+    Clap(clap::Error),
+    /// There are operands beside `-f`.
+    BesideScript,
+    /// `--journal` is beside `--stdout`.
+    BesideStdout,
+    /// A growth was refused.
+    Memory,
+}
+
+const ABOUT: &str = "Applies commands to the rules of BUILD files.";
+
+const EXAMPLES: &str =
+    "An operand without a space that has a colon or begins with // is a target: //pkg:rule, //pkg:all,
+//pkg:%cc_library, //pkg:__pkg__; package - is standard input. Every other operand is a command.
+Each target gets all commands, in order.
+
+Examples:
+  buildozer 'add deps //lib:a' 'set testonly True' //pkg:rule
+  buildozer 'print name kind deps' //pkg:all
+  buildozer -- 'remove deps :old' undo redo -:rule < BUILD
+  buildozer --journal 'add deps //lib:a' //pkg:rule; buildozer --journal undo //pkg:rule
+  buildozer -k -f commands.txt
+    with lines as: add deps :x|//pkg:a|//pkg:b";
+
+fn keep_going<'a>(alloc: Global) -> Arg<'a>
+    ensures rule { rule_of result ≡ keep_going_rule }
+    ensures local { result.global ≡ false }
+{
+    Arg::new(alloc, "keep_going")
+        .short('k')
+        .action(ArgAction::SetTrue)
+        .help("Continues after a command or a file that fails")
+}
+
+fn file<'a>(alloc: Global) -> Arg<'a>
+    ensures rule { rule_of result ≡ script_rule }
+    ensures local { result.global ≡ false }
+{
+    Arg::new(alloc, "file").short('f').value_name("FILE").help(
+        "Reads operands from the lines of FILE, separated by |; - is standard input",
+    )
+}
+
+// An option of this name without a value.
+fn flag<'a>(alloc: Global, name: &'a str, help: &'a str) -> Arg<'a>
+    ensures rule { rule_of result ≡ record (new_rule name.entry.now) { long = Some name.entry.now; action = Some SetTrue } }
+    ensures local { result.global ≡ false }
+{
+    Arg::new(alloc, name)
+        .long(name)
+        .action(ArgAction::SetTrue)
+        .help(help)
+}
+
+fn operand<'a>(alloc: Global) -> Arg<'a>
+    ensures rule { rule_of result ≡ operand_rule }
+    ensures local { result.global ≡ false }
+{
+    Arg::new(alloc, "operand")
+        .value_name("OPERAND")
+        .action(ArgAction::Append)
+        .help("Commands and targets")
+}
+
+fn described<'a>(alloc: Global) -> Command<'a>
+    ensures { app_of result ≡ nameless }
+{
+    Command::new(alloc, "buildozer")
+        .no_binary_name(true)
+        .version(VERSION)
+        .about(ABOUT)
+        .after_help(EXAMPLES)
+}
+
+fn lines_command<'a>(alloc: Global) -> Result<Command<'a>, AllocError>
+    ensures { IfOk result (λ command. app_of command ≡ lines_app) }
+{
+    described(alloc).arg(keep_going(alloc))?.arg(file(alloc))
+}
+
+fn options_command<'a>(alloc: Global) -> Result<Command<'a>, AllocError>
+    ensures { IfOk result (λ command. app_of command ≡ options_app) }
+{
+    lines_command(alloc)?
+        .arg(flag(
+            alloc,
+            "stdout",
+            "Writes changed files to standard output instead of replacing them",
+        ))?
+        .arg(flag(alloc, "quiet", "Does not report which files were written"))?
+        .arg(flag(
+            alloc,
+            "journal",
+            "Keeps FILE.journal beside each file, so that a later run can undo",
+        ))
+}
+
+fn buildozer_command<'a>(alloc: Global) -> Result<Command<'a>, AllocError>
+    ensures { IfOk result (λ command. app_of command ≡ buildozer_app) }
+{
+    options_command(alloc)?.arg(operand(alloc))
+}
+
+fn parse<'a, S: AsStr>(alloc: Global, words: &'a [S]) -> Result<ArgMatches<'a>, LineFault>
+    ensures ok { IfOk result (λ m. (fault_of buildozer_app (map S.text words.entry.now) ≡ [])
+        × (rows_of (found_of m) ≡ matches_of buildozer_app (map S.text words.entry.now))) }
+    ensures err { IfErr result (λ fault. IfSome (line_usage_in fault) (λ usage. command_line_of (map S.text words.entry.now) ≡ Err usage)) }
+{
+    let command = match buildozer_command(alloc) {
+        Ok(command) => command,
+        Err(_) => return Err(LineFault::Memory),
+    };
+    match command.try_get_matches_from(words) {
+        Ok(matches) => Ok(matches),
+        Err(error) if error.kind() == ErrorKind::OutOfMemory => Err(LineFault::Memory),
+        Err(error) => Err(LineFault::Clap(error)),
+    }
+}
+
+fn is_flag_set(matches: &ArgMatches<'_>, id: &str) -> bool
+    ensures { result ≡ is_flag_set id.now (rows_of (found_of matches.now)) }
+{
+    match argument_text(matches, id) {
+        Some(text) => text == "true",
+        None => false,
+    }
+}
+
+fn options_of(matches: &ArgMatches<'_>) -> Options
+    ensures { result ≡ options_of (rows_of (found_of matches.now)) }
+{
+    Options {
+        keep_going: is_flag_set(matches, "keep_going"),
+        to_stdout: is_flag_set(matches, "stdout"),
+        quiet: is_flag_set(matches, "quiet"),
+        journal: is_flag_set(matches, "journal"),
+    }
+}
+
+fn given_of<'a>(alloc: Global, matches: &ArgMatches<'a>) -> Result<Given<'a>, LineFault>
+    ensures ok { IfOk result (λ given. given_of (rows_of (found_of matches.now)) ≡ Ok (given_in given)) }
+    ensures err { IfErr result (λ fault. IfSome (line_usage_in fault) (λ usage. given_of (rows_of (found_of matches.now)) ≡ Err usage)) }
+{
+    let operands = match argument_texts(alloc, matches, "operand") {
+        Ok(operands) => operands,
+        Err(_) => return Err(LineFault::Memory),
+    };
+    let Some(file) = argument_text(matches, "file") else {
+        return Ok(Given::Operands(operands));
+    };
+    if operands.is_empty() {
+        Ok(Given::Script(file))
+    } else {
+        Err(LineFault::BesideScript)
+    }
+}
+
+/// What the words after the program's name say. Errors: `Clap` where clap finds a fault in them, repeated options among
+/// these; `BesideScript` where operands are beside `-f`, else `BesideStdout` where `--journal` is beside `--stdout`;
+/// `Memory`: a growth was refused.
+pub fn read_line<'a, S: AsStr>(alloc: Global, words: &'a [S]) -> Result<CommandLine<'a>, LineFault>
+    ensures ok { IfOk result (λ line. command_line_of (map S.text words.entry.now) ≡ Ok (line_in line)) }
+    ensures err { IfErr result (λ fault. IfSome (line_usage_in fault) (λ usage. command_line_of (map S.text words.entry.now) ≡ Err usage)) }
+{
+    let matches = parse(alloc, words)?;
+    let given = given_of(alloc, &matches)?;
+    let options = options_of(&matches);
+    if options.journal && options.to_stdout {
+        return Err(LineFault::BesideStdout);
+    }
+    Ok(CommandLine { options, given })
+}

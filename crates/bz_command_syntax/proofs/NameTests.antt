@@ -1,0 +1,129 @@
+-- An identifier is a lexeme of class Name, and what the reader of tokens says of one.
+use Rattle.std.proofs.Common.{◌≡◌, ◌==◌, ◌≤◌, ℕ, Bool, true, false, [], ◌∷◌, ◌++◌, ◌&&◌, ◌||◌, not, length, take, drop, refl, sym, ap, ◌∙◌, ◌⊎◌, subst, inl, inr, arith, length-append}
+use Rattle.std.specs.Prelude.{if◌then◌else◌}
+use Rattle.std.proofs.lemmas.Bool.{false_from_ne_true, and_parts, and_from, not-true, not_from_false, cases_Bool, eqb-true, eqb-false}
+use Rattle.std.proofs.lemmas.List.{append-nil, take-append-drop, length-take-le, drop_all}
+use Rattle.std.proofs.Math.Seq.{take-length}
+use Rattle.bz_token.specs.declared.class.Class.{Class}
+use Rattle.bz_token.specs.declared.class.Class.TheVariants as class
+use Rattle.bz_token.specs.Bytes.{is_digit, is_high, is_letter}
+use Rattle.bz_token.specs.Lexemes.{is_keyword, IsLetters, none, one, three, IsWord, IsLexeme}
+use Rattle.bz_token.specs.Tokens.{IsToken, NoToken, TokenAt}
+use Rattle.bz_token.proofs.Laws.{one_token}
+use Rattle.bz_items.specs.Characters.{Bytes}
+use Rattle.bz_command_syntax.specs.Identifiers.{is_plain_letter, are_letters, is_word_of_letters, is_identifier, IdentifiersAreNames}
+
+-- ---- letters
+
+one_more : {a : ℕ} {s : Bytes} → is_plain_letter a ≡ true → IsLetters s → IsLetters (a ∷ s)
+one_more {a} h l = let w = and_parts (is_letter a || is_digit a) (not (a == 239)) h in one w.0 (not-true (a == 239) w.1) l
+
+-- a test by cases, of either case
+either : (t x y : Bool) → (if t then x else y) ≡ true → ((t ≡ true) × (x ≡ true)) ⊎ ((t ≡ false) × (y ≡ true))
+either true x y h = inl (refl, h)
+either false x y h = inr (refl, h)
+
+otherwise : (t x y : Bool) → t ≡ false → y ≡ true → (if t then x else y) ≡ true
+otherwise t x y e h = rw e h
+
+-- EF and the two bytes after it
+abbrev is_high_character : ℕ → ℕ → Bool
+is_high_character b c = is_high b && is_high c && not (b == 187 && c == 191)
+
+following : (b c : ℕ) (s : Bytes) → is_high_character b c ≡ true → IsLetters s → IsLetters (239 ∷ b ∷ c ∷ s)
+following b c s h l =
+    let w = and_parts (is_high b && is_high c) (not (b == 187 && c == 191)) h in
+    let v = and_parts (is_high b) (is_high c) w.0 in
+    three v.0 v.1 (not-true (b == 187 && c == 191) w.1) l
+
+letters_of : (s : Bytes) → are_letters s ≡ true → IsLetters s
+letters_of [] h = none
+letters_of (a ∷ []) h = one_more h none
+letters_of (a ∷ b ∷ []) h = let w = and_parts (is_plain_letter a) (is_plain_letter b) h in one_more w.0 (one_more w.1 none)
+letters_of (a ∷ b ∷ c ∷ s) h =
+    elim (either (a == 239) (is_high_character b c && are_letters s) (is_plain_letter a && are_letters (b ∷ c ∷ s)) h) [
+      | inl w ↦
+          let v = and_parts (is_high_character b c) (are_letters s) w.1 in
+          subst (λ (x : ℕ). IsLetters (x ∷ b ∷ c ∷ s)) (sym (eqb-true a 239 w.0)) (following b c s v.0 (letters_of s v.1))
+      | inr w ↦
+          let v = and_parts (is_plain_letter a) (are_letters (b ∷ c ∷ s)) w.1 in
+          one_more v.0 (letters_of (b ∷ c ∷ s) v.1)
+    ]
+
+plain_letter : (a : ℕ) → (is_letter a || is_digit a) ≡ true → (a == 239) ≡ false → is_plain_letter a ≡ true
+plain_letter a h e = and_from (is_letter a || is_digit a) (not (a == 239)) h (not_from_false (a == 239) e)
+
+test_more : (a : ℕ) (s : Bytes) → (is_letter a || is_digit a) ≡ true → (a == 239) ≡ false → are_letters s ≡ true → are_letters (a ∷ s) ≡ true
+test_more a [] h e l = plain_letter a h e
+test_more a (b ∷ []) h e l = and_from (is_plain_letter a) (is_plain_letter b) (plain_letter a h e) l
+test_more a (b ∷ c ∷ s) h e l =
+    otherwise (a == 239) (is_high_character b c && are_letters s) (is_plain_letter a && are_letters (b ∷ c ∷ s)) e
+    (and_from (is_plain_letter a) (are_letters (b ∷ c ∷ s)) (plain_letter a h e) l)
+
+test_of : {s : Bytes} → IsLetters s → are_letters s ≡ true
+test_of none = refl
+test_of (one {b} {s} h e l) = test_more b s h e (test_of l)
+test_of (three {b} {c} {s} h k n l) =
+    and_from (is_high_character b c) (are_letters s)
+    (and_from (is_high b && is_high c) (not (b == 187 && c == 191)) (and_from (is_high b) (is_high c) h k) (not_from_false (b == 187 && c == 191) n))
+    (test_of l)
+
+-- ---- identifiers
+
+word_of : (s : Bytes) → is_word_of_letters s ≡ true → IsWord s
+word_of [] h = absurd cc
+word_of (b ∷ s) h = let w = and_parts (not (is_digit b)) (are_letters (b ∷ s)) h in (not-true (is_digit b) w.0, letters_of (b ∷ s) w.1)
+
+word_test : (s : Bytes) → IsWord s → is_word_of_letters s ≡ true
+word_test [] h = absurd h
+word_test (b ∷ s) h = and_from (not (is_digit b)) (are_letters (b ∷ s)) (not_from_false (is_digit b) h.0) (test_of h.1)
+
+pub identifiers_are_names : IdentifiersAreNames
+identifiers_are_names s = (
+  λ h. let w = and_parts (is_word_of_letters s) (not (is_keyword s)) h in (word_of s w.0, not-true (is_keyword s) w.1),
+  λ h. and_from (is_word_of_letters s) (not (is_keyword s)) (word_test s h.0) (not_from_false (is_keyword s) h.1),
+)
+
+-- ---- what is read at the front of a text
+
+-- a lexeme is the token of the text that it is
+whole_token : (c : Class) (s : Bytes) → IsLexeme c s → IsToken c s []
+whole_token c s h = record {
+  lexeme = h;
+  longest = λ other front back e l.
+      let n : length (front ++ back) ≡ length (s ++ []) = ap length e in
+      omega (arith, n, length-append front back, length-append s []);
+  no_third = λ p m back y k i j. absurd cc;
+}
+
+-- and no shorter one is
+whole_length : (c : Class) (n : ℕ) (s : Bytes) → TokenAt c n s → IsLexeme class.Name s → n ≡ length s
+whole_length c n s h l =
+    let m : length s ≤ length (take n s) = h.1.longest class.Name s [] (append-nil s ∙ sym (take-append-drop n s)) l in
+    omega (arith, m, h.0, length-take-le n s h.0)
+
+pub no_identifier : (s : Bytes) → NoToken s → is_identifier s ≡ false
+no_identifier s no_token =
+    false_from_ne_true (is_identifier s) (λ h. no_token class.Name s [] (append-nil s) (whole_token class.Name s ((identifiers_are_names s).0 h)))
+
+-- a token that is the whole text
+whole_text : (c : Class) (n : ℕ) (s : Bytes) → TokenAt c n s → n ≡ length s → IsToken c s []
+whole_text c n s h e =
+    let all : take n s ≡ s = ap (λ (k : ℕ). take k s) e ∙ take-length s in
+    let rest : drop n s ≡ [] = drop_all n s (omega arith) in
+    subst (λ (x : Bytes). IsToken c x []) all (subst (λ (x : Bytes). IsToken c (take n s) x) rest h.1)
+
+pub name_found : (c : Class) (n : ℕ) (s : Bytes) → TokenAt c n s → c ≡ class.Name → (n == length s) ≡ is_identifier s
+name_found c n s h is =
+    elim (cases_Bool (n == length s)) [
+      | inl e ↦
+          let l : IsLexeme c s = (whole_text c n s h (eqb-true n (length s) e)).lexeme in
+          e ∙ sym ((identifiers_are_names s).1 (subst (λ (x : Class). IsLexeme x s) is l))
+      | inr e ↦
+          e ∙ sym (false_from_ne_true (is_identifier s) (λ i. eqb-false n (length s) e (whole_length c n s h ((identifiers_are_names s).0 i))))
+    ]
+
+pub other_found : (c : Class) (n : ℕ) (s : Bytes) → TokenAt c n s → (c ≡ class.Name → ⊥) → is_identifier s ≡ false
+other_found c n s h other = false_from_ne_true (is_identifier s) (λ i.
+    let l = (identifiers_are_names s).0 i in
+    other ((one_token c class.Name s [] s [] (whole_text c n s h (whole_length c n s h l)) (whole_token class.Name s l) refl).0))

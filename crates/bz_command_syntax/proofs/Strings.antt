@@ -1,0 +1,64 @@
+-- A word between quotation marks is a lexeme of class String.
+use Rattle.std.proofs.Common.{◌≡◌, ◌==◌, ◌<◌, ◌≤◌, ◌+◌, ℕ, false, [], ◌∷◌, ◌++◌, ◌||◌, length, get_or, take, refl, sym, ap, ◌∙◌, inl, inr}
+use Rattle.std.specs.List.{flat_map, list_any}
+use Rattle.std.proofs.lemmas.List.{take_more, take_all, append-nil}
+use Rattle.std.proofs.lemmas.List.Concat.{flat_map-append}
+use Rattle.std.proofs.lemmas.Bool.{cases_Bool, or_parts}
+use Rattle.bz_token.specs.declared.class.Class.TheVariants as class
+use Rattle.bz_items.specs.Characters.{Bytes, backslash, line_feed, quotation_mark}
+use Rattle.bz_token.specs.Bytes.{among}
+use Rattle.bz_token.specs.Lexemes.{IsShort, short_end, short_plain, short_taken, single, IsLexeme}
+use Rattle.bz_command_syntax.specs.Quoted.{is_escaped, escaped, quoted_of}
+
+-- a byte that is written as it is
+stays : (byte : ℕ) → (byte == line_feed) ≡ false → (byte == quotation_mark || byte == backslash) ≡ false
+    → among byte (quotation_mark ∷ line_feed ∷ backslash ∷ []) ≡ false
+stays byte e f = let w = or_parts (byte == quotation_mark) (byte == backslash) f in rw (w.0, e, w.1) refl
+
+short_more : (byte : ℕ) (rest : Bytes) → IsShort quotation_mark rest → IsShort quotation_mark (escaped byte ++ rest)
+short_more byte rest l =
+    elim (cases_Bool (byte == line_feed)) [
+      | inl e ↦ rw e (short_taken l)
+      | inr e ↦
+          elim (cases_Bool (byte == quotation_mark || byte == backslash)) [
+            | inl f ↦ rw (e, f) (short_taken l)
+            | inr f ↦ let plain = stays byte e f in rw (e, f) (short_plain plain l)
+          ]
+    ]
+
+short_text : (word : Bytes) → IsShort quotation_mark (flat_map escaped word)
+short_text [] = short_end
+short_text (byte ∷ word) = short_more byte (flat_map escaped word) (short_text word)
+
+pub quoted_lexeme : (word : Bytes) → IsLexeme class.String (quoted_of word)
+quoted_lexeme word = ([], quoted_of word, refl, refl, single quotation_mark (flat_map escaped word) refl (short_text word))
+
+-- ---- a word of plain characters is written as it is
+
+plain_text : (word : Bytes) → list_any is_escaped word ≡ false → flat_map escaped word ≡ word
+plain_text [] h = refl
+plain_text (byte ∷ word) h =
+    let w = or_parts (is_escaped byte) (list_any is_escaped word) h in
+    let v = or_parts (byte == line_feed) (byte == quotation_mark || byte == backslash) w.0 in
+    let itself : escaped byte ≡ byte ∷ [] = rw (v.0, v.1) refl in
+    ap (λ (front : Bytes). front ++ flat_map escaped word) itself ∙ ap (λ (rest : Bytes). byte ∷ rest) (plain_text word w.1)
+
+pub quoted_plain : (word : Bytes) → list_any is_escaped word ≡ false → quoted_of word ≡ quotation_mark ∷ word ++ quotation_mark ∷ []
+quoted_plain word h = rw (plain_text word h) refl
+
+-- ---- the loop that writes a word between quotation marks
+
+-- one byte more, which is read at any `d` after the word
+pub quoted_turn : (word : Bytes) (at d : ℕ) (before after : Bytes) → at < length word → before ≡ quotation_mark ∷ flat_map escaped (take at word) → after ≡ before ++ escaped (get_or word at d)
+    → after ≡ quotation_mark ∷ flat_map escaped (take (at + 1) word)
+quoted_turn word at d before after within so_far more =
+    let front : Bytes = flat_map escaped (take at word) in
+    let byte : ℕ = get_or word at d in
+    let next : flat_map escaped (take (at + 1) word) ≡ front ++ escaped byte =
+    ap (flat_map escaped) (take_more word at d within) ∙ (flat_map-append escaped (take at word) (byte ∷ []) ∙ ap (λ (t : Bytes). front ++ t) (append-nil (escaped byte))) in
+    more ∙ (ap (λ (t : Bytes). t ++ escaped byte) so_far ∙ ap (λ (t : Bytes). quotation_mark ∷ t) (sym next))
+
+-- the mark after the whole word
+pub quoted_end : (word : Bytes) (at : ℕ) (before after : Bytes) → length word ≤ at → before ≡ quotation_mark ∷ flat_map escaped (take at word) → after ≡ before ++ quotation_mark ∷ [] → after ≡ quoted_of word
+quoted_end word at before after following so_far more =
+    more ∙ ap (λ (t : Bytes). t ++ quotation_mark ∷ []) (so_far ∙ ap (λ (t : Bytes). quotation_mark ∷ flat_map escaped t) (take_all at word following))

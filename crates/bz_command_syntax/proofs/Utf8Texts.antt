@@ -1,0 +1,144 @@
+-- What is UTF-8 and cut beside ASCII stays UTF-8.
+use Rattle.std.proofs.Common.{◌≡◌, ◌==◌, ◌<◌, ◌+◌, ℕ, Bool, true, false, List, [], ◌∷◌, ◌++◌, ◌&&◌, ◌||◌, not, map, filter, length, drop, get_or, refl, sym, ap, ◌∙◌, subst, inl, inr, arith, length-append, append_assoc, IsUtf8, IfSome, Option, Some, None, option_map}
+use Rattle.std.specs.Prelude.{if◌then◌else◌}
+use Rattle.std.specs.List.{flat_map, onto_first}
+use Rattle.std.proofs.lemmas.Bool.{cases_Bool, eqb-true, or_cases, and_parts}
+use Rattle.std.proofs.lemmas.List.{take_at, drop_at, append-nil}
+use Rattle.std.proofs.lemmas.Str.{IsUtf8-take, IsUtf8-drop, IsUtf8-append, IsUtf8-from_ascii, IsCharBoundary-before_ascii, IsCharBoundary-after_ascii}
+use Rattle.std.proofs.lemmas.Str.Ascii.{IsAscii-from_all}
+use Rattle.std.proofs.lemmas.List.Elements.{All-cons}
+use Rattle.std.proofs.Math.Seq.{get_or-append_seam}
+use Rattle.bz_items.specs.Characters.{Bytes, backslash, letter_n, line_feed, quotation_mark, space}
+use Rattle.bz_command_syntax.specs.Commands.{cut_at}
+use Rattle.bz_command_syntax.specs.Proper.{AreUtf8}
+use Rattle.bz_command_syntax.specs.Quoted.{escaped, quoted_of}
+use Rattle.bz_command_syntax.specs.Words.{pieces, begins_with_space, unescaped, is_nonempty, words_of}
+use Rattle.bz_command_syntax.proofs.Pieces.{joined, joined-onto_first}
+
+-- a text on both sides of an ASCII byte
+pub beside_ascii : (front : Bytes) (byte : ℕ) (rest : Bytes) → byte < 128 → IsUtf8 (front ++ byte ∷ rest) → IsUtf8 front × IsUtf8 rest
+beside_ascii front byte rest h u =
+    let all : Bytes = front ++ byte ∷ rest in
+    let long : length all ≡ length front + length (byte ∷ rest) = length-append front (byte ∷ rest) in
+    let here : get_or all (length front) 0 ≡ byte = get_or-append_seam front byte rest 0 in
+    let more : front ++ byte ∷ rest ≡ (front ++ byte ∷ []) ++ rest = sym (append_assoc front (byte ∷ []) rest) in
+    let past : drop (length front + 1) all ≡ rest =
+    ap (drop (length front + 1)) more ∙ drop_at (front ++ byte ∷ []) rest (length front + 1) (length-append front (byte ∷ [])) in (
+      subst IsUtf8 (take_at front (byte ∷ rest) (length front) refl) (IsUtf8-take all (length front) u (IsCharBoundary-before_ascii all (length front) (omega arith) (omega arith))),
+      subst IsUtf8 past (IsUtf8-drop all (length front + 1) u (IsCharBoundary-after_ascii all (length front) u (omega arith) (omega arith))),
+    )
+
+-- two texts, the first of which goes after a front
+abbrev pub AreAfter : Bytes → Bytes × Bytes → Type 0
+AreAfter front parts = IsUtf8 (front ++ parts.0) × IsUtf8 parts.1
+
+byte_after : (front : Bytes) (byte : ℕ) (parts : Option (Bytes × Bytes)) → IfSome parts (AreAfter (front ++ byte ∷ []))
+    → IfSome (option_map (λ both. (byte ∷ both.0, both.1)) parts) (AreAfter front)
+byte_after front byte None h = tt
+byte_after front byte (Some both) h = (subst IsUtf8 (append_assoc front (byte ∷ []) both.0) h.0, h.1)
+
+-- both sides of a cut
+pub cut_utf8 : (byte : ℕ) (front text : Bytes) → byte < 128 → IsUtf8 (front ++ text) → IfSome (cut_at byte text) (AreAfter front)
+cut_utf8 byte front [] l u = tt
+cut_utf8 byte front (first ∷ rest) l u =
+    elim (cases_Bool (first == byte)) [
+      | inl e ↦
+          let same : first ≡ byte = eqb-true first byte e in
+          let w = beside_ascii front first rest (omega arith) u in
+          rw e (subst IsUtf8 (sym (append-nil front)) w.0, w.1)
+      | inr e ↦
+          rw e (byte_after front first (cut_at byte rest) (cut_utf8 byte (front ++ first ∷ []) rest l (subst IsUtf8 (sym (append_assoc front (first ∷ []) rest)) u)))
+    ]
+
+pub one_ascii : (byte : ℕ) → byte < 128 → IsUtf8 (byte ∷ [])
+one_ascii byte h = IsUtf8-from_ascii (byte ∷ []) (IsAscii-from_all (byte ∷ []) (All-cons (λ b. b < 128) byte [] h (λ k d l. absurd (omega arith))))
+
+-- ---- a word between quotation marks
+
+two_ascii : (first second : ℕ) → first < 128 → second < 128 → IsUtf8 (first ∷ second ∷ [])
+two_ascii first second h k = IsUtf8-append (first ∷ []) (second ∷ []) (one_ascii first h) (one_ascii second k)
+
+abbrev is_between : ℕ → Bool
+is_between byte = byte == quotation_mark || byte == backslash
+
+between_ascii : (byte : ℕ) → is_between byte ≡ true → byte < 128
+between_ascii byte h = elim (or_cases (byte == quotation_mark) (byte == backslash) h) [
+  | inl e ↦ let same = eqb-true byte quotation_mark e in omega arith
+  | inr e ↦ let same = eqb-true byte backslash e in omega arith
+]
+
+escapes_utf8 : (front rest : Bytes) → IsUtf8 (front ++ rest) → IsUtf8 (front ++ flat_map escaped rest)
+escapes_utf8 front [] u = u
+escapes_utf8 front (byte ∷ rest) u =
+    let following : Bytes → Type 0 = λ text. IsUtf8 (front ++ (text ++ flat_map escaped rest)) in
+    let two : (first second : ℕ) → first < 128 → second < 128 → byte < 128 → following (first ∷ second ∷ []) =
+    (λ first second h k a.
+    let w = beside_ascii front byte rest a u in
+    IsUtf8-append front (first ∷ second ∷ flat_map escaped rest) w.0
+    (IsUtf8-append (first ∷ second ∷ []) (flat_map escaped rest) (two_ascii first second h k) (escapes_utf8 [] rest w.1))) in
+    elim (cases_Bool (byte == line_feed)) [
+      | inl e ↦
+          let same : byte ≡ line_feed = eqb-true byte line_feed e in
+          let as_two : escaped byte ≡ backslash ∷ letter_n ∷ [] = rw e refl in
+          subst following (sym as_two) (two backslash letter_n (omega arith) (omega arith) (omega arith))
+      | inr e ↦
+          elim (cases_Bool (is_between byte)) [
+            | inl f ↦
+                let as_two : escaped byte ≡ backslash ∷ byte ∷ [] = rw (e, f) refl in
+                subst following (sym as_two) (two backslash byte (omega arith) (between_ascii byte f) (between_ascii byte f))
+            | inr f ↦
+                let itself : escaped byte ≡ byte ∷ [] = rw (e, f) refl in
+                subst following (sym itself) (rw append_assoc at (escapes_utf8 (front ++ byte ∷ []) rest (rw append_assoc u)))
+          ]
+    ]
+
+pub quoted_utf8 : (word : Bytes) → IsUtf8 word → IsUtf8 (quoted_of word)
+quoted_utf8 word u =
+    IsUtf8-append (quotation_mark ∷ flat_map escaped word) (quotation_mark ∷ [])
+    (IsUtf8-append (quotation_mark ∷ []) (flat_map escaped word) (one_ascii quotation_mark (omega arith)) (escapes_utf8 [] word u))
+    (one_ascii quotation_mark (omega arith))
+
+-- ---- the words of a text
+
+nothing_before : (all : List Bytes) → AreUtf8 (joined [] all) → AreUtf8 all
+nothing_before [] u = tt
+nothing_before (piece ∷ all) u = u
+
+pieces_utf8 : (front : Bytes) (following : Bool) (text : Bytes) → IsUtf8 (front ++ text) → AreUtf8 (joined front (pieces following text))
+pieces_utf8 front following [] u = (u, tt)
+pieces_utf8 front following (byte ∷ rest) u =
+    let cut : Bool → Type 0 = λ t. AreUtf8 (joined front (if t then [] ∷ pieces false rest else onto_first byte (pieces (byte == backslash) rest))) in
+    elim (cases_Bool (byte == space && not following)) [
+      | inl e ↦
+          let same : byte ≡ space = eqb-true byte space ((and_parts (byte == space) (not following) e).0) in
+          let w = beside_ascii front byte rest (omega arith) u in
+          subst cut (sym e) (subst IsUtf8 (sym (append-nil front)) w.0, nothing_before (pieces false rest) (pieces_utf8 [] false rest w.1))
+      | inr e ↦
+          let all = pieces (byte == backslash) rest in
+          subst cut (sym e) (subst AreUtf8 (sym (joined-onto_first front byte all))
+          (pieces_utf8 (front ++ byte ∷ []) (byte == backslash) rest (rw append_assoc u)))
+    ]
+
+filter_utf8 : (all : List Bytes) → AreUtf8 all → AreUtf8 (filter is_nonempty all)
+filter_utf8 [] u = tt
+filter_utf8 ([] ∷ all) u = filter_utf8 all u.1
+filter_utf8 ((byte ∷ piece) ∷ all) u = (u.0, filter_utf8 all u.1)
+
+unescaped_utf8 : (front text : Bytes) → IsUtf8 (front ++ text) → IsUtf8 (front ++ unescaped text)
+unescaped_utf8 front [] u = u
+unescaped_utf8 front (byte ∷ rest) u =
+    let following : Bool → Type 0 = λ t. IsUtf8 (front ++ (if t then unescaped rest else byte ∷ unescaped rest)) in
+    elim (cases_Bool (byte == backslash && begins_with_space rest)) [
+      | inl e ↦
+          let same : byte ≡ backslash = eqb-true byte backslash ((and_parts (byte == backslash) (begins_with_space rest) e).0) in
+          let w = beside_ascii front byte rest (omega arith) u in
+          subst following (sym e) (IsUtf8-append front (unescaped rest) w.0 (unescaped_utf8 [] rest w.1))
+      | inr e ↦ subst following (sym e) (rw append_assoc at (unescaped_utf8 (front ++ byte ∷ []) rest (rw append_assoc u)))
+    ]
+
+each_unescaped : (all : List Bytes) → AreUtf8 all → AreUtf8 (map unescaped all)
+each_unescaped [] u = tt
+each_unescaped (piece ∷ all) u = (unescaped_utf8 [] piece u.0, each_unescaped all u.1)
+
+pub words_utf8 : (text : Bytes) → IsUtf8 text → AreUtf8 (words_of text)
+words_utf8 text u = each_unescaped (filter is_nonempty (pieces false text)) (filter_utf8 (pieces false text) (nothing_before (pieces false text) (pieces_utf8 [] false text u)))

@@ -1,0 +1,257 @@
+//! Commands, as their words give them.
+use crate::pattern::Pattern;
+use bz_items::{Items, Text};
+use std::marker::Model;
+
+/// A command as it can be read: the attributes of its operation are identifiers, its kinds are kinds, where values are
+/// required there is one, and all its texts are UTF-8.
+#[derive(Debug, Drop)]
+pub struct Command {
+    pub operation: Operation,
+}
+
+impl Model for Command {
+    ghost use Rattle.bz_command_syntax.specs.declared.command.Operation.{Operation};
+    ghost use Rattle.bz_command_syntax.specs.Proper.{IsProperCommand};
+
+    ghost Value = { Operation };
+
+    ghost view = { λ command. command.operation };
+
+    ghost invariant = { λ command. IsProperCommand command.operation };
+}
+
+impl Command {
+    ghost use Rattle.std.specs.Prelude.{◌≡◌};
+    ghost use Rattle.bz_command_syntax.specs.Printing.{prints};
+
+    /// Whether the command prints, and leaves the file as it is.
+    pub fn prints(&self) -> bool
+        ensures { result ≡ prints self.now }
+    {
+        matches!(
+            self.operation,
+            Operation::Comment(CommentOperation::Print { .. }) | Operation::Print { .. }
+        )
+    }
+}
+
+/// What is done to the rules that a target means, in groups by what the commands work on. Attributes, kinds and values are
+/// as they are written: no value is shortened yet, and none is in quotation marks.
+#[derive(Debug, Drop)]
+pub enum Operation {
+    /// On rules as a whole.
+    Rule(RuleOperation),
+    /// On attributes as a whole.
+    Attribute(AttributeOperation),
+    /// On the values of attributes.
+    Value(ValueOperation),
+    /// On attributes that are dicts.
+    Dict(DictOperation),
+    /// On the symbols that the file loads.
+    Load(LoadOperation),
+    /// On comments.
+    Comment(CommentOperation),
+    /// Fields of the rules, one or more, are printed.
+    Print { fields: Items<Field> },
+}
+
+/// What is done to rules as a whole.
+#[derive(Debug, Drop)]
+pub enum RuleOperation {
+    /// A new rule of this kind with this name.
+    New {
+        kind: Text,
+        name: Text,
+        place: RulePlace,
+    },
+    /// Each rule's statement goes, with its comments.
+    Delete,
+    /// The rule's kind becomes this one.
+    SetKind {
+        kind: Text,
+    },
+}
+
+/// What is done to attributes as a whole.
+#[derive(Debug, Drop)]
+pub enum AttributeOperation {
+    /// The attribute's value becomes these, one or more.
+    Set {
+        attribute: Text,
+        values: Items<Text>,
+    },
+    /// The same where there is no such attribute.
+    SetIfAbsent {
+        attribute: Text,
+        values: Items<Text>,
+    },
+    /// Whole attributes go.
+    Remove {
+        attributes: Attributes,
+    },
+    /// The attribute gets another name.
+    Rename {
+        from: Text,
+        to: Text,
+    },
+    /// The attribute gets the value that it has in the first rule of this name.
+    Copy {
+        attribute: Text,
+        rule: Text,
+    },
+    /// The same where there is no such attribute.
+    CopyNoOverwrite {
+        attribute: Text,
+        rule: Text,
+    },
+}
+
+/// What is done to the values of attributes.
+#[derive(Debug, Drop)]
+pub enum ValueOperation {
+    /// These values, one or more, go to the end of the attribute's list where they are no items of it.
+    Add {
+        attribute: Text,
+        values: Items<Text>,
+    },
+    /// These values, one or more, go from the attribute's lists.
+    Remove {
+        attribute: Text,
+        values: Items<Text>,
+    },
+    /// A value becomes another one, in lists or alone.
+    Replace {
+        attributes: Attributes,
+        old: Text,
+        new: Text,
+    },
+    /// In the plain strings of lists, or in one alone, each match of the pattern is replaced by the template.
+    Substitute {
+        attributes: Attributes,
+        pattern: Pattern,
+        template: Text,
+    },
+    /// Values go from one attribute's lists to another's.
+    Move {
+        from: Text,
+        to: Text,
+        values: Values,
+    },
+}
+
+/// What is done to attributes that are dicts.
+#[derive(Debug, Drop)]
+pub enum DictOperation {
+    /// Entries whose key isn't there, one or more, go to the end of the attribute's dict.
+    Add {
+        attribute: Text,
+        entries: Items<Entry>,
+    },
+    /// The same, and the value of a key that is there becomes this one.
+    Set {
+        attribute: Text,
+        entries: Items<Entry>,
+    },
+    /// The entries of these keys, one or more, go from the attribute's dict.
+    Remove {
+        attribute: Text,
+        keys: Items<Text>,
+    },
+}
+
+/// What is done to the symbols that the file loads.
+#[derive(Debug, Drop)]
+pub enum LoadOperation {
+    /// Symbols, one or more, are loaded from a path.
+    New { path: Text, symbols: Items<Symbol> },
+    /// The file is mended.
+    Fix { fixes: Fixes },
+}
+
+/// What is done to comments, or with them.
+#[derive(Debug, Drop)]
+pub enum CommentOperation {
+    /// A comment is put above.
+    Add { host: Host, text: Text },
+    /// The comments are printed.
+    Print { host: Host },
+    /// The comments go.
+    Remove { host: Host },
+}
+
+/// Where a new rule goes.
+#[derive(Debug, Drop)]
+pub enum RulePlace {
+    /// To the end of the file.
+    End,
+    /// Right before the first rule of this name.
+    Before(Text),
+    /// Right after the first rule of this name.
+    After(Text),
+}
+
+/// The attributes that a command is meant for.
+#[derive(Debug, Drop)]
+pub enum Attributes {
+    /// All but `name`: `*`.
+    All,
+    /// The attribute of this name.
+    Named(Text),
+}
+
+/// The values that are moved.
+#[derive(Debug, Drop)]
+pub enum Values {
+    /// All: `*`, alone or beside others.
+    All,
+    /// These values, one or more.
+    These(Items<Text>),
+}
+
+/// An entry of a dict, as it is written.
+#[derive(Debug, Drop)]
+pub struct Entry {
+    pub key: Text,
+    pub value: Text,
+}
+
+/// A symbol that is loaded: its name in the file that loads it, and its name in the file that is loaded.
+#[derive(Debug, Drop)]
+pub struct Symbol {
+    pub to: Text,
+    pub from: Text,
+}
+
+/// What carries the comments that a command is meant for.
+#[derive(Debug, Drop)]
+pub enum Host {
+    /// The rule itself.
+    Rule,
+    /// The attribute of this name.
+    Attribute(Text),
+    /// The first item of the attribute's lists that is this value.
+    Item { attribute: Text, value: Text },
+}
+
+/// What `fix` mends.
+#[derive(Clone, Copy, Debug)]
+pub struct Fixes {
+    /// The first rule of kind `package` goes after the loads.
+    pub move_package_to_top: bool,
+    /// Symbols that nothing uses are loaded no more.
+    pub unused_loads: bool,
+}
+
+/// A field of a rule that is printed.
+#[derive(Debug, Drop)]
+pub enum Field {
+    /// The rule's kind.
+    Kind,
+    /// The line on which the rule begins.
+    StartLine,
+    /// The rule's text.
+    Rule,
+    /// The value of the attribute of this name.
+    Attribute(Text),
+}

@@ -1,0 +1,103 @@
+//! Patterns of `regex`, and what replacing their matches makes of a text. A contract sees a pattern as its text: what it matches is
+//! what `regex`'s grammar reads there.
+ghost use Rattle.std.specs.Prelude.{◌≡◌, ◌≢◌, ◌⊎◌, true};
+ghost use Rattle.bz_command_syntax.specs.Patterns.{is_special as special, has_special as more_than_text};
+ghost use Rattle.regex.specs.declared.error.Error.TheVariants.{OutOfMemory};
+
+use crate::fault::CommandFault;
+use bz_items::{Memory, Text};
+use regex::{Error, Regex, Template};
+use std::alloc::Global;
+use std::marker::Model;
+use std::str;
+
+/// A compiled pattern.
+#[derive(Debug, Drop)]
+pub struct Pattern {
+    regex: Regex,
+}
+
+impl Model for Pattern {
+    ghost use Rattle.std.specs.Prelude.{◌≡◌, ℕ, List};
+    ghost use Rattle.regex.specs.Strings.{regex_source, regex_config, IsReadFromSource};
+    ghost use Rattle.regex.specs.Patterns.{default_config};
+
+    ghost Value = { List ℕ };
+
+    ghost view = { λ pattern. regex_source pattern.regex };
+
+    ghost invariant = { λ pattern. (regex_config pattern.regex ≡ default_config) × IsReadFromSource pattern.regex };
+}
+
+// Why a text is not taken as a pattern, where `regex` gives this error for it. A text without special characters is a pattern:
+// it can only want memory.
+fn fault_of(error: Error, has_special: bool) -> CommandFault
+    ensures { ((result ≡ CommandFault.BadPattern) × (error ≢ OutOfMemory) × (has_special ≡ true)) ⊎ (result ≡ CommandFault.Memory) }
+{
+    if !has_special {
+        return CommandFault::Memory;
+    }
+    match error {
+        Error::OutOfMemory => CommandFault::Memory,
+        _ => CommandFault::BadPattern,
+    }
+}
+
+// Whether the character is one by which a pattern is more than a text.
+#[tactic(auto, unfolding(crate::specs::Patterns::is_special))]
+fn is_special(byte: &u8) -> bool
+    ensures { result ≡ special byte.now }
+{
+    b"\\.+*?()|[]{}^$".iter().any(|other| byte == other)
+}
+
+// Whether the text has a special character.
+fn has_special(source: &str) -> bool
+    ensures { result ≡ more_than_text source.now }
+{
+    source.as_bytes().iter().any(is_special)
+}
+
+impl Pattern {
+    ghost use Rattle.std.specs.Prelude.{◌≡◌, ◌⊎◌, IfOk, IfErr, chars};
+    ghost use Rattle.regex_syntax.specs.Grammar.{read};
+    ghost use Rattle.regex.specs.Patterns.{default_config};
+    ghost use Rattle.bz_command_syntax.specs.Patterns.{IsRefusedPattern, substituted, substituted_by};
+
+    /// Compiles a pattern, with `regex`'s default options. Errors: `BadPattern` where `regex` refuses a text with a special
+    /// character for another cause than memory: it is no pattern, is nested deeper than 250, or its tables would take more than 10 MiB;
+    /// `Memory`: a growth was refused.
+    pub fn read(alloc: Global, source: &str) -> Result<Pattern, CommandFault>
+        ensures ok { IfOk result (λ pattern. pattern ≡ source.now) }
+        ensures err { IfErr result (λ fault. ((fault ≡ CommandFault.BadPattern) × IsRefusedPattern source.now) ⊎ (fault ≡ CommandFault.Memory)) }
+    {
+        match Regex::new(alloc, source) {
+            Ok(regex) => Ok(Pattern { regex }),
+            Err(error) => Err(fault_of(error, has_special(source))),
+        }
+    }
+
+    /// The body with each match replaced as `regex` replaces all by the template; bytes that are not UTF-8 have no match. The
+    /// error: a growth was refused.
+    pub fn substituted(&self, alloc: Global, template: &[u8], body: &[u8]) -> Result<Text, Memory>
+        ensures { IfOk result (λ text. text ≡ substituted self.now template.now body.now) }
+    {
+        let Ok(template) = str::from_utf8(template) else {
+            return Text::from_slice(alloc, body);
+        };
+        match str::from_utf8(body) {
+            Ok(body) => self.replaced(alloc, template, body),
+            Err(_) => Text::from_slice(alloc, body),
+        }
+    }
+
+    /// The same of texts.
+    fn replaced(&self, alloc: Global, template: &str, body: &str) -> Result<Text, Memory>
+        ensures { IfOk result (λ text. text ≡ substituted_by (read default_config (chars self.now)) template.now body.now) }
+    {
+        let template = Template::new(alloc, self.regex.capture_names(), template)?;
+        let mut matcher = self.regex.matcher(alloc)?;
+        let text = matcher.replace_all(alloc, body, &template)?;
+        Ok(Text::from_vec(text.into_bytes()))
+    }
+}

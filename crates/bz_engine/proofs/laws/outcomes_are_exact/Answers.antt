@@ -1,5 +1,0 @@
-use Rattle.bz_engine.proofs.ExactOutcomes.{exact}
-use Rattle.bz_engine.proofs.laws.outcomes_are_exact.Goals as goal
-
-pub returns : goal.returns
-returns c = exact c.one_reading.ensures

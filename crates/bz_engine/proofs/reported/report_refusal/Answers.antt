@@ -1,4 +1,0 @@
-use Rattle.bz_engine.proofs.reported.report_refusal.Goals as goal
-
-pub returns : goal.returns
-returns g c = rw (c.name-name.ensures, c.number-number.ensures) at c.report_numbered_in.ensures

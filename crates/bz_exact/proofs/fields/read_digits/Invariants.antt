@@ -1,9 +1,0 @@
-use Rattle.std.proofs.Common.{◌≡◌, length}
-use Rattle.bz_exact.specs.Readers.{digits_at}
-use Rattle.bz_exact.proofs.fields.read_digits.Given as goal
-
-abbrev pub invariant-digits : goal.invariant-digits
-invariant-digits l = digits_at l.stop l.value l.rest ≡ digits_at l.stop l.begun l.input
-
-abbrev pub decreases-digits : goal.decreases-digits
-decreases-digits l = length l.rest

@@ -1,5 +1,0 @@
-use Rattle.bz_exact.proofs.Formats.{counted_exact}
-use Rattle.bz_exact.proofs.laws.counted_exact.Goals as goal
-
-pub returns : goal.returns
-returns c = counted_exact

@@ -1,4 +1,0 @@
-pub mod Spellings
-pub mod Readers
-pub mod Outcomes
-pub mod Laws

@@ -1,0 +1,65 @@
+-- What `print` prints of a rule. (Own profile of buildozer's print command.)
+use Rattle.std.specs.Prelude.{List, [], ◌∷◌, ◌++◌, Option, Some, None, codes, length, ◌-◌, take, if◌then◌else◌}
+use Rattle.std.specs.Option.{option_map_or}
+use Rattle.bz_grammar.specs.declared.kind.Kind.TheVariants as k
+use Rattle.bz_value.specs.declared.value.Expr.{Expr}
+use Rattle.bz_value.specs.declared.value.Item.{Item}
+use Rattle.bz_items.specs.Characters.{Bytes, line_feed, space}
+use Rattle.bz_layout.specs.Written as written
+use Rattle.bz_command_syntax.specs.declared.command.Field.{Field}
+use Rattle.bz_command_syntax.specs.declared.command.Field.TheVariants as f
+use Rattle.bz_rule.specs.Rules.{Rule, rule_of, attribute}
+use Rattle.bz_rule.specs.Values.{has_kind, items_of}
+use Rattle.bz_attribute.specs.Lists.{body_of}
+
+-- texts with one space between two of them
+abbrev pub spaced : List Bytes → Bytes
+spaced [] = []
+spaced (text ∷ []) = text
+spaced (text ∷ texts) = text ++ space ∷ spaced texts
+
+abbrev pub missing : Bytes
+missing = codes "(missing)"
+
+-- ---- values
+
+-- the bodies of plain strings, where all are such
+abbrev pub bodies_of : List Expr → Option (List Bytes)
+bodies_of [] = Some []
+bodies_of (x ∷ xs) = option_map_or (λ body. option_map_or (λ bodies. Some (body ∷ bodies)) (bodies_of xs) None) (body_of x) None
+
+abbrev pub strings_in : Expr → Option (List Bytes)
+strings_in value = if has_kind k.List value then bodies_of (items_of value) else None
+
+-- [a b]
+abbrev pub in_brackets : List Bytes → Bytes
+in_brackets texts = codes "[" ++ (spaced texts ++ codes "]")
+
+-- a plain string prints its body, a list of plain strings their bodies, any other value its layout at margin 0
+abbrev pub printed_value : Expr → Bytes
+printed_value value = option_map_or (λ body. body) (body_of value) (option_map_or in_brackets (strings_in value) (written.text_of value 0))
+
+-- ---- fields
+
+-- without the last byte: of a layout, its last newline
+abbrev pub without_last : Bytes → Bytes
+without_last text = take (length text - 1) text
+
+-- `line` is the line on which the rule begins, where it is on one, in decimal digits
+abbrev pub printed_field : Option Bytes → Item → Rule → Field → Bytes
+printed_field line item rule f.Kind = rule.kind
+printed_field line item rule f.StartLine = option_map_or (λ digits. digits) line missing
+printed_field line item rule f.Rule = without_last (written.item_text item)
+printed_field line item rule (f.Attribute name) = option_map_or printed_value (attribute name rule.arguments) missing
+
+abbrev pub printed_fields : Option Bytes → Item → Rule → List Field → List Bytes
+printed_fields line item rule [] = []
+printed_fields line item rule (field ∷ fields) = printed_field line item rule field ∷ printed_fields line item rule fields
+
+-- one line a rule, fields joined by one space
+abbrev pub printed_rule : Option Bytes → Item → Rule → List Field → Bytes
+printed_rule line item rule fields = spaced (printed_fields line item rule fields) ++ line_feed ∷ []
+
+-- an item that is no rule prints nothing
+abbrev pub printed_item : Option Bytes → Item → List Field → Bytes
+printed_item line item fields = option_map_or (λ rule. printed_rule line item rule fields) (rule_of item) []

@@ -1,5 +1,0 @@
-use Rattle.std.proofs.Common.{length, ◌≤◌}
-use Rattle.bz_formatter.proofs.cut.chunk_end.Given as goal
-
-abbrev pub invariant-loop-at : goal.invariant-loop-at
-invariant-loop-at l = l.end ≤ length l.text

@@ -1,0 +1,7 @@
+use Rattle.std.proofs.Common.{take}
+use Rattle.std.specs.List.{AllByRecursion}
+use Rattle.bz_grammar.specs.Legal.{IsBuildPart}
+use Rattle.bz_grammar.proofs.older.+older.Given as goal
+
+abbrev pub invariant-have_newer-loop-i : goal.invariant-have_newer-loop-i
+invariant-have_newer-loop-i l = AllByRecursion IsBuildPart (take l.i l.parts)

@@ -1,0 +1,15 @@
+pub mod Kinds
+pub mod Spell
+pub mod Shapes
+pub mod Spots
+pub mod Places
+pub mod Indents
+pub mod Legal
+pub mod Reading
+pub mod Suites
+pub mod Faults
+pub mod Laws
+pub mod Statements
+pub mod Worked
+pub mod Joined
+pub mod Split

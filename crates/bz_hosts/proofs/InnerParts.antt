@@ -1,0 +1,294 @@
+-- What the table of shapes says of each part of a node: no part of a line ends it, and the operators of a binary operation
+-- are no brackets.
+use Rattle.std.proofs.Common.{◌≡◌, ℕ, Bool, true, false, not, ◌&&◌, List, [], ◌∷◌, inl, inr, refl, sym, ap, ◌∙◌}
+use Rattle.std.specs.List.{AllByRecursion}
+use Rattle.std.proofs.lemmas.Bool.{and_parts, or_cases, not-true}
+use Rattle.std.proofs.lemmas.Slice.Eq.{bytes_eq-Decides}
+use Rattle.bz_token.specs.declared.class.Class.{Class}
+use Rattle.bz_token.specs.declared.class.Class.TheVariants as c
+use Rattle.bz_lex.specs.declared.leaf.Leaf.{Leaf}
+use Rattle.bz_grammar.specs.declared.kind.Kind.{Kind}
+use Rattle.bz_grammar.specs.declared.kind.Kind.TheVariants as k
+use Rattle.bz_grammar.specs.declared.tree.Part.{Part, Node'}
+use Rattle.bz_grammar.specs.declared.tree.Part.TheVariants as p
+use Rattle.bz_grammar.specs.Shapes as s
+use Rattle.bz_grammar.specs.Shapes.{Nonterminal, Terminal, Shape, Fits, Listed, After, Several, shape, has_token, is_one_of, is_terminal, nonterminal_has_kind, leaves_at}
+use Rattle.bz_grammar.specs.Legal.{IsNonterminal}
+use Rattle.bz_grammar.specs.Spots.{Spot, Within, onward, Role, opens, closes, ends, plain, role, following_token, after_node, after_part}
+use Rattle.bz_grammar.proofs.Balance.{no_such, same_class, inner_nonterminal, not_file, not_lines}
+use Rattle.bz_value.specs.Frames.{is_binary, is_statement}
+use Rattle.bz_value.specs.LineShapes.{line_shape}
+use Rattle.bz_value.specs.Proper.{is_operator_class}
+
+-- ---- a test on shapes for a fact of all their parts
+
+-- every list of tokens passes t, and every sort q
+abbrev pub every : (List Terminal → Bool) → (Nonterminal → Bool) → Shape → Bool
+every t q s.none = true
+every t q s.done = true
+every t q (s.tok ts r) = t ts && every t q r
+every t q (s.sub a r) = q a && every t q r
+every t q (s.alt r r') = every t q r && every t q r'
+every t q (s.list a ts last r) = q a && (t ts && every t q r)
+every t q (s.each a r) = q a && every t q r
+every t q (s.times group r) = false
+
+module _ (P : Part → Type 0) (t : List Terminal → Bool) (q : Nonterminal → Bool) (of_token : (ts : List Terminal) (x : Part) → t ts ≡ true → has_token ts x ≡ true → P x) (of_nonterminal : (a : Nonterminal) (x : Part) → q a ≡ true → IsNonterminal a x → P x) where
+  module _ (a : Nonterminal) (passes : q a ≡ true) (K : List Part → Type 0) (rest : (xs : List Part) → K xs → AllByRecursion P xs) where
+    mutual
+      listed_all : (ts : List Terminal) (last : Bool) → t ts ≡ true → (xs : List Part) → Listed (IsNonterminal a) ts last K xs → AllByRecursion P xs
+      listed_all ts last o [] h = absurd h
+      listed_all ts last o (x ∷ xs) h = (of_nonterminal a x passes h.0, after_all ts last o xs h.1)
+
+      after_all : (ts : List Terminal) (last : Bool) → t ts ≡ true → (xs : List Part) → After (IsNonterminal a) ts last K xs → AllByRecursion P xs
+      after_all ts last o [] h = tt
+      after_all ts last o (x ∷ xs) (inl h) = rest (x ∷ xs) h
+      after_all ts last o (x ∷ xs) (inr (m, inl h)) = (of_token ts x o m, listed_all ts last o xs h)
+      after_all ts last o (x ∷ xs) (inr (m, inr h)) = (of_token ts x o m, rest xs h.1)
+
+    several_all : (xs : List Part) → Several (IsNonterminal a) K xs → AllByRecursion P xs
+    several_all [] h = tt
+    several_all (x ∷ xs) (inl h) = rest (x ∷ xs) h
+    several_all (x ∷ xs) (inr h) = (of_nonterminal a x passes h.0, several_all xs h.1)
+
+  pub every_part : (r : Shape) → every t q r ≡ true → (xs : List Part) → Fits IsNonterminal r xs → AllByRecursion P xs
+  every_part s.none b xs h = absurd h
+  every_part s.done b [] h = tt
+  every_part s.done b (x ∷ xs) h = absurd h
+  every_part (s.tok ts r) b [] h = absurd h
+  every_part (s.tok ts r) b (x ∷ xs) h = let v = and_parts (t ts) (every t q r) b in (of_token ts x v.0 h.0, every_part r v.1 xs h.1)
+  every_part (s.sub a r) b [] h = absurd h
+  every_part (s.sub a r) b (x ∷ xs) h = let v = and_parts (q a) (every t q r) b in (of_nonterminal a x v.0 h.0, every_part r v.1 xs h.1)
+  every_part (s.alt r r') b xs (inl h) = every_part r (and_parts (every t q r) (every t q r') b).0 xs h
+  every_part (s.alt r r') b xs (inr h) = every_part r' (and_parts (every t q r) (every t q r') b).1 xs h
+  every_part (s.list a ts last r) b xs h =
+      let v = and_parts (q a) _ b in
+      let u = and_parts (t ts) _ v.1 in
+      listed_all a v.0 (Fits IsNonterminal r) (every_part r u.1) ts last u.0 xs h
+  every_part (s.each a r) b xs h = let v = and_parts (q a) _ b in several_all a v.0 (Fits IsNonterminal r) (every_part r v.1) xs h
+  every_part (s.times group r) b xs h = no_such b
+
+-- ---- parts inside a line
+
+abbrev pub ends_line : Class → Bool
+ends_line c.Newline = true
+ends_line c.End = true
+ends_line _ = false
+
+abbrev pub inner_kind : Kind → Bool
+inner_kind k.File = false
+inner_kind k.Line = false
+inner_kind k.Def = false
+inner_kind k.IfStmt = false
+inner_kind k.ForStmt = false
+inner_kind k.Suite = false
+inner_kind _ = true
+
+-- neither a line's newline nor the end, and no line
+abbrev pub is_inner : Part → Bool
+is_inner (p.Leaf l) = not (ends_line l.class)
+is_inner (Node' kind z r) = inner_kind kind
+
+abbrev inner_terminal : Terminal → Bool
+inner_terminal (s.any class) = not (ends_line class)
+inner_terminal (s.this class token) = not (ends_line class)
+
+abbrev pub inner_tokens : List Terminal → Bool
+inner_tokens [] = true
+inner_tokens (x ∷ xs) = inner_terminal x && inner_tokens xs
+
+terminal_inner : (x : Terminal) (l : Leaf) → inner_terminal x ≡ true → is_terminal x l ≡ true → not (ends_line l.class) ≡ true
+terminal_inner (s.any class) l h i = ap (λ z. not (ends_line z)) (same_class l.class class i) ∙ h
+terminal_inner (s.this class token) l h i = ap (λ z. not (ends_line z)) (same_class l.class class (and_parts _ _ i).0) ∙ h
+
+tokens_inner : (xs : List Terminal) (l : Leaf) → inner_tokens xs ≡ true → is_one_of xs l ≡ true → not (ends_line l.class) ≡ true
+tokens_inner [] l h i = no_such i
+tokens_inner (x ∷ xs) l h i =
+    let w = and_parts (inner_terminal x) (inner_tokens xs) h in
+    elim (or_cases (is_terminal x l) (is_one_of xs l) i) [ inl e ↦ terminal_inner x l w.0 e | inr e ↦ tokens_inner xs l w.1 e ]
+
+pub token_inner : (ts : List Terminal) (x : Part) → inner_tokens ts ≡ true → has_token ts x ≡ true → is_inner x ≡ true
+token_inner ts (p.Leaf l) h i = tokens_inner ts l h i
+token_inner ts (Node' kind z r) h i = no_such i
+
+nonterminal_kind : (a : Nonterminal) (kind : Kind) → inner_nonterminal a ≡ true → nonterminal_has_kind a kind ≡ true → inner_kind kind ≡ true
+nonterminal_kind a k.File h i = no_such (sym (not_file a) ∙ i)
+nonterminal_kind a k.Line h i = no_such (sym (not_lines a k.Line refl h) ∙ i)
+nonterminal_kind a k.Def h i = no_such (sym (not_lines a k.Def refl h) ∙ i)
+nonterminal_kind a k.IfStmt h i = no_such (sym (not_lines a k.IfStmt refl h) ∙ i)
+nonterminal_kind a k.ForStmt h i = no_such (sym (not_lines a k.ForStmt refl h) ∙ i)
+nonterminal_kind a k.Suite h i = no_such (sym (not_lines a k.Suite refl h) ∙ i)
+nonterminal_kind a _ h i = refl
+
+leaves_inner : (a : Nonterminal) → inner_nonterminal a ≡ true → inner_tokens (leaves_at a) ≡ true
+leaves_inner s.line h = no_such h
+leaves_inner s.stmt h = no_such h
+leaves_inner s.suite h = no_such h
+leaves_inner _ h = refl
+
+pub nonterminal_inner : (a : Nonterminal) (x : Part) → inner_nonterminal a ≡ true → IsNonterminal a x → is_inner x ≡ true
+nonterminal_inner a (p.Leaf l) h i = tokens_inner (leaves_at a) l (leaves_inner a h) i
+nonterminal_inner a (Node' kind z r) h i = nonterminal_kind a kind h i
+
+kind_inner : (kind : Kind) → inner_kind kind ≡ true → every inner_tokens inner_nonterminal (line_shape kind) ≡ true
+kind_inner k.File h = no_such h
+kind_inner k.Line h = no_such h
+kind_inner k.Def h = no_such h
+kind_inner k.IfStmt h = no_such h
+kind_inner k.ForStmt h = no_such h
+kind_inner k.Suite h = no_such h
+kind_inner _ h = refl
+
+-- so are all parts of a node inside a line
+pub inner_parts : (kind : Kind) → inner_kind kind ≡ true → (xs : List Part) → Fits IsNonterminal (line_shape kind) xs → AllByRecursion (λ x. is_inner x ≡ true) xs
+inner_parts kind h xs i = every_part (λ x. is_inner x ≡ true) inner_tokens inner_nonterminal token_inner nonterminal_inner (line_shape kind) (kind_inner kind h) xs i
+
+-- ---- parts that neither open nor close brackets
+
+abbrev is_turn : Role → Role → Bool
+is_turn opens opens = true
+is_turn closes closes = true
+is_turn ends ends = true
+is_turn plain plain = true
+is_turn _ _ = false
+
+turn_is : (a b : Role) → is_turn a b ≡ true → a ≡ b
+turn_is opens opens h = refl
+turn_is closes closes h = refl
+turn_is ends ends h = refl
+turn_is plain plain h = refl
+turn_is _ _ h = no_such h
+
+-- whether each leaf that is this terminal is that to those after it
+abbrev turns : Role → Terminal → Bool
+turns t (s.any c.Mark) = false
+turns t (s.any class) = is_turn (role class []) t
+turns t (s.this class token) = is_turn (role class token) t
+
+abbrev pub all_turn : Role → List Terminal → Bool
+all_turn t [] = true
+all_turn t (x ∷ xs) = turns t x && all_turn t xs
+
+of_class : (t : Role) (class : Class) (token : List ℕ) → turns t (s.any class) ≡ true → role class token ≡ t
+of_class t c.Mark token h = no_such h
+of_class t c.Newline token h = turn_is ends t h
+of_class t c.End token h = turn_is ends t h
+of_class t _ token h = turn_is plain t h
+
+of_terminal : (t : Role) (x : Terminal) (l : Leaf) → turns t x ≡ true → is_terminal x l ≡ true → role l.class l.token ≡ t
+of_terminal t (s.any class) l h i = ap (λ z. role z l.token) (same_class l.class class i) ∙ of_class t class l.token h
+of_terminal t (s.this class token) l h i =
+    let w = and_parts _ _ i in
+    ap (λ z. role z l.token) (same_class l.class class w.0) ∙ (ap (role class) ((bytes_eq-Decides l.token token).0 w.1) ∙ turn_is (role class token) t h)
+
+of_terminals : (t : Role) (xs : List Terminal) (l : Leaf) → all_turn t xs ≡ true → is_one_of xs l ≡ true → role l.class l.token ≡ t
+of_terminals t [] l h i = no_such i
+of_terminals t (x ∷ xs) l h i =
+    let w = and_parts (turns t x) (all_turn t xs) h in
+    elim (or_cases (is_terminal x l) (is_one_of xs l) i) [ inl e ↦ of_terminal t x l w.0 e | inr e ↦ of_terminals t xs l w.1 e ]
+
+abbrev pub plain_tokens : List Terminal → Bool
+plain_tokens ts = all_turn plain ts
+
+tokens_plain : (xs : List Terminal) (l : Leaf) → plain_tokens xs ≡ true → is_one_of xs l ≡ true → role l.class l.token ≡ plain
+tokens_plain xs l h i = of_terminals plain xs l h i
+
+-- after an opening bracket
+pub token_opens : (ts : List Terminal) (x : Part) (outer here : Spot) → all_turn opens ts ≡ true → has_token ts x ≡ true → after_part outer here x ≡ Within
+token_opens ts (p.Leaf l) outer here h i = ap (λ t. following_token t outer here) (of_terminals opens ts l h i)
+token_opens ts (Node' kind z r) outer here h i = no_such i
+
+-- after a closing one
+pub token_closes : (ts : List Terminal) (x : Part) (outer here : Spot) → all_turn closes ts ≡ true → has_token ts x ≡ true → after_part outer here x ≡ onward outer
+token_closes ts (p.Leaf l) outer here h i = ap (λ t. following_token t outer here) (of_terminals closes ts l h i)
+token_closes ts (Node' kind z r) outer here h i = no_such i
+
+-- what follows the part is where the part is, but for the first place of a line
+abbrev pub GoesOn : Part → Type 0
+GoesOn x = (outer here : Spot) → after_part outer here x ≡ onward here
+
+leaf_goes : (l : Leaf) → role l.class l.token ≡ plain → GoesOn (p.Leaf l)
+leaf_goes l e outer here = ap (λ t. following_token t outer here) e
+
+pub token_goes : (ts : List Terminal) (x : Part) → plain_tokens ts ≡ true → has_token ts x ≡ true → GoesOn x
+token_goes ts (p.Leaf l) h i = leaf_goes l (tokens_plain ts l h i)
+token_goes ts (Node' kind z r) h i = no_such i
+
+kind_goes : (kind : Kind) (here : Spot) → inner_kind kind ≡ true → after_node kind here ≡ onward here
+kind_goes k.Line here h = no_such h
+kind_goes k.Def here h = no_such h
+kind_goes k.IfStmt here h = no_such h
+kind_goes k.ForStmt here h = no_such h
+kind_goes k.Suite here h = no_such h
+kind_goes _ here h = refl
+
+leaves_plain : (a : Nonterminal) → plain_tokens (leaves_at a) ≡ true
+leaves_plain (s.level n) = refl
+leaves_plain _ = refl
+
+pub nonterminal_goes : (a : Nonterminal) (x : Part) → inner_nonterminal a ≡ true → IsNonterminal a x → GoesOn x
+nonterminal_goes a (p.Leaf l) h i = leaf_goes l (tokens_plain (leaves_at a) l (leaves_plain a) i)
+nonterminal_goes a (Node' kind z r) h i = λ outer here. kind_goes kind here (nonterminal_kind a kind h i)
+
+-- ---- binary operations
+
+abbrev begins_nonterminal : Shape → Bool
+begins_nonterminal (s.sub a r) = true
+begins_nonterminal _ = false
+
+kind_binary : (kind : Kind) → is_binary kind ≡ true → (begins_nonterminal (line_shape kind) && every plain_tokens inner_nonterminal (line_shape kind)) ≡ true
+kind_binary k.Or h = refl
+kind_binary k.And h = refl
+kind_binary k.Compare h = refl
+kind_binary k.BitOr h = refl
+kind_binary k.Xor h = refl
+kind_binary k.BitAnd h = refl
+kind_binary k.Shift h = refl
+kind_binary k.Sum h = refl
+kind_binary k.Product h = refl
+kind_binary _ h = no_such h
+
+-- no part of one is a bracket
+pub binary_goes : (kind : Kind) → is_binary kind ≡ true → (xs : List Part) → Fits IsNonterminal (line_shape kind) xs → AllByRecursion GoesOn xs
+binary_goes kind h xs i = every_part GoesOn plain_tokens inner_nonterminal token_goes nonterminal_goes (line_shape kind) (and_parts _ _ (kind_binary kind h)).1 xs i
+
+-- and it begins with an operand
+pub binary_begins : (kind : Kind) → is_binary kind ≡ true → (x : Part) (xs : List Part) → Fits IsNonterminal (line_shape kind) (x ∷ xs) → (a : Nonterminal) × IsNonterminal a x
+binary_begins kind h x xs i = front (line_shape kind) (and_parts _ _ (kind_binary kind h)).0 i
+  where
+    front : (r : Shape) → begins_nonterminal r ≡ true → Fits IsNonterminal r (x ∷ xs) → (a : Nonterminal) × IsNonterminal a x
+    front (s.sub a r) b j = (a, j.0)
+    front _ b j = no_such b
+
+abbrev unsigned : List Terminal → Bool
+unsigned [] = true
+unsigned (s.any class ∷ xs) = not (is_operator_class class) && unsigned xs
+unsigned (s.this class token ∷ xs) = not (is_operator_class class) && unsigned xs
+
+leaf_unsigned : (xs : List Terminal) (l : Leaf) → unsigned xs ≡ true → is_one_of xs l ≡ true → is_operator_class l.class ≡ false
+leaf_unsigned [] l h i = no_such i
+leaf_unsigned (s.any class ∷ xs) l h i =
+    let w = and_parts (not (is_operator_class class)) (unsigned xs) h in
+    elim (or_cases (is_terminal (s.any class) l) (is_one_of xs l) i) [ inl e ↦ ap is_operator_class (same_class l.class class e) ∙ not-true (is_operator_class class) w.0 | inr e ↦ leaf_unsigned xs l w.1 e ]
+leaf_unsigned (s.this class token ∷ xs) l h i =
+    let w = and_parts (not (is_operator_class class)) (unsigned xs) h in
+    elim (or_cases (is_terminal (s.this class token) l) (is_one_of xs l) i) [ inl e ↦ ap is_operator_class (same_class l.class class (and_parts _ _ e).0) ∙ not-true (is_operator_class class) w.0 | inr e ↦ leaf_unsigned xs l w.1 e ]
+
+leaves_unsigned : (a : Nonterminal) → unsigned (leaves_at a) ≡ true
+leaves_unsigned (s.level n) = refl
+leaves_unsigned _ = refl
+
+-- a leaf that has a sort is no sign
+pub nonterminal_unsigned : (a : Nonterminal) (l : Leaf) → IsNonterminal a (p.Leaf l) → is_operator_class l.class ≡ false
+nonterminal_unsigned a l i = leaf_unsigned (leaves_at a) l (leaves_unsigned a) i
+
+-- ---- statements
+
+-- (the other kinds of such a sort are none of BUILD files)
+pub small_statement : (kind : Kind) (xs : List Part) → Fits IsNonterminal (shape kind) xs → nonterminal_has_kind s.small kind ≡ true → is_statement kind ≡ true
+small_statement k.Bare xs f h = refl
+small_statement k.Assign xs f h = refl
+small_statement k.Load xs f h = refl
+small_statement k.Return xs f h = absurd f
+small_statement k.Flow xs f h = absurd f
+small_statement _ xs f h = no_such h

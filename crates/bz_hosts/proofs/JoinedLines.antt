@@ -1,0 +1,124 @@
+-- Views of lines after lines.
+use Rattle.std.proofs.Common.{◌≡◌, false, List, [], ◌∷◌, ◌++◌, inl, refl, sym, ap, ◌∙◌, subst, append_assoc, append-nil, map, arith}
+use Rattle.std.specs.List.{flat_map}
+use Rattle.std.proofs.lemmas.Str.{IsUtf8-nil}
+use Rattle.std.proofs.lemmas.Grind.{flat_map-append}
+use Rattle.bz_token.specs.declared.class.Class.TheVariants as c
+use Rattle.bz_lex.specs.declared.leaf.Leaf.{Leaf}
+use Rattle.bz_lex.specs.Gaps.{nothing}
+use Rattle.bz_grammar.specs.declared.tree.Node.{Node}
+use Rattle.bz_grammar.specs.declared.tree.Part.{Part, Node'}
+use Rattle.bz_grammar.specs.declared.tree.Part.TheVariants as p
+use Rattle.bz_grammar.specs.Spell.{leaves_part}
+use Rattle.bz_grammar.specs.Legal.{Legal}
+use Rattle.bz_grammar.specs.Joined.{last_token, AreWholeLines, file_with, LinesJoin}
+use Rattle.bz_grammar.proofs.Spells.{leaves_Node}
+use Rattle.bz_value.specs.declared.value.Item.{Item}
+use Rattle.bz_value.specs.Gaps.{GapLine, lines_of, after_first_comment, groups_of}
+use Rattle.bz_hosts.specs.View.{seen, seen_row, first_seen_gap, last_gap, line_items, blocks, file_items, view_of}
+use Rattle.bz_hosts.specs.Joined.{lines_left, EndInNewline, EndsWithLine, ViewsJoin, EmptyReads}
+use Rattle.bz_hosts.proofs.NodeViews.{seen_parts}
+
+-- ---- items
+
+items_joined : (left : List GapLine) (xs : List Part) (e : Leaf) (ys : List Part) → lines_left left xs ≡ [] → e.gap ≡ [] → file_items left (xs ++ ys) ≡ file_items left (xs ++ p.Leaf e ∷ []) ++ file_items [] ys
+items_joined left [] e ys h n =
+    ap (λ ls. file_items ls ys) h ∙ sym (ap (λ ls. (blocks (groups_of (ls ++ lines_of e.gap)) ++ []) ++ file_items [] ys) h ∙ ap (λ g. (blocks (groups_of (lines_of g)) ++ []) ++ file_items [] ys) n)
+items_joined left (p.Leaf l ∷ xs) e ys h n =
+    let own : List Item = blocks (groups_of (left ++ lines_of l.gap)) in
+    ap (λ is. own ++ is) (items_joined [] xs e ys h n) ∙ sym (append_assoc own (file_items [] (xs ++ p.Leaf e ∷ [])) (file_items [] ys))
+items_joined left (Node' kind size row ∷ xs) e ys h n =
+    let own : List Item = line_items (left ++ lines_of (first_seen_gap (seen_row row))) (seen_row row) in
+    let next : List GapLine = after_first_comment (lines_of (last_gap (seen_row row))) in
+    ap (λ is. own ++ is) (items_joined next xs e ys h n) ∙ sym (append_assoc own (file_items next (xs ++ p.Leaf e ∷ [])) (file_items [] ys))
+
+left_both : (left : List GapLine) (xs ys : List Part) → lines_left left (xs ++ ys) ≡ lines_left (lines_left left xs) ys
+left_both left [] ys = refl
+left_both left (p.Leaf l ∷ xs) ys = left_both [] xs ys
+left_both left (Node' kind size row ∷ xs) ys = left_both (after_first_comment (lines_of (last_gap (seen_row row)))) xs ys
+
+-- ---- the last token
+
+last_both : (ls ms : List Leaf) → last_token ls ≡ 10 ∷ [] → last_token ms ≡ 10 ∷ [] → last_token (ls ++ ms) ≡ 10 ∷ []
+last_both [] ms h g = g
+last_both (l ∷ []) [] h g = h
+last_both (l ∷ []) (m ∷ ms) h g = g
+last_both (l ∷ m ∷ ls) ms h g = last_both (m ∷ ls) ms h g
+
+last_after : (ls : List Leaf) (l : Leaf) → last_token (ls ++ l ∷ []) ≡ l.token
+last_after [] l = refl
+last_after (m ∷ []) l = refl
+last_after (m ∷ n ∷ ls) l = last_after (n ∷ ls) l
+
+whole_both : (xs ys : List Part) → AreWholeLines xs → AreWholeLines ys → AreWholeLines (xs ++ ys)
+whole_both xs ys h g = subst (λ ls. last_token ls ≡ 10 ∷ []) (sym (flat_map-append leaves_part xs ys)) (last_both (flat_map leaves_part xs) (flat_map leaves_part ys) h g)
+
+-- ---- files
+
+ends_both : (xs : List Part) (m : Node) → AreWholeLines xs → lines_left [] xs ≡ [] → EndsWithLine m → EndsWithLine (file_with (xs ++ m.parts))
+ends_both xs m w l h = record {
+  lines = xs ++ h.lines;
+  end = h.end;
+  parts = ap (λ ys. xs ++ ys) h.parts ∙ sym (append_assoc xs h.lines (p.Leaf h.end ∷ []));
+  whole = whole_both xs h.lines w h.whole;
+  nothing = h.nothing;
+  left = left_both [] xs h.lines ∙ (ap (λ ls. lines_left ls h.lines) l ∙ h.left);
+}
+
+pub views_join : LinesJoin → ViewsJoin
+views_join law s t n m h r q le = (
+  file_with (h.lines ++ m.parts),
+  law s t n m h.lines h.end h.parts h.whole h.nothing r q le,
+  items_joined [] h.lines h.end m.parts h.left h.nothing ∙ ap (λ ps. file_items [] ps ++ view_of m) (sym h.parts),
+  ends_both h.lines m h.whole h.left,
+)
+
+-- ---- the empty file
+
+abbrev nothing_at_all : Leaf
+nothing_at_all = record { class = c.End; gap = []; token = [] }
+
+abbrev empty_file : Node
+empty_file = file_with (p.Leaf nothing_at_all ∷ [])
+
+empty_legal : Legal empty_file
+empty_legal = record {
+  file = record { root = refl; shapes = ((inl (refl, tt)), (tt, tt)) };
+  gaps = ((false, nothing refl), tt);
+  tokens = ((refl, refl), tt);
+  coded = ((IsUtf8-nil, IsUtf8-nil), tt);
+  depth = omega arith;
+}
+
+pub empty_reads : EmptyReads
+empty_reads = (empty_file, (empty_legal, refl, omega arith), refl, record { lines = []; end = nothing_at_all; parts = refl; whole = refl; nothing = refl; left = refl })
+
+-- ---- what the code looks at
+
+last_seen : (front : List Part) (x : Part) → last_gap (map seen (front ++ x ∷ [])) ≡ (seen x).gap
+last_seen [] x = refl
+last_seen (y ∷ []) x = refl
+last_seen (y ∷ z ∷ front) x = last_seen (z ∷ front) x
+
+left_after_line : (left : List GapLine) (front : List Part) (n : Node) → lines_left left (front ++ p.Node n ∷ []) ≡ after_first_comment (lines_of (last_gap (map seen n.parts)))
+left_after_line left front n = left_both left front (p.Node n ∷ []) ∙ ap (λ ss. after_first_comment (lines_of (last_gap ss))) (seen_parts n)
+
+-- the last line of a file, and its end
+ends_so : (n line : Node) (front : List Part) (e : Leaf) → n.parts ≡ (front ++ p.Node line ∷ []) ++ p.Leaf e ∷ [] → e.gap ≡ [] → EndInNewline line.parts → EndsWithLine n
+ends_so n line front e is none (before, newline, at, token, left) =
+    let own : leaves_part (p.Node line) ≡ flat_map leaves_part before ++ newline ∷ [] = leaves_Node line ∙ (ap (flat_map leaves_part) at ∙ flat_map-append leaves_part before (p.Leaf newline ∷ [])) in
+    let all : flat_map leaves_part (front ++ p.Node line ∷ []) ≡ (flat_map leaves_part front ++ flat_map leaves_part before) ++ newline ∷ [] =
+    flat_map-append leaves_part front (p.Node line ∷ [])
+    ∙ (ap (λ ls. flat_map leaves_part front ++ ls) (append-nil (leaves_part (p.Node line)) ∙ own) ∙ sym (append_assoc (flat_map leaves_part front) (flat_map leaves_part before) (newline ∷ []))) in
+    record {
+      lines = front ++ p.Node line ∷ [];
+      end = e;
+      parts = is;
+      whole = ap last_token all ∙ (last_after (flat_map leaves_part front ++ flat_map leaves_part before) newline ∙ token);
+      nothing = none;
+      left = left_after_line [] front line ∙ (ap (λ ps. after_first_comment (lines_of (last_gap (map seen ps)))) at ∙ (ap (λ g. after_first_comment (lines_of g)) (last_seen before (p.Leaf newline)) ∙ left));
+    }
+
+pub line_last : (n : Node) (front rest : List Part) (x y : Part) → n.parts ≡ rest ++ y ∷ [] → rest ≡ front ++ x ∷ [] → ((e : Leaf) × (y ≡ p.Leaf e) × (e.gap ≡ [])) → ((line : Node) × (x ≡ p.Node line) × EndInNewline line.parts) → EndsWithLine n
+line_last n front rest x y is re (e, ye, none) (line, xe, h) =
+    ends_so n line front e (is ∙ (ap (λ z. rest ++ z ∷ []) ye ∙ ap (λ z. z ++ p.Leaf e ∷ []) (re ∙ ap (λ z. front ++ z ∷ []) xe))) none h

@@ -1,0 +1,118 @@
+-- What is seen of a node, by the list of its parts.
+use Rattle.std.proofs.Common.{ℕ, zero, suc, Bool, true, false, ◌≡◌, List, [], ◌∷◌, ◌<◌, ◌≤◌, refl, sym, ap, ◌∙◌, map, take, drop, length, get_or, ◌+◌, add-one, arith}
+use Rattle.std.proofs.Math.Seq.{drop-cons}
+use Rattle.std.proofs.lemmas.List.{drop-map}
+use Rattle.bz_grammar.specs.declared.kind.Kind.{Kind}
+use Rattle.bz_grammar.specs.declared.tree.Node.{Node}
+use Rattle.bz_grammar.specs.declared.tree.Part.{Part, Row_of-Part, end_of-Part, more_of-Part, Node', items-the_row-Part}
+use Rattle.bz_grammar.specs.declared.tree.Part.TheVariants as p
+use Rattle.bz_grammar.proofs.Nested.{row_of, items_of_row}
+use Rattle.bz_value.specs.declared.value.Expr.{Expr}
+use Rattle.bz_value.specs.declared.value.Expr.TheVariants as e
+use Rattle.bz_value.specs.declared.value.Form.{Form}
+use Rattle.bz_value.specs.declared.value.Seq.{Seq}
+use Rattle.bz_value.specs.Commented.{with_comments}
+use Rattle.bz_value.specs.Comments.{HostComments, no_comments}
+use Rattle.bz_value.specs.Frames.{Frame, row, sequence, frame, has_brackets, lead}
+use Rattle.bz_items.specs.Characters.{Bytes}
+use Rattle.bz_value.specs.Gaps.{has_newline}
+use Rattle.bz_value.specs.Proper.{is_operator}
+use Rattle.bz_hosts.specs.View.{Seen, seen, seen_row, seen_node, plain, first_seen_gap, is_open, is_split}
+use Rattle.bz_hosts.specs.Walks.{form_of_frame, loose_of, seq_in}
+
+pub seen_rows : (m : _) (r : Row_of-Part m) → seen_row r ≡ map seen (items-the_row-Part m r)
+seen_rows m end_of-Part = refl
+seen_rows m (more_of-Part x rest) = ap (λ t. seen x ∷ t) (seen_rows _ rest)
+
+pub seen_parts : (n : Node) → seen_row (row_of n).1 ≡ map seen n.parts
+seen_parts n = seen_rows _ (row_of n).1 ∙ ap (map seen) (items_of_row n)
+
+pub seen_Node : (n : Node) → seen (p.Node n) ≡ seen_node (frame n.kind) n.kind (map seen n.parts)
+seen_Node n = ap (seen_node (frame n.kind) n.kind) (seen_parts n)
+
+-- ---- a node by its frame
+
+node_gap : (f : Frame) (kind : Kind) (ss : List Seen) → (seen_node f kind ss).gap ≡ first_seen_gap ss
+node_gap row kind ss = refl
+node_gap (sequence opener closer) kind ss = refl
+
+node_made : (f : Frame) (kind : Kind) (ss : List Seen) (b : Bool) → e.Form (form_of_frame f kind ss no_comments) ≡ (seen_node f kind ss).make no_comments b
+node_made row kind ss b = refl
+node_made (sequence opener closer) kind ss b = refl
+
+node_loose : (f : Frame) (kind : Kind) (ss : List Seen) → loose_of f kind ss ≡ (seen_node f kind ss).loose
+node_loose row kind ss = refl
+node_loose (sequence opener closer) kind ss = refl
+
+node_operator : (f : Frame) (kind : Kind) (ss : List Seen) → false ≡ is_operator (plain (seen_node f kind ss))
+node_operator row kind ss = refl
+node_operator (sequence opener closer) kind ss = refl
+
+node_comments : (f : Frame) (kind : Kind) (ss : List Seen) (b : Bool) (cs : HostComments) → with_comments ((seen_node f kind ss).make no_comments b) cs ≡ (seen_node f kind ss).make cs b
+node_comments row kind ss b cs = refl
+node_comments (sequence opener closer) kind ss b cs = refl
+
+-- comments and break make no other expression
+pub seen_comments : (x : Part) (b : Bool) (cs : HostComments) → with_comments ((seen x).make no_comments b) cs ≡ (seen x).make cs b
+seen_comments (p.Leaf l) b cs = refl
+seen_comments (Node' kind _ parts) b cs = node_comments (frame kind) kind (seen_row parts) b cs
+
+-- ---- the same of a part that is a node
+
+pub gap_of_node : (x : Part) (n : Node) → x ≡ p.Node n → first_seen_gap (map seen n.parts) ≡ (seen x).gap
+gap_of_node x n i = sym (ap (λ y. (seen y).gap) i ∙ (ap (λ s. s.gap) (seen_Node n) ∙ node_gap (frame n.kind) n.kind (map seen n.parts)))
+
+pub made_of_node : (x : Part) (n : Node) (b : Bool) → x ≡ p.Node n → e.Form (form_of_frame (frame n.kind) n.kind (map seen n.parts) no_comments) ≡ (seen x).make no_comments b
+made_of_node x n b i = node_made (frame n.kind) n.kind (map seen n.parts) b ∙ sym (ap (λ y. (seen y).make no_comments b) i ∙ ap (λ s. s.make no_comments b) (seen_Node n))
+
+pub loose_of_node : (x : Part) (n : Node) → x ≡ p.Node n → loose_of (frame n.kind) n.kind (map seen n.parts) ≡ (seen x).loose
+loose_of_node x n i = node_loose (frame n.kind) n.kind (map seen n.parts) ∙ sym (ap (λ y. (seen y).loose) i ∙ ap (λ s. s.loose) (seen_Node n))
+
+pub operator_of_node : (x : Part) (n : Node) → x ≡ p.Node n → false ≡ is_operator (plain (seen x))
+operator_of_node x n i = node_operator (frame n.kind) n.kind (map seen n.parts) ∙ sym (ap (λ y. is_operator (plain (seen y))) i ∙ ap (λ s. is_operator (plain s)) (seen_Node n))
+
+-- the gap before a node is the one before its first part
+pub gap_none : (x : Part) (n : Node) (ps : List Part) → x ≡ p.Node n → ps ≡ n.parts → length ps < 1 → [] ≡ (seen x).gap
+gap_none x n [] i f l = ap (λ qs. first_seen_gap (map seen qs)) f ∙ gap_of_node x n i
+gap_none x n (q ∷ qs) i f l = absurd (omega arith)
+
+pub gap_first : (x : Part) (n : Node) (ps : List Part) (y : Part) (g : Bytes) → x ≡ p.Node n → ps ≡ n.parts → 1 ≤ length ps → y ≡ get_or ps 0 y → g ≡ (seen y).gap → g ≡ (seen x).gap
+gap_first x n [] y g i f l j h = absurd (omega arith)
+gap_first x n (q ∷ qs) y g i f l j h = h ∙ (ap (λ z. (seen z).gap) j ∙ (ap (λ rs. first_seen_gap (map seen rs)) f ∙ gap_of_node x n i))
+
+-- ---- a sequence
+
+abbrev made : Kind → List Expr → Seq → HostComments → Form
+made kind parts seq comments = record { kind = kind; parts = parts; seq = seq; open_break = false; comments = comments }
+
+pub sequence_made : (f : Frame) (kind : Kind) (ps qs : List Part) (n : ℕ) (es : List Expr) (q : Seq) (cs : HostComments) → has_brackets f ≡ true → qs ≡ ps → n ≡ lead kind →
+    es ≡ map plain (take n (map seen qs)) → q ≡ seq_in (map seen (drop (n + 1) qs)) → cs ≡ no_comments → made kind es q cs ≡ form_of_frame f kind (map seen ps) no_comments
+sequence_made row kind ps qs n es q cs h j i e g k = cc
+sequence_made (sequence opener closer) kind ps qs n es q cs h j i e g k =
+    let head : es ≡ map plain (take (lead kind) (map seen ps)) = e ∙ (ap (λ m. map plain (take m (map seen qs))) i ∙ ap (λ rs. map plain (take (lead kind) (map seen rs))) j) in
+    let body : q ≡ seq_in (drop (suc (lead kind)) (map seen ps)) =
+    g ∙ (ap (λ rs. seq_in (map seen (drop (n + 1) rs))) j ∙ (ap (λ m. seq_in (map seen (drop m ps))) (add-one n ∙ ap suc i) ∙ ap seq_in (sym (drop-map seen (suc (lead kind)) ps)))) in
+    ap (λ t. made kind t q cs) head ∙ (ap (λ t. made kind (map plain (take (lead kind) (map seen ps))) t cs) body ∙ ap (λ t. made kind (map plain (take (lead kind) (map seen ps))) (seq_in (drop (suc (lead kind)) (map seen ps))) t) k)
+
+-- ---- parts of a row
+
+-- from a part on
+pub seen_from : (ps : List Part) (at : ℕ) (y : Part) → at < length ps → y ≡ get_or ps at y → map seen (drop at ps) ≡ seen y ∷ map seen (drop (suc at) ps)
+seen_from ps at y l i = ap (map seen) (drop-cons ps at y l) ∙ ap (λ z. seen z ∷ map seen (drop (suc at) ps)) (sym i)
+
+-- right after the first part
+pub opened : (ps : List Part) → has_newline (first_seen_gap (map seen (drop 1 ps))) ≡ is_open (map seen ps)
+opened [] = refl
+opened (x ∷ ps) = refl
+
+-- no newline before the part with this index
+no_split : (ss : List Seen) (at : ℕ) → has_newline (first_seen_gap (drop at ss)) ≡ false → is_split (drop (suc at) ss) ≡ is_split (drop at ss)
+no_split [] zero h = refl
+no_split [] (suc at) h = refl
+no_split (s ∷ ss) zero h = sym (rw h refl)
+no_split (s ∷ ss) (suc at) h = no_split ss at h
+
+pub no_split_at : (ps : List Part) (at : ℕ) → has_newline (first_seen_gap (map seen (drop at ps))) ≡ false → is_split (map seen (drop (at + 1) ps)) ≡ is_split (map seen (drop at ps))
+no_split_at ps at h =
+    ap (λ k. is_split (map seen (drop k ps))) (add-one at) ∙ (ap is_split (sym (drop-map seen (suc at) ps)) ∙
+    (no_split (map seen ps) at (ap (λ ss. has_newline (first_seen_gap ss)) (drop-map seen at ps) ∙ h) ∙ ap is_split (drop-map seen at ps)))

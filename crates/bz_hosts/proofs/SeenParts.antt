@@ -1,0 +1,144 @@
+-- What is seen of a part, whatever its kind: its root, where what follows it is, its comments and its gap.
+use Rattle.std.proofs.Common.{◌≡◌, ℕ, zero, suc, Bool, true, false, List, [], ◌∷◌, ◌++◌, refl, sym, ap, ◌∙◌, map, take}
+use Rattle.std.specs.List.{AllByRecursion}
+use Rattle.std.specs.Str.{IsUtf8}
+use Rattle.std.proofs.lemmas.Str.{IsUtf8-nil}
+use Rattle.bz_token.specs.declared.class.Class.{Class}
+use Rattle.bz_token.specs.declared.class.Class.TheVariants as c
+use Rattle.bz_lex.specs.Leaves.{IsCodedLeaf}
+use Rattle.bz_grammar.specs.declared.kind.Kind.{Kind}
+use Rattle.bz_grammar.specs.declared.tree.Part.{Part, Row_of-Part, end_of-Part, more_of-Part, Node', items-the_row-Part}
+use Rattle.bz_grammar.specs.declared.tree.Part.TheVariants as p
+use Rattle.bz_grammar.specs.Shapes.{has_token, has_nonterminal, leaves_at}
+use Rattle.bz_grammar.specs.Spell.{leaves_part, leaves_row}
+use Rattle.bz_grammar.specs.Spots.{Spot, Along, after_node, after_part, BzlGapStands, BzlStands, AtLeaves, AtRow}
+use Rattle.bz_grammar.proofs.Balance.{no_such}
+use Rattle.bz_value.specs.Comments.{HostComments, no_comments}
+use Rattle.bz_value.specs.Frames.{Frame, row, sequence, frame, lead}
+use Rattle.bz_items.specs.Characters.{Bytes}
+use Rattle.bz_value.specs.Gaps.{all_in, has_newline}
+use Rattle.bz_value.specs.Roots.{root}
+use Rattle.bz_value.specs.Proper.{IsComment, comments_of, has_break, is_operator, after_expr}
+use Rattle.bz_value.proofs.AlongGaps.{along_quiet}
+use Rattle.bz_value.proofs.GapComments.{Group, all_joined, all_fine}
+use Rattle.bz_value.proofs.Rooted.{SameRoot, one_of_same}
+use Rattle.bz_hosts.specs.View.{Seen, seen, seen_row, seen_node, plain, first_seen_gap, loose_in, loose_after}
+
+pub seen_rows : (m : _) (r : Row_of-Part m) → seen_row r ≡ map seen (items-the_row-Part m r)
+seen_rows m end_of-Part = refl
+seen_rows m (more_of-Part x rest) = ap (λ t. seen x ∷ t) (seen_rows _ rest)
+
+-- ---- facts of what is made of a part, for any comments and break
+
+module _ (kind : Kind) (ss : List Seen) (cs : HostComments) (b : Bool) where
+  node_root : (f : Frame) → root ((seen_node f kind ss).make cs b) ≡ p.Node (record { kind = kind; parts = [] })
+  node_root row = refl
+  node_root (sequence opener closer) = refl
+
+  node_comments : (f : Frame) → comments_of ((seen_node f kind ss).make cs b) ≡ cs
+  node_comments row = refl
+  node_comments (sequence opener closer) = refl
+
+  node_break : (f : Frame) → has_break ((seen_node f kind ss).make cs b) ≡ false
+  node_break row = refl
+  node_break (sequence opener closer) = refl
+
+  pub node_operator : (f : Frame) → is_operator ((seen_node f kind ss).make cs b) ≡ false
+  node_operator row = refl
+  node_operator (sequence opener closer) = refl
+
+  node_after : (f : Frame) (outer here : Spot) → after_expr outer here ((seen_node f kind ss).make cs b) ≡ after_node kind here
+  node_after row outer here = refl
+  node_after (sequence opener closer) outer here = refl
+
+pub node_gap : (kind : Kind) (ss : List Seen) (f : Frame) → (seen_node f kind ss).gap ≡ first_seen_gap ss
+node_gap kind ss row = refl
+node_gap kind ss (sequence opener closer) = refl
+
+-- the part's root
+pub root_made : (x : Part) (cs : HostComments) (b : Bool) → SameRoot x (root ((seen x).make cs b))
+root_made (p.Leaf l) cs b = record { token = λ ts. one_of_same ts l; nonterminal = λ q. one_of_same (leaves_at q) l }
+root_made (Node' kind n r) cs b = record {
+  token = λ ts. sym (ap (λ y. has_token ts y) (node_root kind (seen_row r) cs b (frame kind)));
+  nonterminal = λ q. sym (ap (λ y. has_nonterminal q y) (node_root kind (seen_row r) cs b (frame kind)));
+}
+
+pub comments_made : (x : Part) (cs : HostComments) (b : Bool) → comments_of ((seen x).make cs b) ≡ cs
+comments_made (p.Leaf l) cs b = refl
+comments_made (Node' kind n r) cs b = node_comments kind (seen_row r) cs b (frame kind)
+
+pub break_made : (x : Part) (cs : HostComments) (b : Bool) → has_break ((seen x).make cs b) ≡ true → b ≡ true
+break_made (p.Leaf l) cs b h = h
+break_made (Node' kind n r) cs b h = no_such (sym (node_break kind (seen_row r) cs b (frame kind)) ∙ h)
+
+pub no_break_made : (x : Part) (cs : HostComments) → has_break ((seen x).make cs false) ≡ false
+no_break_made (p.Leaf l) cs = refl
+no_break_made (Node' kind n r) cs = node_break kind (seen_row r) cs false (frame kind)
+
+pub operator_made : (x : Part) (cs : HostComments) (b : Bool) → is_operator ((seen x).make cs b) ≡ is_operator (plain (seen x))
+operator_made (p.Leaf l) cs b = refl
+operator_made (Node' kind n r) cs b = node_operator kind (seen_row r) cs b (frame kind) ∙ sym (node_operator kind (seen_row r) no_comments false (frame kind))
+
+pub after_made : (outer here : Spot) (x : Part) (cs : HostComments) (b : Bool) → after_expr outer here ((seen x).make cs b) ≡ after_part outer here x
+after_made outer here (p.Leaf l) cs b = refl
+after_made outer here (Node' kind n r) cs b = node_after kind (seen_row r) cs b (frame kind) outer here
+
+-- ---- no unescaped newline is before a part along a line
+
+gap_along : (class : Class) (gap : Bytes) → BzlGapStands class Along gap → has_newline gap ≡ false
+gap_along c.Newline gap h = along_quiet h.0 gap h.1
+gap_along c.End gap h = absurd h
+gap_along _ gap h = along_quiet false gap h
+
+mutual
+  pub part_along : (x : Part) → AtLeaves BzlStands Along x → has_newline (seen x).gap ≡ false
+  part_along (p.Leaf l) h = gap_along l.class l.gap h
+  part_along (Node' kind n r) h = ap has_newline (node_gap kind (seen_row r) (frame kind)) ∙ row_along _ r h
+
+  row_along : (m : _) (r : Row_of-Part m) → AtRow BzlStands Along Along r → has_newline (first_seen_gap (seen_row r)) ≡ false
+  row_along m end_of-Part h = refl
+  row_along m (more_of-Part x rest) h = part_along x h.0
+
+-- ---- the gap before a part, and the comments that it hands up
+
+pub record Decoded (s : Seen) : Type 0 where
+  pub coded : IsUtf8 s.gap
+  pub loose : Group s.loose
+
+abbrev pub AllDecoded : List Seen → Type 0
+AllDecoded ss = AllByRecursion Decoded ss
+
+pub all_parted : {X : Type 0} (P : X → Type 0) (xs ys : List X) → AllByRecursion P (xs ++ ys) → AllByRecursion P xs × AllByRecursion P ys
+all_parted P [] ys h = (tt, h)
+all_parted P (x ∷ xs) ys h = let w = all_parted P xs ys h.1 in ((h.0, w.0), w.1)
+
+pub gap_decoded : (ss : List Seen) → AllDecoded ss → IsUtf8 (first_seen_gap ss)
+gap_decoded [] h = IsUtf8-nil
+gap_decoded (s ∷ ss) h = h.0.coded
+
+after_decoded : (ss : List Seen) → AllDecoded ss → Group (loose_after ss)
+after_decoded [] h = tt
+after_decoded (s ∷ ss) h = all_joined IsComment (all_in s.gap ++ s.loose) (loose_after ss) (all_joined IsComment (all_in s.gap) s.loose (all_fine s.gap h.0.coded) h.0.loose) (after_decoded ss h.1)
+
+pub in_decoded : (ss : List Seen) → AllDecoded ss → Group (loose_in ss)
+in_decoded [] h = tt
+in_decoded (s ∷ ss) h = all_joined IsComment s.loose (loose_after ss) h.0.loose (after_decoded ss h.1)
+
+take_decoded : (n : ℕ) (ss : List Seen) → AllDecoded ss → AllDecoded (take n ss)
+take_decoded zero [] h = tt
+take_decoded (suc n) [] h = tt
+take_decoded zero (s ∷ ss) h = tt
+take_decoded (suc n) (s ∷ ss) h = (h.0, take_decoded n ss h.1)
+
+node_decoded : (f : Frame) (kind : Kind) (ss : List Seen) → AllDecoded ss → Decoded (seen_node f kind ss)
+node_decoded row kind ss h = record { coded = gap_decoded ss h; loose = in_decoded ss h }
+node_decoded (sequence opener closer) kind ss h = record { coded = gap_decoded ss h; loose = in_decoded (take (suc (lead kind)) ss) (take_decoded (suc (lead kind)) ss h) }
+
+mutual
+  pub part_decoded : (x : Part) → AllByRecursion IsCodedLeaf (leaves_part x) → Decoded (seen x)
+  part_decoded (p.Leaf l) h = record { coded = h.0.0; loose = tt }
+  part_decoded (Node' kind n r) h = node_decoded (frame kind) kind (seen_row r) (row_decoded _ r h)
+
+  pub row_decoded : (m : _) (r : Row_of-Part m) → AllByRecursion IsCodedLeaf (leaves_row r) → AllDecoded (seen_row r)
+  row_decoded m end_of-Part h = tt
+  row_decoded m (more_of-Part x rest) h = let w = all_parted IsCodedLeaf (leaves_part x) (leaves_row rest) h in (part_decoded x w.0, row_decoded _ rest w.1)

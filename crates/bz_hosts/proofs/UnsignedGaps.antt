@@ -1,0 +1,99 @@
+-- A gap without a number sign has no comment.
+use Rattle.std.proofs.Common.{◌≡◌, ℕ, suc, zero, Bool, true, false, not, ◌&&◌, if◌then◌else◌, nat_eq, List, [], ◌∷◌, ◌++◌, ◌+◌, Some, None, refl, sym, ap, ◌∙◌, subst, map, drop, append-nil, add-one}
+use Rattle.std.specs.List.{AllByRecursion}
+use Rattle.std.proofs.lemmas.Bool.{false≢true}
+use Rattle.bz_grammar.specs.declared.tree.Part.{Part}
+use Rattle.bz_items.specs.Characters.{Bytes, backslash, line_feed, number_sign}
+use Rattle.bz_value.specs.Gaps.{GapLine, lines_of, in_comment, after_backslash, trimmed, as_list, comments_in, first_comment, after_first_comment, suffix_in, others_in, all_in}
+use Rattle.bz_hosts.specs.View.{Seen, seen, first_seen_gap, loose_after}
+use Rattle.bz_hosts.specs.Walks.{above_after, is_unsigned, loose_from, suffix_after}
+use Rattle.bz_hosts.proofs.RowSteps.{gap_pushed}
+
+abbrev Bare : List GapLine → Type 0
+Bare lines = AllByRecursion (λ line. line.comment ≡ None) lines
+
+both : (a b : Bool) → (a && b) ≡ true → (a ≡ true) × (b ≡ true)
+both true b h = (refl, h)
+both false b h = absurd (false≢true h)
+
+line_bare : (sign feed slash : Bool) (first : GapLine) (more xs ys : List GapLine) → not sign ≡ true → Bare xs → Bare ys →
+    Bare (if sign then first ∷ more else (if feed then record { comment = None; newline = true } ∷ xs else (if slash then record { comment = None; newline = false } ∷ ys else xs)))
+line_bare true feed slash first more xs ys h k l = absurd (false≢true h)
+line_bare false true slash first more xs ys h k l = (refl, k)
+line_bare false false true first more xs ys h k l = (refl, l)
+line_bare false false false first more xs ys h k l = k
+
+later_bare : (feed : Bool) (xs ys : List GapLine) → Bare xs → Bare ys → Bare (if feed then xs else ys)
+later_bare true xs ys k l = k
+later_bare false xs ys k l = l
+
+mutual
+  lines_bare : (g : Bytes) → is_unsigned g ≡ true → Bare (lines_of g)
+  lines_bare [] h = tt
+  lines_bare (c ∷ g) h =
+      let w = both (not (nat_eq c number_sign)) (is_unsigned g) h in
+      line_bare (nat_eq c number_sign) (nat_eq c line_feed) (nat_eq c backslash) (record { comment = Some (trimmed (number_sign ∷ (in_comment g).words)); newline = (in_comment g).newline }) (in_comment g).lines
+      (lines_of g) (after_backslash g) w.0 (lines_bare g w.1) (after_bare g w.1)
+
+  after_bare : (g : Bytes) → is_unsigned g ≡ true → Bare (after_backslash g)
+  after_bare [] h = tt
+  after_bare (c ∷ g) h =
+      let w = both (not (nat_eq c number_sign)) (is_unsigned g) h in
+      later_bare (nat_eq c line_feed) (lines_of g) (after_backslash g) (lines_bare g w.1) (after_bare g w.1)
+
+comments_bare : (lines : List GapLine) → Bare lines → comments_in lines ≡ []
+comments_bare [] h = refl
+comments_bare (line ∷ lines) h = ap (λ o. as_list o ++ comments_in lines) h.0 ∙ comments_bare lines h.1
+
+rest_bare : (lines : List GapLine) → Bare lines → Bare (after_first_comment lines)
+rest_bare [] h = tt
+rest_bare (line ∷ lines) h = h.1
+
+first_bare : (lines : List GapLine) → Bare lines → first_comment lines ≡ None
+first_bare [] h = refl
+first_bare (line ∷ lines) h = h.0
+
+all_quiet : (g : Bytes) → is_unsigned g ≡ true → all_in g ≡ []
+all_quiet g h = comments_bare (lines_of g) (lines_bare g h)
+
+others_quiet : (g : Bytes) → is_unsigned g ≡ true → others_in g ≡ []
+others_quiet g h = comments_bare (after_first_comment (lines_of g)) (rest_bare (lines_of g) (lines_bare g h))
+
+suffix_quiet : (g : Bytes) → is_unsigned g ≡ true → suffix_in g ≡ None
+suffix_quiet g h = first_bare (lines_of g) (lines_bare g h)
+
+-- ---- after an item, from its mark on
+
+above_at : (ss : List Seen) → is_unsigned (first_seen_gap ss) ≡ true → is_unsigned (first_seen_gap (drop 1 ss)) ≡ true → above_after ss ≡ []
+above_at [] h k = refl
+above_at (mark ∷ []) h k = others_quiet mark.gap h
+above_at (mark ∷ t ∷ ss) h k = ap (λ texts. texts ++ others_in t.gap) (all_quiet mark.gap h) ∙ others_quiet t.gap k
+
+suffix_at : (ss : List Seen) → is_unsigned (first_seen_gap ss) ≡ true → is_unsigned (first_seen_gap (drop 1 ss)) ≡ true → suffix_after ss ≡ None
+suffix_at [] h k = refl
+suffix_at (mark ∷ []) h k = suffix_quiet mark.gap h
+suffix_at (mark ∷ t ∷ ss) h k = suffix_quiet t.gap k
+
+next_gap : (ps : List Part) (at : ℕ) → first_seen_gap (map seen (drop (suc at) ps)) ≡ first_seen_gap (drop 1 (map seen (drop at ps)))
+next_gap [] zero = refl
+next_gap [] (suc at) = refl
+next_gap (x ∷ ps) zero = refl
+next_gap (x ∷ ps) (suc at) = next_gap ps at
+
+abbrev pub quiet_after : List Part → ℕ → Bool
+quiet_after ps at = is_unsigned (first_seen_gap (map seen (drop at ps))) && is_unsigned (first_seen_gap (map seen (drop (at + 1) ps)))
+
+pub nothing_after : (ps : List Part) (at : ℕ) → quiet_after ps at ≡ true → (above_after (map seen (drop at ps)) ≡ []) × (suffix_after (map seen (drop at ps)) ≡ None)
+nothing_after ps at h =
+    let w = both (is_unsigned (first_seen_gap (map seen (drop at ps)))) (is_unsigned (first_seen_gap (map seen (drop (at + 1) ps)))) h in
+    let next : is_unsigned (first_seen_gap (drop 1 (map seen (drop at ps)))) ≡ true =
+    subst (λ (g : Bytes). is_unsigned g ≡ true) (ap (λ k. first_seen_gap (map seen (drop k ps))) (add-one at) ∙ next_gap ps at) w.1 in
+    (above_at (map seen (drop at ps)) w.0 next, suffix_at (map seen (drop at ps)) w.0 next)
+
+-- ---- before a part of a row
+
+pub gap_quiet : (at : ℕ) (s : Seen) (gap : Bytes) (quiet : Bool) (old : List Bytes) (rest : List Seen) → (at ≡ zero → ⊥) → gap ≡ s.gap → quiet ≡ is_unsigned gap → quiet ≡ true →
+    (old ++ s.loose) ++ loose_after rest ≡ old ++ loose_from at (s ∷ rest)
+gap_quiet at s gap quiet old rest n g q t =
+    let none : all_in s.gap ≡ [] = all_quiet s.gap (ap is_unsigned (sym g) ∙ (sym q ∙ t)) in
+    gap_pushed at s old old rest n (sym (ap (λ texts. old ++ texts) none ∙ append-nil old))

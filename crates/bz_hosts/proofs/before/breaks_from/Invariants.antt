@@ -1,0 +1,6 @@
+use Rattle.std.proofs.Common.{◌≡◌, map, drop}
+use Rattle.bz_hosts.specs.View.{is_split, seen}
+use Rattle.bz_hosts.proofs.before.breaks_from.Given as goal
+
+abbrev pub invariant-loop-at : goal.invariant-loop-at
+invariant-loop-at l = is_split (map seen (drop l.at l.parts)) ≡ is_split (map seen (drop l.from l.parts))

@@ -1,0 +1,5 @@
+use Rattle.bz_hosts.proofs.ProperFiles.{view_proper}
+use Rattle.bz_hosts.proofs.laws.views_are_proper.Goals as goal
+
+pub returns : goal.returns
+returns c = view_proper

@@ -1,0 +1,11 @@
+-- The law of hosts.
+use Rattle.std.specs.Prelude.{◌≡◌}
+use Rattle.std.specs.List.{flat_map}
+use Rattle.bz_grammar.specs.declared.tree.Node.{Node}
+use Rattle.bz_grammar.specs.Legal.{Legal}
+use Rattle.bz_hosts.specs.View.{view_of}
+use Rattle.bz_hosts.specs.Hosts.{inside_item, hosted_in}
+
+-- The view of a legal tree has each comment at the host that its place in the text gives it.
+abbrev pub HostsByPlace : Type 0
+HostsByPlace = (n : Node) → Legal n → flat_map inside_item (view_of n) ≡ hosted_in n

@@ -1,0 +1,106 @@
+//! What the gaps between the parts of a row say.
+ghost use Rattle.std.specs.Prelude.{◌≡◌, ◌∷◌, ◌++◌, ◌+◌, ◌<◌, ◌&&◌, ◌||◌, not, map, drop, length, if◌then◌else◌, List, IfOk, OnOk};
+ghost use Rattle.bz_value.specs.Frames.{is_comprehension};
+ghost use Rattle.bz_value.specs.Gaps.{all_in, has_newline, suffix_in};
+ghost use Rattle.bz_hosts.specs.View.{Seen, begins_seen_operator, first_seen_gap, is_open, loose_after, seen};
+ghost use Rattle.bz_hosts.specs.Walks.{above_after, is_unsigned, loose_from, suffix_after};
+
+use crate::before::{breaks_before, gap_at, gap_before, is_operator_at};
+use bz_items::{Items, Memory, Text};
+use bz_grammar::{Kind, Part};
+use bz_value::{is_comprehension, push_all, push_others};
+use std::alloc::Global;
+
+/// Whether the gap has no number sign, with which each comment begins.
+fn is_quiet(gap: &[u8]) -> bool
+    ensures { result ≡ is_unsigned gap.now }
+{
+    gap.iter().all(|byte| *byte != b'#')
+}
+
+/// Appends the comments of the gap before the part of a row with this index. What is before its first part is
+/// outside.
+#[tactic(auto, using(crate::proofs::RowSteps::gap_pushed, crate::proofs::RowSteps::gap_outside, crate::proofs::UnsignedGaps::gap_quiet))]
+pub fn push_gap(
+    alloc: Global,
+    part: &Part,
+    at: usize,
+    loose: &mut Items<Text>,
+) -> Result<(), Memory>
+    ensures { OnOk result ((rest : List Seen) → (loose.new ++ (seen part.now).loose) ++ loose_after rest ≡ loose.old ++ loose_from at (seen part.now ∷ rest)) }
+{
+    if at == 0 {
+        return Ok(());
+    }
+    let gap = gap_before(part);
+    if is_quiet(gap) {
+        return Ok(());
+    }
+    push_all(alloc, gap, loose)
+}
+
+/// Whether an unescaped newline is before the operator that the part with this index is: `newline`, where the part
+/// before is a token of the same operator.
+pub fn before_operator(parts: &[Part], at: usize, inside: bool, newline: bool) -> bool
+    ensures { result ≡ (if inside then newline else has_newline (first_seen_gap (map seen (drop at parts.now)))) }
+{
+    if inside {
+        newline
+    } else {
+        breaks_before(parts, at)
+    }
+}
+
+/// Whether a token of an operator breaks after which the part with this index is: it is the operator's last token,
+/// and a newline is before the operator or before this part.
+pub fn breaks_after(operator: bool, newline: bool, parts: &[Part], at: usize) -> bool
+    ensures { result ≡ ((operator && not (begins_seen_operator (map seen (drop at parts.now)))) && (newline || has_newline (first_seen_gap (map seen (drop at parts.now))))) }
+{
+    operator && !is_operator_at(parts, at) && (newline || breaks_before(parts, at))
+}
+
+/// Whether a comprehension of these parts is open: an unescaped newline is right after its bracket.
+pub fn opens(kind: Kind, parts: &[Part]) -> bool
+    ensures { result ≡ (is_comprehension kind && is_open (map seen parts.now)) }
+{
+    is_comprehension(kind) && breaks_before(parts, 1)
+}
+
+/// After an item of a sequence, where this index is that of its comma or of the closing bracket: the gap that its suffix
+/// is in, after its comma if it has one.
+pub fn gap_after_item(parts: &[Part], at: usize) -> &[u8]
+    requires { at < length parts.now }
+    ensures { suffix_in result.now ≡ suffix_after (map seen (drop at parts.now)) }
+{
+    let next = at + 1;
+    if next < parts.len() {
+        return gap_at(parts, next);
+    }
+    gap_at(parts, at)
+}
+
+/// After an item of a sequence, where this index is that of its comma or of the closing bracket: the comments above the
+/// next item, or at the end. The error: memory was refused.
+pub fn above_next(alloc: Global, parts: &[Part], at: usize) -> Result<Items<Text>, Memory>
+    requires { at < length parts.now }
+    ensures { IfOk result (λ above. above ≡ above_after (map seen (drop at parts.now))) }
+{
+    let mut above = Items::new(alloc);
+    let next = at + 1;
+    if next < parts.len() {
+        push_all(alloc, gap_at(parts, at), &mut above)?;
+        push_others(alloc, gap_at(parts, next), &mut above)?;
+        return Ok(above);
+    }
+    push_others(alloc, gap_at(parts, at), &mut above)?;
+    Ok(above)
+}
+
+/// After an item of a sequence, where this index is that of its comma or of the closing bracket: whether it is seen at a glance that
+/// no comment is before that and before what follows it.
+pub fn is_quiet_after(parts: &[Part], at: usize) -> bool
+    requires { at < length parts.now }
+    ensures { result ≡ (is_unsigned (first_seen_gap (map seen (drop at parts.now))) && is_unsigned (first_seen_gap (map seen (drop (at + 1) parts.now)))) }
+{
+    is_quiet(gap_at(parts, at)) && is_quiet(gap_at(parts, at + 1))
+}

@@ -1,0 +1,99 @@
+//! The view of a tree as a file value.
+ghost use Rattle.std.specs.Prelude.{◌≡◌, ◌<◌, [], ◌∷◌, ◌++◌, List, length, map, drop, IfOk, OnOk};
+ghost use Rattle.bz_grammar.specs.declared.tree.Part.{Part};
+ghost use Rattle.bz_value.specs.Counted.{times};
+ghost use Rattle.bz_items.specs.Characters.{Bytes};
+ghost use Rattle.bz_value.specs.Gaps.{lines_of, suffix_in};
+ghost use Rattle.bz_hosts.specs.Kept.{occurrences};
+ghost use Rattle.bz_hosts.specs.View.{file_items, seen, statements_in, view_of};
+ghost use Rattle.bz_hosts.specs.Walks.{line_suffix};
+
+use crate::before::{gap_at, gap_of_last};
+use crate::commented::commented;
+use crate::expr::expr_of;
+use crate::groups::{push_all_groups, push_groups};
+use bz_items::{Items, Memory, Text};
+use bz_grammar::{Part, Tree};
+use bz_value::{File, Item, past_first_line};
+use std::alloc::Global;
+
+/// The file value of a tree: its statements without gaps, each comment at its host, and as often in the value as in the tree's
+/// gaps. The error: memory was refused.
+pub fn view(alloc: Global, tree: &Tree) -> Result<File, Memory>
+    ensures value { IfOk result (λ file. file ≡ view_of tree.now) }
+    ensures comments { IfOk result (λ file. (text : Bytes) → times text file ≡ occurrences text tree.now) }
+{
+    Ok(File {
+        items: items_of(alloc, tree.root.parts.as_slice())?,
+    })
+}
+
+/// The items of the lines of a file and of its end.
+fn items_of(alloc: Global, lines: &[Part]) -> Result<Items<Item>, Memory>
+    ensures { IfOk result (λ items. items ≡ file_items [] lines.now) }
+{
+    let mut items = Items::new(alloc);
+    let mut left: &[u8] = &[];
+    for line in lines {
+        left = push_line_items(alloc, left, line, &mut items)?;
+    }
+    Ok(items)
+}
+
+/// Appends the items of a line, or those of the end, where `left` is what the gap of the Newline before says after its
+/// first line. Returns the same of the line's own Newline.
+pub fn push_line_items<'a>(
+    alloc: Global,
+    left: &[u8],
+    line: &'a Part,
+    items: &mut Items<Item>,
+) -> Result<&'a [u8], Memory>
+    ensures { IfOk result (λ rest. (xs : List Part) → items.new ++ file_items (lines_of rest.now) xs ≡ items.old ++ file_items (lines_of left.now) (line.now ∷ xs)) }
+{
+    match line {
+        Part::Leaf(end) => {
+            push_all_groups(alloc, left, end.gap.as_slice(), items)?;
+            Ok(&[])
+        }
+        Part::Node(line) => {
+            let parts = line.parts.as_slice();
+            let above = push_groups(alloc, left, gap_at(parts, 0), items)?;
+            push_statements(alloc, parts, above, items)?;
+            Ok(past_first_line(gap_of_last(parts)))
+        }
+    }
+}
+
+/// Appends the statements of a line, the first with these comments above it.
+pub fn push_statements(
+    alloc: Global,
+    parts: &[Part],
+    above: Items<Text>,
+    items: &mut Items<Item>,
+) -> Result<(), Memory>
+    ensures { OnOk result (items.new ≡ items.old ++ statements_in above (map seen parts.now)) }
+{
+    let count = parts.len();
+    let mut before = above;
+    let mut at = 0;
+    while at + 1 < count {
+        let expr = expr_of(alloc, &parts[at], false, &mut before)?;
+        let host = commented(alloc, expr, before, suffix_gap(parts, at + 1))?;
+        items.push(Item::Stmt(host))?;
+        before = Items::new(alloc);
+        at += 2;
+    }
+    Ok(())
+}
+
+/// After a statement, where this index is that of its semicolon or of the Newline: the gap that its suffix is in, which
+/// is that of the Newline. The suffix of another statement of the line is none, and so is what an empty gap says.
+fn suffix_gap(parts: &[Part], at: usize) -> &[u8]
+    requires { at < length parts.now }
+    ensures { suffix_in result.now ≡ line_suffix (map seen (drop at parts.now)) }
+{
+    if parts.len() - at > 2 {
+        return &[];
+    }
+    gap_of_last(parts)
+}

@@ -1,7 +1,0 @@
-use Rattle.std.proofs.Common.{◌≤◌, drop}
-use Rattle.std.specs.Prelude.{◌↔◌}
-use Rattle.bz_indent.specs.private.Depths.{depth_bzl_items}
-use Rattle.bz_indent.proofs.depth.are_bzl_items_within.Given as goal
-
-abbrev pub invariant-loop-item : goal.invariant-loop-item
-invariant-loop-item l = (depth_bzl_items (drop l.item-index l.items) ≤ l.depth) ↔ (depth_bzl_items l.items ≤ l.depth)

@@ -1,6 +1,0 @@
-use Rattle.std.proofs.Common.{refl}
-use Rattle.bz_indent.proofs.laws.worked_bzl_layouts.Goals as goal
-
-pub returns : goal.returns
-unfolding Rattle.bz_value.specs.declared.value.Expr.TheBlock.hidden-the_row-Expr-0 Rattle.bz_suite.specs.declared.value.Statement.TheBlock.hidden-the_row-Branch-1 denote.Hole.Carrier.hidden
-returns c = ((refl, refl, refl, refl, refl, refl, refl), (refl, refl, refl, refl), refl, refl, (refl, refl, refl, refl, refl, refl))

@@ -1,6 +1,0 @@
-use Rattle.std.proofs.Common.{◌≡◌, ◌++◌, drop}
-use Rattle.bz_indent.specs.Layout.{bzl_layout}
-use Rattle.bz_indent.proofs.writing.push_items.Given as goal
-
-abbrev pub invariant-loop-i : goal.invariant-loop-i
-invariant-loop-i l = l.out.items ++ bzl_layout (drop l.i l.items) ≡ l.fn.out.items ++ bzl_layout l.items

@@ -1,0 +1,28 @@
+-- Texts appended one after_mark the other.
+use Rattle.std.proofs.Common.{◌≡◌, ℕ, List, ◌++◌, append_assoc, length, sym, ap, ◌∙◌}
+use Rattle.std.specs.Prelude.{codes}
+use Rattle.std.specs.List.{flat_map}
+use Rattle.bz_grammar.specs.declared.tree.Node.{Node}
+use Rattle.bz_grammar.specs.declared.tree.Part.{Part}
+use Rattle.bz_grammar.specs.declared.tree.Part.TheVariants as p
+use Rattle.bz_grammar.specs.Kinds.{kind_number}
+use Rattle.bz_journal_format.proofs.Held.{text_Node}
+use Rattle.bz_journal_format.specs.Texts.{last_number, part_text, spaced_number}
+
+pub leaf_pushed : (o m a b c d e f o1 o2 o3 o4 o5 o6 o7 : List ℕ) → o1 ≡ o ++ m → o2 ≡ o1 ++ a → o3 ≡ o2 ++ b → o4 ≡ o3 ++ c → o5 ≡ o4 ++ d → o6 ≡ o5 ++ e → o7 ≡ o6 ++ f → o7 ≡ o ++ (m ++ a ++ b ++ c ++ d ++ e ++ f)
+leaf_pushed o m a b c d e f o1 o2 o3 o4 o5 o6 o7 h1 h2 h3 h4 h5 h6 h7 = rw (h7, h6, h5, h4, h3, h2, h1) (simp append_assoc)
+
+pub node_pushed : (o o1 o2 o3 o4 : List ℕ) (x : Part) (n : Node) → x ≡ p.Node n → o1 ≡ o ++ codes "node " → o2 ≡ o1 ++ spaced_number (kind_number n.kind) → o3 ≡ o2 ++ last_number (length n.parts) → o4 ≡ o3 ++ flat_map part_text n.parts → o4 ≡ o ++ part_text x
+node_pushed o o1 o2 o3 o4 x n is h1 h2 h3 h4 = h4 ∙ ap (λ t. t ++ flat_map part_text n.parts) (h3 ∙ ap (λ t. t ++ last_number (length n.parts)) (h2 ∙ ap (λ t. t ++ spaced_number (kind_number n.kind)) h1)) ∙ four o (codes "node ") (spaced_number (kind_number n.kind)) (last_number (length n.parts)) (flat_map part_text n.parts) ∙ ap (λ t. o ++ t) (sym (text_Node n) ∙ ap part_text (sym is))
+  where
+    four : (o m a b c : List ℕ) → o ++ m ++ a ++ b ++ c ≡ o ++ (m ++ a ++ b ++ c)
+    four o m a b c = simp append_assoc
+
+pub four_pushed : (o a b c d o1 o2 o3 o4 : List ℕ) → o1 ≡ o ++ a → o2 ≡ o1 ++ b → o3 ≡ o2 ++ c → o4 ≡ o3 ++ d → o4 ≡ o ++ (a ++ b ++ c ++ d)
+four_pushed o a b c d o1 o2 o3 o4 h1 h2 h3 h4 = rw (h4, h3, h2, h1) (simp append_assoc)
+
+pub end_pushed : (o l a b c l1 l2 l3 o1 : List ℕ) → l1 ≡ l ++ a → l2 ≡ l1 ++ b → l3 ≡ l2 ++ c → o1 ≡ o ++ l3 → o1 ≡ o ++ (l ++ (a ++ b ++ c))
+end_pushed o l a b c l1 l2 l3 o1 h1 h2 h3 h4 = rw (h4, h3, h2, h1) (simp append_assoc)
+
+pub texts_pushed : (o j k a q t b o1 o2 o3 o4 o5 o6 : List ℕ) → o1 ≡ o ++ j → o2 ≡ o1 ++ k → o3 ≡ o2 ++ a → o4 ≡ o3 ++ (q ++ t) → o5 ≡ o4 ++ b → o6 ≡ o5 ++ q → o6 ≡ o ++ (j ++ k ++ a ++ q ++ t ++ b ++ q)
+texts_pushed o j k a q t b o1 o2 o3 o4 o5 o6 h1 h2 h3 h4 h5 h6 = rw (h6, h5, h4, h3, h2, h1) (simp append_assoc)

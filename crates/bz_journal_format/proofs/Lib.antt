@@ -1,0 +1,17 @@
+pub mod Added
+pub mod Appends
+pub mod Chains
+pub mod Counting
+pub mod Digests
+pub mod Finds
+pub mod Formats
+pub mod Held
+pub mod Inner
+pub mod Loops
+pub mod MarkLines
+pub mod Marks
+pub mod Numbers
+pub mod Own
+pub mod Paired
+pub mod Versions
+pub mod Whole

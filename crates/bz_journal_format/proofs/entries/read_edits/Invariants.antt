@@ -1,0 +1,8 @@
+use Rattle.std.proofs.Common.{◌≡◌, ◌-◌}
+use Rattle.bz_journal_format.proofs.Loops.{with_front}
+use Rattle.bz_journal_format.specs.Readers.{repeated}
+use Rattle.bz_journal_format.specs.private.Reading.{edit_at}
+use Rattle.bz_journal_format.proofs.entries.read_edits.Given as goal
+
+abbrev pub invariant-several : goal.invariant-several
+invariant-several l = with_front l.edits.items (repeated (edit_at l.depth) (l.count - l.counter) l.rest) ≡ repeated (edit_at l.depth) l.count l.input

@@ -1,0 +1,21 @@
+use Rattle.std.proofs.Common.{◌∷◌, [], rules, ◌≡◌, Some, None}
+use Rattle.std.specs.Prelude.{codes}
+use Rattle.hex.specs.Hex.{encode_lower}
+use Rattle.sha2.specs.Sha256.{sha256}
+use Rattle.bz_journal_format.proofs.Marks.{no_front, no_middle, at_end}
+use Rattle.bz_journal_format.specs.Readers.{after_mark}
+use Rattle.bz_items.specs.Characters.{line_feed}
+use Rattle.bz_journal_format.proofs.lines.is_end.Goals as goal
+
+pub returns-in_default : goal.returns-in_default
+returns-in_default c = no_front (codes "end ") (encode_lower (sha256 c.args.lines.now)) (line_feed ∷ []) c.args.input.now (search rules)
+
+pub returns-in_default-strip_mark : goal.returns-in_default-strip_mark
+returns-in_default-strip_mark c =
+    let none : after_mark (encode_lower (sha256 c.args.lines.now)) c.in-Some.rest.now ≡ None = search rules in
+    no_middle (codes "end ") (encode_lower (sha256 c.args.lines.now)) (line_feed ∷ []) c.args.input.now c.in-Some.rest.now c.in-Some.ensures none
+
+pub returns : goal.returns
+returns c =
+    let some : after_mark (encode_lower (sha256 c.args.lines.now)) c.in-Some.rest.now ≡ Some c.in-Some-strip_mark.rest.now = search rules in
+    at_end (codes "end ") (encode_lower (sha256 c.args.lines.now)) (line_feed ∷ []) c.args.input.now c.in-Some.rest.now c.in-Some.ensures c.in-Some-strip_mark.rest.now c.eq.result some (search rules)

@@ -1,0 +1,207 @@
+//! Writing a record: each function appends what it is named for. Where a growth is refused a part of it may be there; `write_record`
+//! writes into a list of its own first.
+ghost use Rattle.std.specs.Prelude.{◌≡◌, ◌∷◌, ◌++◌, ◌<◌, ◌≤◌, [], ℕ, codes, decimal, length, take, OnOk, OnErr};
+ghost use Rattle.std.specs.List.{flat_map};
+ghost use Rattle.hex.specs.Hex.{encode_lower};
+ghost use Rattle.bz_journal_format.specs.Spellings.{counted_text, numeral};
+ghost use Rattle.bz_journal_format.specs.Contents.{entries_of, entry_of, record_in};
+ghost use Rattle.bz_journal_format.specs.Texts.{counts_text, digest_text, edit_text, end_line, entry_text, last_number, leaf_text, lines_text, note_line, part_text, record_text, spaced_number, texts_text};
+
+use crate::content::{Content, Version};
+use crate::fields::version_line;
+use bz_edit::{Edit, Step};
+use crate::{hex_digits, push_counted, push_number};
+use bz_items::{Memory, Text};
+use bz_grammar::{Leaf, Part};
+use sha2::{Digest, Sha256};
+
+fn push_leaf(out: &mut Vec<u8>, leaf: &Leaf) -> Result<(), Memory>
+    ensures { OnOk result (out.new.items ≡ out.old.items ++ leaf_text leaf.now) }
+{
+    out.extend_from_slice(b"leaf ")?;
+    push_number(out, leaf.class.number() as usize, b' ')?;
+    push_number(out, leaf.gap.len(), b' ')?;
+    push_number(out, leaf.token.len(), b'\n')?;
+    out.extend_from_slice(leaf.gap.as_slice())?;
+    out.extend_from_slice(leaf.token.as_slice())?;
+    out.push(b'\n')?;
+    Ok(())
+}
+
+#[cycle(push)]
+#[tactic(auto, using(crate::proofs::Held::text_Node))]
+fn push_part(out: &mut Vec<u8>, part: &Part) -> Result<(), Memory>
+    ensures { OnOk result (out.new.items ≡ out.old.items ++ part_text part.now) }
+{
+    match part {
+        Part::Leaf(leaf) => push_leaf(out, leaf),
+        Part::Node(node) => {
+            out.extend_from_slice(b"node ")?;
+            push_number(out, node.kind.number() as usize, b' ')?;
+            push_number(out, node.parts.len(), b'\n')?;
+            push_parts(out, node.parts.as_slice())
+        }
+    }
+}
+
+#[cycle(push)]
+fn push_parts(out: &mut Vec<u8>, parts: &[Part]) -> Result<(), Memory>
+    ensures { OnOk result (out.new.items ≡ out.old.items ++ flat_map part_text parts.now) }
+{
+    'parts: for part in parts {
+        push_part(out, part)?;
+    }
+    Ok(())
+}
+
+fn push_path(out: &mut Vec<u8>, path: &[u32]) -> Result<(), Memory>
+    ensures { OnOk result (out.new.items ≡ out.old.items ++ flat_map spaced_number path.now) }
+{
+    'path: for entry in path {
+        push_number(out, *entry as usize, b' ')?;
+    }
+    Ok(())
+}
+
+fn push_edit(out: &mut Vec<u8>, edit: &Edit) -> Result<(), Memory>
+    ensures { OnOk result (out.new.items ≡ out.old.items ++ edit_text edit.now) }
+{
+    out.extend_from_slice(b"edit ")?;
+    push_number(out, edit.path.len(), b' ')?;
+    push_path(out, edit.path.as_slice())?;
+    push_number(out, edit.at as usize, b' ')?;
+    push_number(out, edit.count as usize, b' ')?;
+    push_number(out, edit.held.len(), b'\n')?;
+    push_parts(out, edit.held.as_slice())
+}
+
+/// The line of a note, where the version has one.
+fn push_note(out: &mut Vec<u8>, version: Version, note: &[u8]) -> Result<(), Memory>
+    ensures { OnOk result (out.new.items ≡ out.old.items ++ note_line version note.now) }
+{
+    match version {
+        Version::One => Ok(()),
+        Version::Two => {
+            out.extend_from_slice(b"note ")?;
+            push_counted(out, note, b' ')?;
+            out.push(b'\n')?;
+            Ok(())
+        }
+    }
+}
+
+fn push_entry(
+    out: &mut Vec<u8>,
+    version: Version,
+    note: &[u8],
+    edits: &[Edit],
+) -> Result<(), Memory>
+    ensures { OnOk result (out.new.items ≡ out.old.items ++ entry_text version (entry_of note.now edits.now)) }
+{
+    out.extend_from_slice(b"step ")?;
+    push_number(out, edits.len(), b'\n')?;
+    push_note(out, version, note)?;
+    'edits: for edit in edits {
+        push_edit(out, edit)?;
+    }
+    Ok(())
+}
+
+fn push_digest(out: &mut Vec<u8>, digest: &[u8; 32]) -> Result<(), Memory>
+    ensures { OnOk result (out.new.items ≡ out.old.items ++ digest_text digest.now) }
+{
+    out.extend_from_slice(b"digest ")?;
+    out.extend_from_slice(&hex_digits(digest))?;
+    out.push(b'\n')?;
+    Ok(())
+}
+
+fn push_digests(out: &mut Vec<u8>, digests: &[[u8; 32]]) -> Result<(), Memory>
+    ensures { OnOk result (out.new.items ≡ out.old.items ++ flat_map digest_text digests.now) }
+{
+    'digests: for digest in digests {
+        push_digest(out, digest)?;
+    }
+    Ok(())
+}
+
+fn push_entries(
+    out: &mut Vec<u8>,
+    version: Version,
+    notes: &[Text],
+    steps: &[Step],
+) -> Result<(), Memory>
+    requires { length notes.now ≡ length steps.now }
+    ensures { OnOk result (out.new.items ≡ out.old.items ++ flat_map (entry_text version) (entries_of notes.now steps.now)) }
+{
+    for i in 0..steps.len() {
+        let step = &steps[i];
+        push_entry(out, version, notes[i].as_slice(), step.edits.as_slice())?;
+    }
+    Ok(())
+}
+
+/// The version, the package and the text.
+fn push_texts(out: &mut Vec<u8>, version: Version, content: &Content) -> Result<(), Memory>
+    ensures { OnOk result (out.new.items ≡ out.old.items ++ texts_text version (record_in content.now)) }
+{
+    out.extend_from_slice(version_line(version))?;
+    out.extend_from_slice(b"package ")?;
+    push_counted(out, content.package, b' ')?;
+    out.extend_from_slice(b"\ntext ")?;
+    push_counted(out, content.text, b'\n')?;
+    out.push(b'\n')?;
+    Ok(())
+}
+
+/// How many steps there are, each with its note.
+fn count_of(content: &Content) -> usize
+    requires { length content.now.notes.now ≡ length content.now.steps.now }
+    ensures { result ≡ length (record_in content.now).steps }
+{
+    content.steps.len()
+}
+
+/// The number of steps and the cursors.
+fn push_counts(out: &mut Vec<u8>, content: &Content) -> Result<(), Memory>
+    requires { length content.now.notes.now ≡ length content.now.steps.now }
+    ensures { OnOk result (out.new.items ≡ out.old.items ++ counts_text (record_in content.now)) }
+{
+    out.extend_from_slice(b"steps ")?;
+    push_number(out, count_of(content), b' ')?;
+    out.extend_from_slice(b"now ")?;
+    push_number(out, content.cursor as usize, b' ')?;
+    out.extend_from_slice(b"before ")?;
+    push_number(out, content.before as usize, b'\n')?;
+    Ok(())
+}
+
+/// All lines but the last.
+#[tactic(auto, using(crate::proofs::Appends::four_pushed))]
+fn push_lines(out: &mut Vec<u8>, version: Version, content: &Content) -> Result<(), Memory>
+    requires { length content.now.notes.now ≡ length content.now.steps.now }
+    ensures { OnOk result (out.new.items ≡ out.old.items ++ lines_text version (record_in content.now)) }
+{
+    push_texts(out, version, content)?;
+    push_counts(out, content)?;
+    push_digests(out, content.digests)?;
+    push_entries(out, version, content.notes, content.steps)
+}
+
+/// Appends the bytes of a record. Whether it is one that can be read again is no question here. The error: a growth was refused; `out`
+/// is then as before.
+#[tactic(auto, using(crate::proofs::Appends::end_pushed))]
+pub fn write_record(version: Version, content: &Content, out: &mut Vec<u8>) -> Result<(), Memory>
+    requires { length content.now.notes.now ≡ length content.now.steps.now }
+    ensures ok { OnOk result (out.new.items ≡ out.old.items ++ record_text version (record_in content.now)) }
+    ensures err { OnErr result (out.new.items ≡ out.old.items) }
+{
+    let mut lines = Vec::new(*out.allocator());
+    push_lines(&mut lines, version, content)?;
+    let digits = hex_digits(&Sha256::digest(lines.as_slice()));
+    lines.extend_from_slice(b"end ")?;
+    lines.extend_from_slice(&digits)?;
+    lines.push(b'\n')?;
+    out.extend_from_slice(lines.as_slice())?;
+    Ok(())
+}

@@ -1,2 +1,0 @@
-pub mod Pair
-pub mod Resuming

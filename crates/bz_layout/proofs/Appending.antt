@@ -1,0 +1,47 @@
+-- Items after others.
+use Rattle.std.proofs.Common.{ℕ, zero, suc, max, ◌≤◌, ◌≡◌, List, [], ◌∷◌, ◌++◌, refl, sym, ap, ◌∙◌, subst, append_assoc, append-nil, arith}
+use Rattle.bz_items.specs.Characters.{Bytes}
+use Rattle.bz_grammar.specs.Spell.{depth_of}
+use Rattle.bz_value.specs.declared.value.Item.{Item}
+use Rattle.bz_value.specs.declared.value.Item.TheVariants as i
+use Rattle.bz_layout.specs.Appended.{LayoutsJoin, DepthsJoin}
+use Rattle.bz_layout.specs.Depths.{depth_expr, depth_items}
+use Rattle.bz_layout.specs.LaidOut.{before_next, laid_out}
+use Rattle.bz_layout.specs.Written.{item_text, gap_between, past_item, layout}
+use Rattle.bz_layout.proofs.Deep.{laid_out_depth}
+use Rattle.bz_layout.proofs.Spelled.{next_after}
+
+both_after : (above : Item) (front : List Item) (item : Item) (items : List Item) → past_item above ((front ++ item ∷ []) ++ items) ≡ past_item above (front ++ item ∷ []) ++ past_item item items
+both_after above [] item items =
+    let gap : Bytes = gap_between above item in
+    ap (λ t. gap ++ (t ++ past_item item items)) (sym (append-nil (item_text item))) ∙ sym (append_assoc gap (item_text item ++ []) (past_item item items))
+both_after above (x ∷ front) item items =
+    let gap : Bytes = gap_between above x in
+    let rest : Bytes = past_item x (front ++ item ∷ []) in
+    ap (λ t. gap ++ (item_text x ++ t)) (both_after x front item items)
+    ∙ (ap (λ t. gap ++ t) (sym (append_assoc (item_text x) rest (past_item item items))) ∙ sym (append_assoc gap (item_text x ++ rest) (past_item item items)))
+
+both_laid : (front : List Item) (item : Item) (items : List Item) → layout ((front ++ item ∷ []) ++ items) ≡ layout (front ++ item ∷ []) ++ past_item item items
+both_laid [] item items = ap (λ t. t ++ past_item item items) (sym (append-nil (item_text item)))
+both_laid (x ∷ front) item items =
+    ap (λ t. item_text x ++ t) (both_after x front item items) ∙ sym (append_assoc (item_text x) (past_item x (front ++ item ∷ [])) (past_item item items))
+
+pub layouts_join : LayoutsJoin
+layouts_join front item items = both_laid front item items ∙ ap (λ t. layout (front ++ item ∷ []) ++ t) (sym (next_after item items))
+
+both_depths : (front items : List Item) (depth : ℕ) → depth_items front ≤ depth → depth_items items ≤ depth → depth_items (front ++ items) ≤ depth
+both_depths [] items depth h k = k
+both_depths (i.Block lines ∷ front) items depth h k = both_depths front items depth h k
+both_depths (i.Stmt x ∷ front) items depth h k = let w = both_depths front items depth (omega (arith, h)) k in omega (arith, h, w)
+
+one_less : (a b depth : ℕ) → a ≡ suc b → a ≤ suc depth → b ≤ depth
+one_less a b depth e h = omega (arith, e, h)
+
+no_depth : (a b : ℕ) → a ≡ suc b → a ≤ 0 → ⊥
+no_depth a b e h = omega (arith, e, h)
+
+pub depths_join : DepthsJoin
+depths_join front items zero h k = absurd (no_depth _ _ (laid_out_depth front) h)
+depths_join front items (suc depth) h k =
+    let w = both_depths front items depth (one_less _ _ depth (laid_out_depth front) h) (one_less _ _ depth (laid_out_depth items) k) in
+    omega (arith, laid_out_depth (front ++ items), w)

@@ -1,0 +1,223 @@
+-- Settling the flags changes neither the layout nor its tree.
+use Rattle.std.proofs.Common.{ℕ, suc, Bool, true, false, not, ◌&&◌, ◌||◌, ◌≡◌, List, [], ◌∷◌, ◌++◌, ◌+◌, if◌then◌else◌, refl, ap, ◌∙◌, map}
+use Rattle.std.specs.Prelude.{Option, None, nat_eq, nat_le, length}
+use Rattle.std.specs.List.{flat_map}
+use mathlib.Core.Path.{fun_ext}
+use Rattle.bz_grammar.specs.declared.kind.Kind.{Kind}
+use Rattle.bz_grammar.specs.declared.kind.Kind.TheVariants as k
+use Rattle.bz_grammar.specs.declared.tree.Node.{Node}
+use Rattle.bz_grammar.specs.declared.tree.Part.TheVariants as p
+use Rattle.bz_value.specs.declared.value.Form.{Form}
+use Rattle.bz_value.specs.declared.value.Expr.{Expr, Token, Form', Row_of-Expr, end_of-Expr, more_of-Expr, items-the_row-Expr}
+use Rattle.bz_value.specs.declared.value.Item.{Item}
+use Rattle.bz_value.specs.declared.value.Item.TheVariants as i
+use Rattle.bz_items.specs.Characters.{Bytes, comma, space}
+use Rattle.bz_value.specs.Comments.{HostComments}
+use Rattle.bz_value.specs.Frames.{Frame, row, sequence, frame}
+use Rattle.bz_value.specs.Proper.{comments_of, has_break}
+use Rattle.bz_value.specs.Roots.{root}
+use Rattle.bz_layout.specs.Layout.{Piece, mark, part, laid, laid_in, rowed, headed, joined, stacked, is_broken, is_tuple, gap_after, margin_after, suffix_text, has_comments, has_named, is_named_argument, is_listed, is_call, new_line_at, margin_lines, firsts}
+use Rattle.bz_value.specs.Empty.{is_empty}
+use Rattle.bz_layout.specs.Spaces.{is_spaced}
+use Rattle.bz_layout.specs.Written.{text_of, texts_of, piece_text, comment_lines, gap_between, past_item, item_text, layout, is_load, is_assign}
+use Rattle.bz_layout.specs.LaidOut.{part_of, parts_of, layouts, piece_part, before_next, line_part, lines_from, laid_out}
+use Rattle.bz_layout.specs.Flags.{settled_split, with_flags, each_with_flags, item_with_flags, flags}
+use Rattle.bz_layout.specs.Writings.{writings}
+use Rattle.bz_layout.proofs.Made.{two, text_Form, part_Form}
+
+-- ---- what the flags leave as it is
+
+pub same_comments : (x : Expr) → comments_of (with_flags x) ≡ comments_of x
+same_comments (Token t) = refl
+same_comments (Form' kind s parts s' items end split open_break comments) = refl
+
+pub same_break : (x : Expr) → has_break (with_flags x) ≡ has_break x
+same_break (Token t) = refl
+same_break (Form' kind s parts s' items end split open_break comments) = refl
+
+pub same_root : (x : Expr) → root (with_flags x) ≡ root x
+same_root (Token t) = refl
+same_root (Form' kind s parts s' items end split open_break comments) = refl
+
+same_margin : (open_break : Bool) (m : ℕ) (x : Expr) → margin_after open_break m (with_flags x) ≡ margin_after open_break m x
+same_margin open_break m x = ap (λ z. if open_break || z then m + 4 else m) (same_break x)
+
+same_named : (x : Expr) → is_named_argument (with_flags x) ≡ is_named_argument x
+same_named (Token t) = refl
+same_named (Form' kind s parts s' items end split open_break comments) = refl
+
+same_load : (x : Expr) → is_load (with_flags x) ≡ is_load x
+same_load (Token t) = refl
+same_load (Form' kind s parts s' items end split open_break comments) = refl
+
+same_assign : (x : Expr) → is_assign (with_flags x) ≡ is_assign x
+same_assign (Token t) = refl
+same_assign (Form' kind s parts s' items end split open_break comments) = refl
+
+-- ---- pieces of expressions with settled flags and without
+
+-- broken as before, also where the flag says whether it was
+settled : (a b c s n : Bool) → (a || (b || (c || ((a || (b || (c || (s && n)))) && n)))) ≡ (a || (b || (c || (s && n))))
+settled true b c s n = refl
+settled false true c s n = refl
+settled false false true s n = refl
+settled false false false true true = refl
+settled false false false true false = refl
+settled false false false false n = refl
+
+module _ {X : Type 0} where
+  -- the flags settled, the reading as it is
+  abbrev pub flagged : Expr × X → Expr × X
+  flagged x = (with_flags x.0, x.1)
+
+  same_empty : (xs : List (Expr × X)) → is_empty (map flagged xs) ≡ is_empty xs
+  same_empty [] = refl
+  same_empty (x ∷ xs) = refl
+
+  same_no_value : (xs : List (Expr × X)) → is_empty (firsts (map flagged xs)) ≡ is_empty (firsts xs)
+  same_no_value [] = refl
+  same_no_value (x ∷ xs) = refl
+
+  same_length : (xs : List (Expr × X)) → length (map flagged xs) ≡ length xs
+  same_length [] = refl
+  same_length (x ∷ xs) = ap suc (same_length xs)
+
+  same_count : (xs : List (Expr × X)) → length (firsts (map flagged xs)) ≡ length (firsts xs)
+  same_count [] = refl
+  same_count (x ∷ xs) = ap suc (same_count xs)
+
+  same_has_comments : (xs : List (Expr × X)) → has_comments (firsts (map flagged xs)) ≡ has_comments (firsts xs)
+  same_has_comments [] = refl
+  same_has_comments (x ∷ xs) = rw (same_comments x.0, same_has_comments xs) refl
+
+  same_has_named : (xs : List (Expr × X)) → has_named (firsts (map flagged xs)) ≡ has_named (firsts xs)
+  same_has_named [] = refl
+  same_has_named (x ∷ xs) = rw (same_named x.0, same_has_named xs) refl
+
+  same_broken : (kind : Kind) (split : Bool) (xs : List (Expr × X)) (end : List Bytes) → is_broken kind (is_broken kind split (firsts xs) end) (firsts (map flagged xs)) end ≡ is_broken kind split (firsts xs) end
+  same_broken kind split xs end =
+      rw (same_has_comments xs, same_count xs, same_has_named xs, same_no_value xs)
+      (settled (has_comments (firsts xs)) (not (is_empty end)) (nat_le 2 (length (firsts xs)) && (is_listed kind || (is_call kind && has_named (firsts xs)))) split (not (is_empty (firsts xs))))
+
+  same_gap : (kind : Kind) (open_break : Bool) (m : ℕ) (x : Expr) (ys : List (Expr × X)) → gap_after kind open_break m (with_flags x) (firsts (map flagged ys)) ≡ gap_after kind open_break m x (firsts ys)
+  same_gap kind open_break m x [] = refl
+  same_gap kind open_break m x (y ∷ ys) =
+      two (λ b e. if open_break then new_line_at (if e then m else m + 4) else (if b then new_line_at (m + 4) else (if is_spaced kind (root (with_flags x)) (root (with_flags y.0)) then space ∷ [] else []))) (same_break x) (same_no_value ys) ∙
+      two (λ r q. if open_break then new_line_at (if is_empty (firsts ys) then m else m + 4) else (if has_break x then new_line_at (m + 4) else (if is_spaced kind r q then space ∷ [] else []))) (same_root x) (same_root y.0)
+
+  pub same_rowed : (kind : Kind) (open_break : Bool) (m : ℕ) (g : Bytes) (n : ℕ) (xs : List (Expr × X)) → rowed kind open_break m g n (map flagged xs) ≡ rowed kind open_break m g n xs
+  same_rowed kind open_break m g n [] = refl
+  same_rowed kind open_break m g n (x ∷ xs) =
+      two (λ z w. part g n x.1 ∷ rowed kind open_break m z w (map flagged xs)) (same_gap kind open_break m x.0 xs) (same_margin open_break m x.0) ∙
+      ap (λ ps. part g n x.1 ∷ ps) (same_rowed kind open_break m (gap_after kind open_break m x.0 (firsts xs)) (margin_after open_break m x.0) xs)
+
+  same_headed : (m : ℕ) (g : Bytes) (opener : ℕ) (xs : List (Expr × X)) (ps : List (Piece X)) → headed m g opener (map flagged xs) ps ≡ headed m g opener xs ps
+  same_headed m g opener [] ps = refl
+  same_headed m g opener (x ∷ xs) ps = ap (λ qs. part g m x.1 ∷ qs) (same_headed m [] opener xs ps)
+
+  same_joined : (m : ℕ) (g : Bytes) (closer : ℕ) (one : Bool) (xs : List (Expr × X)) → joined m g closer one (map flagged xs) ≡ joined m g closer one xs
+  same_joined m g closer one [] = refl
+  same_joined m g closer one (x ∷ xs) =
+      rw (same_empty xs) (ap (λ ps. part g m x.1 ∷ ((if is_empty xs && not one then [] else (mark [] (comma ∷ []) ∷ [])) ++ ps)) (same_joined m (space ∷ []) closer false xs))
+
+  same_stacked : (m : ℕ) (suffix : Option Bytes) (closer : ℕ) (end : List Bytes) (xs : List (Expr × X)) → stacked m suffix closer end (map flagged xs) ≡ stacked m suffix closer end xs
+  same_stacked m suffix closer end [] = refl
+  same_stacked m suffix closer end (x ∷ xs) =
+      rw (same_comments x.0) (ap (λ ps. part (suffix_text suffix ++ (new_line_at (m + 4) ++ margin_lines (m + 4) (comments_of x.0).before)) (m + 4) x.1 ∷ mark [] (comma ∷ []) ∷ ps) (same_stacked m (comments_of x.0).suffix closer end xs))
+
+  pub same_body : (b one : Bool) (m : ℕ) (closer : ℕ) (end : List Bytes) (xs : List (Expr × X)) →
+      (if b then stacked m None closer end (map flagged xs) else joined m [] closer one (map flagged xs)) ≡ (if b then stacked m None closer end xs else joined m [] closer one xs)
+  same_body true one m closer end xs = same_stacked m None closer end xs
+  same_body false one m closer end xs = same_joined m [] closer one xs
+
+  same_laid : (f : Frame) (kind : Kind) (split open_break : Bool) (g : Bytes) (m : ℕ) (hs xs : List (Expr × X)) (end : List Bytes) →
+      laid_in f kind (settled_split f kind split (firsts xs) end) open_break g m (map flagged hs) (map flagged xs) end ≡ laid_in f kind split open_break g m hs xs end
+  same_laid row kind split open_break g m hs xs end = same_rowed kind open_break m g m hs
+  same_laid (sequence opener closer) kind split open_break g m hs xs end =
+      rw (same_broken kind split xs end, same_length xs)
+      (same_headed m g opener hs _ ∙
+      ap (λ ps. headed m g opener hs ps) (same_body (is_broken kind split (firsts xs) end) (is_tuple kind && nat_eq (length xs) 1) m closer end xs))
+
+  -- the pieces of a form whose flag is settled, where each expression in it has its reading
+  same_pieces : (kind : Kind) (split open_break : Bool) (g : Bytes) (m : ℕ) (hs xs hs' xs' : List (Expr × X)) (ys : List Expr) (end : List Bytes) → hs' ≡ map flagged hs → xs' ≡ map flagged xs → ys ≡ firsts xs →
+      laid kind (settled_split (frame kind) kind split ys end) open_break g m hs' xs' end ≡ laid kind split open_break g m hs xs end
+  same_pieces kind split open_break g m hs xs hs' xs' ys end a b e =
+      ap (λ z. laid kind (settled_split (frame kind) kind split z end) open_break g m hs' xs' end) e ∙
+      (two (λ h x. laid kind (settled_split (frame kind) kind split (firsts xs) end) open_break g m h x end) a b ∙ same_laid (frame kind) kind split open_break g m hs xs end)
+
+-- ---- the text of an expression
+
+texts_values : (m : _) (r : Row_of-Expr m) → items-the_row-Expr m r ≡ firsts (texts_of r)
+texts_values m end_of-Expr = refl
+texts_values m (more_of-Expr x rest) = ap (λ t. x ∷ t) (texts_values _ rest)
+
+-- a form with its flags settled, by its fields
+abbrev pub made : Kind → List Expr → List Expr → List Bytes → Bool → Bool → HostComments → Form
+made kind parts items end split open_break comments = record { kind = kind; parts = parts; seq = record { items = items; end = end; split = split }; open_break = open_break; comments = comments }
+
+mutual
+  pub text_flags : (a : Expr) → text_of (with_flags a) ≡ text_of a
+  text_flags (Token t) = refl
+  text_flags (Form' kind s parts s' items end split open_break comments) =
+      fun_ext
+      (λ m. text_Form (made kind (each_with_flags parts) (each_with_flags items) end (settled_split (frame kind) kind split (items-the_row-Expr _ items) end) open_break comments) m ∙
+      ap (λ ps. flat_map piece_text ps) (same_pieces kind split open_break [] m (texts_of parts) (texts_of items) _ _ _ end (texts_flags _ parts) (texts_flags _ items) (texts_values _ items)))
+
+  texts_flags : (n : _) (r : Row_of-Expr n) → writings (each_with_flags r) ≡ map flagged (texts_of r)
+  texts_flags n end_of-Expr = refl
+  texts_flags n (more_of-Expr x rest) = two (λ t ts. (with_flags x, t) ∷ ts) (text_flags x) (texts_flags _ rest)
+
+-- ---- what is laid out of an expression
+
+parts_values : (m : _) (r : Row_of-Expr m) → items-the_row-Expr m r ≡ firsts (parts_of r)
+parts_values m end_of-Expr = refl
+parts_values m (more_of-Expr x rest) = ap (λ t. x ∷ t) (parts_values _ rest)
+
+mutual
+  part_flags : (a : Expr) → part_of (with_flags a) ≡ part_of a
+  part_flags (Token t) = refl
+  part_flags (Form' kind s parts s' items end split open_break comments) =
+      fun_ext
+      (λ g. fun_ext
+      (λ m. part_Form (made kind (each_with_flags parts) (each_with_flags items) end (settled_split (frame kind) kind split (items-the_row-Expr _ items) end) open_break comments) g m ∙
+      ap (λ ps. p.Node (record { kind = kind; parts = map piece_part ps })) (same_pieces kind split open_break g m (parts_of parts) (parts_of items) _ _ _ end (parts_flags _ parts) (parts_flags _ items) (parts_values _ items))))
+
+  parts_flags : (n : _) (r : Row_of-Expr n) → layouts (each_with_flags r) ≡ map flagged (parts_of r)
+  parts_flags n end_of-Expr = refl
+  parts_flags n (more_of-Expr x rest) = two (λ t ts. (with_flags x, t) ∷ ts) (part_flags x) (parts_flags _ rest)
+
+-- ---- the file
+
+same_item : (x : Item) → item_text (item_with_flags x) ≡ item_text x
+same_item (i.Block texts) = refl
+same_item (i.Stmt x) = rw (same_comments x, text_flags x) refl
+
+pub same_between : (x y : Item) → gap_between (item_with_flags x) (item_with_flags y) ≡ gap_between x y
+same_between (i.Block texts) y = refl
+same_between (i.Stmt x) (i.Block texts) = refl
+same_between (i.Stmt x) (i.Stmt y) = rw (same_load x, same_load y, same_assign x, same_assign y, same_comments y) refl
+
+same_after : (x : Item) (ys : List Item) → past_item (item_with_flags x) (flags ys) ≡ past_item x ys
+same_after x [] = refl
+same_after x (y ∷ ys) = two (λ s t. s ++ t) (same_between x y) (two (λ s t. s ++ t) (same_item y) (same_after y ys))
+
+pub same_layout : (items : List Item) → layout (flags items) ≡ layout items
+same_layout [] = refl
+same_layout (x ∷ xs) = two (λ s t. s ++ t) (same_item x) (same_after x xs)
+
+same_next : (x : Item) (ys : List Item) → before_next (item_with_flags x) (flags ys) ≡ before_next x ys
+same_next x [] = refl
+same_next x (y ∷ ys) = same_between x y
+
+same_line : (gap : Bytes) (x : Expr) → line_part gap (with_flags x) ≡ line_part gap x
+same_line gap x = rw (same_comments x, part_flags x) refl
+
+same_lines : (gap : Bytes) (xs : List Item) → lines_from gap (flags xs) ≡ lines_from gap xs
+same_lines gap [] = refl
+same_lines gap (i.Block texts ∷ xs) =
+    ap (λ z. lines_from ((gap ++ comment_lines texts) ++ z) (flags xs)) (same_next (i.Block texts) xs) ∙ same_lines ((gap ++ comment_lines texts) ++ before_next (i.Block texts) xs) xs
+same_lines gap (i.Stmt x ∷ xs) =
+    two (λ z zs. z ∷ zs) (same_line gap x) (ap (λ z. lines_from z (flags xs)) (same_next (i.Stmt x) xs) ∙ same_lines (before_next (i.Stmt x) xs) xs)
+
+pub same_laid_out : (items : List Item) → laid_out (flags items) ≡ laid_out items
+same_laid_out items = ap (λ ps. let file : Node = record { kind = k.File; parts = ps } in file) (same_lines [] items)

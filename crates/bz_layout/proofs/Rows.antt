@@ -1,0 +1,241 @@
+-- The spaces that the layout puts in a row, and between brackets, are those that the neighbours require.
+use Rattle.std.proofs.Common.{◌≡◌, ℕ, Bool, true, false, not, ◌&&◌, ◌+◌, List, [], ◌∷◌, ◌++◌, inl, inr, Option, Some, None, if◌then◌else◌, length, refl, sym, ◌∙◌, subst, map}
+use Rattle.std.specs.Prelude.{replicate, nat_eq}
+use Rattle.std.specs.List.{AllByRecursion}
+use Rattle.std.proofs.lemmas.Bool.{both_ways, or_parts}
+use Rattle.bz_token.specs.declared.class.Class.{Class}
+use Rattle.bz_token.specs.declared.class.Class.TheVariants as c
+use Rattle.bz_lex.specs.declared.leaf.Leaf.{Leaf}
+use Rattle.bz_grammar.specs.declared.kind.Kind.{Kind}
+use Rattle.bz_grammar.specs.declared.kind.Kind.TheVariants as k
+use Rattle.bz_grammar.specs.declared.tree.Part.{Part, Node'}
+use Rattle.bz_grammar.specs.declared.tree.Part.TheVariants as p
+use Rattle.bz_grammar.specs.Spell.{leaves_part}
+use Rattle.bz_grammar.specs.Shapes as s
+use Rattle.bz_grammar.specs.Shapes.{has_token}
+use Rattle.bz_grammar.proofs.Balance.{no_such}
+use Rattle.bz_value.specs.declared.value.Expr.{Expr, Token, Form'}
+use Rattle.bz_items.specs.Characters.{Bytes, comma, space}
+use Rattle.bz_value.specs.Frames.{Frame, row, sequence, frame}
+use Rattle.bz_value.specs.Proper.{comments_of, has_break, in_frame}
+use Rattle.bz_value.specs.Roots.{root}
+use Rattle.bz_layout.specs.Spaces.{lone, space_after, space_before, is_word, is_value, is_spaced_after, is_spaced_before, is_lone, is_number_leaf, apart, number_dot, is_spaced}
+use Rattle.bz_layout.specs.Layout.{mark, new_line_at, margin_lines, ended, suffix_text, is_broken, is_tuple, gap_after, margin_after, firsts, rowed, headed, joined, stacked, laid_in, laid}
+use Rattle.bz_value.specs.Empty.{is_empty}
+use Rattle.bz_layout.specs.LaidOut.{piece_part, part_of}
+use Rattle.bz_layout.proofs.Fitted.{Same, Child, rooted, IsRooted, Pieces}
+use Rattle.bz_layout.proofs.Joined.{AtMostOne}
+use Rattle.bz_layout.proofs.Elements.{AreValues}
+use Rattle.bz_layout.proofs.Touching.{Fine, Between, Apart, OpensAt, BareAt, Opens, NumberDot}
+
+-- ---- what a part is to its neighbours does not hang on its gap
+
+pub record SpacedAs (x y : Part) : Type 0 where
+  pub after_it : (kind : Kind) → is_spaced_after kind x ≡ is_spaced_after kind y
+  pub before_it : (kind : Kind) → is_spaced_before kind x ≡ is_spaced_before kind y
+  pub value : is_value x ≡ is_value y
+  pub alone : is_lone x ≡ is_lone y
+  pub number : is_number_leaf x ≡ is_number_leaf y
+
+pub root_spaced : (x : Expr) (gap : Bytes) (m : ℕ) → SpacedAs (root x) (part_of x gap m)
+root_spaced (Token t) gap m = record { after_it = λ kind. refl; before_it = λ kind. refl; value = refl; alone = refl; number = refl }
+root_spaced (Form' kind z parts z' items end split open_break comments) gap m = record { after_it = λ kind. refl; before_it = λ kind. refl; value = refl; alone = refl; number = refl }
+
+same_apart : (kind : Kind) (x y x' y' : Part) → SpacedAs x x' → SpacedAs y y' → apart kind x' y' ≡ apart kind x y
+same_apart kind x y x' y' h i = rw (h.after_it kind, i.alone, i.before_it kind, h.value, i.value) refl
+
+same_number_dot : (x y x' y' : Part) → SpacedAs x x' → Same y y' → number_dot x' y' ≡ number_dot x y
+same_number_dot x y x' y' h i = rw (h.number, i.token s.dot) refl
+
+-- the first leaf of what is laid out has the gap that it is given
+abbrev pub Starts : (Bytes → ℕ → Part) → Type 0
+Starts f = (gap : Bytes) (m : ℕ) → (l : Leaf) × (ls : List Leaf) × (leaves_part (f gap m) ≡ l ∷ ls) × (l.gap ≡ gap)
+
+-- a child is laid out after its gap, and to its neighbours as its root
+pub record IsAfter (x : Child) : Type 0 where
+  pub starts : Starts x.1
+  pub rooted_as : IsRooted x
+  pub spaced_as : (gap : Bytes) (m : ℕ) → SpacedAs (root x.0) (x.1 gap m)
+
+abbrev pub AreAfter : List Child → Type 0
+AreAfter xs = AllByRecursion IsAfter xs
+
+opens_at : (f : Bytes → ℕ → Part) (gap : Bytes) (m : ℕ) → Starts f → Opens gap → OpensAt (leaves_part (f gap m))
+opens_at f gap m h o = let w = h gap m in subst OpensAt (sym w.2) (subst Opens (sym w.3) o)
+
+bare_at : (f : Bytes → ℕ → Part) (m : ℕ) → Starts f → BareAt (leaves_part (f [] m))
+bare_at f m h = let w = h [] m in subst BareAt (sym w.2) w.3
+
+no_number_dot : (x y : Part) → number_dot x y ≡ false → NumberDot x y → ⊥
+no_number_dot x y h d = both_ways (number_dot x y) h (rw (d.0, d.1) refl)
+
+-- ---- rows
+
+fine_gap : (kind : Kind) (x : Part) (f : Bytes → ℕ → Part) (o b d : Bool) (j k n : ℕ) → Starts f → (d ≡ false → (apart kind x (f [] n) ≡ false) × (number_dot x (f [] n) ≡ false)) →
+    Fine kind x (f (if o then new_line_at j else (if b then new_line_at k else (if d then space ∷ [] else []))) n)
+fine_gap kind x f true b d j k n h t = inl (opens_at f (new_line_at j) n h refl)
+fine_gap kind x f false true d j k n h t = inl (opens_at f (new_line_at k) n h refl)
+fine_gap kind x f false false true j k n h t = inl (opens_at f (space ∷ []) n h refl)
+fine_gap kind x f false false false j k n h t = let w = t refl in inr (bare_at f n h, w.0, no_number_dot x (f [] n) w.1)
+
+row_between : (kind : Kind) (open_break : Bool) (m : ℕ) (x : Child) (gap : Bytes) (n n' : ℕ) (xs : List Child) → IsAfter x → AreAfter xs → Between kind (x.1 gap n) (map piece_part (rowed kind open_break m (gap_after kind open_break m x.0 (firsts xs)) n' xs))
+row_between kind open_break m x gap n n' [] g h = tt
+row_between kind open_break m x gap n n' (y ∷ ys) g h = (
+  fine_gap kind (x.1 gap n) y.1 open_break (has_break x.0) (is_spaced kind (root x.0) (root y.0)) (if is_empty (firsts ys) then m else m + 4) (m + 4) n' h.0.starts
+      (λ e. let w = or_parts (apart kind (root x.0) (root y.0)) (number_dot (root x.0) (root y.0)) e in (
+        same_apart kind (root x.0) (root y.0) (x.1 gap n) (y.1 [] n') (g.spaced_as gap n) (h.0.spaced_as [] n') ∙ w.0,
+        same_number_dot (root x.0) (root y.0) (x.1 gap n) (y.1 [] n') (g.spaced_as gap n) (h.0.rooted_as [] n') ∙ w.1,
+      )),
+  row_between kind open_break m y (gap_after kind open_break m x.0 (firsts (y ∷ ys))) n' (margin_after open_break m y.0) ys h.0 h.1,
+)
+
+pub row_apart : (kind : Kind) (open_break : Bool) (m : ℕ) (gap : Bytes) (n : ℕ) (xs : List Child) → AreAfter xs → Apart kind (map piece_part (rowed kind open_break m gap n xs))
+row_apart kind open_break m gap n [] h = tt
+row_apart kind open_break m gap n (x ∷ xs) h = row_between kind open_break m x gap n (margin_after open_break m x.0) xs h.0 h.1
+
+-- ---- sequences: what touches a bracket or a comma
+
+lone_before : (kind : Kind) (y : Part) → is_lone y ≡ true → (is_spaced_before kind y ≡ false) × (is_value y ≡ false)
+lone_before kind (Node' k z r) h = no_such h
+lone_before kind (p.Leaf l) h = by_class l.class l.token h
+  where
+    by_class : (class : Class) (t : Bytes) → lone (s.this class t) ≡ true → (space_before kind (s.this class t) ≡ false) × (is_word class ≡ false)
+    by_class c.Mark t e = (rw e refl, refl)
+    by_class _ t e = no_such e
+
+and_false : (a : Bool) → (a && false) ≡ false
+and_false true = refl
+and_false false = refl
+
+-- anything touches a bracket or a comma after it, but a token that requires a space does not require it there
+touches_lone : (kind : Kind) (x y : Part) → is_lone y ≡ true → apart kind x y ≡ false
+touches_lone kind x y h = let w = lone_before kind y h in rw (h, w.0, w.1, and_false (is_spaced_after kind x), and_false (is_value x)) refl
+
+value_before : (kind : Kind) (y : Part) → is_value y ≡ true → is_spaced_before kind y ≡ false
+value_before kind (Node' k z r) h = refl
+value_before kind (p.Leaf l) h = by_class l.class l.token h
+  where
+    by_class : (class : Class) (t : Bytes) → is_word class ≡ true → space_before kind (s.this class t) ≡ false
+    by_class c.Mark t e = no_such e
+    by_class c.Keyword t e = no_such e
+    by_class _ t e = refl
+
+-- a value touches the bracket before it
+touches_opener : (kind : Kind) (x y : Part) → is_spaced_after kind x ≡ false → is_value x ≡ false → is_value y ≡ true → apart kind x y ≡ false
+touches_opener kind x y h i j = rw (h, i, value_before kind y j) refl
+
+abbrev pub mark_part : Bytes → ℕ → Part
+mark_part gap m = p.Leaf (record { class = c.Mark; gap = gap; token = m ∷ [] })
+
+-- what is laid out of an item is a value, after the gap that it is given
+abbrev pub IsItem : (Bytes → ℕ → Part) → Type 0
+IsItem f = Starts f × ((gap : Bytes) (m : ℕ) → is_value (f gap m) ≡ true)
+
+abbrev pub AreItems : List Child → Type 0
+AreItems xs = AllByRecursion (λ x. IsItem x.1) xs
+
+opens_suffix : (suffix : Option Bytes) (t : Bytes) → Opens (suffix_text suffix ++ (10 ∷ t))
+opens_suffix None t = refl
+opens_suffix (Some text) t = refl
+
+opens_ended : (suffix : Option Bytes) (m : ℕ) (end : List Bytes) → Opens (suffix_text suffix ++ ended m end)
+opens_ended None m [] = refl
+opens_ended None m (text ∷ texts) = refl
+opens_ended (Some text) m end = refl
+
+-- a bracket, a comma or a colon
+pub record IsLone (n : ℕ) : Type 0 where
+  pub alone : lone (s.this c.Mark (n ∷ [])) ≡ true
+  pub no_dot : (gap : Bytes) → has_token s.dot (mark_part gap n) ≡ false
+
+-- anything before such a mark
+pub before_lone : (kind : Kind) (n : ℕ) → IsLone n → (x : Part) → Fine kind x (mark_part [] n)
+before_lone kind n b x = inr (refl, touches_lone kind x (mark_part [] n) b.alone, λ d. both_ways (has_token s.dot (mark_part [] n)) (b.no_dot []) d.1)
+
+between_then : (kind : Kind) (n : ℕ) → IsLone n → (x : Part) (xs ys : List Part) → Between kind x xs → Between kind (mark_part [] n) ys → Between kind x (xs ++ (mark_part [] n ∷ ys))
+between_then kind n b x [] ys h i = (before_lone kind n b x, i)
+between_then kind n b x (y ∷ xs) ys h i = (h.0, between_then kind n b y xs ys h.1 i)
+
+-- parts, then such a mark, and what follows it
+pub apart_then : (kind : Kind) (n : ℕ) → IsLone n → (xs ys : List Part) → Apart kind xs → Apart kind (mark_part [] n ∷ ys) → Apart kind (xs ++ (mark_part [] n ∷ ys))
+apart_then kind n b [] ys h i = i
+apart_then kind n b (x ∷ xs) ys h i = between_then kind n b x xs ys h i
+
+module _ (kind : Kind) (closer : ℕ) (closes : IsLone closer) where
+  before_comma : (x : Part) → Fine kind x (mark_part [] comma)
+  before_comma x = before_lone kind comma (record { alone = refl; no_dot = λ gap. refl }) x
+
+  after_space : (x : Part) (m : ℕ) (f : Bytes → ℕ → Part) → IsItem f → Fine kind x (f (space ∷ []) m)
+  after_space x m f h = inl (opens_at f (space ∷ []) m h.0 refl)
+
+  maybe_comma : (b : Bool) (x : Part) (after : Pieces) → Between kind x (map piece_part after) → Between kind (mark_part [] comma) (map piece_part after) → Between kind x (map piece_part ((if b then [] else (mark [] (comma ∷ []) ∷ [])) ++ after))
+  maybe_comma true x after h k = h
+  maybe_comma false x after h k = (before_comma x, k)
+
+  joined_between : (m : ℕ) (gap : Bytes) (one : Bool) (xs : List Child) (x : Part) → ((f : Bytes → ℕ → Part) → IsItem f → Fine kind x (f gap m)) → AreItems xs → Between kind x (map piece_part (joined m gap closer one xs))
+  joined_between m gap one [] x first h = (before_lone kind closer closes x, tt)
+  joined_between m gap one (y ∷ ys) x first h = (
+    first y.1 h.0,
+    maybe_comma (is_empty ys && not one) (y.1 gap m) (joined m (space ∷ []) closer false ys)
+        (joined_between m (space ∷ []) false ys (y.1 gap m) (after_space (y.1 gap m) m) h.1)
+        (joined_between m (space ∷ []) false ys (mark_part [] comma) (after_space (mark_part [] comma) m) h.1),
+  )
+
+  stacked_between : (m : ℕ) (suffix : Option Bytes) (end : List Bytes) (xs : List Child) (x : Part) → AreItems xs → Between kind x (map piece_part (stacked m suffix closer end xs))
+  stacked_between m suffix end [] x h = (inl (opens_ended suffix m end), tt)
+  stacked_between m suffix end (y ∷ ys) x h =
+      let gap : Bytes = suffix_text suffix ++ (new_line_at (m + 4) ++ margin_lines (m + 4) (comments_of y.0).before) in (
+        inl (opens_at y.1 gap (m + 4) h.0.0 (opens_suffix suffix (replicate (m + 4) space ++ margin_lines (m + 4) (comments_of y.0).before))),
+        (before_comma (y.1 gap (m + 4)), stacked_between m (comments_of y.0).suffix end ys (mark_part [] comma) h.1),
+      )
+
+  module _ (opener : ℕ) (opens : IsLone opener) (quiet : space_after kind (s.this c.Mark (opener ∷ [])) ≡ false) where
+    after_opener : (gap : Bytes) (m : ℕ) (f : Bytes → ℕ → Part) → IsItem f → Fine kind (mark_part gap opener) (f [] m)
+    after_opener gap m f h = inr (bare_at f m h.0, touches_opener kind (mark_part gap opener) (f [] m) quiet refl (h.1 [] m), λ d. no_such d.0)
+
+    -- what is after the opening bracket, broken or not
+    pub body_between : (broken one : Bool) (gap : Bytes) (m : ℕ) (end : List Bytes) (xs : List Child) → AreItems xs → Between kind (mark_part gap opener) (map piece_part (if broken then stacked m None closer end xs else joined m [] closer one xs))
+    body_between true one gap m end xs h = stacked_between m None end xs (mark_part gap opener) h
+    body_between false one gap m end xs h = joined_between m [] one xs (mark_part gap opener) (after_opener gap m) h
+
+    -- with at most one part before the bracket
+    pub headed_apart : (broken one : Bool) (gap : Bytes) (m : ℕ) (end : List Bytes) (head xs : List Child) → AtMostOne (rooted head) → AreItems xs →
+        Apart kind (map piece_part (headed m gap opener head (if broken then stacked m None closer end xs else joined m [] closer one xs)))
+    headed_apart broken one gap m end [] xs o h = body_between broken one gap m end xs h
+    headed_apart broken one gap m end (x ∷ []) xs o h = (before_lone kind opener opens (x.1 gap m), body_between broken one [] m end xs h)
+    headed_apart broken one gap m end (x ∷ y ∷ ys) xs o h = absurd o
+
+-- ---- all kinds
+
+abbrev Bracketed : Kind → Frame → Type 0
+Bracketed kind row = Unit {0}
+Bracketed kind (sequence opener closer) = IsLone opener × IsLone closer × (space_after kind (s.this c.Mark (opener ∷ [])) ≡ false)
+
+pub colon_alone : IsLone 58
+colon_alone = record { alone = refl; no_dot = λ gap. refl }
+
+pub round : IsLone 40 × IsLone 41
+round = (record { alone = refl; no_dot = λ gap. refl }, record { alone = refl; no_dot = λ gap. refl })
+
+bracketed : (kind : Kind) → Bracketed kind (frame kind)
+bracketed k.Call = (round.0, round.1, refl)
+bracketed k.Load = (round.0, round.1, refl)
+bracketed k.Tuple = (round.0, round.1, refl)
+bracketed k.List = (record { alone = refl; no_dot = λ gap. refl }, record { alone = refl; no_dot = λ gap. refl }, refl)
+bracketed k.Dict = (record { alone = refl; no_dot = λ gap. refl }, record { alone = refl; no_dot = λ gap. refl }, refl)
+bracketed _ = tt
+
+pub items_of : (xs : List Child) → AreAfter xs → AreValues (rooted xs) → AreItems xs
+items_of [] h i = tt
+items_of (x ∷ xs) h i = ((h.0.starts, λ gap m. sym (h.0.spaced_as gap m).value ∙ i.0), items_of xs h.1 i.1)
+
+apart_in : (f : Frame) (kind : Kind) → Bracketed kind f → (split open_break : Bool) (gap : Bytes) (m : ℕ) (parts items : List Child) (end : List Bytes) → AreAfter parts → AreAfter items →
+    in_frame f (Unit {0}) (AtMostOne (rooted parts)) → in_frame f (Unit {0}) (AreValues (rooted items)) → Apart kind (map piece_part (laid_in f kind split open_break gap m parts items end))
+apart_in row kind b split open_break gap m parts items end h i o v = row_apart kind open_break m gap m parts h
+apart_in (sequence opener closer) kind b split open_break gap m parts items end h i o v =
+    headed_apart kind closer b.1 opener b.0 b.2 (is_broken kind split (firsts items) end) (is_tuple kind && nat_eq (length items) 1) gap m end parts items o (items_of items i v)
+
+-- each two neighbours of what is laid out of a form are apart where they must be
+pub laid_apart : (kind : Kind) (split open_break : Bool) (gap : Bytes) (m : ℕ) (parts items : List Child) (end : List Bytes) → AreAfter parts → AreAfter items →
+    in_frame (frame kind) (Unit {0}) (AtMostOne (rooted parts)) → in_frame (frame kind) (Unit {0}) (AreValues (rooted items)) → Apart kind (map piece_part (laid kind split open_break gap m parts items end))
+laid_apart kind split open_break gap m parts items end h i o v = apart_in (frame kind) kind (bracketed kind) split open_break gap m parts items end h i o v

@@ -1,0 +1,167 @@
+-- Proper expressions are parts of lines: where what follows them is.
+use Rattle.std.proofs.Common.{◌≡◌, Bool, true, false, ◌||◌, List, [], ◌∷◌, if◌then◌else◌, refl, sym, ap, subst}
+use Rattle.std.specs.Prelude.{All}
+use Rattle.bz_token.specs.declared.class.Class.{Class}
+use Rattle.bz_token.specs.declared.class.Class.TheVariants as c
+use Rattle.bz_token.specs.Lexemes.{IsLexeme}
+use Rattle.bz_grammar.specs.declared.kind.Kind.{Kind}
+use Rattle.bz_grammar.specs.declared.kind.Kind.TheVariants as k
+use Rattle.bz_grammar.specs.Shapes.{Shape, Fits}
+use Rattle.bz_grammar.specs.Legal.{IsNonterminal}
+use Rattle.bz_grammar.specs.Spots.{Spot, Begins, Within, Along, onward, opens, closes, plain, role, following_token, after_node}
+use Rattle.bz_grammar.proofs.Balance.{no_such}
+use Rattle.bz_value.specs.declared.value.Expr.{Expr, Token, Form', Row_of-Expr, end_of-Expr, more_of-Expr}
+use Rattle.bz_value.specs.Frames.{Frame, row, sequence, frame, has_brackets, is_binary, is_comprehension}
+use Rattle.bz_items.specs.Characters.{Bytes}
+use Rattle.bz_value.specs.LineShapes.{line_shape}
+use Rattle.bz_value.specs.Proper.{IsComment, has_break, after_expr, roots, IsEmptyRow, in_frame, ProperBy, ProperRowBy, ProperHeadBy, ProperItemsBy}
+use Rattle.bz_value.specs.Roots.{root, row_in}
+use Rattle.bz_layout.specs.Spaces.{is_value, is_word}
+use Rattle.bz_layout.specs.Layout.{firsts}
+use Rattle.bz_value.specs.Empty.{is_empty}
+use Rattle.bz_layout.specs.LaidOut.{part_of, parts_of}
+use Rattle.bz_layout.proofs.Neighbours.{in_a_line}
+use Rattle.bz_layout.proofs.Elements.{Inside, IsOpening, Opened, in_line_class, in_line_part, InLine, within_line}
+use Rattle.bz_layout.proofs.Fitted.{Child}
+use Rattle.bz_layout.proofs.Margins.{is_begins}
+
+-- ---- proper expressions are parts of lines
+
+pub lexeme_in_line : (class : Class) (t : Bytes) → IsLexeme class t → in_line_class class ≡ true
+lexeme_in_line c.Newline t h = absurd h
+lexeme_in_line c.End t h = absurd h
+lexeme_in_line _ t h = refl
+
+pub root_in_line : (here : Spot) (x : Expr) → ProperBy line_shape here x → in_line_part (root x) ≡ true
+root_in_line here (Token t) h = lexeme_in_line t.class t.text h.0
+root_in_line here (Form' kind z parts z' items end split open_break comments) h = refl
+
+pub row_in_line : (binary : Bool) (outer here : Spot) (m : _) (r : Row_of-Expr m) → ProperRowBy line_shape binary outer here r → InLine (roots r)
+row_in_line binary outer here m end_of-Expr h = tt
+row_in_line binary outer here m (more_of-Expr x rest) h = (root_in_line here x h.0, row_in_line binary outer (after_expr outer here x) _ rest h.3)
+
+brackets_in_line : (kind : Kind) → has_brackets (frame kind) ≡ true → in_a_line kind ≡ true
+brackets_in_line k.File h = no_such h
+brackets_in_line k.Line h = no_such h
+brackets_in_line k.Def h = no_such h
+brackets_in_line k.IfStmt h = no_such h
+brackets_in_line k.ForStmt h = no_such h
+brackets_in_line k.Suite h = no_such h
+brackets_in_line _ h = refl
+
+-- what a form that is proper by a grammar says of its row; of its head, its items and its end comments
+module _ (grammar : Kind → Shape) where
+  abbrev pub AsRow : Kind → Spot → {m n : _} → Row_of-Expr m → Row_of-Expr n → List Bytes → Bool → Bool → Type 0
+  AsRow kind here parts items end split open_break = ProperRowBy grammar (is_binary kind) here here parts × IsEmptyRow items × (end ≡ []) × (split ≡ false) × (open_break ≡ true → is_comprehension kind ≡ true)
+
+  abbrev pub AsSequence : Spot → {m n : _} → Row_of-Expr m → Row_of-Expr n → List Bytes → Bool → Type 0
+  AsSequence here parts items end open_break = ProperHeadBy grammar here parts × ProperItemsBy grammar items × All IsComment end × (open_break ≡ false)
+
+in_line_by : (f : Frame) (kind : Kind) (here : Spot) (m n : _) (parts : Row_of-Expr m) (items : Row_of-Expr n) (end : List Bytes) (split open_break : Bool) → (has_brackets f ≡ true → in_a_line kind ≡ true) →
+    Fits IsNonterminal (line_shape kind) (row_in f (roots parts) (roots items)) → in_frame f (AsRow line_shape kind here parts items end split open_break) (AsSequence line_shape here parts items end open_break) → in_a_line kind ≡ true
+in_line_by row kind here m n parts items end split open_break b h i = within_line kind (roots parts) h (row_in_line (is_binary kind) here here m parts i.0)
+in_line_by (sequence opener closer) kind here m n parts items end split open_break b h i = b refl
+
+abbrev pub NoLine : Expr → Type 0
+NoLine (Token t) = Unit {0}
+NoLine (Form' kind z parts z' items end split open_break comments) = in_a_line kind ≡ true
+
+-- a proper form is no line and no file
+pub no_line : (here : Spot) (x : Expr) → ProperBy line_shape here x → NoLine x
+no_line here (Token t) h = tt
+no_line here (Form' kind z parts z' items end split open_break comments) h = in_line_by (frame kind) kind here _ _ parts items end split open_break (brackets_in_line kind) h.0 h.1
+
+-- ---- where what follows is
+
+pub token_goes_on : (class : Class) (text : Bytes) (outer here : Spot) → in_line_class class ≡ true → is_begins (following_token (role class text) outer here) ≡ false
+token_goes_on c.Newline text outer here h = no_such h
+token_goes_on c.End text outer here h = no_such h
+token_goes_on c.Mark text outer here h = by_turn _ _ outer here
+  where
+    on_first : (here : Spot) → is_begins (onward here) ≡ false
+    on_first Within = refl
+    on_first _ = refl
+
+    by_turn : (a b : Bool) (outer here : Spot) → is_begins (following_token (if a then opens else (if b then closes else plain)) outer here) ≡ false
+    by_turn true b outer here = refl
+    by_turn false true outer here = on_first outer
+    by_turn false false outer here = on_first here
+token_goes_on _ text outer Within h = refl
+token_goes_on _ text outer Begins h = refl
+token_goes_on _ text outer Along h = refl
+
+pub node_goes_on : (kind : Kind) (here : Spot) → in_a_line kind ≡ true → is_begins (after_node kind here) ≡ false
+node_goes_on k.Line here h = no_such h
+node_goes_on k.Def here h = no_such h
+node_goes_on k.IfStmt here h = no_such h
+node_goes_on k.ForStmt here h = no_such h
+node_goes_on k.Suite here h = no_such h
+node_goes_on _ Within h = refl
+node_goes_on _ Begins h = refl
+node_goes_on _ Along h = refl
+
+goes_on_by : (outer here : Spot) (x : Expr) → ProperBy line_shape here x → NoLine x → is_begins (after_expr outer here x) ≡ false
+goes_on_by outer here (Token t) h i = token_goes_on t.class t.text outer here (lexeme_in_line t.class t.text h.0)
+goes_on_by outer here (Form' kind z parts z' items end split open_break comments) h i = node_goes_on kind here i
+
+-- no line begins after a proper expression
+pub goes_on : (outer here : Spot) (x : Expr) → ProperBy line_shape here x → is_begins (after_expr outer here x) ≡ false
+goes_on outer here x h = goes_on_by outer here x h (no_line here x h)
+
+word_within : (class : Class) (text : Bytes) (outer : Spot) → is_word class ≡ true → following_token (role class text) outer Within ≡ Within
+word_within c.Name text outer h = refl
+word_within c.Number text outer h = refl
+word_within c.String text outer h = refl
+word_within _ text outer h = no_such h
+
+node_within : (kind : Kind) → in_a_line kind ≡ true → after_node kind Within ≡ Within
+node_within k.Line h = no_such h
+node_within k.Def h = no_such h
+node_within k.IfStmt h = no_such h
+node_within k.ForStmt h = no_such h
+node_within k.Suite h = no_such h
+node_within _ h = refl
+
+within_by : (outer : Spot) (x : Expr) → NoLine x → is_value (root x) ≡ true → after_expr outer Within x ≡ Within
+within_by outer (Token t) h i = word_within t.class t.text outer i
+within_by outer (Form' kind z parts z' items end split open_break comments) h i = node_within kind h
+
+-- after a value inside brackets it goes on inside brackets
+pub value_within : (outer here : Spot) (x : Expr) → ProperBy line_shape here x → is_value (root x) ≡ true → after_expr outer Within x ≡ Within
+value_within outer here x h i = within_by outer x (no_line here x h) i
+
+opening_within : (outer here : Spot) (x : Expr) → IsOpening (root x) → after_expr outer here x ≡ Within
+opening_within outer here (Token t) h = ap (λ z. following_token z outer here) h
+opening_within outer here (Form' kind z parts z' items end split open_break comments) h = absurd h
+
+-- ---- new lines in a row begin inside brackets
+
+-- after x of a row that is here: where a part follows, and the row is open or x breaks
+abbrev pub BreaksWithin : Bool → Spot → Spot → Child → List Child → Type 0
+BreaksWithin open_break outer here x xs = (open_break || has_break x.0) ≡ true → is_empty (firsts xs) ≡ false → after_expr outer here x.0 ≡ Within
+
+abbrev pub RowBreaks : Bool → Spot → Spot → List Child → Type 0
+RowBreaks open_break outer here [] = Unit {0}
+RowBreaks open_break outer here (x ∷ xs) = BreaksWithin open_break outer here x xs × RowBreaks open_break outer (after_expr outer here x.0) xs
+
+breaks_by : (open_break : Bool) (outer here : Spot) (x : Child) (xs : List Child) → (has_break x.0 ≡ true → after_expr outer here x.0 ≡ Within) → (open_break ≡ true → is_empty (firsts xs) ≡ false → after_expr outer here x.0 ≡ Within) → BreaksWithin open_break outer here x xs
+breaks_by true outer here x xs b o e n = o refl n
+breaks_by false outer here x xs b o e n = b e
+
+later_breaks : (binary open_break : Bool) (outer here : Spot) (m : _) (r : Row_of-Expr m) → ProperRowBy line_shape binary outer here r → (open_break ≡ true → here ≡ Within) → (open_break ≡ true → Inside (roots r)) → RowBreaks open_break outer here (parts_of r)
+later_breaks binary open_break outer here m end_of-Expr h w i = tt
+later_breaks binary open_break outer here m (more_of-Expr x end_of-Expr) h w i = (breaks_by open_break outer here (x, part_of x) [] (λ e. (h.2 e).1) (λ e n. no_such (sym n)), tt)
+later_breaks binary open_break outer here m (more_of-Expr x (more_of-Expr y rest)) h w i =
+    let inside : open_break ≡ true → after_expr outer here x ≡ Within = λ o. subst (λ z. after_expr outer z x ≡ Within) (sym (w o)) (value_within outer here x h.0 (i o).0) in (
+      breaks_by open_break outer here (x, part_of x) ((y, part_of y) ∷ parts_of rest) (λ e. (h.2 e).1) (λ o n. inside o),
+      later_breaks binary open_break outer (after_expr outer here x) _ (more_of-Expr y rest) h.3 inside (λ o. (i o).1),
+    )
+
+-- in an open row an opening bracket is first
+pub row_breaks : (binary open_break : Bool) (outer here : Spot) (m : _) (r : Row_of-Expr m) → ProperRowBy line_shape binary outer here r → (open_break ≡ true → Opened (roots r)) → RowBreaks open_break outer here (parts_of r)
+row_breaks binary open_break outer here m end_of-Expr h i = tt
+row_breaks binary open_break outer here m (more_of-Expr x rest) h i =
+    let inside : open_break ≡ true → after_expr outer here x ≡ Within = λ o. opening_within outer here x (i o).0 in (
+      breaks_by open_break outer here (x, part_of x) (parts_of rest) (λ e. (h.2 e).1) (λ o n. inside o),
+      later_breaks binary open_break outer (after_expr outer here x) _ rest h.3 inside (λ o. (i o).1),
+    )

@@ -1,0 +1,221 @@
+-- What the layout makes of any proper expression is where it may be, whatever its kinds are: one lemma for each way to lay
+-- parts.
+use Rattle.std.proofs.Common.{◌≡◌, ℕ, Bool, true, false, not, ◌&&◌, ◌+◌, List, [], ◌∷◌, ◌++◌, None, Option, if◌then◌else◌, length, refl, sym, subst, map, append-nil, arith}
+use Rattle.std.specs.Prelude.{IsUtf8, nat_eq}
+use Rattle.std.specs.List.{AllByRecursion}
+use Rattle.std.proofs.lemmas.List.Elements.{recursion_from_All}
+use Rattle.bz_token.specs.declared.class.Class.{Class}
+use Rattle.bz_token.specs.declared.class.Class.TheVariants as c
+use Rattle.bz_token.specs.Lexemes.{IsLexeme, is_mark}
+use Rattle.bz_lex.specs.declared.leaf.Leaf.{Leaf}
+use Rattle.bz_lex.specs.Leaves.{IsCodedLeaf}
+use Rattle.bz_grammar.specs.declared.kind.Kind.{Kind}
+use Rattle.bz_grammar.specs.declared.kind.Kind.TheVariants as k
+use Rattle.bz_grammar.specs.declared.tree.Node.{Node}
+use Rattle.bz_grammar.specs.declared.tree.Part.{Part}
+use Rattle.bz_grammar.specs.declared.tree.Part.TheVariants as p
+use Rattle.bz_grammar.specs.Shapes.{Fits}
+use Rattle.bz_grammar.specs.Legal.{IsNonterminal}
+use Rattle.bz_grammar.specs.Spots.{Spot, Within, onward, Role, opens, closes, role, following_token, after_part, AtLeaves, AtParts, BzlStands}
+use Rattle.bz_grammar.proofs.Nested.{row_of, items_of_row}
+use Rattle.bz_grammar.proofs.Balance.{no_such, row_of_parts}
+use Rattle.bz_value.specs.declared.value.Expr.{Expr, Token, Form', Row_of-Expr, end_of-Expr, more_of-Expr}
+use Rattle.bz_items.specs.Characters.{Bytes, comma, space}
+use Rattle.bz_value.specs.Frames.{Frame, row, sequence, frame, is_binary, is_comprehension}
+use Rattle.bz_value.specs.LineShapes.{line_shape}
+use Rattle.bz_value.specs.Proper.{IsComment, MaybeComment, AreComments, comments_of, after_expr, roots, in_frame, ProperBy, ProperRowBy, ProperHeadBy, ProperItemsBy}
+use Rattle.bz_value.specs.Roots.{row_in}
+use Rattle.bz_layout.specs.Layout.{mark, new_line_at, margin_lines, ended, suffix_text, is_broken, is_tuple, gap_after, margin_after, firsts, rowed, headed, joined, stacked, laid_in, laid}
+use Rattle.bz_value.specs.Empty.{is_empty}
+use Rattle.bz_layout.specs.LaidOut.{piece_part, part_of, parts_of}
+use Rattle.bz_layout.proofs.Elements.{AreValues, items_values, Opened, comprehension}
+use Rattle.bz_layout.proofs.Joined.{AtMostOne, head_fits}
+use Rattle.bz_layout.proofs.Fitted.{Child, rooted, roots_of_row, Pieces}
+use Rattle.bz_layout.proofs.Margins.{FitsAt, gap_stands, gap_coded, coded_byte, inner_nothing, inner_space, item_gap, closer_gap, is_begins, none_fits, after_fits}
+use Rattle.bz_layout.proofs.Spots.{lexeme_in_line, AsRow, AsSequence, goes_on, value_within, RowBreaks, row_breaks}
+
+-- a leaf is where it may be, is of texts of characters, and holds a lexeme
+pub record Placed (here : Spot) (leaf : Leaf) : Type 0 where
+  pub stands : BzlStands here leaf
+  pub coded : IsCodedLeaf leaf
+  pub lexeme : IsLexeme leaf.class leaf.token
+
+pub placed : (class : Class) (gap text : Bytes) (here : Spot) → IsLexeme class text → IsUtf8 text → FitsAt here gap → Placed here (record { class = class; gap = gap; token = text })
+placed class gap text here l u g = record { stands = gap_stands class here gap (lexeme_in_line class text l) g; coded = (gap_coded here gap g, u); lexeme = l }
+
+-- ---- the ways to lay parts
+
+-- a child is after any gap that fits, and what follows it is there
+pub record LaysOut (outer here there : Spot) (x : Child) : Type 0 where
+  pub stands : (gap : Bytes) (m : ℕ) → FitsAt here gap → AtLeaves Placed here (x.1 gap m)
+  pub goes_on : (gap : Bytes) (m : ℕ) → after_part outer here (x.1 gap m) ≡ there
+  pub no_first : is_begins there ≡ false
+
+abbrev pub RowLaysOut : Spot → Spot → List Child → Type 0
+RowLaysOut outer here [] = Unit {0}
+RowLaysOut outer here (x ∷ xs) = LaysOut outer here (after_expr outer here x.0) x × RowLaysOut outer (after_expr outer here x.0) xs
+
+abbrev pub HeadLaysOut : Spot → List Child → Type 0
+HeadLaysOut here xs = AllByRecursion (λ x. LaysOut here here (after_expr here here x.0) x) xs
+
+abbrev pub ItemsLayOut : Spot → List Child → Type 0
+ItemsLayOut outer [] = Unit {0}
+ItemsLayOut outer (x ∷ xs) = LaysOut outer Within Within x × AreComments (comments_of x.0) × ItemsLayOut outer xs
+
+pub first_part : (outer here there : Spot) (x : Child) (gap : Bytes) (m : ℕ) (xs : List Part) → LaysOut outer here there x → FitsAt here gap → AtParts Placed outer there xs → AtParts Placed outer here (x.1 gap m ∷ xs)
+first_part outer here there x gap m xs d g h = (d.stands gap m g, subst (λ z. AtParts Placed outer z xs) (sym (d.goes_on gap m)) h)
+
+-- where what follows a row is
+abbrev pub after_row : Spot → Spot → List Child → Spot
+after_row outer here [] = here
+after_row outer here (x ∷ xs) = after_row outer (after_expr outer here x.0) xs
+
+-- no line begins there
+pub row_goes_on : (outer here : Spot) (xs : List Child) → RowLaysOut outer here xs → is_empty xs ≡ false → is_begins (after_row outer here xs) ≡ false
+row_goes_on outer here [] h e = no_such (sym e)
+row_goes_on outer here (x ∷ []) h e = h.0.no_first
+row_goes_on outer here (x ∷ y ∷ ys) h e = row_goes_on outer (after_expr outer here x.0) (y ∷ ys) h.1 refl
+
+-- a row, and what follows it
+pub rowed_at : (kind : Kind) (open_break : Bool) (m : ℕ) (outer here : Spot) (gap : Bytes) (n : ℕ) (xs : List Child) (rest : List Part) → FitsAt here gap → RowLaysOut outer here xs → RowBreaks open_break outer here xs →
+    AtParts Placed outer (after_row outer here xs) rest → AtParts Placed outer here (map piece_part (rowed kind open_break m gap n xs) ++ rest)
+rowed_at kind open_break m outer here gap n [] rest g h b r = r
+rowed_at kind open_break m outer here gap n (x ∷ xs) rest g h b r =
+    first_part outer here (after_expr outer here x.0) x gap n _ h.0 g
+    (rowed_at kind open_break m outer (after_expr outer here x.0) (gap_after kind open_break m x.0 (firsts xs)) (margin_after open_break m x.0) xs rest (after_fits kind open_break m x.0 (firsts xs) (after_expr outer here x.0) h.0.no_first b.0) h.1 b.1 r)
+
+-- a bracket: what it is to those after it, and that it is a token
+pub record IsBracket (t : Role) (n : ℕ) : Type 0 where
+  pub turns : role c.Mark (n ∷ []) ≡ t
+  pub is_token : is_mark (n ∷ []) ≡ true
+  pub coded : IsUtf8 (n ∷ [])
+
+module _ (outer : Spot) (opener closer : ℕ) (opening : IsBracket opens opener) (closing : IsBracket closes closer) where
+  pub opener_at : (here : Spot) (gap : Bytes) (xs : List Part) → FitsAt here gap → AtParts Placed outer Within xs → AtParts Placed outer here (p.Leaf (record { class = c.Mark; gap = gap; token = opener ∷ [] }) ∷ xs)
+  opener_at here gap xs g h = (placed c.Mark gap (opener ∷ []) here opening.is_token opening.coded g, subst (λ z. AtParts Placed outer (following_token z outer here) xs) (sym opening.turns) h)
+
+  -- what is before the opening bracket, and that
+  pub headed_at : (m : ℕ) (here : Spot) (gap : Bytes) (xs : List Child) (after : Pieces) → FitsAt here gap → RowLaysOut outer here xs → AtParts Placed outer Within (map piece_part after) → AtParts Placed outer here (map piece_part (headed m gap opener xs after))
+  headed_at m here gap [] after g h i = opener_at here gap (map piece_part after) g i
+  headed_at m here gap (x ∷ xs) after g h i =
+      first_part outer here (after_expr outer here x.0) x gap m _ h.0 g (headed_at m (after_expr outer here x.0) [] xs after (none_fits (after_expr outer here x.0) h.0.no_first) h.1 i)
+
+  pub closer_at : (gap : Bytes) (rest : List Part) → FitsAt Within gap → AtParts Placed outer (onward outer) rest → AtParts Placed outer Within (p.Leaf (record { class = c.Mark; gap = gap; token = closer ∷ [] }) ∷ rest)
+  closer_at gap rest g r = (placed c.Mark gap (closer ∷ []) Within closing.is_token closing.coded g, subst (λ z. AtParts Placed outer (following_token z outer Within) rest) (sym closing.turns) r)
+
+  pub comma_at : (xs : List Part) → AtParts Placed outer Within xs → AtParts Placed outer Within (p.Leaf (record { class = c.Mark; gap = []; token = comma ∷ [] }) ∷ xs)
+  comma_at xs h = (placed c.Mark [] (comma ∷ []) Within refl (coded_byte comma (omega arith)) inner_nothing, h)
+
+  maybe_comma : (b : Bool) (after : Pieces) (rest : List Part) → AtParts Placed outer Within (map piece_part after ++ rest) → AtParts Placed outer Within (map piece_part ((if b then [] else (mark [] (comma ∷ []) ∷ [])) ++ after) ++ rest)
+  maybe_comma true after rest h = h
+  maybe_comma false after rest h = comma_at (map piece_part after ++ rest) h
+
+  -- items on one line, the closing bracket, and what follows it
+  pub joined_at : (m : ℕ) (gap : Bytes) (one : Bool) (xs : List Child) (rest : List Part) → FitsAt Within gap → ItemsLayOut outer xs → AtParts Placed outer (onward outer) rest → AtParts Placed outer Within (map piece_part (joined m gap closer one xs) ++ rest)
+  joined_at m gap one [] rest g h r = closer_at [] rest inner_nothing r
+  joined_at m gap one (x ∷ xs) rest g h r =
+      first_part outer Within Within x gap m _ h.0 g (maybe_comma (is_empty xs && not one) (joined m (space ∷ []) closer false xs) rest (joined_at m (space ∷ []) false xs rest inner_space h.2 r))
+
+  -- items on lines of their own, the closing bracket, and what follows it
+  pub stacked_at : (m : ℕ) (suffix : Option Bytes) (end : List Bytes) (xs : List Child) (rest : List Part) → MaybeComment suffix → AllByRecursion IsComment end → ItemsLayOut outer xs → AtParts Placed outer (onward outer) rest →
+      AtParts Placed outer Within (map piece_part (stacked m suffix closer end xs) ++ rest)
+  stacked_at m suffix end [] rest s e h r = closer_at (suffix_text suffix ++ ended m end) rest (closer_gap m suffix end s e) r
+  stacked_at m suffix end (x ∷ xs) rest s e h r =
+      let texts : List Bytes = (comments_of x.0).before in
+      first_part outer Within Within x (suffix_text suffix ++ (new_line_at (m + 4) ++ margin_lines (m + 4) texts)) (m + 4) (map piece_part (mark [] (comma ∷ []) ∷ stacked m (comments_of x.0).suffix closer end xs) ++ rest) h.0
+      (item_gap (m + 4) suffix texts s (recursion_from_All IsComment texts h.1.0))
+      (comma_at (map piece_part (stacked m (comments_of x.0).suffix closer end xs) ++ rest) (stacked_at m (comments_of x.0).suffix end xs rest h.1.1 e h.2 r))
+
+  pub body_at : (broken one : Bool) (m : ℕ) (end : List Bytes) (xs : List Child) (rest : List Part) → AllByRecursion IsComment end → ItemsLayOut outer xs → AtParts Placed outer (onward outer) rest →
+      AtParts Placed outer Within (map piece_part (if broken then stacked m None closer end xs else joined m [] closer one xs) ++ rest)
+  body_at true one m end xs rest e h r = stacked_at m None end xs rest tt e h r
+  body_at false one m end xs rest e h r = joined_at m [] one xs rest inner_nothing h r
+
+-- ---- all kinds
+
+abbrev Bracketed : Frame → Type 0
+Bracketed row = Unit {0}
+Bracketed (sequence opener closer) = IsBracket opens opener × IsBracket closes closer
+
+pub round : IsBracket opens 40 × IsBracket closes 41
+round = (record { turns = refl; is_token = refl; coded = coded_byte 40 (omega arith) }, record { turns = refl; is_token = refl; coded = coded_byte 41 (omega arith) })
+
+pub square : IsBracket opens 91 × IsBracket closes 93
+square = (record { turns = refl; is_token = refl; coded = coded_byte 91 (omega arith) }, record { turns = refl; is_token = refl; coded = coded_byte 93 (omega arith) })
+
+pub curly : IsBracket opens 123 × IsBracket closes 125
+curly = (record { turns = refl; is_token = refl; coded = coded_byte 123 (omega arith) }, record { turns = refl; is_token = refl; coded = coded_byte 125 (omega arith) })
+
+bracketed : (kind : Kind) → Bracketed (frame kind)
+bracketed k.Call = round
+bracketed k.Load = round
+bracketed k.Tuple = round
+bracketed k.List = square
+bracketed k.Dict = curly
+bracketed _ = tt
+
+abbrev FormLaysOut : Frame → Bool → Spot → List Child → List Child → List Bytes → Type 0
+FormLaysOut row open_break here parts items end = RowLaysOut here here parts × RowBreaks open_break here here parts
+FormLaysOut (sequence opener closer) open_break here parts items end = HeadLaysOut here parts × AtMostOne (rooted parts) × ItemsLayOut here items × AllByRecursion IsComment end
+
+one_head : (here : Spot) (xs : List Child) → HeadLaysOut here xs → AtMostOne (rooted xs) → RowLaysOut here here xs
+one_head here [] h o = tt
+one_head here (x ∷ []) h o = (h.0, tt)
+one_head here (x ∷ y ∷ ys) h o = absurd o
+
+laid_at : (f : Frame) → Bracketed f → (kind : Kind) (split open_break : Bool) (here : Spot) (gap : Bytes) (m : ℕ) (parts items : List Child) (end : List Bytes) → FitsAt here gap → FormLaysOut f open_break here parts items end →
+    AtParts Placed here here (map piece_part (laid_in f kind split open_break gap m parts items end))
+laid_at row b kind split open_break here gap m parts items end g h =
+    subst (AtParts Placed here here) (append-nil (map piece_part (rowed kind open_break m gap m parts))) (rowed_at kind open_break m here here gap m parts [] g h.0 h.1 tt)
+laid_at (sequence opener closer) b kind split open_break here gap m parts items end g h =
+    let broken : Bool = is_broken kind split (firsts items) end in
+    let one : Bool = is_tuple kind && nat_eq (length items) 1 in
+    headed_at here opener closer b.0 b.1 m here gap parts _ g (one_head here parts h.0 h.1)
+    (subst (AtParts Placed here Within) (append-nil (map piece_part (if broken then stacked m None closer end items else joined m [] closer one items))) (body_at here opener closer b.0 b.1 broken one m end items [] h.3 h.2 tt))
+
+-- a node by its list of parts
+at_node : (here : Spot) (n : Node) → AtParts Placed here here n.parts → AtLeaves Placed here (p.Node n)
+at_node here n h = row_of_parts Placed here here _ (row_of n).1 (subst (AtParts Placed here here) (sym (items_of_row n)) h)
+
+laid_out_goes_on : (outer here : Spot) (x : Expr) (gap : Bytes) (m : ℕ) → after_part outer here (part_of x gap m) ≡ after_expr outer here x
+laid_out_goes_on outer here (Token t) gap m = refl
+laid_out_goes_on outer here (Form' kind z parts z' items end split open_break comments) gap m = refl
+
+pub lays_out : (outer here : Spot) (x : Expr) → ProperBy line_shape here x → ((gap : Bytes) (m : ℕ) → FitsAt here gap → AtLeaves Placed here (part_of x gap m)) → LaysOut outer here (after_expr outer here x) (x, part_of x)
+lays_out outer here x h s = record { stands = s; goes_on = λ gap m. laid_out_goes_on outer here x gap m; no_first = goes_on outer here x h }
+
+-- what is in a form, by what is known of its rows
+form_lays_out : (f : Frame) (kind : Kind) (split open_break : Bool) (here : Spot) (m n : _) (parts : Row_of-Expr m) (items : Row_of-Expr n) (end : List Bytes) →
+    (ProperRowBy line_shape (is_binary kind) here here parts → RowLaysOut here here (parts_of parts)) → (ProperHeadBy line_shape here parts → HeadLaysOut here (parts_of parts)) → (ProperItemsBy line_shape items → AreValues (roots items) → ItemsLayOut here (parts_of items)) →
+    in_frame f (Unit {0}) (AtMostOne (roots parts)) → in_frame f (Unit {0}) (AreValues (roots items)) → (is_comprehension kind ≡ true → in_frame f (Opened (roots parts)) (Unit {0})) →
+    in_frame f (AsRow line_shape kind here parts items end split open_break) (AsSequence line_shape here parts items end open_break) → FormLaysOut f open_break here (parts_of parts) (parts_of items) end
+form_lays_out row kind split open_break here m n parts items end a b d o v c h = (a h.0, row_breaks (is_binary kind) open_break here here m parts h.0 (λ e. c (h.4 e)))
+form_lays_out (sequence opener closer) kind split open_break here m n parts items end a b d o v c h =
+    (b h.0, subst AtMostOne (sym (roots_of_row m parts)) o, d h.1 v, recursion_from_All IsComment end h.2)
+
+open_form : (f : Frame) (kind : Kind) → is_comprehension kind ≡ true → (parts items : List Part) → Fits IsNonterminal (line_shape kind) (row_in f parts items) → in_frame f (Opened parts) (Unit {0})
+open_form row kind c parts items h = comprehension kind c parts h
+open_form (sequence opener closer) kind c parts items h = tt
+
+mutual
+  -- what is laid out of a proper expression is where it may be
+  pub laid_out_stands : (here : Spot) (x : Expr) → ProperBy line_shape here x → (gap : Bytes) (m : ℕ) → FitsAt here gap → AtLeaves Placed here (part_of x gap m)
+  laid_out_stands here (Token t) h gap m g = placed t.class gap t.text here h.0 h.1 g
+  laid_out_stands here (Form' kind z parts z' items end split open_break comments) h gap m g =
+      at_node here (record { kind = kind; parts = map piece_part (laid kind split open_break gap m (parts_of parts) (parts_of items) end) })
+      (laid_at (frame kind) (bracketed kind) kind split open_break here gap m (parts_of parts) (parts_of items) end g
+      (form_lays_out (frame kind) kind split open_break here _ _ parts items end (row_lays_out (is_binary kind) here here _ parts) (head_lays_out here _ parts) (items_lay_out here _ items) (head_fits kind (roots parts) (roots items) h.0) (items_values kind (roots parts) (roots items) h.0)
+      (λ e. open_form (frame kind) kind e (roots parts) (roots items) h.0) h.1))
+
+  pub row_lays_out : (binary : Bool) (outer here : Spot) (m : _) (r : Row_of-Expr m) → ProperRowBy line_shape binary outer here r → RowLaysOut outer here (parts_of r)
+  row_lays_out binary outer here m end_of-Expr h = tt
+  row_lays_out binary outer here m (more_of-Expr x rest) h = (lays_out outer here x h.0 (laid_out_stands here x h.0), row_lays_out binary outer (after_expr outer here x) _ rest h.3)
+
+  pub head_lays_out : (here : Spot) (m : _) (r : Row_of-Expr m) → ProperHeadBy line_shape here r → HeadLaysOut here (parts_of r)
+  head_lays_out here m end_of-Expr h = tt
+  head_lays_out here m (more_of-Expr x rest) h = (lays_out here here x h.0 (laid_out_stands here x h.0), head_lays_out here _ rest h.2)
+
+  pub items_lay_out : (outer : Spot) (m : _) (r : Row_of-Expr m) → ProperItemsBy line_shape r → AreValues (roots r) → ItemsLayOut outer (parts_of r)
+  items_lay_out outer m end_of-Expr h v = tt
+  items_lay_out outer m (more_of-Expr x rest) h v =
+      (subst (λ z. LaysOut outer Within z (x, part_of x)) (value_within outer Within x h.0 v.0) (lays_out outer Within x h.0 (laid_out_stands Within x h.0)), h.1, items_lay_out outer _ rest h.3 v.1)

@@ -1,0 +1,6 @@
+use Rattle.std.proofs.Common.{◌≡◌, ◌++◌, drop}
+use Rattle.bz_layout.specs.Written.{layout}
+use Rattle.bz_layout.proofs.texts.push_items.Given as goal
+
+abbrev pub invariant-loop-i : goal.invariant-loop-i
+invariant-loop-i l = l.out.items ++ layout (drop l.i l.items) ≡ l.fn.out.items ++ layout l.items

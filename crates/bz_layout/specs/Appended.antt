@@ -1,0 +1,20 @@
+-- The layout of items after others.
+use Rattle.std.specs.Prelude.{◌≡◌, ◌≤◌, ℕ, List, [], ◌∷◌, ◌++◌, Option, None, Some}
+use Rattle.bz_items.specs.Characters.{Bytes}
+use Rattle.bz_grammar.specs.Spell.{depth_of}
+use Rattle.bz_value.specs.declared.value.Item.{Item}
+use Rattle.bz_layout.specs.LaidOut.{before_next, laid_out}
+use Rattle.bz_layout.specs.Written.{layout}
+
+-- what is between an item, where there is one, and those that follow
+abbrev pub gap_below : Option Item → List Item → Bytes
+gap_below None items = []
+gap_below (Some item) items = before_next item items
+
+-- Items after others have their own layout after that of the others, and what is between the last of these and them.
+abbrev pub LayoutsJoin : Type 0
+LayoutsJoin = (front : List Item) (item : Item) (items : List Item) → layout ((front ++ item ∷ []) ++ items) ≡ layout (front ++ item ∷ []) ++ (before_next item items ++ layout items)
+
+-- and the tree of both layouts is as deep as the deeper one
+abbrev pub DepthsJoin : Type 0
+DepthsJoin = (front items : List Item) (depth : ℕ) → depth_of (laid_out front) ≤ depth → depth_of (laid_out items) ≤ depth → depth_of (laid_out (front ++ items)) ≤ depth

@@ -1,0 +1,130 @@
+-- The layout: what is in a node, as pieces. One definition; the text and the tree are two readings of it.
+use Rattle.std.specs.Prelude.{ℕ, Bool, true, false, not, ◌&&◌, ◌||◌, List, [], ◌∷◌, ◌++◌, ◌+◌, length, nat_le, nat_eq, if◌then◌else◌, replicate, map, Option, Some, None}
+use Rattle.bz_grammar.specs.declared.kind.Kind.{Kind}
+use Rattle.bz_grammar.specs.declared.kind.Kind.TheVariants as k
+use Rattle.bz_value.specs.declared.value.Expr.{Expr, Token, Form'}
+use Rattle.bz_items.specs.Characters.{Bytes, comma, line_feed, space}
+use Rattle.bz_value.specs.Empty.{is_empty, is_none}
+use Rattle.bz_value.specs.Frames.{Frame, row, sequence, frame}
+use Rattle.bz_value.specs.Proper.{comments_of, has_break}
+use Rattle.bz_value.specs.Roots.{root}
+use Rattle.bz_layout.specs.Spaces.{is_spaced}
+
+-- ---- gaps
+
+-- a new line at a margin of spaces
+abbrev pub new_line_at : ℕ → Bytes
+new_line_at m = line_feed ∷ replicate m space
+
+-- end comments at m + 4, then the line of the closing bracket at m
+abbrev pub ended : ℕ → List Bytes → Bytes
+ended m [] = new_line_at m
+ended m (text ∷ texts) = new_line_at (m + 4) ++ (text ++ ended m texts)
+
+-- comments above an item, each on its own line at the margin
+abbrev pub margin_lines : ℕ → List Bytes → Bytes
+margin_lines m [] = []
+margin_lines m (text ∷ texts) = text ++ (new_line_at m ++ margin_lines m texts)
+
+-- a suffix is after two spaces
+abbrev pub suffix_text : Option Bytes → Bytes
+suffix_text None = []
+suffix_text (Some text) = space ∷ space ∷ text
+
+-- ---- broken sequences
+
+-- a sequence of two or more items is broken in a list or a dict
+abbrev pub is_listed : Kind → Bool
+is_listed k.List = true
+is_listed k.Dict = true
+is_listed _ = false
+
+abbrev pub is_call : Kind → Bool
+is_call k.Call = true
+is_call _ = false
+
+abbrev pub is_tuple : Kind → Bool
+is_tuple k.Tuple = true
+is_tuple _ = false
+
+abbrev pub is_named_or_star : Kind → Bool
+is_named_or_star k.Named = true
+is_named_or_star k.Star = true
+is_named_or_star _ = false
+
+abbrev pub is_named_argument : Expr → Bool
+is_named_argument (Token t) = false
+is_named_argument (Form' kind s parts s' items end split open_break comments) = is_named_or_star kind
+
+abbrev pub has_comments : List Expr → Bool
+has_comments [] = false
+has_comments (x ∷ xs) = not (is_empty (comments_of x).before && is_none (comments_of x).suffix) || has_comments xs
+
+abbrev pub has_named : List Expr → Bool
+has_named [] = false
+has_named (x ∷ xs) = is_named_argument x || has_named xs
+
+-- A sequence is broken where an item has comments, there are end comments, it is a list or dict of two or more items,
+-- it is a call of two or more items of which one is Named or Star, or it is split and has an item.
+abbrev pub is_broken : Kind → Bool → List Expr → List Bytes → Bool
+is_broken kind split items end =
+    has_comments items || (not (is_empty end) || ((nat_le 2 (length items) && (is_listed kind || (is_call kind && has_named items))) || (split && not (is_empty items))))
+
+-- ---- rows
+
+-- The gap after a part of a row, before the next one. In an open comprehension each part is on a line of its own at
+-- m + 4, the closing bracket, which is the last part, at m. A break operator is at its line's end, and the operand
+-- after it begins a new line at m + 4. Elsewhere is one space or nothing.
+abbrev pub gap_after : Kind → Bool → ℕ → Expr → List Expr → Bytes
+gap_after kind open_break m x [] = []
+gap_after kind open_break m x (y ∷ ys) =
+    if open_break then new_line_at (if is_empty ys then m else m + 4)
+    else (if has_break x then new_line_at (m + 4) else (if is_spaced kind (root x) (root y) then space ∷ [] else []))
+
+-- what begins a new line at m + 4 has that margin
+abbrev pub margin_after : Bool → ℕ → Expr → ℕ
+margin_after open_break m x = if open_break || has_break x then m + 4 else m
+
+-- ---- pieces
+
+-- a piece of a node: a mark after its gap, or a part at a margin after a gap
+pub data Piece (X : Type 0) : Type 0 where
+  mark : Bytes → Bytes → Piece X
+  part : Bytes → ℕ → X → Piece X
+
+module _ {X : Type 0} where
+  abbrev pub firsts : List (Expr × X) → List Expr
+  firsts xs = map (λ x. x.0) xs
+
+  -- a row: its gap, its margin
+  abbrev pub rowed : Kind → Bool → ℕ → Bytes → ℕ → List (Expr × X) → List (Piece X)
+  rowed kind open_break m gap n [] = []
+  rowed kind open_break m gap n (x ∷ xs) = part gap n x.1 ∷ rowed kind open_break m (gap_after kind open_break m x.0 (firsts xs)) (margin_after open_break m x.0) xs
+
+  -- what is before the opening bracket, the bracket, then
+  abbrev pub headed : ℕ → Bytes → ℕ → List (Expr × X) → List (Piece X) → List (Piece X)
+  headed m gap opener [] after = mark gap (opener ∷ []) ∷ after
+  headed m gap opener (x ∷ xs) after = part gap m x.1 ∷ headed m [] opener xs after
+
+  -- not broken: items at the margin joined by a comma and a space; a tuple of one ends with a comma
+  abbrev pub joined : ℕ → Bytes → ℕ → Bool → List (Expr × X) → List (Piece X)
+  joined m gap closer one [] = mark [] (closer ∷ []) ∷ []
+  joined m gap closer one (x ∷ xs) = part gap m x.1 ∷ ((if is_empty xs && not one then [] else (mark [] (comma ∷ []) ∷ [])) ++ joined m (space ∷ []) closer false xs)
+
+  -- broken: each item at m + 4 on lines of its own, its comments above it, then a comma, then its suffix, which is
+  -- in the next gap; end comments; the closing bracket at m
+  abbrev pub stacked : ℕ → Option Bytes → ℕ → List Bytes → List (Expr × X) → List (Piece X)
+  stacked m suffix closer end [] = mark (suffix_text suffix ++ ended m end) (closer ∷ []) ∷ []
+  stacked m suffix closer end (x ∷ xs) =
+      part (suffix_text suffix ++ (new_line_at (m + 4) ++ margin_lines (m + 4) (comments_of x.0).before)) (m + 4) x.1 ∷ mark [] (comma ∷ []) ∷ stacked m (comments_of x.0).suffix closer end xs
+
+  abbrev pub laid_in : Frame → Kind → Bool → Bool → Bytes → ℕ → List (Expr × X) → List (Expr × X) → List Bytes → List (Piece X)
+  laid_in row kind split open_break gap m parts items end = rowed kind open_break m gap m parts
+  laid_in (sequence opener closer) kind split open_break gap m parts items end =
+      headed m gap opener parts
+      (if is_broken kind split (firsts items) end then stacked m None closer end items
+      else joined m [] closer (is_tuple kind && nat_eq (length items) 1) items)
+
+  -- kind, flags split and open, gap before, margin, parts, items, end comments
+  abbrev pub laid : Kind → Bool → Bool → Bytes → ℕ → List (Expr × X) → List (Expr × X) → List Bytes → List (Piece X)
+  laid kind split open_break gap m parts items end = laid_in (frame kind) kind split open_break gap m parts items end

@@ -1,0 +1,50 @@
+-- The texts of what is in a form, as the private functions that write them state them.
+use Rattle.std.specs.Prelude.{ℕ, Bool, ◌&&◌, List, [], ◌∷◌, ◌++◌, ◌+◌, None, length, nat_eq, map, if◌then◌else◌}
+use Rattle.std.specs.List.{flat_map}
+use Rattle.bz_grammar.specs.declared.kind.Kind.{Kind}
+use Rattle.bz_value.specs.declared.value.Expr.{Expr}
+use Rattle.bz_value.specs.declared.value.Form.{Form}
+use Rattle.bz_items.specs.Characters.{Bytes, comma, space}
+use Rattle.bz_value.specs.Proper.{comments_of}
+use Rattle.bz_layout.specs.declared.brackets.Brackets.{Brackets}
+use Rattle.bz_layout.specs.Layout.{rowed, joined, stacked, new_line_at, margin_lines, suffix_text, is_broken, is_tuple}
+use Rattle.bz_layout.specs.Written.{piece_text, text_of}
+
+-- each expression with its reading as a text
+abbrev pub writings : List Expr → List (Expr × (ℕ → Bytes))
+writings xs = map (λ x. (x, text_of x)) xs
+
+-- a row, or the rest of one, with no gap before it: kind, flag, margin of the row, margin of its first part
+abbrev pub row_text : Kind → Bool → ℕ → ℕ → List Expr → Bytes
+row_text kind open_break m n xs = flat_map piece_text (rowed kind open_break m [] n (writings xs))
+
+-- what is before the bracket of a sequence
+abbrev pub head_text : ℕ → List Expr → Bytes
+head_text m xs = flat_map (λ x. text_of x m) xs
+
+-- between an item on one line and those that follow: a lone item may have a comma
+abbrev pub comma_text : Bool → List Expr → Bytes
+comma_text one [] = if one then (comma ∷ []) else []
+comma_text one (x ∷ xs) = comma ∷ space ∷ []
+
+-- items on one line, and the closing bracket
+abbrev pub joined_text : ℕ → ℕ → Bool → List Expr → Bytes
+joined_text m closer one xs = flat_map piece_text (joined m [] closer one (writings xs))
+
+-- an item on lines of its own: its comments above it, a comma, its suffix
+abbrev pub stacked_item_text : ℕ → Expr → Bytes
+stacked_item_text m x = new_line_at (m + 4) ++ (margin_lines (m + 4) (comments_of x).before ++ (text_of x (m + 4) ++ (comma ∷ suffix_text (comments_of x).suffix)))
+
+-- items on lines of their own, end comments, and the closing bracket
+abbrev pub stacked_text : ℕ → ℕ → List Bytes → List Expr → Bytes
+stacked_text m closer end xs = flat_map piece_text (stacked m None closer end (writings xs))
+
+-- what is in the sequence of a form, and its closing bracket
+abbrev pub body_text : Form → ℕ → ℕ → Bytes
+body_text f m closer =
+    if is_broken f.kind f.seq.split f.seq.items f.seq.end then stacked_text m closer f.seq.end f.seq.items
+    else joined_text m closer (is_tuple f.kind && nat_eq (length f.seq.items) 1) f.seq.items
+
+-- what is before a sequence, its brackets, and what is in them
+abbrev pub sequence_text : Brackets → Form → ℕ → Bytes
+sequence_text brackets f m = head_text m f.parts ++ (brackets.opener ∷ body_text f m brackets.closer)

@@ -1,0 +1,202 @@
+//! What the layout makes of an expression.
+ghost use Rattle.std.specs.Prelude.{◌≡◌, ◌++◌, ◌∷◌, [], map, None, OnOk, IfOk};
+ghost use Rattle.bz_value.specs.Empty.{is_empty};
+ghost use Rattle.bz_layout.specs.Layout as layout;
+ghost use Rattle.bz_layout.specs.LaidOut.{piece_part, part_of, parts_in, layouts, laid_out_body, comma_after};
+
+use crate::brackets::brackets_of_kind;
+use crate::breaks::is_broken;
+use crate::gaps::{NO_LIMIT, deeper_margin, push_above, push_after, push_ended, push_new_line};
+use crate::parts::room_for;
+use crate::row_gaps::{margin_after, others, text_after};
+use bz_items::{Items, Memory, Text};
+use bz_grammar::{Class, Kind, Leaf, Node, Part};
+use bz_value::{Expr, Form};
+use std::alloc::Global;
+
+/// The empty text.
+pub fn nothing(alloc: Global) -> Text
+    ensures { result ≡ [] }
+{
+    Text::from_vec(Vec::new(alloc))
+}
+
+/// A bracket or a comma after a gap.
+fn mark(alloc: Global, gap: Text, byte: u8) -> Result<Part, Memory>
+    ensures { IfOk result (λ part. part ≡ piece_part (layout.mark gap (byte ∷ []))) }
+{
+    Ok(Part::Leaf(Leaf {
+        class: Class::Mark,
+        gap,
+        token: Text::from_slice(alloc, &[byte])?,
+    }))
+}
+
+/// What is laid out of an expression after a gap, at a margin. The error: a growth was refused.
+#[cycle(lay_out)]
+#[tactic(auto, using(crate::proofs::Made::part_Form))]
+pub fn lay_out(alloc: Global, expr: &Expr, gap: Text, margin: usize) -> Result<Part, Memory>
+    ensures { IfOk result (λ part. part ≡ part_of expr.now gap margin) }
+{
+    match expr {
+        Expr::Token(token) => Ok(Part::Leaf(Leaf {
+            class: token.class,
+            gap,
+            token: token.text.copy()?,
+        })),
+        Expr::Form(form) => Ok(Part::Node(Node {
+            kind: form.kind,
+            parts: lay_out_form(alloc, form, gap, margin)?,
+        })),
+    }
+}
+
+#[cycle(lay_out)]
+#[tactic(auto, using(crate::proofs::Loops::row_parts, crate::proofs::Loops::sequence_parts))]
+fn lay_out_form(alloc: Global, form: &Form, gap: Text, margin: usize) -> Result<Items<Part>, Memory>
+    ensures { IfOk result (λ parts. parts ≡ parts_in form.now gap margin) }
+{
+    let mut parts = room_for(alloc, form)?;
+    let Some(brackets) = brackets_of_kind(form.kind) else {
+        lay_out_row(alloc, form, gap, margin, &mut parts)?;
+        return Ok(parts);
+    };
+    let head = form.parts.as_slice();
+    lay_out_head(alloc, head, gap, margin, brackets.opener, &mut parts)?;
+    lay_out_sequence(alloc, form, margin, brackets.closer, &mut parts)?;
+    Ok(parts)
+}
+
+#[cycle(lay_out)]
+fn lay_out_row(
+    alloc: Global,
+    form: &Form,
+    gap: Text,
+    margin: usize,
+    parts: &mut Items<Part>,
+) -> Result<(), Memory>
+    ensures { OnOk result (parts.new ≡ parts.old ++ map piece_part (layout.rowed form.now.kind form.now.open_break margin gap margin (layouts form.now.parts))) }
+{
+    let row = form.parts.as_slice();
+    let mut gap = gap;
+    let mut inner = margin;
+    for (i, part) in row.iter().enumerate() {
+        parts.push(lay_out(alloc, part, gap, inner)?)?;
+        gap = text_after(alloc, form, margin, part, others(row, i))?;
+        inner = margin_after(form, margin, part)?;
+    }
+    Ok(())
+}
+
+/// What is before a sequence, and its opening bracket.
+#[cycle(lay_out)]
+fn lay_out_head(
+    alloc: Global,
+    head: &[Expr],
+    gap: Text,
+    margin: usize,
+    opener: u8,
+    parts: &mut Items<Part>,
+) -> Result<(), Memory>
+    ensures { OnOk result (parts.new ≡ parts.old ++ map piece_part (layout.headed margin gap opener (layouts head.now) [])) }
+{
+    let mut gap = gap;
+    for expr in head {
+        parts.push(lay_out(alloc, expr, gap, margin)?)?;
+        gap = nothing(alloc);
+    }
+    parts.push(mark(alloc, gap, opener)?)
+}
+
+/// What is in a sequence, and its closing bracket.
+#[cycle(lay_out)]
+fn lay_out_sequence(
+    alloc: Global,
+    form: &Form,
+    margin: usize,
+    closer: u8,
+    parts: &mut Items<Part>,
+) -> Result<(), Memory>
+    ensures { OnOk result (parts.new ≡ parts.old ++ map piece_part (laid_out_body form.now margin closer)) }
+{
+    let items = form.seq.items.as_slice();
+    if is_broken(form) {
+        return lay_out_stacked(
+            alloc,
+            items,
+            form.seq.end.as_slice(),
+            margin,
+            closer,
+            parts,
+        );
+    }
+    let one = matches!(form.kind, Kind::Tuple) && items.len() == 1;
+    lay_out_joined(alloc, items, margin, closer, one, parts)
+}
+
+/// The comma after an item: where others follow, or a lone item is to have one.
+fn push_comma(
+    alloc: Global,
+    others: &[Expr],
+    one: bool,
+    parts: &mut Items<Part>,
+) -> Result<(), Memory>
+    ensures { OnOk result (parts.new ≡ parts.old ++ map piece_part (comma_after (is_empty others.now) one)) }
+{
+    if others.is_empty() && !one {
+        return Ok(());
+    }
+    parts.push(mark(alloc, nothing(alloc), b',')?)
+}
+
+/// Items joined by a comma and a space; after a lone item a comma where it is to have one.
+#[cycle(lay_out)]
+#[tactic(auto, using(crate::proofs::Loops::joined_next))]
+fn lay_out_joined(
+    alloc: Global,
+    items: &[Expr],
+    margin: usize,
+    closer: u8,
+    one: bool,
+    parts: &mut Items<Part>,
+) -> Result<(), Memory>
+    ensures { OnOk result (parts.new ≡ parts.old ++ map piece_part (layout.joined margin [] closer one (layouts items.now))) }
+{
+    let mut gap = nothing(alloc);
+    let mut one = one;
+    for (i, item) in items.iter().enumerate() {
+        parts.push(lay_out(alloc, item, gap, margin)?)?;
+        push_comma(alloc, others(items, i), one, parts)?;
+        one = false;
+        gap = Text::from_slice(alloc, b" ")?;
+    }
+    parts.push(mark(alloc, nothing(alloc), closer)?)
+}
+
+/// Each item on lines of its own: its comments above it, a comma, its suffix.
+#[cycle(lay_out)]
+#[tactic(auto, using(crate::proofs::Loops::stacked_start))]
+fn lay_out_stacked(
+    alloc: Global,
+    items: &[Expr],
+    end: &[Text],
+    margin: usize,
+    closer: u8,
+    parts: &mut Items<Part>,
+) -> Result<(), Memory>
+    ensures { OnOk result (parts.new ≡ parts.old ++ map piece_part (layout.stacked margin None closer end.now (layouts items.now))) }
+{
+    let mut gap = Vec::new(alloc);
+    for item in items {
+        let comments = item.comments();
+        let inner = deeper_margin(margin)?;
+        push_new_line(&mut gap, inner, NO_LIMIT)?;
+        push_above(&mut gap, comments.before(), inner, NO_LIMIT)?;
+        parts.push(lay_out(alloc, item, Text::from_vec(gap), inner)?)?;
+        parts.push(mark(alloc, nothing(alloc), b',')?)?;
+        gap = Vec::new(alloc);
+        push_after(&mut gap, comments.suffix())?;
+    }
+    push_ended(&mut gap, end, margin, NO_LIMIT)?;
+    parts.push(mark(alloc, Text::from_vec(gap), closer)?)
+}

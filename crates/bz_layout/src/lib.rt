@@ -1,0 +1,39 @@
+//! The layout of a file value, as text and as the legal tree that spells it.
+#![tactic(auto)]
+
+mod brackets;
+mod breaks;
+mod depth;
+mod gaps;
+mod laws;
+mod laying_out;
+mod limits;
+mod lines;
+mod marked;
+mod measure;
+mod parts;
+mod room;
+mod row_gaps;
+mod setting;
+mod spaces;
+mod spliced;
+mod taken;
+mod texts;
+
+pub use breaks::is_broken;
+pub use depth::{are_within, is_within};
+pub use gaps::{deeper_margin, push_after, push_comments};
+pub use laws::{
+    flags_keep_layout, layout_is_accepted, layout_reads_back, layouts_join, relaid_has_length,
+    worked_rows,
+};
+pub use limits::{are_marked_shallow, are_marked_short, is_window_shallow, is_window_short};
+pub use lines::is_close;
+pub use marked::{Relaid, relayout};
+pub use measure::{left_after, left_after_body, left_after_row};
+pub use room::{NoRoom, less, less_after};
+pub use setting::{SetFault, append_file, set, text_of_file};
+pub use spaces::is_spaced;
+pub use spliced::{Respliced, relayout_spliced};
+pub use taken::set_from;
+pub use texts::{expr_text, item_text, push_body, push_expr, push_row};

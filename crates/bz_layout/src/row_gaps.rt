@@ -1,0 +1,131 @@
+//! What is between two parts of a row.
+ghost use Rattle.std.specs.Prelude.{◌≡◌, ◌<◌, ◌+◌, ◌++◌, drop, length, IfOk, OnOk};
+ghost use Rattle.bz_value.specs.Proper.{has_break};
+ghost use Rattle.bz_layout.specs.Layout as layout;
+ghost use Rattle.bz_layout.specs.private.RowGaps.{written_gap};
+
+use crate::gaps::{NO_LIMIT, deeper_margin, push_new_line};
+use bz_items::{Memory, Text};
+use crate::is_spaced;
+use bz_value::{Expr, Form};
+use std::alloc::Global;
+
+/// The gap between two parts of a row.
+#[derive(Clone, Copy)]
+pub enum RowGap {
+    Nothing,
+    Space,
+    /// A new line at this margin.
+    Line(usize),
+}
+
+/// The expressions after the one at this place.
+pub fn others(exprs: &[Expr], at: usize) -> &[Expr]
+    requires { at < length exprs.now }
+    ensures { result.now ≡ drop (at + 1) exprs.now }
+{
+    &exprs[at + 1..]
+}
+
+fn has_break(expr: &Expr) -> bool
+    ensures { result ≡ has_break expr.now }
+{
+    match expr {
+        Expr::Token(token) => token.line_break,
+        Expr::Form(_) => false,
+    }
+}
+
+/// The gap after a part of a row, before the others. The error: no text is that wide.
+#[inline(always)]
+pub fn gap_after(
+    form: &Form,
+    margin: usize,
+    part: &Expr,
+    others: &[Expr],
+) -> Result<RowGap, Memory>
+    ensures { IfOk result (λ gap. written_gap gap ≡ layout.gap_after form.now.kind form.now.open_break margin part.now others.now) }
+{
+    let [next, rest @ ..] = others else {
+        return Ok(RowGap::Nothing);
+    };
+    if form.open_break {
+        if rest.is_empty() {
+            return Ok(RowGap::Line(margin));
+        }
+        return Ok(RowGap::Line(deeper_margin(margin)?));
+    }
+    if has_break(part) {
+        return Ok(RowGap::Line(deeper_margin(margin)?));
+    }
+    if is_spaced(form.kind, part, next) {
+        return Ok(RowGap::Space);
+    }
+    Ok(RowGap::Nothing)
+}
+
+/// The margin of what is after a part of a row. The error: no text is that wide.
+pub fn margin_after(form: &Form, margin: usize, part: &Expr) -> Result<usize, Memory>
+    ensures { IfOk result (λ inner. inner ≡ layout.margin_after form.now.open_break margin part.now) }
+{
+    if form.open_break || has_break(part) {
+        deeper_margin(margin)
+    } else {
+        Ok(margin)
+    }
+}
+
+/// The gap as a text.
+fn text_of_gap(alloc: Global, gap: RowGap) -> Result<Text, Memory>
+    ensures { IfOk result (λ text. text ≡ written_gap gap) }
+{
+    match gap {
+        RowGap::Nothing => Ok(Text::from_vec(Vec::new(alloc))),
+        RowGap::Space => Text::from_slice(alloc, b" "),
+        RowGap::Line(margin) => {
+            let mut out = Vec::new(alloc);
+            push_new_line(&mut out, margin, NO_LIMIT)?;
+            Ok(Text::from_vec(out))
+        }
+    }
+}
+
+fn push_gap(out: &mut Vec<u8>, gap: RowGap, limit: usize) -> Result<(), Memory>
+    ensures { OnOk result (out.new.items ≡ out.old.items ++ written_gap gap) }
+{
+    match gap {
+        RowGap::Nothing => Ok(()),
+        RowGap::Space => {
+            out.push(b' ')?;
+            Ok(())
+        }
+        RowGap::Line(margin) => push_new_line(out, margin, limit),
+    }
+}
+
+/// Appends the gap after a part of a row, before the others. The error: a growth was refused.
+pub fn push_row_gap(
+    out: &mut Vec<u8>,
+    form: &Form,
+    margin: usize,
+    part: &Expr,
+    others: &[Expr],
+    limit: usize,
+) -> Result<(), Memory>
+    ensures { OnOk result (out.new.items ≡ out.old.items ++ layout.gap_after form.now.kind form.now.open_break margin part.now others.now) }
+{
+    push_gap(out, gap_after(form, margin, part, others)?, limit)
+}
+
+/// The text of the gap after a part of a row, before the others. The error: a growth was refused.
+pub fn text_after(
+    alloc: Global,
+    form: &Form,
+    margin: usize,
+    part: &Expr,
+    others: &[Expr],
+) -> Result<Text, Memory>
+    ensures { IfOk result (λ text. text ≡ layout.gap_after form.now.kind form.now.open_break margin part.now others.now) }
+{
+    text_of_gap(alloc, gap_after(form, margin, part, others)?)
+}

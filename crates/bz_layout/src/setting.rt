@@ -1,0 +1,155 @@
+ghost use Rattle.std.specs.Prelude.{◌≡◌, ◌<◌, ◌≤◌, ◌++◌, IfOk, IfSome, IsTrue, OnOk, false, length};
+ghost use Rattle.bz_grammar.specs.Spell.{spell_node, depth_of, limit, depth_limit};
+ghost use Rattle.bz_hosts.specs.View.{view_of};
+ghost use Rattle.bz_layout.specs.Appended.{gap_below};
+ghost use Rattle.bz_layout.specs.LaidOut.{laid_out};
+ghost use Rattle.bz_layout.specs.Written.{layout};
+ghost use Rattle.bz_layout.specs.Flags.{flags};
+
+use crate::limits::{are_items_within, is_layout_within};
+use crate::lines::{lay_out_lines, push_between};
+use crate::texts::push_items;
+use bz_items::{Memory, Text};
+use bz_grammar::{DEPTH_LIMIT, Kind, LENGTH_LIMIT, Node, Tree};
+use bz_value::{File, Item};
+use std::alloc::{AllocError, Global};
+use thiserror::Error;
+
+/// Why a file value is not written.
+#[derive(Debug, Drop, Error)]
+pub enum SetFault {
+    /// A growth was refused.
+    #[error("Memory")]
+    Memory,
+    /// The text of the layout is longer than `LENGTH_LIMIT`.
+    #[error("TooLarge")]
+    TooLarge,
+    /// The tree of the layout is deeper than `DEPTH_LIMIT`.
+    #[error("TooDeep")]
+    TooDeep,
+}
+
+impl From<AllocError> for SetFault {
+    ghost use Rattle.std.specs.Prelude.{◌≡◌};
+    ghost use Rattle.bz_layout.specs.declared.setting.SetFault.TheVariants as f;
+
+    ghost from_gives = { λ _ fault. fault ≡ f.Memory };
+
+    fn from(_refused: AllocError) -> SetFault {
+        SetFault::Memory
+    }
+}
+
+/// Whether the tree of the layout of the items is within the limit of depth.
+#[tactic(auto, using(crate::proofs::Deep::laid_out_depth))]
+fn is_shallow(items: &[Item]) -> bool
+    ensures shallow { IsTrue result → depth_of (laid_out items.now) ≤ depth_limit }
+    ensures deep { result ≡ false → depth_limit < depth_of (laid_out items.now) }
+{
+    are_items_within(items, DEPTH_LIMIT as usize - 1)
+}
+
+/// Whether the layout of the items and its tree are within the limits; neither is made for it. Errors: `TooLarge` and `TooDeep`
+/// as of `set`; `Memory`: a growth was refused.
+pub fn fits(alloc: Global, items: &[Item]) -> Result<(), SetFault>
+    ensures short { IfOk result (λ _. length (layout items.now) ≤ limit) }
+    ensures shallow { IfOk result (λ _. depth_of (laid_out items.now) ≤ depth_limit) }
+    ensures too_large { result ≡ Err SetFault.TooLarge → limit < length (layout items.now) }
+    ensures too_deep { result ≡ Err SetFault.TooDeep → (length (layout items.now) ≤ limit) × (depth_limit < depth_of (laid_out items.now)) }
+{
+    let short = is_layout_within(alloc, items, LENGTH_LIMIT)?;
+    if !short {
+        return Err(SetFault::TooLarge);
+    }
+    if !is_shallow(items) {
+        return Err(SetFault::TooDeep);
+    }
+    Ok(())
+}
+
+/// The tree whose spelling is the layout of the file value, and whose view is the value with its flags settled. Both limits
+/// are looked at on the value, before the tree is made. Errors: `TooLarge` exactly where the layout is past the limit of a
+/// text, else `TooDeep` exactly where the tree is past the limit of depth; `Memory`: a growth was refused.
+pub fn set(alloc: Global, file: &File) -> Result<Tree, SetFault>
+    ensures laid_out { IfOk result (λ tree. tree ≡ laid_out file.now) }
+    ensures text { IfOk result (λ tree. spell_node tree ≡ layout file.now) }
+    ensures view { IfOk result (λ tree. view_of tree ≡ flags file.now) }
+    ensures too_large { result ≡ Err SetFault.TooLarge → limit < length (layout file.now) }
+    ensures too_deep { result ≡ Err SetFault.TooDeep → (length (layout file.now) ≤ limit) × (depth_limit < depth_of (laid_out file.now)) }
+{
+    let items = file.items.as_slice();
+    fits(alloc, items)?;
+    Ok(Tree {
+        root: Node {
+            kind: Kind::File,
+            parts: lay_out_lines(alloc, items)?,
+        },
+    })
+}
+
+/// Appends the layout of the items, where what was written and the tree of the layout are within the limits; none where one is not, or
+/// a growth was refused. The depth is looked at first, since the walk that writes goes as deep as the items.
+fn append_within(out: &mut Vec<u8>, items: &[Item]) -> Option<()>
+    ensures text { IfSome result (λ _. out.new.items ≡ out.old.items ++ layout items.now) }
+    ensures short { IfSome result (λ _. length out.new.items ≤ limit) }
+    ensures shallow { IfSome result (λ _. depth_of (laid_out items.now) ≤ depth_limit) }
+{
+    if !is_shallow(items) {
+        return None;
+    }
+    push_items(out, items, LENGTH_LIMIT).ok()?;
+    if out.len() > LENGTH_LIMIT {
+        return None;
+    }
+    Some(())
+}
+
+fn push_below(out: &mut Vec<u8>, above: &Option<Item>, items: &[Item]) -> Result<(), Memory>
+    ensures { OnOk result (out.new.items ≡ out.old.items ++ gap_below above.now items.now) }
+{
+    match above {
+        None => Ok(()),
+        Some(item) => push_between(out, item, items),
+    }
+}
+
+/// Appends the layout of the file value to a text, below an item where one is given. None: a growth was refused, or the text or the
+/// tree of the layout would be past a limit; what was appended by then is not specified.
+pub fn append_file(out: &mut Vec<u8>, above: &Option<Item>, file: &File) -> Option<()>
+    ensures text { IfSome result (λ _. out.new.items ≡ out.old.items ++ (gap_below above.now file.now ++ layout file.now)) }
+    ensures short { IfSome result (λ _. length out.new.items ≤ limit) }
+    ensures shallow { IfSome result (λ _. depth_of (laid_out file.now) ≤ depth_limit) }
+{
+    let items = file.items.as_slice();
+    push_below(out, above, items).ok()?;
+    append_within(out, items)
+}
+
+/// The layout of the items as text, where it and its tree are within the limits; none where one is not, or a growth was refused.
+fn text_within(alloc: Global, items: &[Item]) -> Option<Text>
+    ensures text { IfSome result (λ text. text ≡ layout items.now) }
+    ensures short { IfSome result (λ _. length (layout items.now) ≤ limit) }
+    ensures shallow { IfSome result (λ _. depth_of (laid_out items.now) ≤ depth_limit) }
+{
+    let mut out = Vec::new(alloc);
+    append_within(&mut out, items)?;
+    Some(Text::from_vec(out))
+}
+
+/// The layout of the file value, as text, with no tree made for it. It is measured only where no text came of it, to know the fault.
+/// Errors: `TooLarge` exactly where the layout is past the limit of a text, else `TooDeep` exactly where its tree would be past the
+/// limit of depth; `Memory`: a growth was refused.
+pub fn text_of_file(alloc: Global, file: &File) -> Result<Text, SetFault>
+    ensures text { IfOk result (λ text. text ≡ layout file.now) }
+    ensures short { IfOk result (λ _. length (layout file.now) ≤ limit) }
+    ensures shallow { IfOk result (λ _. depth_of (laid_out file.now) ≤ depth_limit) }
+    ensures too_large { result ≡ Err SetFault.TooLarge → limit < length (layout file.now) }
+    ensures too_deep { result ≡ Err SetFault.TooDeep → (length (layout file.now) ≤ limit) × (depth_limit < depth_of (laid_out file.now)) }
+{
+    let items = file.items.as_slice();
+    if let Some(text) = text_within(alloc, items) {
+        return Ok(text);
+    }
+    fits(alloc, items)?;
+    Err(SetFault::Memory)
+}

@@ -1,7 +1,0 @@
-use Rattle.bz_names.proofs.Entries.{first_place}
-use Rattle.bz_names.proofs.places.insert_first.Goals as goal
-
-pub returns : goal.returns
-returns c =
-    first_place c.args.places.now c.insert.new.self c.args.name.now c.in_ok-key.key c.in_ok-first.first c.args.at
-    c.in_ok-key.ensures.items c.in_ok-first.ensures.items c.in_ok-insert.ensures.updates c.requires

@@ -1,0 +1,145 @@
+-- The passes on single expressions: double quote marks everywhere, a shorter label, settled flags.
+use Rattle.std.proofs.Common.{suc, Bool, true, false, not, ◌&&◌, ◌||◌, List, [], ◌∷◌, ◌≡◌, refl, sym, ap, ◌∙◌, map, inl, inr}
+use Rattle.std.specs.Prelude.{length, nat_le}
+use Rattle.std.proofs.lemmas.Bool.{cases_Bool}
+use Rattle.bz_token.specs.declared.class.Class.TheVariants as c
+use Rattle.bz_grammar.specs.declared.kind.Kind.{Kind}
+use Rattle.bz_grammar.specs.Shapes.{is_class}
+use Rattle.bz_value.specs.declared.value.Expr.{Expr, Token, Form', Row_of-Expr, end_of-Expr, more_of-Expr, items-the_row-Expr}
+use Rattle.bz_value.specs.declared.value.Expr.TheVariants as e
+use Rattle.bz_value.specs.declared.value.Item.TheVariants as i
+use Rattle.bz_value.specs.Comments.{HostComments}
+use Rattle.bz_value.specs.Frames.{Frame, row, sequence, frame}
+use Rattle.bz_items.specs.Characters.{Bytes}
+use Rattle.bz_layout.specs.Layout.{has_comments, has_named, is_named_argument, is_listed, is_call}
+use Rattle.bz_value.specs.Empty.{is_empty, is_none}
+use Rattle.bz_layout.specs.Flags.{settled_split, with_flags, each_with_flags, item_with_flags, flags}
+use Rattle.bz_rule.specs.Values.{text_of, parts_of, items_of, with_above}
+use Rattle.bz_passes.specs.Strings.{with_double}
+use Rattle.bz_passes.specs.Passes.{quoted, each_quoted, labelled}
+use Rattle.bz_passes.proofs.Keeping.{Keeps, Settles, both, map_settles}
+use Rattle.bz_passes.proofs.Parts.{made, flags_row, flags_Form, quoted_Form, parts_quoted, items_quoted, comments_flags}
+use Rattle.bz_passes.proofs.Strung.{double_settles, string_settles, string_keeps}
+
+-- ---- labels
+
+pub labelled_settles : Settles labelled
+labelled_settles (Token t) = elim (cases_Bool (is_class t.class c.String)) [
+  | inl w ↦ rw (w, w) (ap (λ z. e.Token (record t { text = z })) (string_settles t.text))
+  | inr w ↦ rw (w, w) refl
+]
+labelled_settles (Form' kind s parts s' items end split open_break comments) = refl
+
+pub flags_keep_labelled : Keeps with_flags labelled
+flags_keep_labelled (Token t) h = h
+flags_keep_labelled (Form' kind s parts s' items end split open_break comments) h = refl
+
+pub under_labelled : (lines : List Bytes) (x : Expr) → labelled (with_above lines x) ≡ with_above lines (labelled x)
+under_labelled lines (Token t) = elim (cases_Bool (is_class t.class c.String)) [
+  | inl w ↦ rw w refl
+  | inr w ↦ rw w refl
+]
+under_labelled lines (Form' kind s parts s' items end split open_break comments) = refl
+
+pub labelled_keeps_quoted : Keeps labelled quoted
+labelled_keeps_quoted (Token t) h = elim (cases_Bool (is_class t.class c.String)) [
+  | inl w ↦
+      let h' : e.Token (record t { text = with_double t.text }) ≡ e.Token t = rw w at h in
+      rw (w, w) (ap (λ z. e.Token (record t { text = z })) (string_keeps t.text (ap text_of h')))
+  | inr w ↦ rw w h
+]
+labelled_keeps_quoted (Form' kind s parts s' items end split open_break comments) h = h
+
+-- ---- double quote marks everywhere
+
+mutual
+  pub quoted_settles : Settles quoted
+  quoted_settles (Token t) = elim (cases_Bool (is_class t.class c.String)) [
+    | inl w ↦ rw w (ap (λ z. e.Token (record t { text = z })) (double_settles t.text))
+    | inr w ↦ rw w refl
+  ]
+  quoted_settles (Form' kind s parts s' items end split open_break comments) =
+      quoted_Form (made kind (each_quoted parts) (each_quoted items) end split open_break comments)
+      ∙ both (λ p i. e.Form (made kind p i end split open_break comments)) (row_settles _ parts) (row_settles _ items)
+
+  row_settles : (m : _) (r : Row_of-Expr m) → map quoted (each_quoted r) ≡ each_quoted r
+  row_settles m end_of-Expr = refl
+  row_settles m (more_of-Expr x rest) = both (λ z zs. z ∷ zs) (quoted_settles x) (row_settles _ rest)
+
+-- ---- flags
+
+same_named : (x : Expr) → is_named_argument (with_flags x) ≡ is_named_argument x
+same_named (Token t) = refl
+same_named (Form' kind s parts s' items end split open_break comments) = refl
+
+same_length : (xs : List Expr) → length (map with_flags xs) ≡ length xs
+same_length [] = refl
+same_length (x ∷ xs) = ap suc (same_length xs)
+
+same_empty : (xs : List Expr) → is_empty (map with_flags xs) ≡ is_empty xs
+same_empty [] = refl
+same_empty (x ∷ xs) = refl
+
+same_comments : (xs : List Expr) → has_comments (map with_flags xs) ≡ has_comments xs
+same_comments [] = refl
+same_comments (x ∷ xs) = both (λ a b. a || b) (ap (λ (them : HostComments). not (is_empty them.before && is_none them.suffix)) (comments_flags x)) (same_comments xs)
+
+same_has_named : (xs : List Expr) → has_named (map with_flags xs) ≡ has_named xs
+same_has_named [] = refl
+same_has_named (x ∷ xs) = both (λ a b. a || b) (same_named x) (same_has_named xs)
+
+-- broken as before, also where the flag says whether it was
+settled : (a b c s n : Bool) → (a || (b || (c || ((a || (b || (c || (s && n)))) && n)))) ≡ (a || (b || (c || (s && n))))
+settled true b c s n = refl
+settled false true c s n = refl
+settled false false true s n = refl
+settled false false false true true = refl
+settled false false false true false = refl
+settled false false false false n = refl
+
+pub same_split : (f : Frame) (kind : Kind) (split : Bool) (xs : List Expr) (end : List Bytes) → settled_split f kind (settled_split f kind split xs end) (map with_flags xs) end ≡ settled_split f kind split xs end
+same_split row kind split xs end = refl
+same_split (sequence opener closer) kind split xs end =
+    rw (same_comments xs, same_length xs, same_has_named xs, same_empty xs)
+    (settled (has_comments xs) (not (is_empty end)) (nat_le 2 (length xs) && (is_listed kind || (is_call kind && has_named xs))) split (not (is_empty xs)))
+
+mutual
+  pub flags_settle : Settles with_flags
+  flags_settle (Token t) = refl
+  flags_settle (Form' kind s parts s' items end split open_break comments) =
+      let flag : Bool = settled_split (frame kind) kind split (items-the_row-Expr _ items) end in
+      flags_Form (made kind (each_with_flags parts) (each_with_flags items) end flag open_break comments)
+      ∙ (ap (λ z. e.Form (made kind (map with_flags (each_with_flags parts)) (map with_flags (each_with_flags items)) end z open_break comments))
+      (ap (λ z. settled_split (frame kind) kind flag z end) (flags_row _ items) ∙ same_split (frame kind) kind split (items-the_row-Expr _ items) end)
+      ∙ both (λ p i. e.Form (made kind p i end flag open_break comments)) (row_settle _ parts) (row_settle _ items))
+
+  row_settle : (m : _) (r : Row_of-Expr m) → map with_flags (each_with_flags r) ≡ each_with_flags r
+  row_settle m end_of-Expr = refl
+  row_settle m (more_of-Expr x rest) = both (λ z zs. z ∷ zs) (flags_settle x) (row_settle _ rest)
+
+item_settles : Settles item_with_flags
+item_settles (i.Block lines) = refl
+item_settles (i.Stmt x) = ap i.Stmt (flags_settle x)
+
+pub flags_settled : Settles flags
+flags_settled = map_settles item_with_flags item_settles
+
+first_fixed : (x : Expr) (xs : List Expr) → map quoted (x ∷ xs) ≡ x ∷ xs → quoted x ≡ x
+first_fixed x xs h = cc
+
+rest_fixed : (x : Expr) (xs : List Expr) → map quoted (x ∷ xs) ≡ x ∷ xs → map quoted xs ≡ xs
+rest_fixed x xs h = cc
+
+mutual
+  pub flags_keep_quoted : Keeps with_flags quoted
+  flags_keep_quoted (Token t) h = h
+  flags_keep_quoted (Form' kind s parts s' items end split open_break comments) h =
+      let flag : Bool = settled_split (frame kind) kind split (items-the_row-Expr _ items) end in
+      quoted_Form (made kind (each_with_flags parts) (each_with_flags items) end flag open_break comments)
+      ∙ both (λ p i. e.Form (made kind p i end flag open_break comments))
+      (row_keep _ parts (sym (parts_quoted (Form' kind s parts s' items end split open_break comments)) ∙ ap parts_of h))
+      (row_keep _ items (sym (items_quoted (Form' kind s parts s' items end split open_break comments)) ∙ ap items_of h))
+
+  row_keep : (m : _) (r : Row_of-Expr m) → map quoted (items-the_row-Expr m r) ≡ items-the_row-Expr m r → map quoted (each_with_flags r) ≡ each_with_flags r
+  row_keep m end_of-Expr h = refl
+  row_keep m (more_of-Expr x rest) h = both (λ z zs. z ∷ zs) (flags_keep_quoted x (first_fixed x (items-the_row-Expr _ rest) h)) (row_keep _ rest (rest_fixed x (items-the_row-Expr _ rest) h))

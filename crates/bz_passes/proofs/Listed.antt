@@ -1,0 +1,357 @@
+-- The items of one list, sorted: sorted again they stay; what is kept of them; flags are not seen.
+use Rattle.std.proofs.Common.{ℕ, suc, ◌+◌, ◌<◌, Bool, true, false, not, ◌&&◌, ◌||◌, List, [], ◌∷◌, ◌++◌, ◌≡◌, refl, sym, ap, subst, ◌∙◌, length, get_or, map, inl, inr, arith}
+use Rattle.std.proofs.lemmas.Bool.{cases_Bool, and_right, true≢false}
+use Rattle.std.proofs.lemmas.Slice.Eq.{bytes_eq-Decides}
+use Rattle.std.specs.List.{list_any, list_all, AllByRecursion, AllAdjacentBelow, IsAllAdjacentAnswer}
+use Rattle.std.specs.Fn.{Called, ComputesOnPairs}
+use Rattle.std.proofs.lemmas.List.Sorted.{answers_always}
+use denote.Ref.{Bor}
+use denote.Param.Members.{Mut}
+use Rattle.std.specs.Ordering.{is_lt}
+use Rattle.bz_label.specs.Keys.{key_order}
+use Rattle.std.specs.Cmp.{IsStrictWeakOrder}
+use Rattle.std.specs.Prelude.{bytes_eq}
+use Rattle.std.proofs.lemmas.List.MinMax.{ranks_by}
+use Rattle.bz_label.proofs.Orders.{key_total}
+use Rattle.bz_token.specs.declared.class.Class.TheVariants as c
+use Rattle.bz_value.specs.Comments.{HostComments}
+use Rattle.bz_value.specs.Empty.{is_empty, is_none}
+use Rattle.bz_value.specs.declared.value.Expr.{Expr, Token, Form'}
+use Rattle.bz_items.specs.Characters.{Bytes}
+use Rattle.bz_value.specs.Proper.{comments_of}
+use Rattle.bz_rule.specs.Values.{has_class, text_of, above, with_above}
+use Rattle.bz_passes.specs.Orders.{sort_by}
+use Rattle.bz_rule.specs.QuoteMarks.{between}
+use Rattle.bz_passes.specs.Marks.{keep_marks, other_comments}
+use Rattle.bz_passes.specs.Lists.{above_first, has_above, is_taken, precedes, has_no_comment, without_repeats, in_order, without_marks, marked_by, sorted, settled_list}
+use Rattle.bz_passes.specs.private.Sorted.{is_passed}
+use Rattle.bz_passes.proofs.Keeping.{Keeps, Settles, both, same_first, same_after}
+use Rattle.bz_passes.proofs.Sorting.{sort_all, Ordered, Starts, ordered_stays, sort_ordered, sort_map}
+
+pub order : IsStrictWeakOrder precedes
+order = ranks_by key_total (λ (x : Expr). between (text_of x))
+
+-- ---- no later item precedes an earlier one
+
+abbrev pub After : Expr → List Expr → Type 0
+After x xs = AllByRecursion (λ z. precedes z x ≡ false) xs
+
+abbrev pub Rises : List Expr → Type 0
+Rises [] = Unit {0}
+Rises (x ∷ xs) = After x xs × Rises xs
+
+pub after_too : (x y : Expr) (zs : List Expr) → precedes x y ≡ false → After x zs → After y zs
+after_too x y [] h a = tt
+after_too x y (z ∷ zs) h a = (order.chain z x y a.0 h, after_too x y zs h a.1)
+
+all_after : (x : Expr) (xs : List Expr) → Starts precedes x xs → Rises xs → After x xs
+all_after x [] s r = tt
+all_after x (y ∷ ys) s r = (s, after_too y x ys s r.0)
+
+pub rises : (xs : List Expr) → Ordered precedes xs → Rises xs
+rises [] o = tt
+rises (x ∷ xs) o = let r : Rises xs = rises xs o.1 in (all_after x xs o.0 r, r)
+
+pub starts : (x : Expr) (xs : List Expr) → After x xs → Starts precedes x xs
+starts x [] a = tt
+starts x (y ∷ ys) a = a.0
+
+ordered : (xs : List Expr) → Rises xs → Ordered precedes xs
+ordered [] r = tt
+ordered (x ∷ xs) r = (starts x xs r.0, ordered xs r.1)
+
+-- ---- no repeats
+
+abbrev pub is_repeated : List Bytes → Expr → Bool
+is_repeated earlier x = has_no_comment x && list_any (bytes_eq (text_of x)) earlier
+
+abbrev Clean : List Bytes → List Expr → Type 0
+Clean earlier [] = Unit {0}
+Clean earlier (x ∷ xs) = (is_repeated earlier x ≡ false) × Clean (text_of x ∷ earlier) xs
+
+clean_stays : (earlier : List Bytes) (xs : List Expr) → Clean earlier xs → without_repeats earlier xs ≡ xs
+clean_stays earlier [] h = refl
+clean_stays earlier (x ∷ xs) h = rw h.0 (ap (λ z. x ∷ z) (clean_stays (text_of x ∷ earlier) xs h.1))
+
+unrepeated_clean : (earlier : List Bytes) (xs : List Expr) → Clean earlier (without_repeats earlier xs)
+unrepeated_clean earlier [] = tt
+unrepeated_clean earlier (x ∷ xs) = elim (cases_Bool (is_repeated earlier x)) [
+  | inl t ↦ rw t (unrepeated_clean earlier xs)
+  | inr f ↦ rw f (f, unrepeated_clean (text_of x ∷ earlier) xs)
+]
+
+pub unrepeated_all : (P : Expr → Type 0) (earlier : List Bytes) (xs : List Expr) → AllByRecursion P xs → AllByRecursion P (without_repeats earlier xs)
+unrepeated_all P earlier [] h = tt
+unrepeated_all P earlier (x ∷ xs) h = elim (cases_Bool (is_repeated earlier x)) [
+  | inl t ↦ rw t (unrepeated_all P earlier xs h.1)
+  | inr f ↦ rw f (h.0, unrepeated_all P (text_of x ∷ earlier) xs h.1)
+]
+
+unrepeated_rises : (earlier : List Bytes) (xs : List Expr) → Rises xs → Rises (without_repeats earlier xs)
+unrepeated_rises earlier [] h = tt
+unrepeated_rises earlier (x ∷ xs) h = elim (cases_Bool (is_repeated earlier x)) [
+  | inl t ↦ rw t (unrepeated_rises earlier xs h.1)
+  | inr f ↦ rw f (unrepeated_all (λ z. precedes z x ≡ false) (text_of x ∷ earlier) xs h.0, unrepeated_rises (text_of x ∷ earlier) xs h.1)
+]
+
+-- ---- sorted lists stay
+
+record Fine (xs : List Expr) : Type 0 where
+  rising : Rises xs
+  clean : Clean [] xs
+
+in_order_fine : (xs : List Expr) → Fine (in_order xs)
+in_order_fine xs = record {
+  rising = unrepeated_rises [] (sort_by precedes xs) (rises (sort_by precedes xs) (sort_ordered precedes order.one_way xs));
+  clean = unrepeated_clean [] (sort_by precedes xs);
+}
+
+pub none_precedes : (x : Expr) (xs : List Expr) → After x xs → list_any (λ y. precedes y x) xs ≡ false
+none_precedes x [] a = refl
+none_precedes x (y ∷ ys) a = rw a.0 (none_precedes x ys a.1)
+
+fine_in_order : (xs : List Expr) → Fine xs → in_order xs ≡ xs
+fine_in_order xs f = ap (without_repeats []) (ordered_stays precedes xs (ordered xs f.rising)) ∙ clean_stays [] xs f.clean
+
+fine_stays : (xs : List Expr) → Fine xs → sorted xs ≡ xs
+fine_stays [] f = refl
+fine_stays (x ∷ xs) f = rw (none_precedes x xs f.rising.0) (fine_in_order (x ∷ xs) f)
+
+pub text_above : (a : List Bytes) (x : Expr) → text_of (with_above a x) ≡ text_of x
+text_above a (Token t) = refl
+text_above a (Form' own s parts s' items end split open_break comments) = refl
+
+after_above : (a : List Bytes) (x : Expr) (xs : List Expr) → After x xs → After (with_above a x) xs
+after_above a x [] h = tt
+after_above a x (y ∷ ys) h = (rw (text_above a x) h.0, after_above a x ys h.1)
+
+marked_fine : (marks : List Bytes) (xs : List Expr) → Fine xs → Fine (marked_by marks xs)
+marked_fine marks [] f = f
+marked_fine marks (x ∷ xs) f = record {
+  rising = (after_above (marks ++ above x) x xs f.rising.0, f.rising.1);
+  clean = (and_right (has_no_comment (with_above (marks ++ above x) x)) false refl, rw (text_above (marks ++ above x) x) f.clean.1);
+}
+
+sorted_fine : (xs : List Expr) → Fine (sorted xs)
+sorted_fine [] = record { rising = tt; clean = tt }
+sorted_fine (x ∷ xs) = elim (cases_Bool (list_any (λ y. precedes y x) xs)) [
+  | inl t ↦ rw t (marked_fine (keep_marks (above x)) (in_order (without_marks x ∷ xs)) (in_order_fine (without_marks x ∷ xs)))
+  | inr f ↦ rw f (in_order_fine (x ∷ xs))
+]
+
+-- ---- a list in which each item comes before the next one stays
+
+precedes_texts : IsStrictWeakOrder (λ (s t : Bytes). is_lt (key_order (between s) (between t)))
+precedes_texts = ranks_by key_total between
+
+abbrev Climbs : List Expr → Type 0
+Climbs [] = Unit {0}
+Climbs (x ∷ []) = Unit {0}
+Climbs (x ∷ y ∷ ys) = (precedes x y ≡ true) × Climbs (y ∷ ys)
+
+one_after : (k : ℕ) → suc k + 1 ≡ suc (k + 1)
+one_after k = omega arith
+
+climbs : (xs : List Expr) → AllAdjacentBelow (λ x y. true ≡ precedes x y) xs (length xs) → Climbs xs
+climbs [] h = tt
+climbs (x ∷ []) h = tt
+climbs (x ∷ y ∷ ys) h = (
+  sym (h 0 x (omega arith)),
+  climbs (y ∷ ys) (λ k d l.
+      subst (λ i. true ≡ precedes (get_or (y ∷ ys) k d) (get_or (x ∷ y ∷ ys) i d)) (one_after k) (h (suc k) d (omega arith))),
+)
+
+climbs_ordered : (xs : List Expr) → Climbs xs → Ordered precedes xs
+climbs_ordered [] c = tt
+climbs_ordered (x ∷ []) c = (tt, tt)
+climbs_ordered (x ∷ y ∷ ys) c = (order.one_way x y c.0, climbs_ordered (y ∷ ys) c.1)
+
+-- these texts come before the item
+abbrev Below : List Bytes → Expr → Type 0
+Below earlier x = AllByRecursion (λ t. is_lt (key_order (between t) (between (text_of x))) ≡ true) earlier
+
+still_before : (t : Bytes) (x y : Expr) → is_lt (key_order (between t) (between (text_of x))) ≡ true → precedes x y ≡ true → is_lt (key_order (between t) (between (text_of y))) ≡ true
+still_before t x y a b = elim (cases_Bool (is_lt (key_order (between t) (between (text_of y))))) [
+  | inl h ↦ h
+  | inr f ↦ absurd (true≢false (sym a ∙ precedes_texts.chain t (text_of y) (text_of x) f (order.one_way x y b)))
+]
+
+still_below : (earlier : List Bytes) (x y : Expr) → Below earlier x → precedes x y ≡ true → Below earlier y
+still_below [] x y a b = tt
+still_below (t ∷ ts) x y a b = (still_before t x y a.0 b, still_below ts x y a.1 b)
+
+other_text : (t : Bytes) (x : Expr) → is_lt (key_order (between t) (between (text_of x))) ≡ true → bytes_eq (text_of x) t ≡ false
+other_text t x a = elim (cases_Bool (bytes_eq (text_of x) t)) [
+  | inl h ↦
+      let same : text_of x ≡ t = (bytes_eq-Decides (text_of x) t).0 h in
+      let own : is_lt (key_order (between t) (between t)) ≡ true = subst (λ s. is_lt (key_order (between t) (between s)) ≡ true) same a in
+      absurd (true≢false (sym own ∙ precedes_texts.one_way t t own))
+  | inr f ↦ f
+]
+
+is_new : (earlier : List Bytes) (x : Expr) → Below earlier x → list_any (bytes_eq (text_of x)) earlier ≡ false
+is_new [] x a = refl
+is_new (t ∷ ts) x a = rw (other_text t x a.0) (is_new ts x a.1)
+
+kept_new : (earlier : List Bytes) (x : Expr) → Below earlier x → is_repeated earlier x ≡ false
+kept_new earlier x a = ap (λ b. has_no_comment x && b) (is_new earlier x a) ∙ and_right (has_no_comment x) false refl
+
+climbs_clean : (earlier : List Bytes) (x : Expr) (xs : List Expr) → Below earlier x → Climbs (x ∷ xs) → Clean earlier (x ∷ xs)
+climbs_clean earlier x [] a c = (kept_new earlier x a, tt)
+climbs_clean earlier x (y ∷ ys) a c = (kept_new earlier x a, climbs_clean (text_of x ∷ earlier) y ys (c.0, still_below earlier x y a c.0) c.1)
+
+climbs_fine : (xs : List Expr) → Climbs xs → Fine xs
+climbs_fine [] c = record { rising = tt; clean = tt }
+climbs_fine (x ∷ xs) c = record { rising = rises (x ∷ xs) (climbs_ordered (x ∷ xs) c); clean = climbs_clean [] x xs tt c }
+
+climbing_stays : (xs : List Expr) → AllAdjacentBelow (λ x y. true ≡ precedes x y) xs (length xs) → sorted xs ≡ xs
+climbing_stays xs h = fine_stays xs (climbs_fine xs (climbs xs h))
+
+answered : (xs : List Expr) (r : Bool) → IsAllAdjacentAnswer (λ x y b. b ≡ precedes x y) xs r → r ≡ true → sorted xs ≡ xs
+answered xs true h e = climbing_stays xs h
+answered xs false h e = absurd (true≢false (sym e))
+
+pub rising_stays : {F : Type 0} {g : Mut F (Bor Expr × (Bor Expr × Unit {0})) Bool} {f : F} (xs : List Expr) (r : Bool)
+    → ((e : Expr → Expr → Bool) → ComputesOnPairs g e f → IsAllAdjacentAnswer (λ x y b. b ≡ e x y) xs r)
+    → ((h : F) (a : Bor Expr × (Bor Expr × Unit {0})) (b : Bool) (h' : F) → Called g h a b h' → b ≡ precedes a.0.now a.1.0.now)
+    → r ≡ true → sorted xs ≡ xs
+rising_stays {F} {g} {f} xs r s k e = answered xs r (s precedes (answers_always g (λ a b. b ≡ precedes a.0.now a.1.0.now) f k)) e
+
+-- a list that rises stays, whether it is taken or not
+pub rising_settled : (outside : List Bytes) (b : Bool) (xs : List Expr) → sorted xs ≡ xs → settled_list outside b xs ≡ xs
+rising_settled outside b xs h = elim (cases_Bool (is_taken outside b xs)) [
+  | inl t ↦ rw t h
+  | inr f ↦ rw f refl
+]
+
+-- ---- where no comment moves
+
+own_above : (x : Expr) → with_above (above x) x ≡ x
+own_above (Token t) = refl
+own_above (Form' kind s parts s' items end split open_break comments) = refl
+
+marked_by_none : (xs : List Expr) → marked_by [] xs ≡ xs
+marked_by_none [] = refl
+marked_by_none (x ∷ xs) = ap (λ y. y ∷ xs) (own_above x)
+
+pub unpassed_in_order : (xs : List Expr) → is_passed xs ≡ false → sorted xs ≡ in_order xs
+unpassed_in_order [] h = refl
+unpassed_in_order (x ∷ xs) h = rw h refl
+
+bare_first : (xs : List Expr) → above_first xs ≡ [] → sorted xs ≡ in_order xs
+bare_first [] h = refl
+bare_first (x ∷ xs) h = elim (cases_Bool (list_any (λ y. precedes y x) xs)) [
+  | inl t ↦ rw t (ap (λ a. marked_by (keep_marks a) (in_order (with_above (other_comments a) x ∷ xs))) h
+      ∙ (marked_by_none (in_order (with_above [] x ∷ xs)) ∙ ap (λ y. in_order (y ∷ xs)) (ap (λ a. with_above a x) (sym h) ∙ own_above x)))
+  | inr f ↦ rw f refl
+]
+
+pub bare_in_order : (comments : List Bytes) (xs : List Expr) → comments ≡ above_first xs → length comments < 1 → sorted xs ≡ in_order xs
+bare_in_order [] xs e h = bare_first xs (sym e)
+bare_in_order (text ∷ texts) xs e h = absurd (omega arith)
+
+pub list_settles : (outside : List Bytes) (b : Bool) → Settles (settled_list outside b)
+list_settles outside b xs = elim (cases_Bool (is_taken outside b xs)) [
+  | inl t ↦ rw t (elim (cases_Bool (is_taken outside b (sorted xs))) [
+    | inl u ↦ rw u (fine_stays (sorted xs) (sorted_fine xs))
+    | inr f ↦ rw f refl
+  ])
+  | inr f ↦ rw (f, f) refl
+]
+
+-- ---- what holds of each item whatever is above it
+
+module _ (P : Expr → Type 0) (anyway : (a : List Bytes) (x : Expr) → P x → P (with_above a x)) where
+  in_order_all : (xs : List Expr) → AllByRecursion P xs → AllByRecursion P (in_order xs)
+  in_order_all xs h = unrepeated_all P [] (sort_by precedes xs) (sort_all precedes P xs h)
+
+  marked_all : (marks : List Bytes) (xs : List Expr) → AllByRecursion P xs → AllByRecursion P (marked_by marks xs)
+  marked_all marks [] h = tt
+  marked_all marks (x ∷ xs) h = (anyway (marks ++ above x) x h.0, h.1)
+
+  sorted_all : (xs : List Expr) → AllByRecursion P xs → AllByRecursion P (sorted xs)
+  sorted_all [] h = tt
+  sorted_all (x ∷ xs) h = elim (cases_Bool (list_any (λ y. precedes y x) xs)) [
+    | inl t ↦ rw t (marked_all (keep_marks (above x)) (in_order (without_marks x ∷ xs)) (in_order_all (without_marks x ∷ xs) (anyway (other_comments (above x)) x h.0, h.1)))
+    | inr f ↦ rw f (in_order_all (x ∷ xs) h)
+  ]
+
+  pub settled_all : (outside : List Bytes) (b : Bool) (xs : List Expr) → AllByRecursion P xs → AllByRecursion P (settled_list outside b xs)
+  settled_all outside b xs h = elim (cases_Bool (is_taken outside b xs)) [
+    | inl t ↦ rw t (sorted_all xs h)
+    | inr f ↦ rw f h
+  ]
+
+each_fixed : (p : Expr → Expr) (xs : List Expr) → map p xs ≡ xs → AllByRecursion (λ x. p x ≡ x) xs
+each_fixed p [] e = tt
+each_fixed p (x ∷ xs) e = (same_first (p x) x (map p xs) xs e, each_fixed p xs (same_after (p x) x (map p xs) xs e))
+
+fixed_each : (p : Expr → Expr) (xs : List Expr) → AllByRecursion (λ x. p x ≡ x) xs → map p xs ≡ xs
+fixed_each p [] h = refl
+fixed_each p (x ∷ xs) h = both (λ z zs. z ∷ zs) h.0 (fixed_each p xs h.1)
+
+pub list_keeps : (p : Expr → Expr) → ((a : List Bytes) (x : Expr) → p (with_above a x) ≡ with_above a (p x)) → (outside : List Bytes) (b : Bool) → Keeps (settled_list outside b) (map p)
+list_keeps p h outside b xs e =
+    fixed_each p (settled_list outside b xs)
+    (settled_all (λ x. p x ≡ x) (λ a x i. h a x ∙ ap (with_above a) i) outside b xs (each_fixed p xs e))
+
+-- ---- a change that the sorting does not see
+
+any_map : (g : Expr → Expr) (p q : Expr → Bool) → ((x : Expr) → p (g x) ≡ q x) → (xs : List Expr) → list_any p (map g xs) ≡ list_any q xs
+any_map g p q h [] = refl
+any_map g p q h (x ∷ xs) = both (λ a b. a || b) (h x) (any_map g p q h xs)
+
+all_map : (g : Expr → Expr) (p q : Expr → Bool) → ((x : Expr) → p (g x) ≡ q x) → (xs : List Expr) → list_all p (map g xs) ≡ list_all q xs
+all_map g p q h [] = refl
+all_map g p q h (x ∷ xs) = both (λ a b. a && b) (h x) (all_map g p q h xs)
+
+module _ (g : Expr → Expr) (text : (x : Expr) → text_of (g x) ≡ text_of x) (class : (x : Expr) → has_class c.String (g x) ≡ has_class c.String x)
+    (comments : (x : Expr) → comments_of (g x) ≡ comments_of x) (put : (a : List Bytes) (x : Expr) → with_above a (g x) ≡ g (with_above a x)) where
+  same_above : (x : Expr) → above (g x) ≡ above x
+  same_above x = ap (λ k. k.before) (comments x)
+
+  unseen : (x y : Expr) → precedes (g x) (g y) ≡ precedes x y
+  unseen x y = rw (text x, text y) refl
+
+  same_bare : (x : Expr) → has_no_comment (g x) ≡ has_no_comment x
+  same_bare x = ap (λ (k : HostComments). is_empty k.before && is_none k.suffix) (comments x)
+
+  first_above : (xs : List Expr) → above_first (map g xs) ≡ above_first xs
+  first_above [] = refl
+  first_above (x ∷ xs) = same_above x
+
+  same_taken : (outside : List Bytes) (b : Bool) (xs : List Expr) → is_taken outside b (map g xs) ≡ is_taken outside b xs
+  same_taken outside b xs =
+      rw (first_above xs, all_map g (has_class c.String) (has_class c.String) class xs, any_map g has_above has_above (λ x. ap (λ (k : HostComments). not (is_empty k.before)) (comments x)) xs) refl
+
+  unrepeated_map : (earlier : List Bytes) (xs : List Expr) → without_repeats earlier (map g xs) ≡ map g (without_repeats earlier xs)
+  unrepeated_map earlier [] = refl
+  unrepeated_map earlier (x ∷ xs) = elim (cases_Bool (is_repeated earlier x)) [
+    | inl t ↦ rw (same_bare x, text x, t) (unrepeated_map earlier xs)
+    | inr f ↦ rw (same_bare x, text x, f) (ap (λ z. g x ∷ z) (unrepeated_map (text_of x ∷ earlier) xs))
+  ]
+
+  in_order_map : (xs : List Expr) → in_order (map g xs) ≡ map g (in_order xs)
+  in_order_map xs = ap (without_repeats []) (sort_map precedes g unseen xs) ∙ unrepeated_map [] (sort_by precedes xs)
+
+  marked_map : (marks : List Bytes) (xs : List Expr) → marked_by marks (map g xs) ≡ map g (marked_by marks xs)
+  marked_map marks [] = refl
+  marked_map marks (x ∷ xs) = ap (λ z. z ∷ map g xs) (ap (λ a. with_above (marks ++ a) (g x)) (same_above x) ∙ put (marks ++ above x) x)
+
+  unmarked_map : (x : Expr) → without_marks (g x) ≡ g (without_marks x)
+  unmarked_map x = ap (λ a. with_above (other_comments a) (g x)) (same_above x) ∙ put (other_comments (above x)) x
+
+  sorted_map : (xs : List Expr) → sorted (map g xs) ≡ map g (sorted xs)
+  sorted_map [] = refl
+  sorted_map (x ∷ xs) = elim (cases_Bool (list_any (λ y. precedes y x) xs)) [
+    | inl t ↦ rw (any_map g (λ y. precedes y (g x)) (λ y. precedes y x) (λ y. unseen y x) xs, t) (
+        both (λ a ys. marked_by (keep_marks a) ys) (same_above x) (ap (λ y. in_order (y ∷ map g xs)) (unmarked_map x) ∙ in_order_map (without_marks x ∷ xs))
+        ∙ marked_map (keep_marks (above x)) (in_order (without_marks x ∷ xs)))
+    | inr f ↦ rw (any_map g (λ y. precedes y (g x)) (λ y. precedes y x) (λ y. unseen y x) xs, f) (in_order_map (x ∷ xs))
+  ]
+
+  pub keeps_list : (outside : List Bytes) (b : Bool) → Keeps (map g) (settled_list outside b)
+  keeps_list outside b xs e = elim (cases_Bool (is_taken outside b xs)) [
+    | inl t ↦ let e' = rw t at e in rw (same_taken outside b xs, t) (sorted_map xs ∙ ap (map g) e')
+    | inr f ↦ rw (same_taken outside b xs, f) refl
+  ]

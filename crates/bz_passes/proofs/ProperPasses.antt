@@ -1,0 +1,129 @@
+-- Each pass keeps file values proper.
+use Rattle.std.proofs.Common.{Bool, true, false, ◌≡◌, List, inl, inr, map, subst}
+use Rattle.std.specs.Prelude.{Option, Some, None}
+use Rattle.std.proofs.lemmas.Bool.{cases_Bool}
+use Rattle.std.proofs.lemmas.List.Elements.{All-map, All-weaker, All-from_recursion, recursion_from_All}
+use Rattle.bz_token.specs.declared.class.Class.TheVariants as c
+use Rattle.bz_grammar.specs.declared.kind.Kind.TheVariants as k
+use Rattle.bz_grammar.specs.Shapes as s
+use Rattle.bz_grammar.specs.Shapes.{is_class}
+use Rattle.bz_grammar.specs.Spots.{Begins}
+use Rattle.bz_label.specs.Tables.{is_sorted, is_label_attribute}
+use Rattle.bz_value.specs.declared.value.Expr.{Expr, Token, Form', Row_of-Expr, end_of-Expr, more_of-Expr, items-the_row-Expr}
+use Rattle.bz_value.specs.declared.value.Item.{Item}
+use Rattle.bz_value.specs.declared.value.Item.TheVariants as i
+use Rattle.bz_items.specs.Characters.{Bytes}
+use Rattle.bz_value.specs.Proper.{AreComments, IsProperItem, IsProper}
+use Rattle.bz_layout.proofs.FlaggedProper.{flags_proper}
+use Rattle.bz_rule.specs.Values.{has_kind, has_class, text_of, parts_of, with_text, above, on_items, on_first, on_third, first_text, on_lists}
+use Rattle.bz_passes.specs.Orders.{sort_by}
+use Rattle.bz_passes.specs.Strings.{with_double, shorter_string}
+use Rattle.bz_passes.specs.Marks.{any_marked, leave_alone}
+use Rattle.bz_passes.specs.Lists.{settled_list}
+use Rattle.bz_passes.specs.Passes.{on_statement, taken, on_taken, rule_kind, of_rule, on_call, on_rule_arguments, on_attribute, quoted, each_quoted, quotes, labelled, labelled_value, labels_in, labels, sorted_value, in_assign, lists_in, lists, argument_precedes, arguments_in, arguments, symbol_precedes, symbols_in, symbols, load_precedes, loads, tidied}
+use Rattle.bz_rule.proofs.ProperForms.{InPlace, itself, EachInPlace, none, both, all_itself, each_mapped, lists_in_place}
+use Rattle.bz_rule.proofs.ProperChanges.{by_test, Stays, EachStays, row_stays, items_stay, first_stays, third_stays, lists_stay, string_in_place}
+use Rattle.bz_passes.proofs.ProperStrings.{double_string, shorter_is_string}
+use Rattle.bz_rule.proofs.ProperSequences.{IsItem, Keeps, where_true, list_in_place, call_in_place, load_in_place}
+use Rattle.bz_passes.proofs.ProperSorted.{settled_items}
+use Rattle.bz_passes.proofs.Sorting.{sort_all}
+
+-- ---- changes of statements and of rules
+
+rule_stays : (change : Bytes → List Expr → List Expr) → ((o : Option Bytes) → Stays (on_items k.Call (of_rule change o))) → Stays (on_rule_arguments change)
+rule_stays change h = row_stays k.Bare (on_first (on_call change)) (first_stays (on_call change) (λ x. h (rule_kind (parts_of x)) x))
+
+attributes_stay : (change : Bytes → Bytes → List Bytes → Expr → Expr) → ((kind name : Bytes) (outside : List Bytes) → Stays (change kind name outside)) → (o : Option Bytes) → EachStays (of_rule (λ kind. map (on_attribute (change kind))) o)
+attributes_stay change h None xs = all_itself xs
+attributes_stay change h (Some kind) xs =
+    each_mapped (on_attribute (change kind)) (λ x. row_stays k.Named (on_third (change kind (first_text (parts_of x)) (above x))) (third_stays (change kind (first_text (parts_of x)) (above x)) (h kind (first_text (parts_of x)) (above x))) x) xs
+
+-- the values of a rule's attributes
+values_stay : (change : Bytes → Bytes → List Bytes → Expr → Expr) → ((kind name : Bytes) (outside : List Bytes) → Stays (change kind name outside)) → Stays (on_rule_arguments (λ kind. map (on_attribute (change kind))))
+values_stay change h = rule_stays (λ kind. map (on_attribute (change kind))) (λ o. items_stay k.Call (of_rule (λ kind. map (on_attribute (change kind))) o) (attributes_stay change h o))
+
+statement_proper : (change : Expr → Expr) → Stays change → (item : Item) → IsProperItem item → IsProperItem (on_statement change item)
+statement_proper change h (i.Block texts) w = w
+statement_proper change h (i.Stmt x) w = let r = h x in (subst (λ b. b ≡ true) r.statement w.0, r.proper Begins w.1, subst AreComments r.comments w.2)
+
+taken_stays : (change : Expr → Expr) → Stays change → Stays (taken change)
+taken_stays change h x = by_test (InPlace x) (any_marked leave_alone (above x)) x (change x) (itself x) (h x)
+
+taken_proper : (change : Expr → Expr) → Stays change → (items : List Item) → IsProper items → IsProper (on_taken change items)
+taken_proper change h items w =
+    All-map IsProperItem (on_statement (taken change)) items (All-weaker IsProperItem (λ x. IsProperItem (on_statement (taken change) x)) (statement_proper (taken change) (taken_stays change h)) items w)
+
+-- ---- quotes
+
+mutual
+  quoted_stays : Stays quoted
+  quoted_stays (Token t) = elim (cases_Bool (is_class t.class c.String)) [
+    | inl w ↦ rw w (string_in_place (with_double t.text) (Token t) w (double_string t.text))
+    | inr w ↦ rw w (itself (Token t))
+  ]
+  quoted_stays (Form' kind s parts s' items end split open_break comments) =
+      lists_in_place (each_quoted parts) (each_quoted items) (Form' kind s parts s' items end split open_break comments) (each_quoted_stays _ parts) (each_quoted_stays _ items)
+
+  each_quoted_stays : (m : _) (r : Row_of-Expr m) → EachInPlace (items-the_row-Expr m r) (each_quoted r)
+  each_quoted_stays m end_of-Expr = none
+  each_quoted_stays m (more_of-Expr x rest) = both x (quoted x) _ _ (quoted_stays x) (each_quoted_stays _ rest)
+
+pub quotes_proper : (items : List Item) → IsProper items → IsProper (quotes items)
+quotes_proper = taken_proper quoted quoted_stays
+
+-- ---- labels
+
+labelled_stays : Stays labelled
+labelled_stays x = where_true (has_class c.String x) x (with_text (shorter_string (text_of x)) x) (λ is. string_in_place (shorter_string (text_of x)) x is (shorter_is_string (text_of x)))
+
+labelled_value_stays : (name : Bytes) (outside : List Bytes) → Stays (labelled_value name outside)
+labelled_value_stays name outside x =
+    where_true (is_label_attribute name) x (on_lists (map labelled) x) (λ is. lists_stay (map labelled) (items_stay k.List (map labelled) (each_mapped labelled labelled_stays)) x)
+
+pub labels_proper : (items : List Item) → IsProper items → IsProper (labels items)
+labels_proper = taken_proper labels_in (values_stay (λ kind. labelled_value) (λ kind. labelled_value_stays))
+
+-- ---- lists
+
+settled_stays : (outside : List Bytes) (by_table : Bool) → Stays (on_lists (settled_list outside by_table))
+settled_stays outside by_table = lists_stay (settled_list outside by_table) (list_in_place (settled_list outside by_table) (settled_items s.test outside by_table))
+
+lists_in_stays : Stays lists_in
+lists_in_stays x =
+    by_test (InPlace x) (has_kind k.Assign x) (in_assign x) (on_rule_arguments (λ kind. map (on_attribute (sorted_value kind))) x)
+    (row_stays k.Assign (on_third (on_lists (settled_list (above x) false))) (third_stays (on_lists (settled_list (above x) false)) (settled_stays (above x) false)) x)
+    (values_stay sorted_value (λ kind name outside. settled_stays outside (is_sorted kind name)) x)
+
+pub lists_proper : (items : List Item) → IsProper items → IsProper (lists items)
+lists_proper = taken_proper lists_in lists_in_stays
+
+-- ---- arguments
+
+arguments_kept : (o : Option Bytes) → Keeps s.argument (of_rule (λ kind. sort_by argument_precedes) o)
+arguments_kept None xs h = h
+arguments_kept (Some kind) xs h = sort_all argument_precedes (IsItem s.argument) xs h
+
+pub arguments_proper : (items : List Item) → IsProper items → IsProper (arguments items)
+arguments_proper = taken_proper arguments_in (rule_stays (λ kind. sort_by argument_precedes) (λ o. call_in_place (of_rule (λ kind. sort_by argument_precedes) o) (arguments_kept o)))
+
+-- ---- symbols
+
+pub symbols_proper : (items : List Item) → IsProper items → IsProper (symbols items)
+symbols_proper = taken_proper symbols_in (load_in_place (sort_by symbol_precedes) (sort_all symbol_precedes (IsItem s.loaded)))
+
+-- ---- loads
+
+pub loads_proper : (items : List Item) → IsProper items → IsProper (loads items)
+loads_proper items h = All-from_recursion IsProperItem (loads items) (sort_all load_precedes IsProperItem items (recursion_from_All IsProperItem items h))
+
+-- ---- all in turn
+
+pub tidied_proper : (items : List Item) → IsProper items → IsProper (tidied items)
+tidied_proper items h =
+    flags_proper (loads (symbols (arguments (lists (labels (quotes items))))))
+    (loads_proper (symbols (arguments (lists (labels (quotes items)))))
+    (symbols_proper (arguments (lists (labels (quotes items))))
+    (arguments_proper (lists (labels (quotes items)))
+    (lists_proper (labels (quotes items))
+    (labels_proper (quotes items)
+    (quotes_proper items h))))))

@@ -1,0 +1,152 @@
+-- A list that is sorted holds the strings that it held.
+use Rattle.std.proofs.Common.{suc, Bool, true, ◌&&◌, List, [], ◌∷◌, ◌++◌, ◌≡◌, ◌⊎◌, refl, sym, ap, map, subst, inl, inr, arith}
+use Rattle.std.specs.Prelude.{Contains, bytes_eq}
+use Rattle.std.specs.List.{list_any, list_all, AllByRecursion}
+use Rattle.std.specs.List.Sorted.{IsPermutation}
+use Rattle.std.proofs.lemmas.Bool.{cases_Bool, and_parts}
+use Rattle.std.proofs.lemmas.List.Elements.{All-from_recursion}
+use Rattle.std.proofs.lemmas.List.Sorted.{IsPermutation-refl, IsPermutation-cons, IsPermutation-map, IsPermutation-middle, IsPermutation-sym, IsPermutation-trans}
+use Rattle.std.proofs.lemmas.Slice.Eq.{bytes_eq-Decides}
+use Rattle.bz_token.specs.declared.class.Class.TheVariants as c
+use Rattle.bz_value.specs.declared.value.Expr.{Expr, Token, Form'}
+use Rattle.bz_items.specs.Characters.{Bytes}
+use Rattle.bz_rule.specs.Values.{has_class, text_of, above, with_above}
+use Rattle.bz_passes.specs.Orders.{sort_by}
+use Rattle.bz_passes.specs.Marks.{keep_marks, other_comments}
+use Rattle.bz_passes.specs.Lists.{is_taken, precedes, has_no_comment, without_repeats, in_order, without_marks, marked_by, sorted, settled_list}
+use Rattle.bz_passes.specs.Programs.{HoldsTheStrings, IsSameList}
+use Rattle.bz_passes.proofs.Listed.{text_above, settled_all}
+use Rattle.bz_passes.proofs.TheOne.{sort_same}
+
+abbrev texts : List Expr → List Bytes
+texts xs = map text_of xs
+
+-- ---- elements
+
+abbrev In : List Bytes → Bytes → Type 0
+In [] t = ⊥
+In (s ∷ ss) t = (s ≡ t) ⊎ In ss t
+
+contained : (ss : List Bytes) (t : Bytes) → In ss t → Contains ss t
+contained [] t h = absurd h
+contained (s ∷ ss) t (inl e) = (0, omega arith, e)
+contained (s ∷ ss) t (inr h) = let i = contained ss t h in (suc i.0, omega (arith, i.1), i.2)
+
+found : (t : Bytes) (ss : List Bytes) → list_any (bytes_eq t) ss ≡ true → In ss t
+found t [] h = cc
+found t (s ∷ ss) h = elim (cases_Bool (bytes_eq t s)) [
+  | inl w ↦ inl (sym ((bytes_eq-Decides t s).0 w))
+  | inr w ↦ let h' : list_any (bytes_eq t) ss ≡ true = rw w at h in inr (found t ss h')
+]
+
+-- ---- dropping repeats
+
+-- ys is xs but for texts that are gone, each of which is an earlier one or is in ys
+record Leaves (earlier : List Bytes) (xs ys : List Expr) : Type 0 where
+  gone : List Bytes
+  same : IsPermutation (texts xs) (texts ys ++ gone)
+  repeats : AllByRecursion (λ t. In earlier t ⊎ In (texts ys) t) gone
+
+moved : (earlier : List Bytes) (t : Bytes) (ss : List Bytes) (u : Bytes) → In (t ∷ earlier) u ⊎ In ss u → In earlier u ⊎ In (t ∷ ss) u
+moved earlier t ss u (inl (inl e)) = inr (inl e)
+moved earlier t ss u (inl (inr i)) = inl i
+moved earlier t ss u (inr i) = inr (inr i)
+
+after_kept : (earlier : List Bytes) (t : Bytes) (ss gone : List Bytes) → AllByRecursion (λ u. In (t ∷ earlier) u ⊎ In ss u) gone → AllByRecursion (λ u. In earlier u ⊎ In (t ∷ ss) u) gone
+after_kept earlier t ss [] h = tt
+after_kept earlier t ss (u ∷ us) h = (moved earlier t ss u h.0, after_kept earlier t ss us h.1)
+
+dropped : (earlier : List Bytes) (x : Expr) (xs ys : List Expr) → In earlier (text_of x) → Leaves earlier xs ys → Leaves earlier (x ∷ xs) ys
+dropped earlier x xs ys i l = record {
+  gone = text_of x ∷ l.gone;
+  same = IsPermutation-trans (text_of x ∷ texts xs) (text_of x ∷ (texts ys ++ l.gone)) (texts ys ++ text_of x ∷ l.gone)
+      (IsPermutation-cons (text_of x) (texts xs) (texts ys ++ l.gone) l.same)
+      (IsPermutation-sym (texts ys ++ text_of x ∷ l.gone) (text_of x ∷ (texts ys ++ l.gone)) (IsPermutation-middle (texts ys) (text_of x) l.gone));
+  repeats = (inl i, l.repeats);
+}
+
+kept : (earlier : List Bytes) (x : Expr) (xs ys : List Expr) → Leaves (text_of x ∷ earlier) xs ys → Leaves earlier (x ∷ xs) (x ∷ ys)
+kept earlier x xs ys l = record {
+  gone = l.gone;
+  same = IsPermutation-cons (text_of x) (texts xs) (texts ys ++ l.gone) l.same;
+  repeats = after_kept earlier (text_of x) (texts ys) l.gone l.repeats;
+}
+
+unrepeated_leaves : (earlier : List Bytes) (xs : List Expr) → Leaves earlier xs (without_repeats earlier xs)
+unrepeated_leaves earlier [] = record { gone = []; same = IsPermutation-refl []; repeats = tt }
+unrepeated_leaves earlier (x ∷ xs) = elim (cases_Bool (has_no_comment x && list_any (bytes_eq (text_of x)) earlier)) [
+  | inl w ↦ rw w (dropped earlier x xs (without_repeats earlier xs) (found (text_of x) earlier (and_parts (has_no_comment x) _ w).1) (unrepeated_leaves earlier xs))
+  | inr w ↦ rw w (kept earlier x xs (without_repeats (text_of x ∷ earlier) xs) (unrepeated_leaves (text_of x ∷ earlier) xs))
+]
+
+-- ---- a list in order
+
+-- the same of lists of texts
+record Held (ss ts : List Bytes) : Type 0 where
+  gone : List Bytes
+  same : IsPermutation ss (ts ++ gone)
+  repeats : AllByRecursion (In ts) gone
+
+only : (ts : List Bytes) (u : Bytes) → In [] u ⊎ In ts u → In ts u
+only ts u (inl none) = absurd none
+only ts u (inr i) = i
+
+none_earlier : (ts gone : List Bytes) → AllByRecursion (λ t. In [] t ⊎ In ts t) gone → AllByRecursion (In ts) gone
+none_earlier ts [] h = tt
+none_earlier ts (u ∷ us) h = (only ts u h.0, none_earlier ts us h.1)
+
+in_order_held : (xs : List Expr) → Held (texts xs) (texts (in_order xs))
+in_order_held xs =
+    let l = unrepeated_leaves [] (sort_by precedes xs) in
+    record {
+      gone = l.gone;
+      same = IsPermutation-trans (texts xs) (texts (sort_by precedes xs)) (texts (in_order xs) ++ l.gone) (IsPermutation-map text_of xs (sort_by precedes xs) (sort_same precedes xs)) l.same;
+      repeats = none_earlier (texts (in_order xs)) l.gone l.repeats;
+    }
+
+marked_texts : (marks : List Bytes) (xs : List Expr) → texts (marked_by marks xs) ≡ texts xs
+marked_texts marks [] = refl
+marked_texts marks (x ∷ xs) = ap (λ t. t ∷ texts xs) (text_above (marks ++ above x) x)
+
+sorted_held : (xs : List Expr) → Held (texts xs) (texts (sorted xs))
+sorted_held [] = record { gone = []; same = IsPermutation-refl []; repeats = tt }
+sorted_held (x ∷ xs) = elim (cases_Bool (list_any (λ y. precedes y x) xs)) [
+  | inl w ↦ rw w (subst (λ ts. Held (texts (x ∷ xs)) ts) (sym (marked_texts (keep_marks (above x)) (in_order (without_marks x ∷ xs))))
+      (subst (λ t. Held (t ∷ texts xs) (texts (in_order (without_marks x ∷ xs)))) (text_above (other_comments (above x)) x) (in_order_held (without_marks x ∷ xs))))
+  | inr w ↦ rw w (in_order_held (x ∷ xs))
+]
+
+-- ---- strings
+
+abbrev pub IsText : Expr → Type 0
+IsText x = has_class c.String x ≡ true
+
+pub class_above : (a : List Bytes) (x : Expr) → IsText x → IsText (with_above a x)
+class_above a (Token t) h = h
+class_above a (Form' kind s parts s' items end split open_break comments) h = h
+
+pub all_texts : (xs : List Expr) → list_all (has_class c.String) xs ≡ true → AllByRecursion IsText xs
+all_texts [] h = tt
+all_texts (x ∷ xs) h = ((and_parts (has_class c.String x) _ h).0, all_texts xs (and_parts (has_class c.String x) (list_all (has_class c.String) xs) h).1)
+
+contained_all : (ts gone : List Bytes) → AllByRecursion (In ts) gone → AllByRecursion (Contains ts) gone
+contained_all ts [] h = tt
+contained_all ts (u ∷ us) h = (contained ts u h.0, contained_all ts us h.1)
+
+holds : (old new : List Expr) → AllByRecursion IsText new → Held (texts old) (texts new) → HoldsTheStrings old new
+holds old new strings h = record {
+  strings = All-from_recursion IsText new strings;
+  gone = h.gone;
+  same = h.same;
+  repeats = All-from_recursion (Contains (texts new)) h.gone (contained_all (texts new) h.gone h.repeats);
+}
+
+pub list_same : (outside : List Bytes) (by_table : Bool) (xs : List Expr) → IsSameList (is_taken outside by_table xs) xs (settled_list outside by_table xs)
+list_same outside by_table xs = elim (cases_Bool (is_taken outside by_table xs)) [
+  | inl w ↦
+      let strings : AllByRecursion IsText xs = all_texts xs (and_parts _ (list_all (has_class c.String) xs) (and_parts _ _ w).0).1 in
+      let still : AllByRecursion IsText (settled_list outside by_table xs) = settled_all IsText class_above outside by_table xs strings in
+      let still' : AllByRecursion IsText (sorted xs) = rw w at still in
+      rw w (holds xs (sorted xs) still' (sorted_held xs))
+  | inr w ↦ rw w refl
+]

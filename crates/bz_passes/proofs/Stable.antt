@@ -1,0 +1,159 @@
+-- The sorted list is the one that is in order and stable: so whatever sorts stably gives it.
+use Rattle.std.proofs.Common.{suc, ◌+◌, Bool, true, false, not, ◌&&◌, List, [], ◌∷◌, ◌≡◌, refl, sym, ap, ◌∙◌, subst, inl, inr, arith, get_or}
+use Rattle.std.proofs.lemmas.Bool.{cases_Bool, true≢false}
+use Rattle.std.specs.List.{filter, AllByRecursion}
+use Rattle.std.specs.List.Sorted.{IsSortedBy, IsStableBy, ties}
+use Rattle.std.specs.Cmp.{IsStrictWeakOrder}
+use Rattle.std.specs.Fn.{Called, ComparesAs}
+use Rattle.std.specs.Ordering.{is_lt}
+use Rattle.std.specs.declared.cmp.Ordering.{Ordering}
+use denote.Ref.{Bor}
+use denote.Param.Members.{Mut}
+use Rattle.std.proofs.lemmas.List.Sorted.{answers_always}
+use Rattle.bz_passes.specs.Orders.{insert_by, sort_by}
+use Rattle.bz_passes.specs.Rising.{NoneBefore, Rises}
+use Rattle.bz_passes.proofs.Keeping.{same_first, same_after}
+
+module _ {X : Type 0} where
+  same_both : {x y : X} {xs ys : List X} → x ≡ y → xs ≡ ys → x ∷ xs ≡ y ∷ ys
+  same_both {x} {y} {xs} {ys} d e = ap (λ z. z ∷ xs) d ∙ ap (λ zs. y ∷ zs) e
+
+module _ {X : Type 0} (lt : X → X → Bool) (o : IsStrictWeakOrder lt) where
+  pub after_too : (x y : X) (zs : List X) → lt x y ≡ false → NoneBefore lt x zs → NoneBefore lt y zs
+  after_too x y [] h a = tt
+  after_too x y (z ∷ zs) h a = (o.chain z x y a.0 h, after_too x y zs h a.1)
+
+  own : (x : X) → lt x x ≡ false
+  own x = elim (cases_Bool (lt x x)) [
+    | inl t ↦ o.one_way x x t
+    | inr f ↦ f
+  ]
+
+  own_ties : (x : X) → ties lt x x ≡ true
+  own_ties x = rw (own x) refl
+
+  filtered : (Q : X → Type 0) (p : X → Bool) (y : X) (ys xs : List X) → AllByRecursion Q xs → filter p xs ≡ y ∷ ys → Q y
+  filtered Q p y ys [] h e = cc
+  filtered Q p y ys (x ∷ xs) h e = elim (cases_Bool (p x)) [
+    | inl t ↦ let e' : x ∷ filter p xs ≡ y ∷ ys = rw t at e in subst Q (same_first x y (filter p xs) ys e') h.0
+    | inr f ↦ let e' : filter p xs ≡ y ∷ ys = rw f at e in filtered Q p y ys xs h.1 e'
+  ]
+
+  at_first : (p : X → Bool) (x : X) (xs : List X) → p x ≡ true → filter p (x ∷ xs) ≡ x ∷ filter p xs
+  at_first p x xs h = rw h refl
+
+  cancel : (p : X → Bool) (x : X) (xs ys : List X) → filter p (x ∷ xs) ≡ filter p (x ∷ ys) → filter p xs ≡ filter p ys
+  cancel p x xs ys e = elim (cases_Bool (p x)) [
+    | inl t ↦ let e' : x ∷ filter p xs ≡ x ∷ filter p ys = rw t at e in same_after x x (filter p xs) (filter p ys) e'
+    | inr f ↦ let e' : filter p xs ≡ filter p ys = rw f at e in e'
+  ]
+
+  tied : (x y : X) → lt x y ≡ false → lt y x ≡ false → ties lt x y ≡ true
+  tied x y a b = rw (a, b) refl
+
+  -- two lists in order with the same ties are one
+  pub one_order : (xs ys : List X) → Rises lt xs → Rises lt ys → ((x : X) → filter (ties lt x) xs ≡ filter (ties lt x) ys) → xs ≡ ys
+  one_order [] [] a b h = refl
+  one_order [] (y ∷ ys) a b h = let e : [] ≡ y ∷ filter (ties lt y) ys = h y ∙ at_first (ties lt y) y ys (own_ties y) in cc
+  one_order (x ∷ xs) [] a b h = let e : x ∷ filter (ties lt x) xs ≡ [] = sym (at_first (ties lt x) x xs (own_ties x)) ∙ h x in cc
+  one_order (x ∷ xs) (y ∷ ys) a b h =
+      let u : lt x y ≡ false = filtered (λ z. lt z y ≡ false) (ties lt x) x (filter (ties lt x) xs) (y ∷ ys) (own y, b.0) (sym (h x) ∙ at_first (ties lt x) x xs (own_ties x)) in
+      let v : lt y x ≡ false = filtered (λ z. lt z x ≡ false) (ties lt y) y (filter (ties lt y) ys) (x ∷ xs) (own x, a.0) (h y ∙ at_first (ties lt y) y ys (own_ties y)) in
+      let e : x ≡ y = same_first x y (filter (ties lt x) xs) (filter (ties lt x) ys) (sym (at_first (ties lt x) x xs (own_ties x)) ∙ (h x ∙ at_first (ties lt x) y ys (tied x y u v))) in
+      same_both e (one_order xs ys a.1 b.1 (λ z. cancel (ties lt z) y xs ys (ap (λ w. filter (ties lt z) (w ∷ xs)) (sym e) ∙ h z)))
+
+  -- ---- insertion keeps the order
+
+  insert_after : (z x : X) (ys : List X) → lt x z ≡ false → NoneBefore lt z ys → NoneBefore lt z (insert_by lt x ys)
+  insert_after z x [] h a = (h, tt)
+  insert_after z x (y ∷ ys) h a = elim (cases_Bool (lt y x)) [
+    | inl t ↦ rw t (a.0, insert_after z x ys h a.1)
+    | inr f ↦ rw f (h, a)
+  ]
+
+  insert_rises : (x : X) (ys : List X) → Rises lt ys → Rises lt (insert_by lt x ys)
+  insert_rises x [] r = (tt, tt)
+  insert_rises x (y ∷ ys) r = elim (cases_Bool (lt y x)) [
+    | inl t ↦ rw t (insert_after y x ys (o.one_way y x t) r.0, insert_rises x ys r.1)
+    | inr f ↦ rw f ((f, after_too y x ys f r.0), r)
+  ]
+
+  pub sort_rises : (xs : List X) → Rises lt (sort_by lt xs)
+  sort_rises [] = tt
+  sort_rises (x ∷ xs) = insert_rises x (sort_by lt xs) (sort_rises xs)
+
+  -- ---- insertion is stable
+
+  and_second : (a b : Bool) → (a && b) ≡ true → b ≡ true
+  and_second true b h = h
+  and_second false b h = cc
+
+  and_front : (a b : Bool) → (a && b) ≡ true → a ≡ true
+  and_front true b h = refl
+  and_front false b h = h
+
+  not_true : (b : Bool) → not b ≡ true → b ≡ false
+  not_true true h = sym h
+  not_true false h = refl
+
+  past : (p : X → Bool) (y w : X) (us ys : List X) → p y ≡ false → filter p us ≡ filter p (w ∷ ys) → filter p (y ∷ us) ≡ filter p (w ∷ y ∷ ys)
+  past p y w us ys f h = elim (cases_Bool (p w)) [
+    | inl t ↦ let h' : filter p us ≡ w ∷ filter p ys = rw t at h in rw (f, t) h'
+    | inr g ↦ let h' : filter p us ≡ filter p ys = rw g at h in rw (f, g) h'
+  ]
+
+  alone : (p : X → Bool) (y w : X) (us ys : List X) → p y ≡ true → p w ≡ false → filter p us ≡ filter p (w ∷ ys) → filter p (y ∷ us) ≡ filter p (w ∷ y ∷ ys)
+  alone p y w us ys t f h = let h' : filter p us ≡ filter p ys = rw f at h in rw (t, f) (ap (λ z. y ∷ z) h')
+
+  again : (p : X → Bool) (w : X) (us ws : List X) → filter p us ≡ filter p ws → filter p (w ∷ us) ≡ filter p (w ∷ ws)
+  again p w us ws h = elim (cases_Bool (p w)) [
+    | inl t ↦ rw t (ap (λ z. w ∷ z) h)
+    | inr f ↦ rw f h
+  ]
+
+  insert_stable : (x w : X) (ys : List X) → filter (ties lt x) (insert_by lt w ys) ≡ filter (ties lt x) (w ∷ ys)
+  insert_stable x w [] = refl
+  insert_stable x w (y ∷ ys) = let more : filter (ties lt x) (insert_by lt w ys) ≡ filter (ties lt x) (w ∷ ys) = insert_stable x w ys in elim (cases_Bool (lt y w)) [
+    | inl t ↦ rw t (elim (cases_Bool (ties lt x y)) [
+      | inl ty ↦ elim (cases_Bool (ties lt x w)) [
+        | inl tw ↦ absurd (true≢false (sym t ∙ o.chain y x w (not_true (lt y x) (and_second (not (lt x y)) (not (lt y x)) ty)) (not_true (lt x w) (and_front (not (lt x w)) (not (lt w x)) tw))))
+        | inr tw ↦ alone (ties lt x) y w (insert_by lt w ys) ys ty tw more
+      ]
+      | inr ty ↦ past (ties lt x) y w (insert_by lt w ys) ys ty more
+    ])
+    | inr f ↦ rw f refl
+  ]
+
+  pub sort_stable : (xs : List X) (x : X) → filter (ties lt x) (sort_by lt xs) ≡ filter (ties lt x) xs
+  sort_stable [] x = refl
+  sort_stable (w ∷ ws) x = insert_stable x w (sort_by lt ws) ∙ again (ties lt x) w (sort_by lt ws) ws (sort_stable ws x)
+
+  -- ---- what a sort of std ensures
+
+  after_from : (x y : X) (ys : List X) → lt y x ≡ false → NoneBefore lt y ys → NoneBefore lt x (y ∷ ys)
+  after_from x y ys h a = (h, after_too y x ys h a)
+
+  begins_from : (x : X) (xs : List X) → IsSortedBy lt (x ∷ xs) → Rises lt xs → NoneBefore lt x xs
+  begins_from x [] h r = tt
+  begins_from x (y ∷ ys) h r = after_from x y ys (h 0 x (omega arith) (omega arith)) r.0
+
+  rises_from : (xs : List X) → IsSortedBy lt xs → Rises lt xs
+  rises_from [] h = tt
+  rises_from (x ∷ xs) h =
+      let r : Rises lt xs = rises_from xs (λ k d a b.
+      let j : suc k + 1 ≡ suc (k + 1) = omega arith in
+      subst (λ i. lt (get_or (x ∷ xs) i d) (get_or xs k d) ≡ false) j (h (suc k) d (omega arith) (omega arith))) in
+      (begins_from x xs h r, r)
+
+  pub the_one : (xs ys : List X) → IsSortedBy lt ys → IsStableBy lt xs ys → ys ≡ sort_by lt xs
+  the_one xs ys s t = one_order ys (sort_by lt xs) (rises_from ys s) (sort_rises xs) (λ x. t x ∙ sym (sort_stable xs x))
+
+  -- from the clauses of `sort_by`, whose closure answers `Less` just where lt holds
+  pub from_sort_by : {F : Type 0} {g : Mut F (Bor X × (Bor X × Unit {0})) Ordering} {f : F} (xs ys : List X)
+      → ((by : X → X → Bool) → IsStrictWeakOrder by → ComparesAs g by f → IsSortedBy by ys)
+      → ((by : X → X → Bool) → IsStrictWeakOrder by → ComparesAs g by f → IsStableBy by xs ys)
+      → ((h : F) (a : Bor X × (Bor X × Unit {0})) (r : Ordering) (h' : F) → Called g h a r h' → is_lt r ≡ lt a.0.now a.1.0.now)
+      → ys ≡ sort_by lt xs
+  from_sort_by {F} {g} {f} xs ys s t k =
+      let c : ComparesAs g lt f = answers_always g (λ a r. is_lt r ≡ lt a.0.now a.1.0.now) f k in
+      the_one xs ys (s lt o c) (t lt o c)

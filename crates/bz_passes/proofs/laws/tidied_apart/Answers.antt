@@ -1,0 +1,5 @@
+use Rattle.bz_passes.proofs.Splicing.{cut_first}
+use Rattle.bz_passes.proofs.laws.tidied_apart.Goals as goal
+
+pub returns : goal.returns
+returns c = cut_first

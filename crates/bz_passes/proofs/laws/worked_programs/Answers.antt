@@ -1,0 +1,29 @@
+use Rattle.std.proofs.Common.{◌≡◌, ◌∙◌, [], ◌∷◌, ℕ, refl, ap, codes, arith}
+use Rattle.bz_token.specs.declared.class.Class.TheVariants as classes
+use Rattle.bz_token.specs.Lexemes.{short_end, short_plain}
+use Rattle.bz_label.proofs.Repeats.{is_unrepeated}
+use Rattle.bz_label.proofs.Shorter.{unrepeated_same}
+use Rattle.bz_passes.specs.Programs.{renamed, turned}
+use Rattle.bz_passes.specs.Rows.{rule_named}
+use Rattle.bz_passes.proofs.OtherPrograms.{argument_text, body_stays, other_body, other_name, unmoved, value_text}
+use Rattle.bz_passes.proofs.TokensKept.{tokens_kept}
+use Rattle.bz_passes.proofs.laws.worked_programs.Goals as goal
+
+never : ◌≡◌ {A = ℕ} 0 1 → ⊥
+never e = absurd (omega arith)
+
+never_two : ◌≡◌ {A = ℕ} 2 1 → ⊥
+never_two e = absurd (omega arith)
+
+pub returns : goal.returns
+unfolding Rattle.bz_value.specs.declared.value.Expr.TheBlock.hidden-the_row-Expr-0 denote.Hole.Carrier.hidden
+returns c = (
+  refl,
+  refl,
+  turned (codes "a") (short_plain refl short_end) (refl, refl) refl refl,
+  renamed 34 (codes "//a") refl refl refl (λ current. unrepeated_same current (codes "//a:a") (codes "//a") (is_unrepeated (codes "//a:a"))),
+  (λ h. never (tokens_kept _ _ h classes.Name (codes "deps") refl)),
+  (λ h. never_two (tokens_kept _ _ h classes.Name (codes "name") refl)),
+  (λ h. other_name (ap argument_text (unmoved _ _ h h.quotes.same (λ g. refl) (λ g. refl) refl refl refl))),
+  (λ h. other_body (ap value_text (unmoved _ _ h (h.quotes.same ∙ ap (λ text. rule_named text ∷ []) (body_stays _ _ h)) (λ g. refl) (λ g. refl) refl refl refl))),
+)

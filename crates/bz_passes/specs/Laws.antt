@@ -1,0 +1,50 @@
+-- Laws of tidying.
+use Rattle.std.specs.Prelude.{◌≡◌, ℕ, Bool, List, map}
+use Rattle.bz_grammar.specs.declared.kind.Kind.{Kind}
+use Rattle.bz_grammar.specs.declared.kind.Kind.TheVariants as k
+use Rattle.bz_value.specs.declared.value.Expr.{Expr}
+use Rattle.bz_value.specs.declared.value.Item.{Item}
+use Rattle.bz_items.specs.Characters.{Bytes}
+use Rattle.bz_value.specs.Counted.{amount, times}
+use Rattle.bz_value.specs.Proper.{IsProper}
+use Rattle.bz_rule.specs.Values.{has_kind}
+use Rattle.bz_layout.specs.Flags.{IsSettled, with_flags}
+use Rattle.bz_layout.specs.Layout.{is_broken}
+use Rattle.bz_passes.specs.Lists.{precedes}
+use Rattle.bz_passes.specs.Orders.{sort_by}
+use Rattle.bz_passes.specs.Passes.{argument_precedes, is_run_load, loads, name_precedes, path_precedes, symbol_precedes, tidied}
+use Rattle.bz_passes.specs.Sorting.{GivesTheOne, IsSorting, IsSortingByRuns}
+
+-- What is tidy stays as it is.
+abbrev pub TidyStays : Type 0
+TidyStays = (items : List Item) → tidied (tidied items) ≡ tidied items
+
+-- What is tidy is settled: its flags are what the layout makes of them.
+abbrev pub TidySettles : Type 0
+TidySettles = (items : List Item) → IsSettled (tidied items)
+
+-- The flags of an expression are settled once for all, what the layout breaks stays broken with them, and comments stay as often
+-- as before.
+pub record FlagsSettle : Type 0 where
+  pub once : (x : Expr) → with_flags (with_flags x) ≡ with_flags x
+  pub broken : (kind : Kind) (split : Bool) (xs : List Expr) (end : List Bytes) → is_broken kind (is_broken kind split xs end) (map with_flags xs) end ≡ is_broken kind split xs end
+  pub comments : (number : Bytes → ℕ) (x : Expr) → amount number (with_flags x) ≡ amount number x
+
+-- Each comment is in the tidy file as often as before.
+abbrev pub TidyingKeepsComments : Type 0
+TidyingKeepsComments = (text : Bytes) (items : List Item) → times text (tidied items) ≡ times text items
+
+-- A proper file value stays proper.
+abbrev pub ProperStays : Type 0
+ProperStays = (items : List Item) → IsProper items → IsProper (tidied items)
+
+-- What is sorted is the one list in order, with ties in their old order: the items of a list by the texts between their quote
+-- marks, and the symbols of a load by their local names. Of the arguments of a rule each longest run of named ones is, by
+-- priority and then name, and of the items of a file each longest run of loads without comments above, by path; all that
+-- is between the runs stays.
+abbrev pub SortingIsTheOne : Type 0
+SortingIsTheOne =
+    GivesTheOne (IsSorting precedes) (sort_by precedes)
+    × GivesTheOne (IsSorting symbol_precedes) (sort_by symbol_precedes)
+    × GivesTheOne (IsSortingByRuns (has_kind k.Named) name_precedes) (sort_by argument_precedes)
+    × GivesTheOne (IsSortingByRuns is_run_load path_precedes) loads

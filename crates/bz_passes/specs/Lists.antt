@@ -1,0 +1,66 @@
+-- The items of one list: whether they are sorted, and how.
+use Rattle.std.specs.Prelude.{Bool, not, ◌&&◌, ◌||◌, List, [], ◌∷◌, ◌++◌, bytes_eq, if◌then◌else◌}
+use Rattle.std.specs.List.{list_any, list_all}
+use Rattle.std.specs.Ordering.{is_lt}
+use Rattle.bz_token.specs.declared.class.Class.TheVariants as c
+use Rattle.bz_label.specs.Keys.{key_order}
+use Rattle.bz_value.specs.declared.value.Expr.{Expr}
+use Rattle.bz_items.specs.Characters.{Bytes}
+use Rattle.bz_value.specs.Proper.{comments_of}
+use Rattle.bz_value.specs.Empty.{is_empty, is_none}
+use Rattle.bz_rule.specs.Values.{has_class, text_of, above, with_above}
+use Rattle.bz_passes.specs.Orders.{sort_by}
+use Rattle.bz_rule.specs.QuoteMarks.{between}
+use Rattle.bz_passes.specs.Marks.{any_marked, keep_sorted, do_not_sort, keep_marks, other_comments}
+
+abbrev pub above_first : List Expr → List Bytes
+above_first [] = []
+above_first (x ∷ xs) = above x
+
+abbrev pub has_above : Expr → Bool
+has_above x = not (is_empty (above x))
+
+-- Whether a list is sorted. `outside`: the comments above the attribute or the assignment; `by_table`: whether the table
+-- has the attribute. `do not sort` beats all; a list is taken only where all its items are strings, and, without
+-- `keep sorted`, only where no item has a comment above.
+abbrev pub is_taken : List Bytes → Bool → List Expr → Bool
+is_taken outside by_table xs =
+    not (any_marked do_not_sort (outside ++ above_first xs))
+    && list_all (has_class c.String) xs
+    && (any_marked keep_sorted (outside ++ above_first xs) || (by_table && not (list_any has_above xs)))
+
+-- the order of items: by the texts between their quote marks
+abbrev pub precedes : Expr → Expr → Bool
+precedes x y = is_lt (key_order (between (text_of x)) (between (text_of y)))
+
+abbrev pub has_no_comment : Expr → Bool
+has_no_comment x = is_empty (above x) && is_none (comments_of x).suffix
+
+-- An item without comments whose token equals an earlier one's is dropped.
+abbrev pub without_repeats : List Bytes → List Expr → List Expr
+without_repeats earlier [] = []
+without_repeats earlier (x ∷ xs) =
+    if has_no_comment x && list_any (bytes_eq (text_of x)) earlier then without_repeats earlier xs
+    else (x ∷ without_repeats (text_of x ∷ earlier) xs)
+
+-- In order, with ties in their old order (the one such list: law `sorting_is_the_one`), and then without repeats.
+abbrev pub in_order : List Expr → List Expr
+in_order xs = without_repeats [] (sort_by precedes xs)
+
+abbrev pub without_marks : Expr → Expr
+without_marks x = with_above (other_comments (above x)) x
+
+abbrev pub marked_by : List Bytes → List Expr → List Expr
+marked_by marks [] = []
+marked_by marks (x ∷ xs) = with_above (marks ++ above x) x ∷ xs
+
+-- Items in order, comments travelling. Where another item comes first, it takes the `keep sorted` comments above the old
+-- first one, ahead of its own; where the first item stays first, its comments stay as they are.
+abbrev pub sorted : List Expr → List Expr
+sorted [] = []
+sorted (x ∷ xs) =
+    if list_any (λ y. precedes y x) xs then marked_by (keep_marks (above x)) (in_order (without_marks x ∷ xs))
+    else in_order (x ∷ xs)
+
+abbrev pub settled_list : List Bytes → Bool → List Expr → List Expr
+settled_list outside by_table xs = if is_taken outside by_table xs then sorted xs else xs

@@ -1,0 +1,177 @@
+-- The seven passes, each from file values to file values, and `tidied`, which is all of them in turn.
+use Rattle.std.specs.Prelude.{ℕ, Bool, false, ◌&&◌, List, [], ◌∷◌, Option, Some, None, if◌then◌else◌, map}
+use Rattle.std.specs.Ordering.{is_lt, nat_cmp, ordering_then}
+use Rattle.std.specs.declared.cmp.Ordering.{Ordering}
+use Rattle.bz_token.specs.declared.class.Class.TheVariants as c
+use Rattle.bz_grammar.specs.declared.kind.Kind.TheVariants as k
+use Rattle.bz_grammar.specs.Shapes.{is_class}
+use Rattle.bz_label.specs.Pieces.{is_at, is_colon, is_slash}
+use Rattle.bz_label.specs.Tables.{is_sorted, is_label_attribute, priority_of}
+use Rattle.bz_label.specs.Keys.{bytes_order}
+use Rattle.bz_value.specs.declared.value.Expr.{Expr, Token, Form', Row_of-Expr, end_of-Expr, more_of-Expr}
+use Rattle.bz_value.specs.declared.value.Expr.TheVariants as e
+use Rattle.bz_value.specs.declared.value.Item.{Item}
+use Rattle.bz_value.specs.declared.value.Item.TheVariants as i
+use Rattle.bz_items.specs.Characters.{Bytes}
+use Rattle.bz_rule.specs.Rules.{dotted_name}
+use Rattle.bz_value.specs.Empty.{is_empty}
+use Rattle.bz_layout.specs.Flags.{flags}
+use Rattle.bz_rule.specs.Values.{has_kind, has_class, text_of, parts_of, items_of, with_text, above, on_row, on_items, on_first, on_third, on_rest, first_text, on_lists}
+use Rattle.bz_passes.specs.Orders.{sort_by}
+use Rattle.bz_passes.specs.Strings.{with_double, shorter_string}
+use Rattle.bz_rule.specs.QuoteMarks.{between, local_name}
+use Rattle.bz_passes.specs.Marks.{any_marked, leave_alone}
+use Rattle.bz_passes.specs.Lists.{settled_list}
+
+-- ---- where the passes go
+
+abbrev pub on_statement : (Expr → Expr) → Item → Item
+on_statement change (i.Block lines) = i.Block lines
+on_statement change (i.Stmt x) = i.Stmt (change x)
+
+-- A statement marked `buildifier: leave-alone` in a comment above is passed over.
+abbrev pub taken : (Expr → Expr) → Expr → Expr
+taken change x = if any_marked leave_alone (above x) then x else change x
+
+abbrev pub on_taken : (Expr → Expr) → List Item → List Item
+on_taken change items = map (on_statement (taken change)) items
+
+-- A rule is a statement that calls a name, or names joined by dots: that is its kind. Its arguments are changed, knowing
+-- the kind.
+abbrev pub rule_kind : List Expr → Option Bytes
+rule_kind (x ∷ []) = dotted_name x
+rule_kind _ = None
+
+abbrev pub of_rule : (Bytes → List Expr → List Expr) → Option Bytes → List Expr → List Expr
+of_rule change None xs = xs
+of_rule change (Some kind) xs = change kind xs
+
+abbrev pub on_call : (Bytes → List Expr → List Expr) → Expr → Expr
+on_call change x = on_items k.Call (of_rule change (rule_kind (parts_of x))) x
+
+abbrev pub on_rule_arguments : (Bytes → List Expr → List Expr) → Expr → Expr
+on_rule_arguments change = on_row k.Bare (on_first (on_call change))
+
+-- the value of a named argument is changed, knowing its name and the comments above it
+abbrev pub on_attribute : (Bytes → List Bytes → Expr → Expr) → Expr → Expr
+on_attribute change x = on_row k.Named (on_third (change (first_text (parts_of x)) (above x))) x
+
+-- ---- quotes: strings take double quote marks
+
+abbrev mutual
+  pub quoted : Expr → Expr
+  quoted (Token t) = e.Token (record t { text = if is_class t.class c.String then with_double t.text else t.text })
+  quoted (Form' kind s parts s' items end split open_break comments) =
+      e.Form (record { kind = kind; parts = each_quoted parts; seq = record { items = each_quoted items; end = end; split = split }; open_break = open_break; comments = comments })
+
+  pub each_quoted : {n : _} → Row_of-Expr n → List Expr
+  each_quoted end_of-Expr = []
+  each_quoted (more_of-Expr x rest) = quoted x ∷ each_quoted rest
+
+abbrev pub quotes : List Item → List Item
+quotes = on_taken quoted
+
+-- ---- labels: in the label attributes of a rule plain strings lose a repeated name
+
+abbrev pub labelled : Expr → Expr
+labelled x = if has_class c.String x then with_text (shorter_string (text_of x)) x else x
+
+abbrev pub labelled_value : Bytes → List Bytes → Expr → Expr
+labelled_value name outside x = if is_label_attribute name then on_lists (map labelled) x else x
+
+abbrev pub labels_in : Expr → Expr
+labels_in = on_rule_arguments (λ kind. map (on_attribute labelled_value))
+
+abbrev pub labels : List Item → List Item
+labels = on_taken labels_in
+
+-- ---- lists: those of the table, and those marked `keep sorted`, are sorted
+
+abbrev pub sorted_value : Bytes → Bytes → List Bytes → Expr → Expr
+sorted_value kind name outside = on_lists (settled_list outside (is_sorted kind name))
+
+abbrev pub in_assign : Expr → Expr
+in_assign x = on_row k.Assign (on_third (on_lists (settled_list (above x) false))) x
+
+abbrev pub lists_in : Expr → Expr
+lists_in x = if has_kind k.Assign x then in_assign x else on_rule_arguments (λ kind. map (on_attribute (sorted_value kind))) x
+
+abbrev pub lists : List Item → List Item
+lists = on_taken lists_in
+
+-- ---- arguments: each unbroken run of named arguments of a rule by priority, then name, then old order (law
+-- `sorting_is_the_one`)
+
+abbrev pub argument_order : Bytes → Bytes → Ordering
+argument_order x y = ordering_then (nat_cmp (priority_of x) (priority_of y)) (bytes_order x y)
+
+abbrev pub argument_name : Expr → Bytes
+argument_name x = first_text (parts_of x)
+
+abbrev pub name_precedes : Expr → Expr → Bool
+name_precedes x y = is_lt (argument_order (argument_name x) (argument_name y))
+
+-- only named arguments are compared
+abbrev pub argument_precedes : Expr → Expr → Bool
+argument_precedes x y = has_kind k.Named x && has_kind k.Named y && name_precedes x y
+
+abbrev pub arguments_in : Expr → Expr
+arguments_in = on_rule_arguments (λ kind. sort_by argument_precedes)
+
+abbrev pub arguments : List Item → List Item
+arguments = on_taken arguments_in
+
+-- ---- symbols: those of a load by local name, then old order (law `sorting_is_the_one`)
+
+abbrev pub symbol_precedes : Expr → Expr → Bool
+symbol_precedes x y = is_lt (bytes_order (local_name x) (local_name y))
+
+abbrev pub symbols_in : Expr → Expr
+symbols_in = on_items k.Load (on_rest (sort_by symbol_precedes))
+
+abbrev pub symbols : List Item → List Item
+symbols = on_taken symbols_in
+
+-- ---- loads: each longest run of adjacent loads without comments above by path, then old order (law `sorting_is_the_one`)
+
+-- by what a path begins with: @ 0, // 1, : 2, others 3
+abbrev pub path_group_from_slash : Bytes → ℕ
+path_group_from_slash [] = 3
+path_group_from_slash (second ∷ s) = if is_slash second then 1 else 3
+
+abbrev pub path_group : Bytes → ℕ
+path_group [] = 3
+path_group (first ∷ s) = if is_at first then 0 else (if is_colon first then 2 else (if is_slash first then path_group_from_slash s else 3))
+
+abbrev pub path_order : Bytes → Bytes → Ordering
+path_order x y = ordering_then (nat_cmp (path_group x) (path_group y)) (bytes_order x y)
+
+abbrev pub path_of : Expr → Bytes
+path_of x = between (first_text (items_of x))
+
+abbrev pub is_loose_load : Expr → Bool
+is_loose_load x = has_kind k.Load x && is_empty (above x)
+
+abbrev pub load_precedes : Item → Item → Bool
+load_precedes (i.Stmt x) (i.Stmt y) = is_loose_load x && is_loose_load y && is_lt (path_order (path_of x) (path_of y))
+load_precedes _ _ = false
+
+-- the same by two words of an item: whether it is a load without comments above, and its path
+abbrev pub is_run_load : Item → Bool
+is_run_load (i.Block lines) = false
+is_run_load (i.Stmt x) = is_loose_load x
+
+abbrev pub load_path : Item → Bytes
+load_path (i.Block lines) = []
+load_path (i.Stmt x) = path_of x
+
+abbrev pub path_precedes : Item → Item → Bool
+path_precedes x y = is_lt (path_order (load_path x) (load_path y))
+
+abbrev pub loads : List Item → List Item
+loads = sort_by load_precedes
+
+-- ---- all in turn
+
+abbrev pub tidied : List Item → List Item
+tidied items = flags (loads (symbols (arguments (lists (labels (quotes items))))))

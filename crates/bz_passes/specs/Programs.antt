@@ -1,0 +1,139 @@
+-- Tidying keeps the program. What each pass may change of a file value, said without how it goes about it.
+use Rattle.std.specs.Prelude.{◌≡◌, ℕ, Bool, true, false, List, [], ◌∷◌, ◌++◌, All, Contains, if◌then◌else◌, map, replicate}
+use Rattle.std.specs.List.Sorted.{IsPermutation}
+use Rattle.bz_token.specs.declared.class.Class.{Class}
+use Rattle.bz_token.specs.declared.class.Class.TheVariants as c
+use Rattle.bz_token.specs.Lexemes.{IsLong, IsShort, IsString}
+use Rattle.bz_grammar.specs.declared.kind.Kind.TheVariants as k
+use Rattle.bz_grammar.specs.Shapes.{is_class}
+use Rattle.bz_label.specs.Labels.{IsSame}
+use Rattle.bz_label.specs.Tables.{is_sorted, is_label_attribute}
+use Rattle.bz_value.specs.declared.value.Expr.{Expr, Token, Form', Row_of-Expr, end_of-Expr, more_of-Expr}
+use Rattle.bz_value.specs.declared.value.Expr.TheVariants as e
+use Rattle.bz_value.specs.declared.value.Item.{Item}
+use Rattle.bz_items.specs.Characters.{Bytes, apostrophe, backslash, quotation_mark}
+use Rattle.bz_rule.specs.QuoteMarks.{is_quote_mark}
+use Rattle.bz_rule.specs.Rules.{inner, is_plain_in}
+use Rattle.bz_rule.specs.Values.{above, on_rest, has_class, has_kind, on_items, on_lists, on_row, on_third, text_of, with_text}
+use Rattle.bz_passes.specs.Lists.{is_taken}
+use Rattle.bz_passes.specs.Passes.{is_run_load, name_precedes, on_attribute, on_rule_arguments, on_taken, path_precedes, symbol_precedes, tidied}
+use Rattle.bz_passes.specs.Sorting.{IsSorting, IsSortingByRuns}
+use Rattle.bz_passes.specs.Strings.{has_character}
+use Rattle.bz_passes.specs.Syntax.{program, token_times}
+
+-- y is x, but that what is at some places was changed as it may be. All else is as it was, comments and flags too.
+pub record IsChangedAt {X Y : Type 0} (places : (Y → Y) → X → X) (MayBecome : Y → Y → Type 0) (x y : X) : Type 0 where
+  pub change : Y → Y
+  pub each : (old : Y) → MayBecome old (change old)
+  pub same : y ≡ places change x
+
+-- ---- quotes: a string keeps its body
+
+abbrev mutual
+  -- the texts of the strings of an expression
+  pub on_strings : (Bytes → Bytes) → Expr → Expr
+  on_strings change (Token t) = e.Token (record t { text = if is_class t.class c.String then change t.text else t.text })
+  on_strings change (Form' kind s parts s' items end split open_break comments) =
+      e.Form (record { kind = kind; parts = each_on_strings change parts; seq = record { items = each_on_strings change items; end = end; split = split }; open_break = open_break; comments = comments })
+
+  pub each_on_strings : {n : _} → (Bytes → Bytes) → Row_of-Expr n → List Expr
+  each_on_strings change end_of-Expr = []
+  each_on_strings change (more_of-Expr x rest) = on_strings change x ∷ each_on_strings change rest
+
+-- neither " nor a backslash
+abbrev pub IsUnescaped : Bytes → Type 0
+IsUnescaped body = (has_character quotation_mark body ≡ false) × (has_character backslash body ≡ false)
+
+-- The same string: it stays, or its body, which holds neither " nor a backslash, is between " in place of ', or between """ in
+-- place of '''.
+pub data IsSameString (text new : Bytes) : Type 0 where
+  itself : new ≡ text → IsSameString text new
+  turned : (body : Bytes) → IsShort apostrophe body → IsUnescaped body → text ≡ replicate 1 apostrophe ++ (body ++ replicate 1 apostrophe)
+      → new ≡ replicate 1 quotation_mark ++ (body ++ replicate 1 quotation_mark) → IsSameString text new
+  turned_thrice : (body : Bytes) → IsLong apostrophe body → IsUnescaped body → text ≡ replicate 3 apostrophe ++ (body ++ replicate 3 apostrophe)
+      → new ≡ replicate 3 quotation_mark ++ (body ++ replicate 3 quotation_mark) → IsSameString text new
+
+abbrev pub HaveOtherQuotes : List Item → List Item → Type 0
+HaveOtherQuotes = IsChangedAt (λ change. on_taken (on_strings change)) (λ text new. IsString text → IsSameString text new)
+
+-- ---- labels: in a label attribute a string means the same label
+
+abbrev pub on_string : (Bytes → Bytes) → Expr → Expr
+on_string change x = if has_class c.String x then with_text (change (text_of x)) x else x
+
+-- the strings in the lists of the label attributes of a rule
+abbrev pub on_labels : (Bytes → Bytes) → Expr → Expr
+on_labels change = on_rule_arguments (λ kind. map (on_attribute (λ name outside x. if is_label_attribute name then on_lists (map (on_string change)) x else x)))
+
+-- The same label: the string stays, or it is a plain one, and between its quote marks is a text that means the same label in
+-- every package.
+pub data IsSameLabel (text new : Bytes) : Type 0 where
+  unchanged : new ≡ text → IsSameLabel text new
+  renamed : (mark : ℕ) (label : Bytes) → is_quote_mark mark ≡ true → is_plain_in mark text ≡ true → new ≡ mark ∷ (label ++ mark ∷ [])
+      → ((current : Bytes) → IsSame current (inner text) label) → IsSameLabel text new
+
+abbrev pub HaveOtherLabels : List Item → List Item → Type 0
+HaveOtherLabels = IsChangedAt (λ change. on_taken (on_labels change)) IsSameLabel
+
+-- ---- lists: one that is to be sorted holds the same strings
+
+-- The lists of attributes, and those that are assigned, knowing the comments above and whether the table has the attribute.
+abbrev pub on_list_values : (List Bytes → Bool → List Expr → List Expr) → Expr → Expr
+on_list_values change x =
+    if has_kind k.Assign x then on_row k.Assign (on_third (on_lists (change (above x) false))) x
+    else on_rule_arguments (λ kind. map (on_attribute (λ name outside. on_lists (change outside (is_sorted kind name))))) x
+
+-- The new list holds the strings of the old one, each as often, but that some are gone, each of which is in the new list.
+pub record HoldsTheStrings (old new : List Expr) : Type 0 where
+  pub strings : All (λ x. has_class c.String x ≡ true) new
+  pub gone : List Bytes
+  pub same : IsPermutation (map text_of old) (map text_of new ++ gone)
+  pub repeats : All (Contains (map text_of new)) gone
+
+-- where the list is to be sorted, and where it isn't
+abbrev pub IsSameList : Bool → List Expr → List Expr → Type 0
+IsSameList true old new = HoldsTheStrings old new
+IsSameList false old new = new ≡ old
+
+pub record HaveOtherLists (items new : List Item) : Type 0 where
+  pub change : List Bytes → Bool → List Expr → List Expr
+  pub each : (outside : List Bytes) (by_table : Bool) (old : List Expr) → IsSameList (is_taken outside by_table old) old (change outside by_table old)
+  pub same : new ≡ on_taken (on_list_values change) items
+
+-- ---- arguments, symbols and loads: others of them come first
+
+-- Runs of named arguments of a rule are sorted: every other argument stays, and no named one passes it.
+abbrev pub HaveOtherArguments : List Item → List Item → Type 0
+HaveOtherArguments = IsChangedAt (λ change. on_taken (on_rule_arguments (λ kind. change))) (IsSortingByRuns (has_kind k.Named) name_precedes)
+
+-- The symbols of a load are sorted, after its path.
+abbrev pub HaveOtherSymbols : List Item → List Item → Type 0
+HaveOtherSymbols = IsChangedAt (λ change. on_taken (on_items k.Load (on_rest change))) (IsSorting symbol_precedes)
+
+-- ---- all in turn
+
+-- A program is kept where one value leads to the other over these, in which no more is changed than is said of each; the last step
+-- changes nothing that a compiler reads.
+pub record KeepsProgram (before after : List Item) : Type 0 where
+  pub quoted : List Item
+  pub labelled : List Item
+  pub listed : List Item
+  pub arranged : List Item
+  pub named : List Item
+  pub loaded : List Item
+  pub quotes : HaveOtherQuotes before quoted
+  pub labels : HaveOtherLabels quoted labelled
+  pub lists : HaveOtherLists labelled listed
+  pub arguments : HaveOtherArguments listed arranged
+  pub symbols : HaveOtherSymbols arranged named
+  pub loads : IsSortingByRuns is_run_load path_precedes named loaded
+  pub flags : program after ≡ program loaded
+
+abbrev pub TidyingKeepsProgram : Type 0
+TidyingKeepsProgram = (items : List Item) → KeepsProgram items (tidied items)
+
+-- Where a program is kept, each token that is no string occurs as often: no name, number, keyword or mark is lost or comes.
+abbrev pub KeptProgramsKeepTokens : Type 0
+KeptProgramsKeepTokens =
+    (before after : List Item) → KeepsProgram before after → (class : Class) (text : Bytes) → is_class c.String class ≡ false
+    → token_times class text (program after) ≡ token_times class text (program before)

@@ -1,0 +1,241 @@
+//! The items of one list: whether they are sorted, and sorting them.
+ghost use Rattle.std.specs.Prelude.{◌≡◌, ◌++◌, ◌∷◌, ℕ, List, [], false, IfOk, IsTrue, OnOk};
+ghost use Rattle.std.specs.List.{list_all, list_any};
+ghost use Rattle.bz_token.specs.declared.class.Class.TheVariants as classes;
+ghost use Rattle.bz_passes.specs.Lists.{above_first, has_above as has_comment_above, in_order, is_taken as is_taken_in, marked_by, precedes, settled_list, sorted, without_marks};
+ghost use Rattle.bz_passes.specs.Marks.{any_marked as marked_in_any, keep_marks, other_comments};
+ghost use Rattle.bz_passes.specs.private.Sorted.{is_passed};
+ghost use Rattle.bz_rule.specs.Values.{has_class, on_first, with_above};
+
+use crate::marks::{any_marked, is_marked};
+use crate::ordering::{item_order, sort_items};
+use crate::repeats::drop_repeats;
+use bz_items::{Items, Memory, Text};
+use bz_token::Class;
+use bz_value::{Comments, Expr};
+use std::alloc::Global;
+use std::mem;
+
+/// The mark of a list that is sorted.
+const KEEP_SORTED: &[u8] = b"keep sorted";
+
+/// The mark of a list that stays as it is.
+const DO_NOT_SORT: &[u8] = b"do not sort";
+
+fn is_string(x: &Expr) -> bool
+    ensures { result ≡ has_class classes.String x.now }
+{
+    match x {
+        Expr::Token(token) => token.class.number() == Class::String.number(),
+        Expr::Form(_) => false,
+    }
+}
+
+fn has_above(x: &Expr) -> bool
+    ensures { result ≡ has_comment_above x.now }
+{
+    !x.comments().before().is_empty()
+}
+
+/// The comments above the first item.
+fn comments_above(items: &[Expr]) -> &[Text]
+    ensures { result.now ≡ above_first items.now }
+{
+    match items {
+        [] => &[],
+        [first, ..] => first.comments().before(),
+    }
+}
+
+/// Whether the mark is above the list or above its first item.
+fn has_mark(mark: &[u8], outside: &[Text], items: &[Expr]) -> bool
+    ensures { result ≡ marked_in_any mark.now (outside.now ++ above_first items.now) }
+{
+    any_marked(mark, outside) || any_marked(mark, comments_above(items))
+}
+
+fn are_strings(items: &[Expr]) -> bool
+    ensures { result ≡ list_all (has_class classes.String) items.now }
+{
+    items.iter().all(|x| is_string(x))
+}
+
+fn is_any_commented(items: &[Expr]) -> bool
+    ensures { result ≡ list_any has_comment_above items.now }
+{
+    items.iter().any(|x| has_above(x))
+}
+
+/// Whether the list is sorted.
+fn is_taken(outside: &[Text], by_table: bool, items: &[Expr]) -> bool
+    ensures { result ≡ is_taken_in outside.now by_table items.now }
+{
+    if has_mark(DO_NOT_SORT, outside, items) || !are_strings(items) {
+        return false;
+    }
+    has_mark(KEEP_SORTED, outside, items) || (by_table && !is_any_commented(items))
+}
+
+/// The comments of a list's first item that say that it is kept sorted, and its others.
+#[derive(Drop)]
+struct Split {
+    marks: Items<Text>,
+    others: Items<Text>,
+}
+
+/// Puts a comment after those of its kind.
+fn push_split(comment: &Text, split: &mut Split) -> Result<(), Memory>
+    ensures marks { (rest : List (List ℕ)) → OnOk result (split.new.marks ++ keep_marks rest ≡ split.old.marks ++ keep_marks (comment.now ∷ rest)) }
+    ensures others { (rest : List (List ℕ)) → OnOk result (split.new.others ++ other_comments rest ≡ split.old.others ++ other_comments (comment.now ∷ rest)) }
+{
+    if is_marked(KEEP_SORTED, comment.as_slice()) {
+        split.marks.push(comment.copy()?)?;
+        return Ok(());
+    }
+    split.others.push(comment.copy()?)
+}
+
+fn split_marks(alloc: Global, comments: &[Text]) -> Result<Split, Memory>
+    ensures { IfOk result (λ split. (split.marks ≡ keep_marks comments.now) × (split.others ≡ other_comments comments.now)) }
+{
+    let mut split = Split {
+        marks: Items::new(alloc),
+        others: Items::new(alloc),
+    };
+    for comment in comments {
+        push_split(comment, &mut split)?;
+    }
+    Ok(split)
+}
+
+fn push_copies(comments: &[Text], following: &mut Items<Text>) -> Result<(), Memory>
+    ensures { OnOk result (following.new ≡ following.old ++ comments.now) }
+{
+    for comment in comments {
+        following.push(comment.copy()?)?;
+    }
+    Ok(())
+}
+
+fn copy_suffix(comments: &Comments) -> Result<Option<Text>, Memory>
+    ensures { IfOk result (λ suffix. suffix ≡ comments.now.suffix) }
+{
+    match comments.suffix() {
+        None => Ok(None),
+        Some(text) => Ok(Some(text.copy()?)),
+    }
+}
+
+/// The item with these comments above it in place of its own.
+fn set_above(alloc: Global, before: Items<Text>, x: &mut Expr) -> Result<(), Memory>
+    ensures { OnOk result (x.new ≡ with_above before x.old) }
+{
+    let suffix = copy_suffix(x.comments())?;
+    let comments = Comments::new(alloc, before, suffix)?;
+    match x {
+        Expr::Token(token) => token.comments = comments,
+        Expr::Form(form) => form.comments = comments,
+    }
+    Ok(())
+}
+
+/// Takes the marks off the first item.
+fn take_marks(alloc: Global, items: &mut [Expr]) -> Result<Items<Text>, Memory>
+    ensures { IfOk result (λ marks. (marks ≡ keep_marks (above_first items.old)) × (items.new ≡ on_first without_marks items.old)) }
+{
+    match items {
+        [] => Ok(Items::new(alloc)),
+        [first, ..] => {
+            let Split { marks, others } = split_marks(alloc, first.comments().before())?;
+            set_above(alloc, others, first)?;
+            Ok(marks)
+        }
+    }
+}
+
+/// Puts the marks above the comments above the first item.
+fn put_marks(alloc: Global, mut marks: Items<Text>, items: &mut [Expr]) -> Result<(), Memory>
+    ensures { OnOk result (items.new ≡ marked_by marks items.old) }
+{
+    match items {
+        [] => Ok(()),
+        [first, ..] => {
+            push_copies(first.comments().before(), &mut marks)?;
+            set_above(alloc, marks, first)
+        }
+    }
+}
+
+/// Whether another item of the list comes before its first one.
+fn is_first_passed(items: &[Expr]) -> bool
+    ensures { result ≡ is_passed items.now }
+{
+    match items {
+        [] => false,
+        [first, rest @ ..] => is_any_before(first, rest),
+    }
+}
+
+fn is_any_before(x: &Expr, others: &[Expr]) -> bool
+    ensures { result ≡ list_any (λ other. precedes other x.now) others.now }
+{
+    others.iter().any(|other| item_order(other, x).is_lt())
+}
+
+/// Whether comments above the first item may move when the items are sorted.
+#[tactic(auto, using(crate::proofs::Listed::unpassed_in_order))]
+fn may_marks_move(items: &[Expr]) -> bool
+    ensures moves { IsTrue result → IsTrue (is_passed items.now) }
+    ensures stays { result ≡ false → sorted items.now ≡ in_order items.now }
+{
+    match comments_above(items) {
+        [] => false,
+        [..] => is_first_passed(items),
+    }
+}
+
+/// The items in their order, without repeats.
+fn put_in_order(alloc: Global, mut items: Vec<Expr>) -> Result<Vec<Expr>, Memory>
+    ensures { IfOk result (λ ordered. ordered.items ≡ in_order items.items) }
+{
+    sort_items(&mut items)?;
+    drop_repeats(alloc, items)
+}
+
+/// The items of a list that is sorted.
+fn sort_taken(alloc: Global, mut items: Vec<Expr>) -> Result<Vec<Expr>, Memory>
+    ensures { IfOk result (λ taken. taken.items ≡ sorted items.items) }
+{
+    if !may_marks_move(items.as_slice()) {
+        return put_in_order(alloc, items);
+    }
+    let marks = take_marks(alloc, items.as_mut_slice())?;
+    let mut ordered = put_in_order(alloc, items)?;
+    put_marks(alloc, marks, ordered.as_mut_slice())?;
+    Ok(ordered)
+}
+
+/// Whether each item comes before the next one: sorted, such a list stays as it is.
+fn are_rising(items: &[Expr]) -> bool
+    ensures { IsTrue result → sorted items.now ≡ items.now }
+{
+    items.is_sorted_by(|x, y| item_order(x, y).is_lt())
+}
+
+/// Sorts the items of a list, where it is taken; else it stays as it is. `outside`: the comments above the attribute or the
+/// assignment; `by_table`: whether the table has the attribute. The error: a growth was refused; the items are then lost.
+#[tactic(auto, using(crate::proofs::Listed::rising_settled))]
+pub(crate) fn sort_list(
+    alloc: Global,
+    outside: &[Text],
+    by_table: bool,
+    items: &mut Items<Expr>,
+) -> Result<(), Memory>
+    ensures { OnOk result (items.new ≡ settled_list outside.now by_table items.old) }
+{
+    if !are_rising(items.as_slice()) && is_taken(outside, by_table, items.as_slice()) {
+        let all = mem::replace(items, Items::new(alloc)).into_vec();
+        *items = Items::from_vec(sort_taken(alloc, all)?);
+    }
+    Ok(())
+}

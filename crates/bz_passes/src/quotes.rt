@@ -1,0 +1,53 @@
+//! Quotes: strings take double quote marks.
+ghost use Rattle.std.specs.Prelude.{◌≡◌, OnOk, map};
+ghost use Rattle.bz_passes.specs.Passes.{quoted};
+
+use crate::names::are_called_names;
+use crate::strings::double_quoted;
+use bz_items::{Items, Memory};
+use bz_grammar::{Class, Kind};
+use bz_value::Expr;
+use std::alloc::Global;
+
+/// Gives every string of an expression double quote marks, where it may have them. The error: memory was refused; part of
+/// the expression is then changed.
+#[cycle(quote)]
+#[tactic(auto, using(crate::proofs::FormSteps::quoted_Form))]
+pub(crate) fn quote(alloc: Global, x: &mut Expr) -> Result<(), Memory>
+    ensures { OnOk result (x.new ≡ quoted x.old) }
+{
+    match x {
+        Expr::Token(token) => {
+            if token.class == Class::String {
+                double_quoted(alloc, &mut token.text)?;
+            }
+            Ok(())
+        }
+        Expr::Form(form) => {
+            quote_parts(alloc, form.kind, &mut form.parts)?;
+            quote_each(alloc, &mut form.seq.items)?;
+            Ok(())
+        }
+    }
+}
+
+/// The same for the parts of a form of this kind. Names joined by dots that are called are passed over.
+#[cycle(quote)]
+fn quote_parts(alloc: Global, kind: Kind, parts: &mut Items<Expr>) -> Result<(), Memory>
+    ensures { OnOk result (parts.new ≡ map quoted parts.old) }
+{
+    if are_called_names(kind, parts.as_slice()) {
+        return Ok(());
+    }
+    quote_each(alloc, parts)
+}
+
+#[cycle(quote)]
+fn quote_each(alloc: Global, exprs: &mut Items<Expr>) -> Result<(), Memory>
+    ensures { OnOk result (exprs.new ≡ map quoted exprs.old) }
+{
+    for x in exprs.as_mut_slice().iter_mut() {
+        quote(alloc, x)?;
+    }
+    Ok(())
+}

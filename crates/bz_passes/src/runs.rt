@@ -1,0 +1,69 @@
+//! Sorting each unbroken run of comparable items by itself.
+ghost use Rattle.std.specs.Prelude.{◌≡◌, ◌≤◌, ◌++◌, ◌&&◌, Bool, true, length, take, drop, slice_range, OnOk};
+ghost use Rattle.std.specs.Cmp.{IsStrictWeakOrder};
+ghost use Rattle.std.specs.List.{AllByRecursion};
+ghost use Rattle.std.specs.Ordering.{is_lt};
+ghost use Rattle.std.specs.declared.cmp.Ordering.{Ordering as Answer};
+ghost use Rattle.bz_passes.specs.Orders.{sort_by};
+
+use bz_items::Memory;
+use std::alloc::Global;
+use std::cmp::Ordering;
+
+/// Items of which some are compared with one another: the unbroken runs of these are sorted.
+pub(crate) trait InRuns {
+    ghost compares: { Self → Bool };
+
+    ghost order: { Self → Self → Answer };
+
+    /// Whether the item is compared with others; else it ends a run.
+    fn is_comparable(&self) -> bool
+        ensures { result ≡ compares self.now };
+
+    /// Which of two comparable items comes first.
+    fn compare(&self, other: &Self) -> Ordering
+        ensures { result ≡ order self.now other.now };
+
+    ghost ranks: { IsStrictWeakOrder (λ (x y : Self). is_lt (order x y)) };
+}
+
+/// Sorts items that are all compared, equal ones in their old order. The error: a growth was refused.
+fn sort_run<T: InRuns>(alloc: Global, run: &mut [T]) -> Result<(), Memory>
+    requires { AllByRecursion (λ x. T.compares x ≡ true) run.old }
+    ensures { OnOk result (run.new ≡ sort_by (λ x y. T.compares x && T.compares y && is_lt (T.order x y)) run.old) }
+{
+    run.sort_by(alloc, |x, y| x.compare(y))?;
+    Ok(())
+}
+
+/// The same for the items between two places.
+fn sort_part<T: InRuns>(
+    alloc: Global,
+    items: &mut [T],
+    from: usize,
+    to: usize,
+) -> Result<(), Memory>
+    requires order { from ≤ to }
+    requires within { to ≤ length items.old }
+    requires comparable { AllByRecursion (λ x. T.compares x ≡ true) (slice_range items.old from to) }
+    ensures { OnOk result (items.new ≡ take from items.old ++ sort_by (λ x y. T.compares x && T.compares y && is_lt (T.order x y)) (slice_range items.old from to) ++ drop to items.old) }
+{
+    sort_run(alloc, &mut items[from..to])
+}
+
+/// Each unbroken run of comparable items in its order, equal ones in their old order. The error: a growth was refused; some
+/// of the runs are then in their order.
+pub(crate) fn sort_runs<T: InRuns>(alloc: Global, items: &mut [T]) -> Result<(), Memory>
+    ensures { OnOk result (items.new ≡ sort_by (λ x y. T.compares x && T.compares y && is_lt (T.order x y)) items.old) }
+{
+    let mut from = 0;
+    for at in 0..items.len() {
+        if items[at].is_comparable() {
+            continue;
+        }
+        sort_part(alloc, items, from, at)?;
+        from = at + 1;
+    }
+    let end = items.len();
+    sort_part(alloc, items, from, end)
+}

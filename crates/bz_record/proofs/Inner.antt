@@ -1,8 +1,0 @@
--- Reading parts.
-use Rattle.std.proofs.Common.{◌≡◌, ℕ, zero, suc, ◌-◌, ◌<◌, List, refl, arith}
-use Rattle.bz_record.specs.private.Reading.{held_at, node_at, nodes_at}
-
-pub one_less : (d : ℕ) (s : List ℕ) → 0 < d → nodes_at d s ≡ node_at (held_at (d - 1)) s
-unfolding nodes_at
-one_less zero s h = absurd (omega arith)
-one_less (suc d) s h = let e : suc d - 1 ≡ d = omega arith in rw e refl

@@ -1,8 +1,0 @@
-use Rattle.std.proofs.Common.{◌≡◌, ◌-◌}
-use Rattle.bz_exact.proofs.Loops.{with_front}
-use Rattle.bz_exact.specs.Readers.{repeated}
-use Rattle.bz_record.specs.private.Reading.{digest_line_at}
-use Rattle.bz_record.proofs.entries.read_digests.Given as goal
-
-abbrev pub invariant-several : goal.invariant-several
-invariant-several l = with_front l.digests.items (repeated digest_line_at (l.count - l.counter) l.rest) ≡ repeated digest_line_at l.count l.input

@@ -1,8 +1,0 @@
-use Rattle.std.proofs.Common.{◌≡◌, ◌-◌}
-use Rattle.bz_exact.proofs.Loops.{with_front}
-use Rattle.bz_exact.specs.Readers.{repeated}
-use Rattle.bz_record.specs.private.Reading.{edit_at}
-use Rattle.bz_record.proofs.entries.read_edits.Given as goal
-
-abbrev pub invariant-several : goal.invariant-several
-invariant-several l = with_front l.edits.items (repeated (edit_at l.depth) (l.count - l.counter) l.rest) ≡ repeated (edit_at l.depth) l.count l.input

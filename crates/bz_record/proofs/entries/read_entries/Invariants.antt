@@ -1,8 +1,0 @@
-use Rattle.std.proofs.Common.{◌≡◌, ◌-◌}
-use Rattle.bz_exact.proofs.Loops.{with_front}
-use Rattle.bz_exact.specs.Readers.{repeated}
-use Rattle.bz_record.specs.private.Reading.{entry_at}
-use Rattle.bz_record.proofs.entries.read_entries.Given as goal
-
-abbrev pub invariant-several : goal.invariant-several
-invariant-several l = with_front l.entries.items (repeated (entry_at l.version l.depth) (l.count - l.counter) l.rest) ≡ repeated (entry_at l.version l.depth) l.count l.input

@@ -1,8 +1,0 @@
-use Rattle.std.proofs.Common.{◌≡◌, ◌-◌}
-use Rattle.bz_exact.proofs.Loops.{with_front}
-use Rattle.bz_exact.specs.Readers.{number_at, repeated}
-use Rattle.bz_items.specs.Characters.{space}
-use Rattle.bz_record.proofs.entries.read_path.Given as goal
-
-abbrev pub invariant-several : goal.invariant-several
-invariant-several l = with_front l.path.items (repeated (number_at space) (l.count - l.counter) l.rest) ≡ repeated (number_at space) l.count l.input

@@ -1,5 +1,0 @@
-use Rattle.bz_record.proofs.Added.{undone_one, undone_two}
-use Rattle.bz_record.proofs.laws.undone_session.Goals as goal
-
-pub returns : goal.returns
-returns c = (undone_one, undone_two)

@@ -1,7 +1,0 @@
-use Rattle.std.proofs.Common.{◌≡◌, ◌++◌, take}
-use Rattle.std.specs.List.{flat_map}
-use Rattle.bz_record.specs.Texts.{digest_text}
-use Rattle.bz_record.proofs.writing.push_digests.Given as goal
-
-abbrev pub invariant-digests : goal.invariant-digests
-invariant-digests l = l.out.items ≡ l.fn.out.items ++ flat_map digest_text (take l.digest-index l.digests)

@@ -1,0 +1,82 @@
+-- A file whose journal records its history, and what a stop leaves of the two.
+use Rattle.std.specs.Prelude.{◌≡◌, ◌≢◌, ◌⊎◌, ◌≤◌, ℕ, true, List, [], ◌∷◌, Some, None, Result, IfErr, OnOk, IsOk, IsErrOf}
+use Rattle.std.specs.FinMap.{get}
+use Rattle.bz_edit.specs.declared.edit.Edit.{Edit}
+use Rattle.bz_files.specs.Folder.{Elapses, Folder, SameBut, Text, new_name}
+use Rattle.bz_files.specs.Faults.{Rises}
+use Rattle.bz_files.specs.Pair.{IsChecking, IsKeeping, IsNew, with_both}
+use Rattle.bz_files.specs.declared.files.Files.{Ghosts as FilesOf}
+use Rattle.bz_resume.specs.declared.pair_fault.PairFault.{PairFault}
+use Rattle.bz_resume.specs.declared.pair_fault.PairFault.TheVariants as f
+use Rattle.bz_resume.specs.Journals.{History, Journal, stands, text_at}
+use Rattle.bz_resume.specs.Pair.{journal_name}
+
+-- the present text
+abbrev pub present : History → Text
+present h = text_at h h.cursor
+
+-- what records the texts of a file that holds `text`: it has no journal, and these are that text alone; or its journal records a
+-- history of this package and these texts, which matches that text
+abbrev pub IsRecordedBy : Folder → Text → Text → Text → List Text → Type 0
+IsRecordedBy folder file current text texts = ((get folder (journal_name file) ≡ None) × (texts ≡ text ∷ []))
+    ⊎ ((bytes : Text) × (h : History) × (es : List (List Edit)) × (place : ℕ) × (get folder (journal_name file) ≡ Some bytes)
+    × Journal bytes h es × (h.package ≡ current) × (texts ≡ h.texts) × (stands h text ≡ Some place))
+
+-- the file holds this text and goes on, in this package, with these texts
+pub record Holds (folder : Folder) (file current text : Text) (texts : List Text) : Type 0 where
+  pub holds : get folder file ≡ Some text
+  pub history : IsRecordedBy folder file current text texts
+
+-- the file goes on, in this package, with these texts
+abbrev pub Resumes : Folder → Text → Text → List Text → Type 0
+Resumes folder file current texts = (text : Text) × Holds folder file current text texts
+
+-- one action leads from h to this history: the text before its present one is the one that is present in h
+abbrev pub FollowsKept : History → History → Type 0
+FollowsKept h after = (after.package ≡ h.package) × (text_at after after.before ≡ present h)
+
+-- An action leads from h to another history, and these are its journal and its text. The folder resumes with the texts of h, and
+-- the text at which the action was begun is its present one; the file may hold another.
+pub record MayResume (folder : Folder) (file standing stored text : Text) (h after : History) (es : List (List Edit)) : Type 0 where
+  pub resumes : Resumes folder file h.package h.texts
+  pub begun : standing ≡ present h
+  pub follows : FollowsKept h after
+  pub journal : Journal stored after es
+  pub written : text ≡ present after
+
+-- Of a folder as it was, this one differs at most in the file, its journal, and the names under which these are written first.
+abbrev pub OthersStay : Text → Folder → Folder → Type 0
+OthersStay file old now = (name : Text) → name ≢ file → name ≢ journal_name file → name ≢ new_name file → name ≢ new_name (journal_name file)
+    → get now name ≡ get old name
+
+-- in the package of h the file goes on with the texts before the action, or with those after it, and it holds the present text
+-- of either; other files are as they were
+pub record Survives (file : Text) (h after : History) (old now : Folder) : Type 0 where
+  pub holds : Holds now file h.package (present h) h.texts
+      ⊎ (Holds now file h.package (present h) after.texts ⊎ Holds now file h.package (present after) after.texts)
+  pub others : OthersStay file old now
+
+-- A journal and then its file are given these bytes, where the file still holds the text at which that was begun. (The file's name, that
+-- text, the bytes of both, what came of it, and the files before and after.)
+pub record Replaces {F : Type 0} (files : FilesOf F) (file standing stored text : Text) (answer : Result (Unit {0}) PairFault) (old new : F) : Type 0 where
+  pub each : files.honest old ≡ true → (now : Folder) → files.since new (files.moment old) now
+      → IsKeeping (journal_name file) stored file text (files.folder old) now
+  pub time : files.honest old ≡ true → Elapses (files.moment old) (files.moment new) (files.since old) (files.since new)
+      (IsChecking standing (journal_name file) stored file text (files.folder old))
+  pub replaced : files.honest old ≡ true → OnOk answer
+      (SameBut (IsNew (journal_name file) file) (with_both (journal_name file) stored file text (files.folder old)) (files.folder new))
+  -- Only where the file holds the text is anything replaced, and only where it doesn't is that said.
+  pub checked : files.honest old ≡ true → (IsOk answer) ⊎ (IsErrOf answer f.Write)
+      → get (files.folder old) file ≡ Some standing
+  pub changed : files.honest old ≡ true → IsErrOf answer f.Changed → get (files.folder old) file ≢ Some standing
+  pub apart : files.honest old ≡ true → (get (files.folder old) file ≡ Some standing)
+      ⊎ ((now : Folder) → files.since new (files.moment old) now → now ≡ files.folder old)
+  pub kinds : files.honest old ≡ true → get (files.folder old) file ≢ Some standing
+      → (IsErrOf answer f.Changed) ⊎ ((IsErrOf answer f.Open) ⊎ (IsErrOf answer f.Memory))
+  pub untouched : files.honest old ≡ true → IfErr answer (λ fault. fault ≢ f.Write
+      → (now : Folder) → files.since new (files.moment old) now → now ≡ files.folder old)
+  -- A Write and an Open are counted, and nothing else.
+  pub cause : (IsErrOf answer f.Write) ⊎ (IsErrOf answer f.Open) → Rises (files.faults old) (files.faults new)
+  pub kept : (IsErrOf answer f.Write → ⊥) → (IsErrOf answer f.Open → ⊥) → files.faults new ≡ files.faults old
+  pub count : files.faults old ≤ files.faults new
+  pub honest : files.honest new ≡ files.honest old

@@ -1,0 +1,154 @@
+//! A file and its journal, replaced so that a stop at any moment leaves a pair that goes on.
+ghost use Rattle.std.specs.Prelude.{◌≡◌, ◌≢◌, ◌⊎◌, ◌≤◌, List, true, Some, IfOk, IfErr, OnOk, IsOk, IsErrOf, string_bytes};
+ghost use Rattle.std.specs.FinMap.{get};
+ghost use Rattle.bz_files.specs.Folder.{Folder, SameBut, Elapses};
+ghost use Rattle.bz_files.specs.Faults.{Rises};
+ghost use Rattle.bz_files.specs.Pair.{IsNew, IsKeeping, IsChecking, with_both};
+ghost use Rattle.bz_edit.specs.declared.edit.Edit.{Edit};
+ghost use Rattle.bz_resume.specs.Journals.{History};
+ghost use Rattle.bz_resume.specs.Pair.{journal_name};
+ghost use Rattle.bz_resume.specs.Resuming.{MayResume, Replaces, Survives, Resumes, Holds, OthersStay, present};
+
+use crate::PairFault;
+use bz_files::{FileFault, Files};
+use bz_items::Memory;
+use std::alloc::Global;
+
+/// The name of the journal of the file with this name, which is that name with `.journal` at its end. The error: a growth was
+/// refused.
+pub fn journal_name(alloc: Global, file: &str) -> Result<String, Memory>
+    ensures { IfOk result (λ name. string_bytes name ≡ journal_name file.now) }
+{
+    format!(in alloc; "{file}.journal")
+}
+
+// Reads a file, which is to hold this text: of a longer one no more than the byte that shows it. Errors: `Changed`: it holds another or
+// isn't there; `Open`: it could not be read; `Memory`: a growth was refused.
+fn check_file<F: Files>(
+    alloc: Global,
+    files: &mut F,
+    file: &str,
+    standing: &[u8],
+) -> Result<(), PairFault>
+    ensures ok { F.honest files.old ≡ true → OnOk result (get (F.folder files.old) file.now ≡ Some standing.now) }
+    ensures changed { F.honest files.old ≡ true → IsErrOf result PairFault.Changed → get (F.folder files.old) file.now ≢ Some standing.now }
+    ensures folder { F.honest files.old ≡ true → F.folder files.new ≡ F.folder files.old }
+    ensures time { F.honest files.old ≡ true → Elapses (F.moment files.old) (F.moment files.new) (F.since files.old) (F.since files.new)
+        (λ now. now ≡ F.folder files.old) }
+    ensures kinds { IfErr result (λ fault. fault ≢ PairFault.Write) }
+    ensures cause { IsErrOf result PairFault.Open → Rises (F.faults files.old) (F.faults files.new) }
+    ensures kept { (IsErrOf result PairFault.Open → ⊥) → F.faults files.new ≡ F.faults files.old }
+    ensures count { F.faults files.old ≤ F.faults files.new }
+    ensures honest { F.honest files.new ≡ F.honest files.old }
+{
+    let mut held = Vec::new(alloc);
+    match files.read_most(file, standing.len() + 1, &mut held) {
+        Ok(()) => {
+            if held.as_slice() == standing {
+                Ok(())
+            } else {
+                Err(PairFault::Changed)
+            }
+        }
+        Err(FileFault::Absent) => Err(PairFault::Changed),
+        Err(FileFault::Open) => Err(PairFault::Open),
+        Err(_) => Err(PairFault::Memory),
+    }
+}
+
+// Gives the journal of a file the bytes `stored`, and then the file the bytes `text`, if it holds the text `standing`. Errors: `Memory`:
+// a growth was refused, and nothing was replaced; `Write`: it holds another text, or one of them could not be replaced.
+fn write_pair<F: Files>(
+    alloc: Global,
+    files: &mut F,
+    file: &str,
+    standing: &[u8],
+    stored: &[u8],
+    text: &[u8],
+) -> Result<(), PairFault>
+    ensures time { F.honest files.old ≡ true → Elapses (F.moment files.old) (F.moment files.new) (F.since files.old) (F.since files.new)
+        (IsChecking standing.now (journal_name file.now) stored.now file.now text.now (F.folder files.old)) }
+    ensures replaced { F.honest files.old ≡ true → OnOk result
+        (SameBut (IsNew (journal_name file.now) file.now) (with_both (journal_name file.now) stored.now file.now text.now (F.folder files.old)) (F.folder files.new)) }
+    ensures kinds { IfErr result (λ fault. (fault ≡ PairFault.Memory) ⊎ (fault ≡ PairFault.Write)) }
+    ensures memory { IsErrOf result PairFault.Memory → files.new ≡ files.old }
+    ensures cause { IsErrOf result PairFault.Write → Rises (F.faults files.old) (F.faults files.new) }
+    ensures kept { (IsErrOf result PairFault.Write → ⊥) → F.faults files.new ≡ F.faults files.old }
+    ensures count { F.faults files.old ≤ F.faults files.new }
+    ensures honest { F.honest files.new ≡ F.honest files.old }
+{
+    match journal_name(alloc, file) {
+        Ok(journal) => match files.rewrite_pair(journal.as_str(), stored, file, standing, text) {
+            Ok(()) => Ok(()),
+            Err(_) => Err(PairFault::Write),
+        },
+        Err(_) => Err(PairFault::Memory),
+    }
+}
+
+// Gives the journal of a file the bytes `stored`, and then the file the bytes `text`, where it still holds the text `standing`; it is
+// read for that first. Errors: `Changed`: it holds another text or isn't there; `Open`: it could not be read; `Memory`: a growth was
+// refused; at these nothing was replaced at any moment. `Write`: it changed in between, or one of the two could not be replaced.
+fn replace_pair<F: Files>(
+    alloc: Global,
+    files: &mut F,
+    file: &str,
+    standing: &[u8],
+    stored: &[u8],
+    text: &[u8],
+) -> Result<(), PairFault>
+    ensures { Replaces F.Files file.now standing.now stored.now text.now result files.old files.new }
+{
+    match check_file(alloc, files, file, standing) {
+        Ok(()) => write_pair(alloc, files, file, standing, stored, text),
+        Err(fault) => Err(fault),
+    }
+}
+
+/// Keeps what an action has led to, from one history to another: gives the journal of the file with this name the bytes `stored`,
+/// the journal of the new history, and then the file its present text, `text`, where the file still holds the text `standing`,
+/// at which the action was begun. A stop at any moment leaves a file that goes on with the texts of the one history or of the
+/// other. Errors: `Changed`: the file holds another text or isn't there; `Open`: it could not be read; `Memory`: a growth was
+/// refused; at these nothing was replaced at any moment. `Write`: one of the two could not be replaced, or the file changed after
+/// the read.
+pub fn keep<F: Files>(
+    alloc: Global,
+    files: &mut F,
+    file: &str,
+    standing: &[u8],
+    stored: &[u8],
+    text: &[u8],
+) -> Result<(), PairFault>
+    ensures each { F.honest files.old ≡ true → (h after : History) (es : List (List Edit)) → MayResume (F.folder files.old) file.now standing.now stored.now text.now h after es
+        → (now : Folder) → F.since files.new (F.moment files.old) now
+        → (now ≡ F.folder files.old) ⊎ Survives file.now h after (F.folder files.old) now }
+    ensures time { F.honest files.old ≡ true → (h after : History) (es : List (List Edit)) → MayResume (F.folder files.old) file.now standing.now stored.now text.now h after es
+        → Elapses (F.moment files.old) (F.moment files.new) (F.since files.old) (F.since files.new)
+        (λ now. (now ≡ F.folder files.old) ⊎ Survives file.now h after (F.folder files.old) now) }
+    ensures resumes { F.honest files.old ≡ true → (h after : History) (es : List (List Edit)) → MayResume (F.folder files.old) file.now standing.now stored.now text.now h after es
+        → (now : Folder) → F.since files.new (F.moment files.old) now
+        → Resumes now file.now h.package h.texts ⊎ Resumes now file.now h.package after.texts }
+    ensures kept { F.honest files.old ≡ true → OnOk result ((h after : History) (es : List (List Edit)) → MayResume (F.folder files.old) file.now standing.now stored.now text.now h after es
+        → Holds (F.folder files.new) file.now h.package (present after) after.texts × OthersStay file.now (F.folder files.old) (F.folder files.new)) }
+
+    ensures stored { F.honest files.old ≡ true → (now : Folder) → F.since files.new (F.moment files.old) now
+        → (get now (journal_name file.now) ≡ get (F.folder files.old) (journal_name file.now)) ⊎ (get now (journal_name file.now) ≡ Some stored.now) }
+    ensures journal { F.honest files.old ≡ true → OnOk result (get (F.folder files.new) (journal_name file.now) ≡ Some stored.now) }
+
+    // Where the file holds another text, that is said, and at no moment is anything touched.
+    ensures checked { F.honest files.old ≡ true → get (F.folder files.old) file.now ≢ Some standing.now
+        → (IsErrOf result PairFault.Changed) ⊎ ((IsErrOf result PairFault.Open) ⊎ (IsErrOf result PairFault.Memory)) }
+    ensures apart { F.honest files.old ≡ true → get (F.folder files.old) file.now ≢ Some standing.now
+        → (now : Folder) → F.since files.new (F.moment files.old) now → now ≡ F.folder files.old }
+    ensures changed { F.honest files.old ≡ true → IsErrOf result PairFault.Changed → get (F.folder files.old) file.now ≢ Some standing.now }
+    ensures untouched { F.honest files.old ≡ true → IfErr result (λ fault. fault ≢ PairFault.Write
+        → (now : Folder) → F.since files.new (F.moment files.old) now → now ≡ F.folder files.old) }
+
+    // A Write and an Open are counted, and nothing else.
+    ensures cause { (IsErrOf result PairFault.Write) ⊎ (IsErrOf result PairFault.Open) → Rises (F.faults files.old) (F.faults files.new) }
+    ensures rest { (IsErrOf result PairFault.Write → ⊥) → (IsErrOf result PairFault.Open → ⊥) → F.faults files.new ≡ F.faults files.old }
+    ensures count { F.faults files.old ≤ F.faults files.new }
+    ensures honest { F.honest files.new ≡ F.honest files.old }
+{
+    replace_pair(alloc, files, file, standing, stored, text)
+}

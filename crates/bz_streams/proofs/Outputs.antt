@@ -1,0 +1,58 @@
+-- What the outputs hold after two parts of a run, one after the other.
+use Rattle.std.proofs.Common.{◌≡◌, ◌⊎◌, ◌≤◌, ◌∙◌, ◌++◌, ◌∷◌, ◌||◌, inl, inr, ℕ, List, [], Option, Some, None, Bool, true, false, refl, sym, subst, arith}
+use Rattle.std.specs.Io.KnownBytes.{Appends}
+use Rattle.std.proofs.lemmas.List.{append-nil}
+use Rattle.bz_streams.specs.Faults.{Rises, AppendsSome}
+use Rattle.bz_streams.specs.Outputs.{Writes, WritesUnlessClosed, Reports, Counts}
+use Rattle.bz_streams.proofs.Written.{begins, piece_written, piece_begun, all_written}
+
+-- ---- counts
+
+pub rises_more : (a b d : ℕ) → a ≤ b → Rises a b → Counts b d → Rises a d
+rises_more a b d le rises counts = go counts.rises
+  where
+    go : (d ≡ b) ⊎ Rises b d → Rises a d
+    go (inl same) = subst (Rises a) (sym same) rises
+    go (inr (inl more)) = inl (omega (arith, le, more))
+    go (inr (inr most)) = inr most
+
+pub counts_more : (a b d : ℕ) → Counts a b → Counts b d → Counts a d
+counts_more a b d first more = let le = first.grows in let le' = more.grows in record { grows = omega (arith, le, le'); rises = go first.rises more.rises }
+  where
+    go : (b ≡ a) ⊎ Rises a b → (d ≡ b) ⊎ Rises b d → (d ≡ a) ⊎ Rises a d
+    go (inl same) (inl still) = inl (still ∙ same)
+    go (inl same) (inr rises) = inr (subst (λ (n : ℕ). Rises n d) same rises)
+    go (inr rises) other = inr (rises_more a b d first.grows rises more)
+
+-- ---- outputs
+
+pub appends_nothing : (held : Option (List ℕ)) → Appends held held []
+appends_nothing None = tt
+appends_nothing (Some bytes) = sym (append-nil bytes)
+
+pub some_more : (old new : Option (List ℕ)) (out more : List ℕ) → AppendsSome old new out → AppendsSome old new (out ++ more)
+some_more old new out more some = piece_begun old old new (out ++ more) (out ++ more) out more refl (begins old (out ++ more)) some
+
+pub all_more : (old mid new : Option (List ℕ)) (out more : List ℕ) → Appends old mid out → Appends mid new more → Appends old new (out ++ more)
+all_more old mid new out more first last =
+    all_written old new (out ++ more) (piece_written old mid new (out ++ more) more more [] (sym (append-nil more))
+    (piece_written old old mid (out ++ more) (out ++ more) out more refl (begins old (out ++ more)) first) last)
+
+pub begun_more : (old mid new : Option (List ℕ)) (out more : List ℕ) → Appends old mid out → AppendsSome mid new more → AppendsSome old new (out ++ more)
+begun_more old mid new out more first last =
+    piece_begun old mid new (out ++ more) more more [] (sym (append-nil more))
+    (piece_written old old mid (out ++ more) (out ++ more) out more refl (begins old (out ++ more)) first) last
+
+pub writes_more : (closed closes : Bool) (f g h : ℕ) (old mid new : Option (List ℕ)) (out more : List ℕ) → Writes closed f g old mid out
+    → WritesUnlessClosed closed closes g h mid new more → Writes (closed || closes) f h old new (out ++ more)
+writes_more true closes f g h old mid new out more first last =
+    (subst (Rises f) (sym last.1) first.0, some_more old new out more (subst (λ (held : Option (List ℕ)). AppendsSome old held out) (sym last.2) first.1))
+writes_more false false f g h old mid new out more first last = (last.0 ∙ first.0, all_more old mid new out more first.1 last.1)
+writes_more false true f g h old mid new out more first last =
+    (subst (λ (n : ℕ). Rises n h) first.0 last.0, begun_more old mid new out more first.1 last.1)
+
+pub reports_more : (f g h : ℕ) (old mid new : Option (List ℕ)) (lines more : List (List ℕ)) → Reports f g old mid lines → Reports g h mid new more
+    → Reports f h old new (lines ++ more)
+reports_more f g h old mid new [] more first last =
+    subst (λ (n : ℕ). Reports n h old new more) first.0 (subst (λ (held : Option (List ℕ)). Reports g h held new more) first.1 last)
+reports_more f g h old mid new (line ∷ lines) more first last = (first.0, first.1, first.2, reports_more first.0 g h first.1 mid new lines more first.3 last)

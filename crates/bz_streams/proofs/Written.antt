@@ -1,0 +1,100 @@
+-- A loop that writes the rest of some bytes.
+use Rattle.std.proofs.Common.{◌≡◌, ◌≤◌, ◌<◌, ◌+◌, ◌-◌, ◌++◌, ◌∷◌, ℕ, List, [], length, get_or, add-one, take, drop, Option, Some, None, arith, refl, ap, sym, subst, ◌∙◌, append_assoc, length-append, length-drop}
+use Rattle.std.specs.Io.KnownBytes.{Appends, Keeps}
+use Rattle.std.proofs.lemmas.Grind.{common_steps}
+use Rattle.std.proofs.Math.Seq.{drop-cons, take-add, take-append_seam, drop-append_seam}
+use Rattle.std.proofs.lemmas.List.{drop-drop, take_all, take-append-le}
+use Rattle.bz_streams.specs.Faults.{AppendsSome, AppendsPart}
+
+pub record SoFar (old now : Option (List ℕ)) (bytes rest : List ℕ) : Type 0 where
+  pub some : AppendsSome old now bytes
+  pub rest_is : rest ≡ drop some.count bytes
+
+pub begins : (known : Option (List ℕ)) (bytes : List ℕ) → SoFar known known bytes bytes
+begins known bytes = record { some = record { count = 0; within = omega arith; appends = none known }; rest_is = refl }
+  where
+    none : (k : Option (List ℕ)) → Appends k k (take 0 bytes)
+    none None = tt
+    none (Some xs) = grind (arith, common_steps)
+
+pub goes_on : (old mid now : Option (List ℕ)) (bytes rest : List ℕ) (n : ℕ) → SoFar old mid bytes rest → n ≤ length rest
+    → Appends mid now (take n rest) → SoFar old now bytes (drop n rest)
+goes_on old mid now bytes rest n so le a = record {
+  some = record { count = so.some.count + n; within = fits; appends = go old mid now so.some.appends a };
+  rest_is = rw (so.rest_is) (drop-drop n so.some.count bytes);
+}
+  where
+    fits : so.some.count + n ≤ length bytes
+    fits =
+        let len : length rest ≡ length bytes - so.some.count = rw (so.rest_is) (length-drop so.some.count bytes) in
+        let within = so.some.within in omega arith
+
+    go : (o m w : Option (List ℕ)) → Appends o m (take so.some.count bytes) → Appends m w (take n rest)
+        → Appends o w (take (so.some.count + n) bytes)
+    go None m w x y = tt
+    go (Some xs) None w x y = absurd x
+    go (Some xs) (Some ys) None x y = absurd y
+    go (Some xs) (Some ys) (Some zs) x y =
+        y ∙ ap (λ ws. ws ++ take n rest) x ∙ rw (so.rest_is, take-add so.some.count n bytes) (append_assoc xs _ _)
+
+-- a piece of what is left was written
+pub piece_written : (old mid now : Option (List ℕ)) (bytes left piece rest : List ℕ) → left ≡ piece ++ rest → SoFar old mid bytes left
+    → Appends mid now piece → SoFar old now bytes rest
+piece_written old mid now bytes left piece rest split so a =
+    let fits : length piece ≤ length left = rw (split, length-append piece rest) (omega arith) in
+    let front : take (length piece) left ≡ piece = ap (take (length piece)) split ∙ take-append_seam piece rest in
+    let back : drop (length piece) left ≡ rest = ap (drop (length piece)) split ∙ drop-append_seam piece rest in
+    subst (SoFar old now bytes) back (goes_on old mid now bytes left (length piece) so fits (subst (Appends mid now) (sym front) a))
+
+-- a beginning of a piece of what is left was written
+pub piece_begun : (old mid now : Option (List ℕ)) (bytes left piece rest : List ℕ) → left ≡ piece ++ rest → SoFar old mid bytes left
+    → AppendsSome mid now piece → AppendsSome old now bytes
+piece_begun old mid now bytes left piece rest split so some =
+    let n = some.count in
+    let within = some.within in
+    let fits : n ≤ length left = rw (split, length-append piece rest) (omega arith) in
+    let front : take n left ≡ take n piece = ap (take n) split ∙ take-append-le n piece rest within in
+    (goes_on old mid now bytes left n so fits (subst (Appends mid now) (sym front) some.appends)).some
+
+-- a write that failed added nothing
+pub kept : (old mid now : Option (List ℕ)) (bytes rest : List ℕ) → Keeps mid now → SoFar old mid bytes rest → SoFar old now bytes rest
+kept old mid now bytes rest keeps so = record {
+  some = record { count = so.some.count; within = so.some.within; appends = go old mid now keeps so.some.appends };
+  rest_is = so.rest_is;
+}
+  where
+    go : (o m w : Option (List ℕ)) → Keeps m w → Appends o m (take so.some.count bytes) → Appends o w (take so.some.count bytes)
+    go None m w k a = tt
+    go (Some xs) None w k a = absurd a
+    go (Some xs) (Some ys) None k a = absurd k
+    go (Some xs) (Some ys) (Some zs) k a = k ∙ a
+
+-- something is left, so not all was written
+pub cut_off : (old now : Option (List ℕ)) (bytes rest : List ℕ) → 0 < length rest → SoFar old now bytes rest → AppendsPart old now bytes
+cut_off old now bytes rest left so =
+    let len : length rest ≡ length bytes - so.some.count = ap length so.rest_is ∙ length-drop so.some.count bytes in
+    record { count = so.some.count; below = omega (arith, left, len); appends = so.some.appends }
+
+-- a beginning of a piece of what is left was written, and not all of the piece
+pub piece_cut : (old mid now : Option (List ℕ)) (bytes left piece rest : List ℕ) → left ≡ piece ++ rest → SoFar old mid bytes left
+    → AppendsPart mid now piece → AppendsPart old now bytes
+piece_cut old mid now bytes left piece rest split so part =
+    let n = part.count in
+    let below = part.below in
+    let len : length left ≡ length piece + length rest = ap length split ∙ length-append piece rest in
+    let within : n ≤ length piece = omega (arith, below) in
+    let fits : n ≤ length left = omega (arith, within, len) in
+    let front : take n left ≡ take n piece = ap (take n) split ∙ take-append-le n piece rest within in
+    let following : length (drop n left) ≡ length left - n = length-drop n left in
+    cut_off old now bytes (drop n left) (omega (arith, following, len, below))
+    (goes_on old mid now bytes left n so fits (subst (Appends mid now) (sym front) part.appends))
+
+-- nothing is left
+pub all_written : (old now : Option (List ℕ)) (bytes : List ℕ) → SoFar old now bytes [] → Appends old now bytes
+all_written old now bytes so =
+    let len : 0 ≡ length bytes - so.some.count = ap length so.rest_is ∙ length-drop so.some.count bytes in
+    subst (Appends old now) (take_all so.some.count bytes (omega arith)) so.some.appends
+
+-- what is left at a place is the item there and what is left after it
+pub left-cons : {A : Type 0} (items : List A) (at : ℕ) (default : A) → at < length items → drop at items ≡ get_or items at default ∷ drop (at + 1) items
+left-cons items at default within = rw (add-one) (drop-cons items at default within)

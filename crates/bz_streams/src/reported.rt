@@ -1,0 +1,104 @@
+//! The lines on standard error that speak of files. Its faults are passed over.
+ghost use Rattle.std.specs.Prelude.{◌≡◌, List, ℕ, OnOk, OnErr, map};
+ghost use Rattle.std.specs.List.{concat};
+ghost use Rattle.bz_streams.specs.Faults.{AppendsUnlessFailed};
+ghost use Rattle.bz_streams.specs.Reported.{place_line, named_line, fault_line};
+
+use crate::{Sink, write_whole};
+use bz_lex::ReadFault;
+use itoa::Buffer;
+use std::alloc::{AllocError, Global};
+
+/// The name by which standard input is reported.
+pub const STDIN: &str = "<stdin>";
+
+/// Writes these pieces to `err`, one after the other, up to its first fault: a beginning of them then is there, and
+/// what is left is dropped. It takes no memory itself.
+pub fn report<E: Sink>(err: &mut E, pieces: &[&str])
+    ensures { AppendsUnlessFailed (E.faults err.old) (E.faults err.new) (E.contents err.old) (E.contents err.new)
+        (concat (map (λ piece. piece.now) pieces.now)) }
+{
+    for &piece in pieces {
+        match write_whole(err, piece.as_bytes()) {
+            Ok(()) => {}
+            Err(_) => return,
+        }
+    }
+}
+
+// Reports where a file is not accepted, and why.
+fn report_place<'a, E: Sink>(err: &mut E, file: &'a str, line: u32, column: u32, name: &'a str)
+    ensures { AppendsUnlessFailed (E.faults err.old) (E.faults err.new) (E.contents err.old) (E.contents err.new)
+        (place_line file.entry.now line column name.entry.now) }
+{
+    let mut lines = Buffer::new();
+    let mut columns = Buffer::new();
+    let line = lines.format(line);
+    let column = columns.format(column);
+    report(err, &[file, ":", line, ":", column, ": ", name, "\n"]);
+}
+
+fn report_not_utf8<E: Sink>(err: &mut E, file: &str, at: usize)
+    ensures { AppendsUnlessFailed (E.faults err.old) (E.faults err.new) (E.contents err.old) (E.contents err.new)
+        (fault_line file.now (ReadFault.NotUtf8 at)) }
+{
+    let mut places = Buffer::new();
+    let at = places.format(at);
+    report(err, &[file, ": NotUtf8 at ", at, "\n"]);
+}
+
+/// Reports a word on a file: writes `FILE: WORD` and a newline to `err`, up to its first fault. It takes no memory itself.
+pub fn report_named<'a, E: Sink>(err: &mut E, file: &'a str, word: &'a str)
+    ensures { AppendsUnlessFailed (E.faults err.old) (E.faults err.new) (E.contents err.old) (E.contents err.new)
+        (named_line file.entry.now word.entry.now) }
+{
+    report(err, &[file, ": ", word, "\n"]);
+}
+
+/// Reports why a file is not accepted: writes `FILE:LINE:COLUMN: NAME` to `err`, `FILE: NotUtf8 at BYTE` or, where the
+/// fault has no place, `FILE: NAME`, and a newline, up to its first fault. It takes no memory itself.
+pub fn report_fault<E: Sink>(err: &mut E, file: &str, fault: &ReadFault)
+    ensures { AppendsUnlessFailed (E.faults err.old) (E.faults err.new) (E.contents err.old) (E.contents err.new)
+        (fault_line file.now fault.now) }
+{
+    match fault {
+        ReadFault::NotUtf8 { at } => report_not_utf8(err, file, *at),
+        ReadFault::TooLarge => report_named(err, file, "TooLarge"),
+        ReadFault::BadCharacter { line, column } => report_place(
+            err,
+            file,
+            *line,
+            *column,
+            "BadCharacter",
+        ),
+        ReadFault::OpenString { line, column } => report_place(
+            err,
+            file,
+            *line,
+            *column,
+            "OpenString",
+        ),
+        ReadFault::Indented { line, column } => report_place(err, file, *line, *column, "Indented"),
+        ReadFault::Unexpected { line, column } => report_place(
+            err,
+            file,
+            *line,
+            *column,
+            "Unexpected",
+        ),
+        ReadFault::TooDeep { line, column } => report_place(err, file, *line, *column, "TooDeep"),
+        ReadFault::Memory => report_named(err, file, "Memory"),
+    }
+}
+
+/// Reports a fault that clap finds in words, by clap's own text, up to the first fault of `err`. The error: there was no
+/// memory for that text; nothing is then printed.
+pub fn report_clap<E: Sink>(alloc: Global, err: &mut E, error: &clap::Error) -> Result<(), AllocError>
+    ensures ok { OnOk result ((line : List ℕ) × AppendsUnlessFailed (E.faults err.old) (E.faults err.new)
+        (E.contents err.old) (E.contents err.new) line) }
+    ensures err { OnErr result (err.new ≡ err.old) }
+{
+    let line = error.to_string(alloc)?;
+    report(err, &[line.as_str()]);
+    Ok(())
+}

@@ -1,8 +1,0 @@
-use Rattle.bz_suite.proofs.BuildItems.{build_items_comments, build_items_proper}
-use Rattle.bz_suite.proofs.laws.build_items_are_bzl_items.Goals as goal
-
-pub returns-clause-proper : goal.returns-clause-proper
-returns-clause-proper c = build_items_proper
-
-pub returns-clause-comments : goal.returns-clause-comments
-returns-clause-comments c = build_items_comments

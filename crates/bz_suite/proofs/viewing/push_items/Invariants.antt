@@ -1,6 +1,0 @@
-use Rattle.std.proofs.Common.{◌≡◌, ◌++◌, map}
-use Rattle.bz_suite.specs.declared.value.BzlItem.TheVariants as b
-use Rattle.bz_suite.proofs.viewing.push_items.Given as goal
-
-abbrev pub invariant-loop-statement : goal.invariant-loop-statement
-invariant-loop-statement l = l.items ++ map b.Statement l.statement-iterator.rest.items ≡ l.fn.items ++ map b.Statement l.fn.statements

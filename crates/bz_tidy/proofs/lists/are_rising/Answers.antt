@@ -1,6 +1,0 @@
-use Rattle.std.proofs.Common.{rules}
-use Rattle.bz_tidy.proofs.Listed.{rising_stays}
-use Rattle.bz_tidy.proofs.lists.are_rising.Goals as goal
-
-pub returns : goal.returns
-returns c = rising_stays _ _ c.is_sorted_by.ensures.cases (λ h a b h' k. search rules)

@@ -1,6 +1,0 @@
-use Rattle.std.proofs.Common.{◌≡◌, ◌++◌, map, take, drop}
-use Rattle.bz_tidy.specs.Passes.{quoted}
-use Rattle.bz_tidy.proofs.quotes.+quote.Given as goal
-
-abbrev pub invariant-quote_each-loop-x : goal.invariant-quote_each-loop-x
-invariant-quote_each-loop-x l = goal.unvisited-quote_each-loop-x l × (take l.x-index l.x-items ++ map quoted (drop l.x-index l.x-items) ≡ map quoted l.fn.exprs)

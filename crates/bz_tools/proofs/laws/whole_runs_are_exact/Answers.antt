@@ -1,8 +1,0 @@
-use Rattle.std.proofs.Common.{refl}
-use Rattle.bz_tools.specs.FormatRun.{begun}
-use Rattle.bz_tools.proofs.FormatWhole.{exact_run}
-use Rattle.bz_tools.proofs.laws.whole_runs_are_exact.Goals as goal
-
-pub returns : goal.returns
-returns c = λ mode file_type names run folder after runs whole others.
-    exact_run mode file_type names begun run folder folder after runs whole (λ name aside. refl) others

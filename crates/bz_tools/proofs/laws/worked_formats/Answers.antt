@@ -1,8 +1,0 @@
-use Rattle.std.proofs.Common.{refl}
-use Rattle.std.specs.Fmt.{digits}
-use Rattle.clap.proofs.OnLiterals.{clap_on_literals}
-use Rattle.bz_tools.proofs.laws.worked_formats.Goals as goal
-
-pub returns : goal.returns
-unfolding clap_on_literals digits
-returns c = ((refl, refl, refl, refl, refl, refl, refl, refl, refl), (refl, refl, refl, refl, refl, refl, refl, refl, refl, refl, refl), (refl, refl, refl, refl, refl), (refl, refl, refl, refl, refl))

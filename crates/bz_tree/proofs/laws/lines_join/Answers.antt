@@ -1,8 +1,0 @@
-use Rattle.bz_tree.proofs.Joining.{lines_join, bzl_lines_join}
-use Rattle.bz_tree.proofs.laws.lines_join.Goals as goal
-
-pub returns-clause-build : goal.returns-clause-build
-returns-clause-build c = lines_join
-
-pub returns-clause-bzl : goal.returns-clause-bzl
-returns-clause-bzl c = bzl_lines_join

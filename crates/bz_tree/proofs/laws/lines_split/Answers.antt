@@ -1,5 +1,0 @@
-use Rattle.bz_tree.proofs.Split.{lines_split}
-use Rattle.bz_tree.proofs.laws.lines_split.Goals as goal
-
-pub returns : goal.returns
-returns c = lines_split

@@ -1,0 +1,155 @@
+//! The parts that are in no node yet.
+ghost use Rattle.std.specs.Prelude.{◌≡◌, ◌∷◌, ◌++◌, ◌≤◌, ◌<◌, [], false, length, take, drop, max, Ok, Some, OnOk, IfOk, IsTrue, slice_get};
+ghost use Rattle.std.specs.List.{AllByRecursion};
+ghost use Rattle.std.specs.Option.{option_copied};
+ghost use Rattle.bz_grammar.specs.declared.tree.Part.{Part};
+ghost use Rattle.bz_grammar.specs.declared.tree.Part.TheVariants as p;
+ghost use Rattle.bz_grammar.specs.Legal.{IsBuildPart};
+ghost use Rattle.bz_grammar.specs.Shapes.{name, has_token};
+ghost use Rattle.bz_grammar.specs.Reading.{node_part};
+ghost use Rattle.bz_states.specs.Tokens.{terminals_of, token_at, Fails};
+ghost use Rattle.bz_tree.specs.private.Words.{Pushes};
+
+use bz_items::{Items, Memory};
+use bz_lex::{Class, Leaf};
+use bz_states::{Leaves, ParseHalt, TokenSet};
+use bz_grammar::{Kind, Node, Part, have_newer};
+use std::alloc::Global;
+use std::marker::Model;
+
+/// The parts that were read and are in no node yet, in the order of the text: those of the outermost open node first.
+/// One list serves all open nodes; a node takes its own off the end, in a list of just their number.
+#[derive(Drop)]
+pub(crate) struct Stack {
+    parts: Vec<Part>,
+    /// Whether a node was made of a kind that no BUILD file has.
+    newer: bool,
+}
+
+impl Model for Stack {
+    ghost use Rattle.std.specs.Prelude.{◌≡◌, List, false};
+    ghost use Rattle.std.specs.List.{AllByRecursion};
+    ghost use Rattle.std.specs.Coded.{coded_list};
+    ghost use Rattle.bz_grammar.specs.declared.tree.Part.{Part};
+    ghost use Rattle.bz_grammar.specs.contracts.tree.Part as e;
+    ghost use Rattle.bz_grammar.specs.Legal.{IsBuildPart};
+
+    ghost Value = { List Part };
+
+    ghost coded = { coded_list e.the_row.coded };
+
+    ghost view = { λ stack. stack.parts.items };
+
+    ghost invariant = { λ stack. stack.newer ≡ false → AllByRecursion IsBuildPart stack.parts.items };
+}
+
+impl Stack {
+    /// No parts.
+    pub fn new(alloc: Global) -> Stack
+        ensures { result ≡ [] }
+    {
+        Stack {
+            parts: Vec::new(alloc),
+            newer: false,
+        }
+    }
+
+    /// The parts.
+    pub fn as_slice(&self) -> &[Part]
+        ensures { result.now ≡ self.now }
+    {
+        self.parts.as_slice()
+    }
+
+    /// How many parts there are.
+    pub fn len(&self) -> usize
+        ensures { result ≡ length self.now }
+    {
+        self.parts.len()
+    }
+
+    /// The part at a place.
+    pub fn get(&self, at: usize) -> Option<&Part>
+        ensures { option_copied result ≡ slice_get self.now at }
+    {
+        self.parts.get(at)
+    }
+
+    /// Whether the part at a place is a name.
+    pub fn is_name_at(&self, at: usize) -> bool
+        ensures { (x : Part) → slice_get self.now at ≡ Some x → result ≡ has_token name x }
+    {
+        match self.get(at) {
+            Some(part) => is_name(part),
+            None => false,
+        }
+    }
+
+    /// Whether a node is of a kind that no BUILD file has, among the parts or inside them.
+    pub fn holds_newer(&self) -> bool
+        ensures found { IsTrue result → AllByRecursion IsBuildPart self.now → ⊥ }
+        ensures none { (result ≡ false) → AllByRecursion IsBuildPart self.now }
+    {
+        self.newer && have_newer(self.parts.as_slice())
+    }
+
+    /// One more leaf. The error: a growth was refused.
+    fn push(&mut self, leaf: Leaf) -> Result<(), Memory>
+        ensures { OnOk result (self.new ≡ self.old ++ p.Leaf leaf ∷ []) }
+    {
+        self.parts.push(Part::Leaf(leaf))?;
+        Ok(())
+    }
+
+    /// All parts in a node of this kind.
+    pub fn into_node(self, kind: Kind) -> Node
+        ensures { result ≡ record { kind = kind; parts = self } }
+    {
+        let Stack { parts, .. } = self;
+        Node {
+            kind,
+            parts: Items::from_vec(parts),
+        }
+    }
+
+    /// Puts the parts from a place on into a node of this kind. The error: a growth was refused.
+    pub fn close(&mut self, kind: Kind, from: usize) -> Result<(), Memory>
+        requires { from ≤ length self.old }
+        ensures { OnOk result (self.new ≡ take from self.old ++ node_part kind (drop from self.old) ∷ []) }
+    {
+        let _whole = self.parts.len();
+        // The room comes first: a push that fails gives the node back, and the proof that it is dropped is long.
+        self.parts.reserve(1)?;
+        let parts = Items::from_vec(self.parts.split_off(from)?);
+        self.newer = self.newer || kind.is_newer();
+        self.parts.push_reserved(Part::Node(Node { kind, parts }));
+        Ok(())
+    }
+
+    /// The next leaf, where it is this token. Returns how deep it is: not at all.
+    pub fn take(&mut self, token: TokenSet, leaves: &mut Leaves) -> Result<u32, ParseHalt>
+        ensures ok { IfOk result (λ deep. Pushes (token_at (terminals_of token) leaves.old) self.old self.new leaves.new deep) }
+        ensures err { Fails result (token_at (terminals_of token) leaves.old) }
+    {
+        let leaf = leaves.take_next(token)?;
+        self.push(leaf)?;
+        Ok(0)
+    }
+}
+
+/// Whether a part is a name.
+fn is_name(part: &Part) -> bool
+    ensures { result ≡ has_token name part.now }
+{
+    match part {
+        Part::Leaf(leaf) => leaf.class == Class::Name,
+        Part::Node(_) => false,
+    }
+}
+
+/// The greater of two depths.
+pub(crate) fn deeper(one: u32, other: u32) -> u32
+    ensures { result ≡ max one other }
+{
+    if one < other { other } else { one }
+}

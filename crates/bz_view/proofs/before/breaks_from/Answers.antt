@@ -1,6 +1,0 @@
-use Rattle.std.proofs.Common.{sym, ◌∙◌}
-use Rattle.bz_view.proofs.NodeViews.{no_split_at}
-use Rattle.bz_view.proofs.before.breaks_from.Goals as goal
-
-pub loop-at-preserved : goal.loop-at-preserved
-loop-at-preserved c = no_split_at c.args.parts.now c.loop-at.at (sym c.breaks_before.ensures ∙ c.if-breaks_before.false) ∙ c.loop-at.invariant

@@ -1,5 +1,0 @@
-use Rattle.bz_view.proofs.KeptFiles.{comments_kept}
-use Rattle.bz_view.proofs.laws.comments_kept.Goals as goal
-
-pub returns : goal.returns
-returns c = comments_kept

@@ -1,5 +1,0 @@
-use Rattle.bz_view.proofs.ProperFiles.{view_proper}
-use Rattle.bz_view.proofs.laws.views_are_proper.Goals as goal
-
-pub returns : goal.returns
-returns c = view_proper

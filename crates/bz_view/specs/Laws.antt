@@ -1,9 +1,0 @@
--- The law that each view is a file value.
-use Rattle.bz_tree.specs.declared.tree.Node.{Node}
-use Rattle.bz_tree.specs.Legal.{Legal}
-use Rattle.bz_value.specs.Proper.{IsProper}
-use Rattle.bz_view.specs.View.{view_of}
-
--- what a legal tree is seen as is proper
-abbrev pub ViewsAreProper : Type 0
-ViewsAreProper = (tree : Node) → Legal tree → IsProper (view_of tree)

@@ -1,6 +1,0 @@
-pub mod Joined
-pub mod Kept
-pub mod Laws
-pub mod View
-pub mod Walks
-pub mod Worked

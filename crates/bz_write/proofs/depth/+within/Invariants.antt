@@ -1,7 +1,0 @@
-use Rattle.std.proofs.Common.{◌≤◌, drop}
-use Rattle.std.specs.Prelude.{◌↔◌}
-use Rattle.bz_write.specs.Depths.{deepest_of}
-use Rattle.bz_write.proofs.depth.+within.Given as goal
-
-abbrev pub invariant-are_within-loop-expr : goal.invariant-are_within-loop-expr
-invariant-are_within-loop-expr l = (deepest_of (drop l.expr-index l.exprs) ≤ l.depth) ↔ (deepest_of l.exprs ≤ l.depth)

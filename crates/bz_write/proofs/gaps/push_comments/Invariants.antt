@@ -1,6 +1,0 @@
-use Rattle.std.proofs.Common.{◌≡◌, ◌++◌, drop}
-use Rattle.bz_write.specs.Written.{comment_lines}
-use Rattle.bz_write.proofs.gaps.push_comments.Given as goal
-
-abbrev pub invariant-loop-text : goal.invariant-loop-text
-invariant-loop-text l = l.out.items ++ comment_lines (drop l.text-index l.texts) ≡ l.fn.out.items ++ comment_lines l.texts

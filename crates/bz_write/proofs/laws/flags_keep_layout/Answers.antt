@@ -1,6 +1,0 @@
-use Rattle.bz_write.proofs.Flagged.{same_laid_out, same_layout}
-use Rattle.bz_write.proofs.FlaggedProper.{flags_proper}
-use Rattle.bz_write.proofs.laws.flags_keep_layout.Goals as goal
-
-pub returns : goal.returns
-returns c = λ items. (same_layout items, same_laid_out items, λ proper. flags_proper items proper)

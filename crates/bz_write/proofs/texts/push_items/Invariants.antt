@@ -1,6 +1,0 @@
-use Rattle.std.proofs.Common.{◌≡◌, ◌++◌, drop}
-use Rattle.bz_write.specs.Written.{layout}
-use Rattle.bz_write.proofs.texts.push_items.Given as goal
-
-abbrev pub invariant-loop-i : goal.invariant-loop-i
-invariant-loop-i l = l.out.items ++ layout (drop l.i l.items) ≡ l.fn.out.items ++ layout l.items
