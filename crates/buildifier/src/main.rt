@@ -1,9 +1,9 @@
 //! buildifier: lays out BUILD files in one canonical form.
 #![tactic(auto)]
 
+use bz_buildifier::buildifier;
 use bz_files::DiskFiles;
 use bz_streams::{Device, report};
-use bz_buildifier::buildifier;
 use std::alloc::AllocError;
 use std::env;
 use std::io::ErrorKind;

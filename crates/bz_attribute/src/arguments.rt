@@ -9,9 +9,9 @@ ghost use Rattle.bz_rule.specs.Values.{has_kind, on_row, on_third};
 ghost use Rattle.bz_attribute.specs.Attributes.{is_attribute, has_attribute, is_other_attribute, inserted, with_value, with_new, without, put};
 
 use crate::making::{argument_of, token};
+use bz_grammar::{Class, Kind};
 use bz_items::{Items, Memory, Text};
 use bz_rule::{attribute, value_named};
-use bz_grammar::{Class, Kind};
 use bz_value::Expr;
 use std::alloc::Global;
 use std::mem;

@@ -9,11 +9,11 @@ ghost use Rattle.bz_items.specs.Characters.{full_stop};
 ghost use Rattle.bz_rule.specs.Values.{on_items, with_text};
 ghost use Rattle.bz_attribute.specs.Made.{token, node, sequence, name, mark, shortened_in, string_text, string_of, list_of, binds_looser, operand, plus, function_of, argument_of, rule_made};
 
+use bz_command_syntax::quoted;
+use bz_grammar::{Class, Kind};
 use bz_items::{Items, Memory, Text};
 use bz_label::bytes::{is_label_attribute, shortened};
-use bz_grammar::{Class, Kind};
 use bz_value::{Comments, Expr, Form, Item, Seq, Token};
-use bz_command_syntax::quoted;
 use std::alloc::{AllocError, Global};
 use std::mem;
 

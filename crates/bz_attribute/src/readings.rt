@@ -7,9 +7,9 @@ ghost use Rattle.bz_rule.specs.Values.{has_kind as is_of, has_class as is_in, fi
 ghost use Rattle.bz_attribute.specs.Lists.{has_lists as has_any, is_no_list as is_none, is_empty_list as is_empty, body_of as plain, are_one, is_item as item, items_in, listed};
 
 use crate::arguments::has_kind;
+use bz_grammar::{Class, Kind};
 use bz_label::bytes::{is_label_attribute, same};
 use bz_rule::{body, text_in};
-use bz_grammar::{Class, Kind};
 use bz_value::Expr;
 use std::slice;
 

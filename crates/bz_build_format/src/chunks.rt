@@ -5,13 +5,13 @@ ghost use Rattle.bz_build_format.specs.Meaning.{gives, Formats};
 
 use crate::cut::{CHUNK, TRIES, Unseen, chunk_end, why_unseen};
 use crate::writing::value_of;
-use bz_items::Text;
-use bz_tree::parse;
-use bz_passes::{begins_with_load, tidied_apart, tidy};
 use bz_grammar::LENGTH_LIMIT;
-use bz_value::{File, Item};
 use bz_hosts::{ends_with_line, views_join};
+use bz_items::Text;
 use bz_layout::{append_file, layouts_join};
+use bz_passes::{begins_with_load, tidied_apart, tidy};
+use bz_tree::parse;
+use bz_value::{File, Item};
 use std::alloc::Global;
 
 /// What the beginning of a text says.

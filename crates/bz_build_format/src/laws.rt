@@ -5,10 +5,12 @@ ghost use Rattle.bz_build_format.specs.Tokens.{FormattingKeepsTokens, TreeProgra
 ghost use Rattle.bz_build_format.specs.TreePrograms.{ViewsKeepPrograms};
 ghost use Rattle.bz_build_format.specs.Writing.{WritingKeepsProgram};
 
-use bz_passes::{comments_stay, program_stays, proper_stays, tidy_settles, tidy_stays, tokens_stay};
 use bz_grammar::laws::one_reading;
 use bz_hosts::{comments_kept, views_are_proper};
 use bz_layout::{layout_is_accepted, layout_reads_back};
+use bz_passes::{
+    comments_stay, program_stays, proper_stays, tidy_settles, tidy_stays, tokens_stay,
+};
 
 /// A formatted text is formatted to itself, its value is that of the text it was made of, tidied, each comment is in it
 /// as often as in that text, and the program of that text is kept, with each token of it that is no string as often.

@@ -12,4 +12,4 @@ pub use formatter::{FormatFault, format, unread};
 pub use laws::{
     comments_fill, formatted_once, tokens_kept, views_keep_programs, writing_keeps_program,
 };
-pub use writing::{laid_out_of, formatted, reads_back, written};
+pub use writing::{formatted, laid_out_of, reads_back, written};

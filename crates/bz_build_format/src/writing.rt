@@ -7,13 +7,13 @@ ghost use Rattle.bz_hosts.specs.View.{view_of};
 ghost use Rattle.bz_passes.specs.Passes.{tidied};
 ghost use Rattle.bz_build_format.specs.Meaning.{gives, refuses, written, Formats};
 
-use bz_items::{Memory, Text};
-use bz_rule::take_apart;
-use bz_passes::tidy;
 use bz_grammar::Tree;
-use bz_value::{File, Refusal};
 use bz_hosts::{into_view, view};
+use bz_items::{Memory, Text};
 use bz_layout::{SetFault, set, set_from, text_of_file};
+use bz_passes::tidy;
+use bz_rule::take_apart;
+use bz_value::{File, Refusal};
 use std::alloc::Global;
 
 /// What a tree spells reads as it.

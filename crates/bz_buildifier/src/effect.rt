@@ -9,8 +9,8 @@ ghost use Rattle.bz_buildifier.specs.private.FormatShown.{effect_seen};
 
 use crate::mode::Mode;
 use crate::{Cut, Sink};
-use bz_files::FileFault;
 use bz_build_format::FormatFault;
+use bz_files::FileFault;
 use bz_items::{Memory, Text};
 use bz_streams::{STDIN, first_cut, report_fault, report_named, write_whole};
 use std::alloc::Global;

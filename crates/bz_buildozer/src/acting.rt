@@ -14,14 +14,14 @@ ghost use Rattle.bz_buildozer.specs.private.Shown.{progress_in};
 ghost use Rattle.bz_buildozer.specs.Steps.{input_package, step_of};
 
 use crate::opening::open_package;
+use crate::reported::report_refusal;
 use crate::run::Run;
 use crate::step::{action_of, package_of};
-use crate::reported::report_refusal;
+use bz_command_line::Request;
 use bz_files::Files;
 use bz_items::at;
-use bz_resume::PairFault;
 use bz_label::Target;
-use bz_command_line::Request;
+use bz_resume::PairFault;
 use bz_streams::{Cut, Sink, Source, first_cut, report_named};
 use bz_value::Refusal;
 use bz_workspace::{Action, KeepFault, Opened, Reply, Used, Workspace};

@@ -12,9 +12,9 @@ ghost use Rattle.bz_buildozer.specs.Reported.{fixed_line};
 
 use crate::run::Run;
 use crate::script::INPUT;
+use bz_command_line::Options;
 use bz_files::Files;
 use bz_items::Memory;
-use bz_command_line::Options;
 use bz_streams::{Cut, Exit, Sink, first_cut, report, report_named, write_whole};
 use bz_workspace::{Opened, Used};
 use std::alloc::Global;

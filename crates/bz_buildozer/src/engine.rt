@@ -18,15 +18,17 @@ ghost use Rattle.bz_buildozer.specs.Reported.{no_journal_line};
 ghost use Rattle.bz_buildozer.specs.Usage.{OperandsReport, TextReports, GivenReports, LineReports};
 
 use crate::ending::finish;
+use crate::reported::{
+    UNUSED, report_input, report_line_usage, report_no_journal, report_unread, report_usage,
+};
 use crate::run::begun;
 use crate::running::run_lines;
 use crate::script::{INPUT, read_bytes, reported_name};
 use crate::step::{names_input, shows_input};
-use crate::reported::{UNUSED, report_input, report_line_usage, report_no_journal, report_unread, report_usage};
+use bz_command_line::{Given, Options, Requested, read_group, read_line, read_script};
 use bz_files::Files;
-use bz_command_line::{Requested, Given, Options, read_group, read_line, read_script};
-use bz_streams::{Cut, Exit, Sink, Source, report_fault};
 use bz_grammar::ReadFault;
+use bz_streams::{Cut, Exit, Sink, Source, report_fault};
 use std::alloc::Global;
 use std::convert::AsStr;
 use std::slice::from_ref;

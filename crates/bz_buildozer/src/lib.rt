@@ -7,11 +7,11 @@ mod ending;
 mod engine;
 mod laws;
 mod opening;
+mod reported;
 mod run;
 mod running;
 mod script;
 mod step;
-mod reported;
 
 pub use bz_streams::{Cut, Exit};
 pub use engine::buildozer;

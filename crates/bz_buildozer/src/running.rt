@@ -11,9 +11,9 @@ ghost use Rattle.bz_buildozer.specs.Steps.{input_package, step_of, steps_request
 
 use crate::acting::do_step;
 use crate::run::Run;
+use bz_command_line::{Options, Request, Requested};
 use bz_files::Files;
 use bz_label::Target;
-use bz_command_line::{Requested, Request, Options};
 use bz_streams::{Cut, Sink, Source, first_cut};
 use std::alloc::Global;
 

@@ -9,8 +9,8 @@ ghost use Rattle.bz_buildozer.specs.private.Shown.{targets_input_in, prints_noth
 ghost use Rattle.bz_buildozer.specs.Steps.{is_of_input, names_input, shows_input, all_steps};
 
 use crate::script::INPUT;
+use bz_command_line::{Request, Requested, Verb};
 use bz_label::Target;
-use bz_command_line::{Requested, Request, Verb};
 use bz_workspace::Action;
 
 /// What the session of the target's file is to do; to list its texts is no action.

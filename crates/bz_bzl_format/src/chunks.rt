@@ -8,10 +8,12 @@ use bz_bzl_layout::{
     append_bzl, bzl_layout_is_accepted, bzl_layout_reads_back, bzl_layouts_join, level,
     level_keeps_layout, level_stays,
 };
+use bz_bzl_value::{
+    BzlFile, BzlItem, begins_bare, bzl_view_is_proper, bzl_views_join, view_bzl_front,
+};
+use bz_grammar::LENGTH_LIMIT;
 use bz_items::Text;
 use bz_tree::parse_bzl;
-use bz_bzl_value::{BzlFile, BzlItem, begins_bare, bzl_view_is_proper, bzl_views_join, view_bzl_front};
-use bz_grammar::LENGTH_LIMIT;
 use std::alloc::Global;
 
 /// What the beginning of a text says.

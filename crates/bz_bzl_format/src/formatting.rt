@@ -6,10 +6,10 @@ use crate::chunks::chunks_formatted;
 use crate::laws::formatted_bzl_once;
 use bz_build_format::{FormatFault, of_read_fault};
 use bz_bzl_layout::{level, level_keeps_layout, level_stays, set_bzl};
-use bz_items::Text;
-use bz_tree::parse_bzl;
 use bz_bzl_value::{BzlFile, bzl_view_is_proper, view_bzl};
+use bz_items::Text;
 use bz_layout::SetFault;
+use bz_tree::parse_bzl;
 use std::alloc::Global;
 
 /// What a text says.

@@ -4,8 +4,8 @@ ghost use Rattle.bz_bzl_layout.specs.private.Depths as depths;
 
 use crate::leveling::is_def;
 use bz_bzl_value::{Branch, BzlItem, Statement};
-use bz_value::Form;
 use bz_layout::{are_within, is_within};
+use bz_value::Form;
 
 /// Whether what is laid out of a header has at most this depth.
 fn is_header_within(head: &Form, depth: usize) -> bool

@@ -4,12 +4,12 @@ ghost use Rattle.bz_layout.specs.Flags.{with_flags};
 ghost use Rattle.bz_bzl_layout.specs.Layout.{is_def};
 ghost use Rattle.bz_bzl_layout.specs.Level as spec;
 
-use bz_items::Items;
 use bz_bzl_value::{Branch, BzlFile, BzlItem, Statement};
-use bz_passes::settle;
 use bz_grammar::Kind;
-use bz_value::{Expr, Form};
+use bz_items::Items;
 use bz_layout::is_broken;
+use bz_passes::settle;
+use bz_value::{Expr, Form};
 
 /// Whether a header is one of a function.
 pub fn is_def(head: &Form) -> bool

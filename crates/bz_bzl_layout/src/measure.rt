@@ -5,12 +5,12 @@ ghost use Rattle.bz_bzl_layout.specs.Layout as layout;
 ghost use Rattle.bz_bzl_layout.specs.Layout.{bzl_layout};
 
 use crate::leveling::is_def;
-use bz_items::{Memory, Text};
 use bz_bzl_value::{Branch, BzlFile, BzlItem, Statement};
-use bz_value::{Expr, Form};
+use bz_items::{Memory, Text};
 use bz_layout::{
     NoRoom, deeper_margin, is_close, left_after, left_after_body, left_after_row, less, less_after,
 };
+use bz_value::{Expr, Form};
 use std::alloc::{AllocError, Global};
 
 /// What is left of the room after comment lines at a margin.

@@ -13,9 +13,9 @@ use crate::depth::are_bzl_items_within;
 use crate::laws::{bzl_layout_is_accepted, bzl_layout_is_too_deep, bzl_layout_reads_back};
 use crate::measure::is_bzl_layout_within;
 use crate::writing::{layout_text, push_below, push_items};
-use bz_items::Text;
 use bz_bzl_value::{BzlFile, BzlItem};
 use bz_grammar::{DEPTH_LIMIT, LENGTH_LIMIT};
+use bz_items::Text;
 use bz_layout::SetFault;
 use std::alloc::Global;
 

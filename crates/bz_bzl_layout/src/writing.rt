@@ -7,11 +7,11 @@ ghost use Rattle.bz_bzl_layout.specs.Layout.{bzl_layout};
 
 use crate::leveling::is_def;
 use crate::measure::is_apart_from;
-use bz_items::{Memory, Text};
 use bz_bzl_value::{Branch, BzlFile, BzlItem, Statement};
 use bz_grammar::LENGTH_LIMIT;
-use bz_value::{Expr, Form};
+use bz_items::{Memory, Text};
 use bz_layout::{deeper_margin, push_after, push_body, push_expr, push_row};
+use bz_value::{Expr, Form};
 use std::alloc::{AllocError, Global};
 
 /// Appends the spaces of a margin. The error: a growth was refused, or the text is past its limit already, so that the rest need not

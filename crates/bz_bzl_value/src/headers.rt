@@ -8,10 +8,10 @@ ghost use Rattle.bz_hosts.specs.View.{seen};
 ghost use Rattle.bz_grammar.specs.declared.kind.Kind.{Kind};
 ghost use Rattle.bz_bzl_value.specs.View.{branches, with_suite, def_head, row_head, head, is_compound, only_comment, stated, suffix_before};
 
-use bz_items::{Items, Memory, Text};
 use bz_grammar::{Class, Kind, Node, Part};
-use bz_value::{Comments, Form, Seq, first_line};
 use bz_hosts::{gap_at, head_of, row_of, seq_of};
+use bz_items::{Items, Memory, Text};
+use bz_value::{Comments, Form, Seq, first_line};
 use std::alloc::Global;
 
 /// Whether a kind is another one.

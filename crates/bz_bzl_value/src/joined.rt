@@ -8,10 +8,10 @@ ghost use Rattle.bz_bzl_value.specs.View.{bzl_view_of};
 
 use crate::value::BzlFile;
 use crate::viewing::items_of;
-use bz_items::Memory;
 use bz_grammar::{BzlTree, Leaf, Part};
-use bz_value::first_line;
 use bz_hosts::gap_at;
+use bz_items::Memory;
+use bz_value::first_line;
 use std::alloc::Global;
 
 fn is_line_feed(leaf: &Leaf) -> bool

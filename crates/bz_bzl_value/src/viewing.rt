@@ -9,12 +9,12 @@ ghost use Rattle.bz_bzl_value.specs.View.{bzl_items, bzl_view_of, block_items, b
 ghost use Rattle.bz_value.specs.Gaps.{groups_of, all_but_last, last_group};
 
 use crate::headers::{after_first_part, colon_from, head, is_compound, is_kind, suffix_before};
-use crate::rest::{Rest, past_first_indented_line, comments, is_spent, rest_of_gap, take_end};
+use crate::rest::{Rest, comments, is_spent, past_first_indented_line, rest_of_gap, take_end};
 use crate::value::{Branch, BzlFile, BzlItem, Statement};
-use bz_items::{Items, Memory, Text};
 use bz_grammar::{BzlTree, Kind, Node, Part};
-use bz_value::Item;
 use bz_hosts::{gap_at, gap_before, gap_of_last, push_groups, push_statements};
+use bz_items::{Items, Memory, Text};
+use bz_value::Item;
 use std::alloc::Global;
 
 /// How many spaces and tabs are at the end of a gap.

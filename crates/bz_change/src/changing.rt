@@ -5,9 +5,9 @@ ghost use Rattle.bz_change.specs.Changes.{attributes_changed};
 
 use crate::whole::{copy, remove, rename, set};
 use bz_attribute::{Slot, has_attribute};
+use bz_command_syntax::AttributeOperation;
 use bz_items::Items;
 use bz_value::{Expr, Refusal};
-use bz_command_syntax::AttributeOperation;
 use std::alloc::Global;
 
 /// What an operation on whole attributes makes of the arguments of a rule. `current` is the path of the file's package, `found` the

@@ -9,9 +9,9 @@ ghost use Rattle.bz_attribute.specs.Made.{token, string_text};
 ghost use Rattle.bz_change.specs.Changes.{is_constant, is_decimal, single_setting, setting, value_of, are_texts, is_set};
 
 use bz_attribute::{Slot, list_of, string_text, token};
+use bz_grammar::{Class, Kind};
 use bz_items::{Items, Memory, Text};
 use bz_label::bytes::is_list_attribute;
-use bz_grammar::{Class, Kind};
 use bz_value::Expr;
 use std::alloc::Global;
 

@@ -12,11 +12,11 @@ use crate::settings::{Setting, is_set, setting_of, value_of};
 use bz_attribute::{
     Slot, has_attribute, is_other_attribute, place_of, put, remove_first, set_text,
 };
+use bz_command_syntax::Attributes;
+use bz_grammar::Kind;
 use bz_items::{Items, Memory, Text};
 use bz_rule::attribute;
-use bz_grammar::Kind;
 use bz_value::{Expr, Refusal};
-use bz_command_syntax::Attributes;
 use std::alloc::Global;
 use std::mem;
 

@@ -12,12 +12,12 @@ use crate::printing::arguments_of;
 use crate::proper_laws::effects_stay_proper;
 use crate::running::is_any;
 use crate::targets::{is_rule, meant};
+use bz_command_syntax::{Command, CommentOperation, Host, Operation};
 use bz_comment::{comment_made, find_host};
+use bz_grammar::LENGTH_LIMIT;
 use bz_items::Memory;
 use bz_label::Target;
-use bz_grammar::LENGTH_LIMIT;
 use bz_value::{File, Item, Refusal};
-use bz_command_syntax::{Command, CommentOperation, Host, Operation};
 use std::alloc::Global;
 
 /// Whether this many copies of a text of this length are past the limit.

@@ -3,8 +3,8 @@ ghost use Rattle.std.specs.Prelude.{◌≡◌};
 ghost use Rattle.std.specs.List.{list_any};
 ghost use Rattle.bz_command.specs.LinesMatter.{LinesMatter, is_by_line, looks_at_lines, prints_line, prints_lines};
 
-use bz_label::{Target, Which};
 use bz_command_syntax::{Command, Field, Operation};
+use bz_label::{Target, Which};
 
 /// Whether a target names a line.
 fn is_by_line(which: &Which) -> bool

@@ -5,12 +5,12 @@ ghost use Rattle.bz_rule.specs.Rules.{rule_of};
 ghost use Rattle.bz_command.specs.Printing.{before_rest, item_line, lines_after_item, printed_comments_of, printed_one, printed_rules};
 
 use crate::targets::is_rule;
+use bz_command_syntax::{CommentOperation, Host, Operation};
 use bz_comment::print_comments;
-use bz_items::Text;
 use bz_fields::push_rule;
+use bz_items::Text;
 use bz_rule::call_of;
 use bz_value::{Expr, Item, Refusal};
-use bz_command_syntax::{CommentOperation, Host, Operation};
 use std::alloc::Global;
 
 /// The line on which an item begins, where it is on one, and the lines of the statements after it.

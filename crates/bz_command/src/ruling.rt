@@ -17,13 +17,13 @@ use crate::outcome::{Changed, Extent, Spliced};
 use crate::renewing::{are_bare, extent_of};
 use crate::statements::{Work, on_one, source};
 use bz_attribute::rule_made;
+use bz_command_syntax::{
+    AttributeOperation, Fixes, LoadOperation, Operation, RuleOperation, RulePlace, Symbol,
+};
 use bz_items::{Items, Memory};
 use bz_load::{WithLoad, fix, new_load};
 use bz_rule::has_name;
 use bz_value::{Expr, Item, Refusal};
-use bz_command_syntax::{
-    AttributeOperation, Fixes, LoadOperation, Operation, RuleOperation, RulePlace, Symbol,
-};
 use std::alloc::Global;
 
 /// What an operation makes of an item where it is marked. Whether the item is the same then.

@@ -13,12 +13,11 @@ use crate::printing::print_rules;
 use crate::proper_laws::effects_stay_proper;
 use crate::ruling::on_rules;
 use crate::targets::{may_mean_none, meant, meant_by};
+use bz_command_syntax::{Command, Operation, RuleOperation};
 use bz_items::{Items, Text};
 use bz_label::{Target, Which};
-use bz_rule::Names;
-use bz_rule::take_apart;
+use bz_rule::{Names, take_apart};
 use bz_value::{File, Item, Refusal};
-use bz_command_syntax::{Command, Operation, RuleOperation};
 use std::alloc::Global;
 use std::mem;
 

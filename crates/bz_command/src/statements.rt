@@ -13,14 +13,14 @@ ghost use Rattle.bz_command.specs.private.Looks.{arguments_by, made_by};
 use crate::targets::is_rule;
 use bz_attribute::function_of;
 use bz_change::change_attributes;
+use bz_command_syntax::{CommentOperation, Host, Operation, RuleOperation};
 use bz_comment::{Change, change_comments, change_own};
 use bz_dict::change_dicts;
+use bz_grammar::Kind;
 use bz_items::{Items, Memory};
 use bz_list::change_values;
 use bz_rule::{attribute, call_of, has_name};
-use bz_grammar::Kind;
 use bz_value::{Expr, Item, Refusal};
-use bz_command_syntax::{CommentOperation, Host, Operation, RuleOperation};
 use std::alloc::Global;
 use std::mem;
 

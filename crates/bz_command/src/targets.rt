@@ -7,8 +7,7 @@ ghost use Rattle.bz_command.specs.Targets.{is_rule, on_line, first_mark, meant, 
 
 use bz_items::Memory;
 use bz_label::Which;
-use bz_rule::Names;
-use bz_rule::{call_of, has_name, is_named, is_rule_of_kind};
+use bz_rule::{Names, call_of, has_name, is_named, is_rule_of_kind};
 use bz_value::Item;
 use std::alloc::Global;
 

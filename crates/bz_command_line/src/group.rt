@@ -6,7 +6,7 @@ ghost use Rattle.bz_command_line.specs.Paths.{HasPath};
 ghost use Rattle.bz_command_line.specs.Refused.{IsGroupFault};
 ghost use Rattle.bz_command_line.specs.Shown.{requested_in, refused_in, usage_in};
 
-use crate::requested::{Requested, Refused, read_requested};
+use crate::requested::{Refused, Requested, read_requested};
 use crate::verb::OperandFault;
 use std::alloc::{AllocError, Global};
 

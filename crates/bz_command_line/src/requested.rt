@@ -34,7 +34,11 @@ pub struct Refused<'a> {
     pub fault: OperandFault,
 }
 
-fn add_target(alloc: Global, requested: &mut Requested<'_>, operand: &str) -> Result<(), OperandFault>
+fn add_target(
+    alloc: Global,
+    requested: &mut Requested<'_>,
+    operand: &str,
+) -> Result<(), OperandFault>
     ensures ok { OnOk result (a.joined_operands (Ok (requested_in requested.old)) (a.aimed operand.now (operand_target operand.now)) ≡ Ok (requested_in requested.new)) }
     ensures err { IfErr result (λ fault. (operand_target operand.now ≡ Err fault) ⊎ (fault ≡ OperandFault.Memory)) }
     ensures paths { All HasPath requested.old.targets.items → OnOk result (All HasPath requested.new.targets.items) }
@@ -68,7 +72,11 @@ fn add_command<'a>(
     Ok(())
 }
 
-fn add<'a>(alloc: Global, requested: &mut Requested<'a>, operand: &'a str) -> Result<(), OperandFault>
+fn add<'a>(
+    alloc: Global,
+    requested: &mut Requested<'a>,
+    operand: &'a str,
+) -> Result<(), OperandFault>
     ensures ok { OnOk result (a.joined_operands (Ok (requested_in requested.old)) (a.requested_by operand.entry.now) ≡ Ok (requested_in requested.new)) }
     ensures err { IfErr result (λ fault. IsOperandFault operand.entry.now fault ⊎ (fault ≡ OperandFault.Memory)) }
     ensures paths { All HasPath requested.old.targets.items → OnOk result (All HasPath requested.new.targets.items) }
@@ -81,7 +89,10 @@ fn add<'a>(alloc: Global, requested: &mut Requested<'a>, operand: &'a str) -> Re
 }
 
 /// What the operands request. The error is the first operand that is refused, in order, or memory.
-pub(crate) fn read_requested<'a>(alloc: Global, operands: &[&'a str]) -> Result<Requested<'a>, Refused<'a>>
+pub(crate) fn read_requested<'a>(
+    alloc: Global,
+    operands: &[&'a str],
+) -> Result<Requested<'a>, Refused<'a>>
     ensures ok { IfOk result (λ requested. a.requested_of (map (λ s. s.now) operands.now) ≡ Ok (requested_in requested)) }
     ensures err { IfErr result (λ refused. IsFirstRefused (map (λ s. s.now) operands.now) (refused_in refused)
         ⊎ (refused.fault ≡ OperandFault.Memory)) }

@@ -8,8 +8,8 @@ ghost use Rattle.bz_command_line.specs.Refused.{IsFirstFault, IsGroupFault, IsSc
 ghost use Rattle.bz_command_line.specs.Script.{has_nul, is_read, line_with_nul, operands_in, operand_groups, script_of, without_mark};
 ghost use Rattle.bz_command_line.specs.Shown.{requested_in, usage_in};
 
-use crate::requested::Requested;
 use crate::group::{UsageFault, read_group};
+use crate::requested::Requested;
 use std::alloc::{AllocError, Global};
 
 // A line that is not passed over.

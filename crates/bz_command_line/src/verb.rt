@@ -7,8 +7,8 @@ ghost use Rattle.bz_command_line.specs.Operands.{verb_in, verb_of, by_command, c
 ghost use Rattle.bz_command_line.specs.Refused.{IsPatternFault};
 ghost use Rattle.bz_command_line.specs.Verbs.{prints, operand_fault_name, operand_fault_number};
 
-use bz_items::Text;
 use bz_command_syntax::{Command, CommandFault, TEXT_LIMIT, read_words};
+use bz_items::Text;
 use std::alloc::Global;
 
 /// What a command requests.

@@ -11,11 +11,11 @@ ghost use Rattle.bz_comment.specs.Hosts.{comment, has_item, on_first_item};
 use crate::changing::{Change, change_own};
 use crate::seeking::{Sought, first_sought, place_of_item, place_of_list};
 use bz_attribute::{has_attribute, has_lists, place_of, set_value, take_value};
+use bz_command_syntax::Host;
+use bz_grammar::Kind;
 use bz_items::{Items, Memory};
 use bz_rule::attribute;
-use bz_grammar::Kind;
 use bz_value::{Expr, Refusal};
-use bz_command_syntax::Host;
 use std::alloc::Global;
 
 impl Change<'_> {

@@ -7,10 +7,10 @@ ghost use Rattle.bz_comment.specs.Hosts.{without_space as space_off, comment_tex
 
 use crate::seeking::{Sought, first_sought};
 use bz_attribute::{has_lists, is_attribute};
+use bz_command_syntax::Host;
 use bz_items::{Items, Memory, Text};
 use bz_rule::attribute;
 use bz_value::{Comments, Expr, Refusal};
-use bz_command_syntax::Host;
 use std::alloc::Global;
 
 /// The text without a space at its begin.

@@ -9,10 +9,10 @@ ghost use Rattle.bz_dict.specs.private.Keys.{AreIndexed, entry_put, entries_put}
 use crate::entries::{Change, dict_of, entry_made};
 use crate::keys::{place_at, places_of, put_place};
 use bz_attribute::{Slot, add_attribute, has_kind, set_value, string_of, swap_value, take_value};
-use bz_items::{Items, Memory};
-use bz_grammar::Kind;
-use bz_value::{Expr, Refusal};
 use bz_command_syntax::Entry;
+use bz_grammar::Kind;
+use bz_items::{Items, Memory};
+use bz_value::{Expr, Refusal};
 use std::collections::BTreeMap;
 
 /// A new entry goes last.

@@ -4,10 +4,10 @@ ghost use Rattle.std.specs.Option.{option_copied};
 ghost use Rattle.bz_dict.specs.Dicts.{dict_of, entry_made, key_of};
 
 use bz_attribute::{Slot, body_of, has_kind, node, parts_of, sequence, string_of, token};
-use bz_items::{Items, Memory, Text};
-use bz_grammar::{Class, Kind};
-use bz_value::Expr;
 use bz_command_syntax::{Entry, quoted};
+use bz_grammar::{Class, Kind};
+use bz_items::{Items, Memory, Text};
+use bz_value::Expr;
 use std::alloc::Global;
 
 /// What becomes of an entry whose key is there.

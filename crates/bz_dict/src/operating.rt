@@ -6,9 +6,9 @@ use crate::changing::change_dict;
 use crate::entries::Change;
 use crate::removing::dict_remove;
 use bz_attribute::Slot;
+use bz_command_syntax::DictOperation;
 use bz_items::Items;
 use bz_value::{Expr, Refusal};
-use bz_command_syntax::DictOperation;
 use std::alloc::Global;
 
 /// What an operation on dicts makes of the arguments of a rule. `current` is the path of the file's package. Errors: `NotADict`: the

@@ -11,9 +11,9 @@ ghost use Rattle.bz_dict.specs.private.Keys.{is_chosen as has_chosen};
 
 use crate::keys::{chosen_of, is_chosen};
 use bz_attribute::{has_kind, items_of, remove_first, set_value, take_value};
+use bz_grammar::Kind;
 use bz_items::{Items, Text};
 use bz_rule::attribute;
-use bz_grammar::Kind;
 use bz_value::{Expr, Refusal};
 use std::alloc::Global;
 use std::collections::BTreeSet;

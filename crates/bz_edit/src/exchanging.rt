@@ -7,8 +7,8 @@ ghost use Rattle.bz_edit.specs.Steps.{swap_node, all_there, turned_all, AllApart
 use crate::edit::{Edit, EditFault, copy_edits};
 use crate::place::{all_places, swap_each, swap_one};
 use crate::step::Step;
-use bz_items::Items;
 use bz_grammar::{Node, Tree};
+use bz_items::Items;
 
 /// Whether each edit holds as many parts as it covers.
 pub fn all_even(edits: &[Edit]) -> bool

@@ -4,8 +4,8 @@ ghost use Rattle.bz_edit.specs.Places.{has_place as place_there, covered, parts_
 ghost use Rattle.bz_edit.specs.Steps.{swap_node, all_there, AllApart, all_even, CountsFit, turned, turned_all};
 
 use crate::edit::Edit;
-use bz_items::{Items, Memory};
 use bz_grammar::{Node, Part};
+use bz_items::{Items, Memory};
 
 /// Whether a place is in the tree.
 pub fn has_place(node: &Node, path: &[u32], at: usize, count: usize) -> bool

@@ -6,9 +6,9 @@ ghost use Rattle.bz_items.specs.Characters.{full_stop};
 ghost use Rattle.bz_rule.specs.private.Named.{each_named};
 ghost use Rattle.bz_fields.specs.private.Steps.{text_or_nothing};
 
+use bz_grammar::{Class, Kind};
 use bz_items::Memory;
 use bz_rule::text_in;
-use bz_grammar::{Class, Kind};
 use bz_value::Expr;
 
 /// Appends the name that the expression is, and returns whether it is one.

@@ -8,11 +8,11 @@ ghost use Rattle.bz_fields.specs.private.Steps.{seen_rule};
 
 use crate::rules::{Rule, printed_rule_of};
 use crate::values::{push_space, push_value};
+use bz_command_syntax::Field;
 use bz_items::Memory;
+use bz_layout::item_text;
 use bz_rule::attribute;
 use bz_value::{Expr, Item};
-use bz_command_syntax::Field;
-use bz_layout::item_text;
 use itoa::Buffer;
 use std::alloc::Global;
 

@@ -5,10 +5,10 @@ ghost use Rattle.bz_fields.specs.Prints.{spaced, in_brackets, printed_value};
 ghost use Rattle.bz_fields.specs.private.Steps.{space_between, printed_body, is_string};
 
 use bz_attribute::{body_of, has_kind, items_of};
-use bz_items::Memory;
 use bz_grammar::Kind;
-use bz_value::Expr;
+use bz_items::Memory;
 use bz_layout::expr_text;
+use bz_value::Expr;
 use std::alloc::Global;
 
 /// Appends a space, where others follow.

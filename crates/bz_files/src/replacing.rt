@@ -104,7 +104,10 @@ fn put_both<R: std::rt::Files<File = File>>(
 ) -> io::Result<()> {
     let rights = rights_at(system, pair.file)?;
     file.write(pair.text, rights)?;
-    journal.write(pair.stored, common(rights, rights_at(system, pair.journal)?))?;
+    journal.write(
+        pair.stored,
+        common(rights, rights_at(system, pair.journal)?),
+    )?;
     check(alloc, system, pair.file, pair.held, rights)?;
     journal.replace(system, pair.journal)?;
     // that took its time, down to the disk

@@ -4,8 +4,8 @@ ghost use Rattle.bz_edit.specs.Steps.{all_even as even_edits, swap_node, turned_
 ghost use Rattle.bz_history.specs.Trails.{IsTree, StepLeads, LeadOn, reached, crossed, are_even as even_steps};
 
 use bz_edit::{EditFault, Step, all_even, exchange, swap_each};
-use bz_items::{Items, Memory};
 use bz_grammar::{Node, Tree};
+use bz_items::{Items, Memory};
 use std::alloc::{AllocError, Global};
 
 /// Whether each step is even.

@@ -8,8 +8,8 @@ ghost use Rattle.bz_history.specs.Trails.{IsTrail, IsTree, trail_at, steps_back,
 
 use crate::crossing::{cross_back, cross_forward};
 use bz_edit::{Step, advance, advance_across, advance_at};
-use bz_items::{Items, Memory};
 use bz_grammar::{Part, Tree};
+use bz_items::{Items, Memory};
 
 /// Puts a step after the first n, in the place of those that follow.
 fn put_after(steps: &mut Vec<Step>, n: usize, step: Step)

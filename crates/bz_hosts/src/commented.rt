@@ -7,8 +7,8 @@ ghost use Rattle.bz_hosts.specs.View.{seen};
 ghost use Rattle.bz_hosts.specs.Walks.{above_after, suffix_after};
 
 use crate::marks::{above_next, gap_after_item};
-use bz_items::{Items, Memory, Text};
 use bz_grammar::Part;
+use bz_items::{Items, Memory, Text};
 use bz_value::{Comments, Expr, suffix_in};
 use std::alloc::{AllocError, Global};
 use std::mem;

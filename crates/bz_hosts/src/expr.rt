@@ -8,8 +8,8 @@ ghost use Rattle.bz_hosts.specs.Walks.{form_of_frame, loose_of, seq_in};
 use crate::before::{breaks_from, gap_at, is_operator_in};
 use crate::commented::comment_last;
 use crate::marks::{before_operator, breaks_after, is_quiet_after, opens, push_gap};
-use bz_items::{Items, Memory, Text};
 use bz_grammar::{Node, Part};
+use bz_items::{Items, Memory, Text};
 use bz_value::{Comments, Expr, Form, Seq, Token, is_binary, is_sequence, lead_of, push_all};
 use std::alloc::Global;
 

@@ -6,8 +6,8 @@ ghost use Rattle.bz_hosts.specs.View.{Seen, begins_seen_operator, first_seen_gap
 ghost use Rattle.bz_hosts.specs.Walks.{above_after, is_unsigned, loose_from, suffix_after};
 
 use crate::before::{breaks_before, gap_at, gap_before, is_operator_at};
-use bz_items::{Items, Memory, Text};
 use bz_grammar::{Kind, Part};
+use bz_items::{Items, Memory, Text};
 use bz_value::{is_comprehension, push_all, push_others};
 use std::alloc::Global;
 

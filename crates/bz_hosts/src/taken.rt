@@ -8,8 +8,8 @@ ghost use Rattle.bz_hosts.specs.Kept.{occurrences};
 ghost use Rattle.bz_hosts.specs.View.{file_items, view_of};
 
 use crate::viewing::push_line_items;
-use bz_items::{Items, Memory, Text};
 use bz_grammar::{Part, Tree};
+use bz_items::{Items, Memory, Text};
 use bz_value::{File, Item};
 use std::alloc::Global;
 

@@ -12,8 +12,8 @@ use crate::before::{gap_at, gap_of_last};
 use crate::commented::commented;
 use crate::expr::expr_of;
 use crate::groups::{push_all_groups, push_groups};
-use bz_items::{Items, Memory, Text};
 use bz_grammar::{Part, Tree};
+use bz_items::{Items, Memory, Text};
 use bz_value::{File, Item, past_first_line};
 use std::alloc::Global;
 

@@ -1,10 +1,10 @@
 //! What is requested of a session, and what it answers.
 ghost use Rattle.std.specs.Prelude.{◌≡◌, Ok, true};
 
+use bz_command_syntax::Command;
 use bz_items::Text;
 use bz_label::Target;
 use bz_value::Refusal;
-use bz_command_syntax::Command;
 
 /// What is requested of a session. It borrows its command and target, so that one command serves all targets with no copy.
 #[derive(Clone, Copy, Debug)]

@@ -8,14 +8,14 @@ use crate::action::Reply;
 use crate::beside::Beside;
 use crate::course::{Course, unchanged};
 use crate::meaning::{lines_for, printed_answer, value_of};
-use bz_command::{Outcome, looks_at_lines, run_named};
 use bz_build_format::reads_back;
+use bz_command::{Outcome, looks_at_lines, run_named};
+use bz_command_syntax::Command;
+use bz_grammar::Tree;
 use bz_items::{Items, Memory};
 use bz_label::{Target, Which};
 use bz_rule::Names;
-use bz_grammar::Tree;
 use bz_value::{File, Refusal};
-use bz_command_syntax::Command;
 use std::alloc::Global;
 
 /// What is looked up in a text that stays, each made when a command needs it.

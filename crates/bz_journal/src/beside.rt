@@ -9,18 +9,18 @@ use crate::answering::{Lookups, answer};
 use crate::course::{Course, MOST_NOTE, unchanged};
 use crate::laws::{overfull_is_refused, written_is_laid_out};
 use crate::lines::Lines;
-use crate::meaning::{run_on_tree, printed_answer, value_of};
-use bz_command::{Extent, Spliced};
+use crate::meaning::{printed_answer, run_on_tree, value_of};
 use bz_build_format::{laid_out_of, reads_back, written};
+use bz_command::{Extent, Spliced};
+use bz_command_syntax::Command;
+use bz_grammar::{LENGTH_LIMIT, Tree};
 use bz_items::{Items, Memory, Text};
 use bz_label::Target;
+use bz_layout::layout_is_accepted;
+use bz_passes::{tidy, tidy_stays};
 use bz_relayout::{renew, renew_spliced};
 use bz_rule::take_apart;
-use bz_passes::{tidy, tidy_stays};
-use bz_grammar::{LENGTH_LIMIT, Tree};
 use bz_value::{File, Refusal};
-use bz_command_syntax::Command;
-use bz_layout::layout_is_accepted;
 use std::alloc::Global;
 use std::mem;
 
@@ -193,7 +193,14 @@ fn take_up_made(
     tidy_stays();
     let mut file = file;
     let here = course.present();
-    match tidy_in(course.alloc(), extent, marks, &mut file, here, beside.length_bound) {
+    match tidy_in(
+        course.alloc(),
+        extent,
+        marks,
+        &mut file,
+        here,
+        beside.length_bound,
+    ) {
         Ok((lines, most)) => take_up_value(course, beside, file, lines, most, printed, note),
         Err(_) => {
             take_apart(file);

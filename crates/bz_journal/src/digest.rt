@@ -3,8 +3,8 @@ ghost use Rattle.std.specs.Prelude.{◌≡◌, ◌++◌, List, ℕ};
 ghost use Rattle.std.specs.List.{flat_map};
 ghost use Rattle.bz_journal.specs.Clauses.{Holds256, sha256, spell_leaf, spell_node, spell_part};
 
-use bz_lex::Leaf;
 use bz_grammar::{Part, Tree};
+use bz_lex::Leaf;
 use sha2::{Digest, Sha256};
 
 /// Adds the gap and the token of a leaf to what is hashed.

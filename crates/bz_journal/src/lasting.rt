@@ -7,11 +7,11 @@ ghost use Rattle.bz_resume.specs.Resumed.{IsResumed as WasResumed};
 use crate::course::{Course, text_of};
 use crate::listing::listed;
 use crate::session::Session;
+use bz_grammar::laws::one_reading;
+use bz_history::laws::texts_kept;
 use bz_items::{Memory, Text};
 use bz_resume::laws::reopened;
 use bz_resume::{Content, ResumeFault, Resumed, Saved, resume, save_into};
-use bz_history::laws::texts_kept;
-use bz_grammar::laws::one_reading;
 use std::alloc::Global;
 
 /// The path of a package. The error: memory was refused.

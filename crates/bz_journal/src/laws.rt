@@ -6,10 +6,10 @@ use crate::course::Course;
 use crate::editor::Editor;
 use crate::session::Session;
 use bz_build_format::comments_fill;
-use bz_passes::{proper_stays, tidy_settles, tidy_stays};
-use bz_history::laws::{small_steps, steps_lead, texts_kept};
 use bz_grammar::laws::one_reading;
+use bz_history::laws::{small_steps, steps_lead, texts_kept};
 use bz_layout::{layout_is_accepted, layout_reads_back};
+use bz_passes::{proper_stays, tidy_settles, tidy_stays};
 
 /// Worked rows: what undo, redo and new texts make of small histories.
 pub fn worked_histories()

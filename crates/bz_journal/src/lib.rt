@@ -17,6 +17,7 @@ mod meaning;
 mod session;
 
 pub use action::{Action, Reply};
+pub use bz_files::{DiskFiles, FileFault, Files, MemoryFiles};
 pub use bz_resume::ResumeFault;
 pub use editor::Editor;
 pub use keeping::KeepFault;
@@ -24,4 +25,3 @@ pub use laws::{
     alike_goes_on, editor_holds, history_kept, session_holds, stopped_is_resumed, worked_histories,
 };
 pub use session::Session;
-pub use bz_files::{DiskFiles, FileFault, Files, MemoryFiles};

@@ -3,10 +3,10 @@ ghost use Rattle.std.specs.Prelude.{◌≡◌, ◌≤◌, ◌+◌, ◌++◌, ◌
 ghost use Rattle.bz_journal.specs.Clauses.{AreIn, Ascend, IsTrail, IsTree, TakesUp, put_all, spell_node, trail_at, tree_with};
 
 use bz_edit::Step;
+use bz_grammar::{Part, Tree};
+use bz_history::{take_up_across, take_up_at};
 use bz_items::Memory;
 use bz_relayout::{Relaid, Respliced};
-use bz_history::{take_up_across, take_up_at};
-use bz_grammar::{Part, Tree};
 
 /// Lines that are laid out anew, and where they are in a tree.
 #[derive(Drop)]

@@ -2,8 +2,8 @@
 ghost use Rattle.std.specs.Prelude.{◌≡◌, ◌+◌, ◌++◌, IfOk, OnOk, length};
 ghost use Rattle.bz_journal.specs.Clauses.{lines_of_texts, noted, text_line, text_lines_from};
 
-use bz_journal_format::{hex_digits, push_number};
 use bz_items::{Memory, Text};
+use bz_journal_format::{hex_digits, push_number};
 use std::alloc::Global;
 
 /// Appends a note after a space, where there is one, its newlines as `\n`. The error: a growth was refused.

@@ -4,15 +4,15 @@ ghost use Rattle.bz_journal.specs.Clauses.{Bytes, IsOfExtent, Item, Overfills, R
 ghost use Rattle.std.specs.Option.{unwrap_or};
 
 use crate::laws::overfull_is_refused;
-use bz_command::{Ran, lines_matter, looks_at_lines, overfills, run_in};
 use bz_build_format::{reads_back, written};
+use bz_command::{Ran, lines_matter, looks_at_lines, overfills, run_in};
+use bz_command_syntax::Command;
+use bz_grammar::Tree;
+use bz_hosts::view;
 use bz_items::{Memory, Text};
 use bz_label::Target;
 use bz_rule::take_apart;
-use bz_grammar::Tree;
 use bz_value::{File, Refusal};
-use bz_hosts::view;
-use bz_command_syntax::Command;
 use std::alloc::Global;
 
 /// What is answered beside the text: of a command that prints, what it prints.

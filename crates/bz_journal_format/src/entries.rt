@@ -8,8 +8,8 @@ ghost use Rattle.bz_journal_format.specs.private.Reading.{digest_line_at, edit_a
 use crate::content::{RecordedStep, Version};
 use crate::fields::{read_digest_line, read_note};
 use crate::parts::read_parts;
-use bz_edit::Edit;
 use crate::{Unread, read_mark, read_number};
+use bz_edit::Edit;
 use bz_items::{Items, Text};
 use std::alloc::Global;
 

@@ -10,9 +10,9 @@ ghost use Rattle.bz_journal_format.specs.Texts.{version_line};
 use crate::content::Version;
 use crate::limits::SHORT_LIMIT;
 use crate::{Unread, read_counted, read_digest, read_field, read_mark, read_number};
+use bz_grammar::{Kind, Leaf};
 use bz_items::Text;
 use bz_token::Class;
-use bz_grammar::{Kind, Leaf};
 use std::alloc::Global;
 
 /// The class of a number.

@@ -18,7 +18,7 @@ mod unread;
 mod version;
 mod writing;
 
-pub use content::{Content, RecordedStep, Record, Version};
+pub use content::{Content, Record, RecordedStep, Version};
 pub use fault::RecordFault;
 pub use limits::{SHORT_LIMIT, STEP_LIMIT};
 pub use mark_fields::{

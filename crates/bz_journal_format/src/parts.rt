@@ -6,8 +6,8 @@ ghost use Rattle.bz_journal_format.specs.private.Reading.{choice, held_at, leaf_
 
 use crate::fields::{read_kind, read_leaf};
 use crate::{Unread, read_mark, read_number, strip_mark};
-use bz_items::Items;
 use bz_grammar::{Node, Part};
+use bz_items::Items;
 use std::alloc::Global;
 
 /// A part of which at most this many nodes are inside each other.

@@ -3,11 +3,11 @@ ghost use Rattle.bz_journal_format.specs.declared.content.Record.{Record};
 ghost use Rattle.bz_journal_format.specs.declared.fault.RecordFault.TheVariants as f;
 ghost use Rattle.bz_journal_format.specs.Texts.{IsRead, IsOtherVersion};
 
+use crate::Unread;
 use crate::content::{Record, Version};
 use crate::fault::RecordFault;
 use crate::lines::read_in;
 use crate::version::is_other_version;
-use crate::Unread;
 use bz_grammar::DEPTH_LIMIT;
 use std::alloc::Global;
 

@@ -9,10 +9,10 @@ ghost use Rattle.bz_journal_format.specs.Texts.{counts_text, digest_text, edit_t
 
 use crate::content::{Content, Version};
 use crate::fields::version_line;
-use bz_edit::{Edit, Step};
 use crate::{hex_digits, push_counted, push_number};
-use bz_items::{Memory, Text};
+use bz_edit::{Edit, Step};
 use bz_grammar::{Leaf, Part};
+use bz_items::{Memory, Text};
 use sha2::{Digest, Sha256};
 
 fn push_leaf(out: &mut Vec<u8>, leaf: &Leaf) -> Result<(), Memory>

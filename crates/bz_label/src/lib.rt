@@ -11,6 +11,6 @@ pub mod laws;
 mod piece;
 mod target;
 
+pub use bytes::{is_sorted, key_cmp, priority, same, shortened as shorten};
 pub use label::{Label, LabelFault};
 pub use target::{Target, TargetFault, Which};
-pub use bytes::{is_sorted, key_cmp, priority, same, shortened as shorten};

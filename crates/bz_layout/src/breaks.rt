@@ -2,8 +2,8 @@
 ghost use Rattle.std.specs.Prelude.{◌≡◌, ◌&&◌, ◌||◌, ◌∷◌, [], length, nat_le};
 ghost use Rattle.bz_layout.specs.Layout as layout;
 
-use bz_items::Text;
 use bz_grammar::Kind;
+use bz_items::Text;
 use bz_value::{Expr, Form};
 
 fn is_named_argument(expr: &Expr) -> bool

@@ -9,8 +9,8 @@ use crate::breaks::is_broken;
 use crate::gaps::{NO_LIMIT, deeper_margin, push_above, push_after, push_ended, push_new_line};
 use crate::parts::room_for;
 use crate::row_gaps::{margin_after, others, text_after};
-use bz_items::{Items, Memory, Text};
 use bz_grammar::{Class, Kind, Leaf, Node, Part};
+use bz_items::{Items, Memory, Text};
 use bz_value::{Expr, Form};
 use std::alloc::Global;
 
@@ -121,14 +121,7 @@ fn lay_out_sequence(
 {
     let items = form.seq.items.as_slice();
     if is_broken(form) {
-        return lay_out_stacked(
-            alloc,
-            items,
-            form.seq.end.as_slice(),
-            margin,
-            closer,
-            parts,
-        );
+        return lay_out_stacked(alloc, items, form.seq.end.as_slice(), margin, closer, parts);
     }
     let one = matches!(form.kind, Kind::Tuple) && items.len() == 1;
     lay_out_joined(alloc, items, margin, closer, one, parts)

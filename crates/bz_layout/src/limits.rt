@@ -13,8 +13,8 @@ use crate::depth::is_within;
 use crate::lines::is_apart;
 use crate::measure::left_after;
 use crate::room::{NoRoom, less, less_after, less_comments};
-use bz_items::Memory;
 use bz_grammar::{DEPTH_LIMIT, LENGTH_LIMIT};
+use bz_items::Memory;
 use bz_value::{Expr, Item};
 use std::alloc::{AllocError, Global};
 

@@ -4,10 +4,10 @@ ghost use Rattle.bz_items.specs.Characters.{line_feed};
 ghost use Rattle.bz_layout.specs.Written as written;
 ghost use Rattle.bz_layout.specs.LaidOut.{line_part, own_lines, left_gap, before_next, lines_from};
 
-use crate::laying_out::{lay_out, nothing};
 use crate::gaps::{push_after, push_comments};
-use bz_items::{Items, Memory, Text};
+use crate::laying_out::{lay_out, nothing};
 use bz_grammar::{Class, Kind, Leaf, Node, Part};
+use bz_items::{Items, Memory, Text};
 use bz_value::{Expr, Item};
 use std::alloc::Global;
 

@@ -7,8 +7,8 @@ ghost use Rattle.bz_layout.specs.private.Marks as marks;
 
 use crate::gaps::push_comments;
 use crate::lines::{lay_out_item, push_between};
-use bz_items::{Items, Memory};
 use bz_grammar::Part;
+use bz_items::{Items, Memory};
 use bz_value::Item;
 use std::alloc::Global;
 

@@ -11,8 +11,8 @@ use crate::breaks::is_broken;
 use crate::gaps::deeper_margin;
 use crate::room::{NoRoom, less, less_above, less_after, less_ended, less_gap, less_line};
 use crate::row_gaps::{gap_after, margin_after, others};
-use bz_items::Text;
 use bz_grammar::Kind;
+use bz_items::Text;
 use bz_value::{Expr, Form, is_sequence};
 use std::alloc::Global;
 

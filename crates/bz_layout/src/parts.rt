@@ -2,8 +2,8 @@
 ghost use Rattle.std.specs.Prelude.{◌≡◌, [], IfOk};
 
 use crate::breaks::is_broken;
-use bz_items::{Items, Memory};
 use bz_grammar::{Kind, Part};
+use bz_items::{Items, Memory};
 use bz_value::{Form, is_sequence};
 use std::alloc::Global;
 

@@ -5,8 +5,8 @@ ghost use Rattle.bz_layout.specs.Layout as layout;
 ghost use Rattle.bz_layout.specs.private.RowGaps.{written_gap};
 
 use crate::gaps::{NO_LIMIT, deeper_margin, push_new_line};
-use bz_items::{Memory, Text};
 use crate::is_spaced;
+use bz_items::{Memory, Text};
 use bz_value::{Expr, Form};
 use std::alloc::Global;
 
@@ -38,12 +38,7 @@ fn has_break(expr: &Expr) -> bool
 
 /// The gap after a part of a row, before the others. The error: no text is that wide.
 #[inline(always)]
-pub fn gap_after(
-    form: &Form,
-    margin: usize,
-    part: &Expr,
-    others: &[Expr],
-) -> Result<RowGap, Memory>
+pub fn gap_after(form: &Form, margin: usize, part: &Expr, others: &[Expr]) -> Result<RowGap, Memory>
     ensures { IfOk result (λ gap. written_gap gap ≡ layout.gap_after form.now.kind form.now.open_break margin part.now others.now) }
 {
     let [next, rest @ ..] = others else {

@@ -6,10 +6,10 @@ ghost use Rattle.bz_layout.specs.LaidOut.{laid_out, lines_from};
 ghost use Rattle.bz_layout.specs.private.Windows as windows;
 
 use crate::gaps::push_comments;
-use crate::lines::{lay_out_item, lay_out_line, end_after, push_between};
+use crate::lines::{end_after, lay_out_item, lay_out_line, push_between};
 use crate::marked::{pass_over, place_after};
-use bz_items::{Items, Memory};
 use bz_grammar::Part;
+use bz_items::{Items, Memory};
 use bz_value::Item;
 use std::alloc::Global;
 

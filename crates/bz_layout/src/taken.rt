@@ -8,11 +8,11 @@ ghost use Rattle.bz_layout.specs.Flags.{flags};
 ghost use Rattle.bz_layout.specs.private.Taken.{before_item};
 ghost use Rattle.bz_layout.specs.Written.{layout};
 
-use crate::lines::{lay_out_item, end_after, push_between};
+use crate::lines::{end_after, lay_out_item, push_between};
 use crate::setting::{SetFault, fits};
+use bz_grammar::{Kind, Node, Part, Tree};
 use bz_items::{Items, Memory};
 use bz_rule::take_apart;
-use bz_grammar::{Kind, Node, Part, Tree};
 use bz_value::{File, Item};
 use std::alloc::Global;
 use std::slice;

@@ -12,8 +12,8 @@ use crate::gaps::{
 };
 use crate::lines::push_between;
 use crate::row_gaps::{margin_after, others, push_row_gap};
-use bz_items::{Memory, Text};
 use bz_grammar::Kind;
+use bz_items::{Memory, Text};
 use bz_value::{Expr, Form, Item};
 use std::alloc::Global;
 

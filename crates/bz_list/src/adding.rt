@@ -18,11 +18,11 @@ use bz_attribute::{
     Slot, add_attribute, append, append_to, body_of, has_kind, has_lists, is_item, is_no_list,
     items_of, list_of, operands_of, plus, set_text, set_value, string_of, take_value,
 };
+use bz_command_syntax::quoted;
+use bz_grammar::Kind;
 use bz_items::{Items, Memory, Text};
 use bz_label::bytes::{is_label_attribute, shortened};
-use bz_grammar::Kind;
 use bz_value::{Expr, Refusal};
-use bz_command_syntax::quoted;
 
 /// What is added to an attribute.
 #[derive(Drop)]

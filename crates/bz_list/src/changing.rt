@@ -6,9 +6,9 @@ use crate::adding::{Added, add_items};
 use crate::listed::{move_values, remove_values};
 use crate::replacing::Change;
 use bz_attribute::Slot;
+use bz_command_syntax::ValueOperation;
 use bz_items::Items;
 use bz_value::{Expr, Refusal};
-use bz_command_syntax::ValueOperation;
 use std::alloc::Global;
 
 // Changes the arguments in place; after a refusal part of them may be lost.

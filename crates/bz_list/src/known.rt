@@ -16,11 +16,11 @@ ghost use Rattle.bz_list.specs.private.KnownValues.{label_meant, membership, non
 ghost use Rattle.bz_list.specs.private.Listing.{chooses, with_lists};
 
 use bz_attribute::{Slot, body_of, has_kind, has_text, insert_text, items_of, operands_of};
+use bz_command_syntax::Values;
+use bz_grammar::Kind;
 use bz_items::{Memory, Text};
 use bz_label::bytes::{Parts, is_label_attribute, label_parts};
-use bz_grammar::Kind;
 use bz_value::Expr;
-use bz_command_syntax::Values;
 use std::alloc::Global;
 use std::collections::BTreeSet;
 use std::marker::Model;

@@ -15,11 +15,11 @@ use crate::known::Chosen;
 use bz_attribute::{
     Slot, has_lists, is_empty_list, is_no_list, remove_first, set_value, take_value,
 };
+use bz_command_syntax::Values;
+use bz_grammar::Kind;
 use bz_items::{Items, Memory, Text};
 use bz_rule::attribute;
-use bz_grammar::Kind;
 use bz_value::{Expr, Refusal};
-use bz_command_syntax::Values;
 use std::mem;
 
 /// Puts an item to those that are taken, where the command is meant for it, else to those that are left.

@@ -11,10 +11,10 @@ use bz_attribute::{
     Slot, body_of, first_text, is_item, is_other_attribute, parts_of, place_of, set_text,
     string_text,
 };
-use bz_items::{Items, Memory, Text};
-use bz_grammar::Kind;
-use bz_value::Expr;
 use bz_command_syntax::{Attributes, Pattern};
+use bz_grammar::Kind;
+use bz_items::{Items, Memory, Text};
+use bz_value::Expr;
 use std::alloc::Global;
 
 /// What is done to an item.

@@ -11,10 +11,10 @@ use crate::making::load_of;
 use crate::places::insert_after_loads;
 use crate::readings::is_load_from;
 use bz_attribute::append_to;
-use bz_items::{Items, Memory};
-use bz_grammar::Kind;
-use bz_value::{Expr, Item};
 use bz_command_syntax::Symbol;
+use bz_grammar::Kind;
+use bz_items::{Items, Memory};
+use bz_value::{Expr, Item};
 use indexmap::IndexSet;
 use std::alloc::Global;
 

@@ -4,9 +4,9 @@ ghost use Rattle.bz_load.specs.Fixes.{fix, move_package_to_top, unused_loads};
 
 use crate::package::move_package;
 use crate::unused::drop_unused;
+use bz_command_syntax::Fixes;
 use bz_items::{Items, Memory};
 use bz_value::Item;
-use bz_command_syntax::Fixes;
 use std::alloc::Global;
 
 /// Copies of the items.

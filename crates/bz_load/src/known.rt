@@ -7,9 +7,9 @@ ghost use Rattle.bz_load.specs.NewLoad.{symbol_made as made_of};
 
 use crate::making::symbol_made;
 use crate::readings::{Loaded, is_load_from, symbol_in, symbols_of};
+use bz_command_syntax::Symbol;
 use bz_items::Memory;
 use bz_value::{Expr, Item};
-use bz_command_syntax::Symbol;
 use indexmap::IndexSet;
 use std::alloc::Global;
 

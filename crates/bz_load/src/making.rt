@@ -8,10 +8,10 @@ ghost use Rattle.bz_value.specs.declared.value.Item.TheVariants as i;
 ghost use Rattle.bz_load.specs.NewLoad.{symbol_made};
 
 use bz_attribute::{new_token, node, sequence, token};
-use bz_items::{Items, Memory, Text};
-use bz_grammar::{Class, Kind};
-use bz_value::{Expr, Item};
 use bz_command_syntax::{Symbol, quoted};
+use bz_grammar::{Class, Kind};
+use bz_items::{Items, Memory, Text};
+use bz_value::{Expr, Item};
 use std::alloc::Global;
 
 /// A word as a string.

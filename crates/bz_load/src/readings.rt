@@ -6,8 +6,8 @@ ghost use Rattle.bz_load.specs.private.KnownKeys.{symbol_of_key};
 ghost use Rattle.bz_load.specs.Loads.{after_path as following, is_load_item as is_any_load, is_load_from as is_from, path_in as path_of, symbols_of as symbols};
 
 use bz_attribute::{body_of, first_text, has_kind, items_of, parts_of};
-use bz_rule::is_text;
 use bz_grammar::Kind;
+use bz_rule::is_text;
 use bz_value::{Expr, Item};
 
 /// A symbol that is loaded: its name in the file that loads it, and its name in the file that is loaded.

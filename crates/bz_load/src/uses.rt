@@ -5,8 +5,8 @@ ghost use Rattle.bz_load.specs.private.Known.{and_name, and_names, and_operands,
 ghost use Rattle.bz_load.specs.Uses.{is_used, operands, operand_names_in, with_operands};
 
 use bz_attribute::insert_text;
-use bz_items::Memory;
 use bz_grammar::{Class, Kind};
+use bz_items::Memory;
 use bz_value::{Expr, Item};
 use std::alloc::Global;
 use std::collections::BTreeSet;

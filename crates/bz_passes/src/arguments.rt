@@ -7,10 +7,10 @@ ghost use Rattle.bz_passes.specs.private.Ranks.{name_ranks};
 ghost use Rattle.bz_rule.specs.Values.{has_kind};
 
 use crate::runs::{InRuns, sort_runs};
+use bz_grammar::Kind;
 use bz_items::Memory;
 use bz_label::bytes::priority;
 use bz_rule::first_text;
-use bz_grammar::Kind;
 use bz_value::Expr;
 use std::alloc::Global;
 use std::cmp::Ordering;

@@ -4,10 +4,10 @@ ghost use Rattle.bz_value.specs.Frames.{frame};
 ghost use Rattle.bz_layout.specs.Flags.{settled_split, with_flags};
 
 use crate::names::are_called_names;
-use bz_items::Items;
 use bz_grammar::Kind;
-use bz_value::{Expr, Form, is_sequence};
+use bz_items::Items;
 use bz_layout::is_broken;
+use bz_value::{Expr, Form, is_sequence};
 
 /// Whether a sequence is broken; what has no sequence keeps its flag.
 #[tactic(auto, using(crate::proofs::FormSteps::split_by_kind))]

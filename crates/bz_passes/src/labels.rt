@@ -4,8 +4,8 @@ ghost use Rattle.bz_passes.specs.Passes.{labelled, labels_in};
 
 use crate::strings::shortened;
 use crate::walk::{RuleChange, ValueChange, change_rule};
-use bz_items::{Items, Memory};
 use bz_grammar::Class;
+use bz_items::{Items, Memory};
 use bz_value::Expr;
 use std::alloc::Global;
 

@@ -5,9 +5,9 @@ ghost use Rattle.bz_passes.specs.Passes.{is_loose_load as is_loose, is_run_load,
 ghost use Rattle.bz_passes.specs.private.Ranks.{path_ranks};
 
 use crate::runs::{InRuns, sort_runs};
+use bz_grammar::Kind;
 use bz_items::Memory;
 use bz_rule::{between, first_text};
-use bz_grammar::Kind;
 use bz_value::{Expr, Item};
 use std::alloc::Global;
 use std::cmp::Ordering;

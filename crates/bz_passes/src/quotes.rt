@@ -4,8 +4,8 @@ ghost use Rattle.bz_passes.specs.Passes.{quoted};
 
 use crate::names::are_called_names;
 use crate::strings::double_quoted;
-use bz_items::{Items, Memory};
 use bz_grammar::{Class, Kind};
+use bz_items::{Items, Memory};
 use bz_value::Expr;
 use std::alloc::Global;
 

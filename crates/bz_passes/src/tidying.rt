@@ -14,8 +14,8 @@ use crate::marks::any_marked;
 use crate::quotes::quote;
 use crate::symbols::sort_symbols;
 use crate::walk::{RuleChange, change_rule, sort_lists_in};
-use bz_items::{Items, Memory};
 use bz_grammar::Kind;
+use bz_items::{Items, Memory};
 use bz_value::{Expr, File, Item};
 use std::alloc::Global;
 

@@ -10,10 +10,10 @@ ghost use Rattle.bz_passes.specs.Changes.{list_change, maybe_lists, value_change
 use crate::arguments::sort_arguments;
 use crate::labels::shorten_labels;
 use crate::lists::sort_list;
+use bz_grammar::Kind;
 use bz_items::{Items, Memory, Text};
 use bz_label::bytes::{is_label_attribute, is_sorted};
 use bz_rule::{first_text, is_dotted, is_named, only};
-use bz_grammar::Kind;
 use bz_value::Expr;
 use std::alloc::Global;
 

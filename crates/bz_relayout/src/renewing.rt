@@ -8,11 +8,11 @@ ghost use Rattle.bz_passes.specs.Passes.{tidied};
 ghost use Rattle.bz_relayout.specs.Relaid.{IsRenewed, IsWritten};
 
 use crate::room::most_of;
-use bz_items::{Items, Memory};
-use bz_passes::{exchanged_tidied, proper_stays, tidy_marked};
 use bz_grammar::Tree;
+use bz_items::{Items, Memory};
+use bz_layout::{Relaid, are_marked_shallow, are_marked_short, relaid_has_length, relayout};
+use bz_passes::{exchanged_tidied, proper_stays, tidy_marked};
 use bz_value::{File, Item};
-use bz_layout::{Relaid, are_marked_shallow, are_marked_short, relayout, relaid_has_length};
 use std::alloc::Global;
 use std::mem;
 

@@ -3,9 +3,9 @@ ghost use Rattle.std.specs.Prelude.{◌≡◌, ◌≤◌, ◌+◌, length, IfSom
 ghost use Rattle.std.specs.List.{flat_map};
 ghost use Rattle.bz_grammar.specs.Spell.{limit, spell_leaf, spell_node, spell_part};
 
+use bz_grammar::{LENGTH_LIMIT, Part, Tree};
 use bz_items::Items;
 use bz_lex::Leaf;
-use bz_grammar::{LENGTH_LIMIT, Part, Tree};
 
 /// What is left of the room after the gap and the token of a leaf; none where they are longer.
 fn left_after_leaf(leaf: &Leaf, room: usize) -> Option<usize>

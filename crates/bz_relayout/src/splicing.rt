@@ -8,11 +8,11 @@ ghost use Rattle.bz_passes.specs.Passes.{tidied};
 ghost use Rattle.bz_relayout.specs.Relaid.{IsRespliced, IsWritten};
 
 use crate::room::most_of;
-use bz_items::Memory;
-use bz_passes::tidy_spliced;
 use bz_grammar::Tree;
-use bz_value::File;
+use bz_items::Memory;
 use bz_layout::{Respliced, is_window_shallow, is_window_short, relayout_spliced};
+use bz_passes::tidy_spliced;
+use bz_value::File;
 use std::alloc::Global;
 
 /// Lines that are laid out anew in the place of others, and how many bytes the text has at most with them.

@@ -7,9 +7,9 @@ ghost use Rattle.bz_resume.specs.private.Agreement.{StepsAgreeAround, IsCounted,
 
 use crate::fault::Halt;
 use crate::reading::read;
+use crate::replaying::{go_back, go_on, has_digest};
 use crate::resumed::Resumed;
 use crate::splitting::split;
-use crate::replaying::{go_back, go_on, has_digest};
 use bz_edit::Step;
 use bz_items::Items;
 use bz_journal_format::Record;

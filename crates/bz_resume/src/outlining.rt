@@ -3,9 +3,9 @@ ghost use Rattle.std.specs.Prelude.{◌≡◌, ◌∷◌, [], ◌++◌, OnOk, If
 ghost use Rattle.std.specs.List.{flat_map};
 ghost use Rattle.bz_resume.specs.private.Outlines.{marked, marked_byte, outline_all, outline_leaf, outline_node, outline_part};
 
+use bz_grammar::{Node, Part};
 use bz_items::Memory;
 use bz_lex::Leaf;
-use bz_grammar::{Node, Part};
 
 fn push_byte(byte: u8, out: &mut Vec<u8>) -> Result<(), Memory>
     ensures { OnOk result (out.new.items ≡ out.old.items ++ marked_byte byte) }

@@ -3,8 +3,8 @@ ghost use Rattle.bz_grammar.specs.Legal.{NoTree, Reads};
 ghost use Rattle.bz_resume.specs.declared.fault.Halt.TheVariants as h;
 
 use crate::fault::Halt;
-use bz_tree::parse;
 use bz_grammar::{ReadFault, Tree};
+use bz_tree::parse;
 use std::alloc::Global;
 
 /// The tree of a text.

@@ -16,9 +16,9 @@ use crate::placing::swap;
 use crate::reading::read;
 use crate::touching::is_led_to;
 use bz_edit::{EditFault, Step};
+use bz_grammar::{LENGTH_LIMIT, Node, ReadFault, Tree};
 use bz_items::{Items, Memory};
 use bz_tree::parse;
-use bz_grammar::{LENGTH_LIMIT, Node, ReadFault, Tree};
 use sha2::{Digest, Sha256};
 use std::alloc::{AllocError, Global};
 

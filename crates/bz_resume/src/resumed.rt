@@ -1,6 +1,6 @@
 use bz_edit::Step;
-use bz_items::{Items, Text};
 use bz_grammar::Tree;
+use bz_items::{Items, Text};
 
 /// What a journal is resumed as: the texts of a file as one tree and the steps that lead to the others, and what is known of them.
 #[derive(Debug, Drop)]

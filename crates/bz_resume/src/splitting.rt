@@ -6,9 +6,9 @@ ghost use Rattle.bz_resume.specs.private.Agreement.{MayLead, are_short as short,
 
 use crate::fault::Halt;
 use bz_edit::{Edit, Step};
+use bz_grammar::DEPTH_LIMIT;
 use bz_items::{Items, Text};
 use bz_journal_format::RecordedStep;
-use bz_grammar::DEPTH_LIMIT;
 use std::alloc::Global;
 
 /// Whether no path is as long as a tree is deep.
@@ -38,7 +38,10 @@ fn step_of(edits: Items<Edit>) -> Result<Step, Halt>
 }
 
 /// The notes and the steps of entries.
-pub(crate) fn split(alloc: Global, entries: Vec<RecordedStep>) -> Result<(Vec<Text>, Vec<Step>), Halt>
+pub(crate) fn split(
+    alloc: Global,
+    entries: Vec<RecordedStep>,
+) -> Result<(Vec<Text>, Vec<Step>), Halt>
     ensures ok { IfOk result (λ x. (x.0.items ≡ notes_of entries.items) × (x.1.items ≡ edits_of entries.items)) }
     ensures damaged { (result ≡ Err h.Damaged) → AllByRecursion MayLead (edits_of entries.items) → ⊥ }
 {

@@ -7,10 +7,10 @@ ghost use Rattle.bz_history.specs.Shown.{Moves};
 ghost use Rattle.bz_resume.specs.private.Agreement.{HasStood};
 
 use bz_edit::Step;
-use bz_items::Memory;
+use bz_grammar::Tree;
 use bz_history::laws::texts_kept;
 use bz_history::{go_back, go_forward};
-use bz_grammar::Tree;
+use bz_items::Memory;
 
 /// Whether the tree spells this text. The error: a growth was refused.
 fn spells(tree: &Tree, text: &[u8]) -> Result<bool, Memory>

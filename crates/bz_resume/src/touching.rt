@@ -10,9 +10,9 @@ ghost use Rattle.bz_history.specs.Trails.{IsTree};
 ghost use Rattle.bz_resume.specs.private.Alone.{AreAlone, AreLined, AreTouchedAlone, EndsLine, IsAlone, IsAloneAt, IsHeldAlone, IsLineFeed, IsTouchedAlone, IsWithin};
 
 use bz_edit::Edit;
+use bz_grammar::{Class, Node, Part, ReadFault, Tree};
 use bz_items::Memory;
 use bz_tree::parse;
-use bz_grammar::{Class, Node, Part, ReadFault, Tree};
 use std::alloc::AllocError;
 
 /// Whether the part is the end of a text, with nothing before it.

@@ -6,8 +6,8 @@ ghost use Rattle.bz_rule.specs.Rules.{has_name};
 ghost use Rattle.bz_rule.specs.Index.{places_from, places_of};
 ghost use Rattle.bz_rule.specs.Held.{AddsPlace, held, held_name};
 
-use bz_items::Memory;
 use crate::{call_of, is_named, name_of};
+use bz_items::Memory;
 use bz_value::Item;
 use std::alloc::Global;
 use std::collections::HashMap;

@@ -84,7 +84,8 @@ fn first_gap(parts: &[Part]) -> usize {
 fn begins_node(nonterminal: PartNonterminal, leaves: &Leaves) -> bool {
     match nonterminal {
         PartNonterminal::Level(n) => begins_level(n, leaves),
-        PartNonterminal::Argument => leaves.next_is(TokenSet::Stars) || begins_level(LAMBDA, leaves),
+        PartNonterminal::Argument => leaves.next_is(TokenSet::Stars)
+            || begins_level(LAMBDA, leaves),
         PartNonterminal::Loaded => leaves.next_is(TokenSet::Name),
         PartNonterminal::Entry => leaves.next_is(TokenSet::Simple) || begins_level(LAMBDA, leaves),
         PartNonterminal::Clause => leaves.next_is(TokenSet::Clauses),
@@ -107,7 +108,8 @@ fn begins_level(n: u8, leaves: &Leaves) -> bool {
 pub fn goes_on(nonterminal: PartNonterminal, leaves: &Leaves) -> bool {
     match nonterminal {
         PartNonterminal::Level(n) => level_goes_on(n, leaves),
-        PartNonterminal::Argument => leaves.next_is(TokenSet::Equals) || level_goes_on(LAMBDA, leaves),
+        PartNonterminal::Argument => leaves.next_is(TokenSet::Equals)
+            || level_goes_on(LAMBDA, leaves),
         PartNonterminal::Param => leaves.next_is(TokenSet::Equals),
         _ => false,
     }

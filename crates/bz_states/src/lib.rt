@@ -12,7 +12,7 @@ pub use deep::{deeper_at, goes_on, mark_deep_part, mark_next};
 pub use line::line_indent;
 pub use state::{
     BracketsAt, ClausesAt, HeaderAt, ItemRow, ItemsAt, LAMBDA, LambdaAt, ListedItems, Move, NOT,
-    NamesAt, NodeState, Operands, OperandsAt, PRIMARY, PartNonterminal, RoundAt, Precedence, SliceAt,
-    SquareOrCurly, StarredAt, StatementAt, SuffixAt, TEST, Tail, UNARY, precedence_at,
+    NamesAt, NodeState, Operands, OperandsAt, PRIMARY, PartNonterminal, Precedence, RoundAt,
+    SliceAt, SquareOrCurly, StarredAt, StatementAt, SuffixAt, TEST, Tail, UNARY, precedence_at,
 };
 pub use token::{Leaves, ParseHalt, TokenSet};

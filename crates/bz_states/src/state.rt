@@ -347,7 +347,10 @@ impl NodeState {
             NodeState::Clause => Move::Choose(
                 TokenSet::For,
                 NodeState::For,
-                NodeState::Rest(Kind::If, Tail::TokenPart(TokenSet::If, PartNonterminal::Level(OR))),
+                NodeState::Rest(
+                    Kind::If,
+                    Tail::TokenPart(TokenSet::If, PartNonterminal::Level(OR)),
+                ),
             ),
             NodeState::For => Move::Take(TokenSet::For, NodeState::Names(NamesAt::Name)),
             NodeState::Entry => Move::Read(
@@ -393,7 +396,10 @@ impl Tail {
         match self {
             Tail::Nothing => Move::Finish(kind),
             Tail::Token(token) => Move::Take(token, NodeState::Rest(kind, Tail::Nothing)),
-            Tail::Part(nonterminal) => Move::Read(nonterminal, NodeState::Rest(kind, Tail::Nothing)),
+            Tail::Part(nonterminal) => Move::Read(
+                nonterminal,
+                NodeState::Rest(kind, Tail::Nothing),
+            ),
             Tail::TokenPart(token, nonterminal) => Move::Take(
                 token,
                 NodeState::Rest(kind, Tail::Part(nonterminal)),
@@ -485,10 +491,18 @@ impl Operands {
         ensures { result ≡ row_of_operands self }
     {
         let (kind, nonterminal, operator) = match self {
-            Operands::Product => (Kind::Product, PartNonterminal::Level(UNARY), TokenSet::Products),
+            Operands::Product => (
+                Kind::Product,
+                PartNonterminal::Level(UNARY),
+                TokenSet::Products,
+            ),
             Operands::Sum => (Kind::Sum, PartNonterminal::Level(PRODUCT), TokenSet::Sums),
             Operands::Shift => (Kind::Shift, PartNonterminal::Level(SUM), TokenSet::Shifts),
-            Operands::BitAnd => (Kind::BitAnd, PartNonterminal::Level(SHIFT), TokenSet::Ampersand),
+            Operands::BitAnd => (
+                Kind::BitAnd,
+                PartNonterminal::Level(SHIFT),
+                TokenSet::Ampersand,
+            ),
             Operands::Xor => (Kind::Xor, PartNonterminal::Level(BIT_AND), TokenSet::Caret),
             Operands::BitOr => (Kind::BitOr, PartNonterminal::Level(XOR), TokenSet::Bar),
             Operands::And => (Kind::And, PartNonterminal::Level(NOT), TokenSet::And),
@@ -581,7 +595,10 @@ impl LambdaAt {
                 body,
                 NodeState::Lambda(LambdaAt::Param),
             ),
-            LambdaAt::Param => Move::Read(PartNonterminal::Param, NodeState::Lambda(LambdaAt::After)),
+            LambdaAt::Param => Move::Read(
+                PartNonterminal::Param,
+                NodeState::Lambda(LambdaAt::After),
+            ),
             LambdaAt::After => Move::Choose(
                 TokenSet::Comma,
                 NodeState::Lambda(LambdaAt::Comma),

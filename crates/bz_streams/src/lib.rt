@@ -7,9 +7,9 @@ mod exit;
 mod laws;
 mod memory;
 mod near;
+mod reported;
 mod sink;
 mod source;
-mod reported;
 mod words;
 
 pub use device::Device;
@@ -17,9 +17,9 @@ pub use exit::{Cut, Exit, first_cut};
 pub use laws::{lines_are_whole, nearest_is_least};
 pub use memory::{MemorySink, MemorySource};
 pub use near::nearest;
+pub use reported::{STDIN, report, report_clap, report_fault, report_named};
 pub use sink::{Sink, write_whole};
 pub use source::{InputFault, MOST, PortFault, Source, read_most};
-pub use reported::{STDIN, report, report_clap, report_fault, report_named};
 pub use words::{argument_text, argument_texts};
 
 /// The version of both programs, which `--version` prints.

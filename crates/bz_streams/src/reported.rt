@@ -93,7 +93,11 @@ pub fn report_fault<E: Sink>(err: &mut E, file: &str, fault: &ReadFault)
 
 /// Reports a fault that clap finds in words, by clap's own text, up to the first fault of `err`. The error: there was no
 /// memory for that text; nothing is then printed.
-pub fn report_clap<E: Sink>(alloc: Global, err: &mut E, error: &clap::Error) -> Result<(), AllocError>
+pub fn report_clap<E: Sink>(
+    alloc: Global,
+    err: &mut E,
+    error: &clap::Error,
+) -> Result<(), AllocError>
     ensures ok { OnOk result ((line : List ℕ) × AppendsUnlessFailed (E.faults err.old) (E.faults err.new)
         (E.contents err.old) (E.contents err.new) line) }
     ensures err { OnErr result (err.new ≡ err.old) }

@@ -9,12 +9,12 @@ ghost use Rattle.bz_tree.specs.private.Ranks.{fitted_at, bound_at, level_at, Ris
 ghost use Rattle.bz_grammar.specs.declared.tree.Part.{Part};
 
 use crate::row::{Stack, deeper};
+use bz_grammar::Kind;
 use bz_states::{
     ItemsAt, LAMBDA, LambdaAt, Leaves, ListedItems, Move, NOT, NodeState, PRIMARY, ParseHalt,
-    PartNonterminal, RoundAt, Precedence, StarredAt, StatementAt, SuffixAt, TEST, Tail, TokenSet, UNARY,
-    goes_on, mark_deep_part, mark_next, precedence_at,
+    PartNonterminal, Precedence, RoundAt, StarredAt, StatementAt, SuffixAt, TEST, Tail, TokenSet,
+    UNARY, goes_on, mark_deep_part, mark_next, precedence_at,
 };
-use bz_grammar::Kind;
 
 /// Whether the next leaf is one of these tokens. It is called and not compiled into the loop over moves, where each of them would
 /// have its own table of tokens.
@@ -233,14 +233,21 @@ pub(crate) fn part(
 
 /// A leaf of this sort.
 #[tactic(auto, unfolding(bz_states::specs::Tokens::token_at, crate::specs::private::Words::part_at))]
-fn leaf_of(nonterminal: PartNonterminal, stack: &mut Stack, leaves: &mut Leaves) -> Result<u32, ParseHalt>
+fn leaf_of(
+    nonterminal: PartNonterminal,
+    stack: &mut Stack,
+    leaves: &mut Leaves,
+) -> Result<u32, ParseHalt>
     ensures ok { IfOk result (λ deep. Pushes (part_at 0 (nonterminal_of nonterminal) leaves.old) stack.old stack.new leaves.new deep) }
     ensures err { Fails result (part_at 0 (nonterminal_of nonterminal) leaves.old) }
 {
     mark_next(nonterminal, leaves);
     let at = leaves.next_at();
     let deep = match nonterminal {
-        PartNonterminal::Level(_) | PartNonterminal::Argument => stack.take(TokenSet::Simple, leaves)?,
+        PartNonterminal::Level(_) | PartNonterminal::Argument => stack.take(
+            TokenSet::Simple,
+            leaves,
+        )?,
         PartNonterminal::Loaded => stack.take(TokenSet::String, leaves)?,
         PartNonterminal::Param => stack.take(TokenSet::Name, leaves)?,
         _ => return Err(ParseHalt::Unexpected),

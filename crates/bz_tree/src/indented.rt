@@ -16,9 +16,9 @@ ghost use Rattle.bz_tree.specs.private.Rows.{PutsAll, PutsOne, plan_of_header, h
 
 use crate::grammar::part;
 use crate::row::Stack;
+use bz_grammar::Kind;
 use bz_lex::DEPTH_LIMIT;
 use bz_states::{HeaderAt, Leaves, Move, NodeState, ParseHalt, PartNonterminal, TokenSet};
-use bz_grammar::Kind;
 use std::alloc::Global;
 
 /// The parts of the file within the limit of depth that the leaves are.

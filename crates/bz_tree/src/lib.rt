@@ -6,7 +6,8 @@ mod indented;
 mod parsing;
 mod row;
 
-pub use parsing::{parse, parse_bzl, unexpected_at};
-pub use bz_grammar::laws;
-pub use bz_grammar::{BzlTree, Class, DEPTH_LIMIT, Kind, LENGTH_LIMIT, Leaf, Node, Part, ReadFault, Tree};
+pub use bz_grammar::{
+    BzlTree, Class, DEPTH_LIMIT, Kind, LENGTH_LIMIT, Leaf, Node, Part, ReadFault, Tree, laws,
+};
 pub use bz_lex::lex;
+pub use parsing::{parse, parse_bzl, unexpected_at};

@@ -12,11 +12,11 @@ ghost use Rattle.bz_tree.specs.private.Indents.{is_wrong, IsIndentedAt};
 
 use crate::indented::{file, read_so_far};
 use crate::row::Stack;
+use bz_grammar::{BzlTree, Kind, Tree};
 use bz_lex::{
     DEPTH_LIMIT, LENGTH_LIMIT, ReadFault, Reason, fault_at, lexical_fault, line_and_column,
 };
 use bz_states::{Leaves, ParseHalt, deeper_at, line_indent};
-use bz_grammar::{BzlTree, Kind, Tree};
 use std::alloc::Global;
 use std::str::from_utf8;
 

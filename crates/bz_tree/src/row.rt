@@ -10,10 +10,10 @@ ghost use Rattle.bz_grammar.specs.Reading.{node_part};
 ghost use Rattle.bz_states.specs.Tokens.{terminals_of, token_at, Fails};
 ghost use Rattle.bz_tree.specs.private.Words.{Pushes};
 
+use bz_grammar::{Kind, Node, Part, have_newer};
 use bz_items::{Items, Memory};
 use bz_lex::{Class, Leaf};
 use bz_states::{Leaves, ParseHalt, TokenSet};
-use bz_grammar::{Kind, Node, Part, have_newer};
 use std::alloc::Global;
 use std::marker::Model;
 

@@ -12,9 +12,11 @@ mod texts;
 mod value;
 
 pub use comments::Comments;
-pub use frame::{is_binary, is_comprehension, is_sequence, is_operator_class, is_statement, lead_of};
+pub use frame::{
+    is_binary, is_comprehension, is_operator_class, is_sequence, is_statement, lead_of,
+};
 pub use gap::{
-    IndentedLine, Line, past_first_line, first_indented_line, first_line, has_newline, push_all,
+    IndentedLine, Line, first_indented_line, first_line, has_newline, past_first_line, push_all,
     push_others, suffix_in,
 };
 pub use laws::worked_gaps;

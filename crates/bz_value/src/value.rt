@@ -2,8 +2,8 @@
 ghost use Rattle.std.specs.Prelude.{◌≡◌};
 
 use crate::comments::Comments;
-use bz_items::{Items, Text};
 use bz_grammar::{Class, Kind};
+use bz_items::{Items, Text};
 use std::marker::Model;
 
 /// A token. `line_break`: of a binary operator, that the operand after it begins on a new line.

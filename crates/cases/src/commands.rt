@@ -1,6 +1,6 @@
 //! Commands, and the words that they are made of.
-use bz_items::{Memory, Text};
 use bz_command_syntax::{Command, CommandFault, is_identifier, is_kind_name, quoted, read_words};
+use bz_items::{Memory, Text};
 use sheets::{Case, CaseFault, Page};
 use std::alloc::{AllocError, Global};
 

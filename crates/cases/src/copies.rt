@@ -1,7 +1,7 @@
 //! Values that no text has: each part with every comment that it can have.
 use crate::values::show_form;
-use bz_items::{Items, Memory, Text};
 use bz_grammar::{Class, Kind};
+use bz_items::{Items, Memory, Text};
 use bz_value::{Comments, Expr, Form, Item, Seq, Token, push_others};
 use sheets::{Case, CaseFault, Page};
 use std::alloc::Global;

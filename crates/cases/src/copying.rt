@@ -1,9 +1,9 @@
 //! Copies what many texts say, for tests/torn.py: with ample memory each copy is there, and equal to what was copied.
 use bz_edit::{advance, exchange_node};
-use bz_tree::parse;
 use bz_grammar::{Node, Part, Tree};
-use bz_value::{File, Item};
 use bz_hosts::view;
+use bz_tree::parse;
+use bz_value::{File, Item};
 use std::alloc::Global;
 
 /// What is between two texts: no accepted text has it.

@@ -1,10 +1,10 @@
 //! The laws: functions that do nothing, whose contracts say something of all texts, labels, trees or values. A call shows
 //! that what a law requires can be met.
 use bz_edit::advance;
+use bz_grammar::ReadFault;
 use bz_journal::{Editor, Session, editor_holds, history_kept, session_holds};
 use bz_label::{Label, LabelFault, Target, TargetFault};
 use bz_tree::parse;
-use bz_grammar::ReadFault;
 use sheets::{Case, CaseFault, Page};
 use std::alloc::Global;
 

@@ -2,12 +2,12 @@
 ghost use Rattle.std.specs.Prelude.{◌≤◌, length};
 
 use crate::trees::{apart, read_fault_text};
+use bz_command_syntax::{Command, CommandFault};
+use bz_grammar::ReadFault;
 use bz_items::Memory;
 use bz_journal::{Action, Reply, Session};
 use bz_label::{Target, TargetFault};
-use bz_grammar::ReadFault;
 use bz_value::Refusal;
-use bz_command_syntax::{Command, CommandFault};
 use sheets::{Case, CaseFault, Page};
 use std::alloc::Global;
 

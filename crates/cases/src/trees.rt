@@ -1,7 +1,7 @@
 //! Trees: what a text is read as, and where it is refused.
+use bz_grammar::{BzlTree, Class, Kind, Leaf, Node, Part, ReadFault, Tree};
 use bz_items::Memory;
 use bz_tree::{parse, parse_bzl};
-use bz_grammar::{BzlTree, Class, Kind, Leaf, Node, Part, ReadFault, Tree};
 use sheets::{Case, CaseFault, Page};
 use std::alloc::{AllocError, Global};
 

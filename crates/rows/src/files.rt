@@ -1,7 +1,7 @@
 //! The programs over files in memory: when they write one, and what they do where one fails.
 use crate::run::{Program, SOUND, run};
-use bz_files::MemoryFiles;
 use bz_buildifier::Cut;
+use bz_files::MemoryFiles;
 use std::alloc::{AllocError, Global};
 use std::test::Fail;
 

@@ -1,7 +1,7 @@
 //! Runs of the programs over readers, writers and files in memory.
+use bz_buildifier::{Cut, Exit, MemorySink, MemorySource, buildifier};
 use bz_buildozer::buildozer;
 use bz_files::MemoryFiles;
-use bz_buildifier::{Cut, Exit, MemorySink, MemorySource, buildifier};
 use std::alloc::Global;
 
 /// Which program runs.

@@ -1,7 +1,7 @@
 //! Runs in which a call of a device fails: each call in turn, and what is wrong with what is left.
 use crate::runs::{Left, Task};
-use bz_items::Memory;
 use bz_buildifier::Cut;
+use bz_items::Memory;
 use sheets::{CaseFault, Page};
 use std::alloc::Global;
 

@@ -1,9 +1,9 @@
 //! Runs of the programs over readers and writers in memory.
 use crate::failing::{Failure, SOUND, Trial, Way};
+use bz_buildifier::{Cut, Exit, MemorySink, MemorySource, buildifier};
 use bz_buildozer::buildozer;
 use bz_files::MemoryFiles;
 use bz_items::Memory;
-use bz_buildifier::{Cut, Exit, MemorySink, MemorySource, buildifier};
 use sheets::{Case, CaseFault, Page, text_of};
 use std::alloc::Global;
 

@@ -14,5 +14,9 @@ pub(crate) fn outcome(alloc: Global) -> Option<String> {
     let ran: Result<Outcome, Refusal> = run(alloc, &command, &target, b"p", &[1], &file);
     let outcome = ran.ok()?;
     let is_changed = outcome.file.is_some();
-    format!(in alloc; "changed {is_changed}, {} bytes printed", outcome.printed.as_slice().len()).ok()
+    format!(in alloc;
+        "changed {is_changed}, {} bytes printed",
+        outcome.printed.as_slice().len()
+    )
+    .ok()
 }

@@ -11,13 +11,19 @@ pub(crate) fn outcome(alloc: Global) -> Option<String> {
     let mut out = MemorySink::new(alloc, 4096, 0);
     let mut err = MemorySink::new(alloc, 4096, 0);
     let mut input = MemorySource::new(TEXT, 4096, 0);
-    let edited: Exit = buildozer(alloc, &["--", "set size small", "-:x"], &mut input, &mut out, &mut err, &mut files);
+    let edited: Exit = buildozer(
+        alloc,
+        &["--", "set size small", "-:x"],
+        &mut input,
+        &mut out,
+        &mut err,
+        &mut files,
+    );
     let mut again = MemorySource::new(TEXT, 4096, 0);
     let words: [&str; 0] = [];
     let formatted: Exit = buildifier(alloc, &words, &mut again, &mut out, &mut err, &mut files);
     let are_whole = edited.cut == Cut::Whole && formatted.cut == Cut::Whole;
-    format!(
-        in alloc;
+    format!(in alloc;
         "whole {are_whole}, status {} and {}, {} bytes",
         edited.status,
         formatted.status,

@@ -22,7 +22,11 @@ fn main(rt: HostRuntime) -> io::Result<()> {
     show(&rt, "bz_edit", trees::exchanged(alloc))?;
     show(&rt, "bz_label", values::labels(alloc))?;
     show(&rt, "bz_view, bz_tidy", values::tidied(alloc))?;
-    show(&rt, "bz_view, bz_tidy over .bzl files", values::levelled(alloc))?;
+    show(
+        &rt,
+        "bz_view, bz_tidy over .bzl files",
+        values::levelled(alloc),
+    )?;
     show(&rt, "bz_command", commands::outcome(alloc))?;
     show(&rt, "bz_journal", sessions::outcome(alloc))?;
     show(&rt, "bz_tools", engines::outcome(alloc))

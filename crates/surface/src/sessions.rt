@@ -29,14 +29,20 @@ pub(crate) fn outcome(alloc: Global) -> Option<String> {
     let kept: Result<Reply, KeepFault> = session.keep(&action, "BUILD", &mut files);
     let is_changed = matches!(kept, Ok(Reply::Changed));
     let mut replies: Vec<Result<Reply, Refusal>> = Vec::new(alloc);
-    session.run(&[Action::Undo(1), Action::Redo(1), Action::Format], &mut replies).ok()?;
+    session
+        .run(
+            &[Action::Undo(1), Action::Redo(1), Action::Format],
+            &mut replies,
+        )
+        .ok()?;
     let again = resumed(alloc, &session)?;
-    format!(
-        in alloc;
+    format!(in alloc;
         "changed {is_changed}, {} replies, {} steps, resumed at {again}, {} bytes beside",
         replies.len(),
         session.steps(),
-        files.bytes_at("BUILD.journal").map_or(0, |bytes| bytes.len())
+        files
+            .bytes_at("BUILD.journal")
+            .map_or(0, |bytes| bytes.len())
     )
     .ok()
 }

@@ -34,8 +34,7 @@ pub(crate) fn outcome(alloc: Global) -> Option<String> {
     let class = last_class(&tree.root)?.number();
     let of_bzl = bzl_length(parse_bzl(alloc, b"def f():\n    pass\n"))?;
     let tokens = lex(alloc, TEXT).ok()?;
-    format!(
-        in alloc;
+    format!(in alloc;
         "{} bytes, {} spelled, on line {}, a file {}, class {class}, {} tokens, {of_bzl} bytes of a .bzl file",
         tree.len(),
         spelling.len(),
@@ -58,5 +57,9 @@ pub(crate) fn exchanged(alloc: Global) -> Option<String> {
     exchange_node(&mut root, &mut step).ok()?;
     let edits: Vec<Edit> = Vec::new(alloc);
     let nothing = weight(&Step::new(edits)?);
-    format!(in alloc; "{held} bytes held, {back} bytes again, {} parts left, {nothing} in no edits", root.parts.as_slice().len()).ok()
+    format!(in alloc;
+        "{held} bytes held, {back} bytes again, {} parts left, {nothing} in no edits",
+        root.parts.as_slice().len()
+    )
+    .ok()
 }

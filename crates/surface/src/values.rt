@@ -1,7 +1,5 @@
 //! Labels and file values by the names of bz_label, bz_view and bz_tidy.
-use bz_label::{
-    Label, Target, Which, is_sorted, key_cmp, priority, same, shorten,
-};
+use bz_label::{Label, Target, Which, is_sorted, key_cmp, priority, same, shorten};
 use bz_tidy::{level, tidy};
 use bz_tree::{parse, parse_bzl};
 use bz_view::{Expr, File, Item, Seq, set, set_bzl, view, view_bzl};
@@ -14,8 +12,7 @@ pub(crate) fn labels(alloc: Global) -> Option<String> {
     let target = Target::read(alloc, "//p:all").ok()?;
     let means_all = matches!(target.which, Which::All);
     let is_less = key_cmp(b"a", b"b") == Ordering::Less;
-    format!(
-        in alloc;
+    format!(in alloc;
         "name of {} bytes, all {means_all}, same {}, shortened to {} bytes, less {is_less}, sorted {}, place {}",
         label.name.as_slice().len(),
         same(b"p", b"//p:x", b":x"),
