@@ -302,11 +302,12 @@ def names_are_there(programs, folder):
 
 
 def definitions_are_there(programs, folder):
-    """Each name in a row of the definitions of a crate's page is in one of the files of specs/ that the row names."""
+    """Each name in a row of the definitions of a crate's page is in one of the files of specs/, or of specs/private/, that the row names."""
     wrong = []
     for page in CRATE_PAGES:
         for names, files in OF_SPECS.findall(page.read_text()):
-            found = [page.parent / "specs" / f"{file}.antt" for file in files.split(", ")]
+            inner = page.parent / "specs" / "private"
+            found = [max(inner / f"{file}.antt", inner.parent / f"{file}.antt", key=pathlib.Path.exists) for file in files.split(", ")]
             words = {word for file in found if file.exists() for word in re.findall(r"[^\s(){}\[\],;:]+", file.read_text())}
             lost = [file.stem for file in found if not file.exists()] + sorted(set(CODE.findall(names)) - words)
             wrong += [f"{page.relative_to(TOP)}: {name} is not in {files}" for name in lost]
