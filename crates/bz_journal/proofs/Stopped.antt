@@ -33,27 +33,27 @@ there : (h : History) (text : Bytes) (at : ℕ) → stands h text ≡ Some at �
 there h text at e =
     by_tests (bytes_eq text (text_at h h.cursor)) (bytes_eq text (text_at h h.before)) h text at (bytes_eq-Decides text (text_at h h.cursor)).0 (bytes_eq-Decides text (text_at h h.before)).0 e
 
-resumes_at : (printed_answer : History) (es : List (List Edit)) (current : Bytes) (texts : List Bytes) (text : Bytes) (place : ℕ) (result : Result SessionState ResumeFault)
-    → printed_answer.«package» ≡ current → texts ≡ printed_answer.texts → stands printed_answer text ≡ Some place → IsKnownSession printed_answer es text result → ResumesAt current texts text result
-resumes_at printed_answer es current texts text place (Ok s) own are standing known = (
+resumes_at : (recorded : History) (es : List (List Edit)) (current : Bytes) (texts : List Bytes) (text : Bytes) (place : ℕ) (result : Result SessionState ResumeFault)
+    → recorded.«package» ≡ current → texts ≡ recorded.texts → stands recorded text ≡ Some place → IsKnownSession recorded es text result → ResumesAt current texts text result
+resumes_at recorded es current texts text place (Ok s) own are standing known = (
   ap (λ (h : History). h.«package») known.history ∙ own,
   ap (λ (h : History). h.texts) known.history ∙ sym are,
-  ap present known.history ∙ there printed_answer text known.at known.stands_there,
+  ap present known.history ∙ there recorded text known.at known.stands_there,
 )
-resumes_at printed_answer es current texts text place (Err f.Memory) own are standing known = tt
-resumes_at printed_answer es current texts text place (Err f.Stale) own are standing known = none_some place (sym known ∙ standing)
-resumes_at printed_answer es current texts text place (Err f.Damaged) own are standing known = known
-resumes_at printed_answer es current texts text place (Err f.Version) own are standing known = known
+resumes_at recorded es current texts text place (Err f.Memory) own are standing known = tt
+resumes_at recorded es current texts text place (Err f.Stale) own are standing known = none_some place (sym known ∙ standing)
+resumes_at recorded es current texts text place (Err f.Damaged) own are standing known = known
+resumes_at recorded es current texts text place (Err f.Version) own are standing known = known
 
 -- what is resumed of a file that goes on with these texts
 abbrev Known : Bytes → Bytes → Result SessionState ResumeFault → Type 0
-Known bytes text result = (printed_answer : History) (es : List (List Edit)) → Journal bytes printed_answer es → IsKnownSession printed_answer es text result
+Known bytes text result = (recorded : History) (es : List (List Edit)) → Journal bytes recorded es → IsKnownSession recorded es text result
 
 by_history : (folder : Folder) (file current text bytes : Bytes) (texts : List Bytes) (result : Result SessionState ResumeFault) → get folder (journal_name file) ≡ Some bytes → Known bytes text result
     → IsRecordedBy folder file current text texts → ResumesAt current texts text result
 by_history folder file current text bytes texts result journal known (inl none) = absurd (none_some bytes (sym none.0 ∙ journal))
-by_history folder file current text bytes texts result journal known (inr (own, printed_answer, es, place, there_is, is, called, are, standing)) =
-    resumes_at printed_answer es current texts text place result called are standing (known printed_answer es (subst (λ (b : Bytes). Journal b printed_answer es) (some_same own bytes (sym there_is ∙ journal)) is))
+by_history folder file current text bytes texts result journal known (inr (own, recorded, es, place, there_is, is, called, are, standing)) =
+    resumes_at recorded es current texts text place result called are standing (known recorded es (subst (λ (b : Bytes). Journal b recorded es) (some_same own bytes (sym there_is ∙ journal)) is))
 
 held : (folder : Folder) (file current text other bytes : Bytes) (texts : List Bytes) (result : Result SessionState ResumeFault) → get folder file ≡ Some text → get folder (journal_name file) ≡ Some bytes
     → Known bytes text result → Holds folder file current other texts → ResumesAt current texts text result

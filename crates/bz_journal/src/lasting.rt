@@ -36,7 +36,7 @@ impl Course {
     pub(crate) fn journal(&self, digests: &[[u8; 32]], text: &[u8]) -> Result<Vec<u8>, Memory>
         requires digests { digests.now ≡ map sha256 (session_history self.now).texts }
         requires text { text.now ≡ present (session_history self.now) }
-        ensures printed_answer { IfOk result (λ printed_answer. printed_answer.items ≡ saved self.now) }
+        ensures stored { IfOk result (λ stored. stored.items ≡ saved self.now) }
         ensures journal { IsSavedSession self.now }
     {
         texts_kept();
@@ -53,9 +53,9 @@ impl Course {
                 steps: self.steps.as_slice(),
             },
         };
-        let mut printed_answer = Vec::new(*self.steps.allocator());
-        save_into(&saved, &mut printed_answer)?;
-        Ok(printed_answer)
+        let mut stored = Vec::new(*self.steps.allocator());
+        save_into(&saved, &mut stored)?;
+        Ok(stored)
     }
 }
 
@@ -99,7 +99,7 @@ impl Session {
     /// The journal of the session with this present text, in version 2. The error: a growth was refused.
     pub(crate) fn journal(&self, text: &[u8]) -> Result<Vec<u8>, Memory>
         requires { text.now ≡ present (session_history self.now) }
-        ensures printed_answer { IfOk result (λ printed_answer. printed_answer.items ≡ saved self.now) }
+        ensures stored { IfOk result (λ stored. stored.items ≡ saved self.now) }
         ensures journal { IsSavedSession self.now }
     {
         texts_kept();
@@ -116,9 +116,9 @@ impl Session {
                 steps: self.steps.as_slice(),
             },
         };
-        let mut printed_answer = Vec::new(*self.steps.allocator());
-        save_into(&saved, &mut printed_answer)?;
-        Ok(printed_answer)
+        let mut stored = Vec::new(*self.steps.allocator());
+        save_into(&saved, &mut stored)?;
+        Ok(stored)
     }
 
     /// The session that a journal says, at the text that the file has now: at the cursor where that is the text there, else at

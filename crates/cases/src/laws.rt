@@ -43,7 +43,7 @@ fn call_tokens_and_trees() {
     bz_grammar::laws::legal_by_nodes();
     bz_grammar::laws::one_bzl_reading();
     bz_grammar::laws::legal_by_lines();
-    bz_grammar::laws::worked_command_lines();
+    bz_grammar::laws::worked_lines();
     bz_grammar::laws::kind_of_number();
 }
 
@@ -106,7 +106,7 @@ fn call_words() {
     bz_command_syntax::identifiers_are_names();
     bz_command_syntax::worked_words();
     bz_command_syntax::worked_identifiers();
-    bz_command_syntax::worked_command_effects();
+    bz_command_syntax::worked_commands();
     bz_command_syntax::worked_strings();
     bz_command_line::worked_command_lines();
 }

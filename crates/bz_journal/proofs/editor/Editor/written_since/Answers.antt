@@ -11,7 +11,7 @@ returns-clause-written c = (
   subst (λ (x : SessionState). x.cursor ≢ c.args.from) (sym c.take_text.ensures.stays)
       (has_moved c.cursor.result c.args.from _ c.args.from c.if-cursor-from.false c.cursor.ensures refl),
   record {
-    printed_answer = c.in_ok-journal.ensures.printed_answer ∙ ap saved c.self.view_is;
+    stored = c.in_ok-journal.ensures.stored ∙ ap saved c.self.view_is;
     own = subst (λ (x : SessionState). IsSavedSession x) c.self.view_is c.in_ok-journal.ensures.journal;
     text = c.in_ok-text.ensures.text ∙ ap (λ (x : SessionState). present (session_history x)) (sym c.take_text.ensures.stays);
   },
