@@ -1,5 +1,5 @@
 //! Trees and edits by the names of bz_tree and bz_edit.
-use bz_edit::{Edit, EditFault, Step, advance, exchange, exchange_node, weight};
+use bz_edit::{Edit, EditFault, Step, advance, exchange_node, weight};
 use bz_tree::laws::one_tree;
 use bz_tree::{BzlTree, Class, Kind, Leaf, Node, Part, ReadFault, Tree, lex, parse, parse_bzl};
 use std::alloc::Global;
@@ -45,21 +45,20 @@ pub(crate) fn outcome(alloc: Global) -> Option<String> {
     .ok()
 }
 
-/// The step between two trees, and what is left of it after two exchanges.
+/// The step between two trees, exchanged on a node; and the step of no edits, exchanged on a tree.
 pub(crate) fn exchanged(alloc: Global) -> Option<String> {
     let mut tree = parse(alloc, TEXT.as_bytes()).ok()?;
+    let mut root = parse(alloc, b"").ok()?.root.copy().ok()?;
     let mut step = advance(&mut tree, parse(alloc, b"").ok()?).ok()?;
     let held = weight(&step);
-    let fault: Result<(), EditFault> = exchange(&mut tree, &mut step);
+    let fault: Result<(), EditFault> = exchange_node(&mut root, &mut step);
     fault.ok()?;
-    let back = tree.len();
-    let mut root = tree.root.copy().ok()?;
-    exchange_node(&mut root, &mut step).ok()?;
     let edits: Vec<Edit> = Vec::new(alloc);
     let nothing = weight(&Step::new(edits)?);
     format!(in alloc;
-        "{held} bytes held, {back} bytes again, {} parts left, {nothing} in no edits",
-        root.parts.as_slice().len()
+        "{held} bytes held, {} parts again, {} bytes are left, {nothing} in no edits",
+        root.parts.as_slice().len(),
+        tree.len()
     )
     .ok()
 }
