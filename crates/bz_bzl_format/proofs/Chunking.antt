@@ -14,7 +14,7 @@ use Rattle.bz_bzl_layout.specs.Joined.{bzl_gap_below, BzlLayoutsJoin, BzlDepthsJ
 use Rattle.bz_bzl_layout.specs.Laws.{BzlLayoutIsAccepted, BzlLayoutReadsBack, LevelKeepsLayout, LevelStays}
 use Rattle.bz_bzl_layout.specs.Layout.{bzl_layout}
 use Rattle.bz_bzl_layout.specs.Level.{level, level_item}
-use Rattle.bz_bzl_format.specs.private.Chunks.{ReadsAs, IsLast, IsBegun, IsAppended}
+use Rattle.bz_bzl_format.specs.private.Chunks.{ReadsAsBzl, IsLastBzl, IsBzlBegun, IsBzlAppended}
 use Rattle.bz_bzl_format.specs.Formatted.{FormatsBzlTo}
 use Rattle.bz_bzl_format.proofs.PastLimits.{level_proper}
 
@@ -29,11 +29,11 @@ pub record LayersJoin : Type 0 where
   pub accepted : BzlLayoutIsAccepted
   pub back : BzlLayoutReadsBack
 
-last_there : (last : Option BzlItem) (items : List BzlItem) → ((item : BzlItem) × (last ≡ Some item) × IsLast (Some item) items) → IsLast last items
-last_there last items (item, is, l) = subst (λ z. IsLast z items) (sym is) l
+last_there : (last : Option BzlItem) (items : List BzlItem) → ((item : BzlItem) × (last ≡ Some item) × IsLastBzl (Some item) items) → IsLastBzl last items
+last_there last items (item, is, l) = subst (λ z. IsLastBzl z items) (sym is) l
 
 -- the first chunk
-pub first_begun : (text before out : Bytes) (above below : Option BzlItem) (items : List BzlItem) (bare ends : Bool) → before ≡ [] → above ≡ None → ReadsAs text items bare ends → IsAppended before above items out below → IsBegun text out below ends
+pub first_begun : (text before out : Bytes) (above below : Option BzlItem) (items : List BzlItem) (bare ends : Bool) → before ≡ [] → above ≡ None → ReadsAsBzl text items bare ends → IsBzlAppended before above items out below → IsBzlBegun text out below ends
 first_begun text before out above below items bare ends b a (tree, reads, says, begin, end) k = record {
   items = items;
   tree = tree;
@@ -47,16 +47,16 @@ first_begun text before out above below items bare ends b a (tree, reads, says, 
 }
 
 module _ (laws : LayersJoin) where
-  laid_both : (above : Option BzlItem) (front items : List BzlItem) → IsLast above front → bzl_layout (level front ++ items) ≡ bzl_layout (level front) ++ (bzl_gap_below above items ++ bzl_layout items)
+  laid_both : (above : Option BzlItem) (front items : List BzlItem) → IsLastBzl above front → bzl_layout (level front ++ items) ≡ bzl_layout (level front) ++ (bzl_gap_below above items ++ bzl_layout items)
   laid_both None front items h = absurd h
   laid_both (Some item) front items (before, is) =
       ap (λ xs. bzl_layout (xs ++ items)) is ∙ (laws.layouts before item items ∙ sym (ap (λ xs. bzl_layout xs ++ (bzl_gap_below (Some item) items ++ bzl_layout items)) is))
 
-  last_both : (front items : List BzlItem) (item : BzlItem) → level (front ++ items) ≡ level front ++ level items → IsLast (Some item) items → IsLast (Some item) (front ++ items)
+  last_both : (front items : List BzlItem) (item : BzlItem) → level (front ++ items) ≡ level front ++ level items → IsLastBzl (Some item) items → IsLastBzl (Some item) (front ++ items)
   last_both front items item e (before, is) = (level front ++ before, e ∙ (ap (λ xs. level front ++ xs) is ∙ sym (append_assoc (level front) before (item ∷ []))))
 
-  one_more : (s t before out : Bytes) (above below : Option BzlItem) (items : List BzlItem) (bare ends : Bool) → IsBegun s before above true → ReadsAs t items bare ends → bare ≡ true → IsAppended before above items out below → length (s ++ t) ≤ limit
-      → IsBegun (s ++ t) out below ends
+  one_more : (s t before out : Bytes) (above below : Option BzlItem) (items : List BzlItem) (bare ends : Bool) → IsBzlBegun s before above true → ReadsAsBzl t items bare ends → bare ≡ true → IsBzlAppended before above items out below → length (s ++ t) ≤ limit
+      → IsBzlBegun (s ++ t) out below ends
   one_more s t before out above below items bare ends h (m, reads, is, begin, end) bares k le =
       let (new, read, view, joins) = laws.views s t h.tree m (h.closes refl) (begin bares) h.reads reads le in
       let two : level (h.items ++ items) ≡ level h.items ++ level items = map-append level_item h.items items in
@@ -75,22 +75,22 @@ module _ (laws : LayersJoin) where
       }
 
   -- the same of a text that is read from its begin on
-  pub next_begun : (text before out : Bytes) (at len : ℕ) (above below : Option BzlItem) (items : List BzlItem) (ends bare more : Bool) → at ≤ length text → IsBegun (take at text) before above ends → ends ≡ true
-      → ReadsAs (take len (take (length text - at) (drop at text))) items bare more → bare ≡ true → IsAppended before above items out below → length text ≤ limit → IsBegun (take (at + len) text) out below more
+  pub next_begun : (text before out : Bytes) (at len : ℕ) (above below : Option BzlItem) (items : List BzlItem) (ends bare more : Bool) → at ≤ length text → IsBzlBegun (take at text) before above ends → ends ≡ true
+      → ReadsAsBzl (take len (take (length text - at) (drop at text))) items bare more → bare ≡ true → IsBzlAppended before above items out below → length text ≤ limit → IsBzlBegun (take (at + len) text) out below more
   next_begun text before out at len above below items ends bare more inside h e r b k le =
-      let own : ReadsAs (take len (drop at text)) items bare more = subst (λ z. ReadsAs (take len z) items bare more) (whole_rest text at inside) r in
+      let own : ReadsAsBzl (take len (drop at text)) items bare more = subst (λ z. ReadsAsBzl (take len z) items bare more) (whole_rest text at inside) r in
       let whole : take (at + len) text ≡ take at text ++ take len (drop at text) = take-add at len text in
       let short : length (take at text ++ take len (drop at text)) ≤ limit = subst (λ z. length z ≤ limit) whole (within (length-take (at + len) text) le) in
-      subst (λ z. IsBegun z out below more) (sym whole)
-      (one_more (take at text) (take len (drop at text)) before out above below items bare more (subst (IsBegun (take at text) before above) e h) own b k short)
+      subst (λ z. IsBzlBegun z out below more) (sym whole)
+      (one_more (take at text) (take len (drop at text)) before out above below items bare more (subst (IsBzlBegun (take at text) before above) e h) own b k short)
     where
       within : length (take (at + len) text) ≡ min (at + len) (length text) → length text ≤ limit → length (take (at + len) text) ≤ limit
       within a b = omega (arith, a, b)
 
-  pub all_formatted : (text out : Bytes) (at : ℕ) (last : Option BzlItem) (ends : Bool) → IsBegun (take at text) out last ends → at ≤ length text → length text ≤ at → FormatsBzlTo text (Ok out)
+  pub all_formatted : (text out : Bytes) (at : ℕ) (last : Option BzlItem) (ends : Bool) → IsBzlBegun (take at text) out last ends → at ≤ length text → length text ≤ at → FormatsBzlTo text (Ok out)
   all_formatted text out at last ends g a b =
       let all : at ≡ length text = omega (arith, a, b) in
-      let h : IsBegun text out last ends = subst (λ z. IsBegun z out last ends) (ap (λ n. take n text) all ∙ take-length text) g in
+      let h : IsBzlBegun text out last ends = subst (λ z. IsBzlBegun z out last ends) (ap (λ n. take n text) all ∙ take-length text) g in
       let leveled : List BzlItem = level (bzl_view_of h.tree) in
       let is : out ≡ bzl_layout leveled = h.formatted ∙ ap (λ xs. bzl_layout (level xs)) h.says in
       let shallow : depth_of (bzl_laid_out leveled) ≤ depth_limit = subst (λ xs. depth_of (bzl_laid_out (level xs)) ≤ depth_limit) h.says h.shallow in

@@ -1,6 +1,6 @@
 //! The formatted text of a long .bzl text, made chunk by chunk: its tree and its value are never in memory as a whole.
 ghost use Rattle.std.specs.Prelude.{◌≡◌, ◌≤◌, ◌<◌, IfOk, IfSome, Ok, length, take};
-ghost use Rattle.bz_bzl_format.specs.private.Chunks.{IsAppended, ReadsAs};
+ghost use Rattle.bz_bzl_format.specs.private.Chunks.{IsBzlAppended, ReadsAsBzl};
 ghost use Rattle.bz_bzl_format.specs.Formatted.{FormatsBzlTo};
 
 use bz_build_format::{CHUNK, TRIES, Unseen, chunk_end, why_unseen};
@@ -30,7 +30,7 @@ struct Chunk {
 
 /// What a text says, and whether it begins without comments and ends with a statement. One that does not is taken at the end alone.
 fn seen(alloc: Global, text: &[u8], is_last: bool) -> Result<(BzlFile, bool, bool), Unseen>
-    ensures { IfOk result (λ seen. ReadsAs text.now seen.0.items seen.1 seen.2) }
+    ensures { IfOk result (λ seen. ReadsAsBzl text.now seen.0.items seen.1 seen.2) }
 {
     let tree = match parse_bzl(alloc, text) {
         Ok(tree) => tree,
@@ -49,7 +49,7 @@ fn seen(alloc: Global, text: &[u8], is_last: bool) -> Result<(BzlFile, bool, boo
 /// The first chunk of a text that is read by itself.
 fn first_chunk(alloc: Global, text: &[u8]) -> Option<Chunk>
     requires { 0 < length text.now }
-    ensures reads { IfSome result (λ chunk. ReadsAs (take chunk.len text.now) chunk.file.items chunk.bare chunk.ends) }
+    ensures reads { IfSome result (λ chunk. ReadsAsBzl (take chunk.len text.now) chunk.file.items chunk.bare chunk.ends) }
     ensures len { IfSome result (λ chunk. (0 < chunk.len) × (chunk.len ≤ length text.now)) }
 {
     let mut size = CHUNK;
@@ -78,7 +78,7 @@ fn first_chunk(alloc: Global, text: &[u8]) -> Option<Chunk>
 /// Appends the formatted text of what a chunk says, below the item above it, whose place its last one takes. None: it has no items, a limit
 /// is passed, or memory was refused.
 fn append(out: &mut Vec<u8>, above: &mut Option<BzlItem>, mut file: BzlFile) -> Option<()>
-    ensures { IfSome result (λ _. IsAppended out.old.items above.old file.items out.new.items above.new) }
+    ensures { IfSome result (λ _. IsBzlAppended out.old.items above.old file.items out.new.items above.new) }
 {
     level(&mut file);
     append_bzl(out, above, &file)?;

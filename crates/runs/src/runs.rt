@@ -4,7 +4,7 @@ use bz_buildifier::{Cut, Exit, MemorySink, MemorySource, buildifier};
 use bz_buildozer::buildozer;
 use bz_files::MemoryFiles;
 use bz_items::Memory;
-use sheets::{Case, CaseFault, Page, text_of};
+use sheets::{Case, CaseFault, Page, utf8_of};
 use std::alloc::Global;
 
 /// A question about a run.
@@ -64,7 +64,7 @@ impl RunQuery {
             RunQuery::Words | RunQuery::Status => (case.text(0)?, 1),
         };
         let words = words_of(alloc, line)?;
-        let input = case.bytes(place)?;
+        let input = case.text_bytes(place)?;
         let given = files_of(case, place + 1)?;
         let task = Task {
             alloc,
@@ -144,7 +144,7 @@ fn plan(failure: Failure, files: &mut MemoryFiles) {
 /// A file of a case: its text after a line with its name.
 fn file_of(text: &[u8]) -> Result<(&str, &[u8]), CaseFault> {
     match text.iter().position(|byte| *byte == b'\n') {
-        Some(end) => Ok((text_of(&text[..end])?, &text[end + 1..])),
+        Some(end) => Ok((utf8_of(&text[..end])?, &text[end + 1..])),
         None => Err(CaseFault::Sheet("a file has no name")),
     }
 }
@@ -215,7 +215,7 @@ impl Left {
     fn show(&self, alloc: Global, page: &mut Page) -> Result<(), Memory> {
         page.answer(self.shown_exit(alloc)?.as_bytes())?;
         if !self.err.bytes().is_empty() {
-            page.lines("!", self.err.bytes())?;
+            page.text_lines("!", self.err.bytes())?;
         }
         if !self.out.bytes().is_empty() {
             page.text("<", self.out.bytes())?;

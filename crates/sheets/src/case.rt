@@ -33,13 +33,13 @@ pub struct Case {
 }
 
 /// The text of bytes that have to be UTF-8.
-pub fn text_of(bytes: &[u8]) -> Result<&str, CaseFault> {
+pub fn utf8_of(bytes: &[u8]) -> Result<&str, CaseFault> {
     Ok(str::from_utf8(bytes)?)
 }
 
 impl Case {
     /// The text at this place, from 0.
-    pub fn bytes(&self, place: usize) -> Result<&[u8], CaseFault> {
+    pub fn text_bytes(&self, place: usize) -> Result<&[u8], CaseFault> {
         match at(self.texts.as_slice(), place) {
             Some(text) => Ok(text.as_slice()),
             None => Err(CaseFault::Sheet("a text is missing")),
@@ -48,11 +48,11 @@ impl Case {
 
     /// The same of a text that has to be UTF-8.
     pub fn text(&self, place: usize) -> Result<&str, CaseFault> {
-        text_of(self.bytes(place)?)
+        utf8_of(self.text_bytes(place)?)
     }
 
     /// The argument of the question, which has to be UTF-8.
     pub fn argument(&self) -> Result<&str, CaseFault> {
-        text_of(self.argument.as_slice())
+        utf8_of(self.argument.as_slice())
     }
 }

@@ -25,7 +25,7 @@ mod page;
 mod process;
 mod sheet;
 
-pub use case::{Case, CaseFault, text_of};
+pub use case::{Case, CaseFault, utf8_of};
 pub use page::Page;
 pub use process::{answer, input};
-pub use sheet::{Question, answered};
+pub use sheet::{Question, answer_sheet};

@@ -62,7 +62,7 @@ impl Page {
     }
 
     /// Lines that each end in a newline, with the mark in front of each; the last one may lack it, which is then said.
-    pub fn lines(&mut self, mark: &str, bytes: &[u8]) -> Result<(), Memory> {
+    pub fn text_lines(&mut self, mark: &str, bytes: &[u8]) -> Result<(), Memory> {
         let Some(lines) = bytes.strip_suffix(b"\n") else {
             self.text(mark, bytes)?;
             return self.line("?", b"no newline at the end");

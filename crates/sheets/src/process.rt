@@ -1,5 +1,5 @@
 //! A process that answers the sheet on its standard input.
-use crate::sheet::{Question, answered};
+use crate::sheet::{Question, answer_sheet};
 use anyhow::Result;
 use std::io;
 use std::io::{Read, Write};
@@ -15,7 +15,7 @@ pub fn input(rt: &HostRuntime) -> io::Result<Vec<u8>> {
 /// or a growth was refused.
 pub fn answer<Q: Question>(rt: &HostRuntime) -> Result<()> {
     let sheet = input(rt)?;
-    let page = answered::<Q>(rt.alloc(), str::from_utf8(&sheet)?)?;
+    let page = answer_sheet::<Q>(rt.alloc(), str::from_utf8(&sheet)?)?;
     rt.stdout().write_all(page.as_bytes())?;
     Ok(())
 }

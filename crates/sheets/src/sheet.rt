@@ -70,7 +70,7 @@ struct Reader<Q: Question> {
 }
 
 /// The sheet with its answers put in. The error: a growth was refused.
-pub fn answered<Q: Question>(alloc: Global, sheet: &str) -> Result<Page, Memory> {
+pub fn answer_sheet<Q: Question>(alloc: Global, sheet: &str) -> Result<Page, Memory> {
     let mut reader = Reader::<Q> {
         alloc,
         question: None,

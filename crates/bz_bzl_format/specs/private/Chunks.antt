@@ -13,16 +13,16 @@ use Rattle.bz_bzl_layout.specs.Layout.{bzl_layout}
 use Rattle.bz_bzl_layout.specs.Level.{level}
 
 -- The text reads as a file of these items, and where `bare` and `ends` say so it begins bare and ends with a statement.
-abbrev pub ReadsAs : Bytes → List BzlItem → Bool → Bool → Type 0
-ReadsAs text items bare ends = (tree : Node) × ReadsBzl text tree × (items ≡ bzl_view_of tree) × (bare ≡ true → BeginsBare tree) × (ends ≡ true → EndsWithStatement tree)
+abbrev pub ReadsAsBzl : Bytes → List BzlItem → Bool → Bool → Type 0
+ReadsAsBzl text items bare ends = (tree : Node) × ReadsBzl text tree × (items ≡ bzl_view_of tree) × (bare ≡ true → BeginsBare tree) × (ends ≡ true → EndsWithStatement tree)
 
 -- the last of the items, levelled
-abbrev pub IsLast : Option BzlItem → List BzlItem → Type 0
-IsLast None items = ⊥
-IsLast (Some item) items = (front : List BzlItem) × (level items ≡ front ++ item ∷ [])
+abbrev pub IsLastBzl : Option BzlItem → List BzlItem → Type 0
+IsLastBzl None items = ⊥
+IsLastBzl (Some item) items = (front : List BzlItem) × (level items ≡ front ++ item ∷ [])
 
 -- The formatted text of a text, within the limits, and the last of its items.
-pub record IsBegun (text out : Bytes) (above : Option BzlItem) (ends : Bool) : Type 0 where
+pub record IsBzlBegun (text out : Bytes) (above : Option BzlItem) (ends : Bool) : Type 0 where
   pub items : List BzlItem
   pub tree : Node
   pub reads : ReadsBzl text tree
@@ -31,11 +31,11 @@ pub record IsBegun (text out : Bytes) (above : Option BzlItem) (ends : Bool) : T
   pub formatted : out ≡ bzl_layout (level items)
   pub short : length out ≤ limit
   pub shallow : depth_of (bzl_laid_out (level items)) ≤ depth_limit
-  pub last : IsLast above items
+  pub last : IsLastBzl above items
 
 -- After what was formatted is the layout of further items, levelled.
-pub record IsAppended (before : Bytes) (above : Option BzlItem) (items : List BzlItem) (out : Bytes) (below : Option BzlItem) : Type 0 where
+pub record IsBzlAppended (before : Bytes) (above : Option BzlItem) (items : List BzlItem) (out : Bytes) (below : Option BzlItem) : Type 0 where
   pub formatted : out ≡ before ++ (bzl_gap_below above (level items) ++ bzl_layout (level items))
   pub short : length out ≤ limit
   pub shallow : depth_of (bzl_laid_out (level items)) ≤ depth_limit
-  pub last : (item : BzlItem) × (below ≡ Some item) × IsLast (Some item) items
+  pub last : (item : BzlItem) × (below ≡ Some item) × IsLastBzl (Some item) items
