@@ -228,6 +228,12 @@ def layers(programs, folder):
     return different("crates", sorted(word for word, _ in found), sorted(uses)) + wrong
 
 
+def rows_of_the_gate(programs, folder):
+    """Each crate has one row in the table of docs/GATE.md, and no other row is there."""
+    table = re.search(r"(?m)^\| Crate \| Functions \|.*\n\|[-|]+\|\n((?:\|.*\n)+)", (TOP / "docs" / "GATE.md").read_text())
+    return different("rows of docs/GATE.md", sorted(re.findall(r"(?m)^\| (\w+) \|", table[1])), sorted(libraries_of()))
+
+
 def links_of(page):
     """The files to which a page links."""
     text = CODE.sub("", BLOCK.sub("", page.read_text()))
@@ -340,7 +346,7 @@ def files_of_lemmas_are_there(programs, folder):
     return lost if named else ["no file of lemmas is named"]
 
 
-OF_TABLES = [refusals, attributes, commands, examples_of_commands, layers]
+OF_TABLES = [refusals, attributes, commands, examples_of_commands, layers, rows_of_the_gate]
 OF_PAGES = [
     pages_are_linked, readme_is_short, pages_of_crates_have_their_form, files_are_there, crates_are_there, names_are_there, definitions_are_there,
     made_of_definitions, index_has_what_is_cited, files_of_lemmas_are_there,
