@@ -56,6 +56,8 @@ WORD = re.compile(r"[A-Za-z_][\w-]*")
 NAMES_OF_OTHERS = {"Tie", "is-1", "loop-X-preserved", "grep", "make", "flock", "chekc", "st", "b1", "o8"}
 # a row of a crate's definitions: names, the files of specs/ that have them
 OF_SPECS = re.compile(r"(?m)^\| ([^|]*`[^|]*) \| ([A-Z]\w*(?:, [A-Z]\w*)*) \|")
+# what a line of specs/ defines: a definition, a field or constructors, by the names before what it takes or its type
+DEFINES = re.compile(r"(?m)^(?! *--) *((?:(?!= )[^\s:({]+ )+)[:({]")
 # what contracts cite of the definitions; these have no names that the toolchain made
 CITED = re.compile(r"ghost use Rattle\.bz_[a-z]+\.specs\.([\w.]+)\.\{([^}]*)\}")
 # a row of the code's tables of numbers
@@ -228,6 +230,12 @@ def layers(programs, folder):
     return different("crates", sorted(word for word, _ in found), sorted(uses)) + wrong
 
 
+def rows_of_the_gate(programs, folder):
+    """Each crate has one row in the table of docs/GATE.md, and no other row is there."""
+    table = re.search(r"(?m)^\| Crate \| Functions \|.*\n\|[-|]+\|\n((?:\|.*\n)+)", (TOP / "docs" / "GATE.md").read_text())
+    return different("rows of docs/GATE.md", sorted(re.findall(r"(?m)^\| (\w+) \|", table[1])), sorted(libraries_of()))
+
+
 def links_of(page):
     """The files to which a page links."""
     text = CODE.sub("", BLOCK.sub("", page.read_text()))
@@ -302,13 +310,14 @@ def names_are_there(programs, folder):
 
 
 def definitions_are_there(programs, folder):
-    """Each name in a row of the definitions of a crate's page is in one of the files of specs/, or of specs/private/, that the row names."""
+    """Each name in a row of the definitions of a crate's page is defined in one of the files of specs/, or of specs/private/, that the row
+    names."""
     wrong = []
     for page in CRATE_PAGES:
         for names, files in OF_SPECS.findall(page.read_text()):
             inner = page.parent / "specs" / "private"
             found = [max(inner / f"{file}.antt", inner.parent / f"{file}.antt", key=pathlib.Path.exists) for file in files.split(", ")]
-            words = {word for file in found if file.exists() for word in re.findall(r"[^\s(){}\[\],;:]+", file.read_text())}
+            words = {word for file in found if file.exists() for line in DEFINES.findall(file.read_text()) for word in line.split()}
             lost = [file.stem for file in found if not file.exists()] + sorted(set(CODE.findall(names)) - words)
             wrong += [f"{page.relative_to(TOP)}: {name} is not in {files}" for name in lost]
     return wrong
@@ -340,7 +349,7 @@ def files_of_lemmas_are_there(programs, folder):
     return lost if named else ["no file of lemmas is named"]
 
 
-OF_TABLES = [refusals, attributes, commands, examples_of_commands, layers]
+OF_TABLES = [refusals, attributes, commands, examples_of_commands, layers, rows_of_the_gate]
 OF_PAGES = [
     pages_are_linked, readme_is_short, pages_of_crates_have_their_form, files_are_there, crates_are_there, names_are_there, definitions_are_there,
     made_of_definitions, index_has_what_is_cited, files_of_lemmas_are_there,
