@@ -51,9 +51,6 @@ fn follow(
         if let NodeState::Rest(kind, Tail::TokenPart(token, nonterminal)) = state {
             return token_and_part(from, deep, kind, token, nonterminal, depth, stack, leaves);
         }
-        if let NodeState::Rest(kind, Tail::Token(close)) = state {
-            return closing_token(from, deep, kind, close, depth, stack, leaves);
-        }
         match state.next_move() {
             Move::Finish(kind) => {
                 stack.close(kind, from)?;
