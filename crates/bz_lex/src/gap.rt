@@ -16,12 +16,12 @@ pub enum GapState {
 }
 
 impl GapState {
-    /// Whether the state after one more byte is surely the same, as in a run of spaces and newlines or in a comment.
-    fn stays(self, newlines: bool, byte: u8) -> bool
-        ensures { IsTrue result → gap_move newlines self byte ≡ Some self }
+    /// Whether the state after one more byte is surely the same, as in a run of spaces or in a comment.
+    fn stays(self, byte: u8) -> bool
+        ensures { IsTrue result → (newlines : Bool) → gap_move newlines self byte ≡ Some self }
     {
         match self {
-            GapState::Open => byte == b' ' || newlines && byte == b'\n',
+            GapState::Open => byte == b' ',
             GapState::Comment => byte != b'\n',
             _ => false,
         }
@@ -113,7 +113,7 @@ fn longer_gap(text: &[u8], newlines: bool) -> GapFront
         match state.step(newlines, text[at]) {
             None => return GapFront { length: at, state },
             Some(next) => {
-                at = run(next, newlines, text, at + 1);
+                at = run(next, text, at + 1);
                 state = next;
             }
         }
@@ -124,16 +124,16 @@ fn longer_gap(text: &[u8], newlines: bool) -> GapFront
     }
 }
 
-/// The first byte from this one on that does not simply go on with spaces and newlines or with a comment, or the end.
-fn run(state: GapState, newlines: bool, text: &[u8], from: usize) -> usize
+/// The first byte from this one on that does not simply go on with spaces or with a comment, or the end.
+fn run(state: GapState, text: &[u8], from: usize) -> usize
     requires { from ≤ length text.now }
     ensures above { from ≤ result }
     ensures within { result ≤ length text.now }
-    ensures stays { (k : ℕ) → from ≤ k → k < result → gap_move newlines state (get_or text.now k 0) ≡ Some state }
+    ensures stays { (newlines : Bool) (k : ℕ) → from ≤ k → k < result → gap_move newlines state (get_or text.now k 0) ≡ Some state }
 {
     let mut at = from;
     'bytes: while at < text.len() {
-        if !state.stays(newlines, text[at]) {
+        if !state.stays(text[at]) {
             return at;
         }
         at += 1;

@@ -246,8 +246,8 @@ pub struct Leaves<'a> {
     place: Place,
     next: Option<Front>,
     symbol: Symbol,
-    /// How many bytes of the text are not left.
-    offset: usize,
+    /// How many bytes the whole text has.
+    total: usize,
     too_deep: Option<TooDeep>,
     /// How many bytes were not left when the next leaf was at an indent at which a statement may begin.
     at_indent: Option<usize>,
@@ -285,7 +285,7 @@ impl<'a> Leaves<'a> {
             place: Place::Fresh,
             next,
             symbol: symbol_at(next, text, Place::Fresh),
-            offset: 0,
+            total: text.len(),
             too_deep: None,
             at_indent: None,
         }
@@ -349,7 +349,7 @@ impl<'a> Leaves<'a> {
     {
         self.too_deep = Some(TooDeep {
             at,
-            until: self.offset,
+            until: self.offset(),
         });
     }
 
@@ -367,27 +367,28 @@ impl<'a> Leaves<'a> {
         ensures { self.new ≡ self.old }
     {
         if self.next_indent() == indent {
-            self.at_indent = Some(self.offset);
+            self.at_indent = Some(self.offset());
         }
     }
 
     /// The byte at which the node begins that keeps the next leaf from being read, since it is nested too deep.
     pub fn too_deep_at(&self) -> Option<usize> {
+        let offset = self.offset();
         match self.too_deep {
-            Some(TooDeep { at, until }) if until == self.offset => Some(at),
+            Some(TooDeep { at, until }) if until == offset => Some(at),
             _ => None,
         }
     }
 
     /// How many bytes of the text the leaves spell that were taken.
     pub fn offset(&self) -> usize {
-        self.offset
+        self.total.saturating_sub(self.rest.len())
     }
 
     /// The byte of the text at which the token of the next leaf begins; None where no leaf comes.
     pub fn next_at(&self) -> Option<usize> {
         match self.next {
-            Some(front) => Some(self.offset.saturating_add(front.gap)),
+            Some(front) => Some(self.offset().saturating_add(front.gap)),
             None => None,
         }
     }
@@ -399,14 +400,14 @@ impl<'a> Leaves<'a> {
 
     /// Whether the next leaf is at an indent at which a statement may begin.
     pub fn is_at_indent(&self) -> bool {
-        self.at_indent == Some(self.offset)
+        self.at_indent == Some(self.offset())
     }
 
     /// The byte at which the first token begins that no BUILD file has, among those that begin in this many bytes of the text
     /// of these leaves.
     pub fn newer_within(&mut self, until: usize) -> Option<usize> {
         for _ in 0..until {
-            if self.offset >= until || self.is_empty() {
+            if self.offset() >= until || self.is_empty() {
                 return None;
             }
             if self.starts_newer() {
@@ -437,10 +438,6 @@ impl<'a> Leaves<'a> {
                 .place
                 .after_token(front.class, front.token_of(self.rest));
             let rest = front.rest_of(self.rest);
-            self.offset = self
-                .offset
-                .saturating_add(front.gap)
-                .saturating_add(front.token);
             self.next = leaf_front(rest, place);
             self.symbol = symbol_at(self.next, rest, place);
             self.place = place;

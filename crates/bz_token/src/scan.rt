@@ -76,6 +76,7 @@ fn is_before_equals(text: &[u8]) -> bool
 }
 
 /// The name or keyword that a text begins with, unless a byte is next that a longer one may go on with.
+#[inline(always)]
 fn name(text: &[u8]) -> Option<Found>
     requires some { 0 < length text.now }
     requires word { move State.Start (get_or text.now 0 0) ≡ Some State.Word }
@@ -97,6 +98,7 @@ fn goes_on(text: &[u8], at: usize) -> bool
 }
 
 /// The string that a text begins with, where it is one of one line without backslashes and is not empty.
+#[inline(always)]
 fn plain_string(text: &[u8]) -> Option<Found>
     requires some { 0 < length text.now }
     requires opened { move State.Start (get_or text.now 0 0) ≡ Some (State.Opened Quote.Double) }

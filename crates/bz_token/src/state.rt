@@ -1,4 +1,4 @@
-ghost use Rattle.std.specs.Prelude.{◌≡◌, IsTrue, Some, None};
+ghost use Rattle.std.specs.Prelude.{◌≡◌, IsTrue, IfSome, Some, None};
 ghost use Rattle.bz_token.specs.Bytes.{among, is_digit, is_hexadecimal, is_octal, is_e, is_x, is_o, is_sign, is_high, is_letter};
 ghost use Rattle.bz_token.specs.private.Scanner.{lone_marks, operator_marks, mark_start, number_start, text_start, quote_or_word, word_move, high_move, zero_move, whole_move, fraction_move, exponent_move, doubled_move, quote_byte, short_move, long_move, move, ends, may_end, is_in_string};
 
@@ -247,6 +247,9 @@ fn operator_mark(byte: u8) -> bool
 pub fn start_step(byte: u8) -> Option<State>
     ensures { result ≡ move State.Start byte }
 {
+    if let Some(state) = common_start(byte) {
+        return Some(state);
+    }
     if let Some(state) = mark_start(byte) {
         return Some(state);
     }
@@ -254,6 +257,19 @@ pub fn start_step(byte: u8) -> Option<State>
         return Some(state);
     }
     text_start(byte)
+}
+
+/// The state after a small letter that begins no prefix of a string, or after a double quote: most names and strings begin so.
+/// `None` says nothing.
+#[inline(always)]
+fn common_start(byte: u8) -> Option<State>
+    ensures { IfSome result (λ state. move State.Start byte ≡ Some state) }
+{
+    if byte > b'b' && byte <= b'z' && byte != b'r' {
+        Some(State::Word)
+    } else {
+        (byte == b'"').then_some(State::Opened(Quote::Double))
+    }
 }
 
 #[inline(always)]

@@ -101,11 +101,12 @@ impl Stack {
         Ok(())
     }
 
-    /// All parts in a node of this kind.
+    /// All parts in a node of this kind, in a list of just their number: the room that their own parts took is given back.
     pub fn into_node(self, kind: Kind) -> Node
         ensures { result ≡ record { kind = kind; parts = self } }
     {
-        let Stack { parts, .. } = self;
+        let Stack { mut parts, .. } = self;
+        parts.shrink_to_fit();
         Node {
             kind,
             parts: Items::from_vec(parts),

@@ -6,7 +6,7 @@ use Rattle.bz_lex.proofs.gap.longer_gap.Goals as goal
 
 pub bytes-preserved : goal.bytes-preserved
 bytes-preserved c = record {
-  taken = after_run c.args.newlines _ _ _ _ _ c.run-at.ensures.above c.run-at.ensures.within c.run-at.ensures.stays (after_more c.args.newlines _ _ _ _ _ c.bytes-test.true c.bytes.invariant.taken (sym c.in-Some.ensures));
+  taken = after_run c.args.newlines _ _ _ _ _ c.run-at.ensures.above c.run-at.ensures.within (c.run-at.ensures.stays c.args.newlines) (after_more c.args.newlines _ _ _ _ _ c.bytes-test.true c.bytes.invariant.taken (sym c.in-Some.ensures));
   within = c.run-at.ensures.within;
 }
 

@@ -7,5 +7,5 @@ pub bytes-preserved : goal.bytes-preserved
 bytes-preserved c = record {
   above = let a = c.bytes.invariant.above in omega arith;
   within = let lt = c.bytes-test.true in omega arith;
-  stays = one_further (λ k. gap_move c.args.newlines c.args.state (get_or c.args.text.now k 0) ≡ Some c.args.state) c.args.from c.bytes.at c.bytes.invariant.stays (c.stays.ensures c.if-not-stays.false);
+  stays = λ newlines. one_further (λ k. gap_move newlines c.args.state (get_or c.args.text.now k 0) ≡ Some c.args.state) c.args.from c.bytes.at (c.bytes.invariant.stays newlines) (c.stays.ensures c.if-not-stays.false newlines);
 }

@@ -1,4 +1,4 @@
-use Rattle.std.proofs.Common.{◌≡◌, ◌≤◌, ◌<◌, ◌-◌, ℕ, Some, get_or, length}
+use Rattle.std.proofs.Common.{◌≡◌, ◌≤◌, ◌<◌, ◌-◌, ℕ, Bool, Some, get_or, length}
 use Rattle.bz_lex.specs.private.GapStates.{gap_move}
 use Rattle.bz_lex.proofs.gap.run.Given as goal
 
@@ -6,7 +6,7 @@ abbrev pub invariant-bytes : goal.invariant-bytes
 invariant-bytes l = record {
   above : l.from ≤ l.at;
   within : l.at ≤ length l.text;
-  stays : (k : ℕ) → l.from ≤ k → k < l.at → gap_move l.newlines l.state (get_or l.text k 0) ≡ Some l.state;
+  stays : (newlines : Bool) (k : ℕ) → l.from ≤ k → k < l.at → gap_move newlines l.state (get_or l.text k 0) ≡ Some l.state;
 }
 
 abbrev pub decreases-bytes : goal.decreases-bytes
