@@ -77,8 +77,8 @@ fn tidy_in(
             Some(made) => Ok((Some(Lines::Exchanged(made.relaid)), made.most)),
             None => Ok((None, LENGTH_LIMIT)),
         },
-        Extent::Spliced(Spliced { from, come, .. }) => {
-            match renew_spliced(alloc, from, come, file, tree, length_bound)? {
+        Extent::Spliced(Spliced { from, gone, come }) => {
+            match renew_spliced(alloc, from, gone, come, file, tree, length_bound)? {
                 Some(made) => Ok((Some(Lines::Spliced(made.respliced)), made.most)),
                 None => Ok((None, LENGTH_LIMIT)),
             }

@@ -17,6 +17,7 @@ pub mod Places
 pub mod Settling
 pub mod Exchanging
 pub mod Splicing
+pub mod Single
 pub mod Dropping
 pub mod Cut
 pub mod Stable

@@ -229,7 +229,7 @@ same_loose x = both (λ a b. a && b) (kind_flags k.Load x) (ap is_empty (above_f
 same_path : (x : Expr) → path_of (with_flags x) ≡ path_of x
 same_path x = ap between (ap first_text (items_flags x) ∙ first_flags (items_of x))
 
-unseen_load : (x y : Item) → load_precedes (item_with_flags x) (item_with_flags y) ≡ load_precedes x y
+pub unseen_load : (x y : Item) → load_precedes (item_with_flags x) (item_with_flags y) ≡ load_precedes x y
 unseen_load (i.Block lines) (i.Block texts) = refl
 unseen_load (i.Block lines) (i.Stmt y) = refl
 unseen_load (i.Stmt x) (i.Block lines) = refl

@@ -50,13 +50,14 @@ fn window_laid_out(
     }
 }
 
-/// Renews a file where this many of its items, after the first `from` ones, came in the place of others since its tree was written:
-/// tidies them, with the loads that they are among, so that the file is tidy again, and gives their lines and their place in the
+/// Renews a file where this many of its items, after the first `from` ones, came in the place of `gone` others since its tree was
+/// written: tidies them, with the loads that they are among, so that the file is tidy again, and gives their lines and their place in the
 /// tree, which has at most `length_bound` bytes. None where a limit may be passed so: the file is tidy then too, and its tree is to be laid out
 /// whole. The error: memory was refused; the file has no items then, or those that are tidy.
 pub fn renew_spliced(
     alloc: Global,
     from: usize,
+    gone: usize,
     come: usize,
     file: &mut File,
     tree: &Tree,
@@ -64,10 +65,10 @@ pub fn renew_spliced(
 ) -> Result<Option<RenewedWindow>, Memory>
     requires held { from + come ≤ length file.old }
     requires length_bound { length (spell_node tree.now) ≤ length_bound }
-    ensures tidied { OnOk result ((before : List Item) (gone : ℕ) → tidied before ≡ before → IsSpliced from gone come before file.old → file.new ≡ tidied file.old) }
-    ensures lines { IfOk result (λ found. IfSome found (λ renewed. (before : List Item) (gone : ℕ) → IsWritten before tree.now → IsSpliced from gone come before file.old
+    ensures tidied { OnOk result ((before : List Item) → tidied before ≡ before → IsSpliced from gone come before file.old → file.new ≡ tidied file.old) }
+    ensures lines { IfOk result (λ found. IfSome found (λ renewed. (before : List Item) → IsWritten before tree.now → IsSpliced from gone come before file.old
         → IsRespliced renewed.respliced tree.now file.new × (length (layout file.new) ≤ renewed.most))) }
 {
-    let window = tidy_spliced(alloc, file, from, come)?;
+    let window = tidy_spliced(alloc, file, from, gone, come)?;
     window_laid_out(alloc, window.from, window.come, file, tree, length_bound)
 }

@@ -1,28 +1,13 @@
-use Rattle.std.proofs.Common.{◌≡◌, ◌≤◌, ◌+◌, ◌-◌, ◌∙◌, length, subst, sym}
-use Rattle.bz_value.specs.Exchanged.{IsSpliced}
-use Rattle.bz_passes.proofs.Splicing.{spliced_still, spliced_wider, within_length, within_tidied}
+use Rattle.std.proofs.Common.{◌≡◌, ◌≤◌, ◌+◌, Ok, ap, length, subst, sym}
+use Rattle.bz_passes.specs.Spliced.{IsTidiedIn}
+use Rattle.bz_passes.proofs.Single.{tidied_twice}
 use Rattle.bz_passes.proofs.spliced.tidy_spliced.Goals as goal
 
-pub returns-clause-count : goal.returns-clause-count
-returns-clause-count c =
-    let wide = c.widened-window.result in
-    subst (λ items. length items ≡ length c.args.file.now) (sym c.in_ok-tidy_window.ensures) (within_length wide.from wide.come c.args.file.now c.widened-window.ensures.whole.within)
-
-pub returns-clause-within : goal.returns-clause-within
-returns-clause-within c =
-    let wide = c.widened-window.result in
-    subst (λ n. wide.from + wide.come ≤ n) (sym (returns-clause-count c)) c.widened-window.ensures.whole.within
-
-pub returns-clause-tidied : goal.returns-clause-tidied
-returns-clause-tidied c = λ before gone tidy spliced.
-    let wide = c.widened-window.result in
-    let whole = c.widened-window.ensures.whole in
-    let wider = spliced_wider c.args.from gone c.args.come wide.from wide.come before c.args.file.now spliced c.widened-window.ensures.wider.0 c.widened-window.ensures.wider.1 whole.within in
-    c.in_ok-tidy_window.ensures ∙ within_tidied wide.from (gone + (wide.come - c.args.come)) wide.come before c.args.file.now tidy wider whole
-
-pub returns-clause-spliced : goal.returns-clause-spliced
-returns-clause-spliced c = λ before gone tidy spliced.
-    let wide = c.widened-window.result in
-    let more = gone + (wide.come - c.args.come) in
-    let wider = spliced_wider c.args.from gone c.args.come wide.from wide.come before c.args.file.now spliced c.widened-window.ensures.wider.0 c.widened-window.ensures.wider.1 c.widened-window.ensures.whole.within in
-    subst (IsSpliced wide.from more wide.come before) (sym c.in_ok-tidy_window.ensures) (spliced_still wide.from more wide.come before c.args.file.now wider)
+pub returns-in_ok-window-in-None : goal.returns-in_ok-window-in-None
+returns-in_ok-window-in-None c =
+    let one : 1 ≡ c.args.come = sym c.if-come-ne1.false in
+    subst (λ n. IsTidiedIn c.in_ok-window-in-None.window c.args.from c.args.gone n c.args.file.now c.tidy_widened-in-None.new.file) one
+    (tidied_twice c.args.from c.args.gone c.args.file.now c.tidy_single.new.file c.tidy_widened-in-None.new.file
+    (subst (λ n. c.args.from + n ≤ length c.args.file.now) (sym one) c.requires.held)
+    (c.in_ok-window-2.ensures.none (ap Ok c.in-None.is))
+    (c.in_ok-window-in-None.ensures c.args.gone))
