@@ -17,7 +17,6 @@ use Rattle.bz_layout.specs.LaidOut.{laid_out}
 use Rattle.bz_layout.specs.Laws.{LayoutIsAccepted}
 use Rattle.bz_layout.specs.Written.{layout}
 use Rattle.bz_journal.specs.declared.lines.Lines.{Lines}
-use Rattle.bz_journal.specs.declared.lines.Lines.TheVariants as l
 use Rattle.bz_journal.specs.private.Lines.{AreLinesOf, tree_with}
 
 -- what is before all places stays
@@ -75,11 +74,6 @@ across_stands at gone lines parts within =
 
 -- ---- trees
 
--- the tree with lines is of the same kind
-pub with_kind : (lines : Lines) (tree : Node) → (tree_with lines tree).kind ≡ tree.kind
-with_kind (l.Exchanged relaid) tree = refl
-with_kind (l.Spliced respliced) tree = refl
-
 same_node : (a b : Node) → a.kind ≡ b.kind → a.parts ≡ b.parts → a ≡ b
 same_node a b kind parts =
     ap (λ (k : Kind). let n : Node = record { kind = k; parts = a.parts } in n) kind ∙ ap (λ (ps : List Part). let n : Node = record { kind = b.kind; parts = ps } in n) parts
@@ -95,7 +89,7 @@ parts_stay one next tree here kind is_tree reads is = (
 
 -- with its lines the tree is that of the layout
 pub tree_with_lines : (lines : Lines) (tree : Node) (items : List Item) → Legal tree → AreLinesOf lines tree items → tree_with lines tree ≡ laid_out items
-tree_with_lines lines tree items legal are = same_node (tree_with lines tree) (laid_out items) (with_kind lines tree ∙ legal.file.root) are.put
+tree_with_lines lines tree items legal are = same_node (tree_with lines tree) (laid_out items) (are.kind ∙ legal.file.root) are.put
 
 pub lines_read : LayoutIsAccepted → (lines : Lines) (tree : Node) (items : List Item) → Legal tree → IsProper items → AreLinesOf lines tree items → Reads (layout items) (tree_with lines tree)
 lines_read accepted lines tree items legal proper are =
