@@ -38,8 +38,7 @@ impl Lookups {
     }
 }
 
-/// Runs a command on the value of a tree, which stays, by the lines on which its statements begin, where these are kept, and by the
-/// index of its names, where there is one. Errors: those of the command.
+/// Runs a command on the value of a tree, which stays, by what was looked up in these. Errors: those of the command.
 fn run_beside(
     alloc: Global,
     command: &Command,
@@ -92,8 +91,7 @@ fn answer_of(
     }
 }
 
-/// Looks up in the value of a tree and in the tree what the command and its target need and isn't there. The error: memory was
-/// refused.
+/// Looks up what a command and its target need of a tree and its value, and isn't there yet. The error: memory was refused.
 fn look_up(
     alloc: Global,
     command: &Command,
@@ -115,8 +113,7 @@ fn look_up(
     Ok(())
 }
 
-/// What a command answers by the value of the present text, which is made where none is kept, and stays, as does what was looked up;
-/// none where the command would change the text.
+/// What a command answers by the value of the present text, which is kept with what is looked up; none where it would change the text.
 pub(crate) fn answer(
     course: &Course,
     beside: &mut Beside,

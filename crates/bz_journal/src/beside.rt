@@ -54,9 +54,8 @@ impl Beside {
     }
 }
 
-/// Tidies a new value: only the items that may be others than in the present one, which are of this extent. Gives lines with which
-/// the present tree is the one of the layout, where some are known, and how many bytes that has at most, where it isn't past the limit.
-/// The error: memory was refused.
+/// Tidies a new value: only the items that may be others than in the present one, which are of this extent. Gives the lines that differ
+/// in its layout, where known, and how many bytes this has at most, where it isn't past the limit. The error: memory was refused.
 fn tidy_in(
     alloc: Global,
     extent: Extent,
@@ -89,23 +88,8 @@ fn tidy_in(
     }
 }
 
-/// Takes up the whole layout of a tidy value, with a note. Errors: `TooLarge`, `TooDeep`, `Full`; `Memory`: a growth was refused.
-fn take_up_whole(
-    course: &mut Course,
-    file: &File,
-    printed: Option<Text>,
-    note: &str,
-) -> Result<Reply, Refusal>
-    requires short { length note.now ≤ note_limit }
-    requires tidy { tidied file.now ≡ file.now }
-    ensures { EndsAt (after_meaning note.now (session_history course.old) (written file.now printed)) course.old result course.new }
-{
-    let tree = laid_out_of(course.alloc(), file)?;
-    course.take_up(tree, printed, note)
-}
-
-/// Takes up the layout of a tidy value, with a note, by its lines that are other ones than in the present tree where these are known.
-/// Errors: `Full`; `Memory`: a growth was refused; those of taking it up whole where the step isn't known.
+/// Takes up the layout of a tidy value, with a note: by its lines that are other ones than in the present tree where these and the
+/// step are known, else whole. Errors: `TooLarge`, `TooDeep`, `Full`; `Memory`: a growth was refused.
 fn take_up_tidied(
     course: &mut Course,
     file: &File,
@@ -119,7 +103,8 @@ fn take_up_tidied(
     ensures { EndsAt (after_meaning note.now (session_history course.old) (written file.now printed)) course.old result course.new }
 {
     let Some(lines) = lines else {
-        return take_up_whole(course, file, printed, note);
+        let tree = laid_out_of(course.alloc(), file)?;
+        return course.take_up(tree, printed, note);
     };
     layout_is_accepted();
     reads_back(course.present());
@@ -127,7 +112,10 @@ fn take_up_tidied(
     let mut printed = printed;
     match course.take_up_lines(lines, &mut printed, note)? {
         Some(reply) => Ok(reply),
-        None => take_up_whole(course, file, printed, note),
+        None => {
+            let tree = laid_out_of(course.alloc(), file)?;
+            course.take_up(tree, printed, note)
+        }
     }
 }
 
@@ -194,8 +182,7 @@ fn take_up_made(
     }
 }
 
-/// Takes up the layout of a new value, which is given up, with a note. Errors: `TooLarge`, `TooDeep`, `Full`; `Memory`: a growth was
-/// refused.
+/// Takes up the layout of a new value with a note. Errors: `TooLarge`, `TooDeep`, `Full`; `Memory`: a growth was refused.
 fn take_up_new(
     course: &mut Course,
     beside: &mut Beside,
@@ -284,8 +271,7 @@ fn do_command(
     edit(course, beside, command, target, note)
 }
 
-/// Does an action with a note by what is kept beside the course, as `Session::act_noted` says; the value is kept then. The errors are
-/// those.
+/// Does an action with a note by what is kept beside the course, as `Session::act_noted` says. The errors are those.
 pub(crate) fn act(
     course: &mut Course,
     beside: &mut Beside,

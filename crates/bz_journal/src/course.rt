@@ -147,13 +147,18 @@ impl Course {
         ensures even { n ≤ self.old.cursor → are_even (take n (steps_back (session_trail self.old))) ≡ true → IsOk result }
         ensures small { IsSmall (session_trail self.old) → IsSmall (session_trail self.new) }
     {
+        texts_kept();
         if n > self.cursor() {
             return Err(Refusal::TooFar);
         }
         if n == 0 {
             return Ok(Reply::Moved);
         }
-        self.back(n)?;
+        let cursor = self.cursor;
+        let steps = self.steps.as_mut_slice();
+        go_back(&mut self.tree, steps, cursor as usize, n as usize)?;
+        self.before = cursor;
+        self.cursor = cursor - n;
         Ok(Reply::Moved)
     }
 
@@ -164,48 +169,19 @@ impl Course {
         ensures even { self.old.cursor + n ≤ length self.old.steps → are_even (take n (steps_forward (session_trail self.old))) ≡ true → IsOk result }
         ensures small { IsSmall (session_trail self.old) → IsSmall (session_trail self.new) }
     {
+        texts_kept();
         if n > self.steps_ahead() {
             return Err(Refusal::TooFar);
         }
         if n == 0 {
             return Ok(Reply::Moved);
         }
-        self.forward(n)?;
-        Ok(Reply::Moved)
-    }
-
-    /// Goes back by n steps, which are there.
-    fn back(&mut self, n: u32) -> Result<(), Memory>
-        requires { n ≤ self.old.cursor }
-        ensures ok { OnOk result (session_history self.new ≡ record (session_history self.old) { cursor = self.old.cursor - n; before = self.old.cursor }) }
-        ensures err { OnErr result (self.new ≡ self.old) }
-        ensures even { are_even (take n (steps_back (session_trail self.old))) ≡ true → IsOk result }
-        ensures small { IsSmall (session_trail self.old) → IsSmall (session_trail self.new) }
-    {
-        texts_kept();
-        let cursor = self.cursor;
-        let steps = self.steps.as_mut_slice();
-        go_back(&mut self.tree, steps, cursor as usize, n as usize)?;
-        self.before = cursor;
-        self.cursor = cursor - n;
-        Ok(())
-    }
-
-    /// Goes forward by n steps, which are there.
-    fn forward(&mut self, n: u32) -> Result<(), Memory>
-        requires { self.old.cursor + n ≤ length self.old.steps }
-        ensures ok { OnOk result (session_history self.new ≡ record (session_history self.old) { cursor = self.old.cursor + n; before = self.old.cursor }) }
-        ensures err { OnErr result (self.new ≡ self.old) }
-        ensures even { are_even (take n (steps_forward (session_trail self.old))) ≡ true → IsOk result }
-        ensures small { IsSmall (session_trail self.old) → IsSmall (session_trail self.new) }
-    {
-        texts_kept();
         let cursor = self.cursor;
         let steps = self.steps.as_mut_slice();
         go_forward(&mut self.tree, steps, cursor as usize, n as usize)?;
         self.before = cursor;
         self.cursor = cursor + n;
-        Ok(())
+        Ok(Reply::Moved)
     }
 
     /// Whether the tree with these lines spells the present text.
@@ -267,8 +243,7 @@ impl Course {
         }
     }
 
-    /// Puts the text of the tree with these lines after the present one, with a note of the step to it. False where that
-    /// step isn't known; the session is then as before.
+    /// Puts the text of the tree with these lines after the present one, with a note. False, with nothing done: the step isn't known.
     fn extend(&mut self, lines: Lines, note: &str) -> Result<bool, Memory>
         requires next { IsTree (tree_with lines self.old.tree) }
         requires placed { AreIn lines self.old.tree }

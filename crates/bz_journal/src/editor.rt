@@ -16,8 +16,7 @@ use bz_value::Refusal;
 use std::alloc::Global;
 use std::marker::Model;
 
-/// The fewest items of a value that is kept from the first command on. One of fewer is made anew in less than a millisecond, and a
-/// run over thousands of files, which are mostly short, holds the values of none of them.
+/// The fewest items of a value that is kept from the first command on. One of fewer is made anew in less than a millisecond.
 const FEWEST: usize = 500;
 
 /// After how many commands any value is kept, so that further ones cost the same in a short file as in a long one.

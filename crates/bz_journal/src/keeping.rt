@@ -26,8 +26,7 @@ pub(crate) struct Written {
     pub(crate) text: Vec<u8>,
 }
 
-/// Keeps what an action answered: where the present text is another one, of which something is to be written, replaces the journal of
-/// the file and then the file, which is still to hold the text before, `before`.
+/// Keeps an answer: where something is to be written, replaces the journal and then the file, which is still to hold the text `before`.
 pub(crate) fn persist<F: Files>(
     alloc: Global,
     answer: Result<Reply, Refusal>,

@@ -1,5 +1,5 @@
 //! The lines of a next tree, and those in the place of others of a tree.
-ghost use Rattle.std.specs.Prelude.{◌≡◌, ◌≤◌, ◌+◌, ◌++◌, ◌↔◌, false, drop, length, take, IfOk, IsTrue, OnErr};
+ghost use Rattle.std.specs.Prelude.{◌≡◌, ◌+◌, ◌↔◌, false, length, IfOk, IsTrue, OnErr};
 ghost use Rattle.bz_journal.specs.Clauses.{AreIn, AreSpliced, Ascend, IsTrail, IsTree, TakesUp, put_all, spell_node, trail_at, tree_with};
 
 use bz_edit::Step;
@@ -49,14 +49,6 @@ fn are_same(a: &[Part], b: &[Part]) -> bool
     true
 }
 
-/// Whether these lines are the parts from a place on, as many as they are.
-fn stand_across(at: usize, gone: usize, lines: &[Part], parts: &[Part]) -> bool
-    requires { at + gone ≤ length parts.now }
-    ensures { IsTrue result ↔ (take at parts.now ++ lines.now ++ drop (at + gone) parts.now ≡ parts.now) }
-{
-    are_same(&parts[at..at + gone], lines)
-}
-
 /// Whether the tree stays the same one with these lines.
 pub(crate) fn stand_in(lines: &Lines, tree: &Tree) -> bool
     requires { AreIn lines.now tree.now }
@@ -66,7 +58,7 @@ pub(crate) fn stand_in(lines: &Lines, tree: &Tree) -> bool
     match lines {
         Lines::Whole(new) => are_same(new.root.parts.as_slice(), parts),
         Lines::Exchanged(new) => stand_there(new.places.as_slice(), new.lines.as_slice(), parts),
-        Lines::Spliced(new) => stand_across(new.at, new.gone, new.lines.as_slice(), parts),
+        Lines::Spliced(new) => are_same(&parts[new.at..new.at + new.gone], new.lines.as_slice()),
     }
 }
 
