@@ -1,12 +1,11 @@
--- What a session's command does is what the history says.
-use Rattle.std.proofs.Common.{◌≡◌, ◌≢◌, ◌⊎◌, ◌↔◌, inl, inr, true, ℕ, Result, Ok, Err, List, Option, Some, None, option_map, refl, sym, subst, ap, ◌∙◌}
-use Rattle.std.specs.Option.{unwrap_or}
+-- What a session's action does is what the history says.
+use Rattle.std.proofs.Common.{◌≡◌, ◌⊎◌, ◌≤◌, ◌<◌, length, inl, inr, true, ℕ, Result, Ok, Err, List, Option, None, refl, sym, subst, ap, ◌∙◌}
+use Rattle.std.specs.Prelude.{IsOk, OnErr, OnOk}
 use Rattle.std.specs.Str.{bytes_eq}
 use Rattle.std.proofs.lemmas.Slice.Eq.{bytes_eq-Decides}
 use Rattle.bz_items.specs.Characters.{Bytes}
 use Rattle.bz_grammar.specs.declared.tree.Node.{Node}
 use Rattle.bz_grammar.specs.Legal.{Reads}
-use Rattle.bz_grammar.specs.Spell.{spell_node}
 use Rattle.bz_grammar.specs.Statements.{lines_of}
 use Rattle.bz_label.specs.declared.target.Target.{Target}
 use Rattle.bz_value.specs.declared.value.Item.{Item}
@@ -15,10 +14,14 @@ use Rattle.bz_command_syntax.specs.declared.command.Operation.{Operation}
 use Rattle.bz_command.specs.Effect.{effect, printed}
 use Rattle.bz_value.specs.declared.refusal.Refusal.{Refusal}
 use Rattle.bz_value.specs.declared.refusal.Refusal.TheVariants.{Memory}
-use Rattle.bz_journal.specs.Actions.{Do, Format}
+use Rattle.bz_journal.specs.Actions.{Action, Do, Format}
 use Rattle.bz_journal.specs.declared.action.Reply.{Reply}
-use Rattle.bz_journal.specs.Meaning.{Meaning, gives, refuses, printed_answer, written, EffectMeans, Means, Formats}
-use Rattle.bz_journal.specs.History.{History, Answer, present, unchanged, after_text, MakesOrWants}
+use Rattle.bz_journal.specs.Meaning.{Meaning, gives, refuses, printed_answer, EffectMeans, Means, Formats}
+use Rattle.bz_journal.specs.History.{History, Answer, present, unchanged, after_text, note_limit, IsFormat, MakesOrWants}
+use Rattle.bz_journal.specs.Keeping.{HasActed}
+use Rattle.bz_journal.specs.Shown.{IsOverEven, session_history}
+use Rattle.bz_journal.specs.State.{SessionState, session_trail}
+use Rattle.bz_history.specs.Trails.{IsSmall}
 
 -- ---- commands, in a history
 
@@ -72,3 +75,22 @@ pub formats_given : (note : Bytes) (h : History) (here text : Bytes) (answer : A
     → Formats here (gives text None) → ((answer, after) ≡ after_text note h text None) ⊎ ((answer ≡ Err Memory) × (after ≡ h)) → MakesOrWants Format note h answer after
 formats_given note h here text answer after is formats (inl led) = inl (gives text None, subst (λ (t : Bytes). Formats t (gives text None)) is formats, led)
 formats_given note h here text answer after is formats (inr memory) = inr (λ none. none, memory.0, memory.1)
+
+-- ---- back and forward
+
+not_formatted : (X : Type 0) (action : Action) (answer : Answer) → (IsFormat action → ⊥) → OnOk answer (IsFormat action → X)
+not_formatted X action (Ok reply) none = λ is. absurd (none is)
+not_formatted X action (Err refusal) none = tt
+
+-- what going does to a session, by its parts
+pub has_gone : (action : Action) (note : Bytes) (s : SessionState) (answer : Answer) (t : SessionState) → (IsFormat action → ⊥) → s.cursor < length (session_history s).texts → length note ≤ note_limit
+    → MakesOrWants action note (session_history s) answer (session_history t) → OnErr answer (t ≡ s) → (IsOverEven action (session_trail s) → IsOk answer) → (IsSmall (session_trail s) → IsSmall (session_trail t))
+    → HasActed action note s answer t
+has_gone action note s answer t none within short makes unmoved even small = record {
+  within = within;
+  acts = inr (short, makes);
+  formatted = not_formatted _ action answer none;
+  unmoved = unmoved;
+  even = λ _. even;
+  small = small;
+}

@@ -1,7 +1,7 @@
 -- The digests of texts where one is put after the first ones, and those along a trail.
-use Rattle.std.proofs.Common.{◌≡◌, ◌∙◌, ◌+◌, ◌<◌, ◌≤◌, Ok, ℕ, zero, suc, List, [], ◌∷◌, ◌++◌, length, map, take, ap, arith, length-append, refl, subst, sym}
+use Rattle.std.proofs.Common.{◌≡◌, ◌∙◌, ◌+◌, ◌<◌, Ok, ℕ, zero, suc, List, [], ◌∷◌, ◌++◌, length, map, take, ap, arith, length-append, refl, subst, sym}
 use Rattle.std.specs.Prelude.{slice_index_or}
-use Rattle.std.proofs.lemmas.List.{length-map, map-append, take-map, take_all, take_more}
+use Rattle.std.proofs.lemmas.List.{map-append, take-map, take_all, take_more}
 use Rattle.sha2.specs.Sha256.{sha256}
 use Rattle.bz_grammar.specs.declared.tree.Node.{Node}
 use Rattle.bz_history.specs.Shown.{texts_of}

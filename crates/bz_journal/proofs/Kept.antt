@@ -5,18 +5,22 @@ use Rattle.bz_grammar.specs.declared.tree.Node.{Node}
 use Rattle.bz_grammar.specs.Spell.{spell_node}
 use Rattle.bz_edit.specs.declared.edit.Edit.{Edit}
 use Rattle.bz_history.specs.Trails.{IsSmall, trail_at}
-use Rattle.bz_history.specs.Shown.{TakesUp, TrailsKeep, texts_of}
+use Rattle.bz_history.specs.Shown.{SmallIsBetween, SmallIsLeast, TakesUp, TrailsKeep, TrailsLead, texts_of}
 use Rattle.bz_journal_format.specs.Texts.{IsNote}
 use Rattle.bz_journal_format.specs.declared.content.Version.TheVariants.{Two}
 use Rattle.bz_items.specs.Characters.{Bytes}
 use Rattle.bz_journal.specs.History.{History, IsKept, changed, most_steps, present}
 use Rattle.bz_journal.specs.State.{SessionState, IsSession, session_trail}
-use Rattle.bz_journal.specs.Shown.{session_history}
+use Rattle.bz_journal.specs.Shown.{HoldsSteps, session_history}
 
 pub session_kept : TrailsKeep → (s : SessionState) → IsSession s → IsKept (session_history s)
 session_kept keep s h =
     let k = keep (session_trail s) h.trail in
     record { accepted = k.accepted; noted = omega (arith, k.counted, h.noted); within = k.within; known = omega (arith, k.counted, h.known); bounded = omega (arith, k.counted, h.bounded) }
+
+pub steps_held : TrailsKeep → TrailsLead → SmallIsBetween → SmallIsLeast → (s : SessionState) → IsSession s → HoldsSteps s
+steps_held keep lead between least s h =
+    record { kept = ∣ session_kept keep s h ∣₁; lead = lead (session_trail s) h.trail; between = between (session_trail s) h.trail; least = least (session_trail s) }
 
 pub session_present : TrailsKeep → (s : SessionState) → IsSession s → spell_node s.tree ≡ present (session_history s)
 session_present keep s h = let k = keep (session_trail s) h.trail in sym k.present

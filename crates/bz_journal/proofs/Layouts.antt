@@ -1,34 +1,24 @@
 -- The trees that commands leave: each is the layout of a tidy value.
-use Rattle.std.proofs.Common.{◌≡◌, ◌<◌, ◌∙◌, List, length, Bool, true, false, refl, sym, ap, subst, inl, inr, Option, Some, None, Result, Ok, Err, nat_lt, if◌then◌else◌}
+use Rattle.std.proofs.Common.{◌≡◌, ◌<◌, ◌∙◌, List, length, Bool, true, false, refl, sym, ap, subst, Option, Ok, Err, nat_lt, if◌then◌else◌}
 use Rattle.std.specs.Str.{bytes_eq}
 use Rattle.std.proofs.lemmas.Slice.Eq.{bytes_eq-Decides}
 use Rattle.bz_grammar.specs.declared.tree.Node.{Node}
 use Rattle.bz_grammar.specs.Legal.{Reads}
 use Rattle.bz_grammar.specs.Laws.{OneReading}
-use Rattle.bz_grammar.specs.Statements.{lines_of}
-use Rattle.bz_label.specs.declared.target.Target.{Target}
 use Rattle.bz_value.specs.declared.value.Item.{Item}
 use Rattle.bz_items.specs.Characters.{Bytes}
 use Rattle.bz_value.specs.Proper.{IsProper}
 use Rattle.bz_hosts.specs.View.{view_of}
-use Rattle.bz_hosts.specs.Laws.{ViewsAreProper}
 use Rattle.bz_layout.specs.LaidOut.{laid_out}
 use Rattle.bz_layout.specs.Laws.{LayoutIsAccepted, LayoutReadsBack}
 use Rattle.bz_passes.specs.Laws.{ProperStays, TidySettles, TidyStays}
 use Rattle.bz_passes.specs.Passes.{tidied}
-use Rattle.bz_command_syntax.specs.declared.command.Operation.{Operation}
-use Rattle.bz_command_syntax.specs.Proper.{IsProperCommand}
-use Rattle.bz_command.specs.Effect.{effect, printed}
-use Rattle.bz_command.specs.Laws.{EffectsStayProper}
-use Rattle.bz_value.specs.declared.refusal.Refusal.{Refusal}
-use Rattle.bz_value.specs.declared.refusal.Refusal.TheVariants.{Full, NoteTooLong}
-use Rattle.bz_relayout.specs.Relaid.{IsWritten}
-use Rattle.bz_journal.specs.Actions.{Action}
-use Rattle.bz_journal.specs.Actions.{Do, Format, Undo, Redo}
+use Rattle.bz_command.specs.Effect.{printed}
+use Rattle.bz_value.specs.declared.refusal.Refusal.TheVariants.{Full}
 use Rattle.bz_journal.specs.declared.action.Reply.{Reply}
 use Rattle.bz_journal.specs.declared.action.Reply.TheVariants.{Changed}
-use Rattle.bz_journal.specs.Meaning.{Meaning, gives, refuses, printed_answer, written, EffectMeans}
-use Rattle.bz_journal.specs.History.{History, Answer, Acts, MakesOrWants, present, changed, unchanged, after_text, after_meaning, most_steps}
+use Rattle.bz_journal.specs.Meaning.{Meaning, gives, refuses, written}
+use Rattle.bz_journal.specs.History.{History, Answer, present, changed, unchanged, after_meaning, most_steps}
 use Rattle.bz_journal.specs.Editing.{IsLayoutOf, WrittenIsLaidOut}
 use Rattle.bz_journal.proofs.Formatting.{present_changed}
 use Rattle.bz_build_format.proofs.Writes.{IsGiven, given}

@@ -1,18 +1,51 @@
--- What is said of a text's coding, whatever is answered of it then.
-use Rattle.std.proofs.Common.{◌≡◌, ◌≤◌, ◌↔◌, ℕ, List, length, Result, Ok, Err}
+-- What opening a text gives, by what reading it gave.
+use Rattle.std.proofs.Common.{◌≡◌, ◌≤◌, ◌<◌, ◌↔◌, ℕ, length, Result, Ok, Err}
 use Rattle.std.specs.Str.{IsValidUpTo}
 use Rattle.bz_lex.specs.declared.fault.ReadFault.{ReadFault}
-use Rattle.bz_lex.specs.declared.fault.ReadFault.TheVariants.{NotUtf8, Memory}
+use Rattle.bz_lex.specs.declared.fault.ReadFault.TheVariants.{NotUtf8, TooLarge, Memory}
+use Rattle.bz_grammar.specs.Faults.{IsOfText}
+use Rattle.bz_grammar.specs.Legal.{Accepted}
 use Rattle.bz_grammar.specs.Spell.{limit}
+use Rattle.bz_history.specs.Trails.{IsSmall}
+use Rattle.bz_items.specs.Characters.{Bytes}
+use Rattle.bz_journal.specs.History.{opened}
+use Rattle.bz_journal.specs.Shown.{OpensText, session_history}
+use Rattle.bz_journal.specs.State.{SessionState, session_trail}
 
-abbrev AnswersCoding : (A : Type 0) → List ℕ → Result A ReadFault → Type 0
+abbrev AnswersLength : (A : Type 0) → Bytes → Result A ReadFault → Type 0
+AnswersLength A text answer = (answer ≡ Err TooLarge) ↔ (limit < length text)
+
+abbrev AnswersCoding : (A : Type 0) → Bytes → Result A ReadFault → Type 0
 AnswersCoding A text answer = (at : ℕ) → ((answer ≡ Err (NotUtf8 at)) ↔ ((length text ≤ limit) × IsValidUpTo text at))
 
-pub opened_answers : {A B : Type 0} (text : List ℕ) (tree : A) (session : B) → AnswersCoding A text (Ok tree) → AnswersCoding B text (Ok session)
-opened_answers text tree session answers at = (λ e. absurd (cc), λ fails. let answered = (answers at).1 fails in absurd (cc))
+module _ {A : Type 0} (current text : Bytes) where
+  pub opened_of : (tree : A) (s : SessionState) → AnswersLength A text (Ok tree) → AnswersCoding A text (Ok tree) → Accepted text
+      → session_history s ≡ opened current text → IsSmall (session_trail s) → OpensText current text (Ok s)
+  opened_of tree s long coded accepted history small = record {
+    ok = history;
+    small = small;
+    accepted = accepted;
+    too_large = (λ e. absurd (cc), λ past. let answered = long.1 past in absurd (cc));
+    not_utf8 = λ at. (λ e. absurd (cc), λ fails. let answered = (coded at).1 fails in absurd (cc));
+    refused = tt;
+  }
 
-pub refused_answers : {A B : Type 0} (text : List ℕ) (tree : A) → AnswersCoding A text (Ok tree) → AnswersCoding B text (Err Memory)
-refused_answers text tree answers at = (λ e. absurd (cc), λ fails. let answered = (answers at).1 fails in absurd (cc))
+  pub refused_of : (tree : A) → AnswersLength A text (Ok tree) → AnswersCoding A text (Ok tree) → OpensText current text (Err Memory)
+  refused_of tree long coded = record {
+    ok = tt;
+    small = tt;
+    accepted = tt;
+    too_large = (λ e. absurd (cc), λ past. let answered = long.1 past in absurd (cc));
+    not_utf8 = λ at. (λ e. absurd (cc), λ fails. let answered = (coded at).1 fails in absurd (cc));
+    refused = λ own. absurd own;
+  }
 
-pub passed_answers : {A B : Type 0} (text : List ℕ) (fault : ReadFault) → AnswersCoding A text (Err fault) → AnswersCoding B text (Err fault)
-passed_answers text fault answers at = (λ e. (answers at).0 (cc), λ fails. let answered = (answers at).1 fails in cc)
+  pub passed_of : (fault : ReadFault) → AnswersLength A text (Err fault) → AnswersCoding A text (Err fault) → (IsOfText fault → Accepted text → ⊥) → OpensText current text (Err fault)
+  passed_of fault long coded refused = record {
+    ok = tt;
+    small = tt;
+    accepted = tt;
+    too_large = (λ e. long.0 (cc), λ past. let answered = long.1 past in cc);
+    not_utf8 = λ at. (λ e. (coded at).0 (cc), λ fails. let answered = (coded at).1 fails in cc);
+    refused = refused;
+  }

@@ -1,5 +1,5 @@
 -- Where what a command makes is past the limit by the comments that it puts in, it means that.
-use Rattle.std.proofs.Common.{◌≡◌, ◌≢◌, ◌⊎◌, ◌≤◌, ◌<◌, ◌*◌, ◌∙◌, inl, inr, ℕ, List, length, Result, Ok, Err, Option, refl, sym, ap, subst, arith}
+use Rattle.std.proofs.Common.{◌≡◌, ◌≢◌, ◌⊎◌, ◌≤◌, ◌<◌, ◌*◌, inl, inr, ℕ, List, length, Result, Ok, Err, Option, refl, sym, subst, arith}
 use Rattle.bz_grammar.specs.declared.tree.Node.{Node}
 use Rattle.bz_grammar.specs.Legal.{Reads}
 use Rattle.bz_grammar.specs.Spell.{spell_node, limit}
@@ -17,9 +17,13 @@ use Rattle.bz_value.specs.declared.refusal.Refusal.{Refusal}
 use Rattle.bz_value.specs.declared.refusal.Refusal.TheVariants.{Memory, TooLarge}
 use Rattle.bz_journal.specs.Actions.{Do}
 use Rattle.bz_journal.specs.History.{History, present, MakesOrWants}
-use Rattle.bz_journal.specs.Meaning.{refuses, printed_answer, Means, EffectMeans, OverfullIsRefused}
+use Rattle.bz_journal.specs.Meaning.{refuses, printed_answer, Means, EffectMeans}
 use Rattle.bz_journal.proofs.Acting.{acts_refused, means_on}
 use Rattle.bz_journal.proofs.Edited.{edited_refused}
+
+abbrev OverfullIsRefused : Type 0
+OverfullIsRefused = (made : Result (List Item) Refusal) (answer : Option Bytes) (text : Bytes) (tree : Node)
+    → Reads text tree → Overfills made → EffectMeans made answer (view_of tree) text (refuses TooLarge)
 
 pub overfull_is_refused : CommentsFill → CommentsFit → OverfullIsRefused
 overfull_is_refused fill fit (Err refusal) answer text tree reads over = absurd over

@@ -1,5 +1,5 @@
 -- Lines put in places of parts: whether they are those that are there.
-use Rattle.std.proofs.Common.{◌≡◌, ◌↔◌, ◌<◌, ◌+◌, ◌∙◌, ℕ, zero, suc, List, [], ◌∷◌, ◌++◌, ◌≤◌, drop, length, slice_range, take, get_or, slice_set, refl, sym, ap, subst, arith, append_assoc, length-set}
+use Rattle.std.proofs.Common.{◌≡◌, ◌↔◌, ◌<◌, ◌+◌, ◌∙◌, Bool, IsTrue, ℕ, zero, suc, List, [], ◌∷◌, ◌++◌, ◌≤◌, drop, length, slice_range, take, get_or, slice_set, refl, sym, ap, subst, arith, append_assoc, length-set}
 use Rattle.std.proofs.lemmas.List.{append_cancel_left, append_cancel_right, get_or-set_same, get_or-set_other, set-get_or, take-append-drop}
 use Rattle.std.proofs.lemmas.List.Folds.{drop_split}
 use Rattle.bz_grammar.specs.declared.kind.Kind.{Kind}
@@ -18,7 +18,8 @@ use Rattle.bz_layout.specs.Laws.{LayoutIsAccepted}
 use Rattle.bz_layout.specs.Written.{layout}
 use Rattle.bz_journal.specs.declared.lines.Lines.{Lines}
 use Rattle.bz_journal.specs.declared.lines.Lines.TheVariants as l
-use Rattle.bz_journal.specs.private.Lines.{AreLinesOf, tree_with}
+use Rattle.bz_layout.specs.declared.spliced.Respliced.{Respliced}
+use Rattle.bz_journal.specs.private.Lines.{AreIn, AreLinesOf, tree_with}
 
 -- what is before all places stays
 later_stay : (from end : ℕ) (places : List ℕ) (lines parts : List Part) (at : ℕ) (d : Part) → Ascend from end places → at < from → get_or (put_all places lines parts) at d ≡ get_or parts at d
@@ -73,12 +74,18 @@ across_stands at gone lines parts within =
       λ stays. append_cancel_left (take at parts) here lines (append_cancel_right (take at parts ++ here) (take at parts ++ lines) rest (there ∙ sym stays)),
     )
 
--- ---- trees
+-- the same of spliced lines
+pub spliced_stand : (answered : Bool) (lines : Lines) (new : Respliced) (tree : Node) (parts put : List Part) → parts ≡ tree.parts → put ≡ new.lines → lines ≡ l.Spliced new → AreIn lines tree
+    → (IsTrue answered ↔ (slice_range parts new.at (new.at + new.gone) ≡ put)) → IsTrue answered ↔ ((tree_with lines tree).parts ≡ tree.parts)
+spliced_stand answered lines new tree parts put held own is within same =
+    let across = across_stands new.at new.gone new.lines tree.parts (subst (λ (x : Lines). AreIn x tree) is within) in
+    let here : IsTrue answered ↔ (slice_range tree.parts new.at (new.at + new.gone) ≡ new.lines) =
+    subst (λ (ps : List Part). IsTrue answered ↔ (slice_range ps new.at (new.at + new.gone) ≡ new.lines)) held
+    (subst (λ (ps : List Part). IsTrue answered ↔ (slice_range parts new.at (new.at + new.gone) ≡ ps)) own same) in
+    subst (λ (x : Lines). IsTrue answered ↔ ((tree_with x tree).parts ≡ tree.parts)) (sym is)
+    (λ yes. across.0 (here.0 yes), λ stays. here.1 (across.1 stays))
 
--- the tree with lines is of the same kind
-pub with_kind : (lines : Lines) (tree : Node) → (tree_with lines tree).kind ≡ tree.kind
-with_kind (l.Exchanged relaid) tree = refl
-with_kind (l.Spliced respliced) tree = refl
+-- ---- trees
 
 same_node : (a b : Node) → a.kind ≡ b.kind → a.parts ≡ b.parts → a ≡ b
 same_node a b kind parts =
@@ -95,7 +102,7 @@ parts_stay one next tree here kind is_tree reads is = (
 
 -- with its lines the tree is that of the layout
 pub tree_with_lines : (lines : Lines) (tree : Node) (items : List Item) → Legal tree → AreLinesOf lines tree items → tree_with lines tree ≡ laid_out items
-tree_with_lines lines tree items legal are = same_node (tree_with lines tree) (laid_out items) (with_kind lines tree ∙ legal.file.root) are.put
+tree_with_lines lines tree items legal are = same_node (tree_with lines tree) (laid_out items) (are.kind ∙ legal.file.root) are.put
 
 pub lines_read : LayoutIsAccepted → (lines : Lines) (tree : Node) (items : List Item) → Legal tree → IsProper items → AreLinesOf lines tree items → Reads (layout items) (tree_with lines tree)
 lines_read accepted lines tree items legal proper are =

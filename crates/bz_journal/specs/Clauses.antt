@@ -9,16 +9,16 @@ pub use Rattle.bz_files.specs.Folder.{Elapses, Folder}
 pub use Rattle.bz_build_format.specs.Fixed.{IsFormatted}
 pub use Rattle.bz_items.specs.Characters.{Bytes}
 pub use Rattle.bz_journal.specs.Actions.{MakesText, action_in}
-pub use Rattle.bz_journal.specs.private.Doing.{EndsAt, HasMade}
+pub use Rattle.bz_journal.specs.private.Doing.{EndsAt, EndsOrNone, HasMade, IsReady}
 pub use Rattle.bz_journal.specs.Editing.{AreFirstDigests, IsBeside, WrittenIsLaidOut}
 pub use Rattle.bz_journal.specs.History.{Acts, Answer, History, IsFormat, IsKept, MakesOrWants, Runs, after_meaning, after_text, changed, most_steps, note_limit, opened, present, unchanged}
 pub use Rattle.bz_journal.specs.Keeping.{HasActed, IsRefused, IsWriteOrOpen, IsWrittenSince, Keeps, KeepsPair}
 pub use Rattle.bz_journal.specs.Lasting.{AlikeActs, AlikeGoesOn, GoesOn, IsAgain, IsKnownSession, IsResumedSession, IsSavedSession, saved}
-pub use Rattle.bz_journal.specs.private.Lines.{AreIn, AreLinesOf, tree_with}
+pub use Rattle.bz_journal.specs.private.Lines.{AreIn, AreLinesOf, AreSpliced, tree_with}
 pub use Rattle.bz_journal.specs.Listing.{lines_of_texts, listing, noted, text_line, text_lines_from}
 pub use Rattle.bz_journal.specs.Lookups.{AreLookupsOf}
-pub use Rattle.bz_journal.specs.Meaning.{Means, OverfullIsRefused, gives, refuses, printed_answer, written}
-pub use Rattle.bz_journal.specs.Shown.{IsOverEven, session_history}
+pub use Rattle.bz_journal.specs.Meaning.{Means, gives, refuses, printed_answer, written}
+pub use Rattle.bz_journal.specs.Shown.{HoldsSteps, IsOverEven, OpensText, session_history}
 pub use Rattle.bz_journal.specs.State.{SessionState, session_trail}
 pub use Rattle.bz_journal.specs.Stopping.{StoppedIsResumed}
 pub use Rattle.bz_journal.specs.Worked.{WorkedHistories}

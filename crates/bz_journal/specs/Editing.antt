@@ -4,24 +4,18 @@ use Rattle.sha2.specs.Sha256.{sha256}
 use Rattle.bz_grammar.specs.declared.tree.Node.{Node}
 use Rattle.bz_grammar.specs.Legal.{Reads}
 use Rattle.bz_grammar.specs.Spell.{spell_node}
-use Rattle.bz_label.specs.declared.target.Target.{Target}
 use Rattle.bz_value.specs.declared.value.Item.{Item}
 use Rattle.bz_items.specs.Characters.{Bytes}
 use Rattle.bz_value.specs.Proper.{IsProper}
 use Rattle.bz_hosts.specs.View.{view_of}
 use Rattle.bz_layout.specs.Written.{layout}
 use Rattle.bz_passes.specs.Passes.{tidied}
-use Rattle.bz_command_syntax.specs.declared.command.Operation.{Operation}
-use Rattle.bz_command_syntax.specs.Proper.{IsProperCommand}
 use Rattle.bz_relayout.specs.Relaid.{IsWritten}
-use Rattle.bz_journal.specs.Actions.{Action}
-use Rattle.bz_journal.specs.Actions.{Do, Format, Undo, Redo}
 use Rattle.bz_journal.specs.declared.action.Reply.{Reply}
-use Rattle.bz_journal.specs.declared.action.Reply.TheVariants.{Changed}
 use Rattle.bz_journal.specs.declared.beside.Beside.{Beside}
 use Rattle.bz_journal.specs.Lookups.{AreLookupsOf}
 use Rattle.bz_journal.specs.Meaning.{written}
-use Rattle.bz_journal.specs.History.{History, Answer, Acts, after_meaning, present}
+use Rattle.bz_journal.specs.History.{History, Answer, after_meaning, present}
 
 -- The value that is kept is the view of the tree, and what was looked up is that of the tree; a tree that counts as written is the
 -- layout of its view, which is tidy, and its text has at most this many bytes.

@@ -9,10 +9,8 @@ use Rattle.bz_items.specs.Characters.{Bytes}
 use Rattle.bz_hosts.specs.View.{view_of}
 use Rattle.bz_command_syntax.specs.declared.command.Operation.{Operation}
 use Rattle.bz_value.specs.declared.refusal.Refusal.{Refusal}
-use Rattle.bz_value.specs.declared.refusal.Refusal.TheVariants.{TooLarge}
 use Rattle.bz_command_syntax.specs.Printing.{prints}
 use Rattle.bz_command.specs.Effect.{effect, printed}
-use Rattle.bz_command.specs.Overfull.{Overfills}
 pub use Rattle.bz_build_format.specs.Meaning.{Meaning, gives, refuses, written, Formats}
 
 -- what is answered beside the text: of a command that prints, what it prints
@@ -32,9 +30,3 @@ abbrev pub Means : Operation → Target → Bytes → Bytes → Meaning → Type
 Means operation target current text m =
     (tree : Node) × Reads text tree
     × EffectMeans (effect operation target current (lines_of tree) (view_of tree)) (printed_answer operation (printed operation target current (lines_of tree) (view_of tree))) (view_of tree) text m
-
--- An effect that is past the limit by the comments that it puts in means just that, whatever is answered beside it.
-abbrev pub OverfullIsRefused : Type 0
-OverfullIsRefused =
-    (made : Result (List Item) Refusal) (answer : Option Bytes) (text : Bytes) (tree : Node)
-    → Reads text tree → Overfills made → EffectMeans made answer (view_of tree) text (refuses TooLarge)

@@ -1,8 +1,15 @@
 -- A session as contracts see it.
-use Rattle.std.specs.Prelude.{◌≡◌, ◌≤◌, ◌+◌, true, take, length}
-use Rattle.bz_history.specs.Trails.{Trail, steps_back, steps_forward, are_even}
-use Rattle.bz_history.specs.Shown.{texts_of}
-use Rattle.bz_journal.specs.History.{History}
+use Rattle.std.specs.Prelude.{◌≡◌, ◌≤◌, ◌<◌, ◌+◌, ◌↔◌, ℕ, true, take, length, Result, Err, IfOk, IfErr, OnOk}
+use Rattle.std.specs.Str.{IsValidUpTo}
+use Rattle.bz_grammar.specs.Faults.{IsOfText}
+use Rattle.bz_grammar.specs.Legal.{Accepted}
+use Rattle.bz_grammar.specs.Spell.{limit}
+use Rattle.bz_items.specs.Characters.{Bytes}
+use Rattle.bz_lex.specs.declared.fault.ReadFault.{ReadFault}
+use Rattle.bz_lex.specs.declared.fault.ReadFault.TheVariants as f
+use Rattle.bz_history.specs.Trails.{Trail, HasLeast, IsSmall, steps_back, steps_forward, are_even}
+use Rattle.bz_history.specs.Shown.{StepsAreBetween, StepsLead, texts_of}
+use Rattle.bz_journal.specs.History.{History, IsKept, opened}
 use Rattle.bz_journal.specs.State.{SessionState, session_trail}
 use Rattle.bz_journal.specs.Actions.{Action}
 use Rattle.bz_journal.specs.Actions.{Do, Format, Undo, Redo}
@@ -17,3 +24,20 @@ IsOverEven (Do command target) t = ⊥
 IsOverEven Format t = ⊥
 IsOverEven (Undo n) t = (n ≤ t.cursor) × (are_even (take n (steps_back t)) ≡ true)
 IsOverEven (Redo n) t = (t.cursor + n ≤ length t.steps) × (are_even (take n (steps_forward t)) ≡ true)
+
+-- What opening a text of a file of this package gives: its history, or a fault; which faults are exactly of which texts.
+pub record OpensText (current text : Bytes) (result : Result SessionState ReadFault) : Type 0 where
+  pub ok : IfOk result (λ s. session_history s ≡ opened current text)
+  pub small : IfOk result (λ s. IsSmall (session_trail s))
+  pub accepted : OnOk result (Accepted text)
+  pub too_large : (result ≡ Err f.TooLarge) ↔ (limit < length text)
+  pub not_utf8 : (at : ℕ) → ((result ≡ Err (f.NotUtf8 at)) ↔ ((length text ≤ limit) × IsValidUpTo text at))
+  pub refused : IfErr result (λ fault. IsOfText fault → Accepted text → ⊥)
+
+-- What the history of a session keeps, and what its steps are: each leads between the trees of two texts that follow one another; those
+-- of a small session are the steps between them, and none that leads there weighs less.
+pub record HoldsSteps (s : SessionState) : Type 0 where
+  pub kept : ∥ IsKept (session_history s) ∥₁
+  pub lead : StepsLead (session_trail s)
+  pub between : IsSmall (session_trail s) → StepsAreBetween (session_trail s)
+  pub least : IsSmall (session_trail s) → HasLeast (session_trail s)

@@ -1,6 +1,5 @@
 //! Commands that leave the present text as it is, answered by the value beside a session.
-ghost use Rattle.std.specs.Prelude.{◌≡◌, ◌⊎◌, ◌↔◌, None, Ok, Err, IfErr, IfOk, IfSome};
-ghost use Rattle.std.specs.Option.{unwrap_or};
+ghost use Rattle.std.specs.Prelude.{◌≡◌, ◌⊎◌, None, Ok, Err, IfErr, IfOk, IfSome};
 ghost use Rattle.bz_journal.specs.Clauses.{AreLookupsOf, Bytes, IsBeside, IsIndexOf, MakesOrWants, Node, Refusal, effect, lines_of, printed, session_history, view_of};
 ghost use Rattle.bz_journal.specs.Actions as a;
 
@@ -39,8 +38,7 @@ impl Lookups {
     }
 }
 
-/// Runs a command on the value of a tree, which stays, by the lines on which its statements begin, where these are kept, and by the
-/// index of its names, where there is one. Errors: those of the command.
+/// Runs a command on the value of a tree, which stays, by what was looked up in these. Errors: those of the command.
 fn run_beside(
     alloc: Global,
     command: &Command,
@@ -81,68 +79,41 @@ fn answer_of(
     let alloc = course.alloc();
     let here = course.present();
     reads_back(here);
-    match run_beside(
-        alloc,
-        command,
-        target,
-        course.own_package().as_bytes(),
-        here,
-        lookups,
-        file,
-    ) {
+    let current = course.own_package().as_bytes();
+    match run_beside(alloc, command, target, current, here, lookups, file) {
         Ok(outcome) => {
-            let Outcome {
-                file: made,
-                printed,
-            } = outcome;
-            if made.is_some() {
+            if outcome.file.is_some() {
                 return None;
             }
-            Some(Ok(unchanged(printed_answer(command, printed))))
+            Some(Ok(unchanged(printed_answer(command, outcome.printed))))
         }
         Err(refusal) => Some(Err(refusal)),
     }
 }
 
-/// Makes an index of the names of a value, where there is none and the target is a name. The error: memory was refused.
-fn index_names(
-    alloc: Global,
-    target: &Target,
-    names: &mut Option<Names>,
-    file: &File,
-) -> Result<(), Memory>
-    requires { IfSome names.old (λ index. IsIndexOf index file.now) }
-    ensures { IfSome names.new (λ index. IsIndexOf index file.now) }
-{
-    if names.is_some() {
-        return Ok(());
-    }
-    if let Which::Name(_) = &target.which {
-        *names = Some(Names::of(alloc, file.items.as_slice())?);
-    }
-    Ok(())
-}
-
-/// Finds the lines on which the statements of a tree begin, where they are not there and a command depends on them. The error:
-/// memory was refused.
-fn find_lines(
+/// Looks up what a command and its target need of a tree and its value, and isn't there yet. The error: memory was refused.
+fn look_up(
     alloc: Global,
     command: &Command,
     target: &Target,
-    lines: &mut Option<Items<u32>>,
+    lookups: &mut Lookups,
     tree: &Tree,
+    file: &File,
 ) -> Result<(), Memory>
-    requires { IfSome lines.old (λ lines. lines ≡ lines_of tree.now) }
-    ensures { IfSome lines.new (λ lines. lines ≡ lines_of tree.now) }
+    requires lookups { AreLookupsOf lookups.old tree.now }
+    requires value { file.now ≡ view_of tree.now }
+    ensures { AreLookupsOf lookups.new tree.now }
 {
-    if lines.is_none() && looks_at_lines(command, target) {
-        *lines = Some(Items::from_vec(tree.lines(alloc)?));
+    if lookups.lines.is_none() && looks_at_lines(command, target) {
+        lookups.lines = Some(Items::from_vec(tree.lines(alloc)?));
+    }
+    if lookups.names.is_none() && matches!(target.which, Which::Name(_)) {
+        lookups.names = Some(Names::of(alloc, file.items.as_slice())?);
     }
     Ok(())
 }
 
-/// What a command answers by the value of the present text, which is made where none is kept, and stays, as does what was looked up;
-/// none where the command would change the text.
+/// What a command answers by the value of the present text, which is kept with what is looked up; none where it would change the text.
 pub(crate) fn answer(
     course: &Course,
     beside: &mut Beside,
@@ -158,11 +129,7 @@ pub(crate) fn answer(
     let Ok(file) = value_of(alloc, beside.value.take(), here) else {
         return Some(Err(Refusal::Memory));
     };
-    let lookups = &mut beside.lookups;
-    if index_names(alloc, target, &mut lookups.names, &file).is_err() {
-        return Some(Err(Refusal::Memory));
-    }
-    if find_lines(alloc, command, target, &mut lookups.lines, here).is_err() {
+    if look_up(alloc, command, target, &mut beside.lookups, here, &file).is_err() {
         return Some(Err(Refusal::Memory));
     }
     let answer = answer_of(course, command, target, &beside.lookups, &file);

@@ -1,17 +1,17 @@
 //! What is kept beside a course from one command to the next: the value of the present text, so that a command need not make it anew.
 //! Where that text is the layout of a tidy value only what changes is tidied and laid out.
-ghost use Rattle.std.specs.Prelude.{◌≡◌, ◌≤◌, ◌⊎◌, true, Err, IfOk, IfSome, IsOk, IsSome, None, Ok, OnErr, OnOk, length};
-ghost use Rattle.bz_journal.specs.Clauses.{AreLinesOf, AreLookupsOf, EndsAt, HasActed, HasMade, IsBeside, IsFormat, IsFormatted, IsOfExtent, IsOverEven, IsSmall, IsWritten, MakesOrWants, Node, Refusal, action_in, after_meaning, layout, limit, note_limit, present, session_history, session_trail, spell_node, tidied, view_of, written};
+ghost use Rattle.std.specs.Prelude.{◌≡◌, ◌≤◌, true, Err, IfOk, IfSome, None, Ok, OnOk, length};
+ghost use Rattle.bz_journal.specs.Clauses.{AreLinesOf, EndsAt, HasActed, HasMade, IsBeside, IsOfExtent, IsReady, IsWritten, Node, Refusal, action_in, after_meaning, layout, limit, note_limit, present, session_history, spell_node, tidied, view_of, written};
 ghost use Rattle.bz_journal.specs.Actions as a;
 
 use crate::action::{Action, Reply};
 use crate::answering::{Lookups, answer};
 use crate::course::{Course, MOST_NOTE, unchanged};
-use crate::laws::{overfull_is_refused, written_is_laid_out};
+use crate::laws::written_is_laid_out;
 use crate::lines::Lines;
 use crate::meaning::{printed_answer, run_on_tree, value_of};
-use bz_build_format::{laid_out_of, reads_back, written};
-use bz_command::{Extent, Spliced};
+use bz_build_format::{comments_fill, laid_out_of, reads_back, written};
+use bz_command::Extent;
 use bz_command_syntax::Command;
 use bz_grammar::{LENGTH_LIMIT, Tree};
 use bz_items::{Items, Memory, Text};
@@ -54,31 +54,30 @@ impl Beside {
     }
 }
 
-/// Tidies a new value: only the items that may be others than in the present one, which are of this extent. Gives lines with which
-/// the present tree is the one of the layout, where some are known, and how many bytes that has at most, where it isn't past the limit.
-/// The error: memory was refused.
+/// Tidies a new value: only the items that may be others than in the present one, which are of this extent. Gives the lines that differ
+/// in its layout, where known, and how many bytes this has at most, where it isn't past the limit. The error: memory was refused.
 fn tidy_in(
     alloc: Global,
     extent: Extent,
     marks: &[bool],
     file: &mut File,
     tree: &Tree,
-    length_bound: usize,
+    bound: usize,
 ) -> Result<(Option<Lines>, usize), Memory>
     requires extent { IsOfExtent extent marks.now (view_of tree.now) file.old }
     requires written { IsWritten (view_of tree.now) tree.now }
-    requires length_bound { length (spell_node tree.now) ≤ length_bound }
+    requires bound { length (spell_node tree.now) ≤ bound }
     ensures tidy { OnOk result (file.new ≡ tidied file.old) }
     ensures lines { IfOk result (λ made. IfSome made.0 (λ lines. AreLinesOf lines tree.now file.new)) }
     ensures most { IfOk result (λ made. length (layout file.new) ≤ limit → length (layout file.new) ≤ made.1) }
 {
     match extent {
-        Extent::Marked => match renew(alloc, marks, file, tree, length_bound)? {
+        Extent::Marked => match renew(alloc, marks, file, tree, bound)? {
             Some(made) => Ok((Some(Lines::Exchanged(made.relaid)), made.most)),
             None => Ok((None, LENGTH_LIMIT)),
         },
         Extent::Spliced(Spliced { from, gone, come }) => {
-            match renew_spliced(alloc, from, gone, come, file, tree, length_bound)? {
+            match renew_spliced(alloc, from, gone, come, file, tree, bound)? {
                 Some(made) => Ok((Some(Lines::Spliced(made.respliced)), made.most)),
                 None => Ok((None, LENGTH_LIMIT)),
             }
@@ -91,23 +90,8 @@ fn tidy_in(
     }
 }
 
-/// Takes up the whole layout of a tidy value, with a note. Errors: `TooLarge`, `TooDeep`, `Full`; `Memory`: a growth was refused.
-fn take_up_whole(
-    course: &mut Course,
-    file: &File,
-    printed: Option<Text>,
-    note: &str,
-) -> Result<Reply, Refusal>
-    requires short { length note.now ≤ note_limit }
-    requires tidy { tidied file.now ≡ file.now }
-    ensures { EndsAt (after_meaning note.now (session_history course.old) (written file.now printed)) course.old result course.new }
-{
-    let tree = laid_out_of(course.alloc(), file)?;
-    course.take_up(tree, printed, note)
-}
-
-/// Takes up the layout of a tidy value, with a note, by its lines that are other ones than in the present tree where these are known.
-/// Errors: `Full`; `Memory`: a growth was refused; those of taking it up whole where the step isn't known.
+/// Takes up the layout of a tidy value, with a note: by its lines that are other ones than in the present tree where these and the
+/// step are known, else whole. Errors: `TooLarge`, `TooDeep`, `Full`; `Memory`: a growth was refused.
 fn take_up_tidied(
     course: &mut Course,
     file: &File,
@@ -121,16 +105,19 @@ fn take_up_tidied(
     ensures { EndsAt (after_meaning note.now (session_history course.old) (written file.now printed)) course.old result course.new }
 {
     let Some(lines) = lines else {
-        return take_up_whole(course, file, printed, note);
+        let tree = laid_out_of(course.alloc(), file)?;
+        return course.take_up(tree, printed, note);
     };
     layout_is_accepted();
     reads_back(course.present());
     let _items = &file.items;
     let mut printed = printed;
-    match course.take_up_with(lines, &mut printed, note) {
-        Ok(Some(reply)) => Ok(reply),
-        Ok(None) => take_up_whole(course, file, printed, note),
-        Err(refusal) => Err(refusal),
+    match course.take_up_lines(lines, &mut printed, note)? {
+        Some(reply) => Ok(reply),
+        None => {
+            let tree = laid_out_of(course.alloc(), file)?;
+            course.take_up(tree, printed, note)
+        }
     }
 }
 
@@ -144,10 +131,7 @@ fn take_up_value(
     printed: Option<Text>,
     note: &str,
 ) -> Result<Reply, Refusal>
-    requires short { length note.now ≤ note_limit }
-    requires none { beside.old.value ≡ None }
-    requires beside { IsBeside course.old.tree beside.old }
-    requires looked { (tree : Node) → AreLookupsOf beside.old.lookups tree }
+    requires ready { IsReady note.now course.old.tree beside.old }
     requires tidy { tidied file ≡ file }
     requires lines { IfSome lines (λ lines. AreLinesOf lines course.old.tree file) }
     requires most { length (layout file) ≤ limit → length (layout file) ≤ most }
@@ -181,10 +165,7 @@ fn take_up_made(
     printed: Option<Text>,
     note: &str,
 ) -> Result<Reply, Refusal>
-    requires short { length note.now ≤ note_limit }
-    requires none { beside.old.value ≡ None }
-    requires beside { IsBeside course.old.tree beside.old }
-    requires looked { (tree : Node) → AreLookupsOf beside.old.lookups tree }
+    requires ready { IsReady note.now course.old.tree beside.old }
     requires extent { IsOfExtent extent marks.now (view_of course.old.tree) file }
     requires written { beside.old.written ≡ true }
     ensures end { EndsAt (after_meaning note.now (session_history course.old) (written file printed)) course.old result course.new }
@@ -192,15 +173,9 @@ fn take_up_made(
 {
     tidy_stays();
     let mut file = file;
-    let here = course.present();
-    match tidy_in(
-        course.alloc(),
-        extent,
-        marks,
-        &mut file,
-        here,
-        beside.length_bound,
-    ) {
+    let alloc = course.alloc();
+    let bound = beside.length_bound;
+    match tidy_in(alloc, extent, marks, &mut file, course.present(), bound) {
         Ok((lines, most)) => take_up_value(course, beside, file, lines, most, printed, note),
         Err(_) => {
             take_apart(file);
@@ -209,8 +184,7 @@ fn take_up_made(
     }
 }
 
-/// Takes up the layout of a new value, which is given up, with a note. Errors: `TooLarge`, `TooDeep`, `Full`; `Memory`: a growth was
-/// refused.
+/// Takes up the layout of a new value with a note. Errors: `TooLarge`, `TooDeep`, `Full`; `Memory`: a growth was refused.
 fn take_up_new(
     course: &mut Course,
     beside: &mut Beside,
@@ -218,33 +192,19 @@ fn take_up_new(
     printed: Option<Text>,
     note: &str,
 ) -> Result<Reply, Refusal>
-    requires short { length note.now ≤ note_limit }
-    requires none { beside.old.value ≡ None }
-    requires beside { IsBeside course.old.tree beside.old }
-    requires looked { (tree : Node) → AreLookupsOf beside.old.lookups tree }
+    requires ready { IsReady note.now course.old.tree beside.old }
     ensures end { EndsAt (after_meaning note.now (session_history course.old) (written file printed)) course.old result course.new }
     ensures beside { IsBeside course.new.tree beside.new }
 {
     written_is_laid_out();
     let _before = course.present();
     let _items = &file.items;
-    match written(course.alloc(), file) {
-        Ok(tree) => {
-            let answer = course.take_up(tree, printed, note);
-            beside.written = answer.is_ok();
-            beside.length_bound = LENGTH_LIMIT;
-            reads_back(course.present());
-            answer
-        }
-        Err(refusal) => Err(refusal),
-    }
-}
-
-/// The value of a text, where that is known to be its layout. That of another one is kept from the second command that prints on.
-fn if_written(written: bool, file: File) -> Option<File>
-    ensures { IfSome result (λ items. items ≡ file) }
-{
-    if written { Some(file) } else { None }
+    let tree = written(course.alloc(), file)?;
+    let answer = course.take_up(tree, printed, note);
+    beside.written = answer.is_ok();
+    beside.length_bound = LENGTH_LIMIT;
+    reads_back(course.present());
+    answer
 }
 
 /// Does a command with a note on the present text. At an error the course is as before. Errors: those of the command; `TooLarge` and
@@ -264,18 +224,16 @@ fn edit(
     let alloc = course.alloc();
     let here = course.present();
     reads_back(here);
-    overfull_is_refused();
+    comments_fill();
     beside.lookups = Lookups::none(); // those of the text before
-    let Ok(seen) = value_of(alloc, beside.value.take(), here) else {
-        return Err(Refusal::Memory);
-    };
-    let mut file = seen;
+    let mut file = value_of(alloc, beside.value.take(), here)?;
     let current = course.own_package().as_bytes();
     match run_on_tree(alloc, command, target, current, here, &mut file) {
         Ok(ran) => {
             let printed = printed_answer(command, ran.printed);
             if ran.same {
-                beside.value = if_written(beside.written, file);
+                // that of another text is kept from the second command that prints on
+                beside.value = beside.written.then_some(file);
                 return Ok(unchanged(printed));
             }
             if beside.written {
@@ -305,31 +263,31 @@ fn do_command(
     ensures beside { IsBeside course.new.tree beside.new }
 {
     let only_prints = command.prints();
-    if only_prints && (beside.written || beside.printed_last) {
-        if let Some(answer) = answer(course, beside, command, target) {
-            return answer;
-        }
+    if only_prints
+        && (beside.written || beside.printed_last)
+        && let Some(answer) = answer(course, beside, command, target)
+    {
+        return answer;
     }
     beside.printed_last = only_prints;
     edit(course, beside, command, target, note)
 }
 
-/// Does an action whose note isn't too long.
-fn act_short(
+/// Does an action with a note by what is kept beside the course, as `Session::act_noted` says. The errors are those.
+pub(crate) fn act(
     course: &mut Course,
     beside: &mut Beside,
     action: &Action<'_>,
     note: &str,
 ) -> Result<Reply, Refusal>
-    requires short { length note.now ≤ note_limit }
-    requires beside { IsBeside course.old.tree beside.old }
-    ensures makes { MakesOrWants (action_in action.now) note.now (session_history course.old) result (session_history course.new) }
-    ensures formatted { OnOk result (IsFormat (action_in action.now) → IsFormatted (present (session_history course.old)) (present (session_history course.new))) }
-    ensures unmoved { OnErr result (course.new ≡ course.old) }
-    ensures even { IsOverEven (action_in action.now) (session_trail course.old) → IsOk result }
-    ensures small { IsSmall (session_trail course.old) → IsSmall (session_trail course.new) }
+    requires { IsBeside course.old.tree beside.old }
+    ensures acted { HasActed (action_in action.now) note.now course.old result course.new }
     ensures beside { IsBeside course.new.tree beside.new }
 {
+    let _before = course.present();
+    if note.len() > MOST_NOTE {
+        return Err(Refusal::NoteTooLong);
+    }
     match *action {
         Action::Do(command, target) => do_command(course, beside, command, target, note),
         Action::Format => {
@@ -345,23 +303,4 @@ fn act_short(
             course.redo(n)
         }
     }
-}
-
-/// Does an action with a note by what is kept beside the course, as `Session::act_noted` says; the value is kept then. The errors are
-/// those.
-pub(crate) fn act(
-    course: &mut Course,
-    beside: &mut Beside,
-    action: &Action<'_>,
-    note: &str,
-) -> Result<Reply, Refusal>
-    requires { IsBeside course.old.tree beside.old }
-    ensures acted { HasActed (action_in action.now) note.now course.old result course.new }
-    ensures beside { IsBeside course.new.tree beside.new }
-{
-    let _before = course.present();
-    if note.len() > MOST_NOTE {
-        return Err(Refusal::NoteTooLong);
-    }
-    act_short(course, beside, action, note)
 }

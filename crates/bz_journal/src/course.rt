@@ -1,18 +1,17 @@
 //! The course of a file: its texts as one tree and the steps between them, and what actions make of it.
-ghost use Rattle.std.specs.Prelude.{◌≡◌, ◌≤◌, ◌<◌, ◌-◌, ◌+◌, ◌++◌, ◌↔◌, ◌⊎◌, true, false, take, Err, None, Ok, Result, ℕ, List, IfOk, IfErr, IfSome, OnOk, OnErr, IsOk, IsTrue, length};
-ghost use Rattle.std.specs.Str.{IsValidUpTo};
-ghost use Rattle.bz_journal.specs.Clauses.{Accepted, Answer, AreIn, EndsAt, HasMade, History, IsFormatted, IsOfText, IsSmall, IsTree, MakesOrWants, Refusal, after_text, are_even, changed, limit, most_steps, note_limit, opened, present, session_history, session_trail, spell_node, steps_back, steps_forward, tree_with, unchanged};
+ghost use Rattle.std.specs.Prelude.{◌≡◌, ◌≤◌, ◌<◌, ◌-◌, ◌+◌, ◌↔◌, true, false, take, Err, None, Ok, Result, ℕ, List, IfOk, OnOk, OnErr, IsOk, IsTrue, length};
+ghost use Rattle.bz_journal.specs.Clauses.{OpensText, AreIn, AreSpliced, EndsAt, EndsOrNone, HasMade, IsFormatted, IsSmall, IsTree, MakesOrWants, Refusal, after_text, are_even, changed, most_steps, note_limit, present, session_history, session_trail, spell_node, steps_back, steps_forward, tree_with, unchanged};
 ghost use Rattle.bz_journal.specs.Actions as a;
 
-use crate::action::{Action, Reply};
+use crate::action::Reply;
 use crate::digests::put_after;
 use crate::lines::{Lines, stand_in, take_up_lines};
 use bz_build_format::{formatted, formatted_once, reads_back};
 use bz_edit::Step;
-use bz_grammar::laws::{one_reading, one_tree};
+use bz_grammar::laws::one_reading;
 use bz_grammar::{ReadFault, Tree};
 use bz_history::laws::{starts_small, texts_kept};
-use bz_history::{go_back, go_forward, take_up};
+use bz_history::{go_back, go_forward};
 use bz_items::{Memory, Text};
 use bz_tree::parse;
 use bz_value::Refusal;
@@ -24,22 +23,14 @@ const MOST_STEPS: u32 = 100_000;
 /// The most bytes of a note.
 pub(crate) const MOST_NOTE: usize = 65_536;
 
-/// The texts of a BUILD file of a package, one after another, and the place in them: the tree of the present text, and
-/// between neighbours the step that leads from the one tree to the other. Contracts speak of its history.
+/// The fields of a `Session`, but for the digests. Contracts speak of its history.
 #[derive(Drop)]
 pub(crate) struct Course {
-    /// The tree of the present text.
     pub(crate) tree: Tree,
-    /// The steps between the texts, in the order in which these came: those before the present text lead back, the others
-    /// forward.
     pub(crate) steps: Vec<Step>,
-    /// The note of each step.
     pub(crate) notes: Vec<Text>,
-    /// The path of the file's package.
     pub(crate) package: String,
-    /// The number of the present text, from 0.
     pub(crate) cursor: u32,
-    /// The number of the one that was present before it.
     pub(crate) before: u32,
 }
 
@@ -61,12 +52,7 @@ impl Model for Course {
 /// The course of a file of the package with this path, at its first text, as `Session::open` says. The errors are those.
 pub(crate) fn begin(alloc: Global, package: &str, text: &[u8]) -> Result<Course, ReadFault>
     requires { length «package».now ≤ 65536 }
-    ensures ok { IfOk result (λ course. session_history course ≡ opened «package».now text.now) }
-    ensures small { IfOk result (λ course. IsSmall (session_trail course)) }
-    ensures accepted { OnOk result (Accepted text.now) }
-    ensures too_large { (result ≡ Err ReadFault.TooLarge) ↔ (limit < length text.now) }
-    ensures not_utf8 { (at : ℕ) → ((result ≡ Err (ReadFault.NotUtf8 at)) ↔ ((length text.now ≤ limit) × IsValidUpTo text.now at)) }
-    ensures refused { IfErr result (λ fault. IsOfText fault → Accepted text.now → ⊥) }
+    ensures { OpensText «package».now text.now result }
 {
     starts_small();
     let tree = match parse(alloc, text) {
@@ -74,17 +60,15 @@ pub(crate) fn begin(alloc: Global, package: &str, text: &[u8]) -> Result<Course,
         Err(fault) => return Err(fault),
     };
     let _root = &tree.root;
-    match String::from_str(alloc, package) {
-        Ok(package) => Ok(Course {
-            tree,
-            steps: Vec::new(alloc),
-            notes: Vec::new(alloc),
-            package,
-            cursor: 0,
-            before: 0,
-        }),
-        Err(_) => Err(ReadFault::Memory),
-    }
+    let package = String::from_str(alloc, package)?;
+    Ok(Course {
+        tree,
+        steps: Vec::new(alloc),
+        notes: Vec::new(alloc),
+        package,
+        cursor: 0,
+        before: 0,
+    })
 }
 
 /// The text of a tree. The error: a growth was refused.
@@ -142,58 +126,6 @@ impl Course {
         self.steps.len() as u32 - self.cursor
     }
 
-    /// Whether a tree spells the present text.
-    fn is_present(&self, next: &Tree) -> bool
-        ensures { IsTrue result ↔ (spell_node next.now ≡ present (session_history self.now)) }
-    {
-        let here = self.present();
-        one_tree(next, here);
-        next.equals(here)
-    }
-
-    /// Takes up a new tree with a note: what it spells is the text after the present one; where it is the same one, returns what is
-    /// printed.
-    pub(crate) fn take_up(
-        &mut self,
-        next: Tree,
-        printed: Option<Text>,
-        note: &str,
-    ) -> Result<Reply, Refusal>
-        requires { length note.now ≤ note_limit }
-        ensures { EndsAt (after_text note.now (session_history self.old) (spell_node next) printed) self.old result self.new }
-    {
-        if self.is_present(&next) {
-            return Ok(unchanged(printed));
-        }
-        if self.cursor() >= MOST_STEPS {
-            return Err(Refusal::Full);
-        }
-        match self.extend(next, note) {
-            Ok(()) => Ok(Reply::Changed),
-            Err(_) => Err(Refusal::Memory),
-        }
-    }
-
-    /// Puts the text of a tree after the present one, with a note of the step to it.
-    fn extend(&mut self, next: Tree, note: &str) -> Result<(), Memory>
-        requires other { spell_node next ≡ present (session_history self.old) → ⊥ }
-        requires room { self.old.cursor < most_steps }
-        requires short { length note.now ≤ note_limit }
-        ensures ok { OnOk result (session_history self.new ≡ changed note.now (session_history self.old) (spell_node next)) }
-        ensures err { OnErr result (self.new ≡ self.old) }
-        ensures small { IsSmall (session_trail self.old) → IsSmall (session_trail self.new) }
-    {
-        texts_kept();
-        let note = Text::from_slice(self.alloc(), note.as_bytes())?;
-        self.notes.reserve(1)?;
-        let cursor = self.cursor;
-        take_up(&mut self.tree, &mut self.steps, cursor as usize, next)?;
-        put_after(&mut self.notes, cursor as usize, note);
-        self.before = cursor;
-        self.cursor = cursor + 1;
-        Ok(())
-    }
-
     /// Formats the present text.
     pub(crate) fn format(&mut self, note: &str) -> Result<Reply, Refusal>
         requires { length note.now ≤ note_limit }
@@ -215,16 +147,19 @@ impl Course {
         ensures even { n ≤ self.old.cursor → are_even (take n (steps_back (session_trail self.old))) ≡ true → IsOk result }
         ensures small { IsSmall (session_trail self.old) → IsSmall (session_trail self.new) }
     {
+        texts_kept();
         if n > self.cursor() {
             return Err(Refusal::TooFar);
         }
         if n == 0 {
             return Ok(Reply::Moved);
         }
-        match self.back(n) {
-            Ok(()) => Ok(Reply::Moved),
-            Err(_) => Err(Refusal::Memory),
-        }
+        let cursor = self.cursor;
+        let steps = self.steps.as_mut_slice();
+        go_back(&mut self.tree, steps, cursor as usize, n as usize)?;
+        self.before = cursor;
+        self.cursor = cursor - n;
+        Ok(Reply::Moved)
     }
 
     /// Goes forward by n steps.
@@ -234,62 +169,23 @@ impl Course {
         ensures even { self.old.cursor + n ≤ length self.old.steps → are_even (take n (steps_forward (session_trail self.old))) ≡ true → IsOk result }
         ensures small { IsSmall (session_trail self.old) → IsSmall (session_trail self.new) }
     {
+        texts_kept();
         if n > self.steps_ahead() {
             return Err(Refusal::TooFar);
         }
         if n == 0 {
             return Ok(Reply::Moved);
         }
-        match self.forward(n) {
-            Ok(()) => Ok(Reply::Moved),
-            Err(_) => Err(Refusal::Memory),
-        }
-    }
-
-    /// Goes back by n steps, which are there.
-    fn back(&mut self, n: u32) -> Result<(), Memory>
-        requires { n ≤ self.old.cursor }
-        ensures ok { OnOk result (session_history self.new ≡ record (session_history self.old) { cursor = self.old.cursor - n; before = self.old.cursor }) }
-        ensures err { OnErr result (self.new ≡ self.old) }
-        ensures even { are_even (take n (steps_back (session_trail self.old))) ≡ true → IsOk result }
-        ensures small { IsSmall (session_trail self.old) → IsSmall (session_trail self.new) }
-    {
-        texts_kept();
         let cursor = self.cursor;
-        go_back(
-            &mut self.tree,
-            self.steps.as_mut_slice(),
-            cursor as usize,
-            n as usize,
-        )?;
-        self.before = cursor;
-        self.cursor = cursor - n;
-        Ok(())
-    }
-
-    /// Goes forward by n steps, which are there.
-    fn forward(&mut self, n: u32) -> Result<(), Memory>
-        requires { self.old.cursor + n ≤ length self.old.steps }
-        ensures ok { OnOk result (session_history self.new ≡ record (session_history self.old) { cursor = self.old.cursor + n; before = self.old.cursor }) }
-        ensures err { OnErr result (self.new ≡ self.old) }
-        ensures even { are_even (take n (steps_forward (session_trail self.old))) ≡ true → IsOk result }
-        ensures small { IsSmall (session_trail self.old) → IsSmall (session_trail self.new) }
-    {
-        texts_kept();
-        let cursor = self.cursor;
-        go_forward(
-            &mut self.tree,
-            self.steps.as_mut_slice(),
-            cursor as usize,
-            n as usize,
-        )?;
+        let steps = self.steps.as_mut_slice();
+        go_forward(&mut self.tree, steps, cursor as usize, n as usize)?;
         self.before = cursor;
         self.cursor = cursor + n;
-        Ok(())
+        Ok(Reply::Moved)
     }
 
-    /// Whether the present tree spells the present text with these lines.
-    fn is_present_with(&self, lines: &Lines) -> bool
+    /// Whether the tree with these lines spells the present text.
+    fn is_present(&self, lines: &Lines) -> bool
         requires next { IsTree (tree_with lines.now self.now.tree) }
         requires placed { AreIn lines.now self.now.tree }
         ensures { IsTrue result ↔ (spell_node (tree_with lines.now self.now.tree) ≡ present (session_history self.now)) }
@@ -300,10 +196,10 @@ impl Course {
         stand_in(lines, here)
     }
 
-    /// Takes up, with a note, the present tree with these lines, as `take_up` does a new one; where that is the same one, returns what
-    /// is printed. None where the step to it isn't known: it is to be taken up whole then. Errors: `Full`; `Memory`: a growth was
-    /// refused.
-    pub(crate) fn take_up_with(
+    /// Takes up the tree with these lines, with a note: what it spells is the text after the present one; where it is the same one,
+    /// returns what is printed. None where the step to it isn't known, as may be of spliced lines: it is to be taken up whole then.
+    /// Errors: `Full`; `Memory`: a growth was refused.
+    pub(crate) fn take_up_lines(
         &mut self,
         lines: Lines,
         printed: &mut Option<Text>,
@@ -312,43 +208,55 @@ impl Course {
         requires short { length note.now ≤ note_limit }
         requires next { IsTree (tree_with lines self.old.tree) }
         requires placed { AreIn lines self.old.tree }
-        ensures some { IfOk result (λ taken. IfSome taken (λ reply. ◌≡◌ {A = Answer × History} (Ok reply, session_history self.new) (after_text note.now (session_history self.old) (spell_node (tree_with lines self.old.tree)) printed.old))) }
-        ensures none { result ≡ Ok None → (self.new ≡ self.old) × (printed.new ≡ printed.old) }
-        ensures err { IfErr result (λ refusal. (◌≡◌ {A = Answer × History} (Err refusal, session_history self.old) (after_text note.now (session_history self.old) (spell_node (tree_with lines self.old.tree)) printed.old))
-            ⊎ (refusal ≡ Refusal.Memory)) }
-        ensures unmoved { OnErr result (self.new ≡ self.old) }
-        ensures small { IsSmall (session_trail self.old) → IsSmall (session_trail self.new) }
+        ensures made { EndsOrNone (after_text note.now (session_history self.old) (spell_node (tree_with lines self.old.tree)) printed.old) self.old result self.new }
+        ensures none { result ≡ Ok None → AreSpliced lines × (printed.new ≡ printed.old) }
     {
-        if self.is_present_with(&lines) {
+        if self.is_present(&lines) {
             return Ok(Some(unchanged(printed.take())));
         }
         if self.cursor() >= MOST_STEPS {
             return Err(Refusal::Full);
         }
-        match self.extend_with(lines, note) {
+        match self.extend(lines, note) {
             Ok(true) => Ok(Some(Reply::Changed)),
             Ok(false) => Ok(None),
             Err(_) => Err(Refusal::Memory),
         }
     }
 
-    /// Puts the text of the present tree with these lines after the present one, with a note of the step to it. False where that
-    /// step isn't known; the session is then as before. Where a digest is kept it is taken of the tree that has these lines, so all
-    /// that can fail comes before the exchange.
-    fn extend_with(&mut self, lines: Lines, note: &str) -> Result<bool, Memory>
+    /// The same of a whole tree.
+    pub(crate) fn take_up(
+        &mut self,
+        next: Tree,
+        printed: Option<Text>,
+        note: &str,
+    ) -> Result<Reply, Refusal>
+        requires { length note.now ≤ note_limit }
+        ensures { EndsAt (after_text note.now (session_history self.old) (spell_node next) printed) self.old result self.new }
+    {
+        let _root = &next.root;
+        let mut printed = printed;
+        match self.take_up_lines(Lines::Whole(next), &mut printed, note) {
+            Ok(Some(reply)) => Ok(reply),
+            Ok(None) => unreachable!(),
+            Err(refusal) => Err(refusal),
+        }
+    }
+
+    /// Puts the text of the tree with these lines after the present one, with a note. False, with nothing done: the step isn't known.
+    fn extend(&mut self, lines: Lines, note: &str) -> Result<bool, Memory>
         requires next { IsTree (tree_with lines self.old.tree) }
         requires placed { AreIn lines self.old.tree }
         requires other { spell_node (tree_with lines self.old.tree) ≡ present (session_history self.old) → ⊥ }
         requires room { self.old.cursor < most_steps }
         requires short { length note.now ≤ note_limit }
         ensures ok { IfOk result (λ taken. IsTrue taken → session_history self.new ≡ changed note.now (session_history self.old) (spell_node (tree_with lines self.old.tree))) }
-        ensures stays { IfOk result (λ taken. taken ≡ false → self.new ≡ self.old) }
+        ensures stays { IfOk result (λ taken. taken ≡ false → AreSpliced lines × (self.new ≡ self.old)) }
         ensures err { OnErr result (self.new ≡ self.old) }
         ensures small { IsSmall (session_trail self.old) → IsSmall (session_trail self.new) }
     {
         texts_kept();
-        let alloc = self.alloc();
-        let note = Text::from_slice(alloc, note.as_bytes())?;
+        let note = Text::from_slice(self.alloc(), note.as_bytes())?;
         self.notes.reserve(1)?;
         let cursor = self.cursor;
         let taken = take_up_lines(&mut self.tree, &mut self.steps, cursor as usize, lines)?;

@@ -1,19 +1,10 @@
 //! The SHA-256 of the text of a tree, taken leaf by leaf: the text itself is not made.
 ghost use Rattle.std.specs.Prelude.{◌≡◌, ◌++◌, List, ℕ};
 ghost use Rattle.std.specs.List.{flat_map};
-ghost use Rattle.bz_journal.specs.Clauses.{Holds256, sha256, spell_leaf, spell_node, spell_part};
+ghost use Rattle.bz_journal.specs.Clauses.{Holds256, sha256, spell_node, spell_part};
 
 use bz_grammar::{Part, Tree};
-use bz_lex::Leaf;
 use sha2::{Digest, Sha256};
-
-/// Adds the gap and the token of a leaf to what is hashed.
-fn hash_leaf(leaf: &Leaf, hasher: &mut Sha256)
-    ensures { (m : List ℕ) → Holds256 hasher.old m → Holds256 hasher.new (m ++ spell_leaf leaf.now) }
-{
-    hasher.update(leaf.gap.as_slice());
-    hasher.update(leaf.token.as_slice());
-}
 
 /// Adds what a part spells to what is hashed.
 #[cycle(hash)]
@@ -22,7 +13,10 @@ fn hash_part(part: &Part, hasher: &mut Sha256)
     ensures { (m : List ℕ) → Holds256 hasher.old m → Holds256 hasher.new (m ++ spell_part part.now) }
 {
     match part {
-        Part::Leaf(leaf) => hash_leaf(leaf, hasher),
+        Part::Leaf(leaf) => {
+            hasher.update(leaf.gap.as_slice());
+            hasher.update(leaf.token.as_slice());
+        }
         Part::Node(node) => hash_parts(node.parts.as_slice(), hasher),
     }
 }

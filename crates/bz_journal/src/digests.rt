@@ -15,15 +15,6 @@ use bz_value::Refusal;
 use sha2::{Digest, Sha256};
 use std::alloc::Global;
 
-/// A list of one digest. The error: a growth was refused.
-pub(crate) fn one_digest(alloc: Global, digest: [u8; 32]) -> Result<Vec<[u8; 32]>, Memory>
-    ensures { IfOk result (λ digests. digests.items ≡ digest ∷ []) }
-{
-    let mut digests = Vec::new(alloc);
-    digests.push(digest)?;
-    Ok(digests)
-}
-
 /// Puts an item after the first n, in the place of those that follow.
 pub(crate) fn put_after<T: Drop>(items: &mut Vec<T>, n: usize, item: T)
     requires room { vec_len items.old < vec_capacity items.old }
@@ -88,7 +79,7 @@ fn hashed_from(alloc: Global, tree: &mut Tree, steps: &mut [Step]) -> Result<Vec
     ensures { IfOk result (λ digests. digests.items ≡ map sha256 (texts_of (trail_at tree.old steps.old 0))) }
 {
     texts_kept();
-    let mut digests = one_digest(alloc, digest_of(tree))?;
+    let mut digests = Vec::from_slice(alloc, &[digest_of(tree)])?;
     for at in 0..steps.len() {
         go_forward(tree, steps, at, 1)?;
         digests.push(digest_of(tree))?;

@@ -1,8 +1,6 @@
 //! An editor: a session, and beside it the value of the present text from one command to the next.
-ghost use Rattle.std.specs.Prelude.{◌≡◌, ◌≢◌, ◌≤◌, ◌<◌, ◌++◌, ◌↔◌, ◌⊎◌, ℕ, length, true, Err, IfErr, IfOk, IfSome, IsErrOf, IsOk, Ok, OnErr, OnOk, Some};
-ghost use Rattle.std.specs.FinMap.{get};
-ghost use Rattle.std.specs.Str.{IsValidUpTo};
-ghost use Rattle.bz_journal.specs.Clauses.{Accepted, Acts, AreFirstDigests, Elapses, Folder, Holds, IsFormat, IsFormatted, IsOfText, IsOverEven, IsRefused, IsSavedSession, IsSmall, IsWriteOrOpen, IsWrittenSince, Keeps, KeepsPair, OthersStay, PairFault, Refusal, Reply, Resumes, Rises, Survives, action_in, journal_name, limit, listing, note_limit, opened, present, saved, session_history, session_trail};
+ghost use Rattle.std.specs.Prelude.{◌≡◌, ◌≤◌, ◌<◌, ◌++◌, ℕ, length, IfOk, IfSome, Ok, OnErr, OnOk, Some};
+ghost use Rattle.bz_journal.specs.Clauses.{AreFirstDigests, HasActed, IsSavedSession, IsWrittenSince, Keeps, KeepsPair, OpensText, Refusal, Reply, action_in, listing, opened, present, saved, session_history};
 
 use crate::action::{Action, Reply};
 use crate::answering::Lookups;
@@ -18,8 +16,7 @@ use bz_value::Refusal;
 use std::alloc::Global;
 use std::marker::Model;
 
-/// The fewest items of a value that is kept from the first command on. One of fewer is made anew in less than a millisecond, and a
-/// run over thousands of files, which are mostly short, holds the values of none of them.
+/// The fewest items of a value that is kept from the first command on. One of fewer is made anew in less than a millisecond.
 const FEWEST: usize = 500;
 
 /// After how many commands any value is kept, so that further ones cost the same in a short file as in a long one.
@@ -75,17 +72,6 @@ fn editor_of(course: Course, digests: Vec<[u8; 32]>) -> Editor
     }
 }
 
-/// The present text of a course: the one that is kept, or one that is spelled. The error: a growth was refused.
-fn kept_text(kept: Option<Vec<u8>>, course: &Course) -> Result<Vec<u8>, Memory>
-    requires { IfSome kept (λ text. text.items ≡ present (session_history course.now)) }
-    ensures { IfOk result (λ text. text.items ≡ present (session_history course.now)) }
-{
-    match kept {
-        Some(text) => Ok(text),
-        None => text_of(course.present()),
-    }
-}
-
 /// The journal of a course at this text, by the digests that are there. The error: a growth was refused.
 fn journal_by(course: &Course, digests: &[[u8; 32]], text: &[u8]) -> Result<Vec<u8>, Memory>
     requires first { AreFirstDigests digests.now (session_history course.now).texts }
@@ -103,17 +89,9 @@ impl Editor {
     /// An editor at the first text of a file of the package with this path, as `Session::open` makes a session. The errors are those.
     pub fn open(alloc: Global, package: &str, text: &[u8]) -> Result<Editor, ReadFault>
         requires { length «package».now ≤ 65536 }
-        ensures ok { IfOk result (λ editor. session_history editor ≡ opened «package».now text.now) }
-        ensures small { IfOk result (λ editor. IsSmall (session_trail editor)) }
-        ensures accepted { OnOk result (Accepted text.now) }
-        ensures too_large { (result ≡ Err ReadFault.TooLarge) ↔ (limit < length text.now) }
-        ensures not_utf8 { (at : ℕ) → ((result ≡ Err (ReadFault.NotUtf8 at)) ↔ ((length text.now ≤ limit) × IsValidUpTo text.now at)) }
-        ensures refused { IfErr result (λ fault. IsOfText fault → Accepted text.now → ⊥) }
+        ensures { OpensText «package».now text.now result }
     {
-        match begin(alloc, package, text) {
-            Ok(course) => Ok(editor_of(course, Vec::new(alloc))),
-            Err(fault) => Err(fault),
-        }
+        Ok(editor_of(begin(alloc, package, text)?, Vec::new(alloc)))
     }
 
     /// An editor of a session, whose digests are kept.
@@ -153,12 +131,7 @@ impl Editor {
     /// they change: the value is kept, and only the lines of the statements that were exchanged are laid out. The errors are those of
     /// `Session::act_noted`.
     pub fn act_noted(&mut self, action: &Action<'_>, note: &str) -> Result<Reply, Refusal>
-        ensures acts { Acts (action_in action.now) note.now (session_history self.old) result (session_history self.new) }
-        ensures formatted { OnOk result (IsFormat (action_in action.now) → IsFormatted (present (session_history self.old)) (present (session_history self.new))) }
-        ensures err { OnErr result (session_history self.new ≡ session_history self.old) }
-        ensures unmoved { OnErr result (self.new ≡ self.old) }
-        ensures even { length note.now ≤ note_limit → IsOverEven (action_in action.now) (session_trail self.old) → IsOk result }
-        ensures small { IsSmall (session_trail self.old) → IsSmall (session_trail self.new) }
+        ensures { HasActed (action_in action.now) note.now self.old result self.new }
     {
         self.text = None;
         let answer = act(&mut self.course, &mut self.beside, action, note);
@@ -191,51 +164,6 @@ impl Editor {
         file: &str,
         files: &mut F,
     ) -> Result<Reply, KeepFault>
-        ensures keeps { Keeps (action_in action.now) note.now (session_history self.old) result (session_history self.new) }
-        ensures refused { IfErr result (λ fault. IsRefused fault → (self.new ≡ self.old) × (files.new ≡ files.old)) }
-        ensures small { IsSmall (session_trail self.old) → IsSmall (session_trail self.new) }
-
-        // A stop at any moment leaves a file that goes on with the texts of before or after, and that holds the present text of either.
-        ensures each { F.honest files.old ≡ true → Resumes (F.folder files.old) file.now (session_history self.old).«package» (session_history self.old).texts
-            → (now : Folder) → F.since files.new (F.moment files.old) now
-            → (now ≡ F.folder files.old) ⊎ Survives file.now (session_history self.old) (session_history self.new) (F.folder files.old) now }
-        ensures time { F.honest files.old ≡ true → Resumes (F.folder files.old) file.now (session_history self.old).«package» (session_history self.old).texts
-            → Elapses (F.moment files.old) (F.moment files.new) (F.since files.old) (F.since files.new)
-            (λ now. (now ≡ F.folder files.old) ⊎ Survives file.now (session_history self.old) (session_history self.new) (F.folder files.old) now) }
-        ensures kept { F.honest files.old ≡ true → Resumes (F.folder files.old) file.now (session_history self.old).«package» (session_history self.old).texts
-            → OnOk result ((session_history self.new).cursor ≢ (session_history self.old).cursor
-            → Holds (F.folder files.new) file.now (session_history self.old).«package» (present (session_history self.new)) (session_history self.new).texts
-            × OthersStay file.now (F.folder files.old) (F.folder files.new)) }
-        ensures stored { F.honest files.old ≡ true → (now : Folder) → F.since files.new (F.moment files.old) now
-            → (get now (journal_name file.now) ≡ get (F.folder files.old) (journal_name file.now)) ⊎ (get now (journal_name file.now) ≡ Some (saved self.new)) }
-        ensures journal { F.honest files.old ≡ true → OnOk result ((session_history self.new).cursor ≢ (session_history self.old).cursor
-            → get (F.folder files.new) (journal_name file.now) ≡ Some (saved self.new)) }
-
-        // That the file holds another text is said only where it does. Nothing is replaced where the present text stays, and at every
-        // fault but Write.
-        ensures changed { F.honest files.old ≡ true → IsErrOf result (KeepFault.Pair PairFault.Changed)
-            → get (F.folder files.old) file.now ≢ Some (present (session_history self.old)) }
-        ensures still { OnOk result ((session_history self.new).cursor ≡ (session_history self.old).cursor → files.new ≡ files.old) }
-        ensures untouched { F.honest files.old ≡ true → IfErr result (λ fault. fault ≢ KeepFault.Pair PairFault.Write
-            → (now : Folder) → F.since files.new (F.moment files.old) now → now ≡ F.folder files.old) }
-
-        // A Write and an Open are counted, and nothing else.
-        ensures cause { IsWriteOrOpen result → Rises (F.faults files.old) (F.faults files.new) }
-        ensures rest { (IsWriteOrOpen result → ⊥) → F.faults files.new ≡ F.faults files.old }
-        ensures count { F.faults files.old ≤ F.faults files.new }
-        ensures honest { F.honest files.new ≡ F.honest files.old }
-    {
-        self.keep_beside(action, note, file, files)
-    }
-
-    /// The same, with what it leaves said at once.
-    fn keep_beside<F: Files>(
-        &mut self,
-        action: &Action<'_>,
-        note: &str,
-        file: &str,
-        files: &mut F,
-    ) -> Result<Reply, KeepFault>
         ensures { KeepsPair F.Files (action_in action.now) note.now file.now self.old result self.new files.old files.new }
     {
         let standing = self.take_text();
@@ -254,7 +182,10 @@ impl Editor {
         ensures stays { self.new ≡ self.old }
     {
         let _here = self.course.present();
-        let text = kept_text(self.text.take(), &self.course)?;
+        let text = match self.text.take() {
+            Some(text) => text,
+            None => text_of(self.course.present())?,
+        };
         learn(&mut self.digests, &self.course, text.as_slice());
         Ok(text)
     }
@@ -277,12 +208,10 @@ impl Editor {
         requires { (from : ℕ) × IsWrittenSince self.old from written }
         ensures { self.new ≡ self.old }
     {
-        let Ok(Some(written)) = written else {
-            return;
-        };
-        let Written { journal: _, text } = written;
-        if text.len() >= LONG {
-            self.text = Some(text);
+        if let Ok(Some(written)) = written
+            && written.text.len() >= LONG
+        {
+            self.text = Some(written.text);
         }
     }
 }

@@ -26,17 +26,16 @@ pub(crate) struct Written {
     pub(crate) text: Vec<u8>,
 }
 
-/// Keeps what an action answered: where the present text is another one, of which something is to be written, replaces the journal of
-/// the file and then the file, which is still to hold the text before, `standing`.
+/// Keeps an answer: where something is to be written, replaces the journal and then the file, which is still to hold the text `before`.
 pub(crate) fn persist<F: Files>(
     alloc: Global,
     answer: Result<Reply, Refusal>,
-    standing: Result<Vec<u8>, Memory>,
+    before: Result<Vec<u8>, Memory>,
     written: &Result<Option<Written>, Memory>,
     file: &str,
     files: &mut F,
 ) -> Result<Reply, KeepFault>
-    ensures { (s t : SessionState) (action : a.Action) (note : Bytes) → IfOk standing (λ text. text.items ≡ present (session_history s))
+    ensures { (s t : SessionState) (action : a.Action) (note : Bytes) → IfOk before (λ text. text.items ≡ present (session_history s))
         → IsWrittenSince t s.cursor written.now → HasActed action note s answer t → KeepsPair F.Files action note file.now s result t files.old files.new }
 {
     let reply = match answer {
@@ -49,17 +48,10 @@ pub(crate) fn persist<F: Files>(
     let Some(written) = written else {
         return Ok(reply);
     };
-    let Ok(standing) = standing else {
+    let Ok(before) = before else {
         return Err(KeepFault::Pair(PairFault::Memory));
     };
-    match keep(
-        alloc,
-        files,
-        file,
-        &standing,
-        &written.journal,
-        &written.text,
-    ) {
+    match keep(alloc, files, file, &before, &written.journal, &written.text) {
         Ok(()) => Ok(reply),
         Err(fault) => Err(KeepFault::Pair(fault)),
     }

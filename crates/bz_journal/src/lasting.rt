@@ -1,5 +1,5 @@
 //! Sessions that outlive the run: their journal, and what is resumed of one.
-ghost use Rattle.std.specs.Prelude.{◌≡◌, ◌++◌, ◌↔◌, ℕ, List, Err, IfOk, IfErr, OnOk, OnErr, IsUtf8, map, option_map, slice_get, string_bytes};
+ghost use Rattle.std.specs.Prelude.{◌≡◌, ◌++◌, ◌↔◌, ℕ, List, Err, IfOk, IfErr, OnOk, OnErr, map, option_map, slice_get};
 ghost use Rattle.bz_journal.specs.Clauses.{AreSmall, Edit, GoesOn, History, IsAgain, IsKnownSession, IsOtherVersion, IsResumedSession, IsSavedSession, IsSmall, IsStale, Journal, NoJournal, StandsFor, listing, present, saved, session_history, session_trail, sha256};
 ghost use Rattle.bz_resume.specs.declared.fault.ResumeFault.TheVariants as f;
 ghost use Rattle.bz_resume.specs.Resumed.{IsResumed as WasResumed};
@@ -13,14 +13,6 @@ use bz_items::{Memory, Text};
 use bz_resume::laws::reopened;
 use bz_resume::{Content, ResumeFault, Resumed, Saved, resume, save_into};
 use std::alloc::Global;
-
-/// The path of a package. The error: memory was refused.
-fn path_of(alloc: Global, package: &Text) -> Result<String, Memory>
-    requires { IsUtf8 «package».now }
-    ensures { IfOk result (λ path. string_bytes path ≡ «package».now) }
-{
-    String::from_str(alloc, str::from_utf8(package.as_slice()).unwrap())
-}
 
 impl Course {
     /// The listing of texts that have these digests. The error: a growth was refused.
@@ -144,23 +136,16 @@ impl Session {
         ensures kinds { IfErr result (λ fault. fault ≡ f.Memory) }
     {
         texts_kept();
-        let Resumed {
-            package,
-            tree,
-            steps,
-            digests,
-            notes,
-            cursor,
-        } = resumed;
-        let package = path_of(alloc, &package)?;
+        let package = str::from_utf8(resumed.package.as_slice()).unwrap();
+        let package = String::from_str(alloc, package)?;
         Ok(Session {
-            tree,
-            steps: steps.into_vec(),
-            digests: digests.into_vec(),
-            notes: notes.into_vec(),
+            tree: resumed.tree,
+            steps: resumed.steps.into_vec(),
+            digests: resumed.digests.into_vec(),
+            notes: resumed.notes.into_vec(),
             package,
-            cursor: cursor as u32,
-            before: cursor as u32,
+            cursor: resumed.cursor as u32,
+            before: resumed.cursor as u32,
         })
     }
 
@@ -172,8 +157,7 @@ impl Session {
         reopened();
         let mut journal = Vec::new(alloc);
         self.save_into(&mut journal)?;
-        let mut text = Vec::new(alloc);
-        self.text_into(&mut text)?;
+        let text = text_of(self.present())?;
         Session::resume(alloc, journal.as_slice(), text.as_slice())
     }
 }

@@ -1,11 +1,10 @@
 //! Facts about the definitions, for readers: the functions do nothing.
 
-ghost use Rattle.bz_journal.specs.Clauses.{AlikeActs, AlikeGoesOn, HasLeast, IsKept, IsSmall, OverfullIsRefused, StepsAreBetween, StepsLead, StoppedIsResumed, WorkedHistories, WrittenIsLaidOut, session_history, session_trail};
+ghost use Rattle.bz_journal.specs.Clauses.{AlikeActs, AlikeGoesOn, HoldsSteps, IsKept, StoppedIsResumed, WorkedHistories, WrittenIsLaidOut, session_history};
 
 use crate::course::Course;
 use crate::editor::Editor;
 use crate::session::Session;
-use bz_build_format::comments_fill;
 use bz_grammar::laws::one_reading;
 use bz_history::laws::{small_steps, steps_lead, texts_kept};
 use bz_layout::{layout_is_accepted, layout_reads_back};
@@ -39,10 +38,9 @@ pub fn history_kept(session: &Session)
 /// What a session holds: each step leads between the trees of two texts that follow one another and differ; those of a small
 /// session are the steps between them, and none that leads there weighs less. (`Session::digests` has the digests.)
 pub fn session_holds(session: &Session)
-    ensures lead { StepsLead (session_trail session.now) }
-    ensures between { IsSmall (session_trail session.now) → StepsAreBetween (session_trail session.now) }
-    ensures least { IsSmall (session_trail session.now) → HasLeast (session_trail session.now) }
+    ensures { HoldsSteps session.now }
 {
+    texts_kept();
     steps_lead();
     small_steps();
     let _tree = &session.tree;
@@ -50,20 +48,14 @@ pub fn session_holds(session: &Session)
 
 /// The same of an editor: what its history keeps, and what it holds.
 pub fn editor_holds(editor: &Editor)
-    ensures kept { ∥ IsKept (session_history editor.now) ∥₁ }
-    ensures lead { StepsLead (session_trail editor.now) }
-    ensures between { IsSmall (session_trail editor.now) → StepsAreBetween (session_trail editor.now) }
-    ensures least { IsSmall (session_trail editor.now) → HasLeast (session_trail editor.now) }
+    ensures { HoldsSteps editor.now }
 {
     course_holds(&editor.course);
 }
 
 /// The same of a course.
 fn course_holds(course: &Course)
-    ensures kept { ∥ IsKept (session_history course.now) ∥₁ }
-    ensures lead { StepsLead (session_trail course.now) }
-    ensures between { IsSmall (session_trail course.now) → StepsAreBetween (session_trail course.now) }
-    ensures least { IsSmall (session_trail course.now) → HasLeast (session_trail course.now) }
+    ensures { HoldsSteps course.now }
 {
     texts_kept();
     steps_lead();
@@ -81,11 +73,4 @@ pub(crate) fn written_is_laid_out()
     proper_stays();
     tidy_settles();
     tidy_stays();
-}
-
-/// Where what a command makes is past the limit by the comments that it puts in, the command is refused as too large.
-pub(crate) fn overfull_is_refused()
-    ensures { OverfullIsRefused }
-{
-    comments_fill();
 }

@@ -1,16 +1,18 @@
-//! Lines in the place of others of a tree.
-ghost use Rattle.std.specs.Prelude.{◌≡◌, ◌≤◌, ◌+◌, ◌++◌, ◌↔◌, false, drop, length, take, IfOk, IsTrue, OnErr};
-ghost use Rattle.bz_journal.specs.Clauses.{AreIn, Ascend, IsTrail, IsTree, TakesUp, put_all, spell_node, trail_at, tree_with};
+//! The lines of a next tree, and those in the place of others of a tree.
+ghost use Rattle.std.specs.Prelude.{◌≡◌, ◌+◌, ◌↔◌, false, length, IfOk, IsTrue, OnErr};
+ghost use Rattle.bz_journal.specs.Clauses.{AreIn, AreSpliced, Ascend, IsTrail, IsTree, TakesUp, put_all, spell_node, trail_at, tree_with};
 
 use bz_edit::Step;
 use bz_grammar::{Part, Tree};
-use bz_history::{take_up_across, take_up_at};
+use bz_history::{take_up, take_up_across, take_up_at};
 use bz_items::Memory;
 use bz_relayout::{Relaid, Respliced};
 
-/// Lines that are laid out anew, and where they are in a tree.
+/// The lines of a next tree, or those that are laid out anew and where they are in the present one.
 #[derive(Drop)]
 pub(crate) enum Lines {
+    /// All, as a tree.
+    Whole(Tree),
     /// Each in the place of one.
     Exchanged(Relaid),
     /// All in the place of some adjacent ones.
@@ -47,14 +49,6 @@ fn are_same(a: &[Part], b: &[Part]) -> bool
     true
 }
 
-/// Whether these lines are the parts from a place on, as many as they are.
-fn stand_across(at: usize, gone: usize, lines: &[Part], parts: &[Part]) -> bool
-    requires { at + gone ≤ length parts.now }
-    ensures { IsTrue result ↔ (take at parts.now ++ lines.now ++ drop (at + gone) parts.now ≡ parts.now) }
-{
-    are_same(&parts[at..at + gone], lines)
-}
-
 /// Whether the tree stays the same one with these lines.
 pub(crate) fn stand_in(lines: &Lines, tree: &Tree) -> bool
     requires { AreIn lines.now tree.now }
@@ -62,15 +56,9 @@ pub(crate) fn stand_in(lines: &Lines, tree: &Tree) -> bool
 {
     let parts = tree.root.parts.as_slice();
     match lines {
-        Lines::Exchanged(relaid) => {
-            stand_there(relaid.places.as_slice(), relaid.lines.as_slice(), parts)
-        }
-        Lines::Spliced(respliced) => stand_across(
-            respliced.at,
-            respliced.gone,
-            respliced.lines.as_slice(),
-            parts,
-        ),
+        Lines::Whole(new) => are_same(new.root.parts.as_slice(), parts),
+        Lines::Exchanged(new) => stand_there(new.places.as_slice(), new.lines.as_slice(), parts),
+        Lines::Spliced(new) => are_same(&parts[new.at..new.at + new.gone], new.lines.as_slice()),
     }
 }
 
@@ -87,10 +75,14 @@ pub(crate) fn take_up_lines(
     requires next { IsTree (tree_with lines tree.old) }
     requires other { spell_node (tree_with lines tree.old) ≡ spell_node tree.old → ⊥ }
     ensures ok { IfOk result (λ taken. IsTrue taken → TakesUp (trail_at tree.old steps.old.items cursor) (tree_with lines tree.old) (trail_at tree.new steps.new.items (cursor + 1))) }
-    ensures stays { IfOk result (λ taken. taken ≡ false → (tree.new ≡ tree.old) × (steps.new.items ≡ steps.old.items)) }
+    ensures stays { IfOk result (λ taken. taken ≡ false → AreSpliced lines × (tree.new ≡ tree.old) × (steps.new.items ≡ steps.old.items)) }
     ensures err { OnErr result ((tree.new ≡ tree.old) × (steps.new.items ≡ steps.old.items)) }
 {
     match lines {
+        Lines::Whole(next) => {
+            take_up(tree, steps, cursor, next)?;
+            Ok(true)
+        }
         Lines::Exchanged(relaid) => {
             let Relaid { places, mut lines } = relaid;
             take_up_at(tree, steps, cursor, places.as_slice(), lines.as_mut_slice())?;

@@ -1,6 +1,6 @@
 //! The texts of a session, listed.
 ghost use Rattle.std.specs.Prelude.{◌≡◌, ◌+◌, ◌++◌, IfOk, OnOk, length};
-ghost use Rattle.bz_journal.specs.Clauses.{lines_of_texts, noted, text_line, text_lines_from};
+ghost use Rattle.bz_journal.specs.Clauses.{lines_of_texts, noted, text_line};
 
 use bz_items::{Memory, Text};
 use bz_journal_format::{hex_digits, push_number};
@@ -42,29 +42,6 @@ fn put_line(
     Ok(())
 }
 
-/// Appends the lines of the texts after the first one. The error: a growth was refused.
-fn put_lines(
-    out: &mut Vec<u8>,
-    cursor: usize,
-    notes: &[Text],
-    digests: &[[u8; 32]],
-) -> Result<(), Memory>
-    requires { length digests.now ≡ length notes.now }
-    ensures { OnOk result (out.new.items ≡ out.old.items ++ text_lines_from cursor 1 notes.now digests.now) }
-{
-    for i in 0..notes.len() {
-        let number = i + 1;
-        put_line(
-            out,
-            number == cursor,
-            number,
-            &digests[i],
-            notes[i].as_slice(),
-        )?;
-    }
-    Ok(())
-}
-
 /// The listing of the texts that have these digests, with the notes of the steps between them. The error: a growth was refused.
 pub(crate) fn listed(
     alloc: Global,
@@ -76,10 +53,14 @@ pub(crate) fn listed(
     ensures { IfOk result (λ text. text ≡ lines_of_texts cursor notes.now digests.now) }
 {
     let mut out = Vec::new(alloc);
-    let Some((first, digests)) = digests.split_first() else {
+    let Some((first, rest)) = digests.split_first() else {
         return Ok(Text::from_vec(out));
     };
     put_line(&mut out, cursor == 0, 0, first, b"")?;
-    put_lines(&mut out, cursor, notes, digests)?;
+    for i in 0..notes.len() {
+        let number = i + 1;
+        let note = notes[i].as_slice();
+        put_line(&mut out, number == cursor, number, &rest[i], note)?;
+    }
     Ok(Text::from_vec(out))
 }

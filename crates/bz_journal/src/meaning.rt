@@ -1,17 +1,13 @@
 //! What a command makes of the value of a tree.
-ghost use Rattle.std.specs.Prelude.{◌≡◌, ◌⊎◌, ◌↔◌, List, Ok, Err, IfOk, IfErr, IfSome, IsTrue, OnOk, option_map};
+ghost use Rattle.std.specs.Prelude.{◌≡◌, ◌⊎◌, ◌↔◌, List, Ok, Err, IfOk, IfErr, IfSome, IsTrue, OnOk};
 ghost use Rattle.bz_journal.specs.Clauses.{Bytes, IsOfExtent, Item, Overfills, Refusal, effect, lines_of, printed, printed_answer, view_of};
-ghost use Rattle.std.specs.Option.{unwrap_or};
 
-use crate::laws::overfull_is_refused;
-use bz_build_format::{reads_back, written};
 use bz_command::{Ran, lines_matter, looks_at_lines, overfills, run_in};
 use bz_command_syntax::Command;
 use bz_grammar::Tree;
 use bz_hosts::view;
 use bz_items::{Memory, Text};
 use bz_label::Target;
-use bz_rule::take_apart;
 use bz_value::{File, Refusal};
 use std::alloc::Global;
 
@@ -19,11 +15,7 @@ use std::alloc::Global;
 pub(crate) fn printed_answer(command: &Command, printed: Text) -> Option<Text>
     ensures { result ≡ printed_answer command.now (Ok printed) }
 {
-    if command.prints() {
-        Some(printed)
-    } else {
-        None
-    }
+    command.prints().then_some(printed)
 }
 
 /// The value of a tree: the one that is kept, or one that is made. The error: memory was refused.

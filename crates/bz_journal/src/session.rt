@@ -1,14 +1,13 @@
 //! A session: the history of one file, with the SHA-256 of each text.
-ghost use Rattle.std.specs.Prelude.{◌≡◌, ◌≤◌, ◌<◌, ◌+◌, ◌++◌, ◌↔◌, List, map, slice_get, option_map, vec_len, vec_capacity, Err, ℕ, IfOk, IfErr, OnOk, OnErr, IsOk, [], length, Result};
-ghost use Rattle.std.specs.Str.{IsValidUpTo};
-ghost use Rattle.bz_journal.specs.Clauses.{Accepted, Acts, HasActed, IsFormat, IsFormatted, IsOfText, IsOverEven, IsSmall, IsWrittenSince, KeepsPair, MakesText, Refusal, Reply, Runs, action_in, limit, listing, note_limit, opened, present, session_history, session_trail, sha256, spell_node};
+ghost use Rattle.std.specs.Prelude.{◌≡◌, ◌≤◌, ◌<◌, ◌+◌, ◌++◌, List, map, slice_get, option_map, vec_len, vec_capacity, Err, IfOk, OnOk, OnErr, IsOk, [], length, Result};
+ghost use Rattle.bz_journal.specs.Clauses.{HasActed, IsSmall, IsWrittenSince, KeepsPair, MakesText, OpensText, Refusal, Reply, Runs, action_in, limit, listing, present, session_history, session_trail, sha256, spell_node};
 ghost use Rattle.bz_edit.specs.Steps.{weight as weight_held};
 
 use crate::action::{Action, Reply, is_changed};
 use crate::beside::{Beside, act};
 use crate::course::{Course, MOST_NOTE, begin, text_of};
 use crate::digest::digest_of;
-use crate::digests::{one_digest, put_after};
+use crate::digests::put_after;
 use crate::keeping::{KeepFault, Written, persist};
 use crate::listing::listed;
 use bz_edit::{Step, weight};
@@ -67,22 +66,14 @@ fn session_of(course: Course, digests: Vec<[u8; 32]>) -> Session
     requires { digests.items ≡ map sha256 (session_history course).texts }
     ensures { result ≡ course }
 {
-    let Course {
-        tree,
-        steps,
-        notes,
-        package,
-        cursor,
-        before,
-    } = course;
     Session {
-        tree,
-        steps,
+        tree: course.tree,
+        steps: course.steps,
         digests,
-        notes,
-        package,
-        cursor,
-        before,
+        notes: course.notes,
+        package: course.package,
+        cursor: course.cursor,
+        before: course.before,
     }
 }
 
@@ -92,21 +83,11 @@ impl Session {
     /// UTF-8; a fault with line and column where the text reads as no tree; `Memory` where a growth was refused.
     pub fn open(alloc: Global, package: &str, text: &[u8]) -> Result<Session, ReadFault>
         requires { length «package».now ≤ 65536 }
-        ensures ok { IfOk result (λ session. session_history session ≡ opened «package».now text.now) }
-        ensures small { IfOk result (λ session. IsSmall (session_trail session)) }
-        ensures accepted { OnOk result (Accepted text.now) }
-        ensures too_large { (result ≡ Err ReadFault.TooLarge) ↔ (limit < length text.now) }
-        ensures not_utf8 { (at : ℕ) → ((result ≡ Err (ReadFault.NotUtf8 at)) ↔ ((length text.now ≤ limit) × IsValidUpTo text.now at)) }
-        ensures refused { IfErr result (λ fault. IsOfText fault → Accepted text.now → ⊥) }
+        ensures { OpensText «package».now text.now result }
     {
-        let course = match begin(alloc, package, text) {
-            Ok(course) => course,
-            Err(fault) => return Err(fault),
-        };
-        match one_digest(alloc, Sha256::digest(text)) {
-            Ok(digests) => Ok(session_of(course, digests)),
-            Err(_) => Err(ReadFault::Memory),
-        }
+        let course = begin(alloc, package, text)?;
+        let digests = Vec::from_slice(alloc, &[Sha256::digest(text)])?;
+        Ok(session_of(course, digests))
     }
 
     /// The path of the file's package.
@@ -127,10 +108,7 @@ impl Session {
     pub fn digest(&self, i: u32) -> Option<[u8; 32]>
         ensures { result ≡ option_map sha256 (slice_get (session_history self.now).texts i) }
     {
-        match bz_items::at(self.digests(), i as usize) {
-            Some(digest) => Some(*digest),
-            None => None,
-        }
+        bz_items::at(self.digests(), i as usize).copied()
     }
 
     /// The number of the present text; the first is 0.
@@ -183,22 +161,13 @@ impl Session {
         ensures { IfOk result (λ text. text ≡ listing (session_history self.now)) }
     {
         texts_kept();
-        listed(
-            alloc,
-            self.cursor as usize,
-            self.notes.as_slice(),
-            self.digests(),
-        )
+        let notes = self.notes.as_slice();
+        listed(alloc, self.cursor as usize, notes, self.digests())
     }
 
     /// Does an action with an empty note, as `act_noted` does.
     pub fn act(&mut self, action: &Action<'_>) -> Result<Reply, Refusal>
-        ensures acts { Acts (action_in action.now) [] (session_history self.old) result (session_history self.new) }
-        ensures formatted { OnOk result (IsFormat (action_in action.now) → IsFormatted (present (session_history self.old)) (present (session_history self.new))) }
-        ensures err { OnErr result (session_history self.new ≡ session_history self.old) }
-        ensures unmoved { OnErr result (self.new ≡ self.old) }
-        ensures even { IsOverEven (action_in action.now) (session_trail self.old) → IsOk result }
-        ensures small { IsSmall (session_trail self.old) → IsSmall (session_trail self.new) }
+        ensures { HasActed (action_in action.now) [] self.old result self.new }
     {
         self.act_noted(action, "")
     }
@@ -210,12 +179,7 @@ impl Session {
     /// edits hold as many parts as they cover. After formatting the present text is formatted: to format it once more leaves it
     /// as it is.
     pub fn act_noted(&mut self, action: &Action<'_>, note: &str) -> Result<Reply, Refusal>
-        ensures acts { Acts (action_in action.now) note.now (session_history self.old) result (session_history self.new) }
-        ensures formatted { OnOk result (IsFormat (action_in action.now) → IsFormatted (present (session_history self.old)) (present (session_history self.new))) }
-        ensures err { OnErr result (session_history self.new ≡ session_history self.old) }
-        ensures unmoved { OnErr result (self.new ≡ self.old) }
-        ensures even { length note.now ≤ note_limit → IsOverEven (action_in action.now) (session_trail self.old) → IsOk result }
-        ensures small { IsSmall (session_trail self.old) → IsSmall (session_trail self.new) }
+        ensures { HasActed (action_in action.now) note.now self.old result self.new }
     {
         replace_with(self, (action, note), acted)
     }
@@ -293,24 +257,15 @@ impl Session {
         ensures course { result.0 ≡ self }
         ensures digests { result.1.items ≡ map sha256 (session_history self).texts }
     {
-        let Session {
-            tree,
-            steps,
-            digests,
-            notes,
-            package,
-            cursor,
-            before,
-        } = self;
         let course = Course {
-            tree,
-            steps,
-            notes,
-            package,
-            cursor,
-            before,
+            tree: self.tree,
+            steps: self.steps,
+            notes: self.notes,
+            package: self.package,
+            cursor: self.cursor,
+            before: self.before,
         };
-        (course, digests)
+        (course, self.digests)
     }
 }
 

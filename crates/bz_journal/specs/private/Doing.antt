@@ -1,10 +1,16 @@
 -- What is done to a session: what is answered, and the session after it.
-use Rattle.std.specs.Prelude.{◌≡◌, ◌⊎◌, Err, OnErr}
+use Rattle.std.specs.Prelude.{◌≡◌, ◌⊎◌, ◌≤◌, length, Option, None, Some, Result, Ok, Err, OnErr}
+use Rattle.bz_grammar.specs.declared.tree.Node.{Node}
+use Rattle.bz_value.specs.declared.refusal.Refusal.{Refusal}
 use Rattle.bz_value.specs.declared.refusal.Refusal.TheVariants.{Memory}
 use Rattle.bz_items.specs.Characters.{Bytes}
 use Rattle.bz_history.specs.Trails.{IsSmall}
 use Rattle.bz_journal.specs.Actions.{Action}
-use Rattle.bz_journal.specs.History.{Answer, History, MakesOrWants}
+use Rattle.bz_journal.specs.declared.action.Reply.{Reply}
+use Rattle.bz_journal.specs.declared.beside.Beside.{Beside}
+use Rattle.bz_journal.specs.Editing.{IsBeside}
+use Rattle.bz_journal.specs.History.{Answer, History, MakesOrWants, note_limit}
+use Rattle.bz_journal.specs.Lookups.{AreLookupsOf}
 use Rattle.bz_journal.specs.Shown.{session_history}
 use Rattle.bz_journal.specs.State.{SessionState, session_trail}
 
@@ -14,8 +20,21 @@ pub record EndsAt (end : Answer × History) (s : SessionState) (answer : Answer)
   pub unmoved : OnErr answer (t ≡ s)
   pub small : IsSmall (session_trail s) → IsSmall (session_trail t)
 
+-- the same, or nothing was done since the step isn't known
+abbrev pub EndsOrNone : Answer × History → SessionState → Result (Option Reply) Refusal → SessionState → Type 0
+EndsOrNone end s (Ok None) t = t ≡ s
+EndsOrNone end s (Ok (Some reply)) t = EndsAt end s (Ok reply) t
+EndsOrNone end s (Err refusal) t = EndsAt end s (Err refusal) t
+
 -- the same, of what an action makes
 pub record HasMade (action : Action) (note : Bytes) (s : SessionState) (answer : Answer) (t : SessionState) : Type 0 where
   pub makes : MakesOrWants action note (session_history s) answer (session_history t)
   pub unmoved : OnErr answer (t ≡ s)
   pub small : IsSmall (session_trail s) → IsSmall (session_trail t)
+
+-- The note isn't too long, no value is kept beside the session, and nothing was looked up.
+pub record IsReady (note : Bytes) (tree : Node) (beside : Beside) : Type 0 where
+  pub short : length note ≤ note_limit
+  pub none : beside.value ≡ None
+  pub own : IsBeside tree beside
+  pub looked : (other : Node) → AreLookupsOf beside.lookups other

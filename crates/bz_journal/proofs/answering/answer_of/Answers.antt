@@ -10,12 +10,12 @@ none_of (Some x) e = absurd (true≢false e)
 
 pub returns-else-is_some : goal.returns-else-is_some
 returns-else-is_some c = λ note.
-    edited_same note c.args.command.now c.args.target.now (session_history c.args.course.now) c.as_bytes.result.now c.present-here.result.now c.args.file.now c.args.file.now c.in-Ok.outcome.printed
-    c.printed_answer.result c.unchanged.result (c.as_bytes.ensures.value ∙ c.own_package.ensures) c.present-here.ensures.text c.reads_back.ensures (c.requires.value ∙ sym (ap view_of c.present-here.ensures.tree))
+    edited_same note c.args.command.now c.args.target.now (session_history c.args.course.now) c.as_bytes-current.result.now c.present-here.result.now c.args.file.now c.args.file.now c.in-Ok.outcome.printed
+    c.printed_answer.result c.unchanged.result (c.as_bytes-current.ensures.value ∙ c.own_package.ensures) c.present-here.ensures.text c.reads_back.ensures (c.requires.value ∙ sym (ap view_of c.present-here.ensures.tree))
     (c.in-Ok.ensures.ok (none_of c.in-Ok.outcome.file (sym c.is_some.ensures ∙ c.if-is_some.false))) refl
     c.in-Ok.ensures.printed c.printed_answer.ensures c.unchanged.ensures
 
 pub returns-in-Err : goal.returns-in-Err
 returns-in-Err c = λ note.
-    edited_refused note c.args.command.now c.args.target.now (session_history c.args.course.now) c.as_bytes.result.now c.present-here.result.now c.args.file.now c.in-Err.refusal (c.as_bytes.ensures.value ∙ c.own_package.ensures)
+    edited_refused note c.args.command.now c.args.target.now (session_history c.args.course.now) c.as_bytes-current.result.now c.present-here.result.now c.args.file.now c.in-Err.refusal (c.as_bytes-current.ensures.value ∙ c.own_package.ensures)
     c.present-here.ensures.text c.reads_back.ensures (c.requires.value ∙ sym (ap view_of c.present-here.ensures.tree)) c.in-Err.ensures.err

@@ -18,7 +18,7 @@ returns-in-Ok-clause-beside c =
     let short : length (layout c.args.file) ≤ limit = subst (λ (t : Bytes). length t ≤ limit) taken.2 c.reads_back.ensures.2 in
     record {
       seen = taken.0 ∙ ap view_of c.present.ensures.tree;
-      looked = c.requires.looked _;
+      looked = c.requires.ready.looked _;
       written = λ _. subst (λ (n : Node). IsWritten (view_of n) n) c.present.ensures.tree taken.1;
       length_bound = λ _. subst (λ (t : Bytes). length t ≤ c.args.most) (sym taken.2 ∙ ap spell_node c.present.ensures.tree) (c.requires.most short);
     }

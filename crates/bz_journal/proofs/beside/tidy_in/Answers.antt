@@ -1,4 +1,3 @@
-use Rattle.std.proofs.Common.{◌∙◌, ap, length}
 use Rattle.bz_hosts.specs.View.{view_of}
 use Rattle.bz_journal.proofs.Edited.{exchanged_length}
 use Rattle.bz_journal.proofs.beside.tidy_in.Goals as goal

@@ -2,24 +2,29 @@ use Rattle.std.proofs.Common.{List, ◌≡◌, ◌<◌, ◌+◌, ◌++◌, ◌�
 use Rattle.bz_grammar.specs.declared.tree.Node.{Node}
 use Rattle.bz_grammar.specs.Spell.{spell_node}
 use Rattle.bz_items.specs.Characters.{Bytes}
-use Rattle.bz_history.specs.Shown.{TakesUp, texts_of}
+use Rattle.bz_history.specs.Shown.{TakesUp}
 use Rattle.bz_history.specs.Trails.{trail_at}
 use Rattle.bz_journal.specs.History.{most_steps}
+use Rattle.bz_journal.specs.private.Lines.{tree_with}
 use Rattle.bz_journal.specs.State.{SessionState, IsSession, session_trail}
 use Rattle.bz_journal.proofs.Kept.{HasExtended, extended, session_present}
 use Rattle.bz_journal.proofs.course.Course.extend.Goals as goal
 
-pub take_up-requires-clause-other : goal.take_up-requires-clause-other
-take_up-requires-clause-other c = λ same.
+pub take_up_lines-requires-clause-other : goal.take_up_lines-requires-clause-other
+take_up_lines-requires-clause-other c = λ same.
     let s : SessionState = c.args.self.now in
-    c.requires.other (same ∙ ap (λ (t : SessionState). spell_node t.tree) c.self.view_is ∙ session_present c.texts_kept.ensures s (subst (λ (t : SessionState). IsSession t) c.self.view_is c.self.invariant))
+    let own : tree_with c.args.lines c.self.inside.tree ≡ tree_with c.args.lines s.tree =
+    ap (λ (t : SessionState). tree_with c.args.lines t.tree) c.self.view_is in
+    c.requires.other (ap spell_node (sym own) ∙ same ∙ ap (λ (t : SessionState). spell_node t.tree) c.self.view_is
+    ∙ session_present c.texts_kept.ensures s (subst (λ (t : SessionState). IsSession t) c.self.view_is c.self.invariant))
 
 pub invariant_of-self-2 : goal.invariant_of-self-2
 invariant_of-self-2 c =
     let s : SessionState = record { tree = c.self.inside.tree; steps = c.self.inside.steps.items; notes = c.self.inside.notes.items; «package» = string_bytes c.self.inside.«package»; cursor = c.self.inside.cursor; before = c.self.inside.before } in
+    let next : Node = tree_with c.args.lines c.self.inside.tree in
     let room : c.self.inside.cursor < most_steps = subst (λ (t : SessionState). t.cursor < most_steps) (sym c.self.view_is) c.requires.room in
     let notes : c.put_after.new.items.items ≡ take c.self.inside.cursor c.self.inside.notes.items ++ c.args.note.now ∷ [] =
     c.put_after.ensures ∙ ap (λ (l : List Bytes). take c.self.inside.cursor l ++ c.in_ok-note.note ∷ []) c.reserve.ensures.items
     ∙ ap (λ (d : Bytes). take c.self.inside.cursor c.self.inside.notes.items ++ d ∷ []) (c.in_ok-note.ensures ∙ c.as_bytes.ensures.value) in
-    let takes : TakesUp (session_trail s) c.args.next (trail_at c.take_up.new.tree c.take_up.new.steps.items (c.self.inside.cursor + 1)) = c.in_ok-take_up.ensures.ok in
-    HasExtended.session (extended c.texts_kept.ensures s c.args.next c.take_up.new.tree c.take_up.new.steps.items c.put_after.new.items.items c.args.note.now c.self.invariant room (c.requires.short, search rules) takes notes)
+    let takes : TakesUp (session_trail s) next (trail_at c.take_up_lines.new.tree c.take_up_lines.new.steps.items (c.self.inside.cursor + 1)) = c.in_ok-taken.ensures.ok c.if-not-taken.false in
+    HasExtended.session (extended c.texts_kept.ensures s next c.take_up_lines.new.tree c.take_up_lines.new.steps.items c.put_after.new.items.items c.args.note.now c.self.invariant room (c.requires.short, search rules) takes notes)

@@ -17,5 +17,5 @@ listed-requires c =
       session_counted c.texts_kept.ensures s own,
       own.noted,
       ap (λ (t : SessionState). length t.notes) c.self.view_is,
-      ap length c.as_slice.ensures.value,
+      ap length c.as_slice-notes.ensures.value,
     )

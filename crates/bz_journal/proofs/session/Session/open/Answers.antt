@@ -1,8 +1,8 @@
-use Rattle.bz_journal.proofs.Opening.{opened_answers, refused_answers}
+use Rattle.std.proofs.lemmas.Result.{err_from_is_err_and}
+use Rattle.bz_journal.proofs.Opening.{refused_of}
 use Rattle.bz_journal.proofs.session.Session.open.Goals as goal
 
-pub returns-in-Ok-one_digest-clause-not_utf8 : goal.returns-in-Ok-one_digest-clause-not_utf8
-returns-in-Ok-one_digest-clause-not_utf8 c = opened_answers c.args.text.now _ _ c.in-Ok.ensures.not_utf8
-
-pub returns-in-Err-one_digest-clause-not_utf8 : goal.returns-in-Err-one_digest-clause-not_utf8
-returns-in-Err-one_digest-clause-not_utf8 c = refused_answers c.args.text.now _ c.in-Ok.ensures.not_utf8
+pub returns-in_err-digests : goal.returns-in_err-digests
+returns-in_err-digests c =
+    let p = err_from_is_err_and c.from_residual-in_err-digests.result c.from_residual-in_err-digests.ensures.1 in
+    rw (p.1, p.2) (refused_of c.args.«package».now c.args.text.now c.in_ok-course.course c.in_ok-course.ensures.too_large c.in_ok-course.ensures.not_utf8)

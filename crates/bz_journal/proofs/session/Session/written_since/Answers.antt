@@ -1,4 +1,4 @@
-use Rattle.std.proofs.Common.{◌≢◌, ◌∙◌, refl}
+use Rattle.std.proofs.Common.{◌∙◌, refl}
 use Rattle.bz_journal.proofs.Following.{has_moved}
 use Rattle.bz_journal.proofs.session.Session.written_since.Goals as goal
 

@@ -1,6 +1,0 @@
-use Rattle.std.proofs.Common.{◌≡◌, ◌+◌, ◌++◌, drop}
-use Rattle.bz_journal.specs.Listing.{text_lines_from}
-use Rattle.bz_journal.proofs.listing.put_lines.Given as goal
-
-abbrev pub invariant-loop-i : goal.invariant-loop-i
-invariant-loop-i l = l.out.items ++ text_lines_from l.cursor (l.i + 1) (drop l.i l.notes) (drop l.i l.digests) ≡ l.fn.out.items ++ text_lines_from l.cursor 1 l.notes l.digests
