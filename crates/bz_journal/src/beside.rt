@@ -11,7 +11,7 @@ use crate::laws::written_is_laid_out;
 use crate::lines::Lines;
 use crate::meaning::{printed_answer, run_on_tree, value_of};
 use bz_build_format::{comments_fill, laid_out_of, reads_back, written};
-use bz_command::Extent;
+use bz_command::{Extent, Spliced};
 use bz_command_syntax::Command;
 use bz_grammar::{LENGTH_LIMIT, Tree};
 use bz_items::{Items, Memory, Text};
