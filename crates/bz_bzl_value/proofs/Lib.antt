@@ -4,6 +4,7 @@ pub mod BuildFiles
 pub mod BuildItems
 pub mod Colons
 pub mod Ends
+pub mod EndsByPlaces
 pub mod Groups
 pub mod HeadParts
 pub mod JoinedFiles
@@ -20,3 +21,8 @@ pub mod ProperHeads
 pub mod ProperLines
 pub mod ProperSuites
 pub mod ProperValues
+pub mod SuiteHeaders
+pub mod SuiteLines
+pub mod SuitePieces
+pub mod SuiteReads
+pub mod SuiteValues

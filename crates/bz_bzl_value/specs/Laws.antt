@@ -1,5 +1,6 @@
 -- Laws of what a .bzl file says.
 use Rattle.std.specs.Prelude.{◌≡◌, ◌↔◌, All, List, map}
+use Rattle.std.specs.List.{flat_map}
 use Rattle.bz_items.specs.Characters.{Bytes}
 use Rattle.bz_grammar.specs.declared.tree.Node.{Node}
 use Rattle.bz_grammar.specs.Legal.{Legal, LegalBzl}
@@ -8,6 +9,7 @@ use Rattle.bz_value.specs.Counted.{times}
 use Rattle.bz_value.specs.Proper.{IsProper}
 use Rattle.bz_hosts.specs.View.{view_of}
 use Rattle.bz_bzl_value.specs.BuildValues.{IsBuildItem}
+use Rattle.bz_bzl_value.specs.BzlHosts.{alone, bzl_hosts_of, bzl_hosted_in}
 use Rattle.bz_bzl_value.specs.Kept.{bzl_times}
 use Rattle.bz_bzl_value.specs.Proper.{IsProperBzl}
 use Rattle.bz_bzl_value.specs.View.{bzl_item, bzl_view_of}
@@ -27,3 +29,8 @@ BuildItemsAreProper = (items : List Item) → IsProper items ↔ (IsProperBzl (m
 -- They have each comment as often.
 abbrev pub BuildItemsHaveTheSameComments : Type 0
 BuildItemsHaveTheSameComments = (text : Bytes) (items : List Item) → bzl_times text (map bzl_item items) ≡ times text items
+
+-- In what a legal tree says, the comments of each Block and of the end of each suite are those that their places in the text give
+-- it.
+abbrev pub EndsByPlace : Type 0
+EndsByPlace = (tree : Node) → LegalBzl tree → flat_map alone (bzl_hosts_of (bzl_view_of tree)) ≡ flat_map alone (bzl_hosted_in tree)
