@@ -27,7 +27,7 @@ use Rattle.bz_bzl_value.specs.declared.value.Statement.{Statement}
 use Rattle.bz_bzl_value.specs.declared.value.Statement.TheVariants as st
 use Rattle.bz_bzl_value.specs.declared.value.BzlItem.{BzlItem}
 use Rattle.bz_bzl_value.specs.declared.value.BzlItem.TheVariants as b
-use Rattle.bz_bzl_value.specs.BzlHosts.{Suite, Stretch, simple_line, header, Placed, placed, placed_row, in_statement, in_compound, one_by_one, regions_in, suites_in, Page, suite_end, left_by, lines_above, left_above, lines_of_leaf, first_leaf, stretch_hosts, statement_hosts, bzl_hosted_from, inside_statement, inside_bzl_item, alone}
+use Rattle.bz_bzl_value.specs.BzlHosts.{Suite, Stretch, simple_line, header, Placed, placed, placed_row, in_statement, in_compound, one_by_one, regions_in, suites_in, Page, suite_end, left_by, lines_above, left_above, lines_of_leaf, first_leaf, stretch_hosts, statement_hosts, bzl_hosted_from, inside_statement, inside_bzl_item, only_blocks}
 use Rattle.bz_bzl_value.specs.Laws.{EndsByPlace}
 use Rattle.bz_bzl_value.specs.View.{ReadStatements, stated, stated_row, statement_read, suite_in, compound_read, branches, indented_lines_before, margin_of, block_items, bzl_items}
 use Rattle.bz_bzl_value.proofs.HeadParts.{after_stmt}
@@ -76,7 +76,7 @@ module _ (page : Page) where
     ends = λ front back i d s'.
         let after : Lines = indented (gap_of back) in
         let own = (branches kind [] group after (map stated xs) after).0 in
-        ap (flat_map alone) (append-nil (inside_statement (st.Compound own))) ∙ (compound_alone own ∙ (h n group after).ends front back i d s');
+        ap (flat_map only_blocks) (append-nil (inside_statement (st.Compound own))) ∙ (compound_alone own ∙ (h n group after).ends front back i d s');
   }
 
   abbrev AsStatement : Part → Type 0
@@ -173,35 +173,35 @@ module _ (page : Page) where
 
   -- ---- by the places
 
-  hosts_silent : (cs : List Comment) (rs : List Region) → flat_map alone (map (hosted_at page.regions cs) rs) ≡ []
+  hosts_silent : (cs : List Comment) (rs : List Region) → flat_map only_blocks (map (hosted_at page.regions cs) rs) ≡ []
   hosts_silent cs [] = refl
   hosts_silent cs (host first following next ∷ rs) = hosts_silent cs rs
   hosts_silent cs (between open_break following ∷ rs) = hosts_silent cs rs
 
-  group_silent : (group : List Bytes) (hs : List Hosted) → flat_map alone hs ≡ [] → flat_map alone (with_group group hs) ≡ []
+  group_silent : (group : List Bytes) (hs : List Hosted) → flat_map only_blocks hs ≡ [] → flat_map only_blocks (with_group group hs) ≡ []
   group_silent group [] h = h
   group_silent group (hosted before suffix ∷ hs) h = h
   group_silent group (block texts ∷ hs) h = h
   group_silent group (ended texts ∷ hs) h = h
 
-  stretch_alone : (group : List Bytes) (x : Stretch) → flat_map alone (stretch_hosts page group x) ≡ ends_of page x
+  stretch_alone : (group : List Bytes) (x : Stretch) → flat_map only_blocks (stretch_hosts page group x) ≡ ends_of page x
   stretch_alone group (simple_line n rs) = group_silent group (map (hosted_at page.regions (comments_from 0 page.leaves)) rs) (hosts_silent (comments_from 0 page.leaves) rs)
   stretch_alone group (header n following rs own) =
       let cs : List Comment = comments_from 0 page.leaves in
-      flat_map-append alone (map (hosted_at page.regions cs) rs) (block (suite_end page own) ∷ []) ∙ ap (λ (z : List Hosted). z ++ block (suite_end page own) ∷ []) (hosts_silent cs rs)
+      flat_map-append only_blocks (map (hosted_at page.regions cs) rs) (block (suite_end page own) ∷ []) ∙ ap (λ (z : List Hosted). z ++ block (suite_end page own) ∷ []) (hosts_silent cs rs)
 
-  along_alone : (sts : List Stretch) → flat_map alone (flat_map (λ (x : Stretch). stretch_hosts page (lines_of_leaf page (first_leaf x)) x) sts) ≡ flat_map (ends_of page) sts
+  along_alone : (sts : List Stretch) → flat_map only_blocks (flat_map (λ (x : Stretch). stretch_hosts page (lines_of_leaf page (first_leaf x)) x) sts) ≡ flat_map (ends_of page) sts
   along_alone [] = refl
   along_alone (x ∷ sts) =
       let group : List Bytes = lines_of_leaf page (first_leaf x) in
       let more : List Hosted = flat_map (λ (x : Stretch). stretch_hosts page (lines_of_leaf page (first_leaf x)) x) sts in
-      flat_map-append alone (stretch_hosts page group x) more ∙ (ap (λ (z : List Hosted). z ++ flat_map alone more) (stretch_alone group x) ∙ ap (λ (z : List Hosted). ends_of page x ++ z) (along_alone sts))
+      flat_map-append only_blocks (stretch_hosts page group x) more ∙ (ap (λ (z : List Hosted). z ++ flat_map only_blocks more) (stretch_alone group x) ∙ ap (λ (z : List Hosted). ends_of page x ++ z) (along_alone sts))
 
-  statement_alone : (group : List Bytes) (sts : List Stretch) → flat_map alone (statement_hosts page group sts) ≡ flat_map (ends_of page) sts
+  statement_alone : (group : List Bytes) (sts : List Stretch) → flat_map only_blocks (statement_hosts page group sts) ≡ flat_map (ends_of page) sts
   statement_alone group [] = refl
   statement_alone group (x ∷ sts) =
       let more : List Hosted = flat_map (λ (x : Stretch). stretch_hosts page (lines_of_leaf page (first_leaf x)) x) sts in
-      flat_map-append alone (stretch_hosts page group x) more ∙ (ap (λ (z : List Hosted). z ++ flat_map alone more) (stretch_alone group x) ∙ ap (λ (z : List Hosted). ends_of page x ++ z) (along_alone sts))
+      flat_map-append only_blocks (stretch_hosts page group x) more ∙ (ap (λ (z : List Hosted). z ++ flat_map only_blocks more) (stretch_alone group x) ∙ ap (λ (z : List Hosted). ends_of page x ++ z) (along_alone sts))
 
   -- ---- the file
 
@@ -267,12 +267,12 @@ module _ (page : Page) where
 
   file_alone : (n : ℕ) (front : List Leaf) (before : List Suite) (lines : Lines) (xs : List Part) → FileParts xs → AllByRecursion AsStatement xs → AllByRecursion Solid xs → AtParts BzlStands Begins Begins xs → page.leaves ≡ front ++ flat_map leaves_part xs → length front ≡ n
       → page.suites ≡ before ++ suites_in (one_by_one n (map placed xs)) → AllBetween 0 n before → lines ≡ left_by 0 n page.suites (lines_above page.leaves n)
-      → flat_map alone (flat_map inside_bzl_item (bzl_items lines xs)) ≡ flat_map alone (bzl_hosted_from page n xs)
+      → flat_map only_blocks (flat_map inside_bzl_item (bzl_items lines xs)) ≡ flat_map only_blocks (bzl_hosted_from page n xs)
   file_alone n front before lines [] h g w at_ leaves counted suites ahead e = absurd h
   file_alone n front before lines (p.Leaf l ∷ []) (inl h) g w at_ leaves counted suites ahead e =
       let gs : List GapLine = left_above page n in
-      ap (λ (z : Lines). flat_map alone (flat_map inside_bzl_item (block_items (groups_of (map (λ l. l.line) z)) ++ []))) e
-      ∙ ap (flat_map alone) (flat_map-append inside_bzl_item (block_items (groups_of gs)) [] ∙ ap (λ (z : List Hosted). z ++ []) (blocks_alone (groups_of gs) ∙ ap hosts_alone (all_numbered gs)))
+      ap (λ (z : Lines). flat_map only_blocks (flat_map inside_bzl_item (block_items (groups_of (map (λ l. l.line) z)) ++ []))) e
+      ∙ ap (flat_map only_blocks) (flat_map-append inside_bzl_item (block_items (groups_of gs)) [] ∙ ap (λ (z : List Hosted). z ++ []) (blocks_alone (groups_of gs) ∙ ap hosts_alone (all_numbered gs)))
   file_alone n front before lines (p.Leaf l ∷ y ∷ xs) (inl h) g w at_ leaves counted suites ahead e = absurd h.1
   file_alone n front before lines (p.Leaf l ∷ xs) (inr h) g w at_ leaves counted suites ahead e = no_such h.0
   file_alone n front before lines (Node' kind z r ∷ xs) (inl h) g w at_ leaves counted suites ahead e = no_such h.0
@@ -291,7 +291,7 @@ module _ (page : Page) where
       let own : ReadStatements (List Statement) = (stated x).statement group (indented_lines_before (map stated xs) []) in
       let own_ends : alone_of own.0 ≡ flat_map (ends_of page) sts = ap (λ z. alone_of ((stated x).statement group z).0) first ∙ ends_there n front before x xs one leaves counted split ahead bounds group in
       let own_left : own.1 ≡ left_by 0 m page.suites (lines_above page.leaves m) = ap (λ z. ((stated x).statement group z).1) first ∙ left_after n front before x xs one leaves counted split ahead bounds group in
-      let more : flat_map alone (flat_map inside_bzl_item (bzl_items own.1 xs)) ≡ flat_map alone (bzl_hosted_from page m xs) =
+      let more : flat_map only_blocks (flat_map inside_bzl_item (bzl_items own.1 xs)) ≡ flat_map only_blocks (bzl_hosted_from page m xs) =
       file_alone m (front ++ leaves_part x) (before ++ suites_in sts) own.1 xs h.1 g.1 w.1 rest_at (leaves ∙ sym (append_assoc front (leaves_part x) (flat_map leaves_part xs))) (let len = length-append front (leaves_part x) in let s' = size_leaves x in omega arith)
       (split ∙ sym (append_assoc before (suites_in sts) (suites_in (one_by_one m (map placed xs))))) (suites_passed n front before x xs one leaves counted split ahead bounds) own_left in
       let front_groups : List Hosted = hosts_alone (all_but_last (groups_of ls)) in
@@ -302,15 +302,15 @@ module _ (page : Page) where
       flat_map-append inside_bzl_item (block_items (all_but_last (groups_of ls))) (map b.Statement own.0 ++ tail)
       ∙ (ap (λ (z : List Hosted). z ++ flat_map inside_bzl_item (map b.Statement own.0 ++ tail)) (blocks_alone (all_but_last (groups_of ls)))
       ∙ ap (λ (z : List Hosted). front_groups ++ z) (flat_map-append inside_bzl_item (map b.Statement own.0) tail ∙ ap (λ (z : List Hosted). z ++ flat_map inside_bzl_item tail) (items_alone own.0))) in
-      ap (flat_map alone) items
-      ∙ (flat_map-append alone front_groups (flat_map inside_statement own.0 ++ flat_map inside_bzl_item tail)
-      ∙ (ap (λ (z : List Hosted). flat_map alone front_groups ++ z) (flat_map-append alone (flat_map inside_statement own.0) (flat_map inside_bzl_item tail)
-      ∙ (ap (λ (z : List Hosted). z ++ flat_map alone (flat_map inside_bzl_item tail)) (own_ends ∙ sym (statement_alone (right_above gs (length gs)) sts))
-      ∙ ap (λ (z : List Hosted). flat_map alone there ++ z) more))
-      ∙ (ap (λ (z : List Hosted). flat_map alone z ++ (flat_map alone there ++ flat_map alone (bzl_hosted_from page m xs))) numbered
-      ∙ (sym (append_assoc (flat_map alone (hosts_alone (map (right_above gs) (bare_lines 0 gs)))) (flat_map alone there) (flat_map alone (bzl_hosted_from page m xs)))
-      ∙ (ap (λ (z : List Hosted). z ++ flat_map alone (bzl_hosted_from page m xs)) (sym (flat_map-append alone (hosts_alone (map (right_above gs) (bare_lines 0 gs))) there))
-      ∙ sym (flat_map-append alone (hosts_alone (map (right_above gs) (bare_lines 0 gs)) ++ there) (bzl_hosted_from page m xs)))))))
+      ap (flat_map only_blocks) items
+      ∙ (flat_map-append only_blocks front_groups (flat_map inside_statement own.0 ++ flat_map inside_bzl_item tail)
+      ∙ (ap (λ (z : List Hosted). flat_map only_blocks front_groups ++ z) (flat_map-append only_blocks (flat_map inside_statement own.0) (flat_map inside_bzl_item tail)
+      ∙ (ap (λ (z : List Hosted). z ++ flat_map only_blocks (flat_map inside_bzl_item tail)) (own_ends ∙ sym (statement_alone (right_above gs (length gs)) sts))
+      ∙ ap (λ (z : List Hosted). flat_map only_blocks there ++ z) more))
+      ∙ (ap (λ (z : List Hosted). flat_map only_blocks z ++ (flat_map only_blocks there ++ flat_map only_blocks (bzl_hosted_from page m xs))) numbered
+      ∙ (sym (append_assoc (flat_map only_blocks (hosts_alone (map (right_above gs) (bare_lines 0 gs)))) (flat_map only_blocks there) (flat_map only_blocks (bzl_hosted_from page m xs)))
+      ∙ (ap (λ (z : List Hosted). z ++ flat_map only_blocks (bzl_hosted_from page m xs)) (sym (flat_map-append only_blocks (hosts_alone (map (right_above gs) (bare_lines 0 gs))) there))
+      ∙ sym (flat_map-append only_blocks (hosts_alone (map (right_above gs) (bare_lines 0 gs)) ++ there) (bzl_hosted_from page m xs)))))))
 
   all_pieces : (xs : List Part) → AllByRecursion LegalBzlPart xs → AllByRecursion AsStatement xs
   all_pieces [] h = tt

@@ -213,7 +213,7 @@ abbrev pub bzl_hosts_of : List BzlItem → List Hosted
 bzl_hosts_of items = flat_map inside_bzl_item items
 
 -- comment lines that are above no statement and no header: Blocks, and the end comments of suites
-abbrev pub alone : Hosted → List Hosted
-alone (block texts) = block texts ∷ []
-alone (hosted before suffix) = []
-alone (ended texts) = []
+abbrev pub only_blocks : Hosted → List Hosted
+only_blocks (block texts) = block texts ∷ []
+only_blocks (hosted before suffix) = []
+only_blocks (ended texts) = []

@@ -9,7 +9,7 @@ use Rattle.bz_value.specs.Counted.{times}
 use Rattle.bz_value.specs.Proper.{IsProper}
 use Rattle.bz_hosts.specs.View.{view_of}
 use Rattle.bz_bzl_value.specs.BuildValues.{IsBuildItem}
-use Rattle.bz_bzl_value.specs.BzlHosts.{alone, bzl_hosts_of, bzl_hosted_in}
+use Rattle.bz_bzl_value.specs.BzlHosts.{only_blocks, bzl_hosts_of, bzl_hosted_in}
 use Rattle.bz_bzl_value.specs.Kept.{bzl_times}
 use Rattle.bz_bzl_value.specs.Proper.{IsProperBzl}
 use Rattle.bz_bzl_value.specs.View.{bzl_item, bzl_view_of}
@@ -33,4 +33,4 @@ BuildItemsHaveTheSameComments = (text : Bytes) (items : List Item) → bzl_times
 -- In what a legal tree says, the comments of each Block and of the end of each suite are those that their places in the text give
 -- it.
 abbrev pub EndsByPlace : Type 0
-EndsByPlace = (tree : Node) → LegalBzl tree → flat_map alone (bzl_hosts_of (bzl_view_of tree)) ≡ flat_map alone (bzl_hosted_in tree)
+EndsByPlace = (tree : Node) → LegalBzl tree → flat_map only_blocks (bzl_hosts_of (bzl_view_of tree)) ≡ flat_map only_blocks (bzl_hosted_in tree)
