@@ -20,7 +20,8 @@ use Rattle.bz_value.specs.Gaps.{GapLine, groups_of, all_but_last, last_group}
 use Rattle.bz_value.specs.Indented.{indented}
 use Rattle.bz_hosts.specs.Hosts.{Region, Comment, comments_from, host, between, Hosted, block, hosted, ended, hosted_at, hosts_alone, with_group, sizes, measured, measured_row, hosts_from, right_above, bare_lines}
 use Rattle.bz_hosts.proofs.Numbered.{all_numbered, alone_numbered}
-use Rattle.bz_hosts.proofs.Parts.{size, size_leaves, measured_rows, leaves_rows, Solid}
+use Rattle.bz_hosts.proofs.Nodes.{row_solid}
+use Rattle.bz_hosts.proofs.Parts.{size, size_leaves, measured_rows, leaves_rows, Solid, part_solid}
 use Rattle.bz_hosts.proofs.QuietGaps.{Statements}
 use Rattle.bz_hosts.proofs.Walked.{gap_of}
 use Rattle.bz_bzl_value.specs.declared.value.Statement.{Statement}
@@ -35,7 +36,7 @@ use Rattle.bz_bzl_value.proofs.KeptGaps.{newline_ends}
 use Rattle.bz_bzl_value.proofs.Parts.{stated_rows}
 use Rattle.bz_bzl_value.proofs.SuiteLines.{Lines, AllBetween, all_wider, all_both, left_joined, past, beyond, first_at}
 use Rattle.bz_bzl_value.proofs.SuitePieces.{ends_of, suites_joined, Piece, same_piece, lines_there}
-use Rattle.bz_bzl_value.proofs.SuiteReads.{solid, row_solid, stated_gap, line_piece, as_read, as_line, as_statement, StatementPiece, suite_piece, as_suite}
+use Rattle.bz_bzl_value.proofs.SuiteReads.{stated_gap, line_piece, as_read, as_line, as_statement, StatementPiece, suite_piece, as_suite}
 use Rattle.bz_bzl_value.proofs.SuiteHeaders.{sizes_leaves, BranchesPiece, SuitePiece, Parted, compound_piece}
 use Rattle.bz_bzl_value.proofs.SuiteValues.{alone_of, compound_alone}
 
@@ -153,7 +154,7 @@ module _ (page : Page) where
 
   mutual
     part_piece : (x : Part) → LegalBzlPart x → AsStatement x × Parted page x
-    part_piece (p.Leaf l) h = (λ i at_. no_such i, record { suite = λ i at_. no_such i; solid = solid (p.Leaf l) h })
+    part_piece (p.Leaf l) h = (λ i at_. no_such i, record { suite = λ i at_. no_such i; solid = part_solid (p.Leaf l) h })
     part_piece (Node' kind m r) h =
         let xs : List Part = items-the_row-Part _ r in
         let inside : AllByRecursion AsStatement xs × AllByRecursion (Parted page) xs = row_piece _ r h.1 in
@@ -162,7 +163,7 @@ module _ (page : Page) where
         (ap (λ ms. n + sizes ms) (sym (measured_rows _ r))) (sym (leaves_rows _ r)) (ap (in_statement kind n) (sym (placed_rows _ r)))
         (λ after. ap (λ ss. as_read (statement_read kind ss group after)) (stated_rows _ r))
         (node_piece kind xs i h.0 (parts_of_row BzlStands Begins Begins _ r at_) inside.1 n group) in
-        (node, record { suite = own_piece (Node' kind m r) h inside.0; solid = solid (Node' kind m r) h })
+        (node, record { suite = own_piece (Node' kind m r) h inside.0; solid = part_solid (Node' kind m r) h })
 
     row_piece : (m : _) (r : Row_of-Part m) → LegalBzlRow r → AllByRecursion AsStatement (items-the_row-Part m r) × AllByRecursion (Parted page) (items-the_row-Part m r)
     row_piece m end_of-Part h = (tt, tt)
@@ -318,7 +319,7 @@ module _ (page : Page) where
 
 all_solid : (xs : List Part) → AllByRecursion LegalBzlPart xs → AllByRecursion Solid xs
 all_solid [] h = tt
-all_solid (x ∷ xs) h = (solid x h.0, all_solid xs h.1)
+all_solid (x ∷ xs) h = (part_solid x h.0, all_solid xs h.1)
 
 pub ends_by_place : EndsByPlace
 ends_by_place n h =

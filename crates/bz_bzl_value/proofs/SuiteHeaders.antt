@@ -17,21 +17,20 @@ use Rattle.bz_grammar.specs.Spots.{Begins, Along, BzlStands, AtLeaves, AtParts}
 use Rattle.bz_grammar.proofs.Balance.{no_such}
 use Rattle.bz_items.specs.Characters.{Bytes}
 use Rattle.bz_value.specs.Indented.{indented}
-use Rattle.bz_hosts.specs.Hosts.{Region, Measured, Hosted, block, sizes, measured}
+use Rattle.bz_hosts.specs.Hosts.{Region, Measured, Hosted, sizes, measured}
 use Rattle.bz_hosts.proofs.Nodes.{sizes_joined}
 use Rattle.bz_hosts.proofs.Parts.{size, size_leaves, measured_part, Solid}
 use Rattle.bz_hosts.proofs.SeenParts.{all_parted}
 use Rattle.bz_hosts.proofs.Walked.{gap_of}
-use Rattle.bz_bzl_value.specs.declared.value.Branch.{Branch}
 use Rattle.bz_bzl_value.specs.BzlHosts.{Suite, Stretch, header, Placed, placed, Page, in_header, in_compound, suite_there}
-use Rattle.bz_bzl_value.specs.View.{ReadStatements, SuiteRead, stated, branches, indented_comments}
+use Rattle.bz_bzl_value.specs.View.{indented_lines_before, stated, branches, indented_comments}
 use Rattle.bz_bzl_value.proofs.HeadParts.{Headed, InHeader, token_in, colon_headed, test_headed, for_headed, def_headed}
 use Rattle.bz_bzl_value.proofs.KeptBranches.{Elif, Else, elif_word, else_word, after_word, header_ends}
 use Rattle.bz_bzl_value.proofs.KeptGaps.{colon_is}
 use Rattle.bz_bzl_value.proofs.SuiteLines.{Lines}
 use Rattle.bz_bzl_value.proofs.SuitePieces.{PieceRead, with_left, Piece, same_piece, with_front, both_pieces}
 use Rattle.bz_bzl_value.proofs.SuiteReads.{as_suite, placed_measured, stated_gap}
-use Rattle.bz_bzl_value.proofs.SuiteValues.{alone_of, branch_alone}
+use Rattle.bz_bzl_value.proofs.SuiteValues.{branch_alone}
 
 -- ---- the parts of a header, up to its colon
 
@@ -86,34 +85,29 @@ module _ (page : Page) where
   Further kind [] = Unit {0}
   Further kind (x ∷ xs) = BranchesPiece kind (x ∷ xs) × Solid x
 
-  one_header : (kind : Kind) (hs : List Part) (mark own : Part) (back : List Part) → AllByRecursion InHeader hs → has_token s.colon_mark mark ≡ true → SuitePiece own → Further kind back → BranchesPiece kind (hs ++ mark ∷ own ∷ back)
-  one_header kind hs mark own [] c i q b n above left =
-      let f : ℕ = suc (n + sizes (map measured hs)) in
-      let rs : List Region = in_header kind n (map measured hs) in
-      let ls : List Leaf = flat_map leaves_part hs ++ leaves_part mark in
-      let len = length-append (flat_map leaves_part hs) (leaves_part mark) in
-      let e' = size_leaves mark in
-      let e'' = mark_size mark i in
-      let e = sizes_leaves hs in
-      let total = sizes_joined hs (mark ∷ own ∷ []) in
-      let cut : ls ++ leaves_part own ≡ flat_map leaves_part (hs ++ mark ∷ own ∷ []) =
-      append_assoc (flat_map leaves_part hs) (leaves_part mark) (leaves_part own)
-      ∙ (ap (λ (z : List Leaf). flat_map leaves_part hs ++ (leaves_part mark ++ z)) (sym (append-nil (leaves_part own))) ∙ sym (flat_map-append leaves_part hs (mark ∷ own ∷ []))) in
-      same_piece page n (f + size own) (n + sizes (map measured (hs ++ mark ∷ own ∷ []))) (ls ++ leaves_part own) (flat_map leaves_part (hs ++ mark ∷ own ∷ []))
-      (header n f rs (suite_there f (measured own) own) ∷ (placed own).stretches f) (in_compound kind n [] (map placed (hs ++ mark ∷ own ∷ []))) (λ after. as_suite ((stated own).suite after)) (as_branches kind above left (hs ++ mark ∷ own ∷ []))
-      (omega arith) cut
-      (ap (λ (z : List Stretch). header n f rs (suite_there f (measured own) own) ∷ z) (sym (append-nil ((placed own).stretches f))) ∙ sym (header_placed kind n f hs mark own [] refl c i))
+  -- a piece, and then the headers that follow
+  then_more : (kind : Kind) (n m : ℕ) (ls : List Leaf) (sts : List Stretch) (read : PieceRead) (back : List Part) → Piece page n m ls sts read → Further kind back
+      → Piece page n (m + sizes (map measured back)) (ls ++ flat_map leaves_part back) (sts ++ in_compound kind m [] (map placed back))
       (λ after.
-      let r : SuiteRead = (stated own).suite after in
-      ap (λ t. with_left (flat_map branch_alone t.0) t.1) (header_ends kind above left hs mark own [] after c (colon_is mark i)) ∙ ap (λ (z : List Hosted). with_left z r.1) (append-nil (block r.0.1 ∷ alone_of r.0.0)))
-      (with_front page n f (f + size own) ls (leaves_part own) (header n f rs (suite_there f (measured own) own) ∷ (placed own).stretches f) (λ after. as_suite ((stated own).suite after)) (omega arith) (q f n f rs))
-  one_header kind hs mark own (x ∷ xs) c i q b n above left =
+      let r : List Hosted × Lines = read (indented_lines_before (map stated back) after) in
+      with_left (r.0 ++ (as_branches kind (indented_comments r.1) r.1 back after).0) (as_branches kind (indented_comments r.1) r.1 back after).1)
+  then_more kind n m ls sts read [] h b =
+      same_piece page n m (m + 0) ls (ls ++ []) sts (sts ++ []) read (λ after. with_left ((read after).0 ++ []) (read after).1) (omega arith) (sym (append-nil ls)) (sym (append-nil sts)) (λ after. ap (λ (z : List Hosted). with_left z (read after).1) (append-nil (read after).0)) h
+  then_more kind n m ls sts read (x ∷ xs) h b =
       let back : List Part = x ∷ xs in
+      let r : List Hosted × Lines = read (indented (stated x).part.gap) in
+      let rest : PieceRead = as_branches kind (indented_comments r.1) r.1 back in
+      same_piece page n (m + sizes (map measured back)) (m + sizes (map measured back)) (ls ++ flat_map leaves_part back) (ls ++ flat_map leaves_part back) (sts ++ in_compound kind m [] (map placed back)) (sts ++ in_compound kind m [] (map placed back))
+      (λ after. with_left ((read (indented (gap_of (flat_map leaves_part back)))).0 ++ (rest after).0) (rest after).1) (λ after. with_left (r.0 ++ (rest after).0) (rest after).1) refl refl refl
+      (λ after. ap (λ (g : Bytes). with_left ((read (indented g)).0 ++ (rest after).0) (rest after).1) (stated_gap x (flat_map leaves_part xs) b.1))
+      (both_pieces page n m (m + sizes (map measured back)) ls (flat_map leaves_part back) sts (in_compound kind m [] (map placed back)) read rest h (b.0 m (indented_comments r.1) r.1))
+
+  one_header : (kind : Kind) (hs : List Part) (mark own : Part) (back : List Part) → AllByRecursion InHeader hs → has_token s.colon_mark mark ≡ true → SuitePiece own → Further kind back → BranchesPiece kind (hs ++ mark ∷ own ∷ back)
+  one_header kind hs mark own back c i q b n above left =
       let f : ℕ = suc (n + sizes (map measured hs)) in
       let m : ℕ = f + size own in
       let rs : List Region = in_header kind n (map measured hs) in
       let ls : List Leaf = flat_map leaves_part hs ++ leaves_part mark in
-      let more : List Leaf = flat_map leaves_part back in
       let len = length-append (flat_map leaves_part hs) (leaves_part mark) in
       let e' = size_leaves mark in
       let e'' = mark_size mark i in
@@ -121,19 +115,13 @@ module _ (page : Page) where
       let total = sizes_joined hs (mark ∷ own ∷ back) in
       let sts : List Stretch = header n f rs (suite_there f (measured own) own) ∷ (placed own).stretches f in
       let read : PieceRead = λ after. as_suite ((stated own).suite after) in
-      let r : SuiteRead = (stated own).suite (indented (stated x).part.gap) in
-      let cut : (ls ++ leaves_part own) ++ more ≡ flat_map leaves_part (hs ++ mark ∷ own ∷ back) =
-      append_assoc ls (leaves_part own) more ∙ (append_assoc (flat_map leaves_part hs) (leaves_part mark) (leaves_part own ++ more) ∙ sym (flat_map-append leaves_part hs (mark ∷ own ∷ back))) in
-      same_piece page n (m + sizes (map measured back)) (n + sizes (map measured (hs ++ mark ∷ own ∷ back))) ((ls ++ leaves_part own) ++ more) (flat_map leaves_part (hs ++ mark ∷ own ∷ back))
-      (sts ++ in_compound kind m [] (map placed back)) (in_compound kind n [] (map placed (hs ++ mark ∷ own ∷ back)))
-      (λ after. ((read (indented (gap_of more))).0 ++ (as_branches kind (indented_comments r.1) r.1 back after).0, (as_branches kind (indented_comments r.1) r.1 back after).1)) (as_branches kind above left (hs ++ mark ∷ own ∷ back))
+      let cut : (ls ++ leaves_part own) ++ flat_map leaves_part back ≡ flat_map leaves_part (hs ++ mark ∷ own ∷ back) =
+      append_assoc ls (leaves_part own) (flat_map leaves_part back) ∙ (append_assoc (flat_map leaves_part hs) (leaves_part mark) (leaves_part own ++ flat_map leaves_part back) ∙ sym (flat_map-append leaves_part hs (mark ∷ own ∷ back))) in
+      same_piece page n (m + sizes (map measured back)) (n + sizes (map measured (hs ++ mark ∷ own ∷ back))) ((ls ++ leaves_part own) ++ flat_map leaves_part back) (flat_map leaves_part (hs ++ mark ∷ own ∷ back))
+      (sts ++ in_compound kind m [] (map placed back)) (in_compound kind n [] (map placed (hs ++ mark ∷ own ∷ back))) _ (as_branches kind above left (hs ++ mark ∷ own ∷ back))
       (omega arith) cut (sym (header_placed kind n f hs mark own back refl c i))
-      (λ after.
-      let rest : ReadStatements (List Branch) = branches kind [] (indented_comments r.1) r.1 (map stated back) after in
-      ap (λ t. with_left (flat_map branch_alone t.0) t.1) (header_ends kind above left hs mark own back after c (colon_is mark i))
-      ∙ ap (λ (g : Bytes). with_left ((as_suite ((stated own).suite (indented g))).0 ++ flat_map branch_alone rest.0) rest.1) (stated_gap x (flat_map leaves_part xs) b.1))
-      (both_pieces page n m (m + sizes (map measured back)) (ls ++ leaves_part own) more sts (in_compound kind m [] (map placed back)) read (as_branches kind (indented_comments r.1) r.1 back)
-      (with_front page n f m ls (leaves_part own) sts read (omega arith) (q f n f rs)) (b.0 m (indented_comments r.1) r.1))
+      (λ after. ap (λ t. with_left (flat_map branch_alone t.0) t.1) (header_ends kind above left hs mark own back after c (colon_is mark i)))
+      (then_more kind n m (ls ++ leaves_part own) sts read back (with_front page n f m ls (leaves_part own) sts read (omega arith) (q f n f rs)) b)
 
   -- ---- if, elif, else, for and def
 

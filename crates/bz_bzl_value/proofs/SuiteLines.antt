@@ -68,7 +68,7 @@ none_leave a n (x ∷ xs) lines h =
 
 -- suites among the leaves after lo, which end at hi or before
 abbrev Between : ℕ → ℕ → Suite → Type 0
-Between lo hi x = (lo < x.first) × (x.first ≤ x.following) × (x.following ≤ hi)
+Between lo hi x = (lo < x.first) × (x.first < x.following) × (x.following ≤ hi)
 
 abbrev pub AllBetween : ℕ → ℕ → List Suite → Type 0
 AllBetween lo hi xs = AllByRecursion (Between lo hi) xs

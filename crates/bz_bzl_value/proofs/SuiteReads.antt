@@ -4,16 +4,13 @@ use Rattle.std.specs.List.{AllByRecursion, flat_map}
 use Rattle.std.proofs.lemmas.Bool.{cond-true, cond-false, eq-eqb, lt-ltb, le-ltb}
 use Rattle.std.proofs.lemmas.Grind.{flat_map-append}
 use Rattle.bz_lex.specs.declared.leaf.Leaf.{Leaf}
-use Rattle.bz_grammar.specs.declared.kind.Kind.{Kind}
-use Rattle.bz_grammar.specs.declared.kind.Kind.TheVariants as k
-use Rattle.bz_grammar.specs.declared.tree.Part.{Part, Row_of-Part, end_of-Part, more_of-Part, Node', items-the_row-Part}
+use Rattle.bz_grammar.specs.declared.tree.Part.{Part, Node'}
 use Rattle.bz_grammar.specs.declared.tree.Part.TheVariants as p
 use Rattle.bz_grammar.specs.Shapes as s
 use Rattle.bz_grammar.specs.Shapes.{Fits, Listed, After, tok, done, bzl_shape}
-use Rattle.bz_grammar.specs.Spell.{leaves_part, leaves_row}
-use Rattle.bz_grammar.specs.Legal.{IsNonterminal, LegalBzlPart, LegalBzlRow}
+use Rattle.bz_grammar.specs.Spell.{leaves_part}
+use Rattle.bz_grammar.specs.Legal.{IsNonterminal}
 use Rattle.bz_grammar.proofs.Balance.{no_such}
-use Rattle.bz_value.specs.Frames.{frame}
 use Rattle.bz_items.specs.Characters.{Bytes}
 use Rattle.bz_value.specs.Gaps.{comments_in}
 use Rattle.bz_value.specs.Indented.{indented}
@@ -21,7 +18,6 @@ use Rattle.bz_hosts.specs.View.{seen, seen_row, first_seen_gap, statements_in}
 use Rattle.bz_hosts.specs.View as v
 use Rattle.bz_hosts.specs.Hosts.{Region, Measured, Hosted, block, sizes, measured}
 use Rattle.bz_hosts.proofs.Parts.{size, Solid}
-use Rattle.bz_hosts.proofs.SeenParts.{node_gap}
 use Rattle.bz_hosts.proofs.QuietGaps.{Statements}
 use Rattle.bz_hosts.proofs.Walked.{gap_of, last_gap, last_after}
 use Rattle.bz_bzl_value.specs.declared.value.Statement.{Statement}
@@ -33,37 +29,6 @@ use Rattle.bz_bzl_value.proofs.SuitePieces.{last_joined, PieceRead, with_left, P
 use Rattle.bz_bzl_value.proofs.SuiteValues.{alone_of, alone_joined, simple_silent}
 
 -- ---- the first leaf of a part
-
-no_empty : (kind : Kind) → Fits IsNonterminal (bzl_shape kind) [] → ⊥
-no_empty k.Param (inl h) = absurd h
-no_empty k.Param (inr (inl h)) = absurd h
-no_empty k.Param (inr (inr h)) = absurd h
-no_empty k.Line h = absurd h
-no_empty _ h = absurd h
-
-abbrev SolidFirst : List Part → Type 0
-SolidFirst [] = Unit {0}
-SolidFirst (x ∷ xs) = Solid x
-
-node_solid : (kind : Kind) (m : _) (r : Row_of-Part m) → Fits IsNonterminal (bzl_shape kind) (items-the_row-Part m r) → SolidFirst (items-the_row-Part m r) →
-    (first : Leaf) × (rest : List Leaf) × (leaves_row r ≡ first ∷ rest) × (first_seen_gap (seen_row r) ≡ first.gap)
-node_solid kind m end_of-Part h s = absurd (no_empty kind h)
-node_solid kind m (more_of-Part x rest) h s = (s.first, s.rest ++ leaves_row rest, ap (λ (ls : List Leaf). ls ++ leaves_row rest) s.leaves, s.gap)
-
-mutual
-  pub solid : (x : Part) → LegalBzlPart x → Solid x
-  solid (p.Leaf l) h = record { first = l; rest = []; leaves = refl; gap = refl }
-  solid (Node' kind n r) h =
-      let w = node_solid kind _ r h.0 (first_solid _ r h.1) in
-      record { first = w.0; rest = w.1; leaves = w.2; gap = node_gap kind (seen_row r) (frame kind) ∙ w.3 }
-
-  first_solid : (m : _) (r : Row_of-Part m) → LegalBzlRow r → SolidFirst (items-the_row-Part m r)
-  first_solid m end_of-Part h = tt
-  first_solid m (more_of-Part x rest) h = solid x h.0
-
-pub row_solid : (m : _) (r : Row_of-Part m) → LegalBzlRow r → AllByRecursion Solid (items-the_row-Part m r)
-row_solid m end_of-Part h = tt
-row_solid m (more_of-Part x rest) h = (solid x h.0, row_solid _ rest h.1)
 
 pub stated_gap : (x : Part) (ls : List Leaf) → Solid x → (stated x).part.gap ≡ gap_of (leaves_part x ++ ls)
 stated_gap x ls h = ap (λ s. s.gap) (part_of x) ∙ (h.gap ∙ ap (λ (z : List Leaf). gap_of (z ++ ls)) (sym h.leaves))
