@@ -61,11 +61,11 @@ token_item ts (Node' kind n r) w h = refl
 -- ---- items, separators and a closing token
 
 module _ (separators close : List Terminal) (none : no_words separators ≡ true) (none' : no_words close ≡ true) (apart : disjoint close separators ≡ true) where
-  separator_mark : (y : Part) → has_token separators y ≡ true → IsMark separators true y
+  pub separator_mark : (y : Part) → has_token separators y ≡ true → IsMark separators true y
   separator_mark (p.Leaf l) h = (wordless separators l none h, h)
   separator_mark (Node' kind n r) h = no_such h
 
-  closing_mark : (z : Part) → has_token close z ≡ true → IsMark separators false z
+  pub closing_mark : (z : Part) → has_token close z ≡ true → IsMark separators false z
   closing_mark (p.Leaf l) h = (wordless close l none' h, disjoint-one_of l close separators apart h)
   closing_mark (Node' kind n r) h = no_such h
 

@@ -54,7 +54,7 @@ statement_group group suffix x hs =
     ∙ (ap (λ (z : List Hosted). hosted_by c' ∷ (z ++ hs)) (inside_made x c false ∙ sym (inside_made x c' false))
     ∙ ap (λ (z : HostComments). hosted_by z ∷ (inside_expr ((seen x).make c' false) ++ hs)) (sym (comments_made x c' false)))
 
-group_above : (group : List Bytes) (xs : List Part) → with_group group (flat_map inside_item (statements_in [] (map seen xs))) ≡ flat_map inside_item (statements_in group (map seen xs))
+pub group_above : (group : List Bytes) (xs : List Part) → with_group group (flat_map inside_item (statements_in [] (map seen xs))) ≡ flat_map inside_item (statements_in group (map seen xs))
 group_above group [] = refl
 group_above group (x ∷ []) = refl
 group_above group (x ∷ y ∷ []) = statement_group group _ x []
@@ -87,10 +87,10 @@ abbrev LinesOf : List Part → Type 0
 LinesOf xs = Several (IsNonterminal s.line) (Fits IsNonterminal (tok s.end done)) xs
 
 -- a gap in no statement, and after none
-gap_outside : (all : List Region) (m hi : ℕ) → Sees all m None hi [] → GapPlaces all m outside outside
+pub gap_outside : (all : List Region) (m hi : ℕ) → Sees all m None hi [] → GapPlaces all m outside outside
 gap_outside all m hi h = record { on_line = λ t. rw (h.ends, h.inner) refl; below = λ t. rw h.inner refl }
 
-outside_none : (all : List Region) (m : ℕ) (gap : Bytes) → GapPlaces all m outside outside → (q : CommentPlace) → 0 < key q → texts_at all q (comments_at m gap) ≡ []
+pub outside_none : (all : List Region) (m : ℕ) (gap : Bytes) → GapPlaces all m outside outside → (q : CommentPlace) → 0 < key q → texts_at all q (comments_at m gap) ≡ []
 outside_none all m gap h q d = gap_all all q outside m gap h ∙ pick_other outside q _ (λ e. omega arith)
 
 -- The comments of lines from the leaf n on.

@@ -71,7 +71,7 @@ cut_regions n head body =
     let open_break : ℕ = n + sizes (map measured head) in
     in_row n (map measured head) ++ between open_break (suc open_break + sizes (map measured body)) ∷ hosts_from s.comma_mark (suc open_break) (map measured body)
 
-cut_inside : (n : ℕ) (head body : List Part) → Alternating s.comma_mark body → AllByRecursion Regions head → AllByRecursion Regions body → AllInside n (suc (n + sizes (map measured head)) + sizes (map measured body)) (cut_regions n head body)
+pub cut_inside : (n : ℕ) (head body : List Part) → Alternating s.comma_mark body → AllByRecursion Regions head → AllByRecursion Regions body → AllInside n (suc (n + sizes (map measured head)) + sizes (map measured body)) (cut_regions n head body)
 cut_inside n head body a r r' =
     let o : ℕ = n + sizes (map measured head) in
     let up : ℕ = suc o + sizes (map measured body) in

@@ -96,7 +96,7 @@ abbrev pub after_parts : ℕ → List Part → List Comment
 after_parts n [] = []
 after_parts n (x ∷ xs) = inner n x ++ in_parts (n + size x) xs
 
-comments_joined : (n : ℕ) (ls ls' : List Leaf) → comments_from n (ls ++ ls') ≡ comments_from n ls ++ comments_from (n + length ls) ls'
+pub comments_joined : (n : ℕ) (ls ls' : List Leaf) → comments_from n (ls ++ ls') ≡ comments_from n ls ++ comments_from (n + length ls) ls'
 comments_joined n [] ls' = let e : n ≡ n + length {A = Leaf} [] = omega arith in ap (λ z. comments_from z ls') e
 comments_joined n (l ∷ ls) ls' =
     let e : suc n + length ls ≡ n + length (l ∷ ls) = omega arith in
