@@ -4,9 +4,14 @@ pub mod BuildFiles
 pub mod BuildItems
 pub mod Colons
 pub mod Ends
-pub mod EndsByPlaces
 pub mod Groups
 pub mod HeadParts
+pub mod HostBranches
+pub mod HostHeaders
+pub mod HostPieces
+pub mod HostReads
+pub mod HostStatements
+pub mod HostSuites
 pub mod JoinedFiles
 pub mod KeptBzl
 pub mod KeptBranches
@@ -25,4 +30,3 @@ pub mod SuiteHeaders
 pub mod SuiteLines
 pub mod SuitePieces
 pub mod SuiteReads
-pub mod SuiteValues

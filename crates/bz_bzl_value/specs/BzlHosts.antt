@@ -211,9 +211,3 @@ inside_bzl_item (b.Statement x) = inside_statement x
 
 abbrev pub bzl_hosts_of : List BzlItem → List Hosted
 bzl_hosts_of items = flat_map inside_bzl_item items
-
--- comment lines that are above no statement and no header: Blocks, and the end comments of suites
-abbrev pub only_blocks : Hosted → List Hosted
-only_blocks (block texts) = block texts ∷ []
-only_blocks (hosted before suffix) = []
-only_blocks (ended texts) = []

@@ -1,6 +1,5 @@
 -- Laws of what a .bzl file says.
 use Rattle.std.specs.Prelude.{◌≡◌, ◌↔◌, All, List, map}
-use Rattle.std.specs.List.{flat_map}
 use Rattle.bz_items.specs.Characters.{Bytes}
 use Rattle.bz_grammar.specs.declared.tree.Node.{Node}
 use Rattle.bz_grammar.specs.Legal.{Legal, LegalBzl}
@@ -9,7 +8,7 @@ use Rattle.bz_value.specs.Counted.{times}
 use Rattle.bz_value.specs.Proper.{IsProper}
 use Rattle.bz_hosts.specs.View.{view_of}
 use Rattle.bz_bzl_value.specs.BuildValues.{IsBuildItem}
-use Rattle.bz_bzl_value.specs.BzlHosts.{only_blocks, bzl_hosts_of, bzl_hosted_in}
+use Rattle.bz_bzl_value.specs.BzlHosts.{bzl_hosts_of, bzl_hosted_in}
 use Rattle.bz_bzl_value.specs.Kept.{bzl_times}
 use Rattle.bz_bzl_value.specs.Proper.{IsProperBzl}
 use Rattle.bz_bzl_value.specs.View.{bzl_item, bzl_view_of}
@@ -30,7 +29,6 @@ BuildItemsAreProper = (items : List Item) → IsProper items ↔ (IsProperBzl (m
 abbrev pub BuildItemsHaveTheSameComments : Type 0
 BuildItemsHaveTheSameComments = (text : Bytes) (items : List Item) → bzl_times text (map bzl_item items) ≡ times text items
 
--- In what a legal tree says, the comments of each Block and of the end of each suite are those that their places in the text give
--- it.
-abbrev pub EndsByPlace : Type 0
-EndsByPlace = (tree : Node) → LegalBzl tree → flat_map only_blocks (bzl_hosts_of (bzl_view_of tree)) ≡ flat_map only_blocks (bzl_hosted_in tree)
+-- What a legal tree says has each comment at the host that its place in the text gives it, and each suite its end comments.
+abbrev pub BzlHostsByPlace : Type 0
+BzlHostsByPlace = (tree : Node) → LegalBzl tree → bzl_hosts_of (bzl_view_of tree) ≡ bzl_hosted_in tree

@@ -3,7 +3,7 @@
 ghost use Rattle.bz_bzl_value.specs.BzlHostRows.{WorkedBzlHosts};
 ghost use Rattle.bz_bzl_value.specs.Joined.{BzlViewsJoin};
 ghost use Rattle.bz_bzl_value.specs.Kept.{BzlCommentsKept};
-ghost use Rattle.bz_bzl_value.specs.Laws.{BuildFilesSayTheSame, BuildItemsAreProper, BuildItemsHaveTheSameComments, BzlViewIsProper, EndsByPlace};
+ghost use Rattle.bz_bzl_value.specs.Laws.{BuildFilesSayTheSame, BuildItemsAreProper, BuildItemsHaveTheSameComments, BzlHostsByPlace, BzlViewIsProper};
 ghost use Rattle.bz_bzl_value.specs.Worked.{WorkedBzlViews};
 
 use bz_grammar::laws::lines_join;
@@ -13,10 +13,10 @@ pub fn bzl_comments_kept()
     ensures { BzlCommentsKept }
 {}
 
-/// In what the legal tree of a .bzl file says, the comments on their own and those at the end of each suite are those that their
-/// places in the text give them.
-pub fn ends_by_place()
-    ensures { EndsByPlace }
+/// What the legal tree of a .bzl file says has each comment at the host that its place in the text gives it, and each suite its end
+/// comments.
+pub fn bzl_hosts_by_place()
+    ensures { BzlHostsByPlace }
 {}
 
 /// What the legal tree of a .bzl file says is a proper value: the layout can write it, and the grammar reads it back.
