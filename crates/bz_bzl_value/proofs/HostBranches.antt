@@ -59,11 +59,11 @@ module _ (page : Page) where
   Further kind [] = Unit {0}
   Further kind (x ∷ xs) = BranchesPiece kind (x ∷ xs) × Solid x
 
-  abbrev more_read : Kind → PieceRead → List Part → List Hosted × Lines → PieceRead
-  more_read kind read back first after = with_left (first.0 ++ (as_branches kind (indented_comments first.1) first.1 back after).0) (as_branches kind (indented_comments first.1) first.1 back after).1
+  abbrev more_read : Kind → List Part → List Hosted × Lines → PieceRead
+  more_read kind back first after = with_left (first.0 ++ (as_branches kind (indented_comments first.1) first.1 back after).0) (as_branches kind (indented_comments first.1) first.1 back after).1
 
   then_more : (kind : Kind) (n m : ℕ) (ls : List Leaf) (sts : List Stretch) (group : List Bytes) (read : PieceRead) (back : List Part) → Piece page n m ls sts group read → Further kind back
-      → Piece page n (m + sizes (map measured back)) (ls ++ flat_map leaves_part back) (sts ++ in_compound kind m [] (map placed back)) group (λ after. more_read kind read back (read (indented_lines_before (map stated back) after)) after)
+      → Piece page n (m + sizes (map measured back)) (ls ++ flat_map leaves_part back) (sts ++ in_compound kind m [] (map placed back)) group (λ after. more_read kind back (read (indented_lines_before (map stated back) after)) after)
   then_more kind n m ls sts group read [] h b =
       same_piece page n m (m + 0) ls (ls ++ []) sts (sts ++ []) group read (λ after. with_left ((read after).0 ++ []) (read after).1) (omega arith) (sym (append-nil ls)) (sym (append-nil sts)) (λ after. ap (λ (z : List Hosted). with_left z (read after).1) (append-nil (read after).0)) h
   then_more kind n m ls sts group read (x ∷ xs) h b =
@@ -72,8 +72,8 @@ module _ (page : Page) where
       let first : List Hosted × Lines = read (indented (gap_of more)) in
       let e = m + sizes (map measured back) in
       same_piece page n e e (ls ++ more) (ls ++ more) (sts ++ in_compound kind m [] (map placed back)) (sts ++ in_compound kind m [] (map placed back)) group
-      (λ after. more_read kind read back first after) (λ after. more_read kind read back (read (indented (stated x).part.gap)) after) refl refl refl
-      (λ after. ap (λ (g : Bytes). more_read kind read back (read (indented g)) after) (stated_gap x (flat_map leaves_part xs) b.1))
+      (λ after. more_read kind back first after) (λ after. more_read kind back (read (indented (stated x).part.gap)) after) refl refl refl
+      (λ after. ap (λ (g : Bytes). more_read kind back (read (indented g)) after) (stated_gap x (flat_map leaves_part xs) b.1))
       (both_pieces page n m e ls more sts (in_compound kind m [] (map placed back)) group read (as_branches kind (indented_comments first.1) first.1 back) h (b.0 m (indented_comments first.1) first.1))
 
   -- what is known of a header of these parts

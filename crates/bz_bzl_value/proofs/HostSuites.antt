@@ -1,5 +1,5 @@
 -- Suites, and lines in their place: what is read of them, with the hosts by their places.
-use Rattle.std.proofs.Common.{◌≡◌, ℕ, suc, ◌+◌, ◌<◌, ◌≤◌, Bool, true, false, ◌&&◌, ◌||◌, List, [], ◌∷◌, ◌++◌, Option, Some, None, length, refl, sym, ap, ◌∙◌, subst, map, take, drop, append-nil, append_assoc, length-append, nat_eq, nat_lt, arith}
+use Rattle.std.proofs.Common.{◌≡◌, ℕ, suc, ◌+◌, ◌<◌, ◌≤◌, true, false, ◌&&◌, ◌||◌, List, [], ◌∷◌, ◌++◌, Option, Some, None, length, refl, sym, ap, ◌∙◌, subst, map, take, drop, append-nil, append_assoc, length-append, nat_eq, nat_lt, arith}
 use Rattle.std.specs.List.{AllByRecursion, flat_map}
 use Rattle.std.proofs.lemmas.Bool.{cond-true, cond-false, eq-eqb, ne_eqb, lt-ltb, le-ltb}
 use Rattle.std.proofs.lemmas.List.{map-append}
@@ -28,7 +28,7 @@ use Rattle.bz_bzl_value.proofs.HostPieces.{regions_of, comments, along, along_fi
 use Rattle.bz_bzl_value.proofs.HostReads.{line, within, simple_inside}
 use Rattle.bz_bzl_value.proofs.Lined.{lines_are, comments_append}
 use Rattle.bz_bzl_value.proofs.Parts.{parts_seen, part_of}
-use Rattle.bz_bzl_value.proofs.SuiteLines.{Lines, AllBetween, all_wider, ends_are, rest_is, lines_at, gap_joined, first_at}
+use Rattle.bz_bzl_value.proofs.SuiteLines.{and_false, Lines, AllBetween, all_wider, ends_are, rest_is, lines_at, gap_joined, first_at}
 use Rattle.bz_bzl_value.proofs.SuitePieces.{last_joined, lines_there}
 use Rattle.bz_bzl_value.proofs.SuiteReads.{line_some, line_left}
 
@@ -63,10 +63,6 @@ own_list (Some own) = own ∷ []
 pub suites_headed : (h f : ℕ) (rs : List Region) (own : Option Suite) (sts : List Stretch) → suites_in (header h f rs own ∷ sts) ≡ own_list own ++ suites_in sts
 suites_headed h f rs None sts = refl
 suites_headed h f rs (Some own) sts = refl
-
-and_none : (b c : Bool) → c ≡ false → (b && c) ≡ false
-and_none true c h = h
-and_none false c h = refl
 
 module _ (page : Page) where
   -- the leaves of a suite from n on up to e are there, after a header that begins at n0
@@ -164,7 +160,7 @@ module _ (page : Page) where
       let others : (a m' : ℕ) → suc n ≤ a → (lines' : Lines) → left_by a m' (own ∷ suites) lines' ≡ left_by a m' suites lines' =
       λ a m' j lines'. cond-false (nat_lt a (suc n) && nat_eq e m') _ _ (ap (λ t. t && nat_eq e m') (le-ltb a (suc n) j)) in
       let ahead : (a m' : ℕ) → m' < e → (lines' : Lines) → left_by a m' (own ∷ suites) lines' ≡ left_by a m' suites lines' =
-      λ a m' j lines'. cond-false (nat_lt a (suc n) && nat_eq e m') _ _ (and_none (nat_lt a (suc n)) (nat_eq e m') (ne_eqb e m' (λ d. omega arith))) in
+      λ a m' j lines'. cond-false (nat_lt a (suc n) && nat_eq e m') _ _ (and_false (nat_lt a (suc n)) (nat_eq e m') (ne_eqb e m' (λ d. omega arith))) in
       record {
         some = omega arith;
         up = omega arith;

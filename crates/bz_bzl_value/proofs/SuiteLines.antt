@@ -52,7 +52,7 @@ pub left_joined : (a n : ℕ) (xs ys : List Suite) (lines : Lines) → left_by a
 left_joined a n [] ys lines = refl
 left_joined a n (x ∷ xs) ys lines = ap (λ (z : Lines). if nat_lt a x.first && nat_eq x.following n then drop (reach x.margin z) z else z) (left_joined a n xs ys lines)
 
-and_false : (b c : Bool) → c ≡ false → (b && c) ≡ false
+pub and_false : (b c : Bool) → c ≡ false → (b && c) ≡ false
 and_false true c e = e
 and_false false c e = refl
 
