@@ -13,6 +13,9 @@ use Rattle.bz_grammar.proofs.Balance.{no_such, inner_nonterminal}
 use Rattle.bz_value.specs.Roots.{each_with_comma}
 use Rattle.bz_value.specs.Roots as r
 use Rattle.bz_value.proofs.Rooted.{places}
+use Rattle.bz_hosts.specs.Hosts.{is_item_part}
+use Rattle.bz_hosts.proofs.Alternating.{IsMark, Alternating}
+use Rattle.bz_hosts.proofs.Cuts.{nonterminal_item, separator_mark, closing_mark}
 use Rattle.bz_hosts.proofs.InnerParts.{GoesOn, is_inner, inner_tokens, token_inner, nonterminal_inner, token_goes, token_opens, token_closes, nonterminal_goes}
 use Rattle.bz_hosts.proofs.Pairs.{Paired, token}
 use Rattle.bz_hosts.proofs.SequenceParts.{Alternate}
@@ -211,6 +214,7 @@ close_shape = tok s.close_round (tok s.colon_mark done)
 pub record AreParameterParts (shape : Shape) (front : List Part) : Type 0 where
   pub paired : Paired front
   pub alternate : Alternate front
+  pub alternating : Alternating s.comma_mark front
   pub fits : Fits IsNonterminal shape (closed_row front)
 
 abbrev Parameters : List Part → Type 0
@@ -227,10 +231,21 @@ alternate_more : (x y : Part) (front : List Part) → GoesOn x → GoesOn y → 
 alternate_more x y [] g i h = tt
 alternate_more x y (z ∷ front) g i h = (g, i, h)
 
+alternating_more : (x y : Part) (front : List Part) → is_item_part x ≡ true → IsMark s.comma_mark true y → Alternating s.comma_mark front → Alternating s.comma_mark (x ∷ y ∷ front)
+alternating_more x y [] i j h = absurd h
+alternating_more x y (z ∷ front) i j h = (i, j, h)
+
+comma_at : (y : Part) → has_token s.comma_mark y ≡ true → IsMark s.comma_mark true y
+comma_at y m = separator_mark s.comma_mark s.close_round refl refl refl y m
+
+close_at : (y : Part) → has_token s.close_round y ≡ true → IsMark s.comma_mark false y
+close_at y m = closing_mark s.comma_mark s.close_round refl refl refl y m
+
 comma_before : (y : Part) (front : List Part) → has_token s.comma_mark y ≡ true → Parameters front → Closing (y ∷ front)
 comma_before y front m w x h = record {
   paired = (token s.comma_mark y m, w.paired);
   alternate = alternate_more x y front (nonterminal_goes s.param x refl h) (token_goes s.comma_mark y refl m) w.alternate;
+  alternating = alternating_more x y front (nonterminal_item s.param x h) (comma_at y m) w.alternating;
   fits = (h, inr (refl, inl w.fits));
 }
 
@@ -238,6 +253,7 @@ comma_last : (y : Part) (front : List Part) → has_token s.comma_mark y ≡ tru
 comma_last y front m w x h = subst (λ zs. Parameters (x ∷ y ∷ zs)) (sym w.1) (record {
   paired = (token s.comma_mark y m, token s.close_round w.0 w.2);
   alternate = (nonterminal_goes s.param x refl h, token_goes s.comma_mark y refl m, tt);
+  alternating = (nonterminal_item s.param x h, comma_at y m, close_at w.0 w.2);
   fits = (h, inr (refl, inr (refl, (refl, (refl, tt)))));
 })
 
@@ -245,6 +261,7 @@ close_after : (front : List Part) → Close front → Closing front
 close_after front w x h = subst (λ zs. Parameters (x ∷ zs)) (sym w.1) (record {
   paired = (token s.close_round w.0 w.2, tt);
   alternate = tt;
+  alternating = (nonterminal_item s.param x h, close_at w.0 w.2);
   fits = (h, inr (refl, inr (refl, (refl, (refl, tt)))));
 })
 
@@ -258,12 +275,12 @@ abbrev Enclosed : List Part → Type 0
 Enclosed front = AreParameterParts (enclosed s.param s.close_round (tok s.colon_mark done)) front
 
 no_parameters : (front : List Part) → Close front → Enclosed front
-no_parameters front w = subst Enclosed (sym w.1) (record { paired = token s.close_round w.0 w.2; alternate = tt; fits = inl (refl, (refl, tt)) })
+no_parameters front w = subst Enclosed (sym w.1) (record { paired = token s.close_round w.0 w.2; alternate = tt; alternating = close_at w.0 w.2; fits = inl (refl, (refl, tt)) })
 
 params_headed : (xs : List Part) → Fits IsNonterminal (enclosed s.param s.close_round owned) xs → AtParts BzlStands Begins Within xs → Headed Enclosed [] xs
 params_headed xs (inl h) at_ = weaker Close Enclosed [] xs no_parameters (close_headed xs h at_)
 params_headed xs (inr h) at_ =
-    weaker Parameters Enclosed [] xs (λ front w. record { paired = w.paired; alternate = w.alternate; fits = inr w.fits })
+    weaker Parameters Enclosed [] xs (λ front w. record { paired = w.paired; alternate = w.alternate; alternating = w.alternating; fits = inr w.fits })
     (listed_headed s.param refl Within refl true (Fits IsNonterminal (tok s.close_round owned)) Parameters Closing Close (λ x front q w. w x q) comma_before (λ y front e m w. comma_last y front m w) close_after close_headed xs h at_)
 
 -- an opening bracket and parameters

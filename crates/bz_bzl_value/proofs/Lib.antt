@@ -6,6 +6,12 @@ pub mod Colons
 pub mod Ends
 pub mod Groups
 pub mod HeadParts
+pub mod HostBranches
+pub mod HostHeaders
+pub mod HostPieces
+pub mod HostReads
+pub mod HostStatements
+pub mod HostSuites
 pub mod JoinedFiles
 pub mod KeptBzl
 pub mod KeptBranches
@@ -20,3 +26,7 @@ pub mod ProperHeads
 pub mod ProperLines
 pub mod ProperSuites
 pub mod ProperValues
+pub mod SuiteHeaders
+pub mod SuiteLines
+pub mod SuitePieces
+pub mod SuiteReads

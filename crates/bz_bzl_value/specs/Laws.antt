@@ -8,6 +8,7 @@ use Rattle.bz_value.specs.Counted.{times}
 use Rattle.bz_value.specs.Proper.{IsProper}
 use Rattle.bz_hosts.specs.View.{view_of}
 use Rattle.bz_bzl_value.specs.BuildValues.{IsBuildItem}
+use Rattle.bz_bzl_value.specs.BzlHosts.{bzl_hosts_of, bzl_hosted_in}
 use Rattle.bz_bzl_value.specs.Kept.{bzl_times}
 use Rattle.bz_bzl_value.specs.Proper.{IsProperBzl}
 use Rattle.bz_bzl_value.specs.View.{bzl_item, bzl_view_of}
@@ -27,3 +28,7 @@ BuildItemsAreProper = (items : List Item) → IsProper items ↔ (IsProperBzl (m
 -- They have each comment as often.
 abbrev pub BuildItemsHaveTheSameComments : Type 0
 BuildItemsHaveTheSameComments = (text : Bytes) (items : List Item) → bzl_times text (map bzl_item items) ≡ times text items
+
+-- What a legal tree says has each comment at the host that its place in the text gives it, and each suite its end comments.
+abbrev pub BzlHostsByPlace : Type 0
+BzlHostsByPlace = (tree : Node) → LegalBzl tree → bzl_hosts_of (bzl_view_of tree) ≡ bzl_hosted_in tree

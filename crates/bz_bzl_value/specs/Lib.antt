@@ -1,4 +1,6 @@
 pub mod BuildValues
+pub mod BzlHostRows
+pub mod BzlHosts
 pub mod Joined
 pub mod Kept
 pub mod Laws

@@ -21,11 +21,11 @@ use Rattle.bz_bzl_value.specs.View.{bzl_view_of}
 -- ---- trees
 
 -- a suite whose newline has this gap
-abbrev suite : Bytes → List Part → Part
+abbrev pub suite : Bytes → List Part → Part
 suite gap statements = worked_node k.Suite (worked_leaf c.Newline gap (codes "\n") ∷ statements)
 
 -- a line of one statement, a name
-abbrev named_line : Bytes → Bytes → Part
+abbrev pub named_line : Bytes → Bytes → Part
 named_line gap text = worked_bare (name gap text)
 
 -- ---- values
@@ -129,13 +129,9 @@ defined =
 abbrev Row : Bytes → Node → List BzlItem → Type 0
 Row text tree items = (spell_node tree ≡ text) × (bzl_view_of tree ≡ items)
 
--- A comment of its own line below an if that is one line is above what follows; the last one of a function's suite, indented as
--- that is, is an end comment.
-abbrev pub Documented : Type 0
-Documented =
-    Row
-    (codes "def f(a,b=1, *c): # doc\n  if a: return b\n  # none\n  return lambda x:x+1\n  # end\nx=[f(i) for i in c]\n")
-    (worked_file (
+abbrev pub documented_tree : Node
+documented_tree =
+    worked_file (
     worked_node k.Def (word [] (codes "def") ∷ name (codes " ") (codes "f") ∷ worked_mark [] (codes "(") ∷ name [] (codes "a") ∷ worked_mark [] (codes ",")
     ∷ worked_node k.Param (name [] (codes "b") ∷ worked_mark [] (codes "=") ∷ worked_leaf c.Number [] (codes "1") ∷ []) ∷ worked_mark [] (codes ",")
     ∷ worked_node k.Param (worked_mark (codes " ") (codes "*") ∷ name [] (codes "c") ∷ []) ∷ worked_mark [] (codes ")") ∷ worked_mark [] (codes ":")
@@ -145,19 +141,38 @@ Documented =
     ∷ worked_node k.Lambda (word (codes " ") (codes "lambda") ∷ name (codes " ") (codes "x") ∷ worked_mark [] (codes ":") ∷ worked_node k.Sum (name [] (codes "x") ∷ worked_mark [] (codes "+") ∷ worked_leaf c.Number [] (codes "1") ∷ []) ∷ []) ∷ []) ∷ []) [] ∷ []) ∷ [])
     ∷ worked_line (worked_node k.Assign (name (codes "  # end\n") (codes "x") ∷ worked_mark [] (codes "=")
     ∷ worked_node k.ListComp (worked_mark [] (codes "[") ∷ worked_node k.Call (name [] (codes "f") ∷ worked_mark [] (codes "(") ∷ name [] (codes "i") ∷ worked_mark [] (codes ")") ∷ [])
-    ∷ worked_node k.For (word (codes " ") (codes "for") ∷ name (codes " ") (codes "i") ∷ word (codes " ") (codes "in") ∷ name (codes " ") (codes "c") ∷ []) ∷ worked_mark [] (codes "]") ∷ []) ∷ []) ∷ []) [] ∷ []) [])
+    ∷ worked_node k.For (word (codes " ") (codes "for") ∷ name (codes " ") (codes "i") ∷ word (codes " ") (codes "in") ∷ name (codes " ") (codes "c") ∷ []) ∷ worked_mark [] (codes "]") ∷ []) ∷ []) ∷ []) [] ∷ []) []
+
+-- A comment of its own line below an if that is one line is above what follows; the last one of a function's suite, indented as
+-- that is, is an end comment.
+abbrev pub Documented : Type 0
+Documented =
+    Row
+    (codes "def f(a,b=1, *c): # doc\n  if a: return b\n  # none\n  return lambda x:x+1\n  # end\nx=[f(i) for i in c]\n")
+    documented_tree
     documented
+
+abbrev pub alternative_tree : Node
+alternative_tree =
+    worked_file (worked_node k.IfStmt (
+    word [] (codes "if") ∷ name (codes " ") (codes "a") ∷ worked_mark [] (codes ":") ∷ suite [] (named_line (codes "  ") (codes "b") ∷ [])
+    ∷ word (codes "  # in\n# above\n") (codes "elif") ∷ name (codes " ") (codes "c") ∷ worked_mark [] (codes ":") ∷ suite (codes " # why") (named_line (codes "  ") (codes "d") ∷ [])
+    ∷ word (codes " # last\n") (codes "else") ∷ worked_mark [] (codes ":") ∷ suite [] (named_line (codes "  # first\n  ") (codes "e") ∷ []) ∷ []) ∷ []) []
 
 -- Before elif and else: what is indented as the suite before is its end comment, what is indented less is above the header.
 abbrev pub Alternatives : Type 0
 Alternatives =
     Row
     (codes "if a:\n  b\n  # in\n# above\nelif c: # why\n  d\n # last\nelse:\n  # first\n  e\n")
-    (worked_file (worked_node k.IfStmt (
-    word [] (codes "if") ∷ name (codes " ") (codes "a") ∷ worked_mark [] (codes ":") ∷ suite [] (named_line (codes "  ") (codes "b") ∷ [])
-    ∷ word (codes "  # in\n# above\n") (codes "elif") ∷ name (codes " ") (codes "c") ∷ worked_mark [] (codes ":") ∷ suite (codes " # why") (named_line (codes "  ") (codes "d") ∷ [])
-    ∷ word (codes " # last\n") (codes "else") ∷ worked_mark [] (codes ":") ∷ suite [] (named_line (codes "  # first\n  ") (codes "e") ∷ []) ∷ []) ∷ []) [])
+    alternative_tree
     alternative_items
+
+abbrev pub ended_tree : Node
+ended_tree =
+    worked_file (
+    worked_node k.Def (word [] (codes "def") ∷ name (codes " ") (codes "f") ∷ worked_mark [] (codes "(") ∷ worked_mark [] (codes ")") ∷ worked_mark [] (codes ":")
+    ∷ suite [] (worked_node k.IfStmt (word (codes "  ") (codes "if") ∷ name (codes " ") (codes "a") ∷ worked_mark [] (codes ":") ∷ suite [] (named_line (codes "    ") (codes "b") ∷ []) ∷ []) ∷ []) ∷ [])
+    ∷ named_line (codes "    # 4\n   # 3\n  # 2\n # 1\n# 0\n\n") (codes "x") ∷ []) []
 
 -- Where two suites end, a comment is an end comment of the innermost one whose statements are not indented further than it; the
 -- others belong to the file.
@@ -165,35 +180,40 @@ abbrev pub SuiteEnds : Type 0
 SuiteEnds =
     Row
     (codes "def f():\n  if a:\n    b\n    # 4\n   # 3\n  # 2\n # 1\n# 0\n\nx\n")
-    (worked_file (
-    worked_node k.Def (word [] (codes "def") ∷ name (codes " ") (codes "f") ∷ worked_mark [] (codes "(") ∷ worked_mark [] (codes ")") ∷ worked_mark [] (codes ":")
-    ∷ suite [] (worked_node k.IfStmt (word (codes "  ") (codes "if") ∷ name (codes " ") (codes "a") ∷ worked_mark [] (codes ":") ∷ suite [] (named_line (codes "    ") (codes "b") ∷ []) ∷ []) ∷ []) ∷ [])
-    ∷ named_line (codes "    # 4\n   # 3\n  # 2\n # 1\n# 0\n\n") (codes "x") ∷ []) [])
+    ended_tree
     ended_items
+
+abbrev pub ended_once_tree : Node
+ended_once_tree =
+    worked_file (
+    worked_node k.IfStmt (word [] (codes "if") ∷ name (codes " ") (codes "a") ∷ worked_mark [] (codes ":")
+    ∷ suite [] (worked_node k.IfStmt (word (codes "  ") (codes "if") ∷ name (codes " ") (codes "b") ∷ worked_mark [] (codes ":") ∷ suite [] (named_line (codes "    ") (codes "c") ∷ []) ∷ []) ∷ []) ∷ [])
+    ∷ named_line (codes "  # 2\n    # 4\n# 0\n    # 4\n") (codes "d") ∷ []) []
 
 -- A suite that ended at a comment takes none after that, however far it is indented.
 abbrev pub EndedSuites : Type 0
 EndedSuites =
     Row
     (codes "if a:\n  if b:\n    c\n  # 2\n    # 4\n# 0\n    # 4\nd\n")
-    (worked_file (
-    worked_node k.IfStmt (word [] (codes "if") ∷ name (codes " ") (codes "a") ∷ worked_mark [] (codes ":")
-    ∷ suite [] (worked_node k.IfStmt (word (codes "  ") (codes "if") ∷ name (codes " ") (codes "b") ∷ worked_mark [] (codes ":") ∷ suite [] (named_line (codes "    ") (codes "c") ∷ []) ∷ []) ∷ []) ∷ [])
-    ∷ named_line (codes "  # 2\n    # 4\n# 0\n    # 4\n") (codes "d") ∷ []) [])
+    ended_once_tree
     (one_header (header no_comments k.IfStmt (keyword_expr (codes "if") ∷ name_expr (codes "a") ∷ [])) (
     s.Compound (branch (header no_comments k.IfStmt (keyword_expr (codes "if") ∷ name_expr (codes "b") ∷ [])) (name_statement no_comments (codes "c") ∷ []) [] ∷ []) ∷ []) (codes "# 2" ∷ codes "# 4" ∷ [])
     ∷ b.Statement (name_statement (with (codes "# 0" ∷ codes "# 4" ∷ []) None) (codes "d")) ∷ [])
+
+abbrev pub one_line_tree : Node
+one_line_tree =
+    worked_file (worked_node k.IfStmt (
+    word [] (codes "if") ∷ name (codes " ") (codes "x") ∷ worked_mark [] (codes ":")
+    ∷ worked_line (worked_node k.Assign (name (codes " ") (codes "y") ∷ worked_mark [] (codes "=") ∷ worked_leaf c.Number [] (codes "1") ∷ []) ∷ []) (codes " # c")
+    ∷ word [] (codes "else") ∷ worked_mark [] (codes ":")
+    ∷ worked_line (worked_node k.Flow (word (codes " ") (codes "pass") ∷ []) ∷ worked_mark [] (codes ";") ∷ worked_node k.Bare (name (codes " ") (codes "z") ∷ []) ∷ []) [] ∷ []) ∷ []) []
 
 -- a suite on the header's line is its statements
 abbrev pub OneLine : Type 0
 OneLine =
     Row
     (codes "if x: y=1 # c\nelse: pass; z\n")
-    (worked_file (worked_node k.IfStmt (
-    word [] (codes "if") ∷ name (codes " ") (codes "x") ∷ worked_mark [] (codes ":")
-    ∷ worked_line (worked_node k.Assign (name (codes " ") (codes "y") ∷ worked_mark [] (codes "=") ∷ worked_leaf c.Number [] (codes "1") ∷ []) ∷ []) (codes " # c")
-    ∷ word [] (codes "else") ∷ worked_mark [] (codes ":")
-    ∷ worked_line (worked_node k.Flow (word (codes " ") (codes "pass") ∷ []) ∷ worked_mark [] (codes ";") ∷ worked_node k.Bare (name (codes " ") (codes "z") ∷ []) ∷ []) [] ∷ []) ∷ []) [])
+    one_line_tree
     one_line
 
 -- a tab is one character of an indent, as a space is
@@ -208,16 +228,20 @@ Tabbed =
     ∷ worked_line (worked_node k.Flow (word (codes "\t# one\n\t") (codes "continue") ∷ []) ∷ []) [] ∷ []) ∷ []) ∷ []) (codes " # two\n\t\t # three\n"))
     tabbed
 
+abbrev pub parameters_tree : Node
+parameters_tree =
+    worked_file (worked_node k.Def (
+    word [] (codes "def") ∷ name (codes " ") (codes "f") ∷ worked_mark [] (codes "(") ∷ name (codes "\n  # above\n  ") (codes "a") ∷ worked_mark [] (codes ",")
+    ∷ worked_node k.Param (worked_mark (codes " # a\n  ") (codes "*") ∷ []) ∷ worked_mark [] (codes ",")
+    ∷ worked_node k.Param (worked_mark (codes "\n  # last\n  ") (codes "**") ∷ name [] (codes "b") ∷ []) ∷ worked_mark (codes "\n  # end\n") (codes ")") ∷ worked_mark [] (codes ":")
+    ∷ worked_line (worked_node k.Flow (word (codes " ") (codes "pass") ∷ []) ∷ []) [] ∷ []) ∷ []) []
+
 -- parameters are a sequence: comments above them, after them and below the last one; a newline splits them
 abbrev pub Parameters : Type 0
 Parameters =
     Row
     (codes "def f(\n  # above\n  a, # a\n  *,\n  # last\n  **b\n  # end\n): pass\n")
-    (worked_file (worked_node k.Def (
-    word [] (codes "def") ∷ name (codes " ") (codes "f") ∷ worked_mark [] (codes "(") ∷ name (codes "\n  # above\n  ") (codes "a") ∷ worked_mark [] (codes ",")
-    ∷ worked_node k.Param (worked_mark (codes " # a\n  ") (codes "*") ∷ []) ∷ worked_mark [] (codes ",")
-    ∷ worked_node k.Param (worked_mark (codes "\n  # last\n  ") (codes "**") ∷ name [] (codes "b") ∷ []) ∷ worked_mark (codes "\n  # end\n") (codes ")") ∷ worked_mark [] (codes ":")
-    ∷ worked_line (worked_node k.Flow (word (codes " ") (codes "pass") ∷ []) ∷ []) [] ∷ []) ∷ []) [])
+    parameters_tree
     (parameters true)
 
 -- inside a suite no comment is on its own: an empty line is nothing there, and no end of a group

@@ -8,7 +8,7 @@ use Rattle.bz_grammar.specs.declared.kind.Kind.TheVariants as k
 use Rattle.bz_grammar.specs.declared.tree.Part.{Part, Node'}
 use Rattle.bz_grammar.specs.declared.tree.Part.TheVariants as p
 use Rattle.bz_grammar.specs.Shapes as s
-use Rattle.bz_grammar.specs.Shapes.{Nonterminal, Terminal, Fits, Listed, shape, items, tok, done, has_token, is_one_of, is_terminal, leaves_at}
+use Rattle.bz_grammar.specs.Shapes.{Nonterminal, Terminal, Fits, Listed, bzl_shape, items, tok, done, has_token, is_one_of, is_terminal, leaves_at}
 use Rattle.bz_grammar.specs.Legal.{IsNonterminal}
 use Rattle.bz_grammar.proofs.Balance.{no_such, same_class}
 use Rattle.bz_grammar.proofs.Terminals.{disjoint, disjoint-one_of}
@@ -61,11 +61,11 @@ token_item ts (Node' kind n r) w h = refl
 -- ---- items, separators and a closing token
 
 module _ (separators close : List Terminal) (none : no_words separators ≡ true) (none' : no_words close ≡ true) (apart : disjoint close separators ≡ true) where
-  separator_mark : (y : Part) → has_token separators y ≡ true → IsMark separators true y
+  pub separator_mark : (y : Part) → has_token separators y ≡ true → IsMark separators true y
   separator_mark (p.Leaf l) h = (wordless separators l none h, h)
   separator_mark (Node' kind n r) h = no_such h
 
-  closing_mark : (z : Part) → has_token close z ≡ true → IsMark separators false z
+  pub closing_mark : (z : Part) → has_token close z ≡ true → IsMark separators false z
   closing_mark (p.Leaf l) h = (wordless close l none' h, disjoint-one_of l close separators apart h)
   closing_mark (Node' kind n r) h = no_such h
 
@@ -109,20 +109,20 @@ pub record Cut (kind : Kind) (xs : List Part) : Type 0 where
   pub front : take (suc (lead kind)) xs ≡ take (lead kind) xs ++ p.Leaf opener ∷ []
   pub alternating : Alternating s.comma_mark (drop (suc (lead kind)) xs)
 
-call_cut : (xs : List Part) → Fits IsNonterminal (shape k.Call) xs → Cut k.Call xs
+call_cut : (xs : List Part) → Fits IsNonterminal (bzl_shape k.Call) xs → Cut k.Call xs
 call_cut [] h = absurd h
 call_cut (x ∷ []) h = absurd h.1
 call_cut (x ∷ p.Leaf l ∷ xs) h = record { opener = l; parts = refl; front = refl; alternating = items_alternating s.close_round refl refl s.argument xs h.1.1 }
 call_cut (x ∷ Node' kind n r ∷ xs) h = no_such h.1.0
 
-load_cut : (xs : List Part) → Fits IsNonterminal (shape k.Load) xs → Cut k.Load xs
+load_cut : (xs : List Part) → Fits IsNonterminal (bzl_shape k.Load) xs → Cut k.Load xs
 load_cut [] h = absurd h
 load_cut (x ∷ []) h = absurd h.1
 load_cut (x ∷ p.Leaf l ∷ []) h = absurd h.1.1
 load_cut (x ∷ p.Leaf l ∷ y ∷ xs) h = record { opener = l; parts = refl; front = refl; alternating = one_alternating s.close_round refl refl s.loaded y xs (token_item s.string y refl h.1.1.0) h.1.1.1 }
 load_cut (x ∷ Node' kind n r ∷ xs) h = no_such h.1.0
 
-tuple_cut : (xs : List Part) → Fits IsNonterminal (shape k.Tuple) xs → Cut k.Tuple xs
+tuple_cut : (xs : List Part) → Fits IsNonterminal (bzl_shape k.Tuple) xs → Cut k.Tuple xs
 tuple_cut [] h = absurd h
 tuple_cut (p.Leaf l ∷ xs) h = record { opener = l; parts = refl; front = refl; alternating = first xs h.1 }
   where
@@ -133,12 +133,12 @@ tuple_cut (p.Leaf l ∷ xs) h = record { opener = l; parts = refl; front = refl;
     first (x ∷ xs) (inr i) = one_alternating s.close_round refl refl s.test x xs (nonterminal_item s.test x i.0) (inr i.1)
 tuple_cut (Node' kind n r ∷ xs) h = no_such h.0
 
-list_cut : (xs : List Part) → Fits IsNonterminal (shape k.List) xs → Cut k.List xs
+list_cut : (xs : List Part) → Fits IsNonterminal (bzl_shape k.List) xs → Cut k.List xs
 list_cut [] h = absurd h
 list_cut (p.Leaf l ∷ xs) h = record { opener = l; parts = refl; front = refl; alternating = items_alternating s.close_square refl refl s.test xs h.1 }
 list_cut (Node' kind n r ∷ xs) h = no_such h.0
 
-dict_cut : (xs : List Part) → Fits IsNonterminal (shape k.Dict) xs → Cut k.Dict xs
+dict_cut : (xs : List Part) → Fits IsNonterminal (bzl_shape k.Dict) xs → Cut k.Dict xs
 dict_cut [] h = absurd h
 dict_cut (p.Leaf l ∷ xs) h = record { opener = l; parts = refl; front = refl; alternating = items_alternating s.close_curly refl refl s.entry xs h.1 }
 dict_cut (Node' kind n r ∷ xs) h = no_such h.0
@@ -147,7 +147,7 @@ abbrev CutIn : Frame → Kind → List Part → Type 0
 CutIn row kind xs = Unit {0}
 CutIn (sequence opener closer) kind xs = Cut kind xs
 
-kind_cut : (kind : Kind) (xs : List Part) → Fits IsNonterminal (shape kind) xs → CutIn (frame kind) kind xs
+kind_cut : (kind : Kind) (xs : List Part) → Fits IsNonterminal (bzl_shape kind) xs → CutIn (frame kind) kind xs
 kind_cut k.Call xs h = call_cut xs h
 kind_cut k.Load xs h = load_cut xs h
 kind_cut k.Tuple xs h = tuple_cut xs h
@@ -155,5 +155,5 @@ kind_cut k.List xs h = list_cut xs h
 kind_cut k.Dict xs h = dict_cut xs h
 kind_cut _ xs h = tt
 
-pub sequence_cut : (kind : Kind) (opener closer : ℕ) (xs : List Part) → frame kind ≡ sequence opener closer → Fits IsNonterminal (shape kind) xs → Cut kind xs
+pub sequence_cut : (kind : Kind) (opener closer : ℕ) (xs : List Part) → frame kind ≡ sequence opener closer → Fits IsNonterminal (bzl_shape kind) xs → Cut kind xs
 sequence_cut kind opener closer xs e h = subst (λ f. CutIn f kind xs) e (kind_cut kind xs h)

@@ -11,9 +11,10 @@ use Rattle.bz_grammar.specs.declared.tree.Part.TheVariants as p
 use Rattle.bz_grammar.specs.Shapes as s
 use Rattle.bz_grammar.specs.Shapes.{Fits, Several, shape, tok, done, nonterminal_has_kind}
 use Rattle.bz_grammar.specs.Spell.{leaves_part, leaves_row, leaves_of}
-use Rattle.bz_grammar.specs.Legal.{IsNonterminal, LegalPart, LegalRow}
+use Rattle.bz_grammar.specs.Legal.{IsNonterminal, LegalPart, LegalRow, LegalBzlPart, LegalBzlRow}
 use Rattle.bz_grammar.specs.Spots.{Begins, after_node, Stands, AtRow, AtParts}
 use Rattle.bz_grammar.proofs.Balance.{no_such, parts_of_row}
+use Rattle.bz_grammar.proofs.Build.{wide_part}
 use Rattle.bz_grammar.proofs.Numbers.{same_kind}
 use Rattle.bz_value.specs.Comments.{HostComments}
 use Rattle.bz_value.specs.Frames.{frame}
@@ -53,7 +54,7 @@ statement_group group suffix x hs =
     ∙ (ap (λ (z : List Hosted). hosted_by c' ∷ (z ++ hs)) (inside_made x c false ∙ sym (inside_made x c' false))
     ∙ ap (λ (z : HostComments). hosted_by z ∷ (inside_expr ((seen x).make c' false) ++ hs)) (sym (comments_made x c' false)))
 
-group_above : (group : List Bytes) (xs : List Part) → with_group group (flat_map inside_item (statements_in [] (map seen xs))) ≡ flat_map inside_item (statements_in group (map seen xs))
+pub group_above : (group : List Bytes) (xs : List Part) → with_group group (flat_map inside_item (statements_in [] (map seen xs))) ≡ flat_map inside_item (statements_in group (map seen xs))
 group_above group [] = refl
 group_above group (x ∷ []) = refl
 group_above group (x ∷ y ∷ []) = statement_group group _ x []
@@ -86,10 +87,10 @@ abbrev LinesOf : List Part → Type 0
 LinesOf xs = Several (IsNonterminal s.line) (Fits IsNonterminal (tok s.end done)) xs
 
 -- a gap in no statement, and after none
-gap_outside : (all : List Region) (m hi : ℕ) → Sees all m None hi [] → GapPlaces all m outside outside
+pub gap_outside : (all : List Region) (m hi : ℕ) → Sees all m None hi [] → GapPlaces all m outside outside
 gap_outside all m hi h = record { on_line = λ t. rw (h.ends, h.inner) refl; below = λ t. rw h.inner refl }
 
-outside_none : (all : List Region) (m : ℕ) (gap : Bytes) → GapPlaces all m outside outside → (q : CommentPlace) → 0 < key q → texts_at all q (comments_at m gap) ≡ []
+pub outside_none : (all : List Region) (m : ℕ) (gap : Bytes) → GapPlaces all m outside outside → (q : CommentPlace) → 0 < key q → texts_at all q (comments_at m gap) ≡ []
 outside_none all m gap h q d = gap_all all q outside m gap h ∙ pick_other outside q _ (λ e. omega arith)
 
 -- The comments of lines from the leaf n on.
@@ -113,9 +114,9 @@ line_alternating ys h = listed_alternating s.semicolon s.newline refl refl refl 
 line_in : (x : Part) → IsNonterminal s.line x → LegalPart x → LineIn x
 line_in (p.Leaf l) h g = no_such h
 line_in (Node' kind z r) h g = record {
-  some = some_leaf (Node' kind z r) (part_solid (Node' kind z r) g);
+  some = some_leaf (Node' kind z r) (part_solid (Node' kind z r) (wide_part (Node' kind z r) g).0);
   within = λ n. subst (λ (ms : List Measured). AllInside n (n + sizes ms) (hosts_from s.semicolon n ms)) (sym (measured_rows _ r))
-      (hosts_inside s.semicolon n (items-the_row-Part _ r) (line_alternating (items-the_row-Part _ r) (statements_of kind (items-the_row-Part _ r) h g.0)) (row_regions _ r g.1));
+      (hosts_inside s.semicolon n (items-the_row-Part _ r) (line_alternating (items-the_row-Part _ r) (statements_of kind (items-the_row-Part _ r) h g.0)) (row_regions _ r (wide_part (Node' kind z r) g).0.1));
 }
 
 leaf_in : (l : Leaf) → LineIn (p.Leaf l)
@@ -138,18 +139,18 @@ regions_inside n (x ∷ xs) h =
     (all_wider m (m + sizes (map measured xs)) n up (omega arith) (omega arith) (regions_from m xs) (regions_inside m xs h.1))
 
 -- the texts of a line
-line_found : (all : List Region) (n : ℕ) (kind : Kind) (m : _) (r : Row_of-Part m) → Statements (items-the_row-Part m r) → LegalRow r → AtRow Stands Begins Begins r →
+line_found : (all : List Region) (n : ℕ) (kind : Kind) (m : _) (r : Row_of-Part m) → Statements (items-the_row-Part m r) → LegalRow r → LegalBzlRow r → AtRow Stands Begins Begins r →
     SeesAt all None (suc n) (n + sizes (measured_row r)) (hosts_from s.semicolon n (measured_row r)) →
     LineTexts all n (n + sizes (measured_row r)) (comments_after n (leaves_row r)) (hosts_from s.semicolon n (measured_row r)) (statements_in [] (seen_row r))
-line_found all n kind m r h g at_ sees =
+line_found all n kind m r h g wide at_ sees =
     let ys : List Part = items-the_row-Part m r in
-    let comments : comments_after n (leaves_row r) ≡ after_parts n ys = ap (comments_after n) (leaves_rows m r) ∙ parts_after n ys (row_solid m r g) in
+    let comments : comments_after n (leaves_row r) ≡ after_parts n ys = ap (comments_after n) (leaves_rows m r) ∙ parts_after n ys (row_solid m r wide) in
     let quiet : Quiet ys = statements_quiet Begins Begins ys refl h (row_legal m r g) (parts_of_row Stands Begins Begins m r at_) in
     subst (λ (ms : List Measured). SeesAt all None (suc n) (n + sizes ms) (hosts_from s.semicolon n ms) → LineTexts all n (n + sizes ms) (comments_after n (leaves_row r)) (hosts_from s.semicolon n ms) (statements_in [] (seen_row r)))
     (sym (measured_rows m r))
     (λ sees'. subst (λ (cs : List Comment). LineTexts all n (n + sizes (map measured ys)) cs (hosts_from s.semicolon n (map measured ys)) (statements_in [] (seen_row r))) (sym comments)
     (subst (λ (ss : List Seen). LineTexts all n (n + sizes (map measured ys)) (after_parts n ys) (hosts_from s.semicolon n (map measured ys)) (statements_in [] ss)) (sym (seen_rows m r))
-    (line_texts all n (n + sizes (map measured ys)) ys refl (line_alternating ys h) quiet (row_regions m r g) (row_in_host all m r g) sees')))
+    (line_texts all n (n + sizes (map measured ys)) ys refl (line_alternating ys h) quiet (row_regions m r wide) (row_in_host all m r wide) sees')))
     sees
 
 -- the parts of a line, as they are seen
@@ -221,26 +222,27 @@ lines_texts all n up (Node' kind z r ∷ xs) u (inr h) g at_ sees =
     let m : ℕ = n + size x in
     let e : kind ≡ k.Line = same_kind kind k.Line (eqb-true _ _ h.0) in
     let there : LineIn x = line_in x h.0 g.0 in
+    let wide : LegalBzlPart x = (wide_part x g.0).0 in
     let some = there.some in
     let rest_in : AllByRecursion LineIn xs = lines_in xs h.1 g.1 in
     let statements : Statements ys = statements_of kind ys h.0 g.0.0 in
     let gap : GapPlaces all n outside outside = gap_outside all n n
     (sees_before all n None up n (n + sizes (map measured (x ∷ xs))) n [] (in_line n x ++ regions_from m xs) (regions_inside n (x ∷ xs) (there, rest_in)) (omega arith) (omega arith) (omega arith)
     (sees n (omega arith) (omega arith))) in
-    let texts : LineTexts all n m (inner n x) (in_line n x) (statements_in [] (seen_row r)) = line_found all n kind _ r statements g.0.1 at_.0
+    let texts : LineTexts all n m (inner n x) (in_line n x) (statements_in [] (seen_row r)) = line_found all n kind _ r statements g.0.1 wide.1 at_.0
     (λ q a b. sees_before all q None up m (m + sizes (map measured xs)) m (in_line n x) (regions_from m xs) (regions_inside m xs rest_in) (omega arith) (omega arith) (omega arith)
     (sees q (omega arith) (omega arith))) in
     let at_rest : AtParts Stands Begins Begins xs = subst (λ kd. AtParts Stands Begins (after_node kd Begins) xs) e at_.1 in
     let rest : FileTexts all m up xs = lines_texts all m up xs (omega arith) h.1 g.1 at_rest (λ q a b. sees_after all q None up n m (in_line n x) (regions_from m xs) (there.within n) a (sees q (omega arith) b)) in
-    let solid : Solid x = part_solid x g.0 in
+    let solid : Solid x = part_solid x wide in
     let first : gap_of (leaves_row r) ≡ first_seen_gap (seen_row r) = first_gap_of (leaves_row r) solid.first solid.rest (first_seen_gap (seen_row r)) solid.leaves (sym (node_gap kind (seen_row r) (frame kind)) ∙ solid.gap) in
-    let last : last_gap (leaves_row r) ≡ v.last_gap (seen_row r) = ap last_gap (leaves_rows _ r) ∙ (last_same s.semicolon ys (line_alternating ys statements) (row_solid _ r g.0.1) ∙ ap v.last_gap (sym (seen_rows _ r))) in
+    let last : last_gap (leaves_row r) ≡ v.last_gap (seen_row r) = ap last_gap (leaves_rows _ r) ∙ (last_same s.semicolon ys (line_alternating ys statements) (row_solid _ r wide.1) ∙ ap v.last_gap (sym (seen_rows _ r))) in
     line_step all n up x xs h.0 some (omega arith) gap texts rest first last
     (λ group. subst (λ (ss : List Seen). with_group group (flat_map inside_item (statements_in [] ss)) ≡ flat_map inside_item (statements_in group ss)) (sym (seen_rows _ r)) (group_above group ys))
 
 all_solid : (xs : List Part) → AllByRecursion LegalPart xs → AllByRecursion Solid xs
 all_solid [] g = tt
-all_solid (x ∷ xs) g = (part_solid x g.0, all_solid xs g.1)
+all_solid (x ∷ xs) g = (part_solid x (wide_part x g.0).0, all_solid xs g.1)
 
 leaf_last : (xs : List Part) → LinesOf xs → LeafLast xs
 leaf_last [] h = tt

@@ -7,8 +7,8 @@ use Rattle.bz_grammar.specs.declared.kind.Kind.{Kind}
 use Rattle.bz_grammar.specs.declared.tree.Part.{Part, Row_of-Part, end_of-Part, more_of-Part, Node', items-the_row-Part}
 use Rattle.bz_grammar.specs.declared.tree.Part.TheVariants as p
 use Rattle.bz_grammar.specs.Shapes as s
-use Rattle.bz_grammar.specs.Shapes.{Fits, shape}
-use Rattle.bz_grammar.specs.Legal.{IsNonterminal, LegalPart, LegalRow}
+use Rattle.bz_grammar.specs.Shapes.{Fits, bzl_shape}
+use Rattle.bz_grammar.specs.Legal.{IsNonterminal, LegalBzlPart, LegalBzlRow}
 use Rattle.bz_value.specs.Frames.{Frame, row, sequence, frame, lead}
 use Rattle.bz_items.specs.Characters.{Bytes}
 use Rattle.bz_value.specs.Gaps.{all_in}
@@ -71,7 +71,7 @@ cut_regions n head body =
     let open_break : ℕ = n + sizes (map measured head) in
     in_row n (map measured head) ++ between open_break (suc open_break + sizes (map measured body)) ∷ hosts_from s.comma_mark (suc open_break) (map measured body)
 
-cut_inside : (n : ℕ) (head body : List Part) → Alternating s.comma_mark body → AllByRecursion Regions head → AllByRecursion Regions body → AllInside n (suc (n + sizes (map measured head)) + sizes (map measured body)) (cut_regions n head body)
+pub cut_inside : (n : ℕ) (head body : List Part) → Alternating s.comma_mark body → AllByRecursion Regions head → AllByRecursion Regions body → AllInside n (suc (n + sizes (map measured head)) + sizes (map measured body)) (cut_regions n head body)
 cut_inside n head body a r r' =
     let o : ℕ = n + sizes (map measured head) in
     let up : ℕ = suc o + sizes (map measured body) in
@@ -103,7 +103,7 @@ module _ (kind : Kind) (xs : List Part) (c : Cut kind xs) where
   pub parted : (P : Part → Type 0) → AllByRecursion P xs → AllByRecursion P head_of × AllByRecursion P body_of
   parted P h = let w = all_parted P head_of (p.Leaf c.opener ∷ body_of) (subst (AllByRecursion P) c.parts h) in (w.0, w.1.1)
 
-node_inside : (kind : Kind) (f : Frame) → frame kind ≡ f → (xs : List Part) → Fits IsNonterminal (shape kind) xs → AllByRecursion Regions xs → (n : ℕ) → AllInside n (n + sizes (map measured xs)) (in_node f kind n (map measured xs))
+node_inside : (kind : Kind) (f : Frame) → frame kind ≡ f → (xs : List Part) → Fits IsNonterminal (bzl_shape kind) xs → AllByRecursion Regions xs → (n : ℕ) → AllInside n (n + sizes (map measured xs)) (in_node f kind n (map measured xs))
 node_inside kind row e xs h r n = row_inside n xs r
 node_inside kind (sequence opener closer) e xs h r n =
     let c : Cut kind xs = sequence_cut kind opener closer xs e h in
@@ -112,18 +112,18 @@ node_inside kind (sequence opener closer) e xs h r n =
     (subst (λ (z : ℕ). AllInside n z (cut_regions n (head_of kind xs c) (body_of kind xs c))) (sym (cut_size kind xs c n)) (cut_inside n (head_of kind xs c) (body_of kind xs c) c.alternating w.0 w.1))
 
 mutual
-  pub part_regions : (x : Part) → LegalPart x → Regions x
+  pub part_regions : (x : Part) → LegalBzlPart x → Regions x
   part_regions (p.Leaf l) h = leaf_regions l
   part_regions (Node' kind z r) h = record {
     some = some_leaf (Node' kind z r) (part_solid (Node' kind z r) h);
     within = λ n. subst (λ (ms : List Measured). AllInside n (n + sizes ms) (in_node (frame kind) kind n ms)) (sym (measured_rows _ r)) (node_inside kind (frame kind) refl (items-the_row-Part _ r) h.0 (row_regions _ r h.1) n);
   }
 
-  pub row_regions : (m : _) (r : Row_of-Part m) → LegalRow r → AllByRecursion Regions (items-the_row-Part m r)
+  pub row_regions : (m : _) (r : Row_of-Part m) → LegalBzlRow r → AllByRecursion Regions (items-the_row-Part m r)
   row_regions m end_of-Part h = tt
   row_regions m (more_of-Part x rest) h = (part_regions x h.0, row_regions _ rest h.1)
 
-pub row_solid : (m : _) (r : Row_of-Part m) → LegalRow r → AllByRecursion Solid (items-the_row-Part m r)
+pub row_solid : (m : _) (r : Row_of-Part m) → LegalBzlRow r → AllByRecursion Solid (items-the_row-Part m r)
 row_solid m end_of-Part h = tt
 row_solid m (more_of-Part x rest) h = (part_solid x h.0, row_solid _ rest h.1)
 

@@ -1,14 +1,14 @@
 -- The comments in parts, by the leaves of each part.
-use Rattle.std.proofs.Common.{◌≡◌, ℕ, suc, ◌+◌, ◌<◌, List, [], ◌∷◌, ◌++◌, length, refl, sym, ap, ◌∙◌, map, append_assoc, length-append, arith}
+use Rattle.std.proofs.Common.{◌≡◌, ℕ, suc, ◌+◌, ◌<◌, List, [], ◌∷◌, ◌++◌, inl, inr, length, refl, sym, ap, ◌∙◌, map, append_assoc, length-append, arith}
 use Rattle.std.specs.List.{AllByRecursion, flat_map}
 use Rattle.bz_lex.specs.declared.leaf.Leaf.{Leaf}
 use Rattle.bz_grammar.specs.declared.kind.Kind.{Kind}
 use Rattle.bz_grammar.specs.declared.kind.Kind.TheVariants as k
 use Rattle.bz_grammar.specs.declared.tree.Part.{Part, Row_of-Part, end_of-Part, more_of-Part, Node', items-the_row-Part}
 use Rattle.bz_grammar.specs.declared.tree.Part.TheVariants as p
-use Rattle.bz_grammar.specs.Shapes.{Fits, shape}
+use Rattle.bz_grammar.specs.Shapes.{Fits, bzl_shape}
 use Rattle.bz_grammar.specs.Spell.{leaves_part, leaves_row}
-use Rattle.bz_grammar.specs.Legal.{IsNonterminal, LegalPart, LegalRow}
+use Rattle.bz_grammar.specs.Legal.{IsNonterminal, LegalBzlPart, LegalBzlRow}
 use Rattle.bz_value.specs.Frames.{frame}
 use Rattle.bz_items.specs.Characters.{Bytes}
 use Rattle.bz_hosts.specs.View.{seen, seen_row, first_seen_gap}
@@ -50,7 +50,10 @@ pub record Solid (x : Part) : Type 0 where
 pub some_leaf : (x : Part) → Solid x → 0 < size x
 some_leaf x h = let e = size_leaves x in let e' = ap length h.leaves in omega arith
 
-kind_some : (kind : Kind) → Fits IsNonterminal (shape kind) [] → ⊥
+kind_some : (kind : Kind) → Fits IsNonterminal (bzl_shape kind) [] → ⊥
+kind_some k.Param (inl h) = absurd h
+kind_some k.Param (inr (inl h)) = absurd h
+kind_some k.Param (inr (inr h)) = absurd h
 kind_some k.Line h = absurd h
 kind_some _ h = absurd h
 
@@ -58,19 +61,19 @@ abbrev SolidFirst : List Part → Type 0
 SolidFirst [] = Unit {0}
 SolidFirst (x ∷ xs) = Solid x
 
-node_solid : (kind : Kind) (m : _) (r : Row_of-Part m) → Fits IsNonterminal (shape kind) (items-the_row-Part m r) → SolidFirst (items-the_row-Part m r) →
+node_solid : (kind : Kind) (m : _) (r : Row_of-Part m) → Fits IsNonterminal (bzl_shape kind) (items-the_row-Part m r) → SolidFirst (items-the_row-Part m r) →
     (first : Leaf) × (rest : List Leaf) × (leaves_row r ≡ first ∷ rest) × (first_seen_gap (seen_row r) ≡ first.gap)
 node_solid kind m end_of-Part h s = absurd (kind_some kind h)
 node_solid kind m (more_of-Part x rest) h s = (s.first, s.rest ++ leaves_row rest, ap (λ (ls : List Leaf). ls ++ leaves_row rest) s.leaves, s.gap)
 
 mutual
-  pub part_solid : (x : Part) → LegalPart x → Solid x
+  pub part_solid : (x : Part) → LegalBzlPart x → Solid x
   part_solid (p.Leaf l) h = record { first = l; rest = []; leaves = refl; gap = refl }
   part_solid (Node' kind n r) h =
       let w = node_solid kind _ r h.0 (first_solid _ r h.1) in
       record { first = w.0; rest = w.1; leaves = w.2; gap = node_gap kind (seen_row r) (frame kind) ∙ w.3 }
 
-  first_solid : (m : _) (r : Row_of-Part m) → LegalRow r → SolidFirst (items-the_row-Part m r)
+  first_solid : (m : _) (r : Row_of-Part m) → LegalBzlRow r → SolidFirst (items-the_row-Part m r)
   first_solid m end_of-Part h = tt
   first_solid m (more_of-Part x rest) h = part_solid x h.0
 
@@ -93,7 +96,7 @@ abbrev pub after_parts : ℕ → List Part → List Comment
 after_parts n [] = []
 after_parts n (x ∷ xs) = inner n x ++ in_parts (n + size x) xs
 
-comments_joined : (n : ℕ) (ls ls' : List Leaf) → comments_from n (ls ++ ls') ≡ comments_from n ls ++ comments_from (n + length ls) ls'
+pub comments_joined : (n : ℕ) (ls ls' : List Leaf) → comments_from n (ls ++ ls') ≡ comments_from n ls ++ comments_from (n + length ls) ls'
 comments_joined n [] ls' = let e : n ≡ n + length {A = Leaf} [] = omega arith in ap (λ z. comments_from z ls') e
 comments_joined n (l ∷ ls) ls' =
     let e : suc n + length ls ≡ n + length (l ∷ ls) = omega arith in

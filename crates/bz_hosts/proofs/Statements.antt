@@ -43,10 +43,10 @@ silent_lines n (line ∷ ls) e = let w = nil_both (as_list line.comment) (commen
 pub silent_gap : (n : ℕ) (gap : Bytes) → all_in gap ≡ [] → comments_at n gap ≡ []
 silent_gap n gap e = silent_lines n (lines_of gap) e
 
-gap_ended : (all : List Region) (m first hi : ℕ) (rs : List Region) → Ended all m first None hi rs → GapPlaces all m (suffix_of first) outside
+pub gap_ended : (all : List Region) (m first hi : ℕ) (rs : List Region) → Ended all m first None hi rs → GapPlaces all m (suffix_of first) outside
 gap_ended all m first hi rs h = record { on_line = λ t. rw h.ends refl; below = λ t. rw h.inner refl }
 
-gap_suffix : (all : List Region) (m first : ℕ) (gap : Bytes) → GapPlaces all m (suffix_of first) outside → (q : CommentPlace) → 0 < key q → texts_at all q (comments_at m gap) ≡ pick (suffix_of first) q (as_list (suffix_in gap))
+pub gap_suffix : (all : List Region) (m first : ℕ) (gap : Bytes) → GapPlaces all m (suffix_of first) outside → (q : CommentPlace) → 0 < key q → texts_at all q (comments_at m gap) ≡ pick (suffix_of first) q (as_list (suffix_in gap))
 gap_suffix all m first gap h q k =
     gap_texts all q (suffix_of first) outside m gap h
     ∙ (ap (λ (z : Lines). pick (suffix_of first) q (as_list (suffix_in gap)) ++ z) (pick_other outside q (others_in gap) (λ e. omega arith)) ∙ append-nil (pick (suffix_of first) q (as_list (suffix_in gap))))

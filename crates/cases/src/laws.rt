@@ -78,6 +78,8 @@ fn call_suites() {
     bz_bzl_value::bzl_view_is_proper();
     bz_bzl_value::bzl_comments_kept();
     bz_bzl_value::worked_bzl_views();
+    bz_bzl_value::worked_bzl_hosts();
+    bz_bzl_value::bzl_hosts_by_place();
     bz_bzl_value::build_files_say_the_same();
     bz_bzl_value::build_items_are_bzl_items();
     bz_bzl_layout::level_stays();

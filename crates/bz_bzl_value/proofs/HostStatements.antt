@@ -1,0 +1,449 @@
+-- Statements as pieces with the hosts in them, and the law of hosts: in what a legal tree says each comment is where its place
+-- in the text says.
+use Rattle.std.proofs.Common.{◌≡◌, ℕ, suc, ◌+◌, ◌<◌, true, List, [], ◌∷◌, ◌++◌, inl, inr, Option, Some, None, length, refl, sym, ap, ◌∙◌, subst, map, take, drop, append-nil, append_assoc, codes, arith}
+use Rattle.std.specs.List.{AllByRecursion, flat_map}
+use Rattle.std.proofs.lemmas.Grind.{flat_map-append}
+use Rattle.bz_lex.specs.declared.leaf.Leaf.{Leaf}
+use Rattle.bz_lex.specs.Gaps.{indent}
+use Rattle.bz_grammar.specs.declared.kind.Kind.{Kind}
+use Rattle.bz_grammar.specs.declared.kind.Kind.TheVariants as k
+use Rattle.bz_grammar.specs.declared.tree.Part.{Part, Row_of-Part, end_of-Part, more_of-Part, Node', items-the_row-Part}
+use Rattle.bz_grammar.specs.declared.tree.Part.TheVariants as p
+use Rattle.bz_grammar.specs.Indents.{first_indent}
+use Rattle.bz_grammar.specs.Shapes as s
+use Rattle.bz_grammar.specs.Shapes.{Fits, Several, Times, no_more, once_more, bzl_shape, tok, done, nonterminal_has_kind, has_token, is_kind}
+use Rattle.bz_grammar.specs.Spell.{leaves_part, leaves_row, leaves_of}
+use Rattle.bz_grammar.specs.Legal.{IsNonterminal, LegalBzlPart, LegalBzlRow}
+use Rattle.bz_grammar.specs.Spots.{Begins, Along, BzlStands, AtLeaves, AtParts}
+use Rattle.bz_grammar.proofs.Balance.{no_such, parts_of_row}
+use Rattle.bz_items.specs.Characters.{Bytes}
+use Rattle.bz_value.specs.Gaps.{GapLine, groups_of, all_but_last, last_group}
+use Rattle.bz_value.specs.Indented.{indented}
+use Rattle.bz_hosts.specs.View.{seen, loose_in}
+use Rattle.bz_hosts.specs.Hosts.{Region, comments_at, texts_at, Measured, Hosted, block, hosted_by, hosts_alone, sizes, measured, measured_row, hosts_from, right_above, bare_lines}
+use Rattle.bz_hosts.proofs.Alternating.{Alternating}
+use Rattle.bz_hosts.proofs.Claim.{part_texts}
+use Rattle.bz_hosts.proofs.Files.{gap_outside, outside_none}
+use Rattle.bz_hosts.proofs.InnerParts.{nonterminal_inner}
+use Rattle.bz_hosts.proofs.Nodes.{part_regions}
+use Rattle.bz_hosts.proofs.Numbered.{all_numbered, alone_numbered, last_numbered}
+use Rattle.bz_hosts.proofs.Parts.{size, measured_rows, leaves_rows, Solid, part_solid}
+use Rattle.bz_hosts.proofs.QuietGaps.{Quiet, Statements, Silent, quiet_where}
+use Rattle.bz_hosts.proofs.Walked.{gap_of}
+use Rattle.bz_bzl_value.specs.declared.value.Statement.{Statement, Row_of-Statement, end_of-Statement, more_of-Statement, Row_of-Branch, end_of-Branch, more_of-Branch, items-the_row-Branch, items_hidden-the_row-Branch-1, items-the_row-Statement, items_shown-the_row-Statement-0}
+use Rattle.bz_bzl_value.specs.declared.value.Statement.TheVariants as st
+use Rattle.bz_bzl_value.specs.declared.value.Branch.{Branch}
+use Rattle.bz_bzl_value.specs.declared.value.BzlItem.{BzlItem}
+use Rattle.bz_bzl_value.specs.declared.value.BzlItem.TheVariants as b
+use Rattle.bz_bzl_value.specs.BzlHosts.{Suite, Stretch, simple_line, Placed, placed, placed_row, in_statement, in_compound, one_by_one, regions_in, suites_in, Page, suite_there, left_by, lines_above, left_above, statement_hosts, bzl_hosted_from, inside_head, inside_statement, inside_branches, inside_statements, inside_bzl_item}
+use Rattle.bz_bzl_value.specs.Laws.{BzlHostsByPlace}
+use Rattle.bz_bzl_value.specs.View.{ReadStatements, stated, stated_row, statement_read, suite_in, suffix_before, compound_read, branches, indented_lines_before, indented_comments, walked, margin_of, def_head, block_items, bzl_items}
+use Rattle.bz_bzl_value.proofs.HeadParts.{Named, token_in, colon_headed, test_headed, for_headed, def_headed, after_stmt}
+use Rattle.bz_bzl_value.proofs.HostBranches.{branch_hosts, BranchesPiece, Further, Branches, HeaderFacts, Parted, headed, row_facts, all_regions, all_texts}
+use Rattle.bz_bzl_value.proofs.HostBranches as hb
+use Rattle.bz_bzl_value.proofs.HostPieces.{At, at_first, at_second, Extent, both_extents, Piece, same_piece, both_pieces, left_there}
+use Rattle.bz_bzl_value.proofs.HostReads.{line_extent, line_piece_hosts, def_within, def_header}
+use Rattle.bz_bzl_value.proofs.HostSuites.{OwnPiece, line_own, suite_own, as_walked}
+use Rattle.bz_bzl_value.proofs.KeptBranches.{Elif, Else, elif_word, else_word, after_word}
+use Rattle.bz_bzl_value.proofs.KeptGaps.{newline_ends, newline_comment, part_silent}
+use Rattle.bz_bzl_value.proofs.KeptValues.{branches_in}
+use Rattle.bz_bzl_value.proofs.Parts.{stated_rows}
+use Rattle.bz_bzl_value.proofs.SuiteHeaders.{sizes_leaves}
+use Rattle.bz_bzl_value.proofs.SuiteLines.{Lines, AllBetween, gap_joined, first_at, beyond}
+use Rattle.bz_bzl_value.proofs.SuitePieces.{PieceRead, with_left}
+use Rattle.bz_bzl_value.proofs.SuiteReads.{stated_gap, placed_measured, line_some, line_left}
+
+-- ---- parts and values
+
+placed_rows : (m : _) (r : Row_of-Part m) → placed_row r ≡ map placed (items-the_row-Part m r)
+placed_rows m end_of-Part = refl
+placed_rows m (more_of-Part x rest) = ap (λ (z : List Placed). placed x ∷ z) (placed_rows _ rest)
+
+indent_first : (ls : List Leaf) → first_indent ls ≡ indent (gap_of ls)
+indent_first [] = refl
+indent_first (l ∷ ls) = refl
+
+blocks_alone : (gs : List (List Bytes)) → flat_map inside_bzl_item (block_items gs) ≡ hosts_alone gs
+blocks_alone [] = refl
+blocks_alone ([] ∷ gs) = blocks_alone gs
+blocks_alone ((text ∷ group) ∷ gs) = ap (λ (z : List Hosted). block (text ∷ group) ∷ z) (blocks_alone gs)
+
+items_alone : (xs : List Statement) → flat_map inside_bzl_item (map b.Statement xs) ≡ flat_map inside_statement xs
+items_alone [] = refl
+items_alone (x ∷ xs) = ap (λ (z : List Hosted). inside_statement x ++ z) (items_alone xs)
+
+before_first : (xs : List Part) → AllByRecursion Solid xs → indented_lines_before (map stated xs) [] ≡ indented (gap_of (flat_map leaves_part xs))
+before_first [] g = refl
+before_first (x ∷ xs) g = ap indented (stated_gap x (flat_map leaves_part xs) g.0)
+
+all_solid : (xs : List Part) → AllByRecursion LegalBzlPart xs → AllByRecursion Solid xs
+all_solid [] h = tt
+all_solid (x ∷ xs) h = (part_solid x h.0, all_solid xs h.1)
+
+statements_listed : (m : _) (r' : Row_of-Statement m) → inside_statements r' ≡ flat_map inside_statement (items-the_row-Statement m r')
+statements_listed m end_of-Statement = refl
+statements_listed m (more_of-Statement x rest) = ap (λ (z : List Hosted). inside_statement x ++ z) (statements_listed _ rest)
+
+branches_listed : (m : _) (r' : Row_of-Branch m) → inside_branches r' ≡ flat_map branch_hosts (items-the_row-Branch m r')
+branches_listed m end_of-Branch = refl
+branches_listed m (more_of-Branch head' size' statements end rest) =
+    let own = statements_listed _ statements ∙ ap (flat_map inside_statement) (sym (items_shown-the_row-Statement-0 size' statements)) in
+    ap (λ (z : List Hosted). (hosted_by head'.comments ∷ (inside_head head' ++ block end ∷ inside_statements statements)) ++ z) (branches_listed _ rest)
+    ∙ ap (λ (z : List Hosted). (hosted_by head'.comments ∷ (inside_head head' ++ block end ∷ z)) ++ flat_map branch_hosts (items-the_row-Branch _ rest)) own
+
+compound_listed : (xs : List Branch) → inside_statement (st.Compound xs) ≡ flat_map branch_hosts xs
+compound_listed xs =
+    let r' = branches_in (st.Compound xs) in
+    branches_listed r'.0 r'.1 ∙ ap (flat_map branch_hosts) (items_hidden-the_row-Branch-1 xs)
+
+measured_list : (xs : List Part) → map (λ x. x.measured) (map placed xs) ≡ map measured xs
+measured_list [] = refl
+measured_list (x ∷ xs) = ap (λ (z : Measured). z ∷ map (λ x. x.measured) (map placed xs)) (placed_measured x) ∙ ap (λ (z : List Measured). measured x ∷ z) (measured_list xs)
+
+abbrev as_read : ReadStatements (List Statement) → List Hosted × Lines
+as_read r' = with_left (flat_map inside_statement r'.0) r'.1
+
+module _ (page : Page) where
+  -- ---- if, elif, else, for and def
+
+  some_parts : (xs : List Part) (x : Part) → AllByRecursion (Parted page) (x ∷ xs) → 0 < sizes (map measured (x ∷ xs))
+  some_parts xs x g = let some = g.0.regions.some in omega arith
+
+  if_facts : (x : Part) (front : List Part) → AllByRecursion (Parted page) (x ∷ front) → (n : ℕ) (group : List Bytes) (suffix : Option Bytes) → HeaderFacts page k.IfStmt (x ∷ front) n group suffix
+  if_facts x front g = row_facts page k.IfStmt (x ∷ front) (λ n. refl) (λ group suffix. refl) refl (some_parts front x g) g
+
+  for_facts : (x : Part) (front : List Part) → AllByRecursion (Parted page) (x ∷ front) → (n : ℕ) (group : List Bytes) (suffix : Option Bytes) → HeaderFacts page k.ForStmt (x ∷ front) n group suffix
+  for_facts x front g = row_facts page k.ForStmt (x ∷ front) (λ n. refl) (λ group suffix. refl) refl (some_parts front x g) g
+
+  named_facts : (word name opener : Part) (xs : List Part) → has_token (s.one_keyword (codes "def")) word ≡ true → has_token s.name name ≡ true → has_token s.open_round opener ≡ true → Alternating s.comma_mark xs → AllByRecursion (Parted page) (word ∷ name ∷ opener ∷ xs)
+      → (n : ℕ) (group : List Bytes) (suffix : Option Bytes) → HeaderFacts page k.Def (word ∷ name ∷ opener ∷ xs) n group suffix
+  named_facts (Node' kind z r') name opener xs i j l a g n group suffix = no_such i
+  named_facts (p.Leaf w) (Node' kind z r') opener xs i j l a g n group suffix = no_such j
+  named_facts (p.Leaf w) (p.Leaf w') (Node' kind z r') xs i j l a g n group suffix = no_such l
+  named_facts (p.Leaf w) (p.Leaf w') (p.Leaf w'') [] i j l a g n group suffix = absurd a
+  named_facts (p.Leaf w) (p.Leaf w') (p.Leaf w'') (x ∷ xs) i j l a g n group suffix =
+      let hs : List Part = p.Leaf w ∷ p.Leaf w' ∷ p.Leaf w'' ∷ x ∷ xs in
+      let f : ℕ = suc (n + sizes (map measured hs)) in
+      let rs = all_regions page (x ∷ xs) g.1.1.1 in
+      let is = all_texts page (x ∷ xs) g.1.1.1 in
+      record {
+        loose = loose_in (take 3 (map seen hs));
+        there = inside_head (def_head (map seen hs) group suffix);
+        inside_it = def_within page.regions n f f w w' w'' x xs a rs is;
+        texts = def_header page.regions n f f w w' w'' x xs a rs is group suffix;
+        form_is = refl;
+        form_inside = refl;
+      }
+
+  def_facts : (word : Part) → has_token (s.one_keyword (codes "def")) word ≡ true → (front : List Part) → Named front → AllByRecursion (Parted page) (word ∷ front) → (n : ℕ) (group : List Bytes) (suffix : Option Bytes) → HeaderFacts page k.Def (word ∷ front) n group suffix
+  def_facts word i front w g n group suffix =
+      subst (λ zs. HeaderFacts page k.Def (word ∷ zs) n group suffix) (sym w.cut)
+      (named_facts word w.name w.opener w.following i w.named w.opens w.parameters.alternating (subst (λ zs. AllByRecursion (Parted page) (word ∷ zs)) w.cut g) n group suffix)
+
+  last_alternative : (xs : List Part) → Else xs → AtParts BzlStands Begins Begins xs → Branches page k.IfStmt xs
+  last_alternative [] h at_ g = tt
+  last_alternative (x ∷ xs) (inr h) at_ g = absurd h
+  last_alternative (x ∷ []) (inl h) at_ g = absurd h.1
+  last_alternative (x ∷ mark ∷ []) (inl h) at_ g = absurd h.1.1
+  last_alternative (x ∷ mark ∷ own ∷ []) (inl h) at_ g =
+      let there = colon_headed mark own [] h.1.0 h.1.1.0 (after_word else_word x (mark ∷ own ∷ []) refl h.0 at_) in
+      (headed page k.IfStmt _ x [] (mark ∷ own ∷ []) there (token_in else_word x refl refl h.0) g (λ front w. if_facts x front) (λ g'. tt), g.0.solid)
+  last_alternative (x ∷ mark ∷ own ∷ y ∷ xs) (inl h) at_ g = absurd h.1.1.1
+
+  alternatives : (xs : List Part) → Times Elif Else xs → AtParts BzlStands Begins Begins xs → Branches page k.IfStmt xs
+  alternatives xs (no_more h) at_ g = last_alternative xs h at_ g
+  alternatives xs (once_more [] back e h t) at_ g = absurd h
+  alternatives xs (once_more (word ∷ []) back e h t) at_ g = absurd h.1
+  alternatives xs (once_more (word ∷ x ∷ []) back e h t) at_ g = absurd h.1.1
+  alternatives xs (once_more (word ∷ x ∷ mark ∷ []) back e h t) at_ g = absurd h.1.1.1
+  alternatives xs (once_more (word ∷ x ∷ mark ∷ own ∷ y ∷ front) back e h t) at_ g = absurd h.1.1.1.1
+  alternatives xs (once_more (word ∷ x ∷ mark ∷ own ∷ []) back e h t) at_ g =
+      let zs : List Part = word ∷ x ∷ mark ∷ own ∷ back in
+      let known : AllByRecursion (Parted page) zs = subst (AllByRecursion (Parted page)) e g in
+      let there = test_headed x mark own back h.1.0 h.1.1.0 h.1.1.1.0 (after_word elif_word word (x ∷ mark ∷ own ∷ back) refl h.0 (subst (AtParts BzlStands Begins Begins) e at_)) in
+      subst (Further page k.IfStmt) (sym e) (headed page k.IfStmt _ word back (x ∷ mark ∷ own ∷ back) there (token_in elif_word word refl refl h.0) known (λ front w. if_facts word front) (alternatives back t there.following), known.0.solid)
+
+  if_piece : (xs : List Part) → Fits IsNonterminal (bzl_shape k.IfStmt) xs → AtParts BzlStands Begins Begins xs → AllByRecursion (Parted page) xs → BranchesPiece page k.IfStmt xs
+  if_piece [] h at_ g = absurd h
+  if_piece (word ∷ []) h at_ g = absurd h.1
+  if_piece (word ∷ x ∷ []) h at_ g = absurd h.1.1
+  if_piece (word ∷ x ∷ mark ∷ []) h at_ g = absurd h.1.1.1
+  if_piece (word ∷ x ∷ mark ∷ own ∷ back) h at_ g =
+      let there = test_headed x mark own back h.1.0 h.1.1.0 h.1.1.1.0 (after_word (s.one_keyword (codes "if")) word (x ∷ mark ∷ own ∷ back) refl h.0 at_) in
+      headed page k.IfStmt _ word back (x ∷ mark ∷ own ∷ back) there (token_in (s.one_keyword (codes "if")) word refl refl h.0) g (λ front w. if_facts word front) (alternatives back h.1.1.1.1 there.following)
+
+  for_piece : (xs : List Part) → Fits IsNonterminal (bzl_shape k.ForStmt) xs → AtParts BzlStands Begins Begins xs → AllByRecursion (Parted page) xs → BranchesPiece page k.ForStmt xs
+  for_piece [] h at_ g = absurd h
+  for_piece (word ∷ xs) h at_ g =
+      headed page k.ForStmt _ word [] xs (for_headed xs h.1 (after_word (s.one_keyword (codes "for")) word xs refl h.0 at_)) (token_in (s.one_keyword (codes "for")) word refl refl h.0) g (λ front w. for_facts word front) (λ g'. tt)
+
+  def_piece : (xs : List Part) → Fits IsNonterminal (bzl_shape k.Def) xs → AtParts BzlStands Begins Begins xs → AllByRecursion (Parted page) xs → BranchesPiece page k.Def xs
+  def_piece [] h at_ g = absurd h
+  def_piece (word ∷ xs) h at_ g =
+      headed page k.Def Named word [] xs (def_headed xs h.1 (after_word (s.one_keyword (codes "def")) word xs refl h.0 at_)) (token_in (s.one_keyword (codes "def")) word refl refl h.0) g (def_facts word h.0) (λ g'. tt)
+
+  -- ---- nodes, by the lists of their parts
+
+  abbrev as_statement : Part → List Bytes → PieceRead
+  as_statement x group after = as_read ((stated x).statement group after)
+
+  abbrev StatementPiece : Part → Type 0
+  StatementPiece x = (n : ℕ) (group : List Bytes) → Piece page n (n + size x) (leaves_part x) ((placed x).stretches n) group (as_statement x group)
+
+  abbrev AsStatement : Part → Type 0
+  AsStatement x = IsNonterminal s.stmt x → AtLeaves BzlStands Begins x → StatementPiece x
+
+  abbrev NodePiece : Kind → List Part → Type 0
+  NodePiece kind xs = (n : ℕ) (group : List Bytes) → Piece page n (n + sizes (map measured xs)) (flat_map leaves_part xs) (in_statement kind n (map placed xs)) group (λ after. as_read (statement_read kind (map stated xs) group after))
+
+  compound_read_piece : (kind : Kind) (xs : List Part) → BranchesPiece page kind xs → (n : ℕ) (group : List Bytes) → Piece page n (n + sizes (map measured xs)) (flat_map leaves_part xs) (in_compound kind n [] (map placed xs)) group (λ after. as_read (compound_read kind (map stated xs) group after))
+  compound_read_piece kind xs h n group = record {
+    extent = (h n group []).extent;
+    starts = (h n group []).starts;
+    left = λ a l after. (h n group after).left a l after;
+    hosts = λ z.
+        let after : Lines = indented (gap_of z.back) in
+        let own = (branches kind [] group after (map stated xs) after).0 in
+        append-nil (inside_statement (st.Compound own)) ∙ (compound_listed own ∙ (h n group after).hosts z);
+  }
+
+  line_node : (xs : List Part) → Statements xs → Quiet xs → AllByRecursion (Parted page) xs → NodePiece k.Line xs
+  line_node [] fits quiet g n group = absurd fits
+  line_node (x ∷ xs) fits quiet g n group =
+      let ys : List Part = x ∷ xs in
+      let e : ℕ = n + sizes (map measured ys) in
+      let rs : List Region = hosts_from s.semicolon n (map measured ys) in
+      let solids = hb.all_solid page ys g in
+      let regions = all_regions page ys g in
+      let texts = all_texts page ys g in
+      let some = line_some ys fits in
+      let h = sizes_leaves ys in
+      subst (λ (ms : List Measured). Piece page n e (flat_map leaves_part ys) (simple_line n (hosts_from s.semicolon n ms) ∷ []) group (λ after. as_read (statement_read k.Line (map stated ys) group after))) (sym (measured_list ys)) (record {
+        extent = line_extent page n group x xs fits quiet regions texts solids some (omega arith);
+        starts = refl;
+        left = λ a l after. line_left group ys fits after;
+        hosts = λ z. line_piece_hosts page n group x xs fits quiet regions texts solids z;
+      })
+
+  all_silent : (xs : List Part) → AllByRecursion (Parted page) xs → AllByRecursion (Silent BzlStands) xs
+  all_silent [] g = tt
+  all_silent (x ∷ xs) g = (g.0.silent, all_silent xs g.1)
+
+  node_piece : (kind : Kind) (xs : List Part) → nonterminal_has_kind s.stmt kind ≡ true → Fits IsNonterminal (bzl_shape kind) xs → AtParts BzlStands Begins Begins xs → AllByRecursion (Parted page) xs → NodePiece kind xs
+  node_piece k.Line xs h f at_ g n group = line_node xs f (quiet_where BzlStands Begins Begins xs refl f (all_silent xs g) at_) g n group
+  node_piece k.Def xs h f at_ g n group = compound_read_piece k.Def xs (def_piece xs f at_ g) n group
+  node_piece k.IfStmt xs h f at_ g n group = compound_read_piece k.IfStmt xs (if_piece xs f at_ g) n group
+  node_piece k.ForStmt xs h f at_ g n group = compound_read_piece k.ForStmt xs (for_piece xs f at_ g) n group
+  node_piece _ xs h f at_ g n group = no_such h
+
+  -- ---- statements one after the other
+
+  walked_piece : (n : ℕ) (above : Lines) (x : Part) (xs : List Part) → AllByRecursion StatementPiece (x ∷ xs) → AllByRecursion Solid (x ∷ xs)
+      → Piece page n (n + sizes (map measured (x ∷ xs))) (flat_map leaves_part (x ∷ xs)) (one_by_one n (map placed (x ∷ xs))) (indented_comments above) (as_walked page (x ∷ xs) above)
+  walked_piece n above x [] h g =
+      let group : List Bytes = indented_comments above in
+      same_piece page n (n + size x) (n + sizes (map measured (x ∷ []))) (leaves_part x) (leaves_part x ++ []) ((placed x).stretches n) ((placed x).stretches n ++ []) group (as_statement x group) (as_walked page (x ∷ []) above)
+      (omega arith) (sym (append-nil (leaves_part x))) (sym (append-nil ((placed x).stretches n)))
+      (λ after. ap (λ (z : List Statement). with_left (flat_map inside_statement z) ((stated x).statement group after).1) (append-nil ((stated x).statement group after).0))
+      (h.0 n group)
+  walked_piece n above x (y ∷ ys) h g =
+      let group : List Bytes = indented_comments above in
+      let more : List Leaf = flat_map leaves_part (y ∷ ys) in
+      let one : ReadStatements (List Statement) = (stated x).statement group (indented (gap_of more)) in
+      let m : ℕ = n + size x in
+      let e : ℕ = m + sizes (map measured (y ∷ ys)) in
+      let sts : List Stretch = (placed x).stretches n in
+      let rest : ReadStatements (List Statement) → Lines → ReadStatements (List Statement) = λ first after. walked first.1 (map stated (y ∷ ys)) after in
+      same_piece page n e (n + sizes (map measured (x ∷ y ∷ ys))) (leaves_part x ++ more) (leaves_part x ++ more) (sts ++ one_by_one m (map placed (y ∷ ys))) (one_by_one n (map placed (x ∷ y ∷ ys))) group
+      (λ after. with_left ((as_statement x group (indented (gap_of more))).0 ++ (as_walked page (y ∷ ys) one.1 after).0) (as_walked page (y ∷ ys) one.1 after).1) (as_walked page (x ∷ y ∷ ys) above)
+      (omega arith) refl (ap (λ (z : Measured). sts ++ one_by_one (n + z.size) (map placed (y ∷ ys))) (sym (placed_measured x)))
+      (λ after.
+      ap (λ (z : Bytes). let first : ReadStatements (List Statement) = (stated x).statement group (indented z) in with_left (flat_map inside_statement (first.0 ++ (rest first after).0)) (rest first after).1) (stated_gap y (flat_map leaves_part ys) g.1.0)
+      ∙ ap (λ (z : List Hosted). with_left z (rest one after).1) (flat_map-append inside_statement one.0 (rest one after).0))
+      (both_pieces page n m e (leaves_part x) more sts (one_by_one m (map placed (y ∷ ys))) group (as_statement x group) (as_walked page (y ∷ ys) one.1) (h.0 n group) (walked_piece m one.1 y ys h.1 g.1))
+
+  statements_at : (xs : List Part) → Several (IsNonterminal s.stmt) (Fits IsNonterminal done) xs → AtParts BzlStands Along Begins xs → AllByRecursion AsStatement xs → AllByRecursion StatementPiece xs
+  statements_at [] h at_ g = tt
+  statements_at (x ∷ xs) (inl h) at_ g = absurd h
+  statements_at (x ∷ xs) (inr h) at_ g = (g.0 h.0 at_.0, statements_at xs h.1 (subst (λ z. AtParts BzlStands Along z xs) (after_stmt x Along Begins h.0) at_.1) g.1)
+
+  -- ---- suites
+
+  own_rows : (kind : Kind) (m : _) (r' : Row_of-Part m) (n e : ℕ) (own : Option Suite) (xs : List Part) → items-the_row-Part m r' ≡ xs
+      → OwnPiece page n e (flat_map leaves_part xs) own (in_statement kind n (map placed xs)) (suffix_before kind (map stated xs)) (suite_in kind (map stated xs))
+      → OwnPiece page n e (leaves_row r') own (in_statement kind n (placed_row r')) (suffix_before kind (stated_row r')) (suite_in kind (stated_row r'))
+  own_rows kind m r' n e own xs i h =
+      subst (λ ls. OwnPiece page n e ls own (in_statement kind n (placed_row r')) (suffix_before kind (stated_row r')) (suite_in kind (stated_row r'))) (sym (leaves_rows m r' ∙ ap (flat_map leaves_part) i))
+      (subst (λ ps. OwnPiece page n e (flat_map leaves_part xs) own (in_statement kind n ps) (suffix_before kind (stated_row r')) (suite_in kind (stated_row r'))) (sym (placed_rows m r' ∙ ap (map placed) i))
+      (subst (λ ss. OwnPiece page n e (flat_map leaves_part xs) own (in_statement kind n (map placed xs)) (suffix_before kind ss) (suite_in kind ss)) (sym (stated_rows m r' ∙ ap (map stated) i)) h))
+
+  line_rows : (m : _) (r' : Row_of-Part m) (xs : List Part) → items-the_row-Part m r' ≡ xs → Statements xs → AtParts BzlStands Along Along xs → AllByRecursion (Parted page) xs → (n : ℕ)
+      → OwnPiece page n (n + sizes (measured_row r')) (leaves_row r') None (in_statement k.Line n (placed_row r')) (suffix_before k.Line (stated_row r')) (suite_in k.Line (stated_row r'))
+  line_rows m r' [] i fits at_ g n = absurd fits
+  line_rows m r' (x ∷ xs) i fits at_ g n =
+      let ys : List Part = x ∷ xs in
+      let e : ℕ = n + sizes (measured_row r') in
+      let same : sizes (map measured ys) ≡ sizes (measured_row r') = sym (ap sizes (measured_rows m r') ∙ ap (λ (z : List Part). sizes (map measured z)) i) in
+      let h = sizes_leaves ys in
+      let line = line_own page n x xs fits (quiet_where BzlStands Along Along ys refl fits (all_silent ys g) at_) (all_regions page ys g) (all_texts page ys g) (hb.all_solid page ys g) (g.0.silent (nonterminal_inner s.small x refl fits.0) at_.0) (omega arith) in
+      own_rows k.Line m r' n e None ys i
+      (subst (λ (ms : List Measured). OwnPiece page n e (flat_map leaves_part ys) None (simple_line n (hosts_from s.semicolon n ms) ∷ []) None (suite_in k.Line (map stated ys))) (sym (measured_list ys))
+      (subst (λ z. OwnPiece page n (n + z) (flat_map leaves_part ys) None (simple_line n (hosts_from s.semicolon n (map measured ys)) ∷ []) None (suite_in k.Line (map stated ys))) same line))
+
+  suite_rows : (m : _) (r' : Row_of-Part m) (xs : List Part) → items-the_row-Part m r' ≡ xs → Fits IsNonterminal (bzl_shape k.Suite) xs → AtParts BzlStands Along Along xs → AllByRecursion AsStatement xs → AllByRecursion (Parted page) xs → (n : ℕ)
+      → OwnPiece page n (n + sizes (measured_row r')) (leaves_row r') (Some (record { first = suc n; following = n + sizes (measured_row r'); margin = length (first_indent (drop 1 (leaves_row r'))) })) (in_statement k.Suite n (placed_row r')) (suffix_before k.Suite (stated_row r')) (suite_in k.Suite (stated_row r'))
+  suite_rows m r' [] i fits at_ g w n = absurd fits
+  suite_rows m r' (Node' kind z r'' ∷ xs) i fits at_ g w n = no_such fits.0
+  suite_rows m r' (p.Leaf l ∷ []) i fits at_ g w n = absurd fits.1
+  suite_rows m r' (p.Leaf l ∷ x ∷ xs) i fits at_ g w n =
+      let all : List Part = p.Leaf l ∷ x ∷ xs in
+      let e : ℕ = n + sizes (measured_row r') in
+      let own : Option Suite = Some (record { first = suc n; following = e; margin = length (first_indent (drop 1 (leaves_row r'))) }) in
+      let there : AtParts BzlStands Along Begins (x ∷ xs) = subst (λ z. AtParts BzlStands Along z (x ∷ xs)) (newline_ends (p.Leaf l) Along Along fits.0) at_.1 in
+      let statements : AllByRecursion StatementPiece (x ∷ xs) = statements_at (x ∷ xs) (inr (fits.1.0, fits.1.1)) there g.1 in
+      let leaves : leaves_row r' ≡ l ∷ flat_map leaves_part (x ∷ xs) = leaves_rows m r' ∙ ap (flat_map leaves_part) i in
+      let margin : length (first_indent (drop 1 (leaves_row r'))) ≡ margin_of (map stated (x ∷ xs)) =
+      ap (λ (z : List Leaf). length (first_indent (drop 1 z))) leaves ∙ ap length (indent_first (flat_map leaves_part (x ∷ xs)) ∙ ap indent (sym (stated_gap x (flat_map leaves_part xs) w.1.0.solid))) in
+      let size' : sizes (measured_row r') ≡ sizes (map measured all) = ap sizes (measured_rows m r') ∙ ap (λ (z : List Part). sizes (map measured z)) i in
+      let up : suc n + sizes (map measured (x ∷ xs)) ≡ e = omega (arith, size') in
+      let lines : Lines = indented_lines_before (map stated (x ∷ xs)) [] in
+      let sts : List Stretch = one_by_one (suc n) (map placed (x ∷ xs)) in
+      let inner : Piece page (suc n) e (flat_map leaves_part (x ∷ xs)) sts (indented_comments lines) (as_walked page (x ∷ xs) lines) =
+      subst (λ z. Piece page (suc n) z (flat_map leaves_part (x ∷ xs)) sts (indented_comments lines) (as_walked page (x ∷ xs) lines)) up (walked_piece (suc n) lines x xs statements (hb.all_solid page (x ∷ xs) w.1)) in
+      let one : suc n ≡ n + 1 = omega arith in
+      own_rows k.Suite m r' n e own all i
+      (subst (λ z. OwnPiece page n e (flat_map leaves_part all) own (one_by_one z (map placed (x ∷ xs))) (suffix_before k.Suite (map stated all)) (suite_in k.Suite (map stated all))) one
+      (suite_own page n e (length (first_indent (drop 1 (leaves_row r')))) l x xs w.1.0.solid margin (newline_comment (p.Leaf l) fits.0 at_.0) inner))
+
+  abbrev Inside : Part → Type 0
+  Inside (p.Leaf l) = Unit {0}
+  Inside (Node' kind m r') = AllByRecursion AsStatement (items-the_row-Part _ r') × AllByRecursion (Parted page) (items-the_row-Part _ r')
+
+  own_piece : (x : Part) → LegalBzlPart x → Inside x → IsNonterminal s.suite x → AtLeaves BzlStands Along x → (n : ℕ) → OwnPiece page n (n + size x) (leaves_part x) (suite_there n (measured x) x) ((placed x).stretches n) (stated x).suffix (stated x).suite
+  own_piece (p.Leaf l) h g i at_ = no_such i
+  own_piece (Node' k.Line m r') h g i at_ = line_rows _ r' (items-the_row-Part _ r') refl h.0 (parts_of_row BzlStands Along Along _ r' at_) g.1
+  own_piece (Node' k.Suite m r') h g i at_ = suite_rows _ r' (items-the_row-Part _ r') refl h.0 (parts_of_row BzlStands Along Along _ r' at_) g.0 g.1
+  own_piece (Node' _ m r') h g i at_ = no_such i
+
+  -- ---- parts of a legal tree
+
+  mutual
+    part_piece : (x : Part) → LegalBzlPart x → AsStatement x × Parted page x
+    part_piece (p.Leaf l) h = (λ i at_. no_such i, record { suite = λ i at_. no_such i; solid = part_solid (p.Leaf l) h; regions = part_regions (p.Leaf l) h; texts = part_texts page.regions (p.Leaf l) h; silent = part_silent (p.Leaf l) h })
+    part_piece (Node' kind m r') h =
+        let x : Part = Node' kind m r' in
+        let xs : List Part = items-the_row-Part _ r' in
+        let inside : AllByRecursion AsStatement xs × AllByRecursion (Parted page) xs = row_piece _ r' h.1 in
+        let node : IsNonterminal s.stmt x → AtLeaves BzlStands Begins x → StatementPiece x = λ i at_ n group.
+        same_piece page n (n + sizes (map measured xs)) (n + sizes (measured_row r')) (flat_map leaves_part xs) (leaves_row r') (in_statement kind n (map placed xs)) (in_statement kind n (placed_row r')) group _ _
+        (ap (λ ms. n + sizes ms) (sym (measured_rows _ r'))) (sym (leaves_rows _ r')) (ap (in_statement kind n) (sym (placed_rows _ r')))
+        (λ after. ap (λ ss. as_read (statement_read kind ss group after)) (stated_rows _ r'))
+        (node_piece kind xs i h.0 (parts_of_row BzlStands Begins Begins _ r' at_) inside.1 n group) in
+        (node, record { suite = own_piece x h inside; solid = part_solid x h; regions = part_regions x h; texts = part_texts page.regions x h; silent = part_silent x h })
+
+    row_piece : (m : _) (r' : Row_of-Part m) → LegalBzlRow r' → AllByRecursion AsStatement (items-the_row-Part m r') × AllByRecursion (Parted page) (items-the_row-Part m r')
+    row_piece m end_of-Part h = (tt, tt)
+    row_piece m (more_of-Part x rest) h =
+        let one : AsStatement x × Parted page x = part_piece x h.0 in
+        let more : AllByRecursion AsStatement (items-the_row-Part _ rest) × AllByRecursion (Parted page) (items-the_row-Part _ rest) = row_piece _ rest h.1 in
+        ((one.0, more.0), (one.1, more.1))
+
+  -- ---- the file
+
+  abbrev FileParts : List Part → Type 0
+  FileParts xs = Several (IsNonterminal s.stmt) (Fits IsNonterminal (tok s.end done)) xs
+
+  later_at : (x : Part) (xs : List Part) → IsNonterminal s.stmt x → AtParts BzlStands Begins Begins (x ∷ xs) → AtParts BzlStands Begins Begins xs
+  later_at x xs h at_ = subst (λ z. AtParts BzlStands Begins z xs) (after_stmt x Begins Begins h) at_.1
+
+  abbrev FileExtent : ℕ → List Part → Type 0
+  FileExtent n xs = Extent page n (n + sizes (map measured xs)) (flat_map leaves_part xs) (one_by_one n (map placed xs))
+
+  end_extent : (n : ℕ) (l : Leaf) → Extent page n (n + 1) (l ∷ []) []
+  end_extent n l = record {
+    some = omega arith;
+    up = refl;
+    bounds = tt;
+    within = tt;
+    outer = λ sees q d o.
+        ap (texts_at page.regions q) (append-nil (comments_at n l.gap)) ∙ outside_none page.regions n l.gap (gap_outside page.regions n (n + 1) (sees n (omega arith) (omega arith))) q d;
+  }
+
+  file_extent : (n : ℕ) (xs : List Part) → FileParts xs → AllByRecursion AsStatement xs → AtParts BzlStands Begins Begins xs → FileExtent n xs
+  file_extent n [] h g at_ = absurd h
+  file_extent n (p.Leaf l ∷ []) (inl h) g at_ = let e : n + 1 ≡ n + sizes (map measured (p.Leaf l ∷ [])) = omega arith in subst (λ z. Extent page n z (l ∷ []) []) e (end_extent n l)
+  file_extent n (p.Leaf l ∷ y ∷ xs) (inl h) g at_ = absurd h.1
+  file_extent n (p.Leaf l ∷ xs) (inr h) g at_ = no_such h.0
+  file_extent n (Node' kind z r' ∷ xs) (inl h) g at_ = no_such h.0
+  file_extent n (Node' kind z r' ∷ xs) (inr h) g at_ =
+      let x : Part = Node' kind z r' in
+      let m : ℕ = n + size x in
+      let e : m + sizes (map measured xs) ≡ n + sizes (map measured (x ∷ xs)) = omega arith in
+      subst (λ t. Extent page n t (flat_map leaves_part (x ∷ xs)) (one_by_one n (map placed (x ∷ xs)))) e
+      (both_extents page n m (m + sizes (map measured xs)) (leaves_part x) (flat_map leaves_part xs) ((placed x).stretches n) (one_by_one m (map placed xs)) (g.0 h.0 at_.0 n []).extent (file_extent m xs h.1 g.1 (later_at x xs h.0 at_)))
+
+  file_hosts : (n e : ℕ) (lines : Lines) (xs : List Part) → e ≡ n + sizes (map measured xs) → FileParts xs → AllByRecursion AsStatement xs → AllByRecursion Solid xs → AtParts BzlStands Begins Begins xs → At page n e (flat_map leaves_part xs) (one_by_one n (map placed xs))
+      → lines ≡ left_by 0 n page.suites (lines_above page.leaves n) → flat_map inside_bzl_item (bzl_items lines xs) ≡ bzl_hosted_from page n xs
+  file_hosts n e lines [] u h g w at_ z i = absurd h
+  file_hosts n e lines (p.Leaf l ∷ []) u (inl h) g w at_ z i =
+      let gs : List GapLine = left_above page n in
+      ap (λ (t : Lines). flat_map inside_bzl_item (block_items (groups_of (map (λ l. l.line) t)) ++ [])) i
+      ∙ (flat_map-append inside_bzl_item (block_items (groups_of gs)) [] ∙ ap (λ (t : List Hosted). t ++ []) (blocks_alone (groups_of gs) ∙ ap hosts_alone (all_numbered gs)))
+  file_hosts n e lines (p.Leaf l ∷ y ∷ xs) u (inl h) g w at_ z i = absurd h.1
+  file_hosts n e lines (p.Leaf l ∷ xs) u (inr h) g w at_ z i = no_such h.0
+  file_hosts n e lines (Node' kind s' r' ∷ xs) u (inl h) g w at_ z i = no_such h.0
+  file_hosts n e lines (Node' kind s' r' ∷ xs) u (inr h) g w at_ z i =
+      let x : Part = Node' kind s' r' in
+      let m : ℕ = n + size x in
+      let gs : List GapLine = left_above page n in
+      let ls : List GapLine = map (λ l. l.line) lines in
+      let group : List Bytes = last_group (groups_of ls) in
+      let sts : List Stretch = (placed x).stretches n in
+      let later : List Stretch = one_by_one m (map placed xs) in
+      let more : List Leaf = flat_map leaves_part xs in
+      let rest_at : AtParts BzlStands Begins Begins xs = later_at x xs h.0 at_ in
+      let up : m + sizes (map measured xs) ≡ e = omega arith in
+      let piece : Piece page n m (leaves_part x) sts group (as_statement x group) = g.0 h.0 at_.0 n group in
+      let after_it : Extent page m e more later = subst (λ t. Extent page m t more later) up (file_extent m xs h.1 g.1 rest_at) in
+      let first : indented_lines_before (map stated xs) [] ≡ indented (gap_of more) = before_first xs w.1 in
+      let own : ReadStatements (List Statement) = (stated x).statement group (indented_lines_before (map stated xs) []) in
+      let back : gap_of more ≡ gap_of (more ++ z.back) = sym (gap_joined more z.back after_it.some) in
+      let own_hosts : flat_map inside_statement own.0 ≡ statement_hosts page group sts =
+      ap (λ (t : Lines). flat_map inside_statement ((stated x).statement group t).0) (first ∙ ap indented back) ∙ piece.hosts (at_first page n m e (leaves_part x) more sts later piece.extent after_it z) in
+      let own_left : own.1 ≡ left_by 0 m page.suites (lines_above page.leaves m) = ap (λ (t : Lines). ((stated x).statement group t).1) first ∙ left_there page n m e (leaves_part x) more sts later group (as_statement x group) piece after_it z in
+      let tail : List BzlItem = bzl_items own.1 xs in
+      let tail_hosts : flat_map inside_bzl_item tail ≡ bzl_hosted_from page m xs =
+      file_hosts m e own.1 xs (sym up) h.1 g.1 w.1 rest_at (at_second page n m e (leaves_part x) more sts later piece.extent after_it z) own_left in
+      let alone : hosts_alone (all_but_last (groups_of ls)) ≡ hosts_alone (map (right_above gs) (bare_lines 0 gs)) = ap (λ (t : Lines). hosts_alone (all_but_last (groups_of (map (λ l. l.line) t)))) i ∙ ap hosts_alone (alone_numbered gs) in
+      let above : group ≡ right_above gs (length gs) = ap (λ (t : Lines). last_group (groups_of (map (λ l. l.line) t))) i ∙ last_numbered gs in
+      flat_map-append inside_bzl_item (block_items (all_but_last (groups_of ls))) (map b.Statement own.0 ++ tail)
+      ∙ (ap (λ (t : List Hosted). t ++ flat_map inside_bzl_item (map b.Statement own.0 ++ tail)) (blocks_alone (all_but_last (groups_of ls)) ∙ alone)
+      ∙ (ap (λ (t : List Hosted). hosts_alone (map (right_above gs) (bare_lines 0 gs)) ++ t) (flat_map-append inside_bzl_item (map b.Statement own.0) tail
+      ∙ (ap (λ (t : List Hosted). t ++ flat_map inside_bzl_item tail) (items_alone own.0 ∙ (own_hosts ∙ ap (λ (t : List Bytes). statement_hosts page t sts) above))
+      ∙ ap (λ (t : List Hosted). statement_hosts page (right_above gs (length gs)) sts ++ t) tail_hosts))
+      ∙ sym (append_assoc (hosts_alone (map (right_above gs) (bare_lines 0 gs))) (statement_hosts page (right_above gs (length gs)) sts) (bzl_hosted_from page m xs))))
+
+  all_pieces : (xs : List Part) → AllByRecursion LegalBzlPart xs → AllByRecursion AsStatement xs
+  all_pieces [] h = tt
+  all_pieces (x ∷ xs) h = ((part_piece x h.0).0, all_pieces xs h.1)
+
+pub bzl_hosts_by_place : BzlHostsByPlace
+bzl_hosts_by_place n h =
+    let fits : Fits IsNonterminal (bzl_shape k.File) n.parts = subst (λ kd. Fits IsNonterminal (bzl_shape kd) n.parts) h.file.root h.file.shapes.0 in
+    let sts : List Stretch = one_by_one 0 (map placed n.parts) in
+    let page : Page = record { leaves = leaves_of n; regions = flat_map regions_in sts; suites = suites_in sts } in
+    let pieces = all_pieces page n.parts h.file.shapes.1 in
+    let solids : AllByRecursion Solid n.parts = all_solid n.parts h.file.shapes.1 in
+    let e : ℕ = 0 + sizes (map measured n.parts) in
+    let bounds : AllBetween 0 e (suites_in sts) = (file_extent page 0 n.parts fits pieces h.gaps).bounds in
+    let all : At page 0 e (flat_map leaves_part n.parts) sts = record {
+      front = [];
+      back = [];
+      leaves = sym (append-nil (leaves_of n));
+      counted = refl;
+      sees = record { after = λ a m i j l lines. refl; inner = λ a m i j lines. refl; begins = λ m i j. refl };
+      regions = λ q v w. record { inner = refl; ends = refl; begins = λ z d. refl };
+      texts = λ q f. refl;
+    } in
+    file_hosts page 0 e (indented_lines_before (map stated n.parts) []) n.parts refl fits pieces solids h.gaps all
+    (before_first n.parts solids ∙ (ap indented (sym (first_at (leaves_of n))) ∙ sym (beyond 0 0 0 e (suites_in sts) (lines_above (leaves_of n) 0) (omega arith) bounds)))

@@ -1,0 +1,211 @@
+-- Suites, and lines in their place: what is read of them, with the hosts by their places.
+use Rattle.std.proofs.Common.{◌≡◌, ℕ, suc, ◌+◌, ◌<◌, ◌≤◌, true, false, ◌&&◌, ◌||◌, List, [], ◌∷◌, ◌++◌, Option, Some, None, length, refl, sym, ap, ◌∙◌, subst, map, take, drop, append-nil, append_assoc, length-append, nat_eq, nat_lt, arith}
+use Rattle.std.specs.List.{AllByRecursion, flat_map}
+use Rattle.std.proofs.lemmas.Bool.{cond-true, cond-false, eq-eqb, ne_eqb, lt-ltb, le-ltb}
+use Rattle.std.proofs.lemmas.List.{map-append}
+use Rattle.bz_lex.specs.declared.leaf.Leaf.{Leaf}
+use Rattle.bz_grammar.specs.declared.tree.Part.{Part}
+use Rattle.bz_grammar.specs.Spell.{leaves_part}
+use Rattle.bz_items.specs.Characters.{Bytes}
+use Rattle.bz_value.specs.Gaps.{as_list, comments_in, all_in}
+use Rattle.bz_value.specs.Indented.{indented}
+use Rattle.bz_hosts.specs.View.{seen, statements_in}
+use Rattle.bz_hosts.specs.Hosts.{Region, CommentPlace, texts_at, Hosted, hosted_at, with_group, sizes, measured, hosts_from, leaf_gap, inside_item}
+use Rattle.bz_hosts.proofs.Around as r
+use Rattle.bz_hosts.proofs.Files.{group_above}
+use Rattle.bz_hosts.proofs.Gathered.{key}
+use Rattle.bz_hosts.proofs.Parts.{Solid, comments_after, after_parts, parts_after}
+use Rattle.bz_hosts.proofs.Alternating.{Regions}
+use Rattle.bz_hosts.proofs.QuietGaps.{Quiet, Statements}
+use Rattle.bz_hosts.proofs.Sequences.{From}
+use Rattle.bz_hosts.proofs.Texts.{InHost}
+use Rattle.bz_hosts.proofs.Walked.{gap_of, last_gap}
+use Rattle.bz_grammar.specs.Shapes as s
+use Rattle.bz_bzl_value.specs.declared.value.Statement.{Statement}
+use Rattle.bz_bzl_value.specs.BzlHosts.{Suite, Stretch, simple_line, header, placed, one_by_one, Page, suites_in, begins_suite, left_by, left_above, lines_above, lines_of_leaf, statement_hosts, reach, suite_end, inside_statement}
+use Rattle.bz_bzl_value.specs.View.{ReadStatements, SuiteRead, stated, line_read, walked, suite_read, margin_of, only_comment, indented_comments, indented_lines_before}
+use Rattle.bz_bzl_value.proofs.HostPieces.{regions_of, comments, along, along_first, Sees, At, Piece}
+use Rattle.bz_bzl_value.proofs.HostReads.{line, within, simple_inside}
+use Rattle.bz_bzl_value.proofs.Lined.{lines_are, comments_append}
+use Rattle.bz_bzl_value.proofs.Parts.{parts_seen, part_of}
+use Rattle.bz_bzl_value.proofs.SuiteLines.{and_false, Lines, AllBetween, all_wider, ends_are, rest_is, lines_at, gap_joined, first_at}
+use Rattle.bz_bzl_value.proofs.SuitePieces.{last_joined, lines_there}
+use Rattle.bz_bzl_value.proofs.SuiteReads.{line_some, line_left}
+
+-- ---- leaves
+
+pub leaf_at : (front back : List Leaf) → leaf_gap (front ++ back) (length front) ≡ gap_of back
+leaf_at [] back = first_at back
+leaf_at (l ∷ front) back = leaf_at front back
+
+-- ---- gaps without comments
+
+later_none : (a b : List Bytes) → a ++ b ≡ [] → b ≡ []
+later_none [] b h = h
+later_none (x ∷ a) b h = cc
+
+rest_silent : (lines : Lines) → comments_in (map (λ l. l.line) lines) ≡ [] → comments_in (map (λ l. l.line) (drop 1 lines)) ≡ []
+rest_silent [] h = refl
+rest_silent (l ∷ lines) h = later_none (as_list l.line.comment) (comments_in (map (λ l. l.line) lines)) h
+
+silent_lines : (g g' : Bytes) → all_in g ≡ [] → all_in g' ≡ [] → comments_in (map (λ l. l.line) (drop 1 (indented g) ++ indented g')) ≡ []
+silent_lines g g' h h' =
+    ap comments_in (map-append (λ l. l.line) (drop 1 (indented g)) (indented g'))
+    ∙ (comments_append (map (λ l. l.line) (drop 1 (indented g))) (map (λ l. l.line) (indented g'))
+    ∙ (ap (λ (z : List Bytes). z ++ comments_in (map (λ l. l.line) (indented g'))) (rest_silent (indented g) (ap comments_in (lines_are g) ∙ h)) ∙ (ap comments_in (lines_are g') ∙ h')))
+
+-- ---- suites
+
+abbrev pub own_list : Option Suite → List Suite
+own_list None = []
+own_list (Some own) = own ∷ []
+
+pub suites_headed : (h f : ℕ) (rs : List Region) (own : Option Suite) (sts : List Stretch) → suites_in (header h f rs own ∷ sts) ≡ own_list own ++ suites_in sts
+suites_headed h f rs None sts = refl
+suites_headed h f rs (Some own) sts = refl
+
+module _ (page : Page) where
+  -- the leaves of a suite from n on up to e are there, after a header that begins at n0
+  pub record OwnAt (n0 n e : ℕ) (ls : List Leaf) (own : Option Suite) (sts : List Stretch) : Type 0 where
+    pub front : List Leaf
+    pub back : List Leaf
+    pub leaves : page.leaves ≡ front ++ (ls ++ back)
+    pub counted : length front ≡ n
+    pub before : n0 < n
+    pub quiet : all_in (last_gap front) ≡ []
+    pub sees : Sees page n0 e (own_list own ++ suites_in sts)
+    pub regions : r.SeesAt page.regions None (suc n) e (regions_of sts)
+    pub texts : (q : CommentPlace) → From n e q → texts_at page.regions q (comments page) ≡ texts_at page.regions q (comments_after n ls)
+
+  pub record OwnPiece (n e : ℕ) (ls : List Leaf) (own : Option Suite) (sts : List Stretch) (suffix : Option Bytes) (read : Lines → SuiteRead) : Type 0 where
+    pub some : 0 < length ls
+    pub up : n + length ls ≡ e
+    pub bounds : AllBetween n e (own_list own ++ suites_in sts)
+    pub within : r.AllInside n e (regions_of sts)
+    pub outer : r.SeesAt page.regions None (suc n) e (regions_of sts) → (q : CommentPlace) → 0 < key q → (From n e q → ⊥) → texts_at page.regions q (comments_after n ls) ≡ []
+    pub suffix_is : as_list suffix ≡ all_in (gap_of ls)
+    pub left : (a : ℕ) → a ≤ n → (after : Lines) → (read after).1 ≡ left_by a e (own_list own ++ suites_in sts) (drop 1 (indented (last_gap ls)) ++ after)
+    pub statements : (n0 : ℕ) (x : OwnAt n0 n e ls own sts) → flat_map inside_statement (read (indented (gap_of x.back))).0.0 ≡ along page sts
+    pub ends : (n0 : ℕ) (x : OwnAt n0 n e ls own sts) → (read (indented (gap_of x.back))).0.1 ≡ suite_end page own
+
+  -- ---- a line in the place of a suite
+
+  abbrev line_suite : List Part → Lines → SuiteRead
+  line_suite xs after = (((line_read (map (λ x. x.part) (map stated xs)) [] after).0, []), (line_read (map (λ x. x.part) (map stated xs)) [] after).1)
+
+  no_lines : (n0 n e : ℕ) (ls : List Leaf) (sts : List Stretch) → suites_in sts ≡ [] → 0 < length ls → n < e → all_in (gap_of ls) ≡ [] → OwnAt n0 n e ls None sts → lines_of_leaf page n ≡ []
+  no_lines n0 n e ls sts none some l silent x =
+      let before = x.before in
+      let counted = x.counted in
+      let begins : begins_suite n page.suites ≡ false = x.sees.begins n before l ∙ ap (begins_suite n) none in
+      let lines : lines_above page.leaves n ≡ drop 1 (indented (last_gap x.front)) ++ indented (gap_of ls) =
+      ap (λ (z : List Leaf). lines_above z n) x.leaves ∙ (ap (lines_above (x.front ++ (ls ++ x.back))) (sym counted) ∙ (lines_at x.front (ls ++ x.back) (omega arith) ∙ ap (λ (g : Bytes). drop 1 (indented (last_gap x.front)) ++ indented g) (gap_joined ls x.back some))) in
+      let left : left_by 0 n page.suites (lines_above page.leaves n) ≡ drop 1 (indented (last_gap x.front)) ++ indented (gap_of ls) =
+      x.sees.inner 0 n before l (lines_above page.leaves n) ∙ (ap (λ z. left_by 0 n z (lines_above page.leaves n)) none ∙ lines) in
+      cond-false (begins_suite n page.suites) (all_in (leaf_gap page.leaves n)) (comments_in (left_above page n)) begins
+      ∙ (ap (λ (z : Lines). comments_in (map (λ l. l.line) z)) left ∙ silent_lines (last_gap x.front) (gap_of ls) x.quiet silent)
+
+  pub line_own : (n : ℕ) (x : Part) (xs : List Part) → Statements (x ∷ xs) → Quiet (x ∷ xs) → AllByRecursion Regions (x ∷ xs) → AllByRecursion (InHost page.regions) (x ∷ xs) → AllByRecursion Solid (x ∷ xs) → all_in (seen x).gap ≡ []
+      → n + length (flat_map leaves_part (x ∷ xs)) ≡ n + sizes (map measured (x ∷ xs))
+      → OwnPiece n (n + sizes (map measured (x ∷ xs))) (flat_map leaves_part (x ∷ xs)) None (simple_line n (hosts_from s.semicolon n (map measured (x ∷ xs))) ∷ []) None (line_suite (x ∷ xs))
+  line_own n x xs fits quiet rs is solids silent up =
+      let ys : List Part = x ∷ xs in
+      let e : ℕ = n + sizes (map measured ys) in
+      let ls : List Leaf = flat_map leaves_part ys in
+      let there : List Region = hosts_from s.semicolon n (map measured ys) in
+      let sts : List Stretch = simple_line n there ∷ [] in
+      let some = line_some ys fits in
+      let first : gap_of ls ≡ (seen x).gap = ap (λ (z : List Leaf). gap_of (z ++ flat_map leaves_part xs)) solids.0.leaves ∙ sym solids.0.gap in
+      let quiet_gap : all_in (gap_of ls) ≡ [] = ap all_in first ∙ silent in
+      let mine : comments_after n ls ≡ after_parts n ys = parts_after n ys solids in
+      record {
+        some = some;
+        up = up;
+        bounds = tt;
+        within = subst (r.AllInside n e) (sym (append-nil there)) (within page n [] x xs fits quiet rs is solids);
+        outer = λ sees q d o. ap (texts_at page.regions q) mine ∙ (line page n [] x xs fits quiet rs is solids (subst (r.SeesAt page.regions None (suc n) e) (append-nil there) sees)).outer q d o;
+        suffix_is = sym quiet_gap;
+        left = λ a l after. line_left [] ys fits after;
+        statements = λ n0 z.
+            let found : map (hosted_at page.regions (comments page)) there ≡ flat_map inside_item (statements_in [] (map seen ys)) =
+            (line page n [] x xs fits quiet rs is solids (subst (r.SeesAt page.regions None (suc n) e) (append-nil there) z.regions)).found (comments page) (λ q f. z.texts q f ∙ ap (texts_at page.regions q) mine) in
+            ap (λ ss. flat_map inside_statement (line_read ss [] (indented (gap_of z.back))).0) (parts_seen ys)
+            ∙ (simple_inside [] (map seen ys)
+            ∙ (sym (group_above [] ys) ∙ (ap (with_group []) (sym found)
+            ∙ (ap (λ (g : List Bytes). with_group g (map (hosted_at page.regions (comments page)) there)) (sym (no_lines n0 n e ls sts refl some (omega arith) quiet_gap z)) ∙ sym (append-nil (with_group (lines_of_leaf page n) (map (hosted_at page.regions (comments page)) there)))))));
+        ends = λ n0 z. refl;
+      }
+
+  -- ---- a suite
+
+  abbrev pub as_walked : List Part → Lines → Lines → List Hosted × Lines
+  as_walked xs above after = (flat_map inside_statement (walked above (map stated xs) after).0, (walked above (map stated xs) after).1)
+
+  pub suite_own : (n e m : ℕ) (l : Leaf) (x : Part) (xs : List Part) → Solid x → m ≡ margin_of (map stated (x ∷ xs)) → all_in l.gap ≡ as_list (only_comment (all_in l.gap))
+      → Piece page (suc n) e (flat_map leaves_part (x ∷ xs)) (one_by_one (suc n) (map placed (x ∷ xs))) (indented_comments (indented_lines_before (map stated (x ∷ xs)) [])) (as_walked (x ∷ xs) (indented_lines_before (map stated (x ∷ xs)) []))
+      → OwnPiece n e (l ∷ flat_map leaves_part (x ∷ xs)) (Some (record { first = suc n; following = e; margin = m })) (one_by_one (suc n) (map placed (x ∷ xs))) (only_comment (all_in l.gap)) (λ after. suite_read (map stated (x ∷ xs)) after)
+  suite_own n e m l x xs solid i suffix inner =
+      let ls : List Leaf = flat_map leaves_part (x ∷ xs) in
+      let sts : List Stretch = one_by_one (suc n) (map placed (x ∷ xs)) in
+      let suites : List Suite = suites_in sts in
+      let own : Suite = record { first = suc n; following = e; margin = m } in
+      let lines : Lines = indented_lines_before (map stated (x ∷ xs)) [] in
+      let some = inner.extent.some in
+      let up = inner.extent.up in
+      let all : Lines → ReadStatements (List Statement) = λ after. walked lines (map stated (x ∷ xs)) after in
+      let M : ℕ = margin_of (map stated (x ∷ xs)) in
+      let last : last_gap (l ∷ ls) ≡ last_gap ls = last_joined (l ∷ []) ls some in
+      let left : (a : ℕ) → a ≤ suc n → (after : Lines) → (all after).1 ≡ left_by a e suites (drop 1 (indented (last_gap (l ∷ ls))) ++ after) =
+      λ a j after. inner.left a j after ∙ ap (λ (g' : Bytes). left_by a e suites (drop 1 (indented g') ++ after)) (sym last) in
+      let others : (a m' : ℕ) → suc n ≤ a → (lines' : Lines) → left_by a m' (own ∷ suites) lines' ≡ left_by a m' suites lines' =
+      λ a m' j lines'. cond-false (nat_lt a (suc n) && nat_eq e m') _ _ (ap (λ t. t && nat_eq e m') (le-ltb a (suc n) j)) in
+      let ahead : (a m' : ℕ) → m' < e → (lines' : Lines) → left_by a m' (own ∷ suites) lines' ≡ left_by a m' suites lines' =
+      λ a m' j lines'. cond-false (nat_lt a (suc n) && nat_eq e m') _ _ (and_false (nat_lt a (suc n)) (nat_eq e m') (ne_eqb e m' (λ d. omega arith))) in
+      record {
+        some = omega arith;
+        up = omega arith;
+        bounds = ((omega arith, omega arith, omega arith), all_wider (suc n) e n e (omega arith) (omega arith) suites inner.extent.bounds);
+        within = r.all_wider (suc n) e n e (omega arith) (omega arith) (regions_of sts) inner.extent.within;
+        outer = λ sees q d o. inner.extent.outer sees q d (λ j. let j0 = j.0 in o (omega arith, j.1));
+        suffix_is = sym suffix;
+        left = λ a j after.
+            let there : Lines = left_by a e suites (drop 1 (indented (last_gap (l ∷ ls))) ++ after) in
+            let test : (nat_lt a (suc n) && nat_eq e e) ≡ true = ap (λ t. t && nat_eq e e) (lt-ltb a (suc n) (omega arith)) ∙ eq-eqb e e refl in
+            rest_is M (all after).1 ∙ (ap (λ (z : Lines). drop (reach M z) z) (left a (omega arith) after)
+            ∙ (ap (λ (z : ℕ). drop (reach z there) there) (sym i) ∙ sym (cond-true (nat_lt a (suc n) && nat_eq e e) (drop (reach m there) there) there test)));
+        statements = λ n0 z.
+            let before = z.before in
+            let counted = z.counted in
+            let len = length-append z.front (l ∷ []) in
+            let leaves : page.leaves ≡ (z.front ++ l ∷ []) ++ (ls ++ z.back) = z.leaves ∙ sym (append_assoc z.front (l ∷ []) (ls ++ z.back)) in
+            let at_ : At page (suc n) e ls sts = record {
+              front = z.front ++ l ∷ [];
+              back = z.back;
+              leaves = leaves;
+              counted = omega arith;
+              sees = record {
+                after = λ a m' b b' b'' lines'. z.sees.after a m' (omega arith) (omega arith) b'' lines' ∙ others a m' b lines';
+                inner = λ a m' b b' lines'. z.sees.inner a m' (omega arith) b' lines' ∙ ahead a m' b' lines';
+                begins = λ m' b b'. z.sees.begins m' (omega arith) b' ∙ ap (λ t. t || begins_suite m' suites) (ne_eqb (suc n) m' (λ d. omega arith));
+              };
+              regions = z.regions;
+              texts = λ q f. let f0 = f.0 in z.texts q (omega arith, f.1);
+            } in
+            let begins : begins_suite (suc n) page.suites ≡ true = z.sees.begins (suc n) (omega arith) (omega arith) ∙ ap (λ t. t || begins_suite (suc n) suites) (eq-eqb (suc n) (suc n) refl) in
+            let first : leaf_gap page.leaves (suc n) ≡ (stated x).part.gap =
+            ap (λ (w : List Leaf). leaf_gap w (suc n)) leaves ∙ (ap (leaf_gap ((z.front ++ l ∷ []) ++ (ls ++ z.back))) (omega arith) ∙ (leaf_at (z.front ++ l ∷ []) (ls ++ z.back)
+            ∙ (gap_joined ls z.back some ∙ (ap (λ (w : List Leaf). gap_of (w ++ flat_map leaves_part xs)) solid.leaves ∙ (sym solid.gap ∙ sym (ap (λ t. t.gap) (part_of x))))))) in
+            let group : indented_comments lines ≡ lines_of_leaf page (suc n) =
+            ap comments_in (lines_are (stated x).part.gap) ∙ (ap all_in (sym first) ∙ sym (cond-true (begins_suite (suc n) page.suites) (all_in (leaf_gap page.leaves (suc n))) (comments_in (left_above page (suc n))) begins)) in
+            inner.hosts at_ ∙ (ap (λ (g : List Bytes). statement_hosts page g sts) group ∙ sym (along_first page (suc n) sts inner.starts));
+        ends = λ n0 z.
+            let before = z.before in
+            let after : Lines = indented (gap_of z.back) in
+            let found : Lines = left_by (suc n) e page.suites (lines_above page.leaves e) in
+            let same : found ≡ (all after).1 =
+            z.sees.after (suc n) e (omega arith) (omega arith) (omega arith) (lines_above page.leaves e)
+            ∙ (others (suc n) e (omega arith) (lines_above page.leaves e)
+            ∙ (ap (left_by (suc n) e suites) (lines_there page n e z.front (l ∷ ls) z.back (omega arith) (omega arith) z.leaves z.counted) ∙ sym (left (suc n) (omega arith) after))) in
+            ends_are M (all after).1 ∙ (ap (λ (w : ℕ). comments_in (map (λ l'. l'.line) (take (reach w (all after).1) (all after).1))) (sym i)
+            ∙ ap (λ (w : Lines). comments_in (map (λ l'. l'.line) (take (reach m w) w))) (sym same));
+      }

@@ -1,0 +1,111 @@
+-- The lines that suites leave before a leaf, by the numbers of their leaves.
+use Rattle.std.proofs.Common.{◌≡◌, ◌≢◌, ℕ, zero, suc, ◌<◌, ◌≤◌, Bool, true, false, not, ◌&&◌, List, [], ◌∷◌, ◌++◌, inl, inr, Option, Some, None, length, refl, sym, ap, ◌∙◌, map, take, drop, append-nil, nat_eq, nat_lt, nat_le, if◌then◌else◌, arith}
+use Rattle.std.specs.List.{AllByRecursion}
+use Rattle.std.proofs.lemmas.Bool.{cases_Bool, cond-false, ne_eqb}
+use Rattle.std.proofs.lemmas.Bool.Decides.{nat_tests}
+use Rattle.bz_lex.specs.declared.leaf.Leaf.{Leaf}
+use Rattle.bz_items.specs.Characters.{Bytes}
+use Rattle.bz_value.specs.Gaps.{as_list, comments_in}
+use Rattle.bz_value.specs.Indented.{IndentedGapLine, indented}
+use Rattle.bz_hosts.specs.Hosts.{leaf_gap}
+use Rattle.bz_hosts.proofs.Walked.{gap_of, last_gap}
+use Rattle.bz_bzl_value.specs.BzlHosts.{Suite, is_further_out, reach, left_by, lines_above}
+use Rattle.bz_bzl_value.specs.View.{indented_comments, is_taken_line, end_comments, after_end}
+
+abbrev pub Lines : Type 0
+Lines = List IndentedGapLine
+
+-- ---- what a suite takes
+
+opposite : (margin indent : ℕ) (c : Option Bytes) → is_further_out margin indent c ≡ not (is_taken_line margin indent c)
+opposite margin indent None = refl
+opposite margin indent (Some text) = elim (cases_Bool (nat_le margin indent)) [
+  | inl e ↦ let e' : nat_lt indent margin ≡ false = grind (arith, nat_tests, e) in rw (e, e') refl
+  | inr e ↦ let e' : nat_lt indent margin ≡ true = grind (arith, nat_tests, e) in rw (e, e') refl
+]
+
+ends_step : (b : Bool) (m : ℕ) (x : IndentedGapLine) (xs : Lines) → end_comments m xs ≡ comments_in (map (λ l. l.line) (take (reach m xs) xs))
+    → (if b then indented_comments (x ∷ []) ++ end_comments m xs else []) ≡ comments_in (map (λ l. l.line) (take (if not b then 0 else suc (reach m xs)) (x ∷ xs)))
+ends_step true m x xs h =
+    ap (λ (t : List Bytes). (as_list x.line.comment ++ []) ++ t) h ∙ ap (λ (t : List Bytes). t ++ comments_in (map (λ l. l.line) (take (reach m xs) xs))) (append-nil (as_list x.line.comment))
+ends_step false m x xs h = refl
+
+pub ends_are : (m : ℕ) (xs : Lines) → end_comments m xs ≡ comments_in (map (λ l. l.line) (take (reach m xs) xs))
+ends_are m [] = refl
+ends_are m (x ∷ xs) =
+    ends_step (is_taken_line m x.indent x.line.comment) m x xs (ends_are m xs)
+    ∙ ap (λ (t : Bool). comments_in (map (λ l. l.line) (take (if t then 0 else suc (reach m xs)) (x ∷ xs)))) (sym (opposite m x.indent x.line.comment))
+
+rest_step : (b : Bool) (m : ℕ) (x : IndentedGapLine) (xs : Lines) → after_end m xs ≡ drop (reach m xs) xs → (if b then after_end m xs else x ∷ xs) ≡ drop (if not b then 0 else suc (reach m xs)) (x ∷ xs)
+rest_step true m x xs h = h
+rest_step false m x xs h = refl
+
+pub rest_is : (m : ℕ) (xs : Lines) → after_end m xs ≡ drop (reach m xs) xs
+rest_is m [] = refl
+rest_is m (x ∷ xs) =
+    rest_step (is_taken_line m x.indent x.line.comment) m x xs (rest_is m xs)
+    ∙ ap (λ (t : Bool). drop (if t then 0 else suc (reach m xs)) (x ∷ xs)) (sym (opposite m x.indent x.line.comment))
+
+-- ---- what several suites leave
+
+pub left_joined : (a n : ℕ) (xs ys : List Suite) (lines : Lines) → left_by a n (xs ++ ys) lines ≡ left_by a n xs (left_by a n ys lines)
+left_joined a n [] ys lines = refl
+left_joined a n (x ∷ xs) ys lines = ap (λ (z : Lines). if nat_lt a x.first && nat_eq x.following n then drop (reach x.margin z) z else z) (left_joined a n xs ys lines)
+
+pub and_false : (b c : Bool) → c ≡ false → (b && c) ≡ false
+and_false true c e = e
+and_false false c e = refl
+
+-- suites that end elsewhere
+abbrev Apart : ℕ → Suite → Type 0
+Apart n x = x.following ≢ n
+
+none_leave : (a n : ℕ) (xs : List Suite) (lines : Lines) → AllByRecursion (Apart n) xs → left_by a n xs lines ≡ lines
+none_leave a n [] lines h = refl
+none_leave a n (x ∷ xs) lines h =
+    cond-false (nat_lt a x.first && nat_eq x.following n) (drop (reach x.margin (left_by a n xs lines)) (left_by a n xs lines)) (left_by a n xs lines) (and_false (nat_lt a x.first) (nat_eq x.following n) (ne_eqb x.following n h.0))
+    ∙ none_leave a n xs lines h.1
+
+-- suites among the leaves after lo, which end at hi or before
+abbrev Between : ℕ → ℕ → Suite → Type 0
+Between lo hi x = (lo < x.first) × (x.first < x.following) × (x.following ≤ hi)
+
+abbrev pub AllBetween : ℕ → ℕ → List Suite → Type 0
+AllBetween lo hi xs = AllByRecursion (Between lo hi) xs
+
+pub all_wider : (lo hi lo' hi' : ℕ) → lo' ≤ lo → hi ≤ hi' → (xs : List Suite) → AllBetween lo hi xs → AllBetween lo' hi' xs
+all_wider lo hi lo' hi' l u [] h = tt
+all_wider lo hi lo' hi' l u (x ∷ xs) h = ((omega (arith, h.0.0), h.0.1, omega (arith, h.0.2)), all_wider lo hi lo' hi' l u xs h.1)
+
+pub all_both : (lo hi : ℕ) (xs ys : List Suite) → AllBetween lo hi xs → AllBetween lo hi ys → AllBetween lo hi (xs ++ ys)
+all_both lo hi [] ys h i = i
+all_both lo hi (x ∷ xs) ys h i = (h.0, all_both lo hi xs ys h.1 i)
+
+passed : (lo hi n : ℕ) → hi < n → (xs : List Suite) → AllBetween lo hi xs → AllByRecursion (Apart n) xs
+passed lo hi n l [] h = tt
+passed lo hi n l (x ∷ xs) h = (λ e. omega (arith, h.0.2, e), passed lo hi n l xs h.1)
+
+ahead : (lo hi n : ℕ) → n ≤ lo → (xs : List Suite) → AllBetween lo hi xs → AllByRecursion (Apart n) xs
+ahead lo hi n l [] h = tt
+ahead lo hi n l (x ∷ xs) h = (λ e. omega (arith, h.0.0, h.0.1, e), ahead lo hi n l xs h.1)
+
+pub past : (a n lo hi : ℕ) (xs : List Suite) (lines : Lines) → hi < n → AllBetween lo hi xs → left_by a n xs lines ≡ lines
+past a n lo hi xs lines l h = none_leave a n xs lines (passed lo hi n l xs h)
+
+pub beyond : (a n lo hi : ℕ) (xs : List Suite) (lines : Lines) → n ≤ lo → AllBetween lo hi xs → left_by a n xs lines ≡ lines
+beyond a n lo hi xs lines l h = none_leave a n xs lines (ahead lo hi n l xs h)
+
+-- ---- gaps by the numbers of leaves
+
+pub first_at : (back : List Leaf) → leaf_gap back zero ≡ gap_of back
+first_at [] = refl
+first_at (l ∷ ls) = refl
+
+pub lines_at : (ls back : List Leaf) → 0 < length ls → lines_above (ls ++ back) (length ls) ≡ drop 1 (indented (last_gap ls)) ++ indented (gap_of back)
+lines_at [] back h = absurd (omega arith)
+lines_at (l ∷ []) back h = ap (λ (g : Bytes). drop 1 (indented l.gap) ++ indented g) (first_at back)
+lines_at (l ∷ m ∷ ls) back h = lines_at (m ∷ ls) back (omega arith)
+
+pub gap_joined : (ls back : List Leaf) → 0 < length ls → gap_of (ls ++ back) ≡ gap_of ls
+gap_joined [] back h = absurd (omega arith)
+gap_joined (l ∷ ls) back h = refl

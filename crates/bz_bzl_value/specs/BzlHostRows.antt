@@ -1,0 +1,54 @@
+-- Worked rows: a tree, what it says, and its comments with their hosts, in the order in which the hosts begin.
+use Rattle.std.specs.Prelude.{◌≡◌, List, [], ◌∷◌, codes}
+use Rattle.bz_grammar.specs.declared.kind.Kind.TheVariants as k
+use Rattle.bz_grammar.specs.declared.tree.Node.{Node}
+use Rattle.bz_hosts.specs.Hosts.{Hosted, block, hosted, ended}
+use Rattle.bz_hosts.specs.Worked.{name, word, worked_mark, worked_node, worked_line, worked_file}
+use Rattle.bz_bzl_value.specs.BzlHosts.{bzl_hosted_in, bzl_hosts_of}
+use Rattle.bz_bzl_value.specs.View.{bzl_view_of}
+use Rattle.bz_bzl_value.specs.Worked.{suite, named_line, documented_tree, alternative_tree, ended_tree, ended_once_tree, one_line_tree, parameters_tree}
+
+abbrev Row : Node → List Hosted → Type 0
+Row tree hosts = (bzl_hosted_in tree ≡ hosts) × (bzl_hosts_of (bzl_view_of tree) ≡ hosts)
+
+abbrev without : Hosted
+without = hosted [] []
+
+-- parameters; a suite on the line of its header has no end comments
+abbrev pub Documented : Type 0
+Documented =
+    Row documented_tree (hosted [] (codes "# doc" ∷ []) ∷ ended [] ∷ without ∷ without ∷ without ∷ block (codes "# end" ∷ [])
+    ∷ without ∷ block [] ∷ without ∷ hosted (codes "# none" ∷ []) [] ∷ without ∷ ended [] ∷ without ∷ [])
+
+abbrev pub Parameters : Type 0
+Parameters = Row parameters_tree (without ∷ ended (codes "# end" ∷ []) ∷ hosted (codes "# above" ∷ []) (codes "# a" ∷ []) ∷ without ∷ hosted (codes "# last" ∷ []) [] ∷ block [] ∷ without ∷ [])
+
+-- between if, elif and else
+abbrev pub Alternatives : Type 0
+Alternatives =
+    Row alternative_tree (without ∷ block (codes "# in" ∷ []) ∷ without ∷ hosted (codes "# above" ∷ []) (codes "# why" ∷ []) ∷ block [] ∷ without
+    ∷ hosted (codes "# last" ∷ []) [] ∷ block [] ∷ hosted (codes "# first" ∷ []) [] ∷ [])
+
+-- Two suites end, with margins 2 and 4: a comment line is of the one with a margin of at least its indent, and not of the one
+-- whose header is indented no further; two are left.
+abbrev pub SuiteEnds : Type 0
+SuiteEnds = Row ended_tree (without ∷ ended [] ∷ block (codes "# 3" ∷ codes "# 2" ∷ []) ∷ without ∷ block (codes "# 4" ∷ []) ∷ without ∷ block (codes "# 1" ∷ codes "# 0" ∷ []) ∷ without ∷ [])
+
+-- after a comment line that is not its own a suite has none
+abbrev pub EndedSuites : Type 0
+EndedSuites = Row ended_once_tree (without ∷ block (codes "# 2" ∷ codes "# 4" ∷ []) ∷ without ∷ block [] ∷ without ∷ hosted (codes "# 0" ∷ codes "# 4" ∷ []) [] ∷ [])
+
+abbrev pub OneLine : Type 0
+OneLine = Row one_line_tree (without ∷ block [] ∷ hosted [] (codes "# c" ∷ []) ∷ without ∷ block [] ∷ without ∷ without ∷ [])
+
+-- After an escaped newline: after a colon a comment is that of the header, after a statement it is a comment line.
+abbrev escaped : Node
+escaped =
+    worked_file (worked_node k.IfStmt (word [] (codes "if") ∷ name (codes " ") (codes "a") ∷ worked_mark [] (codes ":")
+    ∷ suite (codes " \\\n # c") (worked_line (worked_node k.Bare (name (codes "  ") (codes "b") ∷ []) ∷ []) (codes " \\\n # d") ∷ named_line (codes "  # e\n  ") (codes "f") ∷ []) ∷ []) ∷ []) (codes "  # g\n\n# h\n")
+
+abbrev pub Escaped : Type 0
+Escaped = Row escaped (hosted [] (codes "# c" ∷ []) ∷ block (codes "# g" ∷ []) ∷ without ∷ hosted (codes "# d" ∷ codes "# e" ∷ []) [] ∷ block (codes "# h" ∷ []) ∷ [])
+
+abbrev pub WorkedBzlHosts : Type 0
+WorkedBzlHosts = Documented × Parameters × Alternatives × SuiteEnds × EndedSuites × OneLine × Escaped
