@@ -4,6 +4,7 @@ use Rattle.std.specs.Prelude.{bytes_eq, if◌then◌else◌}
 use Rattle.std.specs.List.{flat_map}
 use Rattle.std.proofs.lemmas.Bool.{cases_Bool}
 use Rattle.std.proofs.lemmas.Slice.Eq.{bytes_eq-Decides}
+use Rattle.bz_lex.specs.Gaps.{is_indent}
 use Rattle.bz_lex.specs.declared.leaf.Leaf.{Leaf}
 use Rattle.bz_lex.specs.Leaves.{spell_leaves}
 use Rattle.bz_grammar.specs.declared.tree.Node.{Node}
@@ -15,7 +16,7 @@ use Rattle.bz_value.specs.declared.value.Item.TheVariants as i
 use Rattle.bz_items.specs.Characters.{Bytes, backslash, line_feed, number_sign}
 use Rattle.bz_value.specs.Comments.{HostComments}
 use Rattle.bz_value.specs.Counted.{total, suffix_amount, host_amount, amount, row_amount, item_amount, one_if, times}
-use Rattle.bz_value.specs.Gaps.{with_first, trimmed, in_comment, after_backslash, lines_of, comments_in, all_in}
+use Rattle.bz_value.specs.Gaps.{with_first, trimmed, lines_from, rest_of_line, comments_in, all_in}
 use Rattle.bz_value.proofs.Totals.{append_total}
 use Rattle.bz_hosts.specs.Kept.{CommentsKept, comments_of_tree, occurrences}
 use Rattle.bz_hosts.specs.View.{view_of}
@@ -46,34 +47,27 @@ trimmed_short (c ∷ s) =
     omega arith
 
 mutual
-  gap_holds : (gap : Bytes) → bytes (comments_in (lines_of gap)) ≤ length gap
-  gap_holds [] = omega arith
-  gap_holds (c ∷ gap) = elim (cases_Bool (nat_eq c number_sign)) [
+  gap_holds : (indent : ℕ) (gap : Bytes) → bytes (comments_in (lines_from indent gap)) ≤ length gap
+  gap_holds indent [] = omega arith
+  gap_holds indent (c ∷ gap) = elim (cases_Bool (nat_eq c number_sign)) [
     | inl is ↦
-        let short = trimmed_short (number_sign ∷ (in_comment gap).words) in
-        let rest = comment_holds gap in
+        let short = trimmed_short (number_sign ∷ (rest_of_line gap).words) in
+        let rest = line_holds gap in
         rw is (omega arith)
     | inr not_sign ↦ rw not_sign (elim (cases_Bool (nat_eq c line_feed)) [
-      | inl is ↦ let rest = gap_holds gap in rw is (omega arith)
+      | inl is ↦ let rest = gap_holds 0 gap in rw is (omega arith)
       | inr not_line ↦ rw not_line (elim (cases_Bool (nat_eq c backslash)) [
-        | inl is ↦ let rest = after_holds gap in rw is (omega arith)
-        | inr other ↦ let rest = gap_holds gap in rw other (omega arith)
+        | inl is ↦ let rest = line_holds gap in rw is (omega arith)
+        | inr other ↦ let rest = gap_holds (if is_indent c then suc indent else 0) gap in rw other (omega arith)
       ])
     ])
   ]
 
-  comment_holds : (gap : Bytes) → length (in_comment gap).words + bytes (comments_in (in_comment gap).lines) ≤ length gap
-  comment_holds [] = omega arith
-  comment_holds (c ∷ gap) = elim (cases_Bool (nat_eq c line_feed)) [
-    | inl is ↦ let rest = gap_holds gap in rw is (omega arith)
-    | inr other ↦ let rest = comment_holds gap in rw other (omega arith)
-  ]
-
-  after_holds : (gap : Bytes) → bytes (comments_in (after_backslash gap)) ≤ length gap
-  after_holds [] = omega arith
-  after_holds (c ∷ gap) = elim (cases_Bool (nat_eq c line_feed)) [
-    | inl is ↦ let rest = gap_holds gap in rw is (omega arith)
-    | inr other ↦ let rest = after_holds gap in rw other (omega arith)
+  line_holds : (gap : Bytes) → length (rest_of_line gap).words + bytes (comments_in (rest_of_line gap).lines) ≤ length gap
+  line_holds [] = omega arith
+  line_holds (c ∷ gap) = elim (cases_Bool (nat_eq c line_feed)) [
+    | inl is ↦ let rest = gap_holds 0 gap in rw is (omega arith)
+    | inr other ↦ let rest = line_holds gap in rw other (omega arith)
   ]
 
 -- ---- those of a tree
@@ -81,7 +75,7 @@ mutual
 leaves_hold : (leaves : List Leaf) → bytes (flat_map (λ leaf. all_in leaf.gap) leaves) ≤ length (spell_leaves leaves)
 leaves_hold [] = omega arith
 leaves_hold (leaf ∷ leaves) =
-    let here = gap_holds leaf.gap in
+    let here = gap_holds 0 leaf.gap in
     let rest = leaves_hold leaves in
     let both = append_total long (all_in leaf.gap) (flat_map (λ (other : Leaf). all_in other.gap) leaves) in
     omega (arith, length-append leaf.gap (leaf.token ++ spell_leaves leaves), length-append leaf.token (spell_leaves leaves))

@@ -9,7 +9,7 @@ use Rattle.bz_value.specs.declared.value.Item.{Item}
 use Rattle.bz_value.specs.declared.value.Item.TheVariants as i
 use Rattle.bz_value.specs.Comments.{HostComments, no_comments}
 use Rattle.bz_value.specs.Frames.{Frame, row, sequence, frame, lead, is_binary, is_comprehension}
-use Rattle.bz_value.specs.Gaps.{GapLine, has_newline, lines_of, after_first_comment, groups_of, all_but_last, last_group, all_in, others_in}
+use Rattle.bz_value.specs.Gaps.{GapLine, has_newline, lines_of, after_first_line, groups_of, all_but_last, last_group, all_in, others_in}
 use Rattle.bz_items.specs.Characters.{Bytes}
 use Rattle.bz_value.specs.Proper.{is_operator}
 use Rattle.bz_hosts.specs.View.{Seen, plain, row_exprs, items_in, item_in, is_split, is_open, first_seen_gap, seen_node, seen, seen_row, blocks, statements_in, statement_before, last_gap, line_items, file_items}
@@ -136,11 +136,11 @@ items_program left (p.Leaf l ∷ xs) = no_program (groups_of (left ++ lines_of l
 items_program left (Node' kind s parts ∷ xs) =
     let ss : List Seen = seen_row parts in
     let groups : List (List Bytes) = groups_of (left ++ lines_of (first_seen_gap ss)) in
-    let more : List Item = file_items (after_first_comment (lines_of (last_gap ss))) xs in
+    let more : List Item = file_items (after_first_line (lines_of (last_gap ss))) xs in
     program_append (line_items (left ++ lines_of (first_seen_gap ss)) ss) more
     ∙ both (λ ys zs. ys ++ zs)
     (no_program (all_but_last groups) (statements_in (last_group groups) ss) ∙ statements_say (last_group groups) ss (row_syntax parts) (each_says _ parts))
-    (items_program (after_first_comment (lines_of (last_gap ss))) xs)
+    (items_program (after_first_line (lines_of (last_gap ss))) xs)
 
 pub views_keep_programs : ViewsKeepPrograms
 views_keep_programs tree = items_program [] tree.parts

@@ -11,8 +11,7 @@ use Rattle.bz_items.specs.Characters.{Bytes}
 use Rattle.bz_value.specs.declared.value.Expr.{Expr}
 use Rattle.bz_value.specs.declared.value.Item.{Item}
 use Rattle.bz_value.specs.declared.value.Item.TheVariants as i
-use Rattle.bz_value.specs.Gaps.{groups_of, all_but_last, last_group, all_in}
-use Rattle.bz_value.specs.Indented.{IndentedGapLine}
+use Rattle.bz_value.specs.Gaps.{groups_of, all_but_last, last_group, all_in, GapLine, comments_in}
 use Rattle.bz_hosts.specs.View.{Seen, statements_in as seen_statements, first_seen_gap}
 use Rattle.bz_passes.specs.Syntax.{syntax_of, program}
 use Rattle.bz_passes.proofs.Keeping.{both}
@@ -20,7 +19,7 @@ use Rattle.bz_bzl_value.specs.declared.value.Statement.{Statement}
 use Rattle.bz_bzl_value.specs.declared.value.Statement.TheVariants as s
 use Rattle.bz_bzl_value.specs.declared.value.BzlItem.{BzlItem}
 use Rattle.bz_bzl_value.specs.declared.value.BzlItem.TheVariants as b
-use Rattle.bz_bzl_value.specs.View.{bzl_items, block_items, branches, compound_read, head, indented_comments, indented_lines_before, is_compound, simple_statements, statement_read, stated, stated_row, suite_in, walked, with_suite, Stated}
+use Rattle.bz_bzl_value.specs.View.{bzl_items, block_items, branches, compound_read, head, indented_lines_before, is_compound, simple_statements, statement_read, stated, stated_row, suite_in, walked, with_suite, Stated}
 use Rattle.bz_bzl_layout.specs.Syntax.{head_syntax, statement_syntax, bzl_program}
 use Rattle.bz_bzl_layout.proofs.SameSyntax.{branch_syntax, syntax_Compound}
 use Rattle.bz_build_format.specs.TreePrograms.{before_marks}
@@ -31,8 +30,8 @@ use Rattle.bz_bzl_format.specs.TreePrograms.{BzlViewsKeepPrograms, bare_head, he
 record Agrees (x : Stated) (y : Parsed) : Type 0 where
   part : Says x.part y.part
   colon : x.is_colon ≡ y.is_colon
-  statements : (above : List Bytes) (after : List IndentedGapLine) → map statement_syntax (x.statement above after).0 ≡ y.statements
-  suite : (after : List IndentedGapLine) → map statement_syntax (x.suite after).0.0 ≡ y.suite
+  statements : (above : List Bytes) (after : List GapLine) → map statement_syntax (x.statement above after).0 ≡ y.statements
+  suite : (after : List GapLine) → map statement_syntax (x.suite after).0.0 ≡ y.suite
 
 abbrev EachAgrees : List Stated → List Parsed → Type 0
 EachAgrees [] [] = Unit {0}
@@ -55,14 +54,14 @@ simple_syntax (i.Stmt x ∷ items) = ap (λ z. s.Simple (syntax_of x) ∷ z) (si
 line_agrees : (above : List Bytes) (ss : List Seen) (xs : List Expr) → EachSays ss xs → map statement_syntax (simple_statements (seen_statements above ss)) ≡ map s.Simple (before_marks xs)
 line_agrees above ss xs h = simple_syntax (seen_statements above ss) ∙ ap (map s.Simple) (statements_say above ss xs h)
 
-walk_agrees : (above : List IndentedGapLine) (xs : List Stated) (ys : List Parsed) (after : List IndentedGapLine) → EachAgrees xs ys → map statement_syntax (walked above xs after).0 ≡ statements_in ys
+walk_agrees : (above : List GapLine) (xs : List Stated) (ys : List Parsed) (after : List GapLine) → EachAgrees xs ys → map statement_syntax (walked above xs after).0 ≡ statements_in ys
 walk_agrees above [] [] after h = refl
 walk_agrees above [] (y ∷ ys) after h = absurd h
 walk_agrees above (x ∷ xs) [] after h = absurd h
 walk_agrees above (x ∷ xs) (y ∷ ys) after h =
-    let one = x.statement (indented_comments above) (indented_lines_before xs after) in
+    let one = x.statement (comments_in above) (indented_lines_before xs after) in
     map-append statement_syntax one.0 (walked one.1 xs after).0
-    ∙ both (λ us vs. us ++ vs) (h.0.statements (indented_comments above) (indented_lines_before xs after)) (walk_agrees one.1 xs ys after h.1)
+    ∙ both (λ us vs. us ++ vs) (h.0.statements (comments_in above) (indented_lines_before xs after)) (walk_agrees one.1 xs ys after h.1)
 
 -- ---- headers
 
@@ -79,7 +78,7 @@ one_more (t ∷ ss) [] s x h a = absurd h
 one_more (t ∷ ss) (y ∷ xs) s x h a = (h.0, one_more ss xs s x h.1 a)
 
 mutual
-  headers_agree : (kind : Kind) (ss : List Seen) (ps : List Expr) (above : List Bytes) (left : List IndentedGapLine) (xs : List Stated) (ys : List Parsed) (after : List IndentedGapLine)
+  headers_agree : (kind : Kind) (ss : List Seen) (ps : List Expr) (above : List Bytes) (left : List GapLine) (xs : List Stated) (ys : List Parsed) (after : List GapLine)
       → EachSays ss ps → EachAgrees xs ys → map branch_syntax (branches kind ss above left xs after).0 ≡ headers_in kind ps ys
   headers_agree kind ss ps above left [] [] after h a = refl
   headers_agree kind ss ps above left [] (y ∷ ys) after h a = absurd a
@@ -89,7 +88,7 @@ mutual
     | inr w ↦ let v : x.is_colon ≡ false = a.0.colon ∙ w in rw (v, w) (headers_agree kind (ss ++ x.part ∷ []) (ps ++ y.part ∷ []) above left xs ys after (one_more ss ps x.part y.part h a.0.part) a.1)
   ]
 
-  suites_agree : (kind : Kind) (ss : List Seen) (ps : List Expr) (above : List Bytes) (left : List IndentedGapLine) (xs : List Stated) (ys : List Parsed) (after : List IndentedGapLine)
+  suites_agree : (kind : Kind) (ss : List Seen) (ps : List Expr) (above : List Bytes) (left : List GapLine) (xs : List Stated) (ys : List Parsed) (after : List GapLine)
       → EachSays ss ps → EachAgrees xs ys → map branch_syntax (with_suite kind ss above left xs after).0 ≡ suites_in kind ps ys
   suites_agree kind ss ps above left [] [] after h a = refl
   suites_agree kind ss ps above left [] (y ∷ ys) after h a = absurd a
@@ -98,15 +97,15 @@ mutual
       let own = x.suite (indented_lines_before xs after) in
       both (λ z zs. z ∷ zs)
       (both (λ f own. record { head = f; statements = own; end = [] }) (head_agrees kind ss ps above x.suffix h) (a.0.suite (indented_lines_before xs after)))
-      (headers_agree kind [] [] (indented_comments own.1) own.1 xs ys after tt a.1)
+      (headers_agree kind [] [] (comments_in own.1) own.1 xs ys after tt a.1)
 
 -- ---- parts of each kind
 
-compound_agrees : (kind : Kind) (xs : List Stated) (ys : List Parsed) (above : List Bytes) (after : List IndentedGapLine) → EachAgrees xs ys → map statement_syntax (compound_read kind xs above after).0 ≡ s.Compound (headers_in kind [] ys) ∷ []
+compound_agrees : (kind : Kind) (xs : List Stated) (ys : List Parsed) (above : List Bytes) (after : List GapLine) → EachAgrees xs ys → map statement_syntax (compound_read kind xs above after).0 ≡ s.Compound (headers_in kind [] ys) ∷ []
 compound_agrees kind xs ys above after h =
     ap (λ z. z ∷ []) (syntax_Compound (branches kind [] above after xs after).0 ∙ ap (λ z. s.Compound z) (headers_agree kind [] [] above after xs ys after tt h))
 
-statement_agrees : (kind : Kind) (xs : List Stated) (ys : List Parsed) (above : List Bytes) (after : List IndentedGapLine) → EachAgrees xs ys → map statement_syntax (statement_read kind xs above after).0 ≡ node_statements kind ys
+statement_agrees : (kind : Kind) (xs : List Stated) (ys : List Parsed) (above : List Bytes) (after : List GapLine) → EachAgrees xs ys → map statement_syntax (statement_read kind xs above after).0 ≡ node_statements kind ys
 statement_agrees kind xs ys above after h = elim (cases_Bool (is_kind kind k.Line)) [
   | inl w ↦ rw w (line_agrees above (map (λ x. x.part) xs) (parsed_parts ys) (parts_agree xs ys h))
   | inr w ↦ elim (cases_Bool (is_compound kind)) [
@@ -121,7 +120,7 @@ after_newline [] (y ∷ ys) h = absurd h
 after_newline (x ∷ xs) [] h = absurd h
 after_newline (x ∷ xs) (y ∷ ys) h = h.1
 
-suite_agrees : (kind : Kind) (xs : List Stated) (ys : List Parsed) (after : List IndentedGapLine) → EachAgrees xs ys → map statement_syntax (suite_in kind xs after).0.0 ≡ suite_statements kind ys
+suite_agrees : (kind : Kind) (xs : List Stated) (ys : List Parsed) (after : List GapLine) → EachAgrees xs ys → map statement_syntax (suite_in kind xs after).0.0 ≡ suite_statements kind ys
 suite_agrees kind xs ys after h = elim (cases_Bool (is_kind kind k.Line)) [
   | inl w ↦ rw w (line_agrees [] (map (λ x. x.part) xs) (parsed_parts ys) (parts_agree xs ys h))
   | inr w ↦ elim (cases_Bool (is_kind kind k.Suite)) [
@@ -160,11 +159,11 @@ as_items : (xs : List Statement) → bzl_program (map b.Statement xs) ≡ map st
 as_items [] = refl
 as_items (x ∷ xs) = ap (λ z. statement_syntax x ∷ z) (as_items xs)
 
-items_agree : (lines : List IndentedGapLine) (xs : List Part) → bzl_program (bzl_items lines xs) ≡ statements_in (map parsed xs)
+items_agree : (lines : List GapLine) (xs : List Part) → bzl_program (bzl_items lines xs) ≡ statements_in (map parsed xs)
 items_agree lines [] = refl
-items_agree lines (p.Leaf l ∷ xs) = no_program (groups_of (map (λ l. l.line) lines)) (bzl_items [] xs) ∙ items_agree [] xs
+items_agree lines (p.Leaf l ∷ xs) = no_program (groups_of lines) (bzl_items [] xs) ∙ items_agree [] xs
 items_agree lines (Node' kind size row ∷ xs) =
-    let groups : List (List Bytes) = groups_of (map (λ l. l.line) lines) in
+    let groups : List (List Bytes) = groups_of lines in
     let own = (stated (Node' kind size row)).statement (last_group groups) (indented_lines_before (map stated xs) []) in
     no_program (all_but_last groups) (map b.Statement own.0 ++ bzl_items own.1 xs)
     ∙ bzl_program_append (map b.Statement own.0) (bzl_items own.1 xs)

@@ -11,9 +11,9 @@ use Rattle.bz_grammar.specs.Shapes.{Shape, Nonterminal, Terminal, Fits, Listed, 
 use Rattle.bz_grammar.specs.Suites.{def_header}
 use Rattle.bz_value.specs.declared.value.Expr.{Expr, Token, Form'}
 use Rattle.bz_items.specs.Characters.{Bytes, space}
-use Rattle.bz_value.specs.Indented.{IndentedGapLine}
 use Rattle.bz_value.specs.Proper.{comments_of}
 use Rattle.bz_value.specs.Roots.{root, mark_leaf}
+use Rattle.bz_value.specs.Gaps.{GapLine}
 use Rattle.bz_hosts.specs.View.{Seen, seen}
 use Rattle.bz_layout.specs.Layout.{rowed, joined, stacked, gap_after, margin_after, firsts}
 use Rattle.bz_layout.specs.LaidOut.{part_of, piece_part, layouts}
@@ -140,7 +140,7 @@ joined_plain m gap one (x ∷ y ∷ ys) h = (plain_part x gap m h.0, (refl, join
 -- ---- up to the colon
 
 -- The parts before the colon are those of the header; a suite follows.
-pub up_to_colon : (kind : Kind) (parts : List Seen) (above : List Bytes) (left after : List IndentedGapLine) (front rest : List Part) → AllByRecursion NoColon front →
+pub up_to_colon : (kind : Kind) (parts : List Seen) (above : List Bytes) (left after : List GapLine) (front rest : List Part) → AllByRecursion NoColon front →
     branches kind parts above left (map stated (front ++ (mark_leaf 58 ∷ rest))) after ≡ with_suite kind (parts ++ map seen front) above left (map stated rest) after
 up_to_colon kind parts above left after [] rest h = ap (λ z. with_suite kind z above left (map stated rest) after) (sym (append-nil parts))
 up_to_colon kind parts above left after (x ∷ front) rest h =

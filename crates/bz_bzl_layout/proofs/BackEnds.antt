@@ -3,69 +3,69 @@ use Rattle.std.proofs.Common.{◌≡◌, ◌≤◌, ◌<◌, ℕ, List, [], ◌�
 use Rattle.std.specs.Prelude.{Option, None, Some}
 use Rattle.std.proofs.lemmas.Bool.{le-leb, lt-leb}
 use Rattle.bz_items.specs.Characters.{Bytes}
-use Rattle.bz_value.specs.Gaps.{as_list}
-use Rattle.bz_value.specs.Indented.{IndentedGapLine}
-use Rattle.bz_bzl_value.specs.View.{indented_comments, is_taken_line, end_comments, after_end}
-use Rattle.bz_bzl_layout.proofs.BackLines.{Lines, commented_at}
+use Rattle.bz_value.specs.Gaps.{as_list, GapLine, comments_in}
+use Rattle.bz_bzl_value.specs.View.{is_taken_line, end_comments, after_end}
+use Rattle.bz_layout.proofs.Gapped.{commented}
+use Rattle.bz_bzl_layout.proofs.BackLines.{Lines}
 
 -- ---- from the first comment on
 
 -- a line and what follows it, from the first comment on
-abbrev pub from_line : Option Bytes → IndentedGapLine → Lines → Lines → Lines
+abbrev pub from_line : Option Bytes → GapLine → Lines → Lines → Lines
 from_line None line lines more = more
 from_line (Some text) line lines more = line ∷ lines
 
 -- the lines from the first comment on
 abbrev pub from_comment : Lines → Lines
 from_comment [] = []
-from_comment (line ∷ lines) = from_line line.line.comment line lines (from_comment lines)
+from_comment (line ∷ lines) = from_line line.comment line lines (from_comment lines)
 
 -- what is taken for end comments, and what is left, is the same with the lines before the first comment and without them
-comments_step : (comment : Option Bytes) (line : IndentedGapLine) (lines : Lines) → line.line.comment ≡ comment → indented_comments (from_comment lines) ≡ indented_comments lines → indented_comments (from_line line.line.comment line lines (from_comment lines)) ≡ indented_comments (line ∷ lines)
-comments_step None line lines e same = ap (λ z. indented_comments (from_line z line lines (from_comment lines))) e ∙ (same ∙ ap (λ z. as_list z ++ indented_comments lines) (sym e))
-comments_step (Some text) line lines e same = ap (λ z. indented_comments (from_line z line lines (from_comment lines))) e
+comments_step : (comment : Option Bytes) (line : GapLine) (lines : Lines) → line.comment ≡ comment → comments_in (from_comment lines) ≡ comments_in lines → comments_in (from_line line.comment line lines (from_comment lines)) ≡ comments_in (line ∷ lines)
+comments_step None line lines e same = ap (λ z. comments_in (from_line z line lines (from_comment lines))) e ∙ (same ∙ ap (λ z. as_list z ++ comments_in lines) (sym e))
+comments_step (Some text) line lines e same = ap (λ z. comments_in (from_line z line lines (from_comment lines))) e
 
 -- the comments are the same with the lines before the first comment and without them
-pub same_comments : (lines : Lines) → indented_comments (from_comment lines) ≡ indented_comments lines
+pub same_comments : (lines : Lines) → comments_in (from_comment lines) ≡ comments_in lines
 same_comments [] = refl
-same_comments (line ∷ lines) = comments_step line.line.comment line lines refl (same_comments lines)
+same_comments (line ∷ lines) = comments_step line.comment line lines refl (same_comments lines)
 
 -- what is taken for end comments from a line on, by the comment of that line
-abbrev ends_by : ℕ → Option Bytes → IndentedGapLine → Lines → List Bytes
+abbrev ends_by : ℕ → Option Bytes → GapLine → Lines → List Bytes
 ends_by margin comment line lines = if is_taken_line margin line.indent comment then (as_list comment ++ []) ++ end_comments margin lines else []
 
-ends_step : (margin : ℕ) (comment : Option Bytes) (line : IndentedGapLine) (lines : Lines) → line.line.comment ≡ comment → end_comments margin (from_comment lines) ≡ end_comments margin lines
-    → end_comments margin (from_line line.line.comment line lines (from_comment lines)) ≡ end_comments margin (line ∷ lines)
+ends_step : (margin : ℕ) (comment : Option Bytes) (line : GapLine) (lines : Lines) → line.comment ≡ comment → end_comments margin (from_comment lines) ≡ end_comments margin lines
+    → end_comments margin (from_line line.comment line lines (from_comment lines)) ≡ end_comments margin (line ∷ lines)
 ends_step margin None line lines e same = ap (λ z. end_comments margin (from_line z line lines (from_comment lines))) e ∙ (same ∙ ap (λ z. ends_by margin z line lines) (sym e))
 ends_step margin (Some text) line lines e same = ap (λ z. end_comments margin (from_line z line lines (from_comment lines))) e
 
 pub same_ends : (margin : ℕ) (lines : Lines) → end_comments margin (from_comment lines) ≡ end_comments margin lines
 same_ends margin [] = refl
-same_ends margin (line ∷ lines) = ends_step margin line.line.comment line lines refl (same_ends margin lines)
+same_ends margin (line ∷ lines) = ends_step margin line.comment line lines refl (same_ends margin lines)
 
 -- what is left from a line on
-abbrev left_by : ℕ → Option Bytes → IndentedGapLine → Lines → Lines
+abbrev left_by : ℕ → Option Bytes → GapLine → Lines → Lines
 left_by margin comment line lines = if is_taken_line margin line.indent comment then after_end margin lines else line ∷ lines
 
-left_step : (margin : ℕ) (comment : Option Bytes) (line : IndentedGapLine) (lines : Lines) → line.line.comment ≡ comment → after_end margin (from_comment lines) ≡ after_end margin lines
-    → after_end margin (from_line line.line.comment line lines (from_comment lines)) ≡ after_end margin (line ∷ lines)
+left_step : (margin : ℕ) (comment : Option Bytes) (line : GapLine) (lines : Lines) → line.comment ≡ comment → after_end margin (from_comment lines) ≡ after_end margin lines
+    → after_end margin (from_line line.comment line lines (from_comment lines)) ≡ after_end margin (line ∷ lines)
 left_step margin None line lines e same = ap (λ z. after_end margin (from_line z line lines (from_comment lines))) e ∙ (same ∙ ap (λ z. left_by margin z line lines) (sym e))
 left_step margin (Some text) line lines e same = ap (λ z. after_end margin (from_line z line lines (from_comment lines))) e
 
 -- what is left is the same
 pub same_left : (margin : ℕ) (lines : Lines) → after_end margin (from_comment lines) ≡ after_end margin lines
 same_left margin [] = refl
-same_left margin (line ∷ lines) = left_step margin line.line.comment line lines refl (same_left margin lines)
+same_left margin (line ∷ lines) = left_step margin line.comment line lines refl (same_left margin lines)
 
 -- from the first comment on, twice
-once_step : (comment : Option Bytes) (line : IndentedGapLine) (lines : Lines) → line.line.comment ≡ comment → from_comment (from_comment lines) ≡ from_comment lines
-    → from_comment (from_line line.line.comment line lines (from_comment lines)) ≡ from_line line.line.comment line lines (from_comment lines)
+once_step : (comment : Option Bytes) (line : GapLine) (lines : Lines) → line.comment ≡ comment → from_comment (from_comment lines) ≡ from_comment lines
+    → from_comment (from_line line.comment line lines (from_comment lines)) ≡ from_line line.comment line lines (from_comment lines)
 once_step None line lines e same = ap (λ z. from_comment (from_line z line lines (from_comment lines))) e ∙ (same ∙ ap (λ z. from_line z line lines (from_comment lines)) (sym e))
 once_step (Some text) line lines e same = ap (λ z. from_comment (from_line z line lines (from_comment lines))) e
 
 pub from_once : (lines : Lines) → from_comment (from_comment lines) ≡ from_comment lines
 from_once [] = refl
-from_once (line ∷ lines) = once_step line.line.comment line lines refl (from_once lines)
+from_once (line ∷ lines) = once_step line.comment line lines refl (from_once lines)
 
 -- ---- lines whose first comment is indented no more than to a margin
 
@@ -77,7 +77,7 @@ bounded_line (Some text) here more = here
 -- the first comment, if there is one, is indented no more than this
 abbrev pub AreBounded : ℕ → Lines → Type 0
 AreBounded m [] = Unit {0}
-AreBounded m (line ∷ lines) = bounded_line line.line.comment (line.indent ≤ m) (AreBounded m lines)
+AreBounded m (line ∷ lines) = bounded_line line.comment (line.indent ≤ m) (AreBounded m lines)
 
 bounded_more : (comment : Option Bytes) (A B C D : Type 0) → (A → C) → (B → D) → bounded_line comment A B → bounded_line comment C D
 bounded_more None A B C D here more h = more h
@@ -86,28 +86,28 @@ bounded_more (Some text) A B C D here more h = here h
 -- a wider bound
 pub bounded_further : (m n : ℕ) (lines : Lines) → m ≤ n → AreBounded m lines → AreBounded n lines
 bounded_further m n [] e h = tt
-bounded_further m n (line ∷ lines) e h = bounded_more line.line.comment _ _ _ _ (λ k. omega (arith, e, k)) (bounded_further m n lines e) h
+bounded_further m n (line ∷ lines) e h = bounded_more line.comment _ _ _ _ (λ k. omega (arith, e, k)) (bounded_further m n lines e) h
 
 -- comments at the margin itself
-pub commented_bounded : (m : ℕ) (texts : List Bytes) (lines : Lines) → AreBounded m lines → AreBounded m (commented_at m texts ++ lines)
+pub commented_bounded : (m : ℕ) (texts : List Bytes) (lines : Lines) → AreBounded m lines → AreBounded m (commented m texts ++ lines)
 commented_bounded m [] lines h = h
 commented_bounded m (text ∷ texts) lines h = omega arith
 
 -- ---- what a suite takes
 
 -- a suite takes all comments at its margin
-pub own_taken : (m : ℕ) (texts : List Bytes) (lines : Lines) → end_comments m (commented_at m texts ++ lines) ≡ texts ++ end_comments m lines
+pub own_taken : (m : ℕ) (texts : List Bytes) (lines : Lines) → end_comments m (commented m texts ++ lines) ≡ texts ++ end_comments m lines
 own_taken m [] lines = refl
 own_taken m (text ∷ texts) lines =
-    ap (λ z. if z then text ∷ end_comments m (commented_at m texts ++ lines) else []) (le-leb m m (omega arith)) ∙ ap (λ z. text ∷ z) (own_taken m texts lines)
+    ap (λ z. if z then text ∷ end_comments m (commented m texts ++ lines) else []) (le-leb m m (omega arith)) ∙ ap (λ z. text ∷ z) (own_taken m texts lines)
 
 -- and leaves what is after them
-pub own_left : (m : ℕ) (texts : List Bytes) (lines : Lines) → after_end m (commented_at m texts ++ lines) ≡ after_end m lines
+pub own_left : (m : ℕ) (texts : List Bytes) (lines : Lines) → after_end m (commented m texts ++ lines) ≡ after_end m lines
 own_left m [] lines = refl
 own_left m (text ∷ texts) lines =
-    ap (λ z. if z then after_end m (commented_at m texts ++ lines) else commented_at m (text ∷ texts) ++ lines) (le-leb m m (omega arith)) ∙ own_left m texts lines
+    ap (λ z. if z then after_end m (commented m texts ++ lines) else commented m (text ∷ texts) ++ lines) (le-leb m m (omega arith)) ∙ own_left m texts lines
 
-none_step : (margin m : ℕ) (comment : Option Bytes) (line : IndentedGapLine) (lines : Lines) → m < margin → bounded_line comment (line.indent ≤ m) (AreBounded m lines)
+none_step : (margin m : ℕ) (comment : Option Bytes) (line : GapLine) (lines : Lines) → m < margin → bounded_line comment (line.indent ≤ m) (AreBounded m lines)
     → (AreBounded m lines → end_comments margin lines ≡ []) → ends_by margin comment line lines ≡ []
 none_step margin m None line lines less h more = more h
 none_step margin m (Some text) line lines less h more =
@@ -116,9 +116,9 @@ none_step margin m (Some text) line lines less h more =
 -- none of the lines that belong further out
 pub none_taken : (margin m : ℕ) (lines : Lines) → m < margin → AreBounded m lines → end_comments margin lines ≡ []
 none_taken margin m [] less h = refl
-none_taken margin m (line ∷ lines) less h = none_step margin m line.line.comment line lines less h (none_taken margin m lines less)
+none_taken margin m (line ∷ lines) less h = none_step margin m line.comment line lines less h (none_taken margin m lines less)
 
-all_step : (margin m : ℕ) (comment : Option Bytes) (line : IndentedGapLine) (lines : Lines) → m < margin → bounded_line comment (line.indent ≤ m) (AreBounded m lines)
+all_step : (margin m : ℕ) (comment : Option Bytes) (line : GapLine) (lines : Lines) → m < margin → bounded_line comment (line.indent ≤ m) (AreBounded m lines)
     → (AreBounded m lines → after_end margin lines ≡ from_comment lines) → left_by margin comment line lines ≡ from_line comment line lines (from_comment lines)
 all_step margin m None line lines less h more = more h
 all_step margin m (Some text) line lines less h more = ap (λ z. if z then after_end margin lines else line ∷ lines) (lt-leb margin line.indent (omega (arith, less, h)))
@@ -126,4 +126,4 @@ all_step margin m (Some text) line lines less h more = ap (λ z. if z then after
 -- all lines that belong further out are left, from the first comment on
 pub all_left : (margin m : ℕ) (lines : Lines) → m < margin → AreBounded m lines → after_end margin lines ≡ from_comment lines
 all_left margin m [] less h = refl
-all_left margin m (line ∷ lines) less h = all_step margin m line.line.comment line lines less h (all_left margin m lines less)
+all_left margin m (line ∷ lines) less h = all_step margin m line.comment line lines less h (all_left margin m lines less)

@@ -8,23 +8,21 @@ use Rattle.bz_grammar.specs.declared.tree.Part.{Part}
 use Rattle.bz_value.specs.declared.value.Item.{Item}
 use Rattle.bz_value.specs.declared.value.Item.TheVariants as i
 use Rattle.bz_items.specs.Characters.{Bytes, line_feed}
-use Rattle.bz_value.specs.Gaps.{GapLine, before_groups, groups_of, all_but_last, last_group}
-use Rattle.bz_value.specs.Indented.{IndentedGapLine, indented}
+use Rattle.bz_value.specs.Gaps.{GapLine, before_groups, groups_of, all_but_last, last_group, lines_of}
 use Rattle.bz_value.specs.Proper.{IsComment}
 use Rattle.bz_hosts.specs.View.{blocks}
 use Rattle.bz_layout.proofs.Gapped.{ended_line, commented}
 use Rattle.bz_layout.proofs.Made.{two}
-use Rattle.bz_layout.proofs.Waiting.{Waits, nothing_waits, blank_waits, end_blocks, commented_blocks, block_waits}
+use Rattle.bz_layout.proofs.Waiting.{AreLines, lines_append, whole_lines, Waits, nothing_waits, blank_waits, end_blocks, commented_blocks, block_waits}
 use Rattle.bz_bzl_value.specs.declared.value.Statement.{Statement, Simple, Compound'}
 use Rattle.bz_bzl_value.specs.declared.value.BzlItem.{BzlItem}
 use Rattle.bz_bzl_value.specs.declared.value.BzlItem.TheVariants as b
 use Rattle.bz_bzl_value.specs.Proper.{IsProperBzlItem, IsProperBzl}
 use Rattle.bz_bzl_value.specs.View.{ReadStatements, stated, indented_lines_before, bzl_item, block_items, bzl_items, bzl_view_of}
-use Rattle.bz_bzl_value.proofs.Lined.{plain_lines}
 use Rattle.bz_bzl_layout.specs.Layout.{indented_lines, before_others}
 use Rattle.bz_bzl_layout.specs.LaidOut.{left_after, statement_part, bzl_lines, bzl_laid_out}
 use Rattle.bz_bzl_layout.specs.Level.{level_statement, level}
-use Rattle.bz_bzl_layout.proofs.BackLines.{Lines, line_with, AreIndented, commented_at, plain_commented, no_lines, a_blank_line, lines_appended, comments_at, whole_gap, gap_lines}
+use Rattle.bz_bzl_layout.proofs.BackLines.{Lines, no_lines, a_blank_line, comments_at, gap_lines}
 use Rattle.bz_bzl_layout.proofs.BackEnds.{from_line, from_comment, AreBounded, commented_bounded}
 use Rattle.bz_bzl_layout.proofs.BackLeft.{left_lines, left_are, above_of, comments_above, statement_first}
 use Rattle.bz_bzl_layout.proofs.BackSuites.{IsReadAs}
@@ -48,60 +46,53 @@ record SaysSame (gs hs : List (List Bytes)) : Type 0 where
   front : blocks (all_but_last gs) ≡ blocks (all_but_last hs)
   last : last_group gs ≡ last_group hs
 
--- the groups of lines
-abbrev groups : Lines → List (List Bytes)
-groups lines = groups_of (plain_lines lines)
-
 -- the same groups say the same
 says_itself : (gs hs : List (List Bytes)) → gs ≡ hs → SaysSame gs hs
 says_itself gs hs e = record { all = ap blocks e; front = ap (λ z. blocks (all_but_last z)) e; last = ap last_group e }
 
 -- one line more
-says_step : (comment : Option Bytes) (line : IndentedGapLine) (lines : Lines) → line.line.comment ≡ comment → SaysSame (groups (from_comment lines)) (groups lines) →
-    SaysSame (groups (from_line line.line.comment line lines (from_comment lines))) (before_groups line.line.comment (groups lines))
+says_step : (comment : Option Bytes) (line : GapLine) (lines : Lines) → line.comment ≡ comment → SaysSame (groups_of (from_comment lines)) (groups_of lines) →
+    SaysSame (groups_of (from_line line.comment line lines (from_comment lines))) (before_groups line.comment (groups_of lines))
 says_step None line lines e same =
-    let blank = blank_first (plain_lines lines) in
-    let gone : groups (from_line line.line.comment line lines (from_comment lines)) ≡ groups (from_comment lines) = ap (λ z. groups (from_line z line lines (from_comment lines))) e in
-    let more : before_groups line.line.comment (groups lines) ≡ [] ∷ groups lines = ap (λ z. before_groups z (groups lines)) e in
+    let blank = blank_first lines in
+    let gone : groups_of (from_line line.comment line lines (from_comment lines)) ≡ groups_of (from_comment lines) = ap (λ z. groups_of (from_line z line lines (from_comment lines))) e in
+    let more : before_groups line.comment (groups_of lines) ≡ [] ∷ groups_of lines = ap (λ z. before_groups z (groups_of lines)) e in
     record {
       all = ap blocks gone ∙ (same.all ∙ sym (ap blocks more));
       front = ap (λ z. blocks (all_but_last z)) gone ∙ (same.front ∙ sym (ap (λ z. blocks (all_but_last z)) more ∙ ap blocks blank.0));
       last = ap last_group gone ∙ (same.last ∙ sym (ap last_group more ∙ blank.1));
     }
 says_step (Some text) line lines e same =
-    says_itself (groups (from_line line.line.comment line lines (from_comment lines))) (before_groups line.line.comment (groups lines)) (ap (λ z. groups (from_line z line lines (from_comment lines))) e)
+    says_itself (groups_of (from_line line.comment line lines (from_comment lines))) (before_groups line.comment (groups_of lines)) (ap (λ z. groups_of (from_line z line lines (from_comment lines))) e)
 
 -- with the lines before the first comment and without them groups say the same
-from_says : (lines : Lines) → SaysSame (groups (from_comment lines)) (groups lines)
+from_says : (lines : Lines) → SaysSame (groups_of (from_comment lines)) (groups_of lines)
 from_says [] = says_itself ([] ∷ []) ([] ∷ []) refl
-from_says (line ∷ lines) = says_step line.line.comment line lines refl (from_says lines)
+from_says (line ∷ lines) = says_step line.comment line lines refl (from_says lines)
 
 -- so they do where the lines from the first comment on are the same
-both_say : (now all : Lines) → from_comment now ≡ from_comment all → SaysSame (groups now) (groups all)
+both_say : (now all : Lines) → from_comment now ≡ from_comment all → SaysSame (groups_of now) (groups_of all)
 both_say now all e =
-    let here : SaysSame (groups (from_comment now)) (groups now) = from_says now in
-    let there : SaysSame (groups (from_comment all)) (groups all) = from_says all in
+    let here : SaysSame (groups_of (from_comment now)) (groups_of now) = from_says now in
+    let there : SaysSame (groups_of (from_comment all)) (groups_of all) = from_says all in
     record {
-      all = sym here.all ∙ (ap (λ z. blocks (groups z)) e ∙ there.all);
-      front = sym here.front ∙ (ap (λ z. blocks (all_but_last (groups z))) e ∙ there.front);
-      last = sym here.last ∙ (ap (λ z. last_group (groups z)) e ∙ there.last);
+      all = sym here.all ∙ (ap (λ z. blocks (groups_of z)) e ∙ there.all);
+      front = sym here.front ∙ (ap (λ z. blocks (all_but_last (groups_of z))) e ∙ there.front);
+      last = sym here.last ∙ (ap (λ z. last_group (groups_of z)) e ∙ there.last);
     }
-
-plain_append : (a c : Lines) → plain_lines (a ++ c) ≡ plain_lines a ++ plain_lines c
-plain_append a c = map-append (λ l. l.line) a c
 
 -- ---- between items
 
 -- what is between two items: nothing or an empty line
 record IsBetween (gap : Bytes) : Type 0 where
   lines : Lines
-  are : AreIndented gap lines
-  waits : Waits (plain_lines lines) []
+  are : AreLines gap lines
+  waits : Waits lines []
   bounded : (rest : Lines) → AreBounded 0 rest → AreBounded 0 (lines ++ rest)
 
 -- an empty line
 abbrev blank : Lines
-blank = line_with 0 (ended_line None) ∷ []
+blank = ended_line 0 None ∷ []
 
 abbrev if_blank : (none : Bool) → IsBetween (if none then [] else (line_feed ∷ []))
 if_blank true = record { lines = []; are = no_lines; waits = nothing_waits; bounded = λ rest h. h }
@@ -119,73 +110,70 @@ between_known (b.Statement (Compound' size own)) (y ∷ ys) = if_blank false
 -- the lines of these items up to the first statement
 abbrev file_lines : List BzlItem → Lines
 file_lines [] = []
-file_lines (b.Block texts ∷ items) = commented_at 0 texts ++ ((between_known (b.Block texts) items).lines ++ file_lines items)
-file_lines (b.Statement x ∷ items) = commented_at 0 (above_of x)
+file_lines (b.Block texts ∷ items) = commented 0 texts ++ ((between_known (b.Block texts) items).lines ++ file_lines items)
+file_lines (b.Statement x ∷ items) = commented 0 (above_of x)
 
 -- they are not indented
 file_bounded : (items : List BzlItem) → AreBounded 0 (file_lines items)
 file_bounded [] = tt
 file_bounded (b.Block texts ∷ items) = commented_bounded 0 texts _ ((between_known (b.Block texts) items).bounded (file_lines items) (file_bounded items))
-file_bounded (b.Statement x ∷ items) = subst (AreBounded 0) (append-nil (commented_at 0 (above_of x))) (commented_bounded 0 (above_of x) [] tt)
+file_bounded (b.Statement x ∷ items) = subst (AreBounded 0) (append-nil (commented 0 (above_of x))) (commented_bounded 0 (above_of x) [] tt)
 
 -- what is read of a statement that the file begins with
 statement_items : (now : Lines) (gap : Bytes) (x : Statement) (xs : List Part) →
     bzl_items now (statement_part 0 gap x ∷ xs)
-    ≡ block_items (all_but_last (groups now))
-    ++ (map b.Statement ((stated (statement_part 0 gap x)).statement (last_group (groups now)) (indented_lines_before (map stated xs) [])).0 ++ bzl_items ((stated (statement_part 0 gap x)).statement (last_group (groups now)) (indented_lines_before (map stated xs) [])).1 xs)
+    ≡ block_items (all_but_last (groups_of now))
+    ++ (map b.Statement ((stated (statement_part 0 gap x)).statement (last_group (groups_of now)) (indented_lines_before (map stated xs) [])).0 ++ bzl_items ((stated (statement_part 0 gap x)).statement (last_group (groups_of now)) (indented_lines_before (map stated xs) [])).1 xs)
 statement_items now gap (Simple x) xs = refl
 statement_items now gap (Compound' size own) xs = refl
 
 -- the lines before the first part of a file
-file_before : (items : List BzlItem) → AllByRecursion IsProperBzlItem items → (gap : Bytes) (lines : Lines) → AreIndented gap lines → indented_lines_before (map stated (bzl_lines gap items)) [] ≡ lines ++ file_lines items
-file_before [] h gap lines k = whole_gap gap lines k ∙ sym (append-nil lines)
+file_before : (items : List BzlItem) → AllByRecursion IsProperBzlItem items → (gap : Bytes) (lines : Lines) → AreLines gap lines → indented_lines_before (map stated (bzl_lines gap items)) [] ≡ lines ++ file_lines items
+file_before [] h gap lines k = whole_lines gap lines k ∙ sym (append-nil lines)
 file_before (b.Block texts ∷ items) h gap lines k =
     let next : IsBetween (before_others (b.Block texts) items) = between_known (b.Block texts) items in
-    file_before items h.1 ((gap ++ indented_lines 0 texts) ++ before_others (b.Block texts) items) ((lines ++ commented_at 0 texts) ++ next.lines)
-    (lines_appended (gap ++ indented_lines 0 texts) (before_others (b.Block texts) items) (lines ++ commented_at 0 texts) next.lines
-    (lines_appended gap (indented_lines 0 texts) lines (commented_at 0 texts) k (comments_at 0 texts (recursion_from_All IsComment texts h.0.1))) next.are)
-    ∙ (append_assoc (lines ++ commented_at 0 texts) next.lines (file_lines items) ∙ append_assoc lines (commented_at 0 texts) (next.lines ++ file_lines items))
-file_before (b.Statement x ∷ items) h gap lines k = ap indented (statement_first 0 gap x h.0) ∙ gap_lines 0 gap lines (above_of x) k (comments_above x h.0)
+    file_before items h.1 ((gap ++ indented_lines 0 texts) ++ before_others (b.Block texts) items) ((lines ++ commented 0 texts) ++ next.lines)
+    (lines_append (gap ++ indented_lines 0 texts) (before_others (b.Block texts) items) (lines ++ commented 0 texts) next.lines
+    (lines_append gap (indented_lines 0 texts) lines (commented 0 texts) k (comments_at 0 texts (recursion_from_All IsComment texts h.0.1))) next.are)
+    ∙ (append_assoc (lines ++ commented 0 texts) next.lines (file_lines items) ∙ append_assoc lines (commented 0 texts) (next.lines ++ file_lines items))
+file_before (b.Statement x ∷ items) h gap lines k = ap lines_of (statement_first 0 gap x h.0) ∙ gap_lines 0 gap lines (above_of x) k (comments_above x h.0)
 
 -- items, the first after lines that say these Blocks
-items_back : (items : List BzlItem) → AllByRecursion IsProperBzlItem items → (gap : Bytes) (now waiting : Lines) (bs : List Item) → Waits (plain_lines waiting) bs → from_comment now ≡ from_comment (waiting ++ file_lines items) →
+items_back : (items : List BzlItem) → AllByRecursion IsProperBzlItem items → (gap : Bytes) (now waiting : Lines) (bs : List Item) → Waits waiting bs → from_comment now ≡ from_comment (waiting ++ file_lines items) →
     bzl_items now (bzl_lines gap items) ≡ map bzl_item bs ++ level items
 items_back [] h gap now waiting bs waits e =
-    let says : SaysSame (groups now) (groups (waiting ++ [])) = both_say now (waiting ++ []) e in
-    ap (λ z. map bzl_item z ++ []) (says.all ∙ (ap (λ z. blocks (groups z)) (append-nil waiting) ∙ end_blocks (plain_lines waiting) bs waits))
+    let says : SaysSame (groups_of now) (groups_of (waiting ++ [])) = both_say now (waiting ++ []) e in
+    ap (λ z. map bzl_item z ++ []) (says.all ∙ (ap (λ z. blocks (groups_of z)) (append-nil waiting) ∙ end_blocks waiting bs waits))
 items_back (b.Block [] ∷ items) h gap now waiting bs waits e = absurd (h.0.0 refl)
 items_back (b.Block (text ∷ texts) ∷ []) h gap now waiting bs waits e =
-    let all : Lines = waiting ++ (commented_at 0 (text ∷ texts) ++ []) in
-    let says : SaysSame (groups now) (groups all) = both_say now all e in
-    let plain : plain_lines all ≡ plain_lines waiting ++ commented (text ∷ texts) = plain_append waiting (commented_at 0 (text ∷ texts) ++ []) ∙ ap (λ z. plain_lines waiting ++ z) (ap plain_lines (append-nil (commented_at 0 (text ∷ texts))) ∙ plain_commented 0 (text ∷ texts)) in
-    ap (λ z. map bzl_item z ++ []) (says.all ∙ (ap (λ z. blocks (groups_of z)) plain ∙ commented_blocks (plain_lines waiting) bs text texts waits))
+    let all : Lines = waiting ++ (commented 0 (text ∷ texts) ++ []) in
+    let says : SaysSame (groups_of now) (groups_of all) = both_say now all e in
+    let plain : all ≡ waiting ++ commented 0 (text ∷ texts) = ap (λ z. waiting ++ z) (append-nil (commented 0 (text ∷ texts))) in
+    ap (λ z. map bzl_item z ++ []) (says.all ∙ (ap (λ z. blocks (groups_of z)) plain ∙ commented_blocks waiting bs text texts waits))
     ∙ (append-nil (map bzl_item (bs ++ (i.Block (text ∷ texts) ∷ []))) ∙ map-append bzl_item bs (i.Block (text ∷ texts) ∷ []))
 items_back (b.Block (text ∷ texts) ∷ y ∷ ys) h gap now waiting bs waits e =
-    let own : Lines = commented_at 0 (text ∷ texts) in
+    let own : Lines = commented 0 (text ∷ texts) in
     let all : Lines = (waiting ++ own) ++ blank in
-    let plain : plain_lines all ≡ (plain_lines waiting ++ commented (text ∷ texts)) ++ (ended_line None ∷ []) =
-    plain_append (waiting ++ own) blank ∙ ap (λ z. z ++ (ended_line None ∷ [])) (plain_append waiting own ∙ ap (λ z. plain_lines waiting ++ z) (plain_commented 0 (text ∷ texts))) in
     let more : List Item = bs ++ (i.Block (text ∷ texts) ∷ []) in
-    items_back (y ∷ ys) h.1 ((gap ++ indented_lines 0 (text ∷ texts)) ++ (line_feed ∷ [])) now all more (subst (λ z. Waits z more) (sym plain) (block_waits (plain_lines waiting) bs text texts waits))
+    items_back (y ∷ ys) h.1 ((gap ++ indented_lines 0 (text ∷ texts)) ++ (line_feed ∷ [])) now all more (block_waits waiting bs text texts waits)
     (e ∙ ap from_comment (sym (append_assoc (waiting ++ own) blank (file_lines (y ∷ ys)) ∙ append_assoc waiting own (blank ++ file_lines (y ∷ ys)))))
     ∙ (ap (λ z. z ++ level (y ∷ ys)) (map-append bzl_item bs (i.Block (text ∷ texts) ∷ [])) ∙ append_assoc (map bzl_item bs) (b.Block (text ∷ texts) ∷ []) (level (y ∷ ys)))
 items_back (b.Statement x ∷ items) h gap now waiting bs waits e =
     let next : IsBetween (before_others (b.Statement x) items) = between_known (b.Statement x) items in
-    let all : Lines = waiting ++ commented_at 0 (above_of x) in
-    let says : SaysSame (groups now) (groups all) = both_say now all e in
-    let plain : plain_lines all ≡ plain_lines waiting ++ commented (above_of x) = plain_append waiting (commented_at 0 (above_of x)) ∙ ap (λ z. plain_lines waiting ++ z) (plain_commented 0 (above_of x)) in
+    let all : Lines = waiting ++ commented 0 (above_of x) in
+    let says : SaysSame (groups_of now) (groups_of all) = both_say now all e in
     let gap' : Bytes = left_after 0 x ++ before_others (b.Statement x) items in
     let xs : List Part = bzl_lines gap' items in
     let rest : Lines = next.lines ++ file_lines items in
     let after : indented_lines_before (map stated xs) [] ≡ left_lines 0 x ++ rest =
-    file_before items h.1 gap' (left_lines 0 x ++ next.lines) (lines_appended (left_after 0 x) (before_others (b.Statement x) items) (left_lines 0 x) next.lines (left_are 0 x h.0) next.are) ∙ append_assoc (left_lines 0 x) next.lines (file_lines items) in
+    file_before items h.1 gap' (left_lines 0 x ++ next.lines) (lines_append (left_after 0 x) (before_others (b.Statement x) items) (left_lines 0 x) next.lines (left_are 0 x h.0) next.are) ∙ append_assoc (left_lines 0 x) next.lines (file_lines items) in
     let read : List Bytes → Lines → ReadStatements (List Statement) = (stated (statement_part 0 gap x)).statement in
     let own : ReadStatements (List Statement) = read (above_of x) (left_lines 0 x ++ rest) in
     let back : IsReadAs own (level_statement x ∷ []) rest = statement_back 0 gap x h.0 rest (next.bounded (file_lines items) (file_bounded items)) in
     let out : ReadStatements (List Statement) → List BzlItem = λ z. map b.Statement z.0 ++ bzl_items z.1 xs in
     statement_items now gap x xs
-    ∙ two (λ z w. map bzl_item z ++ w) (says.front ∙ (ap (λ z. blocks (all_but_last (groups_of z))) plain ∙ waits.front (above_of x)))
-    (two (λ z w. out (read z w)) (says.last ∙ (ap (λ z. last_group (groups_of z)) plain ∙ waits.last (above_of x))) after
+    ∙ two (λ z w. map bzl_item z ++ w) (says.front ∙ waits.front (above_of x))
+    (two (λ z w. out (read z w)) (says.last ∙ waits.last (above_of x)) after
     ∙ two (λ z w. map b.Statement z ++ w) back.value (items_back items h.1 gap' own.1 next.lines [] next.waits back.left))
 
 -- the view of the tree of the layout of a proper value is the value, levelled

@@ -9,19 +9,21 @@ use Rattle.bz_grammar.specs.declared.tree.Part.TheVariants as p
 use Rattle.bz_grammar.specs.Spots.{Begins}
 use Rattle.bz_items.specs.Characters.{Bytes}
 use Rattle.bz_value.specs.Frames.{frame}
-use Rattle.bz_value.specs.Indented.{indented}
 use Rattle.bz_value.specs.Proper.{IsComment, comments_of}
+use Rattle.bz_value.specs.Gaps.{lines_of}
 use Rattle.bz_hosts.specs.View.{seen, first_seen_gap}
 use Rattle.bz_hosts.proofs.SeenParts.{node_gap}
+use Rattle.bz_layout.proofs.Gapped.{commented}
 use Rattle.bz_layout.proofs.Readable.{readable}
 use Rattle.bz_layout.proofs.ReadBack.{expr_back, seen_made}
+use Rattle.bz_layout.proofs.Waiting.{AreLines, lines_append}
 use Rattle.bz_bzl_value.specs.declared.value.Statement.{Statement, Simple, Compound', Row_of-Branch, end_of-Branch, more_of-Branch, Row_of-Statement, end_of-Statement, more_of-Statement}
 use Rattle.bz_bzl_value.specs.Proper.{IsProperStatement, AreProperBranches, AreProperStatements, AreHeaders, heads}
 use Rattle.bz_bzl_value.specs.View.{stated, indented_lines_before}
 use Rattle.bz_bzl_value.proofs.Parts.{part_of as stated_part}
 use Rattle.bz_bzl_layout.specs.Layout.{indented_lines}
 use Rattle.bz_bzl_layout.specs.LaidOut.{gap_to_margin, left_after, left_branches, left_statements, statement_part, statement_parts, branch_parts}
-use Rattle.bz_bzl_layout.proofs.BackLines.{Lines, AreIndented, commented_at, no_lines, lines_appended, comments_at, gap_lines}
+use Rattle.bz_bzl_layout.proofs.BackLines.{Lines, no_lines, comments_at, gap_lines}
 use Rattle.bz_bzl_layout.proofs.BackHeads.{header_first}
 use Rattle.bz_bzl_layout.proofs.BackProper.{headers_read}
 
@@ -35,7 +37,7 @@ abbrev mutual
 
   pub branch_lines : ℕ → Lines → {n : _} → Row_of-Branch n → Lines
   branch_lines m lines end_of-Branch = lines
-  branch_lines m lines (more_of-Branch head size statements end rest) = branch_lines m (statement_lines (m + 4) [] statements ++ commented_at (m + 4) end) rest
+  branch_lines m lines (more_of-Branch head size statements end rest) = branch_lines m (statement_lines (m + 4) [] statements ++ commented (m + 4) end) rest
 
   pub statement_lines : ℕ → Lines → {n : _} → Row_of-Statement n → Lines
   statement_lines m lines end_of-Statement = lines
@@ -43,18 +45,18 @@ abbrev mutual
 
 mutual
   -- these are the lines of that gap
-  pub left_are : (m : ℕ) (x : Statement) → IsProperStatement x → AreIndented (left_after m x) (left_lines m x)
+  pub left_are : (m : ℕ) (x : Statement) → IsProperStatement x → AreLines (left_after m x) (left_lines m x)
   left_are m (Simple x) h = no_lines
   left_are m (Compound' size own) h = branches_are m _ own h.1 [] [] no_lines
 
-  branches_are : (m : ℕ) (n : _) (r : Row_of-Branch n) → AreProperBranches r → (gap : Bytes) (lines : Lines) → AreIndented gap lines → AreIndented (left_branches m gap r) (branch_lines m lines r)
+  branches_are : (m : ℕ) (n : _) (r : Row_of-Branch n) → AreProperBranches r → (gap : Bytes) (lines : Lines) → AreLines gap lines → AreLines (left_branches m gap r) (branch_lines m lines r)
   branches_are m n end_of-Branch h gap lines k = k
   branches_are m n (more_of-Branch head size statements end rest) h gap lines k =
-      branches_are m _ rest h.3 (left_statements (m + 4) [] statements ++ indented_lines (m + 4) end) (statement_lines (m + 4) [] statements ++ commented_at (m + 4) end)
-      (lines_appended (left_statements (m + 4) [] statements) (indented_lines (m + 4) end) (statement_lines (m + 4) [] statements) (commented_at (m + 4) end)
+      branches_are m _ rest h.3 (left_statements (m + 4) [] statements ++ indented_lines (m + 4) end) (statement_lines (m + 4) [] statements ++ commented (m + 4) end)
+      (lines_append (left_statements (m + 4) [] statements) (indented_lines (m + 4) end) (statement_lines (m + 4) [] statements) (commented (m + 4) end)
       (statements_are (m + 4) _ statements h.1 [] [] no_lines) (comments_at (m + 4) end (recursion_from_All IsComment end h.2)))
 
-  pub statements_are : (m : ℕ) (n : _) (r : Row_of-Statement n) → AreProperStatements r → (gap : Bytes) (lines : Lines) → AreIndented gap lines → AreIndented (left_statements m gap r) (statement_lines m lines r)
+  pub statements_are : (m : ℕ) (n : _) (r : Row_of-Statement n) → AreProperStatements r → (gap : Bytes) (lines : Lines) → AreLines gap lines → AreLines (left_statements m gap r) (statement_lines m lines r)
   statements_are m n end_of-Statement h gap lines k = k
   statements_are m n (more_of-Statement x rest) h gap lines k = statements_are m _ rest h.1 (left_after m x) (left_lines m x) (left_are m x h.0)
 
@@ -73,12 +75,12 @@ above_of (Compound' size own) = above_first own
 -- the lines before what follows: the comments above the next one, or what is after all
 abbrev pub coming : ℕ → {n : _} → Row_of-Statement n → Lines → Lines
 coming m end_of-Statement rest = rest
-coming m (more_of-Statement x more) rest = commented_at m (above_of x)
+coming m (more_of-Statement x more) rest = commented m (above_of x)
 
 -- the same of headers
 abbrev pub coming_header : ℕ → {n : _} → Row_of-Branch n → Lines → Lines
 coming_header m end_of-Branch rest = rest
-coming_header m (more_of-Branch head size statements end more) rest = commented_at m head.comments.before
+coming_header m (more_of-Branch head size statements end more) rest = commented m head.comments.before
 
 -- the gap before a node is that before its first part
 node_first : (kind : Kind) (ps : List Part) → (seen (p.Node (record { kind = kind; parts = ps }))).gap ≡ first_seen_gap (map seen ps)
@@ -108,7 +110,7 @@ statement_first m lines (Compound' size own) h =
     ap (λ z. z.gap) (stated_part (statement_part m lines (Compound' size own))) ∙ (node_first _ (branch_parts m lines own) ∙ branches_first m lines _ own h.0)
 
 -- the lines before the next statement, those that are left after the one before it first
-pub statements_before : (m : ℕ) (n : _) (r : Row_of-Statement n) → AreProperStatements r → (gap : Bytes) (lines rest : Lines) → AreIndented gap lines →
+pub statements_before : (m : ℕ) (n : _) (r : Row_of-Statement n) → AreProperStatements r → (gap : Bytes) (lines rest : Lines) → AreLines gap lines →
     indented_lines_before (map stated (statement_parts m gap r)) (statement_lines m lines r ++ rest) ≡ lines ++ coming m r rest
 statements_before m n end_of-Statement h gap lines rest k = refl
-statements_before m n (more_of-Statement x more) h gap lines rest k = ap indented (statement_first m gap x h.0) ∙ gap_lines m gap lines (above_of x) k (comments_above x h.0)
+statements_before m n (more_of-Statement x more) h gap lines rest k = ap lines_of (statement_first m gap x h.0) ∙ gap_lines m gap lines (above_of x) k (comments_above x h.0)

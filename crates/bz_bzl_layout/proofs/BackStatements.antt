@@ -13,35 +13,37 @@ use Rattle.bz_value.specs.declared.value.Form.{Form}
 use Rattle.bz_value.specs.Roots.{mark_leaf}
 use Rattle.bz_items.specs.Characters.{Bytes}
 use Rattle.bz_value.specs.Empty.{is_empty}
-use Rattle.bz_value.specs.Indented.{indented}
 use Rattle.bz_value.specs.Proper.{IsComment, comments_of}
+use Rattle.bz_value.specs.Gaps.{lines_of, comments_in}
 use Rattle.bz_hosts.specs.View.{Seen, seen, first_seen_gap}
 use Rattle.bz_layout.specs.LaidOut.{part_of}
+use Rattle.bz_layout.proofs.Gapped.{commented, commented_back}
 use Rattle.bz_layout.proofs.Made.{two}
 use Rattle.bz_layout.proofs.Readable.{readable}
 use Rattle.bz_layout.proofs.ReadBack.{expr_back}
+use Rattle.bz_layout.proofs.Waiting.{AreLines, lines_append}
 use Rattle.bz_bzl_value.specs.declared.value.Statement.{Statement, Simple, Compound', Row_of-Branch, end_of-Branch, more_of-Branch, Row_of-Statement, end_of-Statement, more_of-Statement}
 use Rattle.bz_bzl_value.specs.declared.value.Statement.TheVariants as s
 use Rattle.bz_bzl_value.specs.Proper.{IsProperStatement, AreProperBranches, AreProperStatements, AreHeaders, heads, IsSome}
-use Rattle.bz_bzl_value.specs.View.{SuiteRead, stated, branches, with_suite, walked, suite_read, margin_of, is_compound, head as header_form, indented_lines_before, indented_comments as comments_in_lines}
+use Rattle.bz_bzl_value.specs.View.{SuiteRead, stated, branches, with_suite, walked, suite_read, margin_of, is_compound, head as header_form, indented_lines_before}
 use Rattle.bz_bzl_value.proofs.Parts.{part_of as stated_part, statement_Node, suite_Node, compound_is, line_is}
 use Rattle.bz_bzl_layout.specs.Layout.{indented_lines, is_def}
 use Rattle.bz_bzl_layout.specs.LaidOut.{gap_to_margin, newline_part, header_parts, left_after, left_statements, first_kind, statement_part, branch_parts, statement_parts}
 use Rattle.bz_bzl_layout.specs.Level.{level_head, level_statement, each_branch, each_statement}
-use Rattle.bz_bzl_layout.proofs.BackLines.{Lines, AreIndented, commented_at, no_lines, lines_appended, comments_at, gap_lines, gap_margin}
+use Rattle.bz_bzl_layout.proofs.BackLines.{Lines, no_lines, comments_at, gap_lines, gap_margin}
 use Rattle.bz_bzl_layout.proofs.BackEnds.{from_comment, AreBounded, bounded_further, commented_bounded, same_comments}
 use Rattle.bz_bzl_layout.proofs.BackColons.{up_to_colon}
 use Rattle.bz_bzl_layout.proofs.BackHeads.{IsRead, before_colon, header_cut, header_plain, header_first, head_read}
 use Rattle.bz_bzl_layout.proofs.BackProper.{AreRead, IsCompound, headers_read}
 use Rattle.bz_bzl_layout.proofs.BackLeft.{left_lines, branch_lines, statement_lines, left_are, statements_are, above_first, above_of, coming, coming_header, comments_above, statement_first, statements_before}
-use Rattle.bz_bzl_layout.proofs.BackSuites.{IsReadAs, simple_back, suite_from, walked_more, suite_more, Starts, starts_from, commented_back_at, header_bounded, statement_bounded, suite_node, suite_suffix}
+use Rattle.bz_bzl_layout.proofs.BackSuites.{IsReadAs, simple_back, suite_from, walked_more, suite_more, Starts, starts_from, header_bounded, statement_bounded, suite_node, suite_suffix}
 
 -- ---- the lines before a header
 
 -- the lines before the first part
-lines_of_first : (ps : List Part) (after : Lines) → is_empty ps ≡ false → indented_lines_before (map stated ps) after ≡ indented (first_seen_gap (map seen ps))
+lines_of_first : (ps : List Part) (after : Lines) → is_empty ps ≡ false → indented_lines_before (map stated ps) after ≡ lines_of (first_seen_gap (map seen ps))
 lines_of_first [] after e = absurd (true≢false e)
-lines_of_first (x ∷ ps) after e = ap (λ z. indented z.gap) (stated_part x)
+lines_of_first (x ∷ ps) after e = ap (λ z. lines_of z.gap) (stated_part x)
 
 -- there is a part
 some_after : (ps : List Part) (x : Part) (qs : List Part) → is_empty (ps ++ (x ∷ qs)) ≡ false
@@ -49,13 +51,13 @@ some_after [] x qs = refl
 some_after (y ∷ ps) x qs = refl
 
 -- the lines before the next header: those that are left after the suite before, and the comments above the header
-headers_before : (m : ℕ) (kind : Kind) (n : _) (r : Row_of-Branch n) → AreRead kind (heads r) → (gap : Bytes) (lines rest : Lines) → AreIndented gap lines →
+headers_before : (m : ℕ) (kind : Kind) (n : _) (r : Row_of-Branch n) → AreRead kind (heads r) → (gap : Bytes) (lines rest : Lines) → AreLines gap lines →
     indented_lines_before (map stated (branch_parts m gap r)) (branch_lines m lines r ++ rest) ≡ lines ++ coming_header m r rest
 headers_before m kind n end_of-Branch h gap lines rest k = refl
 headers_before m kind n (more_of-Branch head size statements end more) h gap lines rest k =
     let own : Bytes = gap_to_margin m gap head.comments.before in
     lines_of_first _ _ (some_after (header_parts m own head) _ _)
-    ∙ (ap indented (header_first m own head _ h.1) ∙ gap_lines m gap lines head.comments.before k h.1.before)
+    ∙ (ap lines_of (header_first m own head _ h.1) ∙ gap_lines m gap lines head.comments.before k h.1.before)
 
 -- up to the suite of the first header
 to_suite : (m : ℕ) (gap : Bytes) (f : Form) (above : List Bytes) (left after : Lines) (own : Part) (rest : List Part) → IsRead f →
@@ -70,7 +72,7 @@ to_suite m gap f above left after own rest h =
 -- the comments above it are the lines before it
 first_lines : (m : ℕ) (n : _) (r : Row_of-Statement n) (rest : Lines) → IsSome r → AreProperStatements r → indented_lines_before (map stated (statement_parts m [] r)) [] ≡ coming m r rest
 first_lines m n end_of-Statement rest some h = absurd some
-first_lines m n (more_of-Statement x more) rest some h = ap indented (statement_first m [] x h.0) ∙ gap_lines m [] [] (above_of x) no_lines (comments_above x h.0)
+first_lines m n (more_of-Statement x more) rest some h = ap lines_of (statement_first m [] x h.0) ∙ gap_lines m [] [] (above_of x) no_lines (comments_above x h.0)
 
 -- its indent is the margin of the suite
 first_margin : (m : ℕ) (n : _) (r : Row_of-Statement n) → IsSome r → AreProperStatements r → margin_of (map stated (statement_parts m [] r)) ≡ m
@@ -123,7 +125,7 @@ mutual
   walked_back m n (more_of-Statement x more) h gap lines now rest bounded e =
       walked_more (stated (statement_part m gap x)) (map stated (statement_parts m (left_after m x) more)) now (statement_lines m (left_lines m x) more ++ rest) (left_lines m x ++ coming m more rest) (coming m more rest) rest (above_of x)
       (level_statement x) (each_statement more)
-      (sym (same_comments now) ∙ (ap comments_in_lines e ∙ (same_comments (commented_at m (above_of x)) ∙ commented_back_at m (above_of x))))
+      (sym (same_comments now) ∙ (ap comments_in e ∙ (same_comments (commented m (above_of x)) ∙ commented_back m (above_of x))))
       (statements_before m _ more h.1 (left_after m x) (left_lines m x) rest (left_are m x h.0))
       (statement_back m gap x h.0 (coming m more rest) (statement_bounded m _ more rest bounded))
       (λ z f. walked_back m _ more h.1 (left_after m x) (left_lines m x) z rest bounded f)
@@ -135,9 +137,9 @@ mutual
       let inner : ℕ = m + 4 in
       let further : m ≤ inner = omega arith in
       let own_gap : Bytes = left_statements inner [] statements ++ indented_lines inner end in
-      let own_lines : Lines = statement_lines inner [] statements ++ commented_at inner end in
-      let own_are : AreIndented own_gap own_lines =
-      lines_appended (left_statements inner [] statements) (indented_lines inner end) (statement_lines inner [] statements) (commented_at inner end) (statements_are inner _ statements h.1 [] [] no_lines) (comments_at inner end (recursion_from_All IsComment end h.2)) in
+      let own_lines : Lines = statement_lines inner [] statements ++ commented inner end in
+      let own_are : AreLines own_gap own_lines =
+      lines_append (left_statements inner [] statements) (indented_lines inner end) (statement_lines inner [] statements) (commented inner end) (statements_are inner _ statements h.1 [] [] no_lines) (comments_at inner end (recursion_from_All IsComment end h.2)) in
       let ps : List Part = statement_parts inner [] statements in
       let tail : List Part = branch_parts m own_gap more in
       let after : Lines = branch_lines m own_lines more ++ rest in
@@ -150,15 +152,15 @@ mutual
       let others : AreRead head.kind (heads more) = subst (λ z. AreRead z (heads more)) (sym known.0) known.2 in
       let suite : (stated (suite_node suffix ps)).suite (own_lines ++ next) ≡ own =
       ap (λ z. z (own_lines ++ next)) (suite_Node node)
-      ∙ (ap (λ z. suite_read (map stated ps) z) (append_assoc (statement_lines inner [] statements) (commented_at inner end) next)
-      ∙ suite_from m (map stated ps) (statement_lines inner [] statements ++ (commented_at inner end ++ next)) (coming inner statements (commented_at inner end ++ next)) next (each_statement statements) end
-      (first_lines inner _ statements (commented_at inner end ++ next) h.0 h.1) (first_margin inner _ statements h.0 h.1) next_bounded
-      (walked_back inner _ statements h.1 [] [] (coming inner statements (commented_at inner end ++ next)) (commented_at inner end ++ next) (commented_bounded inner end next (bounded_further m inner next further next_bounded)) refl)) in
+      ∙ (ap (λ z. suite_read (map stated ps) z) (append_assoc (statement_lines inner [] statements) (commented inner end) next)
+      ∙ suite_from m (map stated ps) (statement_lines inner [] statements ++ (commented inner end ++ next)) (coming inner statements (commented inner end ++ next)) next (each_statement statements) end
+      (first_lines inner _ statements (commented inner end ++ next) h.0 h.1) (first_margin inner _ statements h.0 h.1) next_bounded
+      (walked_back inner _ statements h.1 [] [] (coming inner statements (commented inner end ++ next)) (commented inner end ++ next) (commented_bounded inner end next (bounded_further m inner next further next_bounded)) refl)) in
       let read : IsReadAs (with_suite head.kind front above left (map stated (suite_node suffix ps ∷ tail)) after) (each_branch (more_of-Branch head size statements end more)) rest =
       suite_more head.kind front above left after (own_lines ++ next) rest (stated (suite_node suffix ps)) (map stated tail) (level_head head) own (each_branch more)
       (headers_before m head.kind _ more others own_gap own_lines rest own_are) suite
       (two (λ z w. header_form head.kind front z w) e (suite_suffix suffix ps known.1.suffix) ∙ head_read m (gap_to_margin m gap head.comments.before) head known.1)
-      (branches_back m head.kind _ more others h.3 own_gap own_lines (comments_in_lines (from_comment next)) (from_comment next) rest bounded (starts_from m _ more rest)) in
+      (branches_back m head.kind _ more others h.3 own_gap own_lines (comments_in (from_comment next)) (from_comment next) rest bounded (starts_from m _ more rest)) in
       let same = ap (λ z. branches z [] above left (map stated (branch_parts m gap (more_of-Branch head size statements end more))) after) (sym known.0)
       ∙ to_suite m (gap_to_margin m gap head.comments.before) head above left after (suite_node suffix ps) tail known.1 in
       record { value = ap (λ z. z.0) same ∙ read.value; left = ap (λ z. from_comment z.1) same ∙ read.left }

@@ -2,7 +2,7 @@
 use Rattle.std.proofs.Common.{◌≡◌, ℕ, Bool, true, false, List, [], ◌∷◌, ◌++◌, Option, Some, None, if◌then◌else◌, refl, sym, ap, ap₂, ◌∙◌, subst, map, drop, append_assoc}
 use Rattle.std.specs.List.{AllByRecursion}
 use Rattle.std.proofs.lemmas.Bool.{cond-true}
-use Rattle.std.proofs.lemmas.List.{append-nil, map-append}
+use Rattle.std.proofs.lemmas.List.{append-nil}
 use Rattle.bz_items.specs.Characters.{Bytes}
 use Rattle.bz_grammar.specs.declared.kind.Kind.{Kind}
 use Rattle.bz_grammar.specs.declared.kind.Kind.TheVariants as k
@@ -10,18 +10,16 @@ use Rattle.bz_grammar.specs.declared.tree.Part.{Part, Row_of-Part, end_of-Part, 
 use Rattle.bz_grammar.specs.declared.tree.Part.TheVariants as p
 use Rattle.bz_grammar.specs.Shapes.{is_kind}
 use Rattle.bz_value.specs.declared.value.Form.{Form}
-use Rattle.bz_value.specs.Gaps.{as_list, comments_in}
-use Rattle.bz_value.specs.Indented.{IndentedGapLine, indented}
+use Rattle.bz_value.specs.Gaps.{as_list, comments_in, GapLine, lines_of, after_first_line}
 use Rattle.bz_hosts.specs.View.{Seen, last_gap}
 use Rattle.bz_bzl_value.specs.declared.value.Statement.{Statement}
 use Rattle.bz_bzl_value.specs.declared.value.Statement.TheVariants as s
 use Rattle.bz_bzl_value.specs.declared.value.Branch.{Branch}
-use Rattle.bz_bzl_value.specs.View.{ReadStatements, Stated, stated, stated_row, indented_comments, indented_lines_before, after_first_line, end_comments, after_end, is_taken_line, line_read, walked, margin_of, suite_read, head, branches, with_suite, is_compound, compound_read, statement_read, suite_in}
+use Rattle.bz_bzl_value.specs.View.{ReadStatements, Stated, stated, stated_row, indented_lines_before, end_comments, after_end, is_taken_line, line_read, walked, margin_of, suite_read, head, branches, with_suite, is_compound, compound_read, statement_read, suite_in}
 use Rattle.bz_bzl_value.proofs.KeptBranches.{Lines}
-use Rattle.bz_bzl_value.proofs.Lined.{plain_lines, comments_append}
 
 abbrev pub Blank : Lines → Type 0
-Blank lines = AllByRecursion (λ l. l.line.comment ≡ None) lines
+Blank lines = AllByRecursion (λ l. l.comment ≡ None) lines
 
 -- these lines, and blank ones after them
 abbrev pub More : Lines → Lines → Type 0
@@ -35,23 +33,25 @@ more_same a = ([], tt, sym (append-nil a))
 
 -- ---- comments
 
-blank_comments : (bs : Lines) → Blank bs → indented_comments bs ≡ []
-blank_comments [] h = refl
-blank_comments (b ∷ bs) h = ap (λ o. as_list o ++ indented_comments bs) h.0 ∙ blank_comments bs h.1
+pub comments_append : (xs ys : Lines) → comments_in (xs ++ ys) ≡ comments_in xs ++ comments_in ys
+comments_append [] ys = refl
+comments_append (x ∷ xs) ys = ap (λ t. as_list x.comment ++ t) (comments_append xs ys) ∙ sym (append_assoc (as_list x.comment) (comments_in xs) (comments_in ys))
 
-more_comments : (a b : Lines) → More a b → indented_comments a ≡ indented_comments b
+blank_comments : (bs : Lines) → Blank bs → comments_in bs ≡ []
+blank_comments [] h = refl
+blank_comments (b ∷ bs) h = ap (λ o. as_list o ++ comments_in bs) h.0 ∙ blank_comments bs h.1
+
+more_comments : (a b : Lines) → More a b → comments_in a ≡ comments_in b
 more_comments a b (bs, h, e) =
-    ap indented_comments e
-    ∙ (ap comments_in (map-append (λ l. l.line) b bs)
-    ∙ (comments_append (plain_lines b) (plain_lines bs) ∙ (ap (λ t. indented_comments b ++ t) (blank_comments bs h) ∙ append-nil (indented_comments b))))
+    ap comments_in e ∙ (comments_append b bs ∙ (ap (λ t. comments_in b ++ t) (blank_comments bs h) ∙ append-nil (comments_in b)))
 
 some_or_none : (o : Option Bytes) (rest : List Bytes) → as_list o ++ rest ≡ [] → (o ≡ None) × (rest ≡ [])
 some_or_none None rest h = (refl, h)
 some_or_none (Some text) rest h = absurd cc
 
-pub none_blank : (lines : Lines) → indented_comments lines ≡ [] → Blank lines
+pub none_blank : (lines : Lines) → comments_in lines ≡ [] → Blank lines
 none_blank [] h = tt
-none_blank (l ∷ lines) h = let w = some_or_none l.line.comment (indented_comments lines) h in (w.0, none_blank lines w.1)
+none_blank (l ∷ lines) h = let w = some_or_none l.comment (comments_in lines) h in (w.0, none_blank lines w.1)
 
 -- ---- end comments
 
@@ -59,18 +59,18 @@ blank_taken : (m : ℕ) (bs : Lines) → Blank bs → (end_comments m bs ≡ [])
 blank_taken m [] h = (refl, refl)
 blank_taken m (b ∷ bs) h =
     let all = blank_taken m bs h.1 in
-    let taken : is_taken_line m b.indent b.line.comment ≡ true = ap (is_taken_line m b.indent) h.0 in
+    let taken : is_taken_line m b.indent b.comment ≡ true = ap (is_taken_line m b.indent) h.0 in
     (cond-true _ _ _ taken ∙ (ap (λ o. (as_list o ++ []) ++ end_comments m bs) h.0 ∙ all.0), cond-true _ _ _ taken ∙ all.1)
 
-ends_step : (t : Bool) (m : ℕ) (x : IndentedGapLine) (b bs : Lines) → Blank bs → (end_comments m (b ++ bs) ≡ end_comments m b) × More (after_end m (b ++ bs)) (after_end m b)
-    → ((if t then indented_comments (x ∷ []) ++ end_comments m (b ++ bs) else []) ≡ (if t then indented_comments (x ∷ []) ++ end_comments m b else []))
+ends_step : (t : Bool) (m : ℕ) (x : GapLine) (b bs : Lines) → Blank bs → (end_comments m (b ++ bs) ≡ end_comments m b) × More (after_end m (b ++ bs)) (after_end m b)
+    → ((if t then comments_in (x ∷ []) ++ end_comments m (b ++ bs) else []) ≡ (if t then comments_in (x ∷ []) ++ end_comments m b else []))
     × More (if t then after_end m (b ++ bs) else x ∷ (b ++ bs)) (if t then after_end m b else x ∷ b)
-ends_step true m x b bs h w = (ap (λ t. indented_comments (x ∷ []) ++ t) w.0, w.1)
+ends_step true m x b bs h w = (ap (λ t. comments_in (x ∷ []) ++ t) w.0, w.1)
 ends_step false m x b bs h w = (refl, (bs, h, refl))
 
 ends_joined : (m : ℕ) (b bs : Lines) → Blank bs → (end_comments m (b ++ bs) ≡ end_comments m b) × More (after_end m (b ++ bs)) (after_end m b)
 ends_joined m [] bs h = let all = blank_taken m bs h in (all.0, ([], tt, all.1))
-ends_joined m (x ∷ b) bs h = ends_step (is_taken_line m x.indent x.line.comment) m x b bs h (ends_joined m b bs h)
+ends_joined m (x ∷ b) bs h = ends_step (is_taken_line m x.indent x.comment) m x b bs h (ends_joined m b bs h)
 
 ends_alike : (m : ℕ) (a b : Lines) → More a b → (end_comments m a ≡ end_comments m b) × More (after_end m a) (after_end m b)
 ends_alike m a b (bs, h, e) = subst (λ z. (end_comments m z ≡ end_comments m b) × More (after_end m z) (after_end m b)) (sym e) (ends_joined m b bs h)
@@ -95,7 +95,7 @@ alike_by false v w v' w' e f = f
 
 line_alike : (ss : List Seen) (above : List Bytes) (a b : Lines) → More a b → Alike (line_read ss above a) (line_read ss above b)
 line_alike ss above a b (bs, h, e) =
-    let left : Lines = after_first_line (indented (last_gap ss)) in
+    let left : Lines = after_first_line (lines_of (last_gap ss)) in
     (refl, (bs, h, ap (λ z. left ++ z) e ∙ sym (append_assoc left b bs)))
 
 walked_alike : (l m : Lines) (xs : List Stated) (a b : Lines) → AllCalm xs → More l m → More a b → Alike (walked l xs a) (walked m xs b)
@@ -103,9 +103,9 @@ walked_alike l m [] a b h i j = (refl, i)
 walked_alike l m (x ∷ xs) a b h i j =
     let c : Lines = indented_lines_before xs a in
     let d : Lines = indented_lines_before xs b in
-    let one : Alike (x.statement (indented_comments l) c) (x.statement (indented_comments m) d) =
-    subst (λ t. Alike (x.statement t c) (x.statement (indented_comments m) d)) (sym (more_comments l m i)) (h.0.statement (indented_comments m) c d (before_alike xs a b j)) in
-    let more = walked_alike (x.statement (indented_comments l) c).1 (x.statement (indented_comments m) d).1 xs a b h.1 one.1 j in
+    let one : Alike (x.statement (comments_in l) c) (x.statement (comments_in m) d) =
+    subst (λ t. Alike (x.statement t c) (x.statement (comments_in m) d)) (sym (more_comments l m i)) (h.0.statement (comments_in m) c d (before_alike xs a b j)) in
+    let more = walked_alike (x.statement (comments_in l) c).1 (x.statement (comments_in m) d).1 xs a b h.1 one.1 j in
     (ap₂ (λ ys zs. ys ++ zs) one.0 more.0, more.1)
 
 abbrev pair : {A B : Type 0} → A → B → A × B
@@ -134,8 +134,8 @@ mutual
       let c : Lines = (x.suite (indented_lines_before xs a)).1 in
       let d : Lines = (x.suite (indented_lines_before xs b)).1 in
       let own = h.0.suite (indented_lines_before xs a) (indented_lines_before xs b) (before_alike xs a b j) in
-      let more : Alike (branches kind [] (indented_comments c) c xs a) (branches kind [] (indented_comments d) d xs b) =
-      subst (λ t. Alike (branches kind [] t c xs a) (branches kind [] (indented_comments d) d xs b)) (sym (more_comments c d own.1)) (branches_alike kind [] (indented_comments d) c d xs a b h.1 own.1 j) in
+      let more : Alike (branches kind [] (comments_in c) c xs a) (branches kind [] (comments_in d) d xs b) =
+      subst (λ t. Alike (branches kind [] t c xs a) (branches kind [] (comments_in d) d xs b)) (sym (more_comments c d own.1)) (branches_alike kind [] (comments_in d) c d xs a b h.1 own.1 j) in
       (ap₂ (λ o rest. branch_of (head kind ps above x.suffix) o ∷ rest) own.0 more.0, more.1)
 
 compound_alike : (kind : Kind) (xs : List Stated) (above : List Bytes) (a b : Lines) → AllCalm xs → More a b → Alike (compound_read kind xs above a) (compound_read kind xs above b)

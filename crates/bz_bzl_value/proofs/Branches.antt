@@ -4,19 +4,19 @@ use Rattle.bz_grammar.specs.declared.kind.Kind.{Kind}
 use Rattle.bz_grammar.specs.declared.tree.Part.{Part}
 use Rattle.bz_value.specs.declared.value.Form.{Form}
 use Rattle.bz_items.specs.Characters.{Bytes}
-use Rattle.bz_value.specs.Indented.{IndentedGapLine}
+use Rattle.bz_value.specs.Gaps.{GapLine, comments_in}
 use Rattle.bz_hosts.specs.View.{Seen}
 use Rattle.bz_bzl_value.specs.declared.value.Statement.{Statement}
 use Rattle.bz_bzl_value.specs.declared.value.Branch.{Branch}
-use Rattle.bz_bzl_value.specs.View.{Stated, stated, branches, with_suite, head, indented_lines_before, indented_comments}
+use Rattle.bz_bzl_value.specs.View.{Stated, stated, branches, with_suite, head, indented_lines_before}
 
 abbrev Lines : Type 0
-Lines = List IndentedGapLine
+Lines = List GapLine
 
 pub branch_more : (kind : Kind) (parts : List Seen) (above above' : List Bytes) (left after following lines : Lines) (x : Part) (rest : List Stated) (form : Form) (suffix : Option Bytes)
     (statements : List Statement) (ends : List Bytes) (own own' all : List Branch) (left_of_all : Lines)
     → following ≡ indented_lines_before rest after → suffix ≡ (stated x).suffix → form ≡ head kind parts above suffix
-    → statements ≡ ((stated x).suite following).0.0 → ends ≡ ((stated x).suite following).0.1 → lines ≡ ((stated x).suite following).1 → above' ≡ indented_comments lines
+    → statements ≡ ((stated x).suite following).0.0 → ends ≡ ((stated x).suite following).0.1 → lines ≡ ((stated x).suite following).1 → above' ≡ comments_in lines
     → own ++ (with_suite kind parts above left (stated x ∷ rest) after).0 ≡ all → (with_suite kind parts above left (stated x ∷ rest) after).1 ≡ left_of_all
     → own' ≡ own ++ record { head = form; statements = statements; end = ends } ∷ []
     → (own' ++ (branches kind [] above' lines rest after).0 ≡ all) × ((branches kind [] above' lines rest after).1 ≡ left_of_all)

@@ -10,16 +10,14 @@ use Rattle.bz_grammar.specs.Shapes.{Fits, Several, shape, tok, done}
 use Rattle.bz_grammar.specs.Legal.{IsNonterminal}
 use Rattle.bz_grammar.proofs.Balance.{no_such}
 use Rattle.bz_value.specs.declared.value.Item.{Item}
-use Rattle.bz_value.specs.Gaps.{GapLine, lines_of, after_first_comment, groups_of, all_but_last, last_group}
-use Rattle.bz_value.specs.Indented.{indented}
+use Rattle.bz_value.specs.Gaps.{GapLine, lines_of, after_first_line, groups_of, all_but_last, last_group}
 use Rattle.bz_hosts.specs.View.{Seen, seen, seen_row, first_seen_gap, last_gap, blocks, statement, statements_in, line_items, file_items}
 use Rattle.bz_hosts.proofs.SeenParts.{seen_rows}
 use Rattle.bz_bzl_value.specs.declared.value.BzlItem.{BzlItem}
 use Rattle.bz_bzl_value.specs.declared.value.BzlItem.TheVariants as b
 use Rattle.bz_bzl_value.specs.Laws.{BuildFilesSayTheSame}
-use Rattle.bz_bzl_value.specs.View.{stated, stated_row, indented_lines_before, after_first_line, simple_statements, bzl_item, bzl_items}
+use Rattle.bz_bzl_value.specs.View.{stated, stated_row, indented_lines_before, simple_statements, bzl_item, bzl_items}
 use Rattle.bz_bzl_value.proofs.KeptBranches.{Lines}
-use Rattle.bz_bzl_value.proofs.Lined.{plain_lines, lines_are}
 use Rattle.bz_bzl_value.proofs.Parts.{lines_first, parts_seen, stated_rows}
 
 -- ---- lines
@@ -27,20 +25,6 @@ use Rattle.bz_bzl_value.proofs.Parts.{lines_first, parts_seen, stated_rows}
 -- the lines of the gap before the first of these parts
 abbrev first_lines : List Part → List GapLine
 first_lines xs = lines_of (first_seen_gap (map seen xs))
-
-before_first : (xs : List Part) → plain_lines (indented_lines_before (map stated xs) []) ≡ first_lines xs
-before_first xs = ap plain_lines (sym (lines_first xs)) ∙ lines_are (first_seen_gap (map seen xs))
-
-after_first_part : (lines : Lines) → plain_lines (after_first_line lines) ≡ after_first_comment (plain_lines lines)
-after_first_part [] = refl
-after_first_part (line ∷ lines) = refl
-
--- what is in a gap after its first line, and then before the first of these parts
-after_line : (gap : Bytes) (xs : List Part) → plain_lines (after_first_line (indented gap) ++ indented_lines_before (map stated xs) []) ≡ after_first_comment (lines_of gap) ++ first_lines xs
-after_line gap xs =
-    map-append (λ l. l.line) (after_first_line (indented gap)) (indented_lines_before (map stated xs) [])
-    ∙ (ap (λ ls. ls ++ plain_lines (indented_lines_before (map stated xs) [])) (after_first_part (indented gap) ∙ ap after_first_comment (lines_are gap))
-    ∙ ap (λ ls. after_first_comment (lines_of gap) ++ ls) (before_first xs))
 
 -- ---- the statements of a line are simple statements
 
@@ -65,7 +49,7 @@ line_same lines ss more items e =
     ∙ (ap (λ xs. xs ++ map bzl_item items) (sym (map-append bzl_item front own)) ∙ sym (map-append bzl_item (front ++ own) items))))
 
 -- lines and the end of a file, where these lines are before the first of them
-items_same : (left : List GapLine) (lines : Lines) (xs : List Part) → plain_lines lines ≡ left ++ first_lines xs → Several (IsNonterminal s.line) (Fits IsNonterminal (tok s.end done)) xs → bzl_items lines xs ≡ map bzl_item (file_items left xs)
+items_same : (left : List GapLine) (lines : Lines) (xs : List Part) → lines ≡ left ++ first_lines xs → Several (IsNonterminal s.line) (Fits IsNonterminal (tok s.end done)) xs → bzl_items lines xs ≡ map bzl_item (file_items left xs)
 items_same left lines [] e h = refl
 items_same left lines (p.Leaf l ∷ []) e (inl h) = ap (λ ls. map bzl_item (blocks (groups_of ls)) ++ []) e ∙ sym (map-append bzl_item (blocks (groups_of (left ++ lines_of l.gap))) [])
 items_same left lines (p.Leaf l ∷ y ∷ xs) e (inl h) = absurd h.1
@@ -74,12 +58,13 @@ items_same left lines (Node' kind n r ∷ xs) e (inl h) = no_such h.0
 items_same left lines (Node' k.Line n r ∷ xs) e (inr h) =
     let parts : List Seen = map (λ x. x.part) (stated_row r) in
     let is_row : parts ≡ seen_row r = ap (map (λ x. x.part)) (stated_rows _ r) ∙ (parts_seen (items-the_row-Part _ r) ∙ sym (seen_rows _ r)) in
-    let following : List GapLine = after_first_comment (lines_of (last_gap (seen_row r))) in
-    let rest : Lines = after_first_line (indented (last_gap parts)) ++ indented_lines_before (map stated xs) [] in
-    let is_rest : plain_lines rest ≡ following ++ first_lines xs = after_line (last_gap parts) xs ∙ ap (λ ss. after_first_comment (lines_of (last_gap ss)) ++ first_lines xs) is_row in
-    line_same (plain_lines lines) parts (bzl_items rest xs) (file_items following xs) (items_same following rest xs is_rest h.1)
+    let following : List GapLine = after_first_line (lines_of (last_gap (seen_row r))) in
+    let rest : Lines = after_first_line (lines_of (last_gap parts)) ++ indented_lines_before (map stated xs) [] in
+    let is_rest : rest ≡ following ++ first_lines xs =
+    ap (λ ls. after_first_line (lines_of (last_gap parts)) ++ ls) (sym (lines_first xs)) ∙ ap (λ ss. after_first_line (lines_of (last_gap ss)) ++ first_lines xs) is_row in
+    line_same lines parts (bzl_items rest xs) (file_items following xs) (items_same following rest xs is_rest h.1)
     ∙ (ap (λ ls. map bzl_item (line_items ls parts ++ file_items following xs)) e ∙ ap (λ ss. map bzl_item (line_items (left ++ lines_of (first_seen_gap (seen_row r))) ss ++ file_items following xs)) is_row)
 items_same left lines (Node' _ n r ∷ xs) e (inr h) = no_such h.0
 
 pub build_files_say_the_same : BuildFilesSayTheSame
-build_files_say_the_same n h = items_same [] (indented_lines_before (map stated n.parts) []) n.parts (before_first n.parts) (subst (λ kd. Fits IsNonterminal (shape kd) n.parts) h.file.root h.file.shapes.0)
+build_files_say_the_same n h = items_same [] (indented_lines_before (map stated n.parts) []) n.parts (sym (lines_first n.parts)) (subst (λ kd. Fits IsNonterminal (shape kd) n.parts) h.file.root h.file.shapes.0)

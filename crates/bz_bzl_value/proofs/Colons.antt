@@ -3,7 +3,7 @@ use Rattle.std.proofs.Common.{ℕ, zero, suc, Bool, true, false, ◌≡◌, ◌�
 use Rattle.bz_grammar.specs.declared.kind.Kind.{Kind}
 use Rattle.bz_grammar.specs.declared.tree.Part.{Part}
 use Rattle.bz_items.specs.Characters.{Bytes}
-use Rattle.bz_value.specs.Indented.{IndentedGapLine}
+use Rattle.bz_value.specs.Gaps.{GapLine}
 use Rattle.bz_hosts.specs.View.{Seen, seen}
 use Rattle.bz_bzl_value.specs.View.{Stated, stated, branches, with_suite}
 use Rattle.bz_bzl_value.proofs.Parts.{part_of}
@@ -35,13 +35,13 @@ not_colon : (b : Bool) → b ≡ false → {X : Type 0} → (x y : X) → (if b 
 not_colon true e x y = absurd (cc)
 not_colon false e x y = refl
 
-one_more : (kind : Kind) (parts : List Seen) (above : List Bytes) (left after : List IndentedGapLine) (y : Part) (xs : List Stated) → (stated y).is_colon ≡ false
+one_more : (kind : Kind) (parts : List Seen) (above : List Bytes) (left after : List GapLine) (y : Part) (xs : List Stated) → (stated y).is_colon ≡ false
     → branches kind parts above left (stated y ∷ xs) after ≡ branches kind (parts ++ seen y ∷ []) above left xs after
 one_more kind parts above left after y xs e =
     not_colon (stated y).is_colon e (with_suite kind parts above left xs after) (branches kind (parts ++ (stated y).part ∷ []) above left xs after)
     ∙ ap (λ s. branches kind (parts ++ s ∷ []) above left xs after) (part_of y)
 
-pub no_colon_at : (ps : List Part) (from at : ℕ) (y : Part) (is : Bool) (kind : Kind) (above : List Bytes) (left after : List IndentedGapLine) → from ≤ at → at < length ps
+pub no_colon_at : (ps : List Part) (from at : ℕ) (y : Part) (is : Bool) (kind : Kind) (above : List Bytes) (left after : List GapLine) → from ≤ at → at < length ps
     → y ≡ get_or ps at y → is ≡ (stated y).is_colon → is ≡ false
     → branches kind [] above left (map stated (drop from ps)) after ≡ branches kind (map seen (take (at - from) (drop from ps))) above left (map stated (drop at ps)) after
     → branches kind [] above left (map stated (drop from ps)) after ≡ branches kind (map seen (take (at + 1 - from) (drop from ps))) above left (map stated (drop (at + 1) ps)) after

@@ -15,8 +15,7 @@ use Rattle.bz_grammar.specs.Legal.{IsNonterminal}
 use Rattle.bz_grammar.specs.Spots.{Along, BzlStands, AtLeaves}
 use Rattle.bz_grammar.proofs.Balance.{no_such}
 use Rattle.bz_items.specs.Characters.{Bytes}
-use Rattle.bz_value.specs.Gaps.{as_list}
-use Rattle.bz_value.specs.Indented.{indented}
+use Rattle.bz_value.specs.Gaps.{as_list, comments_in, lines_of}
 use Rattle.bz_hosts.specs.View.{seen, loose_in}
 use Rattle.bz_hosts.specs.Hosts.{Region, host, Hosted, block, hosted, hosted_by, sizes, measured, in_row}
 use Rattle.bz_hosts.proofs.Alternating.{Regions}
@@ -31,7 +30,7 @@ use Rattle.bz_hosts.proofs.Texts.{InHost, row_inside}
 use Rattle.bz_hosts.proofs.Walked.{gap_of}
 use Rattle.bz_bzl_value.specs.declared.value.Branch.{Branch}
 use Rattle.bz_bzl_value.specs.BzlHosts.{Stretch, header, placed, Page, in_header, in_compound, suite_there, inside_statement, inside_head}
-use Rattle.bz_bzl_value.specs.View.{stated, branches, head, row_head, indented_lines_before, indented_comments}
+use Rattle.bz_bzl_value.specs.View.{stated, branches, head, row_head, indented_lines_before}
 use Rattle.bz_bzl_value.proofs.HeadParts.{Headed, InHeader}
 use Rattle.bz_bzl_value.proofs.HostHeaders.{header_read, header_piece}
 use Rattle.bz_bzl_value.proofs.HostPieces.{Piece, same_piece, both_pieces}
@@ -60,7 +59,7 @@ module _ (page : Page) where
   Further kind (x ∷ xs) = BranchesPiece kind (x ∷ xs) × Solid x
 
   abbrev more_read : Kind → List Part → List Hosted × Lines → PieceRead
-  more_read kind back first after = with_left (first.0 ++ (as_branches kind (indented_comments first.1) first.1 back after).0) (as_branches kind (indented_comments first.1) first.1 back after).1
+  more_read kind back first after = with_left (first.0 ++ (as_branches kind (comments_in first.1) first.1 back after).0) (as_branches kind (comments_in first.1) first.1 back after).1
 
   then_more : (kind : Kind) (n m : ℕ) (ls : List Leaf) (sts : List Stretch) (group : List Bytes) (read : PieceRead) (back : List Part) → Piece page n m ls sts group read → Further kind back
       → Piece page n (m + sizes (map measured back)) (ls ++ flat_map leaves_part back) (sts ++ in_compound kind m [] (map placed back)) group (λ after. more_read kind back (read (indented_lines_before (map stated back) after)) after)
@@ -69,12 +68,12 @@ module _ (page : Page) where
   then_more kind n m ls sts group read (x ∷ xs) h b =
       let back : List Part = x ∷ xs in
       let more : List Leaf = flat_map leaves_part back in
-      let first : List Hosted × Lines = read (indented (gap_of more)) in
+      let first : List Hosted × Lines = read (lines_of (gap_of more)) in
       let e = m + sizes (map measured back) in
       same_piece page n e e (ls ++ more) (ls ++ more) (sts ++ in_compound kind m [] (map placed back)) (sts ++ in_compound kind m [] (map placed back)) group
-      (λ after. more_read kind back first after) (λ after. more_read kind back (read (indented (stated x).part.gap)) after) refl refl refl
-      (λ after. ap (λ (g : Bytes). more_read kind back (read (indented g)) after) (stated_gap x (flat_map leaves_part xs) b.1))
-      (both_pieces page n m e ls more sts (in_compound kind m [] (map placed back)) group read (as_branches kind (indented_comments first.1) first.1 back) h (b.0 m (indented_comments first.1) first.1))
+      (λ after. more_read kind back first after) (λ after. more_read kind back (read (lines_of (stated x).part.gap)) after) refl refl refl
+      (λ after. ap (λ (g : Bytes). more_read kind back (read (lines_of g)) after) (stated_gap x (flat_map leaves_part xs) b.1))
+      (both_pieces page n m e ls more sts (in_compound kind m [] (map placed back)) group read (as_branches kind (comments_in first.1) first.1 back) h (b.0 m (comments_in first.1) first.1))
 
   -- what is known of a header of these parts
   pub record HeaderFacts (kind : Kind) (hs : List Part) (n : ℕ) (group : List Bytes) (suffix : Option Bytes) : Type 0 where

@@ -6,8 +6,7 @@ use Rattle.bz_grammar.specs.declared.tree.Part.{Part}
 use Rattle.bz_grammar.specs.Spell.{leaves_part}
 use Rattle.bz_value.specs.declared.value.Form.{Form}
 use Rattle.bz_items.specs.Characters.{Bytes}
-use Rattle.bz_value.specs.Gaps.{as_list, all_in, suffix_in}
-use Rattle.bz_value.specs.Indented.{indented}
+use Rattle.bz_value.specs.Gaps.{all_in, as_list, lines_of, suffix_in}
 use Rattle.bz_hosts.specs.View.{seen}
 use Rattle.bz_hosts.specs.Hosts.{Region, host, Comment, CommentPlace, suffix_of, above, outside, comments_at, comments_from, texts_at, Hosted, block, hosted, hosted_at, hosted_by, sizes, measured, leaf_gap}
 use Rattle.bz_hosts.proofs.Alternating.{inside_joined}
@@ -154,11 +153,11 @@ module _ (page : Page) (n e : ℕ) (group loose : List Bytes) (suffix : Option B
     starts = refl;
     left = λ a i after.
         o.left a (omega arith) after
-        ∙ (ap (λ (z : Bytes). left_by a e (own_list own ++ suites_in sts') (drop 1 (indented z) ++ after)) (sym last_there) ∙ ap (λ z. left_by a e z (drop 1 (indented (last_gap ls)) ++ after)) (sym (suites_headed n f rs own sts')));
+        ∙ (ap (λ (z : Bytes). left_by a e (own_list own ++ suites_in sts') (drop 1 (lines_of z) ++ after)) (sym last_there) ∙ ap (λ z. left_by a e z (drop 1 (lines_of (last_gap ls)) ++ after)) (sym (suites_headed n f rs own sts')));
     hosts = λ z.
         let l = far in
         let y : OwnAt page n f e ls' own sts' = own_at z in
-        let after : Lines = indented (gap_of z.back) in
+        let after : Lines = lines_of (gap_of z.back) in
         let t : HeaderTexts page.regions n f' (after_parts n hs) loose rs hosts_there = header_texts z.regions in
         let counted = y.counted in
         let at_above : texts_at page.regions (above n) (comments page) ≡ loose =

@@ -5,8 +5,7 @@ use Rattle.std.proofs.lemmas.Bool.{cond-false, ne_eqb}
 use Rattle.std.proofs.lemmas.Grind.{flat_map-append}
 use Rattle.bz_lex.specs.declared.leaf.Leaf.{Leaf}
 use Rattle.bz_items.specs.Characters.{Bytes}
-use Rattle.bz_value.specs.Gaps.{all_in, comments_in}
-use Rattle.bz_value.specs.Indented.{indented}
+use Rattle.bz_value.specs.Gaps.{all_in, comments_in, lines_of}
 use Rattle.bz_hosts.specs.Hosts.{Region, Comment, CommentPlace, Hosted, comments_from, texts_at, leaf_gap}
 use Rattle.bz_hosts.proofs.Alternating.{inside_joined}
 use Rattle.bz_hosts.proofs.Around as r
@@ -15,7 +14,6 @@ use Rattle.bz_hosts.proofs.Parts.{comments_joined}
 use Rattle.bz_hosts.proofs.Sequences.{From}
 use Rattle.bz_hosts.proofs.Walked.{gap_of, last_gap}
 use Rattle.bz_bzl_value.specs.BzlHosts.{Suite, Stretch, Page, regions_in, suites_in, first_leaf, left_by, lines_above, begins_suite, left_above, lines_of_leaf, stretch_hosts, statement_hosts}
-use Rattle.bz_bzl_value.specs.View.{indented_comments}
 use Rattle.bz_bzl_value.proofs.SuiteLines.{Lines, AllBetween, all_wider, all_both, left_joined, past, beyond, gap_joined}
 use Rattle.bz_bzl_value.proofs.SuitePieces.{last_joined, suites_joined, PieceRead, with_left, lines_there}
 
@@ -181,8 +179,8 @@ module _ (page : Page) where
   pub record Piece (n e : ℕ) (ls : List Leaf) (sts : List Stretch) (group : List Bytes) (read : PieceRead) : Type 0 where
     pub extent : Extent n e ls sts
     pub starts : Starts n sts
-    pub left : (a : ℕ) → a ≤ n → (after : Lines) → (read after).1 ≡ left_by a e (suites_in sts) (drop 1 (indented (last_gap ls)) ++ after)
-    pub hosts : (x : At n e ls sts) → (read (indented (gap_of x.back))).0 ≡ statement_hosts page group sts
+    pub left : (a : ℕ) → a ≤ n → (after : Lines) → (read after).1 ≡ left_by a e (suites_in sts) (drop 1 (lines_of (last_gap ls)) ++ after)
+    pub hosts : (x : At n e ls sts) → (read (lines_of (gap_of x.back))).0 ≡ statement_hosts page group sts
 
   pub same_piece : (n e e' : ℕ) (ls ls' : List Leaf) (sts sts' : List Stretch) (group : List Bytes) (read read' : PieceRead) → e ≡ e' → ls ≡ ls' → sts ≡ sts' → ((after : Lines) → read' after ≡ read after) → Piece n e ls sts group read → Piece n e' ls' sts' group read'
   same_piece n e e' ls ls' sts sts' group read read' u v w f h =
@@ -190,12 +188,12 @@ module _ (page : Page) where
         extent = h.extent;
         starts = h.starts;
         left = λ a l after. ap (λ t. t.1) (f after) ∙ h.left a l after;
-        hosts = λ x. ap (λ t. t.0) (f (indented (gap_of x.back))) ∙ h.hosts x;
+        hosts = λ x. ap (λ t. t.0) (f (lines_of (gap_of x.back))) ∙ h.hosts x;
       })))
 
   -- the lines that a piece leaves to what follows it
   module _ (n m e : ℕ) (ls ls' : List Leaf) (sts sts' : List Stretch) (group : List Bytes) (read : PieceRead) (h : Piece n m ls sts group read) (h' : Extent m e ls' sts') (x : At n e (ls ++ ls') (sts ++ sts')) where
-    pub left_there : (read (indented (gap_of ls'))).1 ≡ left_by 0 m page.suites (lines_above page.leaves m)
+    pub left_there : (read (lines_of (gap_of ls'))).1 ≡ left_by 0 m page.suites (lines_above page.leaves m)
     left_there =
         let some = h.extent.some in
         let some' = h'.some in
@@ -203,14 +201,14 @@ module _ (page : Page) where
         let up' = h'.up in
         let y : At n m ls sts = at_first n m e ls ls' sts sts' h.extent h' x in
         let s : Sees n e (suites_in sts ++ suites_in sts') = seen_suites n m e ls ls' sts sts' h.extent h' x in
-        let there : lines_above page.leaves m ≡ drop 1 (indented (last_gap ls)) ++ indented (gap_of ls') =
-        lines_there page n m y.front ls y.back some up y.leaves y.counted ∙ ap (λ (g : Bytes). drop 1 (indented (last_gap ls)) ++ indented g) (gap_joined ls' x.back some') in
-        h.left 0 (omega arith) (indented (gap_of ls'))
+        let there : lines_above page.leaves m ≡ drop 1 (lines_of (last_gap ls)) ++ lines_of (gap_of ls') =
+        lines_there page n m y.front ls y.back some up y.leaves y.counted ∙ ap (λ (g : Bytes). drop 1 (lines_of (last_gap ls)) ++ lines_of g) (gap_joined ls' x.back some') in
+        h.left 0 (omega arith) (lines_of (gap_of ls'))
         ∙ (ap (left_by 0 m (suites_in sts)) (sym there)
         ∙ sym (s.inner 0 m (omega arith) (omega arith) (lines_above page.leaves m) ∙ (left_joined 0 m (suites_in sts) (suites_in sts') (lines_above page.leaves m) ∙ ap (left_by 0 m (suites_in sts)) (beyond 0 m m e (suites_in sts') (lines_above page.leaves m) (omega arith) h'.bounds))))
 
     -- and the comment lines above that
-    group_there : indented_comments (read (indented (gap_of ls'))).1 ≡ lines_of_leaf page m
+    group_there : comments_in (read (lines_of (gap_of ls'))).1 ≡ lines_of_leaf page m
     group_there =
         let some = h.extent.some in
         let some' = h'.some in
@@ -219,7 +217,7 @@ module _ (page : Page) where
         let s : Sees n e (suites_in sts ++ suites_in sts') = seen_suites n m e ls ls' sts sts' h.extent h' x in
         let begins : begins_suite m page.suites ≡ false =
         s.begins m (omega arith) (omega arith) ∙ (begins_second m (suites_in sts) (suites_in sts') (first_before n m m (suites_in sts) (omega arith) h.extent.bounds) ∙ none_begin m (suites_in sts') (first_after m e m (suites_in sts') (omega arith) h'.bounds)) in
-        ap indented_comments left_there ∙ sym (cond-false (begins_suite m page.suites) (all_in (leaf_gap page.leaves m)) (comments_in (left_above page m)) begins)
+        ap comments_in left_there ∙ sym (cond-false (begins_suite m page.suites) (all_in (leaf_gap page.leaves m)) (comments_in (left_above page m)) begins)
 
   pub along_first : (m : ℕ) (b : List Stretch) → Starts m b → along b ≡ statement_hosts page (lines_of_leaf page m) b
   along_first m [] h = absurd h
@@ -232,8 +230,8 @@ module _ (page : Page) where
       ∙ sym (append_assoc (stretch_hosts page group x) (along a) (statement_hosts page (lines_of_leaf page m) b))
 
   -- one after the other
-  pub both_pieces : (n m e : ℕ) (ls ls' : List Leaf) (sts sts' : List Stretch) (group : List Bytes) (read read' : PieceRead) → Piece n m ls sts group read → Piece m e ls' sts' (indented_comments (read (indented (gap_of ls'))).1) read'
-      → Piece n e (ls ++ ls') (sts ++ sts') group (λ after. with_left ((read (indented (gap_of ls'))).0 ++ (read' after).0) (read' after).1)
+  pub both_pieces : (n m e : ℕ) (ls ls' : List Leaf) (sts sts' : List Stretch) (group : List Bytes) (read read' : PieceRead) → Piece n m ls sts group read → Piece m e ls' sts' (comments_in (read (lines_of (gap_of ls'))).1) read'
+      → Piece n e (ls ++ ls') (sts ++ sts') group (λ after. with_left ((read (lines_of (gap_of ls'))).0 ++ (read' after).0) (read' after).1)
   both_pieces n m e ls ls' sts sts' group read read' h h' =
       let some = h.extent.some in
       let some' = h'.extent.some in
@@ -244,15 +242,15 @@ module _ (page : Page) where
         extent = both_extents n m e ls ls' sts sts' h.extent h'.extent;
         starts = starts_joined n sts sts' h.starts;
         left = λ a l after.
-            let lines : Lines = drop 1 (indented (last_gap (ls ++ ls'))) ++ after in
+            let lines : Lines = drop 1 (lines_of (last_gap (ls ++ ls'))) ++ after in
             h'.left a (omega arith) after
-            ∙ (ap (λ (g : Bytes). left_by a e (suites_in sts') (drop 1 (indented g) ++ after)) (sym (last_joined ls ls' some'))
+            ∙ (ap (λ (g : Bytes). left_by a e (suites_in sts') (drop 1 (lines_of g) ++ after)) (sym (last_joined ls ls' some'))
             ∙ (sym (past a e n m (suites_in sts) (left_by a e (suites_in sts') lines) (omega arith) h.extent.bounds)
             ∙ (sym (left_joined a e (suites_in sts) (suites_in sts') lines) ∙ ap (λ z. left_by a e z lines) (sym joined))));
         hosts = λ x.
-            let g' : List Bytes = indented_comments (read (indented (gap_of ls'))).1 in
-            ap (λ (g : Bytes). (read (indented g)).0 ++ (read' (indented (gap_of x.back))).0) (sym (gap_joined ls' x.back some'))
-            ∙ (ap (λ (z : List Hosted). z ++ (read' (indented (gap_of x.back))).0) (h.hosts (at_first n m e ls ls' sts sts' h.extent h'.extent x))
+            let g' : List Bytes = comments_in (read (lines_of (gap_of ls'))).1 in
+            ap (λ (g : Bytes). (read (lines_of g)).0 ++ (read' (lines_of (gap_of x.back))).0) (sym (gap_joined ls' x.back some'))
+            ∙ (ap (λ (z : List Hosted). z ++ (read' (lines_of (gap_of x.back))).0) (h.hosts (at_first n m e ls ls' sts sts' h.extent h'.extent x))
             ∙ (ap (λ (z : List Hosted). statement_hosts page group sts ++ z) (h'.hosts (at_second n m e ls ls' sts sts' h.extent h'.extent x)
             ∙ ap (λ (z : List Bytes). statement_hosts page z sts') (group_there n m e ls ls' sts sts' group read h h'.extent x))
             ∙ sym (statement_joined n m group sts sts' h.starts h'.starts)));

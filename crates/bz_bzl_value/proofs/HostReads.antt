@@ -9,8 +9,7 @@ use Rattle.bz_grammar.specs.Shapes as s
 use Rattle.bz_grammar.specs.Spell.{leaves_part}
 use Rattle.bz_value.specs.declared.value.Expr.{Expr}
 use Rattle.bz_items.specs.Characters.{Bytes}
-use Rattle.bz_value.specs.Gaps.{all_in}
-use Rattle.bz_value.specs.Indented.{indented}
+use Rattle.bz_value.specs.Gaps.{all_in, lines_of}
 use Rattle.bz_value.specs.Proper.{comments_of}
 use Rattle.bz_hosts.specs.View.{Seen, seen, statement, statements_in, statement_in, loose_in, items_in}
 use Rattle.bz_hosts.specs.Hosts.{Region, host, between, Comment, CommentPlace, above, outside, comments_at, comments_from, texts_at, Hosted, ended, hosted_at, hosted_by, with_group, sizes, measured, hosts_from, in_row, inside_expr, inside_item}
@@ -96,7 +95,7 @@ module _ (page : Page) (n : ℕ) (group : List Bytes) (x : Part) (xs : List Part
         all_mine sees' q d ∙ (line (λ q v w. sees' q (omega arith) w)).outer q d o;
   }
 
-  pub line_piece_hosts : (z : At page n e (flat_map leaves_part ys) sts) → flat_map inside_statement (line_read (map (λ y. y.part) (map stated ys)) group (indented (gap_of z.back))).0 ≡ statement_hosts page group sts
+  pub line_piece_hosts : (z : At page n e (flat_map leaves_part ys) sts) → flat_map inside_statement (line_read (map (λ y. y.part) (map stated ys)) group (lines_of (gap_of z.back))).0 ≡ statement_hosts page group sts
   line_piece_hosts z = ap (λ ss. flat_map inside_statement (simple_statements (statements_in group ss))) (parts_seen ys) ∙ line_hosts z
 
 -- ---- headers

@@ -17,8 +17,7 @@ use Rattle.bz_grammar.specs.Legal.{IsNonterminal, LegalBzlPart, LegalBzlRow}
 use Rattle.bz_grammar.specs.Spots.{Begins, Along, BzlStands, AtLeaves, AtParts}
 use Rattle.bz_grammar.proofs.Balance.{no_such, parts_of_row}
 use Rattle.bz_items.specs.Characters.{Bytes}
-use Rattle.bz_value.specs.Gaps.{GapLine, groups_of, all_but_last, last_group}
-use Rattle.bz_value.specs.Indented.{indented}
+use Rattle.bz_value.specs.Gaps.{GapLine, all_but_last, comments_in, groups_of, last_group, lines_of}
 use Rattle.bz_hosts.specs.View.{seen, loose_in}
 use Rattle.bz_hosts.specs.Hosts.{Region, comments_at, texts_at, Measured, Hosted, block, hosted_by, hosts_alone, sizes, measured, measured_row, hosts_from, right_above, bare_lines}
 use Rattle.bz_hosts.proofs.Alternating.{Alternating}
@@ -37,7 +36,7 @@ use Rattle.bz_bzl_value.specs.declared.value.BzlItem.{BzlItem}
 use Rattle.bz_bzl_value.specs.declared.value.BzlItem.TheVariants as b
 use Rattle.bz_bzl_value.specs.BzlHosts.{Suite, Stretch, simple_line, Placed, placed, placed_row, in_statement, in_compound, one_by_one, regions_in, suites_in, Page, suite_there, left_by, lines_above, left_above, statement_hosts, bzl_hosted_from, inside_head, inside_statement, inside_branches, inside_statements, inside_bzl_item}
 use Rattle.bz_bzl_value.specs.Laws.{BzlHostsByPlace}
-use Rattle.bz_bzl_value.specs.View.{ReadStatements, stated, stated_row, statement_read, suite_in, suffix_before, compound_read, branches, indented_lines_before, indented_comments, walked, margin_of, def_head, block_items, bzl_items}
+use Rattle.bz_bzl_value.specs.View.{ReadStatements, stated, stated_row, statement_read, suite_in, suffix_before, compound_read, branches, indented_lines_before, walked, margin_of, def_head, block_items, bzl_items}
 use Rattle.bz_bzl_value.proofs.HeadParts.{Named, token_in, colon_headed, test_headed, for_headed, def_headed, after_stmt}
 use Rattle.bz_bzl_value.proofs.HostBranches.{branch_hosts, BranchesPiece, Further, Branches, HeaderFacts, Parted, headed, row_facts, all_regions, all_texts}
 use Rattle.bz_bzl_value.proofs.HostBranches as hb
@@ -72,9 +71,9 @@ items_alone : (xs : List Statement) → flat_map inside_bzl_item (map b.Statemen
 items_alone [] = refl
 items_alone (x ∷ xs) = ap (λ (z : List Hosted). inside_statement x ++ z) (items_alone xs)
 
-before_first : (xs : List Part) → AllByRecursion Solid xs → indented_lines_before (map stated xs) [] ≡ indented (gap_of (flat_map leaves_part xs))
+before_first : (xs : List Part) → AllByRecursion Solid xs → indented_lines_before (map stated xs) [] ≡ lines_of (gap_of (flat_map leaves_part xs))
 before_first [] g = refl
-before_first (x ∷ xs) g = ap indented (stated_gap x (flat_map leaves_part xs) g.0)
+before_first (x ∷ xs) g = ap lines_of (stated_gap x (flat_map leaves_part xs) g.0)
 
 all_solid : (xs : List Part) → AllByRecursion LegalBzlPart xs → AllByRecursion Solid xs
 all_solid [] h = tt
@@ -202,7 +201,7 @@ module _ (page : Page) where
     starts = (h n group []).starts;
     left = λ a l after. (h n group after).left a l after;
     hosts = λ z.
-        let after : Lines = indented (gap_of z.back) in
+        let after : Lines = lines_of (gap_of z.back) in
         let own = (branches kind [] group after (map stated xs) after).0 in
         append-nil (inside_statement (st.Compound own)) ∙ (compound_listed own ∙ (h n group after).hosts z);
   }
@@ -239,26 +238,26 @@ module _ (page : Page) where
   -- ---- statements one after the other
 
   walked_piece : (n : ℕ) (above : Lines) (x : Part) (xs : List Part) → AllByRecursion StatementPiece (x ∷ xs) → AllByRecursion Solid (x ∷ xs)
-      → Piece page n (n + sizes (map measured (x ∷ xs))) (flat_map leaves_part (x ∷ xs)) (one_by_one n (map placed (x ∷ xs))) (indented_comments above) (as_walked page (x ∷ xs) above)
+      → Piece page n (n + sizes (map measured (x ∷ xs))) (flat_map leaves_part (x ∷ xs)) (one_by_one n (map placed (x ∷ xs))) (comments_in above) (as_walked page (x ∷ xs) above)
   walked_piece n above x [] h g =
-      let group : List Bytes = indented_comments above in
+      let group : List Bytes = comments_in above in
       same_piece page n (n + size x) (n + sizes (map measured (x ∷ []))) (leaves_part x) (leaves_part x ++ []) ((placed x).stretches n) ((placed x).stretches n ++ []) group (as_statement x group) (as_walked page (x ∷ []) above)
       (omega arith) (sym (append-nil (leaves_part x))) (sym (append-nil ((placed x).stretches n)))
       (λ after. ap (λ (z : List Statement). with_left (flat_map inside_statement z) ((stated x).statement group after).1) (append-nil ((stated x).statement group after).0))
       (h.0 n group)
   walked_piece n above x (y ∷ ys) h g =
-      let group : List Bytes = indented_comments above in
+      let group : List Bytes = comments_in above in
       let more : List Leaf = flat_map leaves_part (y ∷ ys) in
-      let one : ReadStatements (List Statement) = (stated x).statement group (indented (gap_of more)) in
+      let one : ReadStatements (List Statement) = (stated x).statement group (lines_of (gap_of more)) in
       let m : ℕ = n + size x in
       let e : ℕ = m + sizes (map measured (y ∷ ys)) in
       let sts : List Stretch = (placed x).stretches n in
       let rest : ReadStatements (List Statement) → Lines → ReadStatements (List Statement) = λ first after. walked first.1 (map stated (y ∷ ys)) after in
       same_piece page n e (n + sizes (map measured (x ∷ y ∷ ys))) (leaves_part x ++ more) (leaves_part x ++ more) (sts ++ one_by_one m (map placed (y ∷ ys))) (one_by_one n (map placed (x ∷ y ∷ ys))) group
-      (λ after. with_left ((as_statement x group (indented (gap_of more))).0 ++ (as_walked page (y ∷ ys) one.1 after).0) (as_walked page (y ∷ ys) one.1 after).1) (as_walked page (x ∷ y ∷ ys) above)
+      (λ after. with_left ((as_statement x group (lines_of (gap_of more))).0 ++ (as_walked page (y ∷ ys) one.1 after).0) (as_walked page (y ∷ ys) one.1 after).1) (as_walked page (x ∷ y ∷ ys) above)
       (omega arith) refl (ap (λ (z : Measured). sts ++ one_by_one (n + z.size) (map placed (y ∷ ys))) (sym (placed_measured x)))
       (λ after.
-      ap (λ (z : Bytes). let first : ReadStatements (List Statement) = (stated x).statement group (indented z) in with_left (flat_map inside_statement (first.0 ++ (rest first after).0)) (rest first after).1) (stated_gap y (flat_map leaves_part ys) g.1.0)
+      ap (λ (z : Bytes). let first : ReadStatements (List Statement) = (stated x).statement group (lines_of z) in with_left (flat_map inside_statement (first.0 ++ (rest first after).0)) (rest first after).1) (stated_gap y (flat_map leaves_part ys) g.1.0)
       ∙ ap (λ (z : List Hosted). with_left z (rest one after).1) (flat_map-append inside_statement one.0 (rest one after).0))
       (both_pieces page n m e (leaves_part x) more sts (one_by_one m (map placed (y ∷ ys))) group (as_statement x group) (as_walked page (y ∷ ys) one.1) (h.0 n group) (walked_piece m one.1 y ys h.1 g.1))
 
@@ -308,8 +307,8 @@ module _ (page : Page) where
       let up : suc n + sizes (map measured (x ∷ xs)) ≡ e = omega (arith, size') in
       let lines : Lines = indented_lines_before (map stated (x ∷ xs)) [] in
       let sts : List Stretch = one_by_one (suc n) (map placed (x ∷ xs)) in
-      let inner : Piece page (suc n) e (flat_map leaves_part (x ∷ xs)) sts (indented_comments lines) (as_walked page (x ∷ xs) lines) =
-      subst (λ z. Piece page (suc n) z (flat_map leaves_part (x ∷ xs)) sts (indented_comments lines) (as_walked page (x ∷ xs) lines)) up (walked_piece (suc n) lines x xs statements (hb.all_solid page (x ∷ xs) w.1)) in
+      let inner : Piece page (suc n) e (flat_map leaves_part (x ∷ xs)) sts (comments_in lines) (as_walked page (x ∷ xs) lines) =
+      subst (λ z. Piece page (suc n) z (flat_map leaves_part (x ∷ xs)) sts (comments_in lines) (as_walked page (x ∷ xs) lines)) up (walked_piece (suc n) lines x xs statements (hb.all_solid page (x ∷ xs) w.1)) in
       let one : suc n ≡ n + 1 = omega arith in
       own_rows k.Suite m r' n e own all i
       (subst (λ z. OwnPiece page n e (flat_map leaves_part all) own (one_by_one z (map placed (x ∷ xs))) (suffix_before k.Suite (map stated all)) (suite_in k.Suite (map stated all))) one
@@ -387,7 +386,7 @@ module _ (page : Page) where
   file_hosts n e lines [] u h g w at_ z i = absurd h
   file_hosts n e lines (p.Leaf l ∷ []) u (inl h) g w at_ z i =
       let gs : List GapLine = left_above page n in
-      ap (λ (t : Lines). flat_map inside_bzl_item (block_items (groups_of (map (λ l. l.line) t)) ++ [])) i
+      ap (λ (t : Lines). flat_map inside_bzl_item (block_items (groups_of t) ++ [])) i
       ∙ (flat_map-append inside_bzl_item (block_items (groups_of gs)) [] ∙ ap (λ (t : List Hosted). t ++ []) (blocks_alone (groups_of gs) ∙ ap hosts_alone (all_numbered gs)))
   file_hosts n e lines (p.Leaf l ∷ y ∷ xs) u (inl h) g w at_ z i = absurd h.1
   file_hosts n e lines (p.Leaf l ∷ xs) u (inr h) g w at_ z i = no_such h.0
@@ -396,7 +395,7 @@ module _ (page : Page) where
       let x : Part = Node' kind s' r' in
       let m : ℕ = n + size x in
       let gs : List GapLine = left_above page n in
-      let ls : List GapLine = map (λ l. l.line) lines in
+      let ls : List GapLine = lines in
       let group : List Bytes = last_group (groups_of ls) in
       let sts : List Stretch = (placed x).stretches n in
       let later : List Stretch = one_by_one m (map placed xs) in
@@ -405,17 +404,17 @@ module _ (page : Page) where
       let up : m + sizes (map measured xs) ≡ e = omega arith in
       let piece : Piece page n m (leaves_part x) sts group (as_statement x group) = g.0 h.0 at_.0 n group in
       let after_it : Extent page m e more later = subst (λ t. Extent page m t more later) up (file_extent m xs h.1 g.1 rest_at) in
-      let first : indented_lines_before (map stated xs) [] ≡ indented (gap_of more) = before_first xs w.1 in
+      let first : indented_lines_before (map stated xs) [] ≡ lines_of (gap_of more) = before_first xs w.1 in
       let own : ReadStatements (List Statement) = (stated x).statement group (indented_lines_before (map stated xs) []) in
       let back : gap_of more ≡ gap_of (more ++ z.back) = sym (gap_joined more z.back after_it.some) in
       let own_hosts : flat_map inside_statement own.0 ≡ statement_hosts page group sts =
-      ap (λ (t : Lines). flat_map inside_statement ((stated x).statement group t).0) (first ∙ ap indented back) ∙ piece.hosts (at_first page n m e (leaves_part x) more sts later piece.extent after_it z) in
+      ap (λ (t : Lines). flat_map inside_statement ((stated x).statement group t).0) (first ∙ ap lines_of back) ∙ piece.hosts (at_first page n m e (leaves_part x) more sts later piece.extent after_it z) in
       let own_left : own.1 ≡ left_by 0 m page.suites (lines_above page.leaves m) = ap (λ (t : Lines). ((stated x).statement group t).1) first ∙ left_there page n m e (leaves_part x) more sts later group (as_statement x group) piece after_it z in
       let tail : List BzlItem = bzl_items own.1 xs in
       let tail_hosts : flat_map inside_bzl_item tail ≡ bzl_hosted_from page m xs =
       file_hosts m e own.1 xs (sym up) h.1 g.1 w.1 rest_at (at_second page n m e (leaves_part x) more sts later piece.extent after_it z) own_left in
-      let alone : hosts_alone (all_but_last (groups_of ls)) ≡ hosts_alone (map (right_above gs) (bare_lines 0 gs)) = ap (λ (t : Lines). hosts_alone (all_but_last (groups_of (map (λ l. l.line) t)))) i ∙ ap hosts_alone (alone_numbered gs) in
-      let above : group ≡ right_above gs (length gs) = ap (λ (t : Lines). last_group (groups_of (map (λ l. l.line) t))) i ∙ last_numbered gs in
+      let alone : hosts_alone (all_but_last (groups_of ls)) ≡ hosts_alone (map (right_above gs) (bare_lines 0 gs)) = ap (λ (t : Lines). hosts_alone (all_but_last (groups_of t))) i ∙ ap hosts_alone (alone_numbered gs) in
+      let above : group ≡ right_above gs (length gs) = ap (λ (t : Lines). last_group (groups_of t)) i ∙ last_numbered gs in
       flat_map-append inside_bzl_item (block_items (all_but_last (groups_of ls))) (map b.Statement own.0 ++ tail)
       ∙ (ap (λ (t : List Hosted). t ++ flat_map inside_bzl_item (map b.Statement own.0 ++ tail)) (blocks_alone (all_but_last (groups_of ls)) ∙ alone)
       ∙ (ap (λ (t : List Hosted). hosts_alone (map (right_above gs) (bare_lines 0 gs)) ++ t) (flat_map-append inside_bzl_item (map b.Statement own.0) tail
@@ -446,4 +445,4 @@ bzl_hosts_by_place n h =
       texts = λ q f. refl;
     } in
     file_hosts page 0 e (indented_lines_before (map stated n.parts) []) n.parts refl fits pieces solids h.gaps all
-    (before_first n.parts solids ∙ (ap indented (sym (first_at (leaves_of n))) ∙ sym (beyond 0 0 0 e (suites_in sts) (lines_above (leaves_of n) 0) (omega arith) bounds)))
+    (before_first n.parts solids ∙ (ap lines_of (sym (first_at (leaves_of n))) ∙ sym (beyond 0 0 0 e (suites_in sts) (lines_above (leaves_of n) 0) (omega arith) bounds)))

@@ -7,8 +7,7 @@ use Rattle.bz_lex.specs.declared.leaf.Leaf.{Leaf}
 use Rattle.bz_grammar.specs.declared.tree.Part.{Part}
 use Rattle.bz_grammar.specs.Spell.{leaves_part}
 use Rattle.bz_items.specs.Characters.{Bytes}
-use Rattle.bz_value.specs.Gaps.{as_list, comments_in, all_in}
-use Rattle.bz_value.specs.Indented.{indented}
+use Rattle.bz_value.specs.Gaps.{all_in, as_list, comments_in, lines_of}
 use Rattle.bz_hosts.specs.View.{seen, statements_in}
 use Rattle.bz_hosts.specs.Hosts.{Region, CommentPlace, texts_at, Hosted, hosted_at, with_group, sizes, measured, hosts_from, leaf_gap, inside_item}
 use Rattle.bz_hosts.proofs.Around as r
@@ -23,10 +22,10 @@ use Rattle.bz_hosts.proofs.Walked.{gap_of, last_gap}
 use Rattle.bz_grammar.specs.Shapes as s
 use Rattle.bz_bzl_value.specs.declared.value.Statement.{Statement}
 use Rattle.bz_bzl_value.specs.BzlHosts.{Suite, Stretch, simple_line, header, placed, one_by_one, Page, suites_in, begins_suite, left_by, left_above, lines_above, lines_of_leaf, statement_hosts, reach, suite_end, inside_statement}
-use Rattle.bz_bzl_value.specs.View.{ReadStatements, SuiteRead, stated, line_read, walked, suite_read, margin_of, only_comment, indented_comments, indented_lines_before}
+use Rattle.bz_bzl_value.specs.View.{ReadStatements, SuiteRead, stated, line_read, walked, suite_read, margin_of, only_comment, indented_lines_before}
 use Rattle.bz_bzl_value.proofs.HostPieces.{regions_of, comments, along, along_first, Sees, At, Piece}
 use Rattle.bz_bzl_value.proofs.HostReads.{line, within, simple_inside}
-use Rattle.bz_bzl_value.proofs.Lined.{lines_are, comments_append}
+use Rattle.bz_bzl_value.proofs.BlankLines.{comments_append}
 use Rattle.bz_bzl_value.proofs.Parts.{parts_seen, part_of}
 use Rattle.bz_bzl_value.proofs.SuiteLines.{and_false, Lines, AllBetween, all_wider, ends_are, rest_is, lines_at, gap_joined, first_at}
 use Rattle.bz_bzl_value.proofs.SuitePieces.{last_joined, lines_there}
@@ -44,15 +43,14 @@ later_none : (a b : List Bytes) → a ++ b ≡ [] → b ≡ []
 later_none [] b h = h
 later_none (x ∷ a) b h = cc
 
-rest_silent : (lines : Lines) → comments_in (map (λ l. l.line) lines) ≡ [] → comments_in (map (λ l. l.line) (drop 1 lines)) ≡ []
+rest_silent : (lines : Lines) → comments_in lines ≡ [] → comments_in (drop 1 lines) ≡ []
 rest_silent [] h = refl
-rest_silent (l ∷ lines) h = later_none (as_list l.line.comment) (comments_in (map (λ l. l.line) lines)) h
+rest_silent (l ∷ lines) h = later_none (as_list l.comment) (comments_in lines) h
 
-silent_lines : (g g' : Bytes) → all_in g ≡ [] → all_in g' ≡ [] → comments_in (map (λ l. l.line) (drop 1 (indented g) ++ indented g')) ≡ []
+silent_lines : (g g' : Bytes) → all_in g ≡ [] → all_in g' ≡ [] → comments_in ((drop 1 (lines_of g) ++ lines_of g')) ≡ []
 silent_lines g g' h h' =
-    ap comments_in (map-append (λ l. l.line) (drop 1 (indented g)) (indented g'))
-    ∙ (comments_append (map (λ l. l.line) (drop 1 (indented g))) (map (λ l. l.line) (indented g'))
-    ∙ (ap (λ (z : List Bytes). z ++ comments_in (map (λ l. l.line) (indented g'))) (rest_silent (indented g) (ap comments_in (lines_are g) ∙ h)) ∙ (ap comments_in (lines_are g') ∙ h')))
+    comments_append (drop 1 (lines_of g)) (lines_of g')
+    ∙ (ap (λ (z : List Bytes). z ++ comments_in (lines_of g')) (rest_silent (lines_of g) h) ∙ h')
 
 -- ---- suites
 
@@ -84,9 +82,9 @@ module _ (page : Page) where
     pub within : r.AllInside n e (regions_of sts)
     pub outer : r.SeesAt page.regions None (suc n) e (regions_of sts) → (q : CommentPlace) → 0 < key q → (From n e q → ⊥) → texts_at page.regions q (comments_after n ls) ≡ []
     pub suffix_is : as_list suffix ≡ all_in (gap_of ls)
-    pub left : (a : ℕ) → a ≤ n → (after : Lines) → (read after).1 ≡ left_by a e (own_list own ++ suites_in sts) (drop 1 (indented (last_gap ls)) ++ after)
-    pub statements : (n0 : ℕ) (x : OwnAt n0 n e ls own sts) → flat_map inside_statement (read (indented (gap_of x.back))).0.0 ≡ along page sts
-    pub ends : (n0 : ℕ) (x : OwnAt n0 n e ls own sts) → (read (indented (gap_of x.back))).0.1 ≡ suite_end page own
+    pub left : (a : ℕ) → a ≤ n → (after : Lines) → (read after).1 ≡ left_by a e (own_list own ++ suites_in sts) (drop 1 (lines_of (last_gap ls)) ++ after)
+    pub statements : (n0 : ℕ) (x : OwnAt n0 n e ls own sts) → flat_map inside_statement (read (lines_of (gap_of x.back))).0.0 ≡ along page sts
+    pub ends : (n0 : ℕ) (x : OwnAt n0 n e ls own sts) → (read (lines_of (gap_of x.back))).0.1 ≡ suite_end page own
 
   -- ---- a line in the place of a suite
 
@@ -98,12 +96,12 @@ module _ (page : Page) where
       let before = x.before in
       let counted = x.counted in
       let begins : begins_suite n page.suites ≡ false = x.sees.begins n before l ∙ ap (begins_suite n) none in
-      let lines : lines_above page.leaves n ≡ drop 1 (indented (last_gap x.front)) ++ indented (gap_of ls) =
-      ap (λ (z : List Leaf). lines_above z n) x.leaves ∙ (ap (lines_above (x.front ++ (ls ++ x.back))) (sym counted) ∙ (lines_at x.front (ls ++ x.back) (omega arith) ∙ ap (λ (g : Bytes). drop 1 (indented (last_gap x.front)) ++ indented g) (gap_joined ls x.back some))) in
-      let left : left_by 0 n page.suites (lines_above page.leaves n) ≡ drop 1 (indented (last_gap x.front)) ++ indented (gap_of ls) =
+      let lines : lines_above page.leaves n ≡ drop 1 (lines_of (last_gap x.front)) ++ lines_of (gap_of ls) =
+      ap (λ (z : List Leaf). lines_above z n) x.leaves ∙ (ap (lines_above (x.front ++ (ls ++ x.back))) (sym counted) ∙ (lines_at x.front (ls ++ x.back) (omega arith) ∙ ap (λ (g : Bytes). drop 1 (lines_of (last_gap x.front)) ++ lines_of g) (gap_joined ls x.back some))) in
+      let left : left_by 0 n page.suites (lines_above page.leaves n) ≡ drop 1 (lines_of (last_gap x.front)) ++ lines_of (gap_of ls) =
       x.sees.inner 0 n before l (lines_above page.leaves n) ∙ (ap (λ z. left_by 0 n z (lines_above page.leaves n)) none ∙ lines) in
       cond-false (begins_suite n page.suites) (all_in (leaf_gap page.leaves n)) (comments_in (left_above page n)) begins
-      ∙ (ap (λ (z : Lines). comments_in (map (λ l. l.line) z)) left ∙ silent_lines (last_gap x.front) (gap_of ls) x.quiet silent)
+      ∙ (ap (λ (z : Lines). comments_in z) left ∙ silent_lines (last_gap x.front) (gap_of ls) x.quiet silent)
 
   pub line_own : (n : ℕ) (x : Part) (xs : List Part) → Statements (x ∷ xs) → Quiet (x ∷ xs) → AllByRecursion Regions (x ∷ xs) → AllByRecursion (InHost page.regions) (x ∷ xs) → AllByRecursion Solid (x ∷ xs) → all_in (seen x).gap ≡ []
       → n + length (flat_map leaves_part (x ∷ xs)) ≡ n + sizes (map measured (x ∷ xs))
@@ -129,7 +127,7 @@ module _ (page : Page) where
         statements = λ n0 z.
             let found : map (hosted_at page.regions (comments page)) there ≡ flat_map inside_item (statements_in [] (map seen ys)) =
             (line page n [] x xs fits quiet rs is solids (subst (r.SeesAt page.regions None (suc n) e) (append-nil there) z.regions)).found (comments page) (λ q f. z.texts q f ∙ ap (texts_at page.regions q) mine) in
-            ap (λ ss. flat_map inside_statement (line_read ss [] (indented (gap_of z.back))).0) (parts_seen ys)
+            ap (λ ss. flat_map inside_statement (line_read ss [] (lines_of (gap_of z.back))).0) (parts_seen ys)
             ∙ (simple_inside [] (map seen ys)
             ∙ (sym (group_above [] ys) ∙ (ap (with_group []) (sym found)
             ∙ (ap (λ (g : List Bytes). with_group g (map (hosted_at page.regions (comments page)) there)) (sym (no_lines n0 n e ls sts refl some (omega arith) quiet_gap z)) ∙ sym (append-nil (with_group (lines_of_leaf page n) (map (hosted_at page.regions (comments page)) there)))))));
@@ -142,7 +140,7 @@ module _ (page : Page) where
   as_walked xs above after = (flat_map inside_statement (walked above (map stated xs) after).0, (walked above (map stated xs) after).1)
 
   pub suite_own : (n e m : ℕ) (l : Leaf) (x : Part) (xs : List Part) → Solid x → m ≡ margin_of (map stated (x ∷ xs)) → all_in l.gap ≡ as_list (only_comment (all_in l.gap))
-      → Piece page (suc n) e (flat_map leaves_part (x ∷ xs)) (one_by_one (suc n) (map placed (x ∷ xs))) (indented_comments (indented_lines_before (map stated (x ∷ xs)) [])) (as_walked (x ∷ xs) (indented_lines_before (map stated (x ∷ xs)) []))
+      → Piece page (suc n) e (flat_map leaves_part (x ∷ xs)) (one_by_one (suc n) (map placed (x ∷ xs))) (comments_in (indented_lines_before (map stated (x ∷ xs)) [])) (as_walked (x ∷ xs) (indented_lines_before (map stated (x ∷ xs)) []))
       → OwnPiece n e (l ∷ flat_map leaves_part (x ∷ xs)) (Some (record { first = suc n; following = e; margin = m })) (one_by_one (suc n) (map placed (x ∷ xs))) (only_comment (all_in l.gap)) (λ after. suite_read (map stated (x ∷ xs)) after)
   suite_own n e m l x xs solid i suffix inner =
       let ls : List Leaf = flat_map leaves_part (x ∷ xs) in
@@ -155,8 +153,8 @@ module _ (page : Page) where
       let all : Lines → ReadStatements (List Statement) = λ after. walked lines (map stated (x ∷ xs)) after in
       let M : ℕ = margin_of (map stated (x ∷ xs)) in
       let last : last_gap (l ∷ ls) ≡ last_gap ls = last_joined (l ∷ []) ls some in
-      let left : (a : ℕ) → a ≤ suc n → (after : Lines) → (all after).1 ≡ left_by a e suites (drop 1 (indented (last_gap (l ∷ ls))) ++ after) =
-      λ a j after. inner.left a j after ∙ ap (λ (g' : Bytes). left_by a e suites (drop 1 (indented g') ++ after)) (sym last) in
+      let left : (a : ℕ) → a ≤ suc n → (after : Lines) → (all after).1 ≡ left_by a e suites (drop 1 (lines_of (last_gap (l ∷ ls))) ++ after) =
+      λ a j after. inner.left a j after ∙ ap (λ (g' : Bytes). left_by a e suites (drop 1 (lines_of g') ++ after)) (sym last) in
       let others : (a m' : ℕ) → suc n ≤ a → (lines' : Lines) → left_by a m' (own ∷ suites) lines' ≡ left_by a m' suites lines' =
       λ a m' j lines'. cond-false (nat_lt a (suc n) && nat_eq e m') _ _ (ap (λ t. t && nat_eq e m') (le-ltb a (suc n) j)) in
       let ahead : (a m' : ℕ) → m' < e → (lines' : Lines) → left_by a m' (own ∷ suites) lines' ≡ left_by a m' suites lines' =
@@ -169,7 +167,7 @@ module _ (page : Page) where
         outer = λ sees q d o. inner.extent.outer sees q d (λ j. let j0 = j.0 in o (omega arith, j.1));
         suffix_is = sym suffix;
         left = λ a j after.
-            let there : Lines = left_by a e suites (drop 1 (indented (last_gap (l ∷ ls))) ++ after) in
+            let there : Lines = left_by a e suites (drop 1 (lines_of (last_gap (l ∷ ls))) ++ after) in
             let test : (nat_lt a (suc n) && nat_eq e e) ≡ true = ap (λ t. t && nat_eq e e) (lt-ltb a (suc n) (omega arith)) ∙ eq-eqb e e refl in
             rest_is M (all after).1 ∙ (ap (λ (z : Lines). drop (reach M z) z) (left a (omega arith) after)
             ∙ (ap (λ (z : ℕ). drop (reach z there) there) (sym i) ∙ sym (cond-true (nat_lt a (suc n) && nat_eq e e) (drop (reach m there) there) there test)));
@@ -195,12 +193,12 @@ module _ (page : Page) where
             let first : leaf_gap page.leaves (suc n) ≡ (stated x).part.gap =
             ap (λ (w : List Leaf). leaf_gap w (suc n)) leaves ∙ (ap (leaf_gap ((z.front ++ l ∷ []) ++ (ls ++ z.back))) (omega arith) ∙ (leaf_at (z.front ++ l ∷ []) (ls ++ z.back)
             ∙ (gap_joined ls z.back some ∙ (ap (λ (w : List Leaf). gap_of (w ++ flat_map leaves_part xs)) solid.leaves ∙ (sym solid.gap ∙ sym (ap (λ t. t.gap) (part_of x))))))) in
-            let group : indented_comments lines ≡ lines_of_leaf page (suc n) =
-            ap comments_in (lines_are (stated x).part.gap) ∙ (ap all_in (sym first) ∙ sym (cond-true (begins_suite (suc n) page.suites) (all_in (leaf_gap page.leaves (suc n))) (comments_in (left_above page (suc n))) begins)) in
+            let group : comments_in lines ≡ lines_of_leaf page (suc n) =
+            (ap all_in (sym first) ∙ sym (cond-true (begins_suite (suc n) page.suites) (all_in (leaf_gap page.leaves (suc n))) (comments_in (left_above page (suc n))) begins)) in
             inner.hosts at_ ∙ (ap (λ (g : List Bytes). statement_hosts page g sts) group ∙ sym (along_first page (suc n) sts inner.starts));
         ends = λ n0 z.
             let before = z.before in
-            let after : Lines = indented (gap_of z.back) in
+            let after : Lines = lines_of (gap_of z.back) in
             let found : Lines = left_by (suc n) e page.suites (lines_above page.leaves e) in
             let same : found ≡ (all after).1 =
             z.sees.after (suc n) e (omega arith) (omega arith) (omega arith) (lines_above page.leaves e)

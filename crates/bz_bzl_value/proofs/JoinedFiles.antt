@@ -11,17 +11,15 @@ use Rattle.bz_grammar.specs.declared.tree.Part.TheVariants as p
 use Rattle.bz_grammar.specs.Spell.{leaves_part}
 use Rattle.bz_grammar.proofs.Spells.{leaves_Node}
 use Rattle.bz_grammar.specs.Joined.{last_token, AreWholeLines, file_with, BzlLinesJoin}
-use Rattle.bz_value.specs.Gaps.{before_groups, comments_in, all_in, groups_of, all_but_last, last_group}
-use Rattle.bz_value.specs.Indented.{indented}
+use Rattle.bz_value.specs.Gaps.{before_groups, comments_in, all_in, groups_of, all_but_last, last_group, lines_of}
 use Rattle.bz_hosts.specs.View.{blocks, seen, first_seen_gap}
 use Rattle.bz_bzl_value.specs.declared.value.BzlItem.{BzlItem}
 use Rattle.bz_bzl_value.specs.declared.value.BzlItem.TheVariants as b
 use Rattle.bz_bzl_value.specs.declared.value.Statement.{Statement}
 use Rattle.bz_bzl_value.specs.Joined.{lines_after, lines_at_end, first_lines, EndsWithStatement, BeginsBare, EndsInNewline, EndsInLine, BzlViewsJoin}
-use Rattle.bz_bzl_value.specs.View.{ReadStatements, stated, indented_comments, indented_lines_before, bzl_item, block_items, bzl_items, bzl_view_of}
+use Rattle.bz_bzl_value.specs.View.{ReadStatements, stated, indented_lines_before, bzl_item, block_items, bzl_items, bzl_view_of}
 use Rattle.bz_bzl_value.proofs.BlankLines.{Blank, Alike, before_blank, none_blank}
 use Rattle.bz_bzl_value.proofs.KeptBranches.{Lines}
-use Rattle.bz_bzl_value.proofs.Lined.{plain_lines, lines_are}
 use Rattle.bz_bzl_value.proofs.Parts.{lines_first}
 
 -- ---- groups of blank lines
@@ -37,12 +35,12 @@ no_groups ((text ∷ g) ∷ groups) h = absurd (let e : text ∷ g ≡ [] = h.0 
 no_groups ([] ∷ []) h = record { all = refl; front = refl; last = refl }
 no_groups ([] ∷ g ∷ groups) h = let w = no_groups (g ∷ groups) h.1 in record { all = w.all; front = w.front; last = w.last }
 
-all_empty : (lines : Lines) → Blank lines → AllByRecursion (λ g. g ≡ []) (groups_of (plain_lines lines))
+all_empty : (lines : Lines) → Blank lines → AllByRecursion (λ g. g ≡ []) (groups_of lines)
 all_empty [] h = (refl, tt)
-all_empty (l ∷ lines) h = subst (λ o. AllByRecursion (λ g. g ≡ []) (before_groups o (groups_of (plain_lines lines)))) (sym h.0) (refl, all_empty lines h.1)
+all_empty (l ∷ lines) h = subst (λ o. AllByRecursion (λ g. g ≡ []) (before_groups o (groups_of lines))) (sym h.0) (refl, all_empty lines h.1)
 
-none_grouped : (lines : Lines) → Blank lines → NoGroups (groups_of (plain_lines lines))
-none_grouped lines h = no_groups (groups_of (plain_lines lines)) (all_empty lines h)
+none_grouped : (lines : Lines) → Blank lines → NoGroups (groups_of lines)
+none_grouped lines h = no_groups (groups_of lines) (all_empty lines h)
 
 -- ---- parts after blank lines
 
@@ -68,26 +66,26 @@ same_after l m (Node' kind size row) after h i = ap (λ above. ((stated (Node' k
 after_blank : (lines : Lines) (x : Part) (a c : Lines) → Blank a → c ≡ [] → lines_after lines x c ≡ [] → Blank (lines_after lines x a)
 after_blank lines (p.Leaf l) a c h e n = tt
 after_blank lines (Node' kind size row) a c h e n =
-    let above : List Bytes = last_group (groups_of (plain_lines lines)) in
+    let above : List Bytes = last_group (groups_of lines) in
     let w : Alike ((stated (Node' kind size row)).statement above a) ((stated (Node' kind size row)).statement above c) = before_blank (Node' kind size row) above a c h e in
     subst Blank (sym (w.1.2 ∙ ap (λ z. z ++ w.1.0) n)) w.1.1
 
 nothing_left : (lines : Lines) (e : Leaf) → lines ≡ [] → bzl_items lines (p.Leaf e ∷ []) ≡ []
 nothing_left lines e n = ap (λ z. bzl_items z (p.Leaf e ∷ [])) n
 
-one_joined : (lines : Lines) (x : Part) (e : Leaf) (ys : List Part) → e.gap ≡ [] → lines_after lines x (indented e.gap) ≡ [] → Blank (before ys)
+one_joined : (lines : Lines) (x : Part) (e : Leaf) (ys : List Part) → e.gap ≡ [] → lines_after lines x (lines_of e.gap) ≡ [] → Blank (before ys)
     → bzl_items lines (x ∷ ys) ≡ bzl_items lines (x ∷ p.Leaf e ∷ []) ++ bzl_items (before ys) ys
 one_joined lines (p.Leaf l) e ys n left h =
-    let own : List BzlItem = block_items (groups_of (plain_lines lines)) in
+    let own : List BzlItem = block_items (groups_of lines) in
     ap (λ z. own ++ z) (same_items [] (before ys) ys tt h) ∙ ap (λ z. z ++ bzl_items (before ys) ys) (sym (append-nil own))
 one_joined lines (Node' kind size row) e ys n left h =
-    let front : List BzlItem = block_items (all_but_last (groups_of (plain_lines lines))) in
-    let above : List Bytes = last_group (groups_of (plain_lines lines)) in
+    let front : List BzlItem = block_items (all_but_last (groups_of lines)) in
+    let above : List Bytes = last_group (groups_of lines) in
     let read : Lines → ReadStatements (List Statement) = λ after. (stated (Node' kind size row)).statement above after in
-    let own : List BzlItem = map b.Statement (read (indented e.gap)).0 in
-    let w : Alike (read (before ys)) (read (indented e.gap)) = before_blank (Node' kind size row) above (before ys) (indented e.gap) h (ap indented n) in
-    let blank : Blank (read (before ys)).1 = after_blank lines (Node' kind size row) (before ys) (indented e.gap) h (ap indented n) left in
-    let bare : own ++ bzl_items (read (indented e.gap)).1 (p.Leaf e ∷ []) ≡ own = ap (λ z. own ++ z) (nothing_left (read (indented e.gap)).1 e left) ∙ append-nil own in
+    let own : List BzlItem = map b.Statement (read (lines_of e.gap)).0 in
+    let w : Alike (read (before ys)) (read (lines_of e.gap)) = before_blank (Node' kind size row) above (before ys) (lines_of e.gap) h (ap lines_of n) in
+    let blank : Blank (read (before ys)).1 = after_blank lines (Node' kind size row) (before ys) (lines_of e.gap) h (ap lines_of n) left in
+    let bare : own ++ bzl_items (read (lines_of e.gap)).1 (p.Leaf e ∷ []) ≡ own = ap (λ z. own ++ z) (nothing_left (read (lines_of e.gap)).1 e left) ∙ append-nil own in
     ap₂ (λ own z. front ++ (map b.Statement own ++ z)) w.0 (same_items (read (before ys)).1 (before ys) ys blank h)
     ∙ (sym (append_assoc front own (bzl_items (before ys) ys)) ∙ ap (λ z. (front ++ z) ++ bzl_items (before ys) ys) (sym bare))
 
@@ -97,11 +95,11 @@ items_joined : (lines : Lines) (x : Part) (xs : List Part) (e : Leaf) (ys : List
     → bzl_items lines (x ∷ (xs ++ ys)) ≡ bzl_items lines (x ∷ (xs ++ p.Leaf e ∷ [])) ++ bzl_items (before ys) ys
 items_joined lines x [] e ys n left h = one_joined lines x e ys n left h
 items_joined lines (p.Leaf l) (x ∷ xs) e ys n left h =
-    let own : List BzlItem = block_items (groups_of (plain_lines lines)) in
+    let own : List BzlItem = block_items (groups_of lines) in
     ap (λ z. own ++ z) (items_joined [] x xs e ys n left h) ∙ sym (append_assoc own (bzl_items [] (x ∷ (xs ++ p.Leaf e ∷ []))) (bzl_items (before ys) ys))
 items_joined lines (Node' kind size row) (x ∷ xs) e ys n left h =
-    let front : List BzlItem = block_items (all_but_last (groups_of (plain_lines lines))) in
-    let read : ReadStatements (List Statement) = (stated (Node' kind size row)).statement (last_group (groups_of (plain_lines lines))) (before (x ∷ (xs ++ ys))) in
+    let front : List BzlItem = block_items (all_but_last (groups_of lines)) in
+    let read : ReadStatements (List Statement) = (stated (Node' kind size row)).statement (last_group (groups_of lines)) (before (x ∷ (xs ++ ys))) in
     let own : List BzlItem = map b.Statement read.0 in
     let one : List BzlItem = bzl_items read.1 (x ∷ (xs ++ p.Leaf e ∷ [])) in
     let two : List BzlItem = bzl_items (before ys) ys in
@@ -109,15 +107,15 @@ items_joined lines (Node' kind size row) (x ∷ xs) e ys n left h =
 
 left_both : (lines : Lines) (x : Part) (xs : List Part) (e : Leaf) (y : Part) (ys : List Part) → e.gap ≡ [] → lines_at_end lines (x ∷ (xs ++ p.Leaf e ∷ [])) ≡ [] → Blank (before (y ∷ ys))
     → lines_at_end (before (y ∷ ys)) (y ∷ ys) ≡ [] → lines_at_end lines (x ∷ (xs ++ y ∷ ys)) ≡ []
-left_both lines x [] e y [] n left h g = ap (lines_after lines x) (g ∙ sym (ap indented n)) ∙ left
+left_both lines x [] e y [] n left h g = ap (lines_after lines x) (g ∙ sym (ap lines_of n)) ∙ left
 left_both lines x [] e y (z ∷ ys) n left h g =
-    ap (λ l. lines_at_end l (z ∷ ys)) (same_after (lines_after lines x (before (y ∷ z ∷ ys))) (before (y ∷ z ∷ ys)) y (before (z ∷ ys)) (after_blank lines x (before (y ∷ z ∷ ys)) (indented e.gap) h (ap indented n) left) h) ∙ g
+    ap (λ l. lines_at_end l (z ∷ ys)) (same_after (lines_after lines x (before (y ∷ z ∷ ys))) (before (y ∷ z ∷ ys)) y (before (z ∷ ys)) (after_blank lines x (before (y ∷ z ∷ ys)) (lines_of e.gap) h (ap lines_of n) left) h) ∙ g
 left_both lines w (x ∷ xs) e y ys n left h g = left_both (lines_after lines w (before (x ∷ (xs ++ y ∷ ys)))) x xs e y ys n left h g
 
 -- both of a text's parts, of which the one may be empty
 view_joined : (xs : List Part) (e : Leaf) (ys : List Part) → e.gap ≡ [] → lines_at_end (before (xs ++ p.Leaf e ∷ [])) (xs ++ p.Leaf e ∷ []) ≡ [] → Blank (before ys)
     → bzl_items (before (xs ++ ys)) (xs ++ ys) ≡ bzl_items (before (xs ++ p.Leaf e ∷ [])) (xs ++ p.Leaf e ∷ []) ++ bzl_items (before ys) ys
-view_joined [] e ys n left h = sym (ap (λ z. z ++ bzl_items (before ys) ys) (nothing_left (indented e.gap) e (ap indented n)))
+view_joined [] e ys n left h = sym (ap (λ z. z ++ bzl_items (before ys) ys) (nothing_left (lines_of e.gap) e (ap lines_of n)))
 view_joined (x ∷ xs) e ys n left h = items_joined (before (x ∷ xs)) x xs e ys n left h
 
 ends_joined : (xs : List Part) (e : Leaf) (ys zs : List Part) (last : Part) → ys ≡ zs ++ last ∷ [] → e.gap ≡ [] → lines_at_end (before (xs ++ p.Leaf e ∷ [])) (xs ++ p.Leaf e ∷ []) ≡ [] → Blank (before ys)
@@ -181,7 +179,7 @@ ends_so n ps i left (lines, end, parts, whole, nothing) = record {
 
 pub bare_so : (n : Node) (ps : List Part) (gap : Bytes) → ps ≡ n.parts → gap ≡ first_seen_gap (map seen ps) → all_in gap ≡ [] → BeginsBare n
 bare_so n ps gap i j h =
-    ap (λ qs. indented_comments (before qs)) (sym i) ∙ (ap indented_comments (sym (lines_first ps)) ∙ (ap (λ g. indented_comments (indented g)) (sym j) ∙ (ap comments_in (lines_are gap) ∙ h)))
+    ap (λ qs. comments_in (before qs)) (sym i) ∙ (ap comments_in (sym (lines_first ps)) ∙ (ap (λ g. comments_in (lines_of g)) (sym j) ∙ h))
 
 -- one statement further
 pub goes_on : (x : Part) (xs : List Part) (lines left all : Lines) → 0 < length xs → left ≡ lines_after lines x (before xs) → lines_at_end lines (x ∷ xs) ≡ all → lines_at_end left xs ≡ all

@@ -14,8 +14,7 @@ use Rattle.bz_grammar.proofs.Balance.{no_such}
 use Rattle.bz_value.specs.declared.value.Expr.TheVariants as e
 use Rattle.bz_value.specs.Counted.{total, suffix_amount, amount}
 use Rattle.bz_items.specs.Characters.{Bytes}
-use Rattle.bz_value.specs.Gaps.{all_in}
-use Rattle.bz_value.specs.Indented.{IndentedGapLine, indented}
+use Rattle.bz_value.specs.Gaps.{all_in, GapLine, comments_in}
 use Rattle.bz_value.proofs.Totals.{append_total, form_amount}
 use Rattle.bz_hosts.specs.View.{Seen, seen, first_seen_gap, loose_in, items_in}
 use Rattle.bz_hosts.proofs.InnerParts.{token_inner, token_goes, plain_tokens}
@@ -25,14 +24,14 @@ use Rattle.bz_hosts.proofs.ProperParts.{dropped}
 use Rattle.bz_hosts.proofs.QuietGaps.{Silent}
 use Rattle.bz_hosts.proofs.SeenParts.{all_parted}
 use Rattle.bz_hosts.proofs.Sums.{gap_amount, part_amount}
-use Rattle.bz_bzl_value.specs.View.{Stated, stated, branches, with_suite, head, def_head, row_head, indented_lines_before, indented_comments}
+use Rattle.bz_bzl_value.specs.View.{Stated, stated, branches, with_suite, head, def_head, row_head, indented_lines_before}
 use Rattle.bz_bzl_value.proofs.KeptGaps.{colon_is}
 use Rattle.bz_bzl_value.proofs.HeadParts.{Headed, InHeader, None_before, Named, FitsHeader, token_in, colon_headed, test_headed, for_headed, def_headed}
-use Rattle.bz_bzl_value.proofs.KeptValues.{stated_amount, branch_amount, lines_amount, indented_amount}
+use Rattle.bz_bzl_value.proofs.KeptValues.{stated_amount, branch_amount, lines_amount}
 use Rattle.bz_bzl_value.proofs.Parts.{part_of}
 
 abbrev pub Lines : Type 0
-Lines = List IndentedGapLine
+Lines = List GapLine
 
 -- ---- the parts of a header, up to its colon
 
@@ -116,7 +115,7 @@ module _ (number : Bytes → ℕ) where
 
   -- of further headers of a statement, where these lines are left of what is before them
   abbrev BranchesKept : Kind → List Part → Type 0
-  BranchesKept kind xs = (left after : Lines) → before_amount xs after + (total (branch_amount number) (branches kind [] (indented_comments left) left (map stated xs) after).0 + lines_amount number (branches kind [] (indented_comments left) left (map stated xs) after).1)
+  BranchesKept kind xs = (left after : Lines) → before_amount xs after + (total (branch_amount number) (branches kind [] (comments_in left) left (map stated xs) after).0 + lines_amount number (branches kind [] (comments_in left) left (map stated xs) after).1)
       ≡ lines_amount number left + (total (part_amount number) xs + lines_amount number after)
 
   -- of the headers of a statement, where x is the first part
@@ -167,8 +166,8 @@ module _ (number : Bytes → ℕ) where
   -- headers that are no first ones
   further : (kind : Kind) (x : Part) (xs : List Part) → HeadersKept kind x xs → BranchesKept kind (x ∷ xs)
   further kind x xs h left after =
-      let gap = ap (λ s. lines_amount number (indented s.gap)) (part_of x) ∙ indented_amount number (seen x).gap in
-      let all = h (indented_comments left) left after in
+      let gap = ap (λ s. gap_amount number s.gap) (part_of x) in
+      let all = h (comments_in left) left after in
       omega arith
 
   -- ---- if, elif, else

@@ -11,8 +11,7 @@ use Rattle.bz_grammar.specs.Spots.{Begins, BzlStands, AtParts}
 use Rattle.bz_grammar.proofs.Balance.{no_such}
 use Rattle.bz_value.specs.Counted.{total, one_if}
 use Rattle.bz_items.specs.Characters.{Bytes}
-use Rattle.bz_value.specs.Gaps.{groups_of, all_but_last, last_group}
-use Rattle.bz_value.specs.Indented.{IndentedGapLine}
+use Rattle.bz_value.specs.Gaps.{groups_of, all_but_last, last_group, GapLine}
 use Rattle.bz_value.proofs.Totals.{append_total}
 use Rattle.bz_hosts.specs.View.{seen}
 use Rattle.bz_hosts.proofs.Sums.{all_blocks, front_blocks, part_amount, leaf_amount, parts_leaves}
@@ -23,8 +22,7 @@ use Rattle.bz_bzl_value.specs.View.{ReadStatements, stated, indented_lines_befor
 use Rattle.bz_bzl_value.proofs.KeptBranches.{before_amount}
 use Rattle.bz_bzl_value.proofs.HeadParts.{after_stmt}
 use Rattle.bz_bzl_value.proofs.KeptSuites.{AsStatement, part_read}
-use Rattle.bz_bzl_value.proofs.KeptValues.{lines_amount, indented_amount, block_amount, statements_as_items}
-use Rattle.bz_bzl_value.proofs.Lined.{plain_lines}
+use Rattle.bz_bzl_value.proofs.KeptValues.{lines_amount, block_amount, statements_as_items}
 
 module _ (number : Bytes → ℕ) where
   all_read : (xs : List Part) → AllByRecursion LegalBzlPart xs → AllByRecursion (AsStatement number) xs
@@ -32,30 +30,28 @@ module _ (number : Bytes → ℕ) where
   all_read (x ∷ xs) h = ((part_read number x h.0).0, all_read xs h.1)
 
   -- statements and the end, where these lines are before the first of them
-  file_kept : (lines : List IndentedGapLine) (xs : List Part) → Several (IsNonterminal s.stmt) (Fits IsNonterminal (tok s.end done)) xs → AllByRecursion (AsStatement number) xs → AtParts BzlStands Begins Begins xs →
+  file_kept : (lines : List GapLine) (xs : List Part) → Several (IsNonterminal s.stmt) (Fits IsNonterminal (tok s.end done)) xs → AllByRecursion (AsStatement number) xs → AtParts BzlStands Begins Begins xs →
       before_amount number xs [] + total (bzl_item_amount number) (bzl_items lines xs) ≡ lines_amount number lines + total (part_amount number) xs
   file_kept lines [] h w at_ = absurd h
   file_kept lines (p.Leaf l ∷ []) (inl h) w at_ =
-      let groups : List (List Bytes) = groups_of (plain_lines lines) in
+      let groups : List (List Bytes) = groups_of lines in
       let both = append_total (bzl_item_amount number) (block_items groups) [] in
       let blocks = block_amount number groups in
-      let all = all_blocks number (plain_lines lines) in
-      let gap = indented_amount number l.gap in
+      let all = all_blocks number lines in
       let leaf = leaf_amount number l in
       omega arith
   file_kept lines (p.Leaf l ∷ y ∷ xs) (inl h) w at_ = absurd h.1
   file_kept lines (p.Leaf l ∷ xs) (inr h) w at_ = no_such h.0
   file_kept lines (Node' kind n r ∷ xs) (inl h) w at_ = no_such h.0
   file_kept lines (Node' kind n r ∷ xs) (inr h) w at_ =
-      let groups : List (List Bytes) = groups_of (plain_lines lines) in
-      let after : List IndentedGapLine = indented_lines_before (map stated xs) [] in
+      let groups : List (List Bytes) = groups_of lines in
+      let after : List GapLine = indented_lines_before (map stated xs) [] in
       let own : ReadStatements (List Statement) = (stated (Node' kind n r)).statement (last_group groups) after in
       let there : AtParts BzlStands Begins Begins xs = subst (λ z. AtParts BzlStands Begins z xs) (after_stmt (Node' kind n r) Begins Begins h.0) at_.1 in
-      let gap = indented_amount number (seen (Node' kind n r)).gap in
       let one = w.0 h.0 at_.0 (last_group groups) after in
       let more = file_kept own.1 xs h.1 w.1 there in
       let blocks = block_amount number (all_but_last groups) in
-      let front = front_blocks number (plain_lines lines) in
+      let front = front_blocks number lines in
       let items = statements_as_items number own.0 in
       let outer = append_total (bzl_item_amount number) (block_items (all_but_last groups)) (map b.Statement own.0 ++ bzl_items own.1 xs) in
       let inner = append_total (bzl_item_amount number) (map b.Statement own.0) (bzl_items own.1 xs) in

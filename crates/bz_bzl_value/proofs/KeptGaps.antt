@@ -1,14 +1,13 @@
 -- Comments in gaps of a legal .bzl file: none along a line but right before a newline, and there at most one. And which parts
 -- are no colon.
-use Rattle.std.proofs.Common.{◌≡◌, ℕ, ◌+◌, eqb, Bool, true, false, not, ◌&&◌, ◌||◌, List, [], ◌∷◌, inl, inr, refl, sym, ap, ◌∙◌, subst, codes, bytes_eq, arith}
+use Rattle.std.proofs.Common.{◌≡◌, ℕ, ◌+◌, Bool, true, false, not, ◌&&◌, ◌||◌, List, [], ◌∷◌, Option, Some, None, inl, inr, refl, sym, ap, ◌∙◌, subst, codes, bytes_eq, arith}
 use Rattle.std.specs.List.{AllByRecursion}
-use Rattle.std.proofs.lemmas.Bool.{and_parts, or_cases, both_ways, not-true}
-use Rattle.std.proofs.lemmas.Bool.Decides.{nat_tests}
+use Rattle.std.proofs.lemmas.Bool.{and_parts, or_cases, not-true}
 use Rattle.std.proofs.lemmas.Slice.Eq.{bytes_eq-Decides}
 use Rattle.bz_token.specs.declared.class.Class.{Class}
 use Rattle.bz_token.specs.declared.class.Class.TheVariants as c
 use Rattle.bz_lex.specs.declared.leaf.Leaf.{Leaf}
-use Rattle.bz_lex.specs.Gaps.{IsGap, IsOneLine, nothing, blank, escaped, escaped_return, unescaped, comment, last_comment}
+use Rattle.bz_lex.specs.Gaps.{IsGap}
 use Rattle.bz_grammar.specs.declared.kind.Kind.{Kind}
 use Rattle.bz_grammar.specs.declared.kind.Kind.TheVariants as k
 use Rattle.bz_grammar.specs.declared.tree.Part.{Part, Row_of-Part, end_of-Part, more_of-Part, Node', items-the_row-Part}
@@ -18,14 +17,15 @@ use Rattle.bz_grammar.specs.Shapes.{Nonterminal, Terminal, Fits, bzl_shape, has_
 use Rattle.bz_grammar.specs.Legal.{IsNonterminal, LegalBzlPart, LegalBzlRow}
 use Rattle.bz_grammar.specs.Spots.{Spot, Begins, Along, role, following_token, after_part, BzlGapStands, BzlStands, AtLeaves, AtRow}
 use Rattle.bz_grammar.proofs.Balance.{no_such, same_class, inner_nonterminal}
-use Rattle.bz_items.specs.Characters.{Bytes, line_feed}
+use Rattle.bz_items.specs.Characters.{Bytes}
 use Rattle.bz_value.specs.Frames.{frame}
-use Rattle.bz_value.specs.Gaps.{in_comment, as_list, all_in}
+use Rattle.bz_value.specs.Gaps.{as_list, all_in}
+use Rattle.bz_value.proofs.AlongGaps.{along}
 use Rattle.bz_hosts.specs.View.{seen, seen_row, seen_node, first_seen_gap}
 use Rattle.bz_hosts.proofs.InnerParts.{ends_line, is_inner, inner_kind, inner_tokens, every, every_part, token_inner, nonterminal_inner}
 use Rattle.bz_hosts.proofs.KeptParts.{KeptPart, AllKept, held, node_kept}
 use Rattle.bz_hosts.proofs.Pairs.{BracketedIn, node_bracketed}
-use Rattle.bz_hosts.proofs.QuietGaps.{Silent, along_silent, blank_silent}
+use Rattle.bz_hosts.proofs.QuietGaps.{Silent, along_silent}
 use Rattle.bz_hosts.proofs.SeenParts.{node_gap, seen_rows}
 use Rattle.bz_hosts.proofs.Sums.{gap_amount, leaf_amount, row_leaves}
 use Rattle.bz_bzl_value.specs.View.{stated, only_comment}
@@ -64,20 +64,12 @@ parts_silent m (more_of-Part x rest) g = (part_silent x g.0, parts_silent _ rest
 
 -- ---- right before a newline
 
-one_line : (words : Bytes) → IsOneLine words → (in_comment words).lines ≡ []
-one_line [] h = refl
-one_line (byte ∷ words) h =
-    let other : eqb byte line_feed ≡ false = grind (arith, nat_tests, h.0) in
-    rw other (one_line words h.1)
+listed : (only : Option Bytes) → as_list only ≡ as_list (only_comment (as_list only))
+listed None = refl
+listed (Some text) = refl
 
 only_one : (unclosed : Bool) (gap : Bytes) → IsGap false unclosed gap → all_in gap ≡ as_list (only_comment (all_in gap))
-only_one u gap (nothing e) = rw e refl
-only_one u gap (blank byte rest e b h) = rw e (rw (blank_silent byte rest b) (only_one u rest h))
-only_one u gap (escaped rest e h) = rw e (only_one u rest h)
-only_one u gap (escaped_return rest e h) = rw e (only_one u rest h)
-only_one u gap (unescaped rest e n h) = absurd (both_ways false refl n)
-only_one u gap (comment words rest e o n h) = absurd (both_ways false refl n)
-only_one u gap (last_comment words e o n) = rw e (rw (one_line words o) refl)
+only_one unclosed gap h = let w = along unclosed gap h in w.2 ∙ (listed w.1 ∙ ap (λ texts. as_list (only_comment texts)) (sym w.2))
 
 newline_gap : (class : Class) (gap : Bytes) → class ≡ c.Newline → BzlGapStands class Along gap → all_in gap ≡ as_list (only_comment (all_in gap))
 newline_gap class gap e h = let w = subst (λ z. BzlGapStands z Along gap) e h in only_one w.0 gap w.1

@@ -14,8 +14,7 @@ use Rattle.bz_grammar.proofs.Balance.{no_such, parts_of_row}
 use Rattle.bz_value.specs.Counted.{total, suffix_amount}
 use Rattle.bz_value.specs.Frames.{frame}
 use Rattle.bz_items.specs.Characters.{Bytes}
-use Rattle.bz_value.specs.Gaps.{all_in}
-use Rattle.bz_value.specs.Indented.{IndentedGapLine, indented}
+use Rattle.bz_value.specs.Gaps.{all_in, GapLine, lines_of, comments_in, after_first_line}
 use Rattle.bz_value.proofs.Totals.{append_total}
 use Rattle.bz_hosts.specs.View.{seen, seen_row, seen_node, first_seen_gap, last_gap}
 use Rattle.bz_hosts.proofs.InnerParts.{nonterminal_inner}
@@ -24,14 +23,14 @@ use Rattle.bz_hosts.proofs.KeptParts.{AllKept, token_part}
 use Rattle.bz_hosts.proofs.Pairs.{listed_paired, token}
 use Rattle.bz_hosts.proofs.QuietGaps.{Quiet, Statements, Silent, quiet_where}
 use Rattle.bz_hosts.proofs.SeenParts.{node_gap, seen_rows}
-use Rattle.bz_hosts.proofs.Sums.{gap_amount, suffix_total, leaves_amount, part_amount, row_leaves}
+use Rattle.bz_hosts.proofs.Sums.{gap_amount, suffix_total, lines_joined, leaves_amount, part_amount, row_leaves}
 use Rattle.bz_bzl_value.specs.declared.value.Statement.{Statement}
 use Rattle.bz_bzl_value.specs.Kept.{statement_amount}
-use Rattle.bz_bzl_value.specs.View.{ReadStatements, SuiteRead, stated, stated_row, indented_lines_before, line_read, after_first_line, walked, margin_of, suite_read, suite_in, suffix_before, only_comment, statement_read, compound_read, branches, indented_comments, end_comments, after_end, is_taken_line}
+use Rattle.bz_bzl_value.specs.View.{ReadStatements, SuiteRead, stated, stated_row, indented_lines_before, line_read, walked, margin_of, suite_read, suite_in, suffix_before, only_comment, statement_read, compound_read, branches, end_comments, after_end, is_taken_line}
 use Rattle.bz_bzl_value.proofs.KeptBranches.{Lines, Known, AsSuite, before_amount, Compound_kept, compound_kept}
 use Rattle.bz_bzl_value.proofs.KeptGaps.{parts_silent, parts_kept, newline_comment, newline_ends}
 use Rattle.bz_bzl_value.proofs.HeadParts.{after_stmt}
-use Rattle.bz_bzl_value.proofs.KeptValues.{stated_amount, compound_amount, simple_amount, lines_amount, lines_append, indented_amount, after_amount}
+use Rattle.bz_bzl_value.proofs.KeptValues.{stated_amount, compound_amount, simple_amount, lines_amount}
 use Rattle.bz_bzl_value.proofs.Parts.{part_of, parts_seen, stated_rows}
 
 module _ (number : Bytes → ℕ) where
@@ -55,8 +54,7 @@ module _ (number : Bytes → ℕ) where
   line_kept (x ∷ y ∷ xs) h g q above after =
       let made = statements_kept number above x y xs g (listed_paired s.semicolon s.newline s.small (x ∷ y ∷ xs) h) q in
       let simple = simple_amount number above (map seen (x ∷ y ∷ xs)) in
-      let following = after_amount number (last_gap (map seen (x ∷ y ∷ xs))) in
-      let both = lines_append number (after_first_line (indented (last_gap (map seen (x ∷ y ∷ xs))))) after in
+      let both = lines_joined number (after_first_line (lines_of (last_gap (map seen (x ∷ y ∷ xs))))) after in
       omega arith
 
   -- in the place of a suite nothing is before it
@@ -74,27 +72,27 @@ module _ (number : Bytes → ℕ) where
   walked_kept outer lines [] after h w at_ = omega arith
   walked_kept outer lines (x ∷ xs) after h w at_ =
       let there : AtParts BzlStands outer Begins xs = subst (λ z. AtParts BzlStands outer z xs) (after_stmt x outer Begins h.0) at_.1 in
-      let gap = ap (λ s. lines_amount number (indented s.gap)) (part_of x) ∙ indented_amount number (seen x).gap in
-      let one = w.0 h.0 at_.0 (indented_comments lines) (indented_lines_before (map stated xs) after) in
-      let left : Lines = ((stated x).statement (indented_comments lines) (indented_lines_before (map stated xs) after)).1 in
+      let gap = ap (λ s. gap_amount number s.gap) (part_of x) in
+      let one = w.0 h.0 at_.0 (comments_in lines) (indented_lines_before (map stated xs) after) in
+      let left : Lines = ((stated x).statement (comments_in lines) (indented_lines_before (map stated xs) after)).1 in
       let more = walked_kept outer left xs after h.1 w.1 there in
-      let both = append_total (statement_amount number) ((stated x).statement (indented_comments lines) (indented_lines_before (map stated xs) after)).0 (walked left (map stated xs) after).0 in
+      let both = append_total (statement_amount number) ((stated x).statement (comments_in lines) (indented_lines_before (map stated xs) after)).0 (walked left (map stated xs) after).0 in
       omega arith
 
   -- ---- suites
 
-  ends_step : (b : Bool) (m : ℕ) (x : IndentedGapLine) (xs : Lines) → total number (end_comments m xs) + lines_amount number (after_end m xs) ≡ lines_amount number xs
-      → total number (if b then indented_comments (x ∷ []) ++ end_comments m xs else []) + lines_amount number (if b then after_end m xs else x ∷ xs) ≡ lines_amount number (x ∷ xs)
+  ends_step : (b : Bool) (m : ℕ) (x : GapLine) (xs : Lines) → total number (end_comments m xs) + lines_amount number (after_end m xs) ≡ lines_amount number xs
+      → total number (if b then comments_in (x ∷ []) ++ end_comments m xs else []) + lines_amount number (if b then after_end m xs else x ∷ xs) ≡ lines_amount number (x ∷ xs)
   ends_step true m x xs h =
-      let both = append_total number (indented_comments (x ∷ [])) (end_comments m xs) in
-      let one = lines_append number (x ∷ []) xs in
+      let both = append_total number (comments_in (x ∷ [])) (end_comments m xs) in
+      let one = lines_joined number (x ∷ []) xs in
       omega arith
   ends_step false m x xs h = omega arith
 
   -- the end comments of a suite, and what is left after them
   ends_kept : (m : ℕ) (xs : Lines) → total number (end_comments m xs) + lines_amount number (after_end m xs) ≡ lines_amount number xs
   ends_kept m [] = refl
-  ends_kept m (x ∷ xs) = ends_step (is_taken_line m x.indent x.line.comment) m x xs (ends_kept m xs)
+  ends_kept m (x ∷ xs) = ends_step (is_taken_line m x.indent x.comment) m x xs (ends_kept m xs)
 
   suite_kept : (outer : Spot) (x : Part) (xs : List Part) (after : Lines) → Statement_parts (x ∷ xs) → AllByRecursion AsStatement (x ∷ xs) → AtParts BzlStands outer Begins (x ∷ xs) →
       stated_amount number (suite_read (map stated (x ∷ xs)) after).0.0 + (total number (suite_read (map stated (x ∷ xs)) after).0.1 + lines_amount number (suite_read (map stated (x ∷ xs)) after).1) ≡ total (part_amount number) (x ∷ xs) + lines_amount number after

@@ -1,24 +1,19 @@
 -- Sums of a number of each comment: of statements and headers by the lists that they hold, and of lines.
-use Rattle.std.proofs.Common.{◌≡◌, ℕ, ◌+◌, List, [], ◌∷◌, ◌++◌, refl, sym, ap, ◌∙◌, map, arith}
-use Rattle.std.proofs.lemmas.List.{map-append}
+use Rattle.std.proofs.Common.{◌≡◌, ℕ, ◌+◌, List, [], ◌∷◌, refl, sym, ap, ◌∙◌, map, arith}
 use mathlib.Core.Former.{Count}
 use Rattle.bz_value.specs.declared.value.Expr.TheVariants as e
 use Rattle.bz_value.specs.declared.value.Item.{Item}
 use Rattle.bz_value.specs.declared.value.Item.TheVariants as i
 use Rattle.bz_value.specs.Counted.{total, amount, item_amount}
 use Rattle.bz_items.specs.Characters.{Bytes}
-use Rattle.bz_value.specs.Gaps.{comments_in, after_first_comment as past_first_indented_line}
-use Rattle.bz_value.specs.Indented.{IndentedGapLine, indented}
+use Rattle.bz_value.specs.Gaps.{GapLine, comments_in}
 use Rattle.bz_hosts.specs.View.{Seen, statements_in, statement_in, blocks}
-use Rattle.bz_hosts.proofs.KeptFiles.{left_amount}
-use Rattle.bz_hosts.proofs.Sums.{gap_amount, lines_joined}
 use Rattle.bz_bzl_value.specs.declared.value.Statement.{Statement, Simple, Compound', Row_of-Statement, end_of-Statement, more_of-Statement, Row_of-Branch, end_of-Branch, more_of-Branch, items-the_row-Branch, items_hidden-the_row-Branch-1, items-the_row-Statement, items_shown-the_row-Statement-0}
 use Rattle.bz_bzl_value.specs.declared.value.Statement.TheVariants as s
 use Rattle.bz_bzl_value.specs.declared.value.Branch.{Branch}
 use Rattle.bz_bzl_value.specs.declared.value.BzlItem.TheVariants as b
 use Rattle.bz_bzl_value.specs.Kept.{statement_amount, branches_amount, statements_amount, bzl_item_amount}
-use Rattle.bz_bzl_value.specs.View.{indented_comments, after_first_line, simple_statements, bzl_item, block_items}
-use Rattle.bz_bzl_value.proofs.Lined.{plain_lines, lines_are}
+use Rattle.bz_bzl_value.specs.View.{simple_statements, bzl_item, block_items}
 
 -- the row of the headers of a statement
 abbrev pub branches_in : Statement → (m : Count) × Row_of-Branch m
@@ -79,20 +74,5 @@ module _ (number : Bytes → ℕ) where
 
   -- ---- lines
 
-  abbrev pub lines_amount : List IndentedGapLine → ℕ
-  lines_amount lines = total number (indented_comments lines)
-
-  pub lines_append : (xs ys : List IndentedGapLine) → lines_amount (xs ++ ys) ≡ lines_amount xs + lines_amount ys
-  lines_append xs ys = ap (λ ls. total number (comments_in ls)) (map-append (λ l. l.line) xs ys) ∙ lines_joined number (plain_lines xs) (plain_lines ys)
-
-  -- those of a gap
-  pub indented_amount : (gap : Bytes) → lines_amount (indented gap) ≡ gap_amount number gap
-  indented_amount gap = ap (λ ls. total number (comments_in ls)) (lines_are gap)
-
-  first_gone : (lines : List IndentedGapLine) → plain_lines (after_first_line lines) ≡ past_first_indented_line (plain_lines lines)
-  first_gone [] = refl
-  first_gone (line ∷ lines) = refl
-
-  -- and those after the first line of one
-  pub after_amount : (gap : Bytes) → lines_amount (after_first_line (indented gap)) ≡ left_amount number gap
-  after_amount gap = ap (λ ls. total number (comments_in ls)) (first_gone (indented gap) ∙ ap past_first_indented_line (lines_are gap))
+  abbrev pub lines_amount : List GapLine → ℕ
+  lines_amount lines = total number (comments_in lines)

@@ -18,7 +18,6 @@ pub mod KeptBranches
 pub mod KeptGaps
 pub mod KeptSuites
 pub mod KeptValues
-pub mod Lined
 pub mod Parts
 pub mod ProperBranches
 pub mod ProperBzl

@@ -13,10 +13,10 @@ use Rattle.bz_grammar.specs.Spots.{Begins, Along, BzlStands, AtLeaves, AtParts}
 use Rattle.bz_grammar.specs.Suites.{def_header, for_header, test_header, else_header}
 use Rattle.bz_grammar.proofs.Balance.{no_such, parts_split}
 use Rattle.bz_value.specs.declared.value.Form.{Form}
-use Rattle.bz_value.specs.Indented.{indented}
 use Rattle.bz_value.specs.LineShapes.{line_shape}
 use Rattle.bz_value.specs.Proper.{IsComment, MaybeComment}
-use Rattle.bz_value.proofs.GapComments.{Group}
+use Rattle.bz_value.proofs.GapComments.{AreFine, Group, fine_lines, fine_comments}
+use Rattle.bz_value.specs.Gaps.{lines_of, comments_in}
 use Rattle.bz_hosts.specs.View.{seen}
 use Rattle.bz_hosts.proofs.InnerParts.{is_inner}
 use Rattle.bz_hosts.proofs.RowParts.{Fit, AllFit}
@@ -24,24 +24,23 @@ use Rattle.bz_hosts.proofs.SeenParts.{Decoded, AllDecoded, all_parted}
 use Rattle.bz_bzl_value.specs.declared.value.Branch.{Branch}
 use Rattle.bz_bzl_value.specs.declared.value.Statement.{Statement}
 use Rattle.bz_bzl_value.specs.Proper.{IsHeader, AreAlternatives, AreHeaders}
-use Rattle.bz_bzl_value.specs.View.{ReadStatements, SuiteRead, stated, branches, with_suite, indented_lines_before, indented_comments}
+use Rattle.bz_bzl_value.specs.View.{ReadStatements, SuiteRead, stated, branches, with_suite, indented_lines_before}
 use Rattle.bz_bzl_value.proofs.HeadParts.{Headed, InHeader, None_before, Named, FitsHeader, colon_alone, token_in, colon_headed, test_headed, for_headed, def_headed}
 use Rattle.bz_bzl_value.proofs.KeptBranches.{Lines, Else, Elif, elif_word, else_word, after_word, header_ends}
 use Rattle.bz_bzl_value.proofs.KeptGaps.{colon_is}
 use Rattle.bz_bzl_value.proofs.Parts.{part_of}
 use Rattle.bz_bzl_value.proofs.ProperHeads.{HeadProper, HeadKnown, if_proper, for_proper, def_proper}
-use Rattle.bz_bzl_value.proofs.ProperLines.{AreFineLines, gap_lines, comments_fine}
 use Rattle.bz_bzl_value.proofs.ProperValues.{AreSome, HasSuite}
 
 -- ---- what is read of a part
 
 -- as a statement: there is at least one, all are proper, and what the lines left say is comments
 abbrev pub Reads : (List Bytes → Lines → ReadStatements (List Statement)) → Type 0
-Reads read = (above : List Bytes) (after : Lines) → Group above → AreFineLines after → AreSome (read above after).0 × AreFineLines (read above after).1
+Reads read = (above : List Bytes) (after : Lines) → Group above → AreFine after → AreSome (read above after).0 × AreFine (read above after).1
 
 -- as a suite
 abbrev pub Ends : (Lines → SuiteRead) → Type 0
-Ends read = (after : Lines) → AreFineLines after → AreSome (read after).0.0 × (Group (read after).0.1 × AreFineLines (read after).1)
+Ends read = (after : Lines) → AreFine after → AreSome (read after).0.0 × (Group (read after).0.1 × AreFine (read after).1)
 
 abbrev pub AsStatement : Part → Type 0
 AsStatement x = IsNonterminal s.stmt x → AtLeaves BzlStands Begins x → Reads (stated x).statement
@@ -68,19 +67,19 @@ all_fit [] g n = tt
 all_fit (x ∷ xs) g n = (g.0.fit n.0.1, all_fit xs g.1 n.1)
 
 -- the lines before the first of these parts, or after all
-pub before_lines : (xs : List Part) (after : Lines) → AllKnown xs → AreFineLines after → AreFineLines (indented_lines_before (map stated xs) after)
+pub before_lines : (xs : List Part) (after : Lines) → AllKnown xs → AreFine after → AreFine (indented_lines_before (map stated xs) after)
 before_lines [] after g f = f
-before_lines (x ∷ xs) after g f = subst (λ y. AreFineLines (indented y.gap)) (sym (part_of x)) (gap_lines (seen x).gap g.0.decoded.coded)
+before_lines (x ∷ xs) after g f = subst (λ y. AreFine (lines_of y.gap)) (sym (part_of x)) (fine_lines (seen x).gap g.0.decoded.coded)
 
 -- ---- headers with their suites
 
 -- these are the headers, and each suite and the lines left are proper
 abbrev pub Branched : (List Form → Type 0) → ReadStatements (List Branch) → Type 0
-Branched P read = P (map (λ x. x.head) read.0) × (AllByRecursion HasSuite read.0 × AreFineLines read.1)
+Branched P read = P (map (λ x. x.head) read.0) × (AllByRecursion HasSuite read.0 × AreFine read.1)
 
 -- of what is read of these parts
 abbrev pub Branches : (List Form → Type 0) → Kind → List Part → Type 0
-Branches P kind xs = (above : List Bytes) (left after : Lines) → Group above → AreFineLines left → AreFineLines after → Branched P (branches kind [] above left (map stated xs) after)
+Branches P kind xs = (above : List Bytes) (left after : Lines) → Group above → AreFine left → AreFine after → Branched P (branches kind [] above left (map stated xs) after)
 
 -- a header, and after it what P says
 abbrev pub HeadThen : Kind → Shape → (List Form → Type 0) → List Form → Type 0
@@ -92,8 +91,8 @@ one_branch : (kind : Kind) (shape : Shape) (P : List Form → Type 0) (xs : List
 one_branch kind shape P xs mark own back n c w o g b above left after a l f =
     let lines : Lines = indented_lines_before (map stated back) after in
     let read : SuiteRead = (stated own).suite lines in
-    let suite : AreSome read.0.0 × (Group read.0.1 × AreFineLines read.1) = o.1 lines (before_lines back after g f) in
-    let following : Branched P (branches kind [] (indented_comments read.1) read.1 (map stated back) after) = b (indented_comments read.1) read.1 after (comments_fine read.1 suite.1.1) suite.1.1 f in
+    let suite : AreSome read.0.0 × (Group read.0.1 × AreFine read.1) = o.1 lines (before_lines back after g f) in
+    let following : Branched P (branches kind [] (comments_in read.1) read.1 (map stated back) after) = b (comments_in read.1) read.1 after (fine_comments read.1 suite.1.1) suite.1.1 f in
     let all : Branched (HeadThen kind shape P) (with_suite kind (map seen xs) above left (stated own ∷ map stated back) after) =
     ((w above (stated own).suffix a o.0, following.0), (((suite.0, All-from_recursion IsComment read.0.1 suite.1.0), following.1.0), following.1.1)) in
     subst (Branched (HeadThen kind shape P)) (sym (header_ends kind above left xs mark own back after n c)) all

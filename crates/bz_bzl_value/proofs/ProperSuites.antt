@@ -16,12 +16,11 @@ use Rattle.bz_grammar.specs.Spots.{Spot, Begins, Along, onward, after_part, BzlS
 use Rattle.bz_grammar.proofs.Balance.{no_such, parts_of_row}
 use Rattle.bz_value.specs.Comments.{HostComments}
 use Rattle.bz_value.specs.Frames.{Frame, row, sequence, frame}
-use Rattle.bz_value.specs.Gaps.{suffix_in, all_in}
-use Rattle.bz_value.specs.Indented.{indented}
+use Rattle.bz_value.specs.Gaps.{suffix_in, all_in, lines_of, comments_in, after_first_line}
 use Rattle.bz_value.specs.LineShapes.{line_shape}
 use Rattle.bz_value.specs.Proper.{IsComment, MaybeComment, AreComments}
 use Rattle.bz_value.proofs.Begun.{moved_expr}
-use Rattle.bz_value.proofs.GapComments.{Group, all_joined, suffix_fine, all_fine}
+use Rattle.bz_value.proofs.GapComments.{AreFine, Group, all_joined, fine_lines, fine_comments, fine_after, suffix_fine, all_fine}
 use Rattle.bz_hosts.specs.View.{Seen, seen, seen_row, seen_node, last_gap, statements_in}
 use Rattle.bz_hosts.proofs.InnerParts.{nonterminal_inner, nonterminal_goes, token_goes}
 use Rattle.bz_hosts.proofs.ProperFiles.{last_decoded}
@@ -32,13 +31,13 @@ use Rattle.bz_hosts.proofs.SeenParts.{all_parted, comments_made, part_decoded}
 use Rattle.bz_bzl_value.specs.declared.value.Statement.{Statement}
 use Rattle.bz_bzl_value.specs.declared.value.Statement.TheVariants as st
 use Rattle.bz_bzl_value.specs.Proper.{is_simple, has_simple_kind, IsProperStatement}
-use Rattle.bz_bzl_value.specs.View.{ReadStatements, stated, simple_statements, line_read, indented_lines_before, after_first_line, walked, margin_of, suite_read, suite_in, suffix_before, only_comment, statement_read, compound_read, branches, indented_comments}
+use Rattle.bz_bzl_value.specs.View.{ReadStatements, stated, simple_statements, line_read, indented_lines_before, walked, margin_of, suite_read, suite_in, suffix_before, only_comment, statement_read, compound_read, branches}
 use Rattle.bz_bzl_value.proofs.HeadParts.{after_stmt}
 use Rattle.bz_bzl_value.proofs.KeptBranches.{Lines}
 use Rattle.bz_bzl_value.proofs.KeptGaps.{newline_ends}
 use Rattle.bz_bzl_value.proofs.Parts.{part_of, parts_seen, stated_rows}
 use Rattle.bz_bzl_value.proofs.ProperBranches.{Reads, Ends, Known, AllKnown, all_decoded, before_lines, Compound, compound_statement}
-use Rattle.bz_bzl_value.proofs.ProperLines.{AreFineLines, gap_lines, lines_joined, lines_after, comments_fine, only_fine, ends_fine}
+use Rattle.bz_bzl_value.proofs.ProperLines.{only_fine, ends_fine}
 use Rattle.bz_bzl_value.proofs.ProperValues.{HasSome, AreSome, some_joined, compound_proper}
 
 -- ---- simple statements
@@ -88,8 +87,8 @@ simple_some outer here above (x ∷ y ∷ z ∷ u ∷ xs) e (h, inr (m, inl j)) 
 line_reads : (outer here : Spot) (xs : List Part) → onward here ≡ onward Begins → Statements xs → AllKnown xs → AtParts BzlStands outer here xs → Reads (line_read (map seen xs))
 line_reads outer here xs e h g at_ above after a f =
     let gap : Bytes = last_gap (map seen xs) in
-    let following : AreFineLines (after_first_line (indented gap)) = lines_after (indented gap) (gap_lines gap (last_decoded (map seen xs) (all_decoded xs g))) in
-    (simple_some outer here above xs e h g at_ a, lines_joined (after_first_line (indented gap)) after following f)
+    let following : AreFine (after_first_line (lines_of gap)) = fine_after (lines_of gap) (fine_lines gap (last_decoded (map seen xs) (all_decoded xs g))) in
+    (simple_some outer here above xs e h g at_ a, all_joined (λ line. MaybeComment line.comment) (after_first_line (lines_of gap)) after following f)
 
 -- ---- statements one after the other
 
@@ -98,22 +97,22 @@ StatementParts xs = AllByRecursion (λ x. IsNonterminal s.stmt x) xs
 
 -- the statements are proper, and what the lines left say is comments
 abbrev Walks : ReadStatements (List Statement) → Type 0
-Walks read = AllByRecursion IsProperStatement read.0 × AreFineLines read.1
+Walks read = AllByRecursion IsProperStatement read.0 × AreFine read.1
 
-walked_proper : (outer : Spot) (lines : Lines) (xs : List Part) (after : Lines) → AreFineLines lines → StatementParts xs → AllKnown xs → AtParts BzlStands outer Begins xs → AreFineLines after → Walks (walked lines (map stated xs) after)
+walked_proper : (outer : Spot) (lines : Lines) (xs : List Part) (after : Lines) → AreFine lines → StatementParts xs → AllKnown xs → AtParts BzlStands outer Begins xs → AreFine after → Walks (walked lines (map stated xs) after)
 walked_proper outer lines [] after l h g at_ f = (tt, l)
 walked_proper outer lines (x ∷ xs) after l h g at_ f =
     let there : AtParts BzlStands outer Begins xs = subst (λ z. AtParts BzlStands outer z xs) (after_stmt x outer Begins h.0) at_.1 in
-    let read : ReadStatements (List Statement) = (stated x).statement (indented_comments lines) (indented_lines_before (map stated xs) after) in
-    let one : AreSome read.0 × AreFineLines read.1 = g.0.statement h.0 at_.0 (indented_comments lines) (indented_lines_before (map stated xs) after) (comments_fine lines l) (before_lines xs after g.1 f) in
+    let read : ReadStatements (List Statement) = (stated x).statement (comments_in lines) (indented_lines_before (map stated xs) after) in
+    let one : AreSome read.0 × AreFine read.1 = g.0.statement h.0 at_.0 (comments_in lines) (indented_lines_before (map stated xs) after) (fine_comments lines l) (before_lines xs after g.1 f) in
     let more : Walks (walked read.1 (map stated xs) after) = walked_proper outer read.1 xs after one.1 h.1 g.1 there f in
     (all_joined IsProperStatement read.0 (walked read.1 (map stated xs) after).0 one.0.1 more.0, more.1)
 
 -- and there is at least one
-walked_some : (lines : Lines) (x : Part) (xs : List Part) (after : Lines) → AreFineLines lines → IsNonterminal s.stmt x → Known x → AllKnown xs → AtLeaves BzlStands Begins x → AreFineLines after → HasSome (walked lines (map stated (x ∷ xs)) after).0
+walked_some : (lines : Lines) (x : Part) (xs : List Part) (after : Lines) → AreFine lines → IsNonterminal s.stmt x → Known x → AllKnown xs → AtLeaves BzlStands Begins x → AreFine after → HasSome (walked lines (map stated (x ∷ xs)) after).0
 walked_some lines x xs after l h g i at_ f =
-    let read : ReadStatements (List Statement) = (stated x).statement (indented_comments lines) (indented_lines_before (map stated xs) after) in
-    let one : AreSome read.0 × AreFineLines read.1 = g.statement h at_ (indented_comments lines) (indented_lines_before (map stated xs) after) (comments_fine lines l) (before_lines xs after i f) in
+    let read : ReadStatements (List Statement) = (stated x).statement (comments_in lines) (indented_lines_before (map stated xs) after) in
+    let one : AreSome read.0 × AreFine read.1 = g.statement h at_ (comments_in lines) (indented_lines_before (map stated xs) after) (fine_comments lines l) (before_lines xs after i f) in
     some_joined read.0 (walked read.1 (map stated xs) after).0 one.0.0
 
 -- ---- suites
@@ -121,7 +120,7 @@ walked_some lines x xs after l h g i at_ f =
 suite_reads : (outer : Spot) (x : Part) (xs : List Part) → StatementParts (x ∷ xs) → AllKnown (x ∷ xs) → AtParts BzlStands outer Begins (x ∷ xs) → Ends (suite_read (map stated (x ∷ xs)))
 suite_reads outer x xs h g at_ after f =
     let lines : Lines = indented_lines_before (map stated (x ∷ xs)) [] in
-    let fine : AreFineLines lines = before_lines (x ∷ xs) [] g tt in
+    let fine : AreFine lines = before_lines (x ∷ xs) [] g tt in
     let all : Walks (walked lines (map stated (x ∷ xs)) after) = walked_proper outer lines (x ∷ xs) after fine h g at_ f in
     ((walked_some lines x xs after fine h.0 g.0 g.1 at_.0 f, all.0), ends_fine (margin_of (map stated (x ∷ xs))) (walked lines (map stated (x ∷ xs)) after).1 all.1)
 

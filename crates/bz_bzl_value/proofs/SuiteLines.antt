@@ -5,15 +5,14 @@ use Rattle.std.proofs.lemmas.Bool.{cases_Bool, cond-false, ne_eqb}
 use Rattle.std.proofs.lemmas.Bool.Decides.{nat_tests}
 use Rattle.bz_lex.specs.declared.leaf.Leaf.{Leaf}
 use Rattle.bz_items.specs.Characters.{Bytes}
-use Rattle.bz_value.specs.Gaps.{as_list, comments_in}
-use Rattle.bz_value.specs.Indented.{IndentedGapLine, indented}
+use Rattle.bz_value.specs.Gaps.{GapLine, as_list, comments_in, lines_of}
 use Rattle.bz_hosts.specs.Hosts.{leaf_gap}
 use Rattle.bz_hosts.proofs.Walked.{gap_of, last_gap}
 use Rattle.bz_bzl_value.specs.BzlHosts.{Suite, is_further_out, reach, left_by, lines_above}
-use Rattle.bz_bzl_value.specs.View.{indented_comments, is_taken_line, end_comments, after_end}
+use Rattle.bz_bzl_value.specs.View.{is_taken_line, end_comments, after_end}
 
 abbrev pub Lines : Type 0
-Lines = List IndentedGapLine
+Lines = List GapLine
 
 -- ---- what a suite takes
 
@@ -24,27 +23,27 @@ opposite margin indent (Some text) = elim (cases_Bool (nat_le margin indent)) [
   | inr e ↦ let e' : nat_lt indent margin ≡ true = grind (arith, nat_tests, e) in rw (e, e') refl
 ]
 
-ends_step : (b : Bool) (m : ℕ) (x : IndentedGapLine) (xs : Lines) → end_comments m xs ≡ comments_in (map (λ l. l.line) (take (reach m xs) xs))
-    → (if b then indented_comments (x ∷ []) ++ end_comments m xs else []) ≡ comments_in (map (λ l. l.line) (take (if not b then 0 else suc (reach m xs)) (x ∷ xs)))
+ends_step : (b : Bool) (m : ℕ) (x : GapLine) (xs : Lines) → end_comments m xs ≡ comments_in ((take (reach m xs) xs))
+    → (if b then comments_in (x ∷ []) ++ end_comments m xs else []) ≡ comments_in ((take (if not b then 0 else suc (reach m xs)) (x ∷ xs)))
 ends_step true m x xs h =
-    ap (λ (t : List Bytes). (as_list x.line.comment ++ []) ++ t) h ∙ ap (λ (t : List Bytes). t ++ comments_in (map (λ l. l.line) (take (reach m xs) xs))) (append-nil (as_list x.line.comment))
+    ap (λ (t : List Bytes). (as_list x.comment ++ []) ++ t) h ∙ ap (λ (t : List Bytes). t ++ comments_in ((take (reach m xs) xs))) (append-nil (as_list x.comment))
 ends_step false m x xs h = refl
 
-pub ends_are : (m : ℕ) (xs : Lines) → end_comments m xs ≡ comments_in (map (λ l. l.line) (take (reach m xs) xs))
+pub ends_are : (m : ℕ) (xs : Lines) → end_comments m xs ≡ comments_in ((take (reach m xs) xs))
 ends_are m [] = refl
 ends_are m (x ∷ xs) =
-    ends_step (is_taken_line m x.indent x.line.comment) m x xs (ends_are m xs)
-    ∙ ap (λ (t : Bool). comments_in (map (λ l. l.line) (take (if t then 0 else suc (reach m xs)) (x ∷ xs)))) (sym (opposite m x.indent x.line.comment))
+    ends_step (is_taken_line m x.indent x.comment) m x xs (ends_are m xs)
+    ∙ ap (λ (t : Bool). comments_in ((take (if t then 0 else suc (reach m xs)) (x ∷ xs)))) (sym (opposite m x.indent x.comment))
 
-rest_step : (b : Bool) (m : ℕ) (x : IndentedGapLine) (xs : Lines) → after_end m xs ≡ drop (reach m xs) xs → (if b then after_end m xs else x ∷ xs) ≡ drop (if not b then 0 else suc (reach m xs)) (x ∷ xs)
+rest_step : (b : Bool) (m : ℕ) (x : GapLine) (xs : Lines) → after_end m xs ≡ drop (reach m xs) xs → (if b then after_end m xs else x ∷ xs) ≡ drop (if not b then 0 else suc (reach m xs)) (x ∷ xs)
 rest_step true m x xs h = h
 rest_step false m x xs h = refl
 
 pub rest_is : (m : ℕ) (xs : Lines) → after_end m xs ≡ drop (reach m xs) xs
 rest_is m [] = refl
 rest_is m (x ∷ xs) =
-    rest_step (is_taken_line m x.indent x.line.comment) m x xs (rest_is m xs)
-    ∙ ap (λ (t : Bool). drop (if t then 0 else suc (reach m xs)) (x ∷ xs)) (sym (opposite m x.indent x.line.comment))
+    rest_step (is_taken_line m x.indent x.comment) m x xs (rest_is m xs)
+    ∙ ap (λ (t : Bool). drop (if t then 0 else suc (reach m xs)) (x ∷ xs)) (sym (opposite m x.indent x.comment))
 
 -- ---- what several suites leave
 
@@ -101,9 +100,9 @@ pub first_at : (back : List Leaf) → leaf_gap back zero ≡ gap_of back
 first_at [] = refl
 first_at (l ∷ ls) = refl
 
-pub lines_at : (ls back : List Leaf) → 0 < length ls → lines_above (ls ++ back) (length ls) ≡ drop 1 (indented (last_gap ls)) ++ indented (gap_of back)
+pub lines_at : (ls back : List Leaf) → 0 < length ls → lines_above (ls ++ back) (length ls) ≡ drop 1 (lines_of (last_gap ls)) ++ lines_of (gap_of back)
 lines_at [] back h = absurd (omega arith)
-lines_at (l ∷ []) back h = ap (λ (g : Bytes). drop 1 (indented l.gap) ++ indented g) (first_at back)
+lines_at (l ∷ []) back h = ap (λ (g : Bytes). drop 1 (lines_of l.gap) ++ lines_of g) (first_at back)
 lines_at (l ∷ m ∷ ls) back h = lines_at (m ∷ ls) back (omega arith)
 
 pub gap_joined : (ls back : List Leaf) → 0 < length ls → gap_of (ls ++ back) ≡ gap_of ls

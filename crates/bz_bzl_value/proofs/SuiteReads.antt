@@ -11,7 +11,7 @@ use Rattle.bz_grammar.specs.Spell.{leaves_part}
 use Rattle.bz_grammar.specs.Legal.{IsNonterminal}
 use Rattle.bz_grammar.proofs.Balance.{no_such}
 use Rattle.bz_items.specs.Characters.{Bytes}
-use Rattle.bz_value.specs.Indented.{indented}
+use Rattle.bz_value.specs.Gaps.{after_first_line, lines_of}
 use Rattle.bz_hosts.specs.View.{seen, seen_row, first_seen_gap, statements_in}
 use Rattle.bz_hosts.specs.View as v
 use Rattle.bz_hosts.specs.Hosts.{measured}
@@ -19,7 +19,7 @@ use Rattle.bz_hosts.proofs.Parts.{Solid}
 use Rattle.bz_hosts.proofs.QuietGaps.{Statements}
 use Rattle.bz_hosts.proofs.Walked.{gap_of, last_gap, last_after}
 use Rattle.bz_bzl_value.specs.BzlHosts.{placed}
-use Rattle.bz_bzl_value.specs.View.{stated, line_read, after_first_line}
+use Rattle.bz_bzl_value.specs.View.{stated, line_read}
 use Rattle.bz_bzl_value.proofs.Parts.{part_of, parts_seen}
 use Rattle.bz_bzl_value.proofs.SuiteLines.{Lines}
 
@@ -85,10 +85,10 @@ module _ (xs : List Part) (h : Statements xs) where
       omega arith
 
 -- the lines that a line leaves
-pub line_left : (group : List Bytes) (xs : List Part) → Statements xs → (after : Lines) → (line_read (map (λ x. x.part) (map stated xs)) group after).1 ≡ drop 1 (indented (last_gap (flat_map leaves_part xs))) ++ after
+pub line_left : (group : List Bytes) (xs : List Part) → Statements xs → (after : Lines) → (line_read (map (λ x. x.part) (map stated xs)) group after).1 ≡ drop 1 (lines_of (last_gap (flat_map leaves_part xs))) ++ after
 line_left group xs h after =
     let w : LastLeaf xs = listed_last xs h in
     let last_same : v.last_gap (map seen xs) ≡ last_gap (flat_map leaves_part xs) =
     ap (λ (z : List Part). v.last_gap (map seen z)) w.cut ∙ (seen_last w.front w.leaf ∙ sym (ap last_gap (cut xs h) ∙ last_after (flat_map leaves_part w.front) w.leaf [])) in
-    ap (λ ss. after_first_line (indented (v.last_gap ss)) ++ after) (parts_seen xs)
-    ∙ (ap (λ (g : Bytes). after_first_line (indented g) ++ after) last_same ∙ ap (λ (z : Lines). z ++ after) (first_gone (indented (last_gap (flat_map leaves_part xs)))))
+    ap (λ ss. after_first_line (lines_of (v.last_gap ss)) ++ after) (parts_seen xs)
+    ∙ (ap (λ (g : Bytes). after_first_line (lines_of g) ++ after) last_same ∙ ap (λ (z : Lines). z ++ after) (first_gone (lines_of (last_gap (flat_map leaves_part xs)))))

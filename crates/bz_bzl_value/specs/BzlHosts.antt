@@ -16,8 +16,7 @@ use Rattle.bz_grammar.specs.Shapes.{has_token, is_kind}
 use Rattle.bz_value.specs.declared.value.Expr.{Expr}
 use Rattle.bz_value.specs.declared.value.Form.{Form}
 use Rattle.bz_items.specs.Characters.{Bytes}
-use Rattle.bz_value.specs.Gaps.{GapLine, comments_in, all_in}
-use Rattle.bz_value.specs.Indented.{IndentedGapLine, indented}
+use Rattle.bz_value.specs.Gaps.{GapLine, all_in, comments_in, lines_of}
 use Rattle.bz_value.specs.Proper.{comments_of}
 use Rattle.bz_hosts.specs.Hosts.{Comment, comments_from, Region, host, between, Measured, sizes, measured, in_row, hosts_from, above, texts_at, Hosted, block, hosted, ended, hosted_at, hosts_alone, with_group, leaf_gap, right_above, bare_lines, hosted_by, inside_expr}
 use Rattle.bz_bzl_value.specs.declared.value.Statement.{Statement, Simple, Compound', Row_of-Statement, end_of-Statement, more_of-Statement, Row_of-Branch, end_of-Branch, more_of-Branch}
@@ -107,33 +106,33 @@ pub record Page : Type 0 where
 
 -- The lines before a leaf that begins a statement or a header, or is the end: those of its gap, and before them those in the gap
 -- of the Newline before it, but for that gap's first.
-abbrev pub lines_above : List Leaf → ℕ → List IndentedGapLine
-lines_above leaves zero = indented (leaf_gap leaves zero)
-lines_above leaves (suc n) = drop 1 (indented (leaf_gap leaves n)) ++ indented (leaf_gap leaves (suc n))
+abbrev pub lines_above : List Leaf → ℕ → List GapLine
+lines_above leaves zero = lines_of (leaf_gap leaves zero)
+lines_above leaves (suc n) = drop 1 (lines_of (leaf_gap leaves n)) ++ lines_of (leaf_gap leaves (suc n))
 
 abbrev pub is_further_out : ℕ → ℕ → Option Bytes → Bool
 is_further_out margin indent None = false
 is_further_out margin indent (Some comment) = nat_lt indent margin
 
 -- how many lines are before the first comment line that is indented less than the margin
-abbrev pub reach : ℕ → List IndentedGapLine → ℕ
+abbrev pub reach : ℕ → List GapLine → ℕ
 reach margin [] = 0
-reach margin (l ∷ lines) = if is_further_out margin l.indent l.line.comment then 0 else suc (reach margin lines)
+reach margin (l ∷ lines) = if is_further_out margin l.indent l.comment then 0 else suc (reach margin lines)
 
 -- The lines before a leaf that are left by the suites that end there and begin after another one: the innermost takes those up
 -- to the first comment line that is indented less than its margin; the next one takes of what is left; and so on.
-abbrev pub left_by : ℕ → ℕ → List Suite → List IndentedGapLine → List IndentedGapLine
+abbrev pub left_by : ℕ → ℕ → List Suite → List GapLine → List GapLine
 left_by after n [] lines = lines
 left_by after n (own ∷ suites) lines =
-    let left : List IndentedGapLine = left_by after n suites lines in
+    let left : List GapLine = left_by after n suites lines in
     if nat_lt after own.first && nat_eq own.following n then drop (reach own.margin left) left else left
 
 -- the end comments of a suite: what it takes of what the suites in it leave
 abbrev pub suite_end : Page → Option Suite → List Bytes
 suite_end page None = []
 suite_end page (Some own) =
-    let lines : List IndentedGapLine = left_by own.first own.following page.suites (lines_above page.leaves own.following) in
-    comments_in (map (λ l. l.line) (take (reach own.margin lines) lines))
+    let lines : List GapLine = left_by own.first own.following page.suites (lines_above page.leaves own.following) in
+    comments_in ((take (reach own.margin lines) lines))
 
 abbrev pub begins_suite : ℕ → List Suite → Bool
 begins_suite n [] = false
@@ -141,7 +140,7 @@ begins_suite n (own ∷ suites) = nat_eq own.first n || begins_suite n suites
 
 -- the lines before a leaf that are left by all suites that end there
 abbrev pub left_above : Page → ℕ → List GapLine
-left_above page n = map (λ l. l.line) (left_by 0 n page.suites (lines_above page.leaves n))
+left_above page n = (left_by 0 n page.suites (lines_above page.leaves n))
 
 -- The comment lines above a statement in a suite or a header: all that are left; above the first statement of a suite those of
 -- its gap, since what is in the gap of the newline before it is the header's.

@@ -8,23 +8,22 @@ use Rattle.bz_grammar.specs.declared.tree.Part.TheVariants as p
 use Rattle.bz_grammar.specs.Spell.{leaves_part, limit}
 use Rattle.bz_grammar.specs.Legal.{ReadsBzl}
 use Rattle.bz_grammar.specs.Joined.{AreWholeLines}
-use Rattle.bz_value.specs.Gaps.{groups_of, last_group}
-use Rattle.bz_value.specs.Indented.{IndentedGapLine}
-use Rattle.bz_bzl_value.specs.View.{stated, indented_comments, indented_lines_before, bzl_view_of}
+use Rattle.bz_value.specs.Gaps.{groups_of, last_group, GapLine, comments_in}
+use Rattle.bz_bzl_value.specs.View.{stated, indented_lines_before, bzl_view_of}
 
 -- What a statement of a file takes neither of the lines before it nor of those after it.
-abbrev pub lines_after : List IndentedGapLine → Part → List IndentedGapLine → List IndentedGapLine
+abbrev pub lines_after : List GapLine → Part → List GapLine → List GapLine
 lines_after lines (p.Leaf l) after = []
-lines_after lines (Node' kind size row) after = ((stated (Node' kind size row)).statement (last_group (groups_of (map (λ l. l.line) lines))) after).1
+lines_after lines (Node' kind size row) after = ((stated (Node' kind size row)).statement (last_group (groups_of lines)) after).1
 
 -- The lines that are left before the last of these parts, the end of a file. lines: those before the first.
-abbrev pub lines_at_end : List IndentedGapLine → List Part → List IndentedGapLine
+abbrev pub lines_at_end : List GapLine → List Part → List GapLine
 lines_at_end lines [] = lines
 lines_at_end lines (x ∷ []) = lines
 lines_at_end lines (x ∷ y ∷ xs) = lines_at_end (lines_after lines x (indented_lines_before (map stated (y ∷ xs)) [])) (y ∷ xs)
 
 -- the lines before the first token of a file
-abbrev pub first_lines : Node → List IndentedGapLine
+abbrev pub first_lines : Node → List GapLine
 first_lines n = indented_lines_before (map stated n.parts) []
 
 -- A file whose text ends with the newline of its last statement, which leaves no line to what follows; or that is empty.
@@ -38,7 +37,7 @@ pub record EndsWithStatement (n : Node) : Type 0 where
 
 -- No comment is before the first token of the file, so that no suite above takes one.
 abbrev pub BeginsBare : Node → Type 0
-BeginsBare n = indented_comments (first_lines n) ≡ []
+BeginsBare n = comments_in (first_lines n) ≡ []
 
 -- A text that begins without comments after one that ends with a statement: both joined read as a file that says what the one
 -- says and then what the other one says, and which ends with a statement where the other one does.

@@ -11,8 +11,7 @@ use Rattle.bz_value.specs.declared.value.Form.{Form}
 use Rattle.bz_value.specs.declared.value.Item.{Item}
 use Rattle.bz_value.specs.declared.value.Item.TheVariants as i
 use Rattle.bz_items.specs.Characters.{Bytes}
-use Rattle.bz_value.specs.Gaps.{comments_in, all_in, groups_of, all_but_last, last_group}
-use Rattle.bz_value.specs.Indented.{IndentedGapLine, indented}
+use Rattle.bz_value.specs.Gaps.{GapLine, lines_of, comments_in, after_first_line, all_in, groups_of, all_but_last, last_group}
 use Rattle.bz_hosts.specs.View.{Seen, seen, plain, first_seen_gap, last_gap, loose_in, row_exprs, items_in, is_split, statements_in, blocks}
 use Rattle.bz_bzl_value.specs.declared.value.Statement.{Statement}
 use Rattle.bz_bzl_value.specs.declared.value.Statement.TheVariants as s
@@ -22,35 +21,26 @@ use Rattle.bz_bzl_value.specs.declared.value.BzlItem.TheVariants as b
 
 -- ---- lines
 
--- the comments of lines, in their order
-abbrev pub indented_comments : List IndentedGapLine → List Bytes
-indented_comments lines = comments_in (map (λ l. l.line) lines)
-
--- the lines after the first one of a gap
-abbrev pub after_first_line : List IndentedGapLine → List IndentedGapLine
-after_first_line [] = []
-after_first_line (line ∷ lines) = lines
-
 -- Of the comment lines after the last statement of a suite with an indent of this length: its end comments are those up to the
 -- first one that is indented less.
 abbrev pub is_taken_line : ℕ → ℕ → Option Bytes → Bool
 is_taken_line margin indent None = true
 is_taken_line margin indent (Some comment) = nat_le margin indent
 
-abbrev pub end_comments : ℕ → List IndentedGapLine → List Bytes
+abbrev pub end_comments : ℕ → List GapLine → List Bytes
 end_comments margin [] = []
-end_comments margin (l ∷ lines) = if is_taken_line margin l.indent l.line.comment then indented_comments (l ∷ []) ++ end_comments margin lines else []
+end_comments margin (l ∷ lines) = if is_taken_line margin l.indent l.comment then comments_in (l ∷ []) ++ end_comments margin lines else []
 
 -- what is left of the lines after them
-abbrev pub after_end : ℕ → List IndentedGapLine → List IndentedGapLine
+abbrev pub after_end : ℕ → List GapLine → List GapLine
 after_end margin [] = []
-after_end margin (l ∷ lines) = if is_taken_line margin l.indent l.line.comment then after_end margin lines else l ∷ lines
+after_end margin (l ∷ lines) = if is_taken_line margin l.indent l.comment then after_end margin lines else l ∷ lines
 
 -- ---- parts
 
 -- What statements were read, and the lines that are left of those after them.
 abbrev pub ReadStatements : Type 0 → Type 0
-ReadStatements X = X × List IndentedGapLine
+ReadStatements X = X × List GapLine
 
 -- the statements of a suite, and its end comments
 abbrev pub SuiteRead : Type 0
@@ -62,13 +52,13 @@ pub record Stated : Type 0 where
   pub part : Seen
   pub is_colon : Bool
   pub suffix : Option Bytes
-  pub statement : List Bytes → List IndentedGapLine → ReadStatements (List Statement)
-  pub suite : List IndentedGapLine → SuiteRead
+  pub statement : List Bytes → List GapLine → ReadStatements (List Statement)
+  pub suite : List GapLine → SuiteRead
 
 -- the lines right before the first of these parts; where there is none, those that are after all
-abbrev pub indented_lines_before : List Stated → List IndentedGapLine → List IndentedGapLine
+abbrev pub indented_lines_before : List Stated → List GapLine → List GapLine
 indented_lines_before [] after = after
-indented_lines_before (x ∷ xs) after = indented x.part.gap
+indented_lines_before (x ∷ xs) after = lines_of x.part.gap
 
 -- ---- lines of simple statements
 
@@ -78,16 +68,16 @@ simple_statements (i.Block texts ∷ items) = simple_statements items
 simple_statements (i.Stmt x ∷ items) = s.Simple x ∷ simple_statements items
 
 -- What is in the gap of a Newline after its first line is before what follows.
-abbrev pub line_read : List Seen → List Bytes → List IndentedGapLine → ReadStatements (List Statement)
-line_read ss above after = (simple_statements (statements_in above ss), after_first_line (indented (last_gap ss)) ++ after)
+abbrev pub line_read : List Seen → List Bytes → List GapLine → ReadStatements (List Statement)
+line_read ss above after = (simple_statements (statements_in above ss), after_first_line (lines_of (last_gap ss)) ++ after)
 
 -- ---- statements one after the other
 
 -- above: the lines before the first of them; after: those after the last
-abbrev pub walked : List IndentedGapLine → List Stated → List IndentedGapLine → ReadStatements (List Statement)
+abbrev pub walked : List GapLine → List Stated → List GapLine → ReadStatements (List Statement)
 walked above [] after = ([], above)
 walked above (x ∷ xs) after =
-    let one : ReadStatements (List Statement) = x.statement (indented_comments above) (indented_lines_before xs after) in
+    let one : ReadStatements (List Statement) = x.statement (comments_in above) (indented_lines_before xs after) in
     let more : ReadStatements (List Statement) = walked one.1 xs after in
     (one.0 ++ more.0, more.1)
 
@@ -98,7 +88,7 @@ abbrev pub margin_of : List Stated → ℕ
 margin_of xs = length (indent (first_seen_gap (map (λ x. x.part) xs)))
 
 -- the statements after a suite's newline
-abbrev pub suite_read : List Stated → List IndentedGapLine → SuiteRead
+abbrev pub suite_read : List Stated → List GapLine → SuiteRead
 suite_read xs after =
     let all : ReadStatements (List Statement) = walked (indented_lines_before xs []) xs after in
     ((all.0, end_comments (margin_of xs) all.1), after_end (margin_of xs) all.1)
@@ -135,16 +125,16 @@ head kind ss above suffix = if is_kind kind k.Def then def_head ss above suffix 
 -- The headers of a statement, each with its suite. parts: those of the header so far; above: the comments above the header;
 -- left: the lines that are left where no header follows.
 abbrev mutual
-  pub branches : Kind → List Seen → List Bytes → List IndentedGapLine → List Stated → List IndentedGapLine → ReadStatements (List Branch)
+  pub branches : Kind → List Seen → List Bytes → List GapLine → List Stated → List GapLine → ReadStatements (List Branch)
   branches kind parts above left [] after = ([], left)
   branches kind parts above left (x ∷ xs) after =
       if x.is_colon then with_suite kind parts above left xs after else branches kind (parts ++ x.part ∷ []) above left xs after
 
-  pub with_suite : Kind → List Seen → List Bytes → List IndentedGapLine → List Stated → List IndentedGapLine → ReadStatements (List Branch)
+  pub with_suite : Kind → List Seen → List Bytes → List GapLine → List Stated → List GapLine → ReadStatements (List Branch)
   with_suite kind parts above left [] after = ([], left)
   with_suite kind parts above left (x ∷ xs) after =
       let own : SuiteRead = x.suite (indented_lines_before xs after) in
-      let more : ReadStatements (List Branch) = branches kind [] (indented_comments own.1) own.1 xs after in
+      let more : ReadStatements (List Branch) = branches kind [] (comments_in own.1) own.1 xs after in
       (record { head = head kind parts above x.suffix; statements = own.0.0; end = own.0.1 } ∷ more.0, more.1)
 
 -- ---- parts of each kind
@@ -152,18 +142,18 @@ abbrev mutual
 abbrev pub is_compound : Kind → Bool
 is_compound kind = is_kind kind k.Def || (is_kind kind k.IfStmt || is_kind kind k.ForStmt)
 
-abbrev pub compound_read : Kind → List Stated → List Bytes → List IndentedGapLine → ReadStatements (List Statement)
+abbrev pub compound_read : Kind → List Stated → List Bytes → List GapLine → ReadStatements (List Statement)
 compound_read kind xs above after =
     let all : ReadStatements (List Branch) = branches kind [] above after xs after in
     (s.Compound all.0 ∷ [], all.1)
 
-abbrev pub statement_read : Kind → List Stated → List Bytes → List IndentedGapLine → ReadStatements (List Statement)
+abbrev pub statement_read : Kind → List Stated → List Bytes → List GapLine → ReadStatements (List Statement)
 statement_read kind xs above after =
     if is_kind kind k.Line then line_read (map (λ x. x.part) xs) above after
     else (if is_compound kind then compound_read kind xs above after else ([], after))
 
 -- a suite, or a line in its place
-abbrev pub suite_in : Kind → List Stated → List IndentedGapLine → SuiteRead
+abbrev pub suite_in : Kind → List Stated → List GapLine → SuiteRead
 suite_in kind xs after =
     if is_kind kind k.Line then (((line_read (map (λ x. x.part) xs) [] after).0, []), (line_read (map (λ x. x.part) xs) [] after).1)
     else (if is_kind kind k.Suite then suite_read (drop 1 xs) after else (([], []), after))
@@ -206,11 +196,11 @@ block_items groups = map bzl_item (blocks groups)
 -- Comment lines that follow each other form a group. A group whose last line is followed by a line without token and
 -- comment, or by no token at all, is a Block of its own; otherwise it is above the next statement.
 -- lines: those before the first of these parts
-abbrev pub bzl_items : List IndentedGapLine → List Part → List BzlItem
+abbrev pub bzl_items : List GapLine → List Part → List BzlItem
 bzl_items lines [] = []
-bzl_items lines (p.Leaf l ∷ xs) = block_items (groups_of (map (λ l. l.line) lines)) ++ bzl_items [] xs
+bzl_items lines (p.Leaf l ∷ xs) = block_items (groups_of lines) ++ bzl_items [] xs
 bzl_items lines (Node' kind size row ∷ xs) =
-    let groups : List (List Bytes) = groups_of (map (λ l. l.line) lines) in
+    let groups : List (List Bytes) = groups_of lines in
     let own : ReadStatements (List Statement) = (stated (Node' kind size row)).statement (last_group groups) (indented_lines_before (map stated xs) []) in
     block_items (all_but_last groups) ++ (map b.Statement own.0 ++ bzl_items own.1 xs)
 

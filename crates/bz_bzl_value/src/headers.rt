@@ -2,8 +2,7 @@
 ghost use Rattle.std.specs.Prelude.{◌≡◌, ◌≤◌, ◌<◌, ◌-◌, ◌+◌, [], List, map, take, drop, length, MatchOption, IfOk};
 ghost use Rattle.bz_grammar.specs.Shapes.{is_kind, is_one_of, colon_mark};
 ghost use Rattle.bz_items.specs.Characters.{Bytes};
-ghost use Rattle.bz_value.specs.Gaps.{all_in};
-ghost use Rattle.bz_value.specs.Indented.{IndentedGapLine};
+ghost use Rattle.bz_value.specs.Gaps.{all_in, GapLine};
 ghost use Rattle.bz_hosts.specs.View.{seen};
 ghost use Rattle.bz_grammar.specs.declared.kind.Kind.{Kind};
 ghost use Rattle.bz_bzl_value.specs.View.{branches, with_suite, def_head, row_head, head, is_compound, only_comment, stated, suffix_before};
@@ -42,9 +41,9 @@ fn is_colon(part: &Part) -> bool
 pub fn colon_from(parts: &[Part], from: usize) -> Option<usize>
     requires { from ≤ length parts.now }
     ensures { MatchOption result
-        ((kind : Kind) → (above : List Bytes) → (left after : List IndentedGapLine) → branches kind [] above left (map stated (drop from parts.now)) after ≡ ([], left))
+        ((kind : Kind) → (above : List Bytes) → (left after : List GapLine) → branches kind [] above left (map stated (drop from parts.now)) after ≡ ([], left))
         (λ at. (from ≤ at) × (at < length parts.now)
-        × ((kind : Kind) → (above : List Bytes) → (left after : List IndentedGapLine) → branches kind [] above left (map stated (drop from parts.now)) after
+        × ((kind : Kind) → (above : List Bytes) → (left after : List GapLine) → branches kind [] above left (map stated (drop from parts.now)) after
         ≡ with_suite kind (map seen (take (at - from) (drop from parts.now))) above left (map stated (drop (at + 1) parts.now)) after)) }
 {
     for at in from..parts.len() {

@@ -1,10 +1,10 @@
 //! Lines of a text that are before a part of a tree: those of two gaps that follow each other.
 ghost use Rattle.std.specs.Prelude.{◌≡◌, ◌↔◌, ◌++◌, [], IfOk, OnOk, IsTrue};
-ghost use Rattle.bz_value.specs.Indented.{indented};
-ghost use Rattle.bz_bzl_value.specs.View.{after_end, after_first_line, indented_comments, end_comments};
+ghost use Rattle.bz_value.specs.Gaps.{lines_of, comments_in, after_first_line};
+ghost use Rattle.bz_bzl_value.specs.View.{after_end, end_comments};
 
 use bz_items::{Items, Memory, Text};
-use bz_value::{first_indented_line, push_all};
+use bz_value::{first_line, push_all};
 use std::alloc::Global;
 
 /// The lines of two gaps: what the gap of a Newline says after its first line, and the gap of the leaf after it.
@@ -16,14 +16,14 @@ pub struct Rest<'a> {
 
 /// The lines of one gap.
 pub fn rest_of_gap(gap: &[u8]) -> Rest<'_>
-    ensures { indented result.left.now ++ indented result.gap.now ≡ indented gap.now }
+    ensures { lines_of result.left.now ++ lines_of result.gap.now ≡ lines_of gap.now }
 {
     Rest { left: &[], gap }
 }
 
 /// The comments of the lines. The error: memory was refused.
 pub fn comments(alloc: Global, rest: Rest<'_>) -> Result<Items<Text>, Memory>
-    ensures { IfOk result (λ texts. texts ≡ indented_comments (indented rest.entry.left.now ++ indented rest.entry.gap.now)) }
+    ensures { IfOk result (λ texts. texts ≡ comments_in (lines_of rest.entry.left.now ++ lines_of rest.entry.gap.now)) }
 {
     let mut texts = Items::new(alloc);
     push_all(alloc, rest.left, &mut texts)?;
@@ -31,26 +31,16 @@ pub fn comments(alloc: Global, rest: Rest<'_>) -> Result<Items<Text>, Memory>
     Ok(texts)
 }
 
-/// The gap after its first line.
-pub fn past_first_indented_line(gap: &[u8]) -> &[u8]
-    ensures { indented result.now ≡ after_first_line (indented gap.now) }
-{
-    match first_indented_line(gap) {
-        None => &[],
-        Some(first) => first.line.rest,
-    }
-}
-
 /// Whether a gap says nothing.
 fn says_nothing(gap: &[u8]) -> bool
-    ensures { IsTrue result ↔ (indented gap.now ≡ []) }
+    ensures { IsTrue result ↔ (lines_of gap.now ≡ []) }
 {
-    first_indented_line(gap).is_none()
+    first_line(gap).is_none()
 }
 
 /// Whether no line is left.
 pub fn is_spent(rest: Rest<'_>) -> bool
-    ensures { IsTrue result → indented rest.entry.left.now ++ indented rest.entry.gap.now ≡ [] }
+    ensures { IsTrue result → lines_of rest.entry.left.now ++ lines_of rest.entry.gap.now ≡ [] }
 {
     says_nothing(rest.left) && says_nothing(rest.gap)
 }
@@ -62,18 +52,18 @@ fn take_end_of<'a>(
     gap: &'a [u8],
     end: &mut Items<Text>,
 ) -> Result<&'a [u8], Memory>
-    ensures end { OnOk result (end.new ≡ end.old ++ end_comments margin (indented gap.now)) }
-    ensures rest { IfOk result (λ rest. indented rest.now ≡ after_end margin (indented gap.now)) }
+    ensures end { OnOk result (end.new ≡ end.old ++ end_comments margin (lines_of gap.now)) }
+    ensures rest { IfOk result (λ rest. lines_of rest.now ≡ after_end margin (lines_of gap.now)) }
 {
     let mut rest = gap;
-    while let Some(first) = first_indented_line(rest) {
-        if let Some(comment) = first.line.comment {
-            if first.indent < margin {
+    while let Some(line) = first_line(rest) {
+        if let Some(comment) = line.comment {
+            if line.indent < margin {
                 return Ok(rest);
             }
             end.push(Text::from_slice(alloc, comment)?)?;
         }
-        rest = first.line.rest;
+        rest = line.rest;
     }
     Ok(rest)
 }
@@ -86,8 +76,8 @@ pub fn take_end<'a>(
     rest: Rest<'a>,
     end: &mut Items<Text>,
 ) -> Result<Rest<'a>, Memory>
-    ensures end { OnOk result (end.new ≡ end.old ++ end_comments margin (indented rest.entry.left.now ++ indented rest.entry.gap.now)) }
-    ensures rest { IfOk result (λ following. indented following.left.now ++ indented following.gap.now ≡ after_end margin (indented rest.entry.left.now ++ indented rest.entry.gap.now)) }
+    ensures end { OnOk result (end.new ≡ end.old ++ end_comments margin (lines_of rest.entry.left.now ++ lines_of rest.entry.gap.now)) }
+    ensures rest { IfOk result (λ following. lines_of following.left.now ++ lines_of following.gap.now ≡ after_end margin (lines_of rest.entry.left.now ++ lines_of rest.entry.gap.now)) }
 {
     let left = take_end_of(alloc, margin, rest.left, end)?;
     if !says_nothing(left) {

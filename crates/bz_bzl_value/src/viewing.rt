@@ -1,20 +1,19 @@
 //! What the tree of a .bzl file says.
 ghost use Rattle.std.specs.Prelude.{◌≡◌, ◌++◌, ◌<◌, [], ◌∷◌, List, map, drop, length, IfOk, IsTrue, OnOk};
 ghost use Rattle.bz_lex.specs.Gaps.{indent};
-ghost use Rattle.bz_value.specs.Indented.{indented};
 ghost use Rattle.bz_grammar.specs.declared.tree.Part.{Part};
 ghost use Rattle.bz_hosts.specs.View.{seen};
 ghost use Rattle.bz_bzl_value.specs.Joined.{lines_after, lines_at_end};
 ghost use Rattle.bz_bzl_value.specs.View.{bzl_items, bzl_view_of, block_items, branches, bzl_item, compound_read, line_read, indented_lines_before, margin_of, simple_statements, stated, statement_read, suite_in, walked};
-ghost use Rattle.bz_value.specs.Gaps.{groups_of, all_but_last, last_group};
+ghost use Rattle.bz_value.specs.Gaps.{groups_of, all_but_last, last_group, lines_of};
 
 use crate::headers::{after_first_part, colon_from, head, is_compound, is_kind, suffix_before};
-use crate::rest::{Rest, comments, is_spent, past_first_indented_line, rest_of_gap, take_end};
+use crate::rest::{Rest, comments, is_spent, rest_of_gap, take_end};
 use crate::value::{Branch, BzlFile, BzlItem, Statement};
 use bz_grammar::{BzlTree, Kind, Node, Part};
 use bz_hosts::{gap_at, gap_before, gap_of_last, push_groups, push_statements};
 use bz_items::{Items, Memory, Text};
-use bz_value::Item;
+use bz_value::{Item, past_first_line};
 use std::alloc::Global;
 
 /// How many spaces and tabs are at the end of a gap.
@@ -41,7 +40,7 @@ fn margin_of(parts: &[Part]) -> usize
 
 /// The gap of the part with this index; past the last part the one after all of them.
 fn gap_after<'a>(parts: &'a [Part], at: usize, after: &'a [u8]) -> &'a [u8]
-    ensures { indented result.now ≡ indented_lines_before (map stated (drop at parts.now)) (indented after.now) }
+    ensures { lines_of result.now ≡ indented_lines_before (map stated (drop at parts.now)) (lines_of after.now) }
 {
     match parts.get(at) {
         Some(part) => gap_before(part),
@@ -69,14 +68,14 @@ fn push_line<'a>(
     after: &'a [u8],
     out: &mut Items<Statement>,
 ) -> Result<Rest<'a>, Memory>
-    ensures out { OnOk result (out.new ≡ out.old ++ (line_read (map seen parts.now) above (indented after.now)).0) }
-    ensures rest { IfOk result (λ rest. indented rest.left.now ++ indented rest.gap.now ≡ (line_read (map seen parts.now) above (indented after.now)).1) }
+    ensures out { OnOk result (out.new ≡ out.old ++ (line_read (map seen parts.now) above (lines_of after.now)).0) }
+    ensures rest { IfOk result (λ rest. lines_of rest.left.now ++ lines_of rest.gap.now ≡ (line_read (map seen parts.now) above (lines_of after.now)).1) }
 {
     let mut items = Items::new(alloc);
     push_statements(alloc, parts, above, &mut items)?;
     push_simple(items, out)?;
     Ok(Rest {
-        left: past_first_indented_line(gap_of_last(parts)),
+        left: past_first_line(gap_of_last(parts)),
         gap: after,
     })
 }
@@ -90,8 +89,8 @@ fn push_statement<'a>(
     after: &'a [u8],
     out: &mut Items<Statement>,
 ) -> Result<Rest<'a>, Memory>
-    ensures out { OnOk result (out.new ≡ out.old ++ ((stated part.now).statement above (indented after.now)).0) }
-    ensures rest { IfOk result (λ rest. indented rest.left.now ++ indented rest.gap.now ≡ ((stated part.now).statement above (indented after.now)).1) }
+    ensures out { OnOk result (out.new ≡ out.old ++ ((stated part.now).statement above (lines_of after.now)).0) }
+    ensures rest { IfOk result (λ rest. lines_of rest.left.now ++ lines_of rest.gap.now ≡ ((stated part.now).statement above (lines_of after.now)).1) }
 {
     match part {
         Part::Leaf(_) => Ok(rest_of_gap(after)),
@@ -111,8 +110,8 @@ fn push_node<'a>(
     after: &'a [u8],
     out: &mut Items<Statement>,
 ) -> Result<Rest<'a>, Memory>
-    ensures out { OnOk result (out.new ≡ out.old ++ (statement_read node.now.kind (map stated node.now.parts) above (indented after.now)).0) }
-    ensures rest { IfOk result (λ rest. indented rest.left.now ++ indented rest.gap.now ≡ (statement_read node.now.kind (map stated node.now.parts) above (indented after.now)).1) }
+    ensures out { OnOk result (out.new ≡ out.old ++ (statement_read node.now.kind (map stated node.now.parts) above (lines_of after.now)).0) }
+    ensures rest { IfOk result (λ rest. lines_of rest.left.now ++ lines_of rest.gap.now ≡ (statement_read node.now.kind (map stated node.now.parts) above (lines_of after.now)).1) }
 {
     let parts = node.parts.as_slice();
     if is_kind(node.kind, Kind::Line) {
@@ -136,8 +135,8 @@ fn push_compound<'a>(
     after: &'a [u8],
     out: &mut Items<Statement>,
 ) -> Result<Rest<'a>, Memory>
-    ensures out { OnOk result (out.new ≡ out.old ++ (compound_read kind (map stated parts.now) above (indented after.now)).0) }
-    ensures rest { IfOk result (λ rest. indented rest.left.now ++ indented rest.gap.now ≡ (compound_read kind (map stated parts.now) above (indented after.now)).1) }
+    ensures out { OnOk result (out.new ≡ out.old ++ (compound_read kind (map stated parts.now) above (lines_of after.now)).0) }
+    ensures rest { IfOk result (λ rest. lines_of rest.left.now ++ lines_of rest.gap.now ≡ (compound_read kind (map stated parts.now) above (lines_of after.now)).1) }
 {
     let mut own = Items::new(alloc);
     let rest = push_branches(alloc, kind, parts, above, after, &mut own)?;
@@ -155,8 +154,8 @@ fn push_branches<'a>(
     after: &'a [u8],
     own: &mut Items<Branch>,
 ) -> Result<Rest<'a>, Memory>
-    ensures own { OnOk result (own.new ≡ own.old ++ (branches kind [] above (indented after.now) (map stated parts.now) (indented after.now)).0) }
-    ensures rest { IfOk result (λ rest. indented rest.left.now ++ indented rest.gap.now ≡ (branches kind [] above (indented after.now) (map stated parts.now) (indented after.now)).1) }
+    ensures own { OnOk result (own.new ≡ own.old ++ (branches kind [] above (lines_of after.now) (map stated parts.now) (lines_of after.now)).0) }
+    ensures rest { IfOk result (λ rest. lines_of rest.left.now ++ lines_of rest.gap.now ≡ (branches kind [] above (lines_of after.now) (map stated parts.now) (lines_of after.now)).1) }
 {
     let mut above = above;
     let mut rest = rest_of_gap(after);
@@ -192,9 +191,9 @@ fn push_suite<'a>(
     statements: &mut Items<Statement>,
     end: &mut Items<Text>,
 ) -> Result<Rest<'a>, Memory>
-    ensures statements { OnOk result (statements.new ≡ statements.old ++ ((stated part.now).suite (indented after.now)).0.0) }
-    ensures end { OnOk result (end.new ≡ end.old ++ ((stated part.now).suite (indented after.now)).0.1) }
-    ensures rest { IfOk result (λ rest. indented rest.left.now ++ indented rest.gap.now ≡ ((stated part.now).suite (indented after.now)).1) }
+    ensures statements { OnOk result (statements.new ≡ statements.old ++ ((stated part.now).suite (lines_of after.now)).0.0) }
+    ensures end { OnOk result (end.new ≡ end.old ++ ((stated part.now).suite (lines_of after.now)).0.1) }
+    ensures rest { IfOk result (λ rest. lines_of rest.left.now ++ lines_of rest.gap.now ≡ ((stated part.now).suite (lines_of after.now)).1) }
 {
     match part {
         Part::Leaf(_) => Ok(rest_of_gap(after)),
@@ -214,9 +213,9 @@ fn push_suite_of<'a>(
     statements: &mut Items<Statement>,
     end: &mut Items<Text>,
 ) -> Result<Rest<'a>, Memory>
-    ensures statements { OnOk result (statements.new ≡ statements.old ++ (suite_in node.now.kind (map stated node.now.parts) (indented after.now)).0.0) }
-    ensures end { OnOk result (end.new ≡ end.old ++ (suite_in node.now.kind (map stated node.now.parts) (indented after.now)).0.1) }
-    ensures rest { IfOk result (λ rest. indented rest.left.now ++ indented rest.gap.now ≡ (suite_in node.now.kind (map stated node.now.parts) (indented after.now)).1) }
+    ensures statements { OnOk result (statements.new ≡ statements.old ++ (suite_in node.now.kind (map stated node.now.parts) (lines_of after.now)).0.0) }
+    ensures end { OnOk result (end.new ≡ end.old ++ (suite_in node.now.kind (map stated node.now.parts) (lines_of after.now)).0.1) }
+    ensures rest { IfOk result (λ rest. lines_of rest.left.now ++ lines_of rest.gap.now ≡ (suite_in node.now.kind (map stated node.now.parts) (lines_of after.now)).1) }
 {
     let parts = node.parts.as_slice();
     if is_kind(node.kind, Kind::Line) {
@@ -240,8 +239,8 @@ fn push_all_statements<'a>(
     after: &'a [u8],
     out: &mut Items<Statement>,
 ) -> Result<Rest<'a>, Memory>
-    ensures out { OnOk result (out.new ≡ out.old ++ (walked (indented_lines_before (map stated parts.now) []) (map stated parts.now) (indented after.now)).0) }
-    ensures rest { IfOk result (λ rest. indented rest.left.now ++ indented rest.gap.now ≡ (walked (indented_lines_before (map stated parts.now) []) (map stated parts.now) (indented after.now)).1) }
+    ensures out { OnOk result (out.new ≡ out.old ++ (walked (indented_lines_before (map stated parts.now) []) (map stated parts.now) (lines_of after.now)).0) }
+    ensures rest { IfOk result (λ rest. lines_of rest.left.now ++ lines_of rest.gap.now ≡ (walked (indented_lines_before (map stated parts.now) []) (map stated parts.now) (lines_of after.now)).1) }
 {
     let mut rest = rest_of_gap(gap_at(parts, 0));
     for at in 0..parts.len() {
@@ -278,8 +277,8 @@ fn push_blocks(
     rest: Rest<'_>,
     items: &mut Items<BzlItem>,
 ) -> Result<Items<Text>, Memory>
-    ensures items { OnOk result (items.new ≡ items.old ++ block_items (all_but_last (groups_of (map (λ l. l.line) (indented rest.entry.left.now ++ indented rest.entry.gap.now))))) }
-    ensures last { IfOk result (λ last. last ≡ last_group (groups_of (map (λ l. l.line) (indented rest.entry.left.now ++ indented rest.entry.gap.now)))) }
+    ensures items { OnOk result (items.new ≡ items.old ++ block_items (all_but_last (groups_of (lines_of rest.entry.left.now ++ lines_of rest.entry.gap.now)))) }
+    ensures last { IfOk result (λ last. last ≡ last_group (groups_of (lines_of rest.entry.left.now ++ lines_of rest.entry.gap.now))) }
 {
     let mut blocks = Items::new(alloc);
     let last = push_groups(alloc, rest.left, rest.gap, &mut blocks)?;
@@ -299,7 +298,7 @@ fn push_last(lines: Items<Text>, items: &mut Items<BzlItem>) -> Result<(), Memor
 
 /// Appends all groups of comment lines of these lines.
 fn push_end(alloc: Global, rest: Rest<'_>, items: &mut Items<BzlItem>) -> Result<(), Memory>
-    ensures { OnOk result (items.new ≡ items.old ++ block_items (groups_of (map (λ l. l.line) (indented rest.entry.left.now ++ indented rest.entry.gap.now)))) }
+    ensures { OnOk result (items.new ≡ items.old ++ block_items (groups_of (lines_of rest.entry.left.now ++ lines_of rest.entry.gap.now))) }
 {
     let last = push_blocks(alloc, rest, items)?;
     push_last(last, items)?;
@@ -355,9 +354,9 @@ fn push_part<'a>(
     after: &'a [u8],
     items: &mut Items<BzlItem>,
 ) -> Result<Rest<'a>, Memory>
-    ensures left { IfOk result (λ left. indented left.left.now ++ indented left.gap.now ≡ lines_after (indented rest.entry.left.now ++ indented rest.entry.gap.now) part.now (indented after.now)) }
-    ensures items { IfOk result (λ left. (xs : List Part) → indented after.now ≡ indented_lines_before (map stated xs) []
-        → items.new ++ bzl_items (indented left.left.now ++ indented left.gap.now) xs ≡ items.old ++ bzl_items (indented rest.entry.left.now ++ indented rest.entry.gap.now) (part.now ∷ xs)) }
+    ensures left { IfOk result (λ left. lines_of left.left.now ++ lines_of left.gap.now ≡ lines_after (lines_of rest.entry.left.now ++ lines_of rest.entry.gap.now) part.now (lines_of after.now)) }
+    ensures items { IfOk result (λ left. (xs : List Part) → lines_of after.now ≡ indented_lines_before (map stated xs) []
+        → items.new ++ bzl_items (lines_of left.left.now ++ lines_of left.gap.now) xs ≡ items.old ++ bzl_items (lines_of rest.entry.left.now ++ lines_of rest.entry.gap.now) (part.now ∷ xs)) }
 {
     match part {
         Part::Leaf(_) => {

@@ -19,7 +19,7 @@ use Rattle.bz_grammar.proofs.Numbers.{same_kind}
 use Rattle.bz_value.specs.Comments.{HostComments}
 use Rattle.bz_value.specs.Frames.{frame}
 use Rattle.bz_items.specs.Characters.{Bytes}
-use Rattle.bz_value.specs.Gaps.{GapLine, lines_of, after_first_comment, groups_of, all_but_last, last_group}
+use Rattle.bz_value.specs.Gaps.{GapLine, lines_of, after_first_line, groups_of, all_but_last, last_group}
 use Rattle.bz_hosts.specs.View as v
 use Rattle.bz_hosts.specs.View.{Seen, seen, seen_row, first_seen_gap, blocks, statement, statements_in, file_items, view_of}
 use Rattle.bz_hosts.proofs.SeenParts.{seen_rows, node_gap, comments_made}
@@ -180,7 +180,7 @@ line_step all n up (Node' kind size_ r) xs is some u gap there rest e e' above_i
           let lines : List GapLine = left ++ lines_of (first_seen_gap seen_there) in
           let before : List Hosted = hosts_alone (all_but_last (groups_of lines)) in
           let group : List Bytes = last_group (groups_of lines) in
-          let next : List GapLine = after_first_comment (lines_of (v.last_gap seen_there)) in
+          let next : List GapLine = after_first_line (lines_of (v.last_gap seen_there)) in
           let len : n + length (leaves_row r) ≡ after_it = ap (λ (z : ℕ). n + z) (sym (size_leaves line)) in
           let hosts_there : map (hosted_at all cs) (in_line n line) ≡ flat_map inside_item (statements_in [] seen_there) = there.found cs (λ q j.
           let j0 = j.0 in
@@ -191,7 +191,7 @@ line_step all n up (Node' kind size_ r) xs is some u gap there rest e e' above_i
           let d : 0 < key q = omega arith in
           f q (omega arith, j.1) ∙ (collected q d ∙ ap (λ (z : List Bytes). z ++ texts_at all q following) (there.outer q d (λ i. omega (arith, i.1, j.0))))) in
           let joined : (gap last : Bytes) (place : ℕ) → List Hosted = λ gap last place.
-          (hosts_alone (all_but_last (groups_of (left ++ lines_of gap))) ++ with_group (last_group (groups_of (left ++ lines_of gap))) (map (hosted_at all cs) (in_line n line))) ++ walked all cs (after_first_comment (lines_of last)) place xs in
+          (hosts_alone (all_but_last (groups_of (left ++ lines_of gap))) ++ with_group (last_group (groups_of (left ++ lines_of gap))) (map (hosted_at all cs) (in_line n line))) ++ walked all cs (after_first_line (lines_of last)) place xs in
           ap (λ (z : Bytes). joined z (last_gap (leaves_row r)) (n + length (leaves_row r))) e
           ∙ (ap (λ (z : Bytes). joined (first_seen_gap seen_there) z (n + length (leaves_row r))) e'
           ∙ (ap (λ (z : ℕ). joined (first_seen_gap seen_there) (v.last_gap seen_there) z) len

@@ -2,7 +2,7 @@
 use Rattle.std.proofs.Common.{◌≡◌, ℕ, suc, ◌+◌, Bool, true, false, List, [], ◌∷◌, ◌++◌, inl, inr, refl, sym, ap, ◌∙◌, map, if◌then◌else◌}
 use Rattle.std.proofs.lemmas.Bool.{cases_Bool, eq-eqb, ne_eqb}
 use Rattle.bz_items.specs.Characters.{Bytes}
-use Rattle.bz_value.specs.Gaps.{GapLine, lines_of, as_list, after_first_comment, comments_in, first_comment, suffix_in, others_in, all_in}
+use Rattle.bz_value.specs.Gaps.{GapLine, lines_of, as_list, after_first_line, comments_in, first_comment, suffix_in, others_in, all_in}
 use Rattle.bz_hosts.specs.Hosts.{Region, Comment, comments_at, CommentPlace, suffix_of, above, end_of, outside, same_place, comment_place, texts_at}
 
 -- ---- places
@@ -46,7 +46,7 @@ pick_joined p q texts texts' = elim (cases_Bool (same_place p q)) [ inl e ↦ rw
 
 -- ---- the comments of a gap
 
-all_split : (ls : List GapLine) → comments_in ls ≡ as_list (first_comment ls) ++ comments_in (after_first_comment ls)
+all_split : (ls : List GapLine) → comments_in ls ≡ as_list (first_comment ls) ++ comments_in (after_first_line ls)
 all_split [] = refl
 all_split (line ∷ ls) = refl
 

@@ -1,10 +1,10 @@
 -- Groups of comment lines, read from the left.
-use Rattle.std.proofs.Common.{Bor, Result, Ok, Err, IfOk, OnOk, Bool, ◌≡◌, List, [], ◌∷◌, ◌++◌, Option, Some, None, refl, sym, ap, ◌∙◌, subst, append_assoc, append-nil}
+use Rattle.std.proofs.Common.{Bor, Result, Ok, Err, IfOk, OnOk, Bool, ℕ, ◌≡◌, List, [], ◌∷◌, ◌++◌, Option, Some, None, refl, sym, ap, ◌∙◌, subst, append_assoc, append-nil}
 use Rattle.std.specs.Option.{option_copied}
 use Rattle.bz_value.specs.declared.value.Item.{Item}
 use Rattle.bz_value.specs.declared.value.Item.TheVariants as i
 use Rattle.bz_items.specs.Characters.{Bytes}
-use Rattle.bz_value.specs.Gaps.{GapLine, lines_of, put_on_first, groups_of, all_but_last, last_group}
+use Rattle.bz_value.specs.Gaps.{GapLine, lines_of, put_on_first, before_groups, groups_of, all_but_last, last_group}
 use Rattle.bz_hosts.specs.View.{blocks}
 use Rattle.bz_hosts.specs.Walks.{prepend}
 
@@ -12,13 +12,13 @@ some_first : (text : Bytes) (gs : List (List Bytes)) → (g : List Bytes) × (mo
 some_first text [] = (text ∷ [], [], refl)
 some_first text (g ∷ gs) = (text ∷ g, gs, refl)
 
-some_line : (o : Option Bytes) (newline : Bool) (ls : List GapLine) → (g : List Bytes) × (more : List (List Bytes)) × (groups_of (record { comment = o; newline = newline } ∷ ls) ≡ g ∷ more)
-some_line None newline ls = ([], groups_of ls, refl)
-some_line (Some text) newline ls = some_first text (groups_of ls)
+some_line : (o : Option Bytes) (ls : List GapLine) → (g : List Bytes) × (more : List (List Bytes)) × (before_groups o (groups_of ls) ≡ g ∷ more)
+some_line None ls = ([], groups_of ls, refl)
+some_line (Some text) ls = some_first text (groups_of ls)
 
 some_group : (ls : List GapLine) → (g : List Bytes) × (more : List (List Bytes)) × (groups_of ls ≡ g ∷ more)
 some_group [] = ([], [], refl)
-some_group (l ∷ ls) = some_line l.comment l.newline ls
+some_group (l ∷ ls) = some_line l.comment ls
 
 prepend_none : (ls : List GapLine) → prepend [] (groups_of ls) ≡ groups_of ls
 prepend_none ls = let w = some_group ls in ap (prepend []) w.2 ∙ sym w.2
@@ -40,37 +40,37 @@ group_ends group ls = let w = some_group ls in subst (group_at group) (sym w.2) 
 
 -- ---- one more line
 
-pub line_pushed : (gap : Bytes) (text : Bytes) (newline : Bool) (rest more : List GapLine) (old new : List Bytes) (items all : List Item) → lines_of gap ≡ record { comment = Some text; newline = newline } ∷ rest → new ≡ old ++ text ∷ [] →
+pub line_pushed : (gap : Bytes) (indent : ℕ) (text : Bytes) (newline : Bool) (rest more : List GapLine) (old new : List Bytes) (items all : List Item) → lines_of gap ≡ record { indent = indent; comment = Some text; newline = newline } ∷ rest → new ≡ old ++ text ∷ [] →
     items ++ blocks (all_but_last (prepend old (groups_of (lines_of gap ++ more)))) ≡ all → items ++ blocks (all_but_last (prepend new (groups_of (rest ++ more)))) ≡ all
-line_pushed gap text newline rest more old new items all e n h =
+line_pushed gap indent text newline rest more old new items all e n h =
     let same : prepend new (groups_of (rest ++ more)) ≡ prepend old (groups_of (lines_of gap ++ more)) =
     ap (λ t. prepend t (groups_of (rest ++ more))) n ∙ (sym (prepend_line old text (groups_of (rest ++ more))) ∙ sym (ap (λ ls. prepend old (groups_of (ls ++ more))) e)) in
     ap (λ gs. items ++ blocks (all_but_last gs)) same ∙ h
 
-pub line_kept : (gap : Bytes) (text : Bytes) (newline : Bool) (rest more : List GapLine) (old new all : List Bytes) → lines_of gap ≡ record { comment = Some text; newline = newline } ∷ rest → new ≡ old ++ text ∷ [] →
+pub line_kept : (gap : Bytes) (indent : ℕ) (text : Bytes) (newline : Bool) (rest more : List GapLine) (old new all : List Bytes) → lines_of gap ≡ record { indent = indent; comment = Some text; newline = newline } ∷ rest → new ≡ old ++ text ∷ [] →
     last_group (prepend old (groups_of (lines_of gap ++ more))) ≡ all → last_group (prepend new (groups_of (rest ++ more))) ≡ all
-line_kept gap text newline rest more old new all e n h =
+line_kept gap indent text newline rest more old new all e n h =
     let same : prepend new (groups_of (rest ++ more)) ≡ prepend old (groups_of (lines_of gap ++ more)) =
     ap (λ t. prepend t (groups_of (rest ++ more))) n ∙ (sym (prepend_line old text (groups_of (rest ++ more))) ∙ sym (ap (λ ls. prepend old (groups_of (ls ++ more))) e)) in
     ap last_group same ∙ h
 
-pub block_pushed : (gap : Bytes) (newline : Bool) (rest more : List GapLine) (old new : List Bytes) (items after all : List Item) → lines_of gap ≡ record { comment = None; newline = newline } ∷ rest → new ≡ [] → after ≡ items ++ blocks (old ∷ []) →
+pub block_pushed : (gap : Bytes) (indent : ℕ) (newline : Bool) (rest more : List GapLine) (old new : List Bytes) (items after all : List Item) → lines_of gap ≡ record { indent = indent; comment = None; newline = newline } ∷ rest → new ≡ [] → after ≡ items ++ blocks (old ∷ []) →
     items ++ blocks (all_but_last (prepend old (groups_of (lines_of gap ++ more)))) ≡ all → after ++ blocks (all_but_last (prepend new (groups_of (rest ++ more)))) ≡ all
-block_pushed gap newline rest more old new items after all e n f h =
+block_pushed gap indent newline rest more old new items after all e n f h =
     let left : List Item = blocks (all_but_last (prepend [] (groups_of (rest ++ more)))) in
     ap (λ t. after ++ blocks (all_but_last (prepend t (groups_of (rest ++ more))))) n ∙
     (ap (λ t. t ++ left) f ∙ (append_assoc items (blocks (old ∷ [])) left ∙
     (ap (λ t. items ++ t) (sym (ap (λ ls. blocks (all_but_last (prepend old (groups_of (ls ++ more))))) e ∙ (group_ends old (rest ++ more)).0)) ∙ h)))
 
-pub block_kept : (gap : Bytes) (newline : Bool) (rest more : List GapLine) (old new all : List Bytes) → lines_of gap ≡ record { comment = None; newline = newline } ∷ rest → new ≡ [] →
+pub block_kept : (gap : Bytes) (indent : ℕ) (newline : Bool) (rest more : List GapLine) (old new all : List Bytes) → lines_of gap ≡ record { indent = indent; comment = None; newline = newline } ∷ rest → new ≡ [] →
     last_group (prepend old (groups_of (lines_of gap ++ more))) ≡ all → last_group (prepend new (groups_of (rest ++ more))) ≡ all
-block_kept gap newline rest more old new all e n h =
+block_kept gap indent newline rest more old new all e n h =
     ap (λ t. last_group (prepend t (groups_of (rest ++ more)))) n ∙ (sym (ap (λ ls. last_group (prepend old (groups_of (ls ++ more)))) e ∙ (group_ends old (rest ++ more)).1) ∙ h)
 
 -- a line that was read and has no comment
-pub bare_line : (ls rest : List GapLine) (o : Option (Bor Bytes)) (newline : Bool) → ls ≡ record { comment = option_copied o; newline = newline } ∷ rest → o ≡ None → ls ≡ record { comment = None; newline = newline } ∷ rest
-bare_line ls rest None newline e i = e
-bare_line ls rest (Some b) newline e i = cc
+pub bare_line : (ls rest : List GapLine) (o : Option (Bor Bytes)) (indent : ℕ) (newline : Bool) → ls ≡ record { indent = indent; comment = option_copied o; newline = newline } ∷ rest → o ≡ None → ls ≡ record { indent = indent; comment = None; newline = newline } ∷ rest
+bare_line ls rest None indent newline e i = e
+bare_line ls rest (Some b) indent newline e i = cc
 
 -- ---- two gaps
 

@@ -14,7 +14,7 @@ use Rattle.bz_grammar.specs.Legal.{Legal}
 use Rattle.bz_grammar.specs.Joined.{last_token, AreWholeLines, file_with, LinesJoin}
 use Rattle.bz_grammar.proofs.Spells.{leaves_Node}
 use Rattle.bz_value.specs.declared.value.Item.{Item}
-use Rattle.bz_value.specs.Gaps.{GapLine, lines_of, after_first_comment, groups_of}
+use Rattle.bz_value.specs.Gaps.{GapLine, lines_of, after_first_line, groups_of}
 use Rattle.bz_hosts.specs.View.{seen, seen_row, first_seen_gap, last_gap, line_items, blocks, file_items, view_of}
 use Rattle.bz_hosts.specs.Joined.{lines_left, EndInNewline, EndsWithLine, ViewsJoin, EmptyReads}
 use Rattle.bz_hosts.proofs.NodeViews.{seen_parts}
@@ -29,13 +29,13 @@ items_joined left (p.Leaf l ∷ xs) e ys h n =
     ap (λ is. own ++ is) (items_joined [] xs e ys h n) ∙ sym (append_assoc own (file_items [] (xs ++ p.Leaf e ∷ [])) (file_items [] ys))
 items_joined left (Node' kind size row ∷ xs) e ys h n =
     let own : List Item = line_items (left ++ lines_of (first_seen_gap (seen_row row))) (seen_row row) in
-    let next : List GapLine = after_first_comment (lines_of (last_gap (seen_row row))) in
+    let next : List GapLine = after_first_line (lines_of (last_gap (seen_row row))) in
     ap (λ is. own ++ is) (items_joined next xs e ys h n) ∙ sym (append_assoc own (file_items next (xs ++ p.Leaf e ∷ [])) (file_items [] ys))
 
 left_both : (left : List GapLine) (xs ys : List Part) → lines_left left (xs ++ ys) ≡ lines_left (lines_left left xs) ys
 left_both left [] ys = refl
 left_both left (p.Leaf l ∷ xs) ys = left_both [] xs ys
-left_both left (Node' kind size row ∷ xs) ys = left_both (after_first_comment (lines_of (last_gap (seen_row row)))) xs ys
+left_both left (Node' kind size row ∷ xs) ys = left_both (after_first_line (lines_of (last_gap (seen_row row)))) xs ys
 
 -- ---- the last token
 
@@ -100,8 +100,8 @@ last_seen [] x = refl
 last_seen (y ∷ []) x = refl
 last_seen (y ∷ z ∷ front) x = last_seen (z ∷ front) x
 
-left_after_line : (left : List GapLine) (front : List Part) (n : Node) → lines_left left (front ++ p.Node n ∷ []) ≡ after_first_comment (lines_of (last_gap (map seen n.parts)))
-left_after_line left front n = left_both left front (p.Node n ∷ []) ∙ ap (λ ss. after_first_comment (lines_of (last_gap ss))) (seen_parts n)
+left_after_line : (left : List GapLine) (front : List Part) (n : Node) → lines_left left (front ++ p.Node n ∷ []) ≡ after_first_line (lines_of (last_gap (map seen n.parts)))
+left_after_line left front n = left_both left front (p.Node n ∷ []) ∙ ap (λ ss. after_first_line (lines_of (last_gap ss))) (seen_parts n)
 
 -- the last line of a file, and its end
 ends_so : (n line : Node) (front : List Part) (e : Leaf) → n.parts ≡ (front ++ p.Node line ∷ []) ++ p.Leaf e ∷ [] → e.gap ≡ [] → EndInNewline line.parts → EndsWithLine n
@@ -116,7 +116,7 @@ ends_so n line front e is none (before, newline, at, token, left) =
       parts = is;
       whole = ap last_token all ∙ (last_after (flat_map leaves_part front ++ flat_map leaves_part before) newline ∙ token);
       nothing = none;
-      left = left_after_line [] front line ∙ (ap (λ ps. after_first_comment (lines_of (last_gap (map seen ps)))) at ∙ (ap (λ g. after_first_comment (lines_of g)) (last_seen before (p.Leaf newline)) ∙ left));
+      left = left_after_line [] front line ∙ (ap (λ ps. after_first_line (lines_of (last_gap (map seen ps)))) at ∙ (ap (λ g. after_first_line (lines_of g)) (last_seen before (p.Leaf newline)) ∙ left));
     }
 
 pub line_last : (n : Node) (front rest : List Part) (x y : Part) → n.parts ≡ rest ++ y ∷ [] → rest ≡ front ++ x ∷ [] → ((e : Leaf) × (y ≡ p.Leaf e) × (e.gap ≡ [])) → ((line : Node) × (x ≡ p.Node line) × EndInNewline line.parts) → EndsWithLine n

@@ -13,7 +13,7 @@ use Rattle.bz_grammar.proofs.Balance.{no_such, parts_of_row}
 use Rattle.bz_grammar.proofs.Numbers.{same_kind}
 use Rattle.bz_value.specs.Counted.{total, item_amount, one_if}
 use Rattle.bz_items.specs.Characters.{Bytes}
-use Rattle.bz_value.specs.Gaps.{GapLine, lines_of, comments_in, after_first_comment, groups_of, all_but_last, last_group, suffix_in}
+use Rattle.bz_value.specs.Gaps.{GapLine, lines_of, comments_in, after_first_line, groups_of, all_but_last, last_group, suffix_in}
 use Rattle.bz_hosts.specs.Kept.{CommentsKept}
 use Rattle.bz_hosts.specs.View.{seen, seen_row, first_seen_gap, last_gap, blocks, statements_in, line_items, file_items}
 use Rattle.bz_hosts.proofs.KeptParts.{AllKept, host_kept, token_part, parts_kept}
@@ -26,7 +26,7 @@ use Rattle.bz_value.proofs.Totals.{append_total}
 module _ (number : Bytes → ℕ) where
   -- the comments after the first line of a gap
   abbrev pub left_amount : Bytes → ℕ
-  left_amount gap = total number (comments_in (after_first_comment (lines_of gap)))
+  left_amount gap = total number (comments_in (after_first_line (lines_of gap)))
 
   -- Statements of a line: the gap before the first is among the comments above it, and what is in the newline's gap after
   -- its first line belongs to the lines below.
@@ -104,9 +104,9 @@ module _ (number : Bytes → ℕ) where
       let statements : Statements ys = subst (λ kd. Fits IsNonterminal (shape kd) ys) e g.0.0 in
       let there : AtParts Stands Begins Begins xs = subst (λ kd. AtParts Stands Begins (after_node kd Begins) xs) e at_.1 in
       let here = row_kept left _ r statements g.0.1 at_.0 in
-      let rest = file_kept (after_first_comment (lines_of (last_gap (seen_row r)))) xs h.1 g.1 there in
+      let rest = file_kept (after_first_line (lines_of (last_gap (seen_row r)))) xs h.1 g.1 there in
       let leaves = row_leaves number _ r in
-      let both = append_total (item_amount number) (line_items (left ++ lines_of (first_seen_gap (seen_row r))) (seen_row r)) (file_items (after_first_comment (lines_of (last_gap (seen_row r)))) xs) in
+      let both = append_total (item_amount number) (line_items (left ++ lines_of (first_seen_gap (seen_row r))) (seen_row r)) (file_items (after_first_line (lines_of (last_gap (seen_row r)))) xs) in
       omega arith
 
 pub comments_kept : CommentsKept

@@ -10,7 +10,7 @@ use Rattle.bz_value.specs.declared.value.Item.TheVariants as i
 use Rattle.bz_value.specs.Commented.{with_comments}
 use Rattle.bz_value.specs.Comments.{HostComments, no_comments}
 use Rattle.bz_items.specs.Characters.{Bytes}
-use Rattle.bz_value.specs.Gaps.{GapLine, lines_of, after_first_comment, groups_of, all_but_last, last_group, suffix_in}
+use Rattle.bz_value.specs.Gaps.{GapLine, lines_of, after_first_line, groups_of, all_but_last, last_group, suffix_in}
 use Rattle.bz_hosts.specs.View.{Seen, seen, first_seen_gap, last_gap, blocks, statement, statements_in, line_items, file_items}
 use Rattle.bz_hosts.specs.Walks.{line_suffix}
 use Rattle.bz_hosts.proofs.NodeViews.{seen_comments, seen_parts}
@@ -76,24 +76,24 @@ statements_done ps at above items all l j =
 -- ---- lines
 
 abbrev line_and_rest : List GapLine → List Seen → List Part → List Item
-line_and_rest left ss xs = line_items (left ++ lines_of (first_seen_gap ss)) ss ++ file_items (after_first_comment (lines_of (last_gap ss))) xs
+line_and_rest left ss xs = line_items (left ++ lines_of (first_seen_gap ss)) ss ++ file_items (after_first_line (lines_of (last_gap ss))) xs
 
 file_node : (n : Node) (left : List GapLine) (xs : List Part) → file_items left (p.Node n ∷ xs) ≡ line_and_rest left (map seen n.parts) xs
 file_node n left xs = ap (λ ss. line_and_rest left ss xs) (seen_parts n)
 
 line_made : (ss : List Seen) (left : List GapLine) (g h r : Bytes) (above : List Bytes) (old mid new : List Item) (xs : List Part) → g ≡ first_seen_gap ss → mid ≡ old ++ blocks (all_but_last (groups_of (left ++ lines_of g))) →
-    above ≡ last_group (groups_of (left ++ lines_of g)) → new ≡ mid ++ statements_in above ss → h ≡ last_gap ss → lines_of r ≡ after_first_comment (lines_of h) → new ++ file_items (lines_of r) xs ≡ old ++ line_and_rest left ss xs
+    above ≡ last_group (groups_of (left ++ lines_of g)) → new ≡ mid ++ statements_in above ss → h ≡ last_gap ss → lines_of r ≡ after_first_line (lines_of h) → new ++ file_items (lines_of r) xs ≡ old ++ line_and_rest left ss xs
 line_made ss left g h r above old mid new xs e m a n f k =
     let lines : left ++ lines_of g ≡ left ++ lines_of (first_seen_gap ss) = ap (λ t. left ++ lines_of t) e in
     let alone : List Item = blocks (all_but_last (groups_of (left ++ lines_of (first_seen_gap ss)))) in
     let made : List Item = statements_in (last_group (groups_of (left ++ lines_of (first_seen_gap ss)))) ss in
-    let rest : List Item = file_items (after_first_comment (lines_of (last_gap ss))) xs in
-    ap (λ t. new ++ file_items t xs) (k ∙ ap (λ t. after_first_comment (lines_of t)) f)
+    let rest : List Item = file_items (after_first_line (lines_of (last_gap ss))) xs in
+    ap (λ t. new ++ file_items t xs) (k ∙ ap (λ t. after_first_line (lines_of t)) f)
     ∙ (ap (λ t. t ++ rest) (n ∙ (ap (λ t. mid ++ statements_in t ss) (a ∙ ap (λ t. last_group (groups_of t)) lines) ∙ (ap (λ t. t ++ made) (m ∙ ap (λ t. old ++ blocks (all_but_last (groups_of t))) lines) ∙ append_assoc old alone made)))
     ∙ append_assoc old (alone ++ made) rest)
 
 pub line_pushed : (x : Part) (n : Node) (ps : List Part) (left : List GapLine) (g h r : Bytes) (above : List Bytes) (old mid new : List Item) → x ≡ p.Node n → ps ≡ n.parts → g ≡ first_seen_gap (map seen (drop 0 ps)) →
-    mid ≡ old ++ blocks (all_but_last (groups_of (left ++ lines_of g))) → above ≡ last_group (groups_of (left ++ lines_of g)) → new ≡ mid ++ statements_in above (map seen ps) → h ≡ last_gap (map seen ps) → lines_of r ≡ after_first_comment (lines_of h) →
+    mid ≡ old ++ blocks (all_but_last (groups_of (left ++ lines_of g))) → above ≡ last_group (groups_of (left ++ lines_of g)) → new ≡ mid ++ statements_in above (map seen ps) → h ≡ last_gap (map seen ps) → lines_of r ≡ after_first_line (lines_of h) →
     (xs : List Part) → new ++ file_items (lines_of r) xs ≡ old ++ file_items left (x ∷ xs)
 line_pushed x n ps left g h r above old mid new i j e m a s f k xs =
     line_made (map seen ps) left g h r above old mid new xs e m a s f k

@@ -28,7 +28,7 @@ use Rattle.bz_value.specs.declared.value.Item.{Item}
 use Rattle.bz_value.specs.Comments.{HostComments}
 use Rattle.bz_value.specs.Frames.{Frame, row, sequence, frame, is_statement}
 use Rattle.bz_items.specs.Characters.{Bytes}
-use Rattle.bz_value.specs.Gaps.{GapLine, lines_of, after_first_comment, groups_of, all_but_last, last_group, suffix_in}
+use Rattle.bz_value.specs.Gaps.{GapLine, lines_of, after_first_line, groups_of, all_but_last, last_group, suffix_in}
 use Rattle.bz_value.specs.Proper.{IsComment, MaybeComment, AreComments, has_statement_kind, IsProperItem, IsProper}
 use Rattle.bz_value.proofs.Begun.{moved_expr}
 use Rattle.bz_value.proofs.GapComments.{AreFine, Group, Groups, all_joined, fine_lines, fine_after, suffix_fine, groups_fine, groups_front, groups_last}
@@ -130,11 +130,11 @@ lines_proper left (Node' kind n r ∷ xs) f (inr h) g l c at_ =
     let decoded : AllDecoded (map seen ys) = subst AllDecoded rows row in
     let lines : List GapLine = left ++ lines_of (first_seen_gap (seen_row r)) in
     let fine : AreFine lines = both_fine left (first_seen_gap (seen_row r)) f (gap_decoded (seen_row r) row) in
-    let last : AreFine (after_first_comment (lines_of (last_gap (seen_row r)))) = fine_after (lines_of (last_gap (seen_row r))) (fine_lines (last_gap (seen_row r)) (last_decoded (seen_row r) row)) in
+    let last : AreFine (after_first_line (lines_of (last_gap (seen_row r)))) = fine_after (lines_of (last_gap (seen_row r))) (fine_lines (last_gap (seen_row r)) (last_decoded (seen_row r) row)) in
     let there : AtParts BzlStands Begins Begins xs = subst (λ kd. AtParts BzlStands Begins (after_node kd Begins) xs) e at_.1 in
-    all_joined IsProperItem (line_items lines (seen_row r)) (file_items (after_first_comment (lines_of (last_gap (seen_row r)))) xs)
+    all_joined IsProperItem (line_items lines (seen_row r)) (file_items (after_first_line (lines_of (last_gap (seen_row r)))) xs)
     (subst (λ ss. AreProper (line_items lines ss)) (sym rows) (line_proper lines ys fine fits (parts_legal _ r g.0.1) (row_ready shape lines_wider kind_fits _ r (of_build (Node' kind n r) g.0).1 v.0 w.0) decoded (parts_of_row BzlStands Begins Begins _ r at_.0)))
-    (lines_proper (after_first_comment (lines_of (last_gap (seen_row r)))) xs last h.1 g.1 v.1 w.1 there)
+    (lines_proper (after_first_line (lines_of (last_gap (seen_row r)))) xs last h.1 g.1 v.1 w.1 there)
 
 -- ---- the leaves
 

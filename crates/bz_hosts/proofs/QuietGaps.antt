@@ -1,13 +1,10 @@
 -- There are no comments between the statements of a line.
-use Rattle.std.proofs.Common.{◌≡◌, ℕ, eqb, true, false, not, List, [], ◌∷◌, inl, inr, refl, ap, ◌∙◌, subst, arith}
+use Rattle.std.proofs.Common.{◌≡◌, true, false, not, List, [], ◌∷◌, inl, inr, refl, ap, ◌∙◌, subst}
 use Rattle.std.specs.List.{AllByRecursion}
-use Rattle.std.proofs.lemmas.Bool.{both_ways}
-use Rattle.std.proofs.lemmas.Bool.Decides.{nat_tests}
-use Rattle.bz_token.specs.Bytes.{is_blank}
 use Rattle.bz_token.specs.declared.class.Class.{Class}
 use Rattle.bz_token.specs.declared.class.Class.TheVariants as c
 use Rattle.bz_lex.specs.declared.leaf.Leaf.{Leaf}
-use Rattle.bz_lex.specs.Gaps.{IsGap, nothing, blank, escaped, escaped_return, unescaped, comment, last_comment}
+use Rattle.bz_lex.specs.Gaps.{IsGap}
 use Rattle.bz_grammar.specs.declared.tree.Part.{Part, Row_of-Part, end_of-Part, more_of-Part, Node', items-the_row-Part}
 use Rattle.bz_grammar.specs.declared.tree.Part.TheVariants as p
 use Rattle.bz_grammar.specs.Shapes as s
@@ -15,30 +12,18 @@ use Rattle.bz_grammar.specs.Shapes.{Fits, Listed, tok, done, has_token}
 use Rattle.bz_grammar.specs.Legal.{IsNonterminal, LegalPart, LegalRow}
 use Rattle.bz_grammar.specs.Spots.{Spot, Begins, Along, onward, after_part, GapStands, Stands, AtLeaves, AtRow, AtParts}
 use Rattle.bz_grammar.proofs.Balance.{no_such}
-use Rattle.bz_items.specs.Characters.{Bytes, backslash, line_feed, number_sign}
+use Rattle.bz_items.specs.Characters.{Bytes}
 use Rattle.bz_value.specs.Frames.{frame}
-use Rattle.bz_value.specs.Gaps.{lines_of, all_in}
+use Rattle.bz_value.specs.Gaps.{as_list, all_in}
+use Rattle.bz_value.proofs.AlongGaps.{along}
 use Rattle.bz_value.proofs.Wider.{lines_wider}
 use Rattle.bz_hosts.specs.View.{seen, seen_row, first_seen_gap}
 use Rattle.bz_hosts.proofs.InnerParts.{ends_line, is_inner, token_inner, nonterminal_inner, inner_parts, nonterminal_goes, token_goes}
 use Rattle.bz_hosts.proofs.RowParts.{on_twice}
 use Rattle.bz_hosts.proofs.SeenParts.{node_gap}
 
-pub blank_silent : (byte : ℕ) (g : Bytes) → is_blank byte ≡ true → lines_of (byte ∷ g) ≡ lines_of g
-blank_silent byte g h =
-    let m : eqb byte number_sign ≡ false = grind (arith, nat_tests) in
-    let n : eqb byte line_feed ≡ false = grind (arith, nat_tests) in
-    let b : eqb byte backslash ≡ false = grind (arith, nat_tests) in
-    rw (m, n, b) refl
-
 pub along_silent : (gap : Bytes) → IsGap false false gap → all_in gap ≡ []
-along_silent gap (nothing e) = rw e refl
-along_silent gap (blank byte rest e b h) = rw e (rw (blank_silent byte rest b) (along_silent rest h))
-along_silent gap (escaped rest e h) = rw e (along_silent rest h)
-along_silent gap (escaped_return rest e h) = rw e (along_silent rest h)
-along_silent gap (unescaped rest e n h) = absurd (both_ways false refl n)
-along_silent gap (comment words rest e o n h) = absurd (both_ways false refl n)
-along_silent gap (last_comment words e o n) = absurd (both_ways false refl n)
+along_silent gap h = let w = along false gap h in w.2 ∙ ap as_list (w.3 refl)
 
 gap_silent : (class : Class) (gap : Bytes) → not (ends_line class) ≡ true → GapStands class Along gap → all_in gap ≡ []
 gap_silent c.Newline gap e h = no_such e

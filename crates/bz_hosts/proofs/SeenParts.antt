@@ -19,7 +19,7 @@ use Rattle.bz_items.specs.Characters.{Bytes}
 use Rattle.bz_value.specs.Gaps.{all_in, has_newline}
 use Rattle.bz_value.specs.Roots.{root}
 use Rattle.bz_value.specs.Proper.{IsComment, comments_of, has_break, is_operator, after_expr}
-use Rattle.bz_value.proofs.AlongGaps.{along_quiet}
+use Rattle.bz_value.proofs.AlongGaps.{along}
 use Rattle.bz_value.proofs.GapComments.{Group, all_joined, all_fine}
 use Rattle.bz_value.proofs.Rooted.{SameRoot, one_of_same}
 use Rattle.bz_hosts.specs.View.{Seen, seen, seen_row, seen_node, plain, first_seen_gap, loose_in, loose_after}
@@ -86,9 +86,9 @@ after_made outer here (Node' kind n r) cs b = node_after kind (seen_row r) cs b 
 -- ---- no unescaped newline is before a part along a line
 
 gap_along : (class : Class) (gap : Bytes) → BzlGapStands class Along gap → has_newline gap ≡ false
-gap_along c.Newline gap h = along_quiet h.0 gap h.1
+gap_along c.Newline gap h = (along h.0 gap h.1).0
 gap_along c.End gap h = absurd h
-gap_along _ gap h = along_quiet false gap h
+gap_along _ gap h = (along false gap h).0
 
 mutual
   pub part_along : (x : Part) → AtLeaves BzlStands Along x → has_newline (seen x).gap ≡ false

@@ -7,7 +7,7 @@ use Rattle.bz_grammar.specs.declared.tree.Part.TheVariants as p
 use Rattle.bz_grammar.specs.Shapes as s
 use Rattle.bz_value.specs.declared.value.Item.{Item}
 use Rattle.bz_items.specs.Characters.{Bytes}
-use Rattle.bz_value.specs.Gaps.{GapLine, lines_of, as_list, after_first_comment, comments_in, first_comment, suffix_in, others_in, all_in}
+use Rattle.bz_value.specs.Gaps.{GapLine, lines_of, as_list, after_first_line, comments_in, first_comment, suffix_in, others_in, all_in}
 use Rattle.bz_hosts.specs.View.{seen, plain, statement, statements_in}
 use Rattle.bz_hosts.proofs.QuietGaps.{Quiet}
 use Rattle.bz_hosts.specs.Hosts.{Region, host, Comment, comments_at, sizes, measured, is_item_part, hosts_from, CommentPlace, suffix_of, above, outside, texts_at, hosted_at, inside_expr, inside_item}
@@ -36,7 +36,7 @@ nil_both (x ∷ a) b e = cc
 
 silent_lines : (n : ℕ) (ls : List GapLine) → comments_in ls ≡ [] →
     map (λ (text : Bytes). let c : Comment = record { leaf = n; on_line = true; text = text } in c) (as_list (first_comment ls)) ++ map
-    (λ (text : Bytes). let c : Comment = record { leaf = n; on_line = false; text = text } in c) (comments_in (after_first_comment ls)) ≡ []
+    (λ (text : Bytes). let c : Comment = record { leaf = n; on_line = false; text = text } in c) (comments_in (after_first_line ls)) ≡ []
 silent_lines n [] e = refl
 silent_lines n (line ∷ ls) e = let w = nil_both (as_list line.comment) (comments_in ls) e in rw (w.0, w.1) refl
 

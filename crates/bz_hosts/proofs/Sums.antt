@@ -12,7 +12,7 @@ use Rattle.bz_value.specs.Comments.{HostComments, no_comments}
 use Rattle.bz_value.specs.Counted.{total, suffix_amount, host_amount, amount, item_amount}
 use Rattle.bz_value.specs.Frames.{Frame, row, sequence, frame}
 use Rattle.bz_items.specs.Characters.{Bytes}
-use Rattle.bz_value.specs.Gaps.{GapLine, lines_of, as_list, comments_in, first_comment, after_first_comment, put_on_first, before_groups, groups_of, all_but_last, last_group, suffix_in, others_in, all_in}
+use Rattle.bz_value.specs.Gaps.{GapLine, lines_of, as_list, comments_in, first_comment, after_first_line, put_on_first, before_groups, groups_of, all_but_last, last_group, suffix_in, others_in, all_in}
 use Rattle.bz_hosts.specs.View.{Seen, seen, seen_row, seen_node, plain, blocks}
 use Rattle.bz_hosts.specs.Walks.{form_of_frame}
 
@@ -26,7 +26,7 @@ module _ (number : Bytes → ℕ) where
   suffix_total None = refl
   suffix_total (Some text) = omega arith
 
-  first_total : (ls : List GapLine) → suffix_amount number (first_comment ls) + total number (comments_in (after_first_comment ls)) ≡ total number (comments_in ls)
+  first_total : (ls : List GapLine) → suffix_amount number (first_comment ls) + total number (comments_in (after_first_line ls)) ≡ total number (comments_in ls)
   first_total [] = refl
   first_total (l ∷ ls) =
       let h = append_total number (as_list l.comment) (comments_in ls) in

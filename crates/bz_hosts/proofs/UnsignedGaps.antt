@@ -1,10 +1,11 @@
 -- A gap without a number sign has no comment.
-use Rattle.std.proofs.Common.{◌≡◌, ℕ, suc, zero, Bool, true, false, not, ◌&&◌, if◌then◌else◌, nat_eq, List, [], ◌∷◌, ◌++◌, ◌+◌, Some, None, refl, sym, ap, ◌∙◌, subst, map, drop, append-nil, add-one}
+use Rattle.std.proofs.Common.{◌≡◌, ℕ, suc, zero, Bool, true, false, not, ◌&&◌, if◌then◌else◌, nat_eq, List, [], ◌∷◌, ◌++◌, ◌+◌, inl, inr, None, refl, sym, ap, ◌∙◌, subst, map, drop, append-nil, add-one}
 use Rattle.std.specs.List.{AllByRecursion}
-use Rattle.std.proofs.lemmas.Bool.{false≢true}
+use Rattle.std.proofs.lemmas.Bool.{cases_Bool, false≢true, not-true}
 use Rattle.bz_grammar.specs.declared.tree.Part.{Part}
+use Rattle.bz_lex.specs.Gaps.{is_indent}
 use Rattle.bz_items.specs.Characters.{Bytes, backslash, line_feed, number_sign}
-use Rattle.bz_value.specs.Gaps.{GapLine, lines_of, in_comment, after_backslash, trimmed, as_list, comments_in, first_comment, after_first_comment, suffix_in, others_in, all_in}
+use Rattle.bz_value.specs.Gaps.{GapLine, lines_from, rest_of_line, lines_of, as_list, comments_in, first_comment, after_first_line, suffix_in, others_in, all_in}
 use Rattle.bz_hosts.specs.View.{Seen, seen, first_seen_gap, loose_after}
 use Rattle.bz_hosts.specs.Walks.{above_after, is_unsigned, loose_from, suffix_after}
 use Rattle.bz_hosts.proofs.RowSteps.{gap_pushed}
@@ -16,36 +17,28 @@ both : (a b : Bool) → (a && b) ≡ true → (a ≡ true) × (b ≡ true)
 both true b h = (refl, h)
 both false b h = absurd (false≢true h)
 
-line_bare : (sign feed slash : Bool) (first : GapLine) (more xs ys : List GapLine) → not sign ≡ true → Bare xs → Bare ys →
-    Bare (if sign then first ∷ more else (if feed then record { comment = None; newline = true } ∷ xs else (if slash then record { comment = None; newline = false } ∷ ys else xs)))
-line_bare true feed slash first more xs ys h k l = absurd (false≢true h)
-line_bare false true slash first more xs ys h k l = (refl, k)
-line_bare false false true first more xs ys h k l = (refl, l)
-line_bare false false false first more xs ys h k l = k
+bare_from : (g : Bytes) → is_unsigned g ≡ true → ((indent : ℕ) → Bare (lines_from indent g)) × Bare (rest_of_line g).lines
+bare_from [] h = (λ indent. tt, tt)
+bare_from (c ∷ g) h =
+    let w = both (not (nat_eq c number_sign)) (is_unsigned g) h in
+    let sign = not-true (nat_eq c number_sign) w.0 in
+    let rest = bare_from g w.1 in
+    elim (cases_Bool (nat_eq c line_feed)) [
+      | inl feed ↦ (λ indent. rw (sign, feed) (refl, rest.0 0), rw feed (rest.0 0))
+      | inr other ↦ (
+        λ indent. elim (cases_Bool (nat_eq c backslash)) [ inl slash ↦ rw (sign, other, slash) (refl, rest.1) | inr plain ↦ rw (sign, other, plain) (rest.0 (if is_indent c then suc indent else 0)) ],
+        rw other rest.1,
+      )
+    ]
 
-later_bare : (feed : Bool) (xs ys : List GapLine) → Bare xs → Bare ys → Bare (if feed then xs else ys)
-later_bare true xs ys k l = k
-later_bare false xs ys k l = l
-
-mutual
-  lines_bare : (g : Bytes) → is_unsigned g ≡ true → Bare (lines_of g)
-  lines_bare [] h = tt
-  lines_bare (c ∷ g) h =
-      let w = both (not (nat_eq c number_sign)) (is_unsigned g) h in
-      line_bare (nat_eq c number_sign) (nat_eq c line_feed) (nat_eq c backslash) (record { comment = Some (trimmed (number_sign ∷ (in_comment g).words)); newline = (in_comment g).newline }) (in_comment g).lines
-      (lines_of g) (after_backslash g) w.0 (lines_bare g w.1) (after_bare g w.1)
-
-  after_bare : (g : Bytes) → is_unsigned g ≡ true → Bare (after_backslash g)
-  after_bare [] h = tt
-  after_bare (c ∷ g) h =
-      let w = both (not (nat_eq c number_sign)) (is_unsigned g) h in
-      later_bare (nat_eq c line_feed) (lines_of g) (after_backslash g) (lines_bare g w.1) (after_bare g w.1)
+lines_bare : (g : Bytes) → is_unsigned g ≡ true → Bare (lines_of g)
+lines_bare g h = (bare_from g h).0 0
 
 comments_bare : (lines : List GapLine) → Bare lines → comments_in lines ≡ []
 comments_bare [] h = refl
 comments_bare (line ∷ lines) h = ap (λ o. as_list o ++ comments_in lines) h.0 ∙ comments_bare lines h.1
 
-rest_bare : (lines : List GapLine) → Bare lines → Bare (after_first_comment lines)
+rest_bare : (lines : List GapLine) → Bare lines → Bare (after_first_line lines)
 rest_bare [] h = tt
 rest_bare (line ∷ lines) h = h.1
 
@@ -57,7 +50,7 @@ all_quiet : (g : Bytes) → is_unsigned g ≡ true → all_in g ≡ []
 all_quiet g h = comments_bare (lines_of g) (lines_bare g h)
 
 others_quiet : (g : Bytes) → is_unsigned g ≡ true → others_in g ≡ []
-others_quiet g h = comments_bare (after_first_comment (lines_of g)) (rest_bare (lines_of g) (lines_bare g h))
+others_quiet g h = comments_bare (after_first_line (lines_of g)) (rest_bare (lines_of g) (lines_bare g h))
 
 suffix_quiet : (g : Bytes) → is_unsigned g ≡ true → suffix_in g ≡ None
 suffix_quiet g h = first_bare (lines_of g) (lines_bare g h)

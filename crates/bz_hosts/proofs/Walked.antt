@@ -7,7 +7,7 @@ use Rattle.bz_grammar.specs.declared.tree.Part.{Part, Node'}
 use Rattle.bz_grammar.specs.declared.tree.Part.TheVariants as p
 use Rattle.bz_grammar.specs.Spell.{leaves_part}
 use Rattle.bz_items.specs.Characters.{Bytes}
-use Rattle.bz_value.specs.Gaps.{GapLine, lines_of, after_first_comment, groups_of, all_but_last, last_group}
+use Rattle.bz_value.specs.Gaps.{GapLine, lines_of, after_first_line, groups_of, all_but_last, last_group}
 use Rattle.bz_hosts.specs.Hosts.{Region, Comment, in_line, Hosted, hosted_at, hosts_alone, with_group, lines_before, right_above, bare_lines, hosted_from}
 use Rattle.bz_hosts.proofs.Numbered.{all_numbered, alone_numbered, last_numbered}
 use Rattle.bz_hosts.proofs.Parts.{size, size_leaves, Solid}
@@ -30,7 +30,7 @@ walked rs cs left n (Node' kind z r ∷ xs) =
     let groups : List (List Bytes) = groups_of (left ++ lines_of (gap_of ls)) in
     hosts_alone (all_but_last groups)
     ++ with_group (last_group groups) (map (hosted_at rs cs) (in_line n (Node' kind z r)))
-    ++ walked rs cs (after_first_comment (lines_of (last_gap ls))) (n + length ls) xs
+    ++ walked rs cs (after_first_line (lines_of (last_gap ls))) (n + length ls) xs
 
 -- ---- the last gap of leaves
 
@@ -41,11 +41,11 @@ last_after (l ∷ l' ∷ ls) m ms = last_after (l' ∷ ls) m ms
 
 abbrev left_by : List Leaf → List GapLine
 left_by [] = []
-left_by (l ∷ ls) = after_first_comment (lines_of (last_gap (l ∷ ls)))
+left_by (l ∷ ls) = after_first_line (lines_of (last_gap (l ∷ ls)))
 
-left_after : (front : List Leaf) (m : Leaf) (ms : List Leaf) → left_by (front ++ m ∷ ms) ≡ after_first_comment (lines_of (last_gap (m ∷ ms)))
+left_after : (front : List Leaf) (m : Leaf) (ms : List Leaf) → left_by (front ++ m ∷ ms) ≡ after_first_line (lines_of (last_gap (m ∷ ms)))
 left_after [] m ms = refl
-left_after (l ∷ ls) m ms = ap (λ (z : Bytes). after_first_comment (lines_of z)) (last_after (l ∷ ls) m ms)
+left_after (l ∷ ls) m ms = ap (λ (z : Bytes). after_first_line (lines_of z)) (last_after (l ∷ ls) m ms)
 
 -- the lines before a leaf, by what is in front of it
 before_collected : (front : List Leaf) (m : Leaf) (ms : List Leaf) → lines_before (front ++ m ∷ ms) (length front) ≡ left_by front ++ lines_of m.gap
@@ -85,14 +85,14 @@ module _ (rs : List Region) (cs : List Comment) where
       ∙ (before_collected front first (rest ++ more) ∙ ap (λ (z : List Leaf). left_by front ++ lines_of (gap_of z)) (sym leaves))) in
       let there : List GapLine = left_by front ++ lines_of (gap_of ls) in
       let far : length (front ++ ls) ≡ m = let e' = size_leaves line in omega (arith, length-append front ls) in
-      let following : hosted_from rs cs all m xs ≡ walked rs cs (after_first_comment (lines_of (last_gap ls))) m xs =
+      let following : hosted_from rs cs all m xs ≡ walked rs cs (after_first_line (lines_of (last_gap ls))) m xs =
       ap (λ (z : List Leaf). hosted_from rs cs z m xs) (sym (append_assoc front ls more))
       ∙ (by_number (front ++ ls) m xs h.1 e far
-      ∙ ap (λ (z : List GapLine). walked rs cs z m xs) (ap (λ (z : List Leaf). left_by (front ++ z)) leaves ∙ (left_after front first rest ∙ ap (λ (z : List Leaf). after_first_comment (lines_of (last_gap z))) (sym leaves)))) in
+      ∙ ap (λ (z : List GapLine). walked rs cs z m xs) (ap (λ (z : List Leaf). left_by (front ++ z)) leaves ∙ (left_after front first rest ∙ ap (λ (z : List Leaf). after_first_line (lines_of (last_gap z))) (sym leaves)))) in
       let same : m ≡ n + length ls = ap (λ (z : ℕ). n + z) (size_leaves line) in
       let hosts : List Hosted = map (hosted_at rs cs) (in_line n line) in
       ap (λ (z : List GapLine). hosts_alone (map (right_above z) (bare_lines 0 z)) ++ with_group (right_above z (length z)) hosts ++ hosted_from rs cs all m xs) lines
       ∙ (ap (λ (z : List (List Bytes)). hosts_alone z ++ with_group (right_above there (length there)) hosts ++ hosted_from rs cs all m xs) (sym (alone_numbered there))
       ∙ (ap (λ (z : List Bytes). hosts_alone (all_but_last (groups_of there)) ++ with_group z hosts ++ hosted_from rs cs all m xs) (sym (last_numbered there))
       ∙ (ap (λ (z : List Hosted). hosts_alone (all_but_last (groups_of there)) ++ with_group (last_group (groups_of there)) hosts ++ z) following
-      ∙ ap (λ (z : ℕ). hosts_alone (all_but_last (groups_of there)) ++ with_group (last_group (groups_of there)) hosts ++ walked rs cs (after_first_comment (lines_of (last_gap ls))) z xs) same)))
+      ∙ ap (λ (z : ℕ). hosts_alone (all_but_last (groups_of there)) ++ with_group (last_group (groups_of there)) hosts ++ walked rs cs (after_first_line (lines_of (last_gap ls))) z xs) same)))

@@ -18,7 +18,7 @@ use Rattle.bz_value.specs.declared.value.Item.TheVariants as i
 use Rattle.bz_value.specs.Comments.{HostComments}
 use Rattle.bz_value.specs.Frames.{Frame, row, sequence, frame, lead}
 use Rattle.bz_items.specs.Characters.{Bytes}
-use Rattle.bz_value.specs.Gaps.{GapLine, lines_of, as_list, after_first_comment, comments_in, first_comment}
+use Rattle.bz_value.specs.Gaps.{GapLine, lines_of, as_list, after_first_line, comments_in, first_comment}
 use Rattle.bz_value.specs.Proper.{comments_of}
 
 -- ---- comments
@@ -32,7 +32,7 @@ pub record Comment : Type 0 where
 abbrev pub comments_at : ℕ → Bytes → List Comment
 comments_at n gap =
     map (λ text. record { leaf = n; on_line = true; text = text }) (as_list (first_comment (lines_of gap)))
-    ++ map (λ text. record { leaf = n; on_line = false; text = text }) (comments_in (after_first_comment (lines_of gap)))
+    ++ map (λ text. record { leaf = n; on_line = false; text = text }) (comments_in (after_first_line (lines_of gap)))
 
 -- the comments of leaves, the first of which has this number
 abbrev pub comments_from : ℕ → List Leaf → List Comment
@@ -208,7 +208,7 @@ leaf_gap (l ∷ ls) (suc n) = leaf_gap ls n
 -- are numbered from 0, and the line of the leaf's token is the next.
 abbrev pub lines_before : List Leaf → ℕ → List GapLine
 lines_before leaves zero = lines_of (leaf_gap leaves zero)
-lines_before leaves (suc n) = after_first_comment (lines_of (leaf_gap leaves n)) ++ lines_of (leaf_gap leaves (suc n))
+lines_before leaves (suc n) = after_first_line (lines_of (leaf_gap leaves n)) ++ lines_of (leaf_gap leaves (suc n))
 
 abbrev pub comment_on : List GapLine → ℕ → Option Bytes
 comment_on [] n = None

@@ -8,7 +8,7 @@ use Rattle.bz_grammar.specs.declared.tree.Part.TheVariants as p
 use Rattle.bz_grammar.specs.Spell.{limit}
 use Rattle.bz_grammar.specs.Legal.{Reads}
 use Rattle.bz_grammar.specs.Joined.{AreWholeLines}
-use Rattle.bz_value.specs.Gaps.{GapLine, lines_of, after_first_comment}
+use Rattle.bz_value.specs.Gaps.{GapLine, lines_of, after_first_line}
 use Rattle.bz_hosts.specs.View.{last_gap, seen_row, view_of}
 
 -- What the last of these lines leaves to what follows: the lines in the gap of its Newline after an escaped newline.
@@ -16,7 +16,7 @@ use Rattle.bz_hosts.specs.View.{last_gap, seen_row, view_of}
 abbrev pub lines_left : List GapLine → List Part → List GapLine
 lines_left left [] = left
 lines_left left (p.Leaf l ∷ xs) = lines_left [] xs
-lines_left left (Node' kind size row ∷ xs) = lines_left (after_first_comment (lines_of (last_gap (seen_row row)))) xs
+lines_left left (Node' kind size row ∷ xs) = lines_left (after_first_line (lines_of (last_gap (seen_row row)))) xs
 
 -- A file whose text ends with the newline of its last line, in whose gap no newline is escaped; or that is empty.
 pub record EndsWithLine (n : Node) : Type 0 where
@@ -40,4 +40,4 @@ EmptyReads = (n : Node) × Reads [] n × (view_of n ≡ []) × EndsWithLine n
 -- For a private function: a line ends with a newline that is a line feed, in whose gap no newline is escaped.
 abbrev pub EndInNewline : List Part → Type 0
 EndInNewline parts =
-    (before : List Part) × (newline : Leaf) × (parts ≡ before ++ p.Leaf newline ∷ []) × (newline.token ≡ line_feed ∷ []) × (after_first_comment (lines_of newline.gap) ≡ [])
+    (before : List Part) × (newline : Leaf) × (parts ≡ before ++ p.Leaf newline ∷ []) × (newline.token ≡ line_feed ∷ []) × (after_first_line (lines_of newline.gap) ≡ [])

@@ -12,7 +12,7 @@ use Rattle.bz_value.specs.declared.value.Item.TheVariants as i
 use Rattle.bz_value.specs.Comments.{HostComments, no_comments}
 use Rattle.bz_value.specs.Frames.{Frame, row, sequence, frame, lead, is_binary, is_comprehension}
 use Rattle.bz_items.specs.Characters.{Bytes}
-use Rattle.bz_value.specs.Gaps.{GapLine, lines_of, after_first_comment, groups_of, all_but_last, last_group, suffix_in, others_in, all_in, has_newline}
+use Rattle.bz_value.specs.Gaps.{GapLine, lines_of, after_first_line, groups_of, all_but_last, last_group, suffix_in, others_in, all_in, has_newline}
 use Rattle.bz_value.specs.Proper.{is_operator}
 
 -- A part that was read: the expression that it is for given comments and break, which only what is around it knows;
@@ -179,7 +179,7 @@ file_items left [] = []
 file_items left (p.Leaf l ∷ xs) = blocks (groups_of (left ++ lines_of l.gap)) ++ file_items [] xs
 file_items left (Node' kind _ parts ∷ xs) =
     let ss : List Seen = seen_row parts in
-    line_items (left ++ lines_of (first_seen_gap ss)) ss ++ file_items (after_first_comment (lines_of (last_gap ss))) xs
+    line_items (left ++ lines_of (first_seen_gap ss)) ss ++ file_items (after_first_line (lines_of (last_gap ss))) xs
 
 -- the file value of a tree
 abbrev pub view_of : Node → List Item

@@ -3,7 +3,7 @@ ghost use Rattle.std.specs.Prelude.{◌≡◌, ◌∷◌, [], IsTrue};
 ghost use Rattle.bz_items.specs.Characters.{line_feed};
 ghost use Rattle.bz_lex.specs.declared.leaf.Leaf.{Leaf as Token};
 ghost use Rattle.bz_grammar.specs.declared.tree.Node.{Node as Line};
-ghost use Rattle.bz_value.specs.Gaps.{after_first_comment, lines_of};
+ghost use Rattle.bz_value.specs.Gaps.{after_first_line, lines_of};
 ghost use Rattle.bz_hosts.specs.Joined.{EndInNewline, EndsWithLine};
 
 use bz_grammar::{Leaf, Part, Tree};
@@ -11,7 +11,7 @@ use bz_value::past_first_line;
 
 fn is_closed(newline: &Leaf) -> bool
     ensures token { IsTrue result → newline.now.token ≡ line_feed ∷ [] }
-    ensures left { IsTrue result → after_first_comment (lines_of newline.now.gap) ≡ [] }
+    ensures left { IsTrue result → after_first_line (lines_of newline.now.gap) ≡ [] }
 {
     newline.token.as_slice() == b"\n".as_slice()
         && past_first_line(newline.gap.as_slice()).is_empty()

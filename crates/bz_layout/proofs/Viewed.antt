@@ -82,7 +82,7 @@ first_true false b e = e
 -- ---- gaps in rows
 
 abbrev lines_if : Bool → List GapLine
-lines_if newline = if newline then ended_line None ∷ [] else []
+lines_if newline = if newline then ended_line 0 None ∷ [] else []
 
 newline_if : (b : Bool) → some_newline (lines_if b) ≡ b
 newline_if true = refl

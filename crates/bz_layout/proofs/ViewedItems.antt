@@ -7,13 +7,13 @@ use Rattle.bz_grammar.specs.declared.kind.Kind.{Kind}
 use Rattle.bz_value.specs.declared.value.Expr.{Expr}
 use Rattle.bz_items.specs.Characters.{Bytes, comma, space}
 use Rattle.bz_value.specs.Comments.{HostComments, no_comments}
-use Rattle.bz_value.specs.Gaps.{lines_of, comments_in, first_comment, after_first_comment, some_newline, suffix_in, others_in, all_in, has_newline}
+use Rattle.bz_value.specs.Gaps.{lines_of, comments_in, first_comment, after_first_line, some_newline, suffix_in, others_in, all_in, has_newline}
 use Rattle.bz_value.specs.Proper.{IsComment, MaybeComment, comments_of, has_break}
 use Rattle.bz_hosts.specs.View.{Seen, seen, plain, first_seen_gap, loose_after, loose_in, items_in, item_in, is_split, leaf_seen}
 use Rattle.bz_layout.specs.Layout.{Piece, joined, stacked, headed, is_broken, has_comments, new_line_at, margin_lines, suffix_text, firsts}
 use Rattle.bz_value.specs.Empty.{is_empty, is_none}
 use Rattle.bz_layout.specs.Flags.{with_flags}
-use Rattle.bz_layout.proofs.Gapped.{ended_line, commented, commented_back, lines_item, lines_end}
+use Rattle.bz_layout.proofs.Gapped.{ended_line, commented, commented_back, suffix_indent, lines_item, lines_end}
 use Rattle.bz_layout.proofs.Readable.{AreHeads, AreItems}
 use Rattle.bz_layout.proofs.Viewed.{PartAt, SeenAs, Reads, look, settled}
 
@@ -59,7 +59,7 @@ joined_back m g closer false (x ∷ []) r bare = ap (λ z. (z ∷ [], [])) (bare
 joined_back m g closer one (x ∷ y ∷ ys) r bare =
     let rest : List Seen = look (joined m (space ∷ []) closer false (y ∷ ys)) in
     let quiet : IsQuiet (first_seen_gap rest) = joined_lines m (space ∷ []) closer false (y ∷ ys) r.1 refl in
-    item_step [] (seen (x.1 g m)) rest None [] (with_flags x.0) (settled (y ∷ ys), []) tt (ap first_comment quiet) (ap (λ z. comments_in (after_first_comment z)) quiet) (bare_made x g m r.0 bare.0 bare.1)
+    item_step [] (seen (x.1 g m)) rest None [] (with_flags x.0) (settled (y ∷ ys), []) tt (ap first_comment quiet) (ap (λ z. comments_in (after_first_line z)) quiet) (bare_made x g m r.0 bare.0 bare.1)
     (joined_back m (space ∷ []) closer false (y ∷ ys) r.1 bare.2)
 
 joined_split : (m : ℕ) (g : Bytes) (closer : ℕ) (one : Bool) (xs : List (Expr × PartAt)) → Reads xs → IsQuiet g → is_split (look (joined m g closer one xs)) ≡ false
@@ -78,7 +78,7 @@ fore [] end = end
 fore (x ∷ xs) end = (comments_of x).before
 
 stacked_lines : (m : ℕ) (suffix : Option Bytes) (closer : ℕ) (end : List Bytes) (xs : List (Expr × PartAt)) → Reads xs → MaybeComment suffix → AllByRecursion IsComment end → AreItems (firsts xs) →
-    lines_of (first_seen_gap (look (stacked m suffix closer end xs))) ≡ ended_line suffix ∷ commented (fore (firsts xs) end)
+    lines_of (first_seen_gap (look (stacked m suffix closer end xs))) ≡ ended_line (suffix_indent suffix) suffix ∷ commented (m + 4) (fore (firsts xs) end)
 stacked_lines m suffix closer end [] r s e h = lines_end suffix end m s e
 stacked_lines m suffix closer end (x ∷ xs) r s e h =
     ap lines_of (r.0.gap (suffix_text suffix ++ (new_line_at (m + 4) ++ margin_lines (m + 4) (comments_of x.0).before)) (m + 4)) ∙ lines_item suffix (comments_of x.0).before (m + 4) s h.0
@@ -103,7 +103,7 @@ stacked_back m suffix closer end (x ∷ xs) r s e h =
     let rest : List Seen = look (stacked m own.suffix closer end xs) in
     let lines = stacked_lines m own.suffix closer end xs r.1 h.1 e h.3 in
     item_step own.before (seen (x.1 (suffix_text suffix ++ (new_line_at (m + 4) ++ margin_lines (m + 4) own.before)) (m + 4))) rest own.suffix (fore (firsts xs) end) (with_flags x.0) (settled xs, end)
-    (stacked_begun m own.suffix closer end xs) (ap first_comment lines) (ap (λ z. comments_in (after_first_comment z)) lines ∙ commented_back (fore (firsts xs) end)) (item_made x _ (m + 4) r.0 h.2)
+    (stacked_begun m own.suffix closer end xs) (ap first_comment lines) (ap (λ z. comments_in (after_first_line z)) lines ∙ commented_back (m + 4) (fore (firsts xs) end)) (item_made x _ (m + 4) r.0 h.2)
     (stacked_back m own.suffix closer end xs r.1 h.1 e h.3)
 
 split_first : (ss : List Seen) → Begun ss → has_newline (first_seen_gap ss) ≡ true → is_split ss ≡ true
@@ -157,7 +157,7 @@ body_back true one kind split m closer end xs r e h b =
     let lines = stacked_lines m None closer end xs r tt e h in
     let body : List Seen = look (stacked m None closer end xs) in
     record {
-      found = ap (λ z. items_in (comments_in z) body) lines ∙ (ap (λ z. items_in z body) (commented_back (fore (firsts xs) end)) ∙ stacked_back m None closer end xs r tt e h);
+      found = ap (λ z. items_in (comments_in z) body) lines ∙ (ap (λ z. items_in z body) (commented_back (m + 4) (fore (firsts xs) end)) ∙ stacked_back m None closer end xs r tt e h);
       split = split_first body (stacked_begun m None closer end xs) (ap some_newline lines);
     }
 body_back false one kind split m closer end xs r e h b =

@@ -21,10 +21,10 @@ AreLines gap ls = (rest : Bytes) → lines_of (gap ++ rest) ≡ ls ++ lines_of r
 pub lines_append : (a b : Bytes) (ls ms : List GapLine) → AreLines a ls → AreLines b ms → AreLines (a ++ b) (ls ++ ms)
 lines_append a b ls ms h k rest = ap lines_of (append_assoc a b rest) ∙ (h (b ++ rest) ∙ (ap (λ z. ls ++ z) (k rest) ∙ sym (append_assoc ls ms (lines_of rest))))
 
-pub comments_are_lines : (texts : List Bytes) → AllByRecursion IsComment texts → AreLines (comment_lines texts) (commented texts)
+pub comments_are_lines : (texts : List Bytes) → AllByRecursion IsComment texts → AreLines (comment_lines texts) (commented 0 texts)
 comments_are_lines [] h rest = refl
 comments_are_lines (text ∷ texts) h rest =
-    ap lines_of (append_assoc text (line_feed ∷ comment_lines texts) rest) ∙ (comment_line text (comment_lines texts ++ rest) h.0 ∙ ap (λ z. ended_line (Some text) ∷ z) (comments_are_lines texts h.1 rest))
+    ap lines_of (append_assoc text (line_feed ∷ comment_lines texts) rest) ∙ (comment_line 0 text (comment_lines texts ++ rest) h.0 ∙ ap (λ z. ended_line 0 (Some text) ∷ z) (comments_are_lines texts h.1 rest))
 
 pub whole_lines : (gap : Bytes) (ls : List GapLine) → AreLines gap ls → lines_of gap ≡ ls
 whole_lines gap ls h = ap lines_of (sym (append-nil gap)) ∙ (h [] ∙ append-nil ls)
@@ -49,11 +49,11 @@ cut_before : (comment : Option Bytes) (gs hs : List (List Bytes)) → Groups gs 
 cut_before None gs hs h = refl
 cut_before (Some text) gs hs h = ap (λ z. before_groups (Some text) (z ++ hs)) h.all ∙ ap (λ z. before_groups (Some text) z ++ hs) (sym h.all)
 
-groups_cut : (a b : List GapLine) → groups_of (a ++ (ended_line None ∷ b)) ≡ groups_of a ++ groups_of b
+groups_cut : (a b : List GapLine) → groups_of (a ++ (ended_line 0 None ∷ b)) ≡ groups_of a ++ groups_of b
 groups_cut [] b = refl
 groups_cut (l ∷ a) b = ap (before_groups l.comment) (groups_cut a b) ∙ cut_before l.comment (groups_of a) (groups_of b) (some_group a)
 
-groups_commented : (texts : List Bytes) → groups_of (commented texts) ≡ texts ∷ []
+groups_commented : (texts : List Bytes) → groups_of (commented 0 texts) ≡ texts ∷ []
 groups_commented [] = refl
 groups_commented (text ∷ texts) = ap (before_groups (Some text)) (groups_commented texts)
 
@@ -87,13 +87,13 @@ all_blocks ls = ap blocks (split_last (groups_of ls) (some_group ls)) ∙ blocks
 
 -- before any comments, these lines say these Blocks, and the comments are the last group
 pub record Waits (ls : List GapLine) (bs : List Item) : Type 0 where
-  pub front : (texts : List Bytes) → blocks (all_but_last (groups_of (ls ++ commented texts))) ≡ bs
-  pub last : (texts : List Bytes) → last_group (groups_of (ls ++ commented texts)) ≡ texts
+  pub front : (texts : List Bytes) → blocks (all_but_last (groups_of (ls ++ commented 0 texts))) ≡ bs
+  pub last : (texts : List Bytes) → last_group (groups_of (ls ++ commented 0 texts)) ≡ texts
 
 pub nothing_waits : Waits [] []
 nothing_waits = record { front = λ texts. ap (λ z. blocks (all_but_last z)) (groups_commented texts); last = λ texts. ap last_group (groups_commented texts) }
 
-pub blank_waits : Waits (ended_line None ∷ []) []
+pub blank_waits : Waits (ended_line 0 None ∷ []) []
 blank_waits = record { front = λ texts. ap (λ z. blocks (all_but_last ([] ∷ z))) (groups_commented texts); last = λ texts. ap (λ z. last_group ([] ∷ z)) (groups_commented texts) }
 
 -- before the end of the file they are all Blocks
@@ -102,14 +102,14 @@ end_blocks ls bs h =
     ap (λ z. blocks (groups_of z)) (sym (append-nil ls)) ∙ (all_blocks (ls ++ []) ∙ (two (λ z w. z ++ blocks (w ∷ [])) (h.front []) (h.last []) ∙ append-nil bs))
 
 -- Comment lines by themselves are a Block.
-pub commented_blocks : (ls : List GapLine) (bs : List Item) (text : Bytes) (texts : List Bytes) → Waits ls bs → blocks (groups_of (ls ++ commented (text ∷ texts))) ≡ bs ++ (i.Block (text ∷ texts) ∷ [])
-commented_blocks ls bs text texts h = all_blocks (ls ++ commented (text ∷ texts)) ∙ two (λ z w. z ++ blocks (w ∷ [])) (h.front (text ∷ texts)) (h.last (text ∷ texts))
+pub commented_blocks : (ls : List GapLine) (bs : List Item) (text : Bytes) (texts : List Bytes) → Waits ls bs → blocks (groups_of (ls ++ commented 0 (text ∷ texts))) ≡ bs ++ (i.Block (text ∷ texts) ∷ [])
+commented_blocks ls bs text texts h = all_blocks (ls ++ commented 0 (text ∷ texts)) ∙ two (λ z w. z ++ blocks (w ∷ [])) (h.front (text ∷ texts)) (h.last (text ∷ texts))
 
-pub block_waits : (ls : List GapLine) (bs : List Item) (text : Bytes) (texts : List Bytes) → Waits ls bs → Waits ((ls ++ commented (text ∷ texts)) ++ (ended_line None ∷ [])) (bs ++ (i.Block (text ∷ texts) ∷ []))
+pub block_waits : (ls : List GapLine) (bs : List Item) (text : Bytes) (texts : List Bytes) → Waits ls bs → Waits ((ls ++ commented 0 (text ∷ texts)) ++ (ended_line 0 None ∷ [])) (bs ++ (i.Block (text ∷ texts) ∷ []))
 block_waits ls bs text texts h =
-    let before : List GapLine = ls ++ commented (text ∷ texts) in
-    let all : (above : List Bytes) → groups_of ((before ++ (ended_line None ∷ [])) ++ commented above) ≡ groups_of before ++ (above ∷ []) = λ above.
-    ap groups_of (append_assoc before (ended_line None ∷ []) (commented above)) ∙ (groups_cut before (commented above) ∙ ap (λ z. groups_of before ++ z) (groups_commented above)) in
+    let before : List GapLine = ls ++ commented 0 (text ∷ texts) in
+    let all : (above : List Bytes) → groups_of ((before ++ (ended_line 0 None ∷ [])) ++ commented 0 above) ≡ groups_of before ++ (above ∷ []) = λ above.
+    ap groups_of (append_assoc before (ended_line 0 None ∷ []) (commented 0 above)) ∙ (groups_cut before (commented 0 above) ∙ ap (λ z. groups_of before ++ z) (groups_commented above)) in
     record {
       front = λ above. ap (λ z. blocks (all_but_last z)) (all above) ∙ (ap blocks (front_kept (groups_of before) above) ∙ commented_blocks ls bs text texts h);
       last = λ above. ap last_group (all above) ∙ last_kept (groups_of before) above;

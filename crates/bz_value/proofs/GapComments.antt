@@ -1,5 +1,5 @@
 -- What a gap says is comments: each is a text of characters, begins with `#`, holds no newline and has no blank at its end.
-use Rattle.std.proofs.Common.{ℕ, eqb, ◌≡◌, ◌≢◌, ◌<◌, true, false, List, [], ◌∷◌, ◌++◌, inl, inr, Option, Some, None, length, refl, sym, ap, subst, append_assoc, append-nil, length-append, arith}
+use Rattle.std.proofs.Common.{ℕ, eqb, ◌≡◌, ◌≢◌, ◌<◌, suc, true, false, if◌then◌else◌, List, [], ◌∷◌, ◌++◌, inl, inr, Option, Some, None, length, refl, sym, ap, subst, append_assoc, append-nil, length-append, arith}
 use Rattle.std.specs.Str.{IsUtf8}
 use Rattle.std.proofs.Math.Seq.{get_or-append_seam, take_at, drop_at}
 use Rattle.std.proofs.lemmas.Str.{IsUtf8-take, IsUtf8-drop, IsCharBoundary-before_ascii}
@@ -8,8 +8,9 @@ use Rattle.std.proofs.lemmas.List.Elements.{All-from_recursion}
 use Rattle.std.proofs.lemmas.Bool.{cases_Bool, eqb-true, eqb-false}
 use Rattle.std.proofs.lemmas.Bool.Decides.{nat_tests}
 use Rattle.bz_token.specs.Bytes.{is_blank}
+use Rattle.bz_lex.specs.Gaps.{is_indent}
 use Rattle.bz_items.specs.Characters.{Bytes, backslash, line_feed, number_sign}
-use Rattle.bz_value.specs.Gaps.{GapLine, with_first, trimmed, in_comment, after_backslash, lines_of, as_list, comments_in, first_comment, after_first_comment, suffix_in, others_in, all_in, put_on_first, before_groups, groups_of, all_but_last, last_group}
+use Rattle.bz_value.specs.Gaps.{GapLine, with_first, trimmed, rest_of_line, lines_from, lines_of, as_list, comments_in, first_comment, after_first_line, suffix_in, others_in, all_in, put_on_first, before_groups, groups_of, all_but_last, last_group}
 use Rattle.bz_value.specs.Proper.{IsComment, MaybeComment}
 
 abbrev OneLine : Bytes → Type 0
@@ -76,38 +77,34 @@ AreFine ls = AllByRecursion (λ line. MaybeComment line.comment) ls
 
 -- of a gap, or of what is left of one after some bytes
 record FineGap (front g : Bytes) : Type 0 where
-  lines : AreFine (lines_of g)
-  following : AreFine (in_comment g).lines
-  escaped : AreFine (after_backslash g)
-  one_line : OneLine (in_comment g).words
-  coded : IsUtf8 (front ++ (in_comment g).words)
+  lines : (indent : ℕ) → AreFine (lines_from indent g)
+  following : AreFine (rest_of_line g).lines
+  one_line : OneLine (rest_of_line g).words
+  coded : IsUtf8 (front ++ (rest_of_line g).words)
 
 abbrev AllFine : Bytes → Type 0
 AllFine g = (front : Bytes) → IsUtf8 (front ++ g) → FineGap front g
 
 fine_newline : (c : ℕ) (g front : Bytes) → c ≡ line_feed → FineGap (front ++ c ∷ []) g → IsUtf8 (front ++ c ∷ g) → FineGap front (c ∷ g)
 fine_newline c g front e v u = subst (λ d. FineGap front (d ∷ g)) (sym e) (record {
-  lines = (tt, v.lines);
-  following = v.lines;
-  escaped = v.lines;
+  lines = λ indent. (tt, v.lines 0);
+  following = v.lines 0;
   one_line = tt;
   coded = subst IsUtf8 (sym (append-nil front)) (cut_before front c g (omega arith) u).0;
 })
 
-fine_mark : (c : ℕ) (g front : Bytes) → eqb c line_feed ≡ false → eqb c number_sign ≡ true → FineGap (front ++ c ∷ []) g → IsUtf8 (front ++ c ∷ (in_comment g).words) → FineGap (number_sign ∷ []) g → FineGap front (c ∷ g)
+fine_mark : (c : ℕ) (g front : Bytes) → eqb c line_feed ≡ false → eqb c number_sign ≡ true → FineGap (front ++ c ∷ []) g → IsUtf8 (front ++ c ∷ (rest_of_line g).words) → FineGap (number_sign ∷ []) g → FineGap front (c ∷ g)
 fine_mark c g front b m v on w = record {
-  lines = rw m (comment_of (in_comment g).words w.one_line w.coded, v.following);
+  lines = λ indent. rw m (comment_of (rest_of_line g).words w.one_line w.coded, v.following);
   following = rw b v.following;
-  escaped = rw b v.escaped;
   one_line = rw b (eqb-false c line_feed b, v.one_line);
   coded = rw b on;
 }
 
-fine_other : (c : ℕ) (g front : Bytes) → eqb c line_feed ≡ false → eqb c number_sign ≡ false → FineGap (front ++ c ∷ []) g → IsUtf8 (front ++ c ∷ (in_comment g).words) → FineGap front (c ∷ g)
+fine_other : (c : ℕ) (g front : Bytes) → eqb c line_feed ≡ false → eqb c number_sign ≡ false → FineGap (front ++ c ∷ []) g → IsUtf8 (front ++ c ∷ (rest_of_line g).words) → FineGap front (c ∷ g)
 fine_other c g front b m v on = record {
-  lines = elim (cases_Bool (eqb c backslash)) [ inl e ↦ rw (m, b, e) (tt, v.escaped) | inr e ↦ rw (m, b, e) v.lines ];
+  lines = λ indent. elim (cases_Bool (eqb c backslash)) [ inl e ↦ rw (m, b, e) (tt, v.following) | inr e ↦ rw (m, b, e) (v.lines (if is_indent c then suc indent else 0)) ];
   following = rw b v.following;
-  escaped = rw b v.escaped;
   one_line = rw b (eqb-false c line_feed b, v.one_line);
   coded = rw b on;
 }
@@ -115,7 +112,7 @@ fine_other c g front b m v on = record {
 fine_later : (c : ℕ) (g : Bytes) → AllFine g → AllFine (c ∷ g)
 fine_later c g w front u =
     let v : FineGap (front ++ c ∷ []) g = w (front ++ c ∷ []) (subst IsUtf8 (sym (append_assoc front (c ∷ []) g)) u) in
-    let on : IsUtf8 (front ++ c ∷ (in_comment g).words) = subst IsUtf8 (append_assoc front (c ∷ []) (in_comment g).words) v.coded in
+    let on : IsUtf8 (front ++ c ∷ (rest_of_line g).words) = subst IsUtf8 (append_assoc front (c ∷ []) (rest_of_line g).words) v.coded in
     elim (cases_Bool (eqb c line_feed)) [
       | inl b ↦ fine_newline c g front (eqb-true c line_feed b) v u
       | inr b ↦ elim (cases_Bool (eqb c number_sign)) [
@@ -125,11 +122,11 @@ fine_later c g w front u =
     ]
 
 fine_from : (g : Bytes) → AllFine g
-fine_from [] front u = record { lines = tt; following = tt; escaped = tt; one_line = tt; coded = u }
+fine_from [] front u = record { lines = λ indent. tt; following = tt; one_line = tt; coded = u }
 fine_from (c ∷ g) front u = fine_later c g (fine_from g) front u
 
 pub fine_lines : (g : Bytes) → IsUtf8 g → AreFine (lines_of g)
-fine_lines g u = (fine_from g [] u).lines
+fine_lines g u = (fine_from g [] u).lines 0
 
 -- ---- the comments that a gap says
 
@@ -152,7 +149,7 @@ fine_first : (ls : List GapLine) → AreFine ls → MaybeComment (first_comment 
 fine_first [] h = tt
 fine_first (line ∷ ls) h = h.0
 
-pub fine_after : (ls : List GapLine) → AreFine ls → AreFine (after_first_comment ls)
+pub fine_after : (ls : List GapLine) → AreFine ls → AreFine (after_first_line ls)
 fine_after [] h = tt
 fine_after (line ∷ ls) h = h.1
 
@@ -160,7 +157,7 @@ pub suffix_fine : (g : Bytes) → IsUtf8 g → MaybeComment (suffix_in g)
 suffix_fine g u = fine_first (lines_of g) (fine_lines g u)
 
 pub others_fine : (g : Bytes) → IsUtf8 g → Group (others_in g)
-others_fine g u = fine_comments (after_first_comment (lines_of g)) (fine_after (lines_of g) (fine_lines g u))
+others_fine g u = fine_comments (after_first_line (lines_of g)) (fine_after (lines_of g) (fine_lines g u))
 
 pub all_fine : (g : Bytes) → IsUtf8 g → Group (all_in g)
 all_fine g u = fine_comments (lines_of g) (fine_lines g u)

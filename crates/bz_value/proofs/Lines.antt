@@ -4,8 +4,7 @@ use Rattle.std.proofs.lemmas.Bool.{ne_eqb}
 use Rattle.std.proofs.lemmas.List.{take_more, drop_all}
 use Rattle.bz_token.specs.Bytes.{is_blank}
 use Rattle.bz_items.specs.Characters.{Bytes, line_feed}
-use Rattle.bz_value.specs.Gaps.{with_first, trimmed, in_comment, after_backslash, lines_of}
-use Rattle.bz_value.specs.Indented.{indented, indented_after}
+use Rattle.bz_value.specs.Gaps.{with_first, trimmed, rest_of_line, lines_of}
 
 abbrev pub NoneBefore : ℕ → Bytes → Type 0
 NoneBefore n text = (k : ℕ) → k < n → get_or text k 0 ≢ line_feed
@@ -13,39 +12,18 @@ NoneBefore n text = (k : ℕ) → k < n → get_or text k 0 ≢ line_feed
 not_first : (c n : ℕ) (g : Bytes) → NoneBefore (suc n) (c ∷ g) → eqb c line_feed ≡ false
 not_first c n g h = ne_eqb c line_feed (h 0 (omega arith))
 
--- a comment, and what a backslash escapes, end at the first newline
-pub comment_breaks : (text : Bytes) (n : ℕ) → NoneBefore n text → n < length text → get_or text n 0 ≡ line_feed → in_comment text ≡ record { words = take n text; newline = true; lines = lines_of (drop (suc n) text) }
-comment_breaks [] n h l e = absurd (omega arith)
-comment_breaks (c ∷ g) zero h l e = rw e refl
-comment_breaks (c ∷ g) (suc n) h l e =
-    rw (not_first c n g h) (ap (λ r. record { words = c ∷ r.words; newline = r.newline; lines = r.lines }) (comment_breaks g n (λ k i. h (suc k) (omega arith)) (omega arith) e))
-
-pub escape_breaks : (text : Bytes) (n : ℕ) → NoneBefore n text → n < length text → get_or text n 0 ≡ line_feed → after_backslash text ≡ lines_of (drop (suc n) text)
-escape_breaks [] n h l e = absurd (omega arith)
-escape_breaks (c ∷ g) zero h l e = rw e refl
-escape_breaks (c ∷ g) (suc n) h l e = rw (not_first c n g h) (escape_breaks g n (λ k i. h (suc k) (omega arith)) (omega arith) e)
-
-pub indented_breaks : (text : Bytes) (n : ℕ) → NoneBefore n text → n < length text → get_or text n 0 ≡ line_feed → indented_after text ≡ indented (drop (suc n) text)
-indented_breaks [] n h l e = absurd (omega arith)
-indented_breaks (c ∷ g) zero h l e = rw e refl
-indented_breaks (c ∷ g) (suc n) h l e = rw (not_first c n g h) (indented_breaks g n (λ k i. h (suc k) (omega arith)) (omega arith) e)
+-- a line ends at the first newline
+pub line_breaks : (text : Bytes) (n : ℕ) → NoneBefore n text → n < length text → get_or text n 0 ≡ line_feed → rest_of_line text ≡ record { words = take n text; newline = true; lines = lines_of (drop (suc n) text) }
+line_breaks [] n h l e = absurd (omega arith)
+line_breaks (c ∷ g) zero h l e = rw e refl
+line_breaks (c ∷ g) (suc n) h l e =
+    rw (not_first c n g h) (ap (λ r. record { words = c ∷ r.words; newline = r.newline; lines = r.lines }) (line_breaks g n (λ k i. h (suc k) (omega arith)) (omega arith) e))
 
 -- or at the end
-pub comment_stops : (text : Bytes) → NoneBefore (length text) text → in_comment text ≡ record { words = text; newline = false; lines = [] }
-comment_stops [] h = refl
-comment_stops (c ∷ g) h =
-    rw (not_first c (length g) g h) (ap (λ r. record { words = c ∷ r.words; newline = r.newline; lines = r.lines }) (comment_stops g (λ k i. h (suc k) (omega arith))))
-
-pub escape_stops : (text : Bytes) → NoneBefore (length text) text → after_backslash text ≡ []
-escape_stops [] h = refl
-escape_stops (c ∷ g) h = rw (not_first c (length g) g h) (escape_stops g (λ k i. h (suc k) (omega arith)))
-
-pub indented_stops : (text : Bytes) → NoneBefore (length text) text → indented_after text ≡ []
-indented_stops [] h = refl
-indented_stops (c ∷ g) h = rw (not_first c (length g) g h) (indented_stops g (λ k i. h (suc k) (omega arith)))
-
-pub no_indented_left : (text : Bytes) → [] ≡ indented (drop (length text + 1) text)
-no_indented_left text = ap indented (sym (drop_all (length text + 1) text (omega arith)))
+pub line_stops : (text : Bytes) → NoneBefore (length text) text → rest_of_line text ≡ record { words = text; newline = false; lines = [] }
+line_stops [] h = refl
+line_stops (c ∷ g) h =
+    rw (not_first c (length g) g h) (ap (λ r. record { words = c ∷ r.words; newline = r.newline; lines = r.lines }) (line_stops g (λ k i. h (suc k) (omega arith))))
 
 pub none_left : (text : Bytes) → [] ≡ lines_of (drop (length text + 1) text)
 none_left text = ap lines_of (sym (drop_all (length text + 1) text (omega arith)))

@@ -1,7 +1,8 @@
 -- What a gap says: its lines, each with a comment or without one. Every reader of gaps uses this one: the comments,
 -- the newlines, and the groups of comment lines at file level.
-use Rattle.std.specs.Prelude.{ℕ, Bool, true, false, ◌||◌, List, [], ◌∷◌, ◌++◌, Option, Some, None, if◌then◌else◌, nat_eq}
+use Rattle.std.specs.Prelude.{ℕ, suc, Bool, true, false, ◌||◌, List, [], ◌∷◌, ◌++◌, Option, Some, None, if◌then◌else◌, nat_eq}
 use Rattle.bz_token.specs.Bytes.{is_blank}
+use Rattle.bz_lex.specs.Gaps.{is_indent}
 use Rattle.bz_items.specs.Characters.{Bytes, backslash, line_feed, number_sign}
 
 -- A comment's text is kept without spaces, tabs and carriage returns at its end.
@@ -13,37 +14,39 @@ abbrev pub trimmed : Bytes → Bytes
 trimmed [] = []
 trimmed (c ∷ s) = with_first c (trimmed s)
 
--- A line of a gap: its comment, and whether an unescaped newline ends it (an escaped one, or the end of the gap, is none).
+-- A line of a gap: how many spaces and tabs are right before its comment, 0 without one; its comment; and whether an
+-- unescaped newline ends it (an escaped one, or the end of the gap, is none).
 pub record GapLine : Type 0 where
+  pub indent : ℕ
   pub comment : Option Bytes
   pub newline : Bool
 
--- A gap is blanks, newlines, backslashes right before a newline (or before a carriage return and a newline), and comments
--- up to a newline. After a `#`: the rest of the comment, whether a newline ends it, and the lines after it. A last line
--- without newline counts only with a comment.
-pub record CommentRest : Type 0 where
+-- The rest of a line that ends at the next newline, whatever is in it: its bytes, whether a newline ends it, and the lines
+-- after it.
+pub record LineRest : Type 0 where
   pub words : Bytes
   pub newline : Bool
   pub lines : List GapLine
 
+-- A gap is blanks, newlines, backslashes right before a newline (or before a carriage return and a newline), and comments
+-- up to a newline. A last line without newline counts only with a comment. indent: the spaces and tabs right before the gap.
 abbrev mutual
-  pub lines_of : Bytes → List GapLine
-  lines_of [] = []
-  lines_of (c ∷ g) =
-      if nat_eq c number_sign then record { comment = Some (trimmed (number_sign ∷ (in_comment g).words)); newline = (in_comment g).newline } ∷ (in_comment g).lines
-      else (if nat_eq c line_feed then record { comment = None; newline = true } ∷ lines_of g
-      else (if nat_eq c backslash then record { comment = None; newline = false } ∷ after_backslash g else lines_of g))
+  pub lines_from : ℕ → Bytes → List GapLine
+  lines_from indent [] = []
+  lines_from indent (c ∷ g) =
+      if nat_eq c number_sign then record { indent = indent; comment = Some (trimmed (number_sign ∷ (rest_of_line g).words)); newline = (rest_of_line g).newline } ∷ (rest_of_line g).lines
+      else (if nat_eq c line_feed then record { indent = 0; comment = None; newline = true } ∷ lines_from 0 g
+      else (if nat_eq c backslash then record { indent = 0; comment = None; newline = false } ∷ (rest_of_line g).lines
+      else lines_from (if is_indent c then suc indent else 0) g))
 
-  pub in_comment : Bytes → CommentRest
-  in_comment [] = record { words = []; newline = false; lines = [] }
-  in_comment (c ∷ g) =
-      if nat_eq c line_feed then record { words = []; newline = true; lines = lines_of g }
-      else record { words = c ∷ (in_comment g).words; newline = (in_comment g).newline; lines = (in_comment g).lines }
+  pub rest_of_line : Bytes → LineRest
+  rest_of_line [] = record { words = []; newline = false; lines = [] }
+  rest_of_line (c ∷ g) =
+      if nat_eq c line_feed then record { words = []; newline = true; lines = lines_from 0 g }
+      else record { words = c ∷ (rest_of_line g).words; newline = (rest_of_line g).newline; lines = (rest_of_line g).lines }
 
-  -- after the newline that a backslash escapes
-  pub after_backslash : Bytes → List GapLine
-  after_backslash [] = []
-  after_backslash (c ∷ g) = if nat_eq c line_feed then lines_of g else after_backslash g
+abbrev pub lines_of : Bytes → List GapLine
+lines_of gap = lines_from 0 gap
 
 abbrev pub as_list : Option Bytes → List Bytes
 as_list None = []
@@ -60,9 +63,9 @@ first_comment [] = None
 first_comment (line ∷ lines) = line.comment
 
 -- the lines after the first
-abbrev pub after_first_comment : List GapLine → List GapLine
-after_first_comment [] = []
-after_first_comment (line ∷ lines) = lines
+abbrev pub after_first_line : List GapLine → List GapLine
+after_first_line [] = []
+after_first_line (line ∷ lines) = lines
 
 -- an unescaped newline is in the gap
 abbrev pub some_newline : List GapLine → Bool
@@ -75,7 +78,7 @@ abbrev pub suffix_in : Bytes → Option Bytes
 suffix_in gap = first_comment (lines_of gap)
 
 abbrev pub others_in : Bytes → List Bytes
-others_in gap = comments_in (after_first_comment (lines_of gap))
+others_in gap = comments_in (after_first_line (lines_of gap))
 
 abbrev pub all_in : Bytes → List Bytes
 all_in gap = comments_in (lines_of gap)

@@ -5,7 +5,6 @@ pub mod Empty
 pub mod Exchanged
 pub mod Frames
 pub mod Gaps
-pub mod Indented
 pub mod LineShapes
 pub mod Proper
 pub mod Refusals

@@ -1,51 +1,28 @@
 //! What a gap says, line by line. All that reads a gap uses `first_line`.
-ghost use Rattle.std.specs.Prelude.{◌≡◌, ◌+◌, ◌-◌, ◌^◌, ◌||◌, [], ◌∷◌, ◌++◌, ◌<◌, ◌≤◌, suc, nat_eq, nat_lt, if◌then◌else◌, take, drop, length, IfSome, MatchOption, OnOk, IfOk};
+ghost use Rattle.std.specs.Prelude.{◌≡◌, ◌+◌, ◌-◌, [], ◌∷◌, ◌++◌, ◌<◌, ◌≤◌, nat_lt, take, drop, length, IfSome, MatchOption, OnOk, IfOk};
 ghost use Rattle.std.specs.Option.{option_copied};
 ghost use Rattle.bz_token.specs.Bytes.{is_blank};
-ghost use Rattle.bz_items.specs.Characters.{space, tab};
-ghost use Rattle.bz_value.specs.Gaps.{all_in, after_backslash, after_first_comment, has_newline, in_comment, lines_of, others_in, suffix_in, trimmed};
-ghost use Rattle.bz_value.specs.Indented.{indented, indented_after};
+ghost use Rattle.bz_value.specs.Gaps.{all_in, after_first_line, has_newline, lines_of, others_in, rest_of_line, suffix_in, trimmed};
 
 use bz_items::{Items, Memory, Text};
 use std::alloc::Global;
 
-/// A line of a gap: its comment, kept from its `#` on without blanks at its end; whether an unescaped newline ends it; and
-/// the gap after it.
+/// A line of a gap: how many spaces and tabs are right before its comment, 0 without one; its comment, kept from its `#` on
+/// without blanks at its end; whether an unescaped newline ends it; and the gap after it.
 #[derive(Clone, Copy)]
 pub struct Line<'a> {
+    pub indent: usize,
     pub comment: Option<&'a [u8]>,
     pub newline: bool,
     pub rest: &'a [u8],
 }
 
-/// A line of a gap, and how many spaces and tabs are right before its comment.
-#[derive(Clone, Copy)]
-pub struct IndentedLine<'a> {
-    pub indent: usize,
-    pub line: Line<'a>,
-}
-
-/// How many spaces and tabs are after a byte with which no line of a gap begins or ends, where this many were before it.
-fn indent_after(indent: usize, byte: u8) -> usize
-    requires { indent < 2 ^ 64 - 1 }
-    ensures value { result ≡ (if nat_eq byte space || nat_eq byte tab then suc indent else 0) }
-    ensures most { result ≤ indent + 1 }
-{
-    if byte == b' ' || byte == b'\t' {
-        indent + 1
-    } else {
-        0
-    }
-}
-
 /// How many bytes are before the first newline: all of them, where there is none.
 fn line_len(text: &[u8]) -> usize
     ensures within { result ≤ length text.now }
-    ensures words { (in_comment text.now).words ≡ take result text.now }
-    ensures newline { (in_comment text.now).newline ≡ nat_lt result (length text.now) }
-    ensures lines { (in_comment text.now).lines ≡ lines_of (drop (result + 1) text.now) }
-    ensures escaped { after_backslash text.now ≡ lines_of (drop (result + 1) text.now) }
-    ensures indented { indented_after text.now ≡ indented (drop (result + 1) text.now) }
+    ensures words { (rest_of_line text.now).words ≡ take result text.now }
+    ensures newline { (rest_of_line text.now).newline ≡ nat_lt result (length text.now) }
+    ensures lines { (rest_of_line text.now).lines ≡ lines_of (drop (result + 1) text.now) }
 {
     for (at, byte) in text.iter().enumerate() {
         if *byte == b'\n' {
@@ -86,15 +63,18 @@ fn trim_end(text: &[u8]) -> &[u8]
 
 /// The first line of a gap; `None` of a gap that says nothing.
 pub fn first_line(gap: &[u8]) -> Option<Line<'_>>
-    ensures line { MatchOption result (lines_of gap.now ≡ []) (λ line. lines_of gap.now ≡ record { comment = option_copied line.comment; newline = line.newline } ∷ lines_of line.rest.now) }
+    ensures line { MatchOption result (lines_of gap.now ≡ []) (λ line. lines_of gap.now ≡ record { indent = line.indent; comment = option_copied line.comment; newline = line.newline } ∷ lines_of line.rest.now) }
     ensures shorter { IfSome result (λ line. length line.rest.now < length gap.now) }
 {
     let mut rest = gap;
+    // the rest, and the spaces and tabs right before it
+    let mut indented = gap;
     while let [first, tail @ ..] = rest {
         match *first {
             b'#' => {
                 let len = line_len(tail);
                 return Some(Line {
+                    indent: indented.len() - rest.len(),
                     comment: Some(trim_end(&rest[..len + 1])),
                     newline: len < tail.len(),
                     rest: after_line(tail, len),
@@ -102,6 +82,7 @@ pub fn first_line(gap: &[u8]) -> Option<Line<'_>>
             }
             b'\n' => {
                 return Some(Line {
+                    indent: 0,
                     comment: None,
                     newline: true,
                     rest: tail,
@@ -110,60 +91,16 @@ pub fn first_line(gap: &[u8]) -> Option<Line<'_>>
             // a backslash is in a gap only before the newline that it escapes
             b'\\' => {
                 return Some(Line {
+                    indent: 0,
                     comment: None,
                     newline: false,
                     rest: after_line(tail, line_len(tail)),
                 });
             }
-            _ => rest = tail,
-        }
-    }
-    None
-}
-
-/// The first line of a gap, with how many spaces and tabs are right before its comment; `None` of a gap that says nothing.
-pub fn first_indented_line(gap: &[u8]) -> Option<IndentedLine<'_>>
-    ensures line { MatchOption result (indented gap.now ≡ []) (λ first. indented gap.now ≡ record { indent = first.indent; line = record { comment = option_copied first.line.comment; newline = first.line.newline } } ∷ indented first.line.rest.now) }
-    ensures shorter { IfSome result (λ first. length first.line.rest.now < length gap.now) }
-{
-    let mut indent = 0;
-    let mut rest = gap;
-    while let [first, tail @ ..] = rest {
-        match *first {
-            b'#' => {
-                let len = line_len(tail);
-                return Some(IndentedLine {
-                    indent,
-                    line: Line {
-                        comment: Some(trim_end(&rest[..len + 1])),
-                        newline: len < tail.len(),
-                        rest: after_line(tail, len),
-                    },
-                });
-            }
-            b'\n' => {
-                return Some(IndentedLine {
-                    indent: 0,
-                    line: Line {
-                        comment: None,
-                        newline: true,
-                        rest: tail,
-                    },
-                });
-            }
-            b'\\' => {
-                return Some(IndentedLine {
-                    indent: 0,
-                    line: Line {
-                        comment: None,
-                        newline: false,
-                        rest: after_line(tail, line_len(tail)),
-                    },
-                });
-            }
-            byte => {
-                indent = indent_after(indent, byte);
+            b' ' | b'\t' => rest = tail,
+            _ => {
                 rest = tail;
+                indented = tail;
             }
         }
     }
@@ -172,7 +109,7 @@ pub fn first_indented_line(gap: &[u8]) -> Option<IndentedLine<'_>>
 
 /// The gap after its first line.
 pub fn past_first_line(gap: &[u8]) -> &[u8]
-    ensures { lines_of result.now ≡ after_first_comment (lines_of gap.now) }
+    ensures { lines_of result.now ≡ after_first_line (lines_of gap.now) }
 {
     match first_line(gap) {
         None => &[],

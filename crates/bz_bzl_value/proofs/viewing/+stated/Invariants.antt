@@ -1,23 +1,23 @@
 use Rattle.std.proofs.Common.{◌≡◌, ◌≤◌, ◌++◌, ◌-◌, [], map, drop, length}
-use Rattle.bz_value.specs.Indented.{indented}
+use Rattle.bz_value.specs.Gaps.{lines_of}
 use Rattle.bz_bzl_value.specs.View.{branches, indented_lines_before, stated, walked}
 use Rattle.bz_bzl_value.proofs.viewing.+stated.Given as goal
 
 abbrev pub invariant-push_all_statements-loop-at : goal.invariant-push_all_statements-loop-at
 invariant-push_all_statements-loop-at l = record {
-  out : l.out ++ (walked (indented l.rest.left.now ++ indented l.rest.gap.now) (map stated (drop l.at l.parts)) (indented l.after)).0
-      ≡ l.fn.out ++ (walked (indented_lines_before (map stated l.parts) []) (map stated l.parts) (indented l.after)).0;
-  rest : (walked (indented l.rest.left.now ++ indented l.rest.gap.now) (map stated (drop l.at l.parts)) (indented l.after)).1
-      ≡ (walked (indented_lines_before (map stated l.parts) []) (map stated l.parts) (indented l.after)).1;
+  out : l.out ++ (walked (lines_of l.rest.left.now ++ lines_of l.rest.gap.now) (map stated (drop l.at l.parts)) (lines_of l.after)).0
+      ≡ l.fn.out ++ (walked (indented_lines_before (map stated l.parts) []) (map stated l.parts) (lines_of l.after)).0;
+  rest : (walked (lines_of l.rest.left.now ++ lines_of l.rest.gap.now) (map stated (drop l.at l.parts)) (lines_of l.after)).1
+      ≡ (walked (indented_lines_before (map stated l.parts) []) (map stated l.parts) (lines_of l.after)).1;
 }
 
 abbrev pub invariant-push_branches-loop-colon : goal.invariant-push_branches-loop-colon
 invariant-push_branches-loop-colon l = record {
   within : l.from ≤ length l.parts;
-  own : l.own ++ (branches l.kind [] l.above (indented l.rest.left.now ++ indented l.rest.gap.now) (map stated (drop l.from l.parts)) (indented l.after)).0
-      ≡ l.fn.own ++ (branches l.kind [] l.fn.above (indented l.after) (map stated l.parts) (indented l.after)).0;
-  rest : (branches l.kind [] l.above (indented l.rest.left.now ++ indented l.rest.gap.now) (map stated (drop l.from l.parts)) (indented l.after)).1
-      ≡ (branches l.kind [] l.fn.above (indented l.after) (map stated l.parts) (indented l.after)).1;
+  own : l.own ++ (branches l.kind [] l.above (lines_of l.rest.left.now ++ lines_of l.rest.gap.now) (map stated (drop l.from l.parts)) (lines_of l.after)).0
+      ≡ l.fn.own ++ (branches l.kind [] l.fn.above (lines_of l.after) (map stated l.parts) (lines_of l.after)).0;
+  rest : (branches l.kind [] l.above (lines_of l.rest.left.now ++ lines_of l.rest.gap.now) (map stated (drop l.from l.parts)) (lines_of l.after)).1
+      ≡ (branches l.kind [] l.fn.above (lines_of l.after) (map stated l.parts) (lines_of l.after)).1;
 }
 
 abbrev pub decreases-push_branches-loop-colon : goal.decreases-push_branches-loop-colon
