@@ -29,7 +29,7 @@ use Rattle.bz_hosts.proofs.SeenParts.{all_parted}
 use Rattle.bz_hosts.proofs.Texts.{InHost, row_inside}
 use Rattle.bz_hosts.proofs.Walked.{gap_of}
 use Rattle.bz_bzl_value.specs.declared.value.Branch.{Branch}
-use Rattle.bz_bzl_value.specs.BzlHosts.{Stretch, header, placed, Page, in_header, in_compound, suite_there, inside_statement, inside_head}
+use Rattle.bz_bzl_value.specs.BzlHosts.{Stretch, header, placed, SuitesAndLeaves, in_header, in_compound, suite_there, inside_statement, inside_head}
 use Rattle.bz_bzl_value.specs.View.{stated, branches, head, row_head, indented_lines_before}
 use Rattle.bz_bzl_value.proofs.HeadParts.{Headed, InHeader}
 use Rattle.bz_bzl_value.proofs.HostHeaders.{header_read, header_piece}
@@ -49,7 +49,7 @@ branch_hosts x = hosted_by x.head.comments ∷ (inside_head x.head ++ block x.en
 abbrev as_branches : Kind → List Bytes → Lines → List Part → PieceRead
 as_branches kind above left xs after = with_left (flat_map branch_hosts (branches kind [] above left (map stated xs) after).0) (branches kind [] above left (map stated xs) after).1
 
-module _ (page : Page) where
+module _ (page : SuitesAndLeaves) where
   abbrev pub BranchesPiece : Kind → List Part → Type 0
   BranchesPiece kind xs = (n : ℕ) (above : List Bytes) (left : Lines) → Piece page n (n + sizes (map measured xs)) (flat_map leaves_part xs) (in_compound kind n [] (map placed xs)) above (as_branches kind above left xs)
 

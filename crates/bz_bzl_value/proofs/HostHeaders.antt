@@ -18,7 +18,7 @@ use Rattle.bz_hosts.proofs.Parts.{size, Solid, comments_after, comments_joined, 
 use Rattle.bz_hosts.proofs.Sequences.{From}
 use Rattle.bz_hosts.proofs.Statements.{gap_ended, gap_suffix, silent_gap}
 use Rattle.bz_hosts.proofs.Walked.{gap_of, last_gap, last_after}
-use Rattle.bz_bzl_value.specs.BzlHosts.{Suite, Stretch, header, Page, suites_in, left_by, suite_end, inside_statement, inside_head}
+use Rattle.bz_bzl_value.specs.BzlHosts.{Suite, Stretch, header, SuitesAndLeaves, suites_in, left_by, suite_end, inside_statement, inside_head}
 use Rattle.bz_bzl_value.specs.View.{SuiteRead}
 use Rattle.bz_bzl_value.proofs.HostPieces.{regions_of, comments, along, Sees, At, Piece, Extent}
 use Rattle.bz_bzl_value.proofs.HostReads.{HeaderTexts}
@@ -35,7 +35,7 @@ abbrev pub header_read : Form → (Lines → SuiteRead) → PieceRead
 header_read form read after = with_left (hosted_by form.comments ∷ (inside_head form ++ block (read after).0.1 ∷ flat_map inside_statement (read after).0.0)) (read after).1
 
 -- hs: the parts of a header that begins at n; c: its colon, and own what is after that
-module _ (page : Page) (n e : ℕ) (group loose : List Bytes) (suffix : Option Bytes) (x : Part) (xs : List Part) (c : Leaf) (rs : List Region) (hosts_there : List Hosted) (form : Form) (own : Option Suite) (ls' : List Leaf) (sts' : List Stretch) (read : Lines → SuiteRead)
+module _ (page : SuitesAndLeaves) (n e : ℕ) (group loose : List Bytes) (suffix : Option Bytes) (x : Part) (xs : List Part) (c : Leaf) (rs : List Region) (hosts_there : List Hosted) (form : Form) (own : Option Suite) (ls' : List Leaf) (sts' : List Stretch) (read : Lines → SuiteRead)
     (f : ℕ) (is_f : f ≡ suc (n + sizes (map measured (x ∷ xs)))) (some_parts : 0 < size x) (solids : AllByRecursion Solid (x ∷ xs)) (quiet : all_in c.gap ≡ []) (inside_it : r.AllInside n (n + sizes (map measured (x ∷ xs))) rs)
     (texts_there : r.SeesAt page.regions (Some (host n f f)) (suc n) (n + sizes (map measured (x ∷ xs))) rs → HeaderTexts page.regions n (n + sizes (map measured (x ∷ xs))) (after_parts n (x ∷ xs)) loose rs hosts_there)
     (form_is : hosted_by form.comments ≡ hosted (group ++ loose) (as_list suffix)) (form_inside : inside_head form ≡ hosts_there) (o : OwnPiece page f e ls' own sts' suffix read) where

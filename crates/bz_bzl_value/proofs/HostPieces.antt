@@ -13,7 +13,7 @@ use Rattle.bz_hosts.proofs.Gathered.{key, texts_joined}
 use Rattle.bz_hosts.proofs.Parts.{comments_joined}
 use Rattle.bz_hosts.proofs.Sequences.{From}
 use Rattle.bz_hosts.proofs.Walked.{gap_of, last_gap}
-use Rattle.bz_bzl_value.specs.BzlHosts.{Suite, Stretch, Page, regions_in, suites_in, first_leaf, left_by, lines_above, begins_suite, left_above, lines_of_leaf, stretch_hosts, statement_hosts}
+use Rattle.bz_bzl_value.specs.BzlHosts.{Suite, Stretch, SuitesAndLeaves, regions_in, suites_in, first_leaf, left_by, lines_above, begins_suite, left_above, lines_of_leaf, stretch_hosts, statement_hosts}
 use Rattle.bz_bzl_value.proofs.SuiteLines.{Lines, AllBetween, all_wider, all_both, left_joined, past, beyond, gap_joined}
 use Rattle.bz_bzl_value.proofs.SuitePieces.{last_joined, suites_joined, PieceRead, with_left, lines_there}
 
@@ -50,7 +50,7 @@ starts_joined : (n : ℕ) (a b : List Stretch) → Starts n a → Starts n (a ++
 starts_joined n [] b h = absurd h
 starts_joined n (x ∷ a) b h = h
 
-module _ (page : Page) where
+module _ (page : SuitesAndLeaves) where
   abbrev pub comments : List Comment
   comments = comments_from 0 page.leaves
 

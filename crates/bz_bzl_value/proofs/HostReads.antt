@@ -26,7 +26,7 @@ use Rattle.bz_hosts.proofs.Sequences.{From}
 use Rattle.bz_hosts.proofs.Statements.{LineTexts, line_texts}
 use Rattle.bz_hosts.proofs.Texts.{Inner, Texts, InHost, row_inside, first_texts}
 use Rattle.bz_hosts.proofs.Walked.{gap_of}
-use Rattle.bz_bzl_value.specs.BzlHosts.{Page, Stretch, simple_line, in_header, inside_statement, inside_head, statement_hosts}
+use Rattle.bz_bzl_value.specs.BzlHosts.{SuitesAndLeaves, Stretch, simple_line, in_header, inside_statement, inside_head, statement_hosts}
 use Rattle.bz_bzl_value.specs.View.{stated, line_read, simple_statements, def_head}
 use Rattle.bz_bzl_value.proofs.Parts.{parts_seen}
 use Rattle.bz_bzl_value.proofs.HostPieces.{comments, Extent, At}
@@ -43,7 +43,7 @@ mutual
   simple_one group x (mark ∷ t ∷ []) = refl
   simple_one group x (mark ∷ t ∷ u ∷ ss) = ap (λ (z : List Hosted). inside_item (statement group None x) ++ z) (simple_one [] t (u ∷ ss))
 
-module _ (page : Page) (n : ℕ) (group : List Bytes) (x : Part) (xs : List Part) (fits : Statements (x ∷ xs)) (quiet : Quiet (x ∷ xs)) (rs : AllByRecursion Regions (x ∷ xs)) (is : AllByRecursion (InHost page.regions) (x ∷ xs)) (solids : AllByRecursion Solid (x ∷ xs)) where
+module _ (page : SuitesAndLeaves) (n : ℕ) (group : List Bytes) (x : Part) (xs : List Part) (fits : Statements (x ∷ xs)) (quiet : Quiet (x ∷ xs)) (rs : AllByRecursion Regions (x ∷ xs)) (is : AllByRecursion (InHost page.regions) (x ∷ xs)) (solids : AllByRecursion Solid (x ∷ xs)) where
   abbrev ys : List Part
   ys = x ∷ xs
 

@@ -34,7 +34,7 @@ use Rattle.bz_bzl_value.specs.declared.value.Statement.TheVariants as st
 use Rattle.bz_bzl_value.specs.declared.value.Branch.{Branch}
 use Rattle.bz_bzl_value.specs.declared.value.BzlItem.{BzlItem}
 use Rattle.bz_bzl_value.specs.declared.value.BzlItem.TheVariants as b
-use Rattle.bz_bzl_value.specs.BzlHosts.{Suite, Stretch, simple_line, Placed, placed, placed_row, in_statement, in_compound, one_by_one, regions_in, suites_in, Page, suite_there, left_by, lines_above, left_above, statement_hosts, bzl_hosted_from, inside_head, inside_statement, inside_branches, inside_statements, inside_bzl_item}
+use Rattle.bz_bzl_value.specs.BzlHosts.{Suite, Stretch, simple_line, Placed, placed, placed_row, in_statement, in_compound, one_by_one, regions_in, suites_in, SuitesAndLeaves, suite_there, left_by, lines_above, left_above, statement_hosts, bzl_hosted_from, inside_head, inside_statement, inside_branches, inside_statements, inside_bzl_item}
 use Rattle.bz_bzl_value.specs.Laws.{BzlHostsByPlace}
 use Rattle.bz_bzl_value.specs.View.{ReadStatements, stated, stated_row, statement_read, suite_in, suffix_before, compound_read, branches, indented_lines_before, walked, margin_of, def_head, block_items, bzl_items}
 use Rattle.bz_bzl_value.proofs.HeadParts.{Named, token_in, colon_headed, test_headed, for_headed, def_headed, after_stmt}
@@ -102,7 +102,7 @@ measured_list (x ∷ xs) = ap (λ (z : Measured). z ∷ map (λ x. x.measured) (
 abbrev as_read : ReadStatements (List Statement) → List Hosted × Lines
 as_read r' = with_left (flat_map inside_statement r'.0) r'.1
 
-module _ (page : Page) where
+module _ (page : SuitesAndLeaves) where
   -- ---- if, elif, else, for and def
 
   some_parts : (xs : List Part) (x : Part) → AllByRecursion (Parted page) (x ∷ xs) → 0 < sizes (map measured (x ∷ xs))
@@ -430,7 +430,7 @@ pub bzl_hosts_by_place : BzlHostsByPlace
 bzl_hosts_by_place n h =
     let fits : Fits IsNonterminal (bzl_shape k.File) n.parts = subst (λ kd. Fits IsNonterminal (bzl_shape kd) n.parts) h.file.root h.file.shapes.0 in
     let sts : List Stretch = one_by_one 0 (map placed n.parts) in
-    let page : Page = record { leaves = leaves_of n; regions = flat_map regions_in sts; suites = suites_in sts } in
+    let page : SuitesAndLeaves = record { leaves = leaves_of n; regions = flat_map regions_in sts; suites = suites_in sts } in
     let pieces = all_pieces page n.parts h.file.shapes.1 in
     let solids : AllByRecursion Solid n.parts = all_solid n.parts h.file.shapes.1 in
     let e : ℕ = 0 + sizes (map measured n.parts) in

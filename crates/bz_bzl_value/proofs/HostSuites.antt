@@ -21,7 +21,7 @@ use Rattle.bz_hosts.proofs.Texts.{InHost}
 use Rattle.bz_hosts.proofs.Walked.{gap_of, last_gap}
 use Rattle.bz_grammar.specs.Shapes as s
 use Rattle.bz_bzl_value.specs.declared.value.Statement.{Statement}
-use Rattle.bz_bzl_value.specs.BzlHosts.{Suite, Stretch, simple_line, header, placed, one_by_one, Page, suites_in, begins_suite, left_by, left_above, lines_above, lines_of_leaf, statement_hosts, reach, suite_end, inside_statement}
+use Rattle.bz_bzl_value.specs.BzlHosts.{Suite, Stretch, simple_line, header, placed, one_by_one, SuitesAndLeaves, suites_in, begins_suite, left_by, left_above, lines_above, lines_of_leaf, statement_hosts, reach, suite_end, inside_statement}
 use Rattle.bz_bzl_value.specs.View.{ReadStatements, SuiteRead, stated, line_read, walked, suite_read, margin_of, only_comment, indented_lines_before}
 use Rattle.bz_bzl_value.proofs.HostPieces.{regions_of, comments, along, along_first, Sees, At, Piece}
 use Rattle.bz_bzl_value.proofs.HostReads.{line, within, simple_inside}
@@ -62,7 +62,7 @@ pub suites_headed : (h f : ℕ) (rs : List Region) (own : Option Suite) (sts : L
 suites_headed h f rs None sts = refl
 suites_headed h f rs (Some own) sts = refl
 
-module _ (page : Page) where
+module _ (page : SuitesAndLeaves) where
   -- the leaves of a suite from n on up to e are there, after a header that begins at n0
   pub record OwnAt (n0 n e : ℕ) (ls : List Leaf) (own : Option Suite) (sts : List Stretch) : Type 0 where
     pub front : List Leaf

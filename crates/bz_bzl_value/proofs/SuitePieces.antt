@@ -5,7 +5,7 @@ use Rattle.bz_items.specs.Characters.{Bytes}
 use Rattle.bz_value.specs.Gaps.{lines_of}
 use Rattle.bz_hosts.specs.Hosts.{Hosted}
 use Rattle.bz_hosts.proofs.Walked.{gap_of, last_gap, last_after}
-use Rattle.bz_bzl_value.specs.BzlHosts.{Suite, Stretch, simple_line, header, suites_in, Page, lines_above}
+use Rattle.bz_bzl_value.specs.BzlHosts.{Suite, Stretch, simple_line, header, suites_in, SuitesAndLeaves, lines_above}
 use Rattle.bz_bzl_value.proofs.SuiteLines.{Lines, lines_at}
 
 pub last_joined : (ls ms : List Leaf) → 0 < length ms → last_gap (ls ++ ms) ≡ last_gap ms
@@ -25,7 +25,7 @@ PieceRead = Lines → List Hosted × Lines
 abbrev pub with_left : List Hosted → Lines → List Hosted × Lines
 with_left hs lines = (hs, lines)
 
-module _ (page : Page) where
+module _ (page : SuitesAndLeaves) where
   -- the lines before the leaf after it
   pub lines_there : (n e : ℕ) (front ls back : List Leaf) → 0 < length ls → n + length ls ≡ e → page.leaves ≡ front ++ (ls ++ back) → length front ≡ n → lines_above page.leaves e ≡ drop 1 (lines_of (last_gap ls)) ++ lines_of (gap_of back)
   lines_there n e front ls back some up i d =

@@ -6,7 +6,7 @@ use Rattle.bz_hosts.specs.Hosts.{Hosted, block, hosted, ended}
 use Rattle.bz_hosts.specs.Worked.{name, word, worked_mark, worked_node, worked_line, worked_file}
 use Rattle.bz_bzl_value.specs.BzlHosts.{bzl_hosted_in, bzl_hosts_of}
 use Rattle.bz_bzl_value.specs.View.{bzl_view_of}
-use Rattle.bz_bzl_value.specs.Worked.{suite, named_line, documented_tree, alternative_tree, ended_tree, ended_once_tree, one_line_tree, parameters_tree}
+use Rattle.bz_bzl_value.specs.Worked.{suite, line_named, documented_tree, alternative_tree, ended_tree, ended_once_tree, one_line_tree, parameters_tree}
 
 abbrev Row : Node → List Hosted → Type 0
 Row tree hosts = (bzl_hosted_in tree ≡ hosts) × (bzl_hosts_of (bzl_view_of tree) ≡ hosts)
@@ -45,10 +45,10 @@ OneLine = Row one_line_tree (without ∷ block [] ∷ hosted [] (codes "# c" ∷
 abbrev escaped : Node
 escaped =
     worked_file (worked_node k.IfStmt (word [] (codes "if") ∷ name (codes " ") (codes "a") ∷ worked_mark [] (codes ":")
-    ∷ suite (codes " \\\n # c") (worked_line (worked_node k.Bare (name (codes "  ") (codes "b") ∷ []) ∷ []) (codes " \\\n # d") ∷ named_line (codes "  # e\n  ") (codes "f") ∷ []) ∷ []) ∷ []) (codes "  # g\n\n# h\n")
+    ∷ suite (codes " \\\n # c") (worked_line (worked_node k.Bare (name (codes "  ") (codes "b") ∷ []) ∷ []) (codes " \\\n # d") ∷ line_named (codes "  # e\n  ") (codes "f") ∷ []) ∷ []) ∷ []) (codes "  # g\n\n# h\n")
 
-abbrev pub Escaped : Type 0
-Escaped = Row escaped (hosted [] (codes "# c" ∷ []) ∷ block (codes "# g" ∷ []) ∷ without ∷ hosted (codes "# d" ∷ codes "# e" ∷ []) [] ∷ block (codes "# h" ∷ []) ∷ [])
+abbrev pub EscapedNewline : Type 0
+EscapedNewline = Row escaped (hosted [] (codes "# c" ∷ []) ∷ block (codes "# g" ∷ []) ∷ without ∷ hosted (codes "# d" ∷ codes "# e" ∷ []) [] ∷ block (codes "# h" ∷ []) ∷ [])
 
 abbrev pub WorkedBzlHosts : Type 0
-WorkedBzlHosts = Documented × Parameters × Alternatives × SuiteEnds × EndedSuites × OneLine × Escaped
+WorkedBzlHosts = Documented × Parameters × Alternatives × SuiteEnds × EndedSuites × OneLine × EscapedNewline

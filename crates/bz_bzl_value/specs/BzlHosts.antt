@@ -97,7 +97,7 @@ suites_in (header n following rs None ∷ sts) = suites_in sts
 suites_in (header n following rs (Some own) ∷ sts) = own ∷ suites_in sts
 
 -- the leaves of a text, its hosts and sequences, and its suites, inner ones after outer ones
-pub record Page : Type 0 where
+pub record SuitesAndLeaves : Type 0 where
   pub leaves : List Leaf
   pub regions : List Region
   pub suites : List Suite
@@ -128,7 +128,7 @@ left_by after n (own ∷ suites) lines =
     if nat_lt after own.first && nat_eq own.following n then drop (reach own.margin left) left else left
 
 -- the end comments of a suite: what it takes of what the suites in it leave
-abbrev pub suite_end : Page → Option Suite → List Bytes
+abbrev pub suite_end : SuitesAndLeaves → Option Suite → List Bytes
 suite_end page None = []
 suite_end page (Some own) =
     let lines : List GapLine = left_by own.first own.following page.suites (lines_above page.leaves own.following) in
@@ -139,18 +139,18 @@ begins_suite n [] = false
 begins_suite n (own ∷ suites) = nat_eq own.first n || begins_suite n suites
 
 -- the lines before a leaf that are left by all suites that end there
-abbrev pub left_above : Page → ℕ → List GapLine
+abbrev pub left_above : SuitesAndLeaves → ℕ → List GapLine
 left_above page n = (left_by 0 n page.suites (lines_above page.leaves n))
 
 -- The comment lines above a statement in a suite or a header: all that are left; above the first statement of a suite those of
 -- its gap, since what is in the gap of the newline before it is the header's.
-abbrev pub lines_of_leaf : Page → ℕ → List Bytes
+abbrev pub lines_of_leaf : SuitesAndLeaves → ℕ → List Bytes
 lines_of_leaf page n = if begins_suite n page.suites then all_in (leaf_gap page.leaves n) else comments_in (left_above page n)
 
 -- ---- the comments of each host, sequence and suite
 
 -- those of statements and headers, and a block for the end comments of a suite; group: the comment lines above
-abbrev pub stretch_hosts : Page → List Bytes → Stretch → List Hosted
+abbrev pub stretch_hosts : SuitesAndLeaves → List Bytes → Stretch → List Hosted
 stretch_hosts page group (simple_line n rs) = with_group group (map (hosted_at page.regions (comments_from 0 page.leaves)) rs)
 stretch_hosts page group (header n following rs own) =
     let cs : List Comment = comments_from 0 page.leaves in
@@ -162,13 +162,13 @@ first_leaf (simple_line n rs) = n
 first_leaf (header n following rs own) = n
 
 -- a statement of the file, with the comment lines above it
-abbrev pub statement_hosts : Page → List Bytes → List Stretch → List Hosted
+abbrev pub statement_hosts : SuitesAndLeaves → List Bytes → List Stretch → List Hosted
 statement_hosts page group [] = []
 statement_hosts page group (st ∷ sts) = stretch_hosts page group st ++ flat_map (λ (x : Stretch). stretch_hosts page (lines_of_leaf page (first_leaf x)) x) sts
 
 -- Of the file itself, as in a BUILD file: of the lines that are left, comment lines that follow each other form a group. A group
 -- whose last line is followed by a line without token and comment, or by no token at all, is on its own.
-abbrev pub bzl_hosted_from : Page → ℕ → List Part → List Hosted
+abbrev pub bzl_hosted_from : SuitesAndLeaves → ℕ → List Part → List Hosted
 bzl_hosted_from page n [] = []
 bzl_hosted_from page n (p.Leaf l ∷ xs) =
     let lines : List GapLine = left_above page n in

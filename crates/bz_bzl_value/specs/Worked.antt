@@ -25,8 +25,8 @@ abbrev pub suite : Bytes → List Part → Part
 suite gap statements = worked_node k.Suite (worked_leaf c.Newline gap (codes "\n") ∷ statements)
 
 -- a line of one statement, a name
-abbrev pub named_line : Bytes → Bytes → Part
-named_line gap text = worked_bare (name gap text)
+abbrev pub line_named : Bytes → Bytes → Part
+line_named gap text = worked_bare (name gap text)
 
 -- ---- values
 
@@ -155,9 +155,9 @@ Documented =
 abbrev pub alternative_tree : Node
 alternative_tree =
     worked_file (worked_node k.IfStmt (
-    word [] (codes "if") ∷ name (codes " ") (codes "a") ∷ worked_mark [] (codes ":") ∷ suite [] (named_line (codes "  ") (codes "b") ∷ [])
-    ∷ word (codes "  # in\n# above\n") (codes "elif") ∷ name (codes " ") (codes "c") ∷ worked_mark [] (codes ":") ∷ suite (codes " # why") (named_line (codes "  ") (codes "d") ∷ [])
-    ∷ word (codes " # last\n") (codes "else") ∷ worked_mark [] (codes ":") ∷ suite [] (named_line (codes "  # first\n  ") (codes "e") ∷ []) ∷ []) ∷ []) []
+    word [] (codes "if") ∷ name (codes " ") (codes "a") ∷ worked_mark [] (codes ":") ∷ suite [] (line_named (codes "  ") (codes "b") ∷ [])
+    ∷ word (codes "  # in\n# above\n") (codes "elif") ∷ name (codes " ") (codes "c") ∷ worked_mark [] (codes ":") ∷ suite (codes " # why") (line_named (codes "  ") (codes "d") ∷ [])
+    ∷ word (codes " # last\n") (codes "else") ∷ worked_mark [] (codes ":") ∷ suite [] (line_named (codes "  # first\n  ") (codes "e") ∷ []) ∷ []) ∷ []) []
 
 -- Before elif and else: what is indented as the suite before is its end comment, what is indented less is above the header.
 abbrev pub Alternatives : Type 0
@@ -171,8 +171,8 @@ abbrev pub ended_tree : Node
 ended_tree =
     worked_file (
     worked_node k.Def (word [] (codes "def") ∷ name (codes " ") (codes "f") ∷ worked_mark [] (codes "(") ∷ worked_mark [] (codes ")") ∷ worked_mark [] (codes ":")
-    ∷ suite [] (worked_node k.IfStmt (word (codes "  ") (codes "if") ∷ name (codes " ") (codes "a") ∷ worked_mark [] (codes ":") ∷ suite [] (named_line (codes "    ") (codes "b") ∷ []) ∷ []) ∷ []) ∷ [])
-    ∷ named_line (codes "    # 4\n   # 3\n  # 2\n # 1\n# 0\n\n") (codes "x") ∷ []) []
+    ∷ suite [] (worked_node k.IfStmt (word (codes "  ") (codes "if") ∷ name (codes " ") (codes "a") ∷ worked_mark [] (codes ":") ∷ suite [] (line_named (codes "    ") (codes "b") ∷ []) ∷ []) ∷ []) ∷ [])
+    ∷ line_named (codes "    # 4\n   # 3\n  # 2\n # 1\n# 0\n\n") (codes "x") ∷ []) []
 
 -- Where two suites end, a comment is an end comment of the innermost one whose statements are not indented further than it; the
 -- others belong to the file.
@@ -187,8 +187,8 @@ abbrev pub ended_once_tree : Node
 ended_once_tree =
     worked_file (
     worked_node k.IfStmt (word [] (codes "if") ∷ name (codes " ") (codes "a") ∷ worked_mark [] (codes ":")
-    ∷ suite [] (worked_node k.IfStmt (word (codes "  ") (codes "if") ∷ name (codes " ") (codes "b") ∷ worked_mark [] (codes ":") ∷ suite [] (named_line (codes "    ") (codes "c") ∷ []) ∷ []) ∷ []) ∷ [])
-    ∷ named_line (codes "  # 2\n    # 4\n# 0\n    # 4\n") (codes "d") ∷ []) []
+    ∷ suite [] (worked_node k.IfStmt (word (codes "  ") (codes "if") ∷ name (codes " ") (codes "b") ∷ worked_mark [] (codes ":") ∷ suite [] (line_named (codes "    ") (codes "c") ∷ []) ∷ []) ∷ []) ∷ [])
+    ∷ line_named (codes "  # 2\n    # 4\n# 0\n    # 4\n") (codes "d") ∷ []) []
 
 -- A suite that ended at a comment takes none after that, however far it is indented.
 abbrev pub EndedSuites : Type 0
@@ -251,7 +251,7 @@ EmptyLines =
     (codes "def f():\n\n  a\n\n  # c\n\n  b\n# g\ndef g(): pass\n")
     (worked_file (
     worked_node k.Def (word [] (codes "def") ∷ name (codes " ") (codes "f") ∷ worked_mark [] (codes "(") ∷ worked_mark [] (codes ")") ∷ worked_mark [] (codes ":")
-    ∷ suite [] (named_line (codes "\n  ") (codes "a") ∷ named_line (codes "\n  # c\n\n  ") (codes "b") ∷ []) ∷ [])
+    ∷ suite [] (line_named (codes "\n  ") (codes "a") ∷ line_named (codes "\n  # c\n\n  ") (codes "b") ∷ []) ∷ [])
     ∷ worked_node k.Def (word (codes "# g\n") (codes "def") ∷ name (codes " ") (codes "g") ∷ worked_mark [] (codes "(") ∷ worked_mark [] (codes ")") ∷ worked_mark [] (codes ":")
     ∷ worked_line (worked_node k.Flow (word (codes " ") (codes "pass") ∷ []) ∷ []) [] ∷ []) ∷ []) [])
     defined
