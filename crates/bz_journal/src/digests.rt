@@ -24,8 +24,7 @@ pub(crate) fn put_after<T: Drop>(items: &mut Vec<T>, n: usize, item: T)
     items.push(item).unwrap();
 }
 
-/// Takes the digest of the present text, which is this, where it is still to be known and those of the texts before it are. Where
-/// memory is refused it goes on without.
+/// Takes the digest of the present text, which is this, where those before it are known and it isn't yet, as far as memory allows.
 pub(crate) fn learn(digests: &mut Vec<[u8; 32]>, course: &Course, text: &[u8])
     requires first { AreFirstDigests digests.old.items (session_history course.now).texts }
     requires text { text.now ≡ present (session_history course.now) }

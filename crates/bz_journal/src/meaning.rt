@@ -29,8 +29,7 @@ pub(crate) fn value_of(alloc: Global, kept: Option<File>, tree: &Tree) -> Result
     }
 }
 
-/// The lines on which the statements of a tree begin, where a command depends on them; else none, which comes to the same. The
-/// error: memory was refused.
+/// The lines on which the statements of a tree begin, or none where no command depends on them. The error: memory was refused.
 pub(crate) fn lines_for(
     alloc: Global,
     command: &Command,

@@ -27,8 +27,7 @@ use std::marker::Model;
 pub struct Session {
     /// The tree of the present text.
     pub tree: Tree,
-    /// The steps between the texts, in the order in which these came: those before the present text lead back, the others
-    /// forward.
+    /// The steps between the texts, in their order: those before the present text lead back, the others forward.
     pub steps: Vec<Step>,
     /// The SHA-256 of each text.
     pub digests: Vec<[u8; 32]>,
