@@ -492,6 +492,7 @@ LISTED = {cursor: listing([ODD, EVEN], cursor, [ADD]) for cursor in (0, 1)}
 UNWRITTEN = b"p/BUILD: cannot write\n"
 DAMAGED, STALE = b"p/BUILD.journal: Damaged (71)\n", b"p/BUILD.journal: Stale (73)\n" + (STALE_HINT % P).encode()
 TOO_FAR = b"buildozer: p/BUILD: %s: TooFar (61)\n"
+UNKEPT = b"buildozer: to undo or redo what earlier runs did, give --journal, as in those runs\n"
 # the journal of three texts, of which the present one is the last
 THREE = Journal(b"p", [b"x = 0\n", ONE, TWO], 2, 1, [Step([edit(*VALUE, digits(b"0"))], b"a"), Step([edit(*VALUE, digits(b"1"))], b"b")])
 # the file with a string of two lines, and with a label of another package
@@ -549,7 +550,7 @@ RUNS = {
     "without --journal a journal is neither read nor written": runs(
         {P: ODD, KEPT: b"none"},
         (["add deps //p:x", "journal", "//p:a"], 0, told(LISTED[1], fixed(P), {P: EVEN})),
-        (["undo", "//p:a"], 2, told(err=TOO_FAR % b"undo")),
+        (["undo", "//p:a"], 2, told(err=TOO_FAR % b"undo" + UNKEPT)),
     ),
     "the texts of standard input are listed": runs(
         {}, (["--", "new cc_library a", "journal", "-:__pkg__"], 0, told(listing([b"", NEW], 1, [b"new cc_library a"]) + NEW)),

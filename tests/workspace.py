@@ -95,6 +95,7 @@ class Workspace:
 
 REFUSED = b"buildozer: BUILD.bazel: delete: NoTarget (41)\n"
 MISSING = b"none/BUILD: cannot open\n"
+UNKEPT = b"buildozer: to undo or redo what earlier runs did, give --journal, as in those runs\n"
 
 # A run in the three packages for each row: its name, its words, its status, and what it leaves.
 RUNS = [
@@ -109,7 +110,7 @@ RUNS = [
     ("the first failure ends a run, and what came before it is written", ["delete", "//:x", "//:none", "//a:x"], 2,
      {"err": REFUSED + fixed("BUILD.bazel"), "after": {"BUILD.bazel": NO_X}}),
     ("the first failure ends the commands of its target", ["delete", "undo 7", "new f z", "//a:x"], 2,
-     {"err": b"buildozer: a/BUILD.bazel: undo 7: TooFar (61)\n" + fixed("a/BUILD.bazel"), "after": {"a/BUILD.bazel": NO_X}}),
+     {"err": b"buildozer: a/BUILD.bazel: undo 7: TooFar (61)\n" + UNKEPT + fixed("a/BUILD.bazel"), "after": {"a/BUILD.bazel": NO_X}}),
     ("-k goes on behind a failure", ["-k", "delete", "//:x", "//:none", "//a:x"], 2,
      {"err": REFUSED + fixed("BUILD.bazel", "a/BUILD.bazel"), "after": {"BUILD.bazel": NO_X, "a/BUILD.bazel": NO_X}}),
     ("a missing package ends a run", ["delete", "//a:x", "//none:x", "//:x"], 2,
@@ -169,8 +170,8 @@ FAULTS = [
     (["-f", "-"], b"<stdin>: no operands\n", b""),
     (["-f", "-"], b"<stdin>: NotUtf8 at 13\n", b"delete|//a:x\n\xff"),
     (["-f", "-"], b"buildozer: package - cannot be edited beside -f -\n", lines_of("delete|//a:x", "delete|-:x")),
-    (["-f", "-"], b"buildozer: no target\n", lines_of("delete|//a:x", "delete")),
-    (["-f", "-"], b"buildozer: : Unknown (31)\n", lines_of("delete|//a:x", "delete||//a:x")),
+    (["-f", "-"], b"buildozer: no target\n<stdin>:2: refused\n", lines_of("delete|//a:x", "delete")),
+    (["-f", "-"], b"buildozer: : Unknown (31)\n<stdin>:2: refused\n", lines_of("delete|//a:x", "delete||//a:x")),
     (["--journal", "--stdout", "delete", "//a:x"], b"buildozer: --stdout beside --journal\n", b""),
     (["--journal", "--", "delete", "-:x"], b"buildozer: package - has no journal\n", b"x()\n"),
     (["--none", "delete", "//a:x"], b"error: unexpected argument '--none' found\n", b""),

@@ -91,10 +91,10 @@ was_listed place file before after text listing printed there is put same =
     ∙ ap (state (with_opened place (Some file) before.used) (before.printed ++ listing)) (or_false before.failed)))
 
 -- a refusal is reported by the name of the file
-pub reported_by : (f f' : ℕ) (old new : Option Bytes) (name other command : Bytes) (refusal : Refusal) → name ≡ other
-    → AppendsUnlessFailed f f' old new (refusal_line name command refusal) → Reports f f' old new (reported_of other command (Err refusal))
-reported_by f f' old new name other command refusal is reported =
-    (f', new, subst (λ (text : Bytes). AppendsUnlessFailed f f' old new (refusal_line text command refusal)) is reported, (refl, refl))
+pub reported_by : (f f' : ℕ) (old new : Option Bytes) (journals : Bool) (name other command : Bytes) (refusal : Refusal) → name ≡ other
+    → AppendsUnlessFailed f f' old new (refusal_line journals name command refusal) → Reports f f' old new (reported_of journals other command (Err refusal))
+reported_by f f' old new journals name other command refusal is reported =
+    (f', new, subst (λ (text : Bytes). AppendsUnlessFailed f f' old new (refusal_line journals text command refusal)) is reported, (refl, refl))
 
 -- ---- a package by its number
 

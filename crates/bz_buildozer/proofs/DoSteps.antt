@@ -122,9 +122,9 @@ listed_beside step place found file folder before after there none is =
 pub acted_beside : (step : RunStep) (place : ℕ) (found : Option Opened) (file : Opened) (action : Action) (answer : Answer) (history : History) (folder folder' : Folder)
     (before after : Progress) → found ≡ Some file → Some action ≡ action_of step.target step.request.verb
     → Leads action step.request.text file.history answer history → FolderAfter answer file history folder folder' → after ≡ state_after place file answer history before
-    → AnswersBeside step place found folder before (reported_of file.name step.request.text answer) folder' after
+    → AnswersBeside step place found folder before (reported_of true file.name step.request.text answer) folder' after
 acted_beside step place found file action answer history folder folder' before after there requested leads following is =
-    subst (λ (f : Option Opened). AnswersBeside step place f folder before (reported_of file.name step.request.text answer) folder' after) (sym there) (
+    subst (λ (f : Option Opened). AnswersBeside step place f folder before (reported_of true file.name step.request.text answer) folder' after) (sym there) (
       answer,
       history,
       subst (λ (a : Option Action). LeadsBy a step.request.text file.history answer history) requested leads,

@@ -1,24 +1,22 @@
 -- Steps with journals do one thing, and print the same lines but for what is left open.
-use Rattle.std.proofs.Common.{◌≡◌, ◌≢◌, ◌⊎◌, inl, inr, ◌∙◌, ◌++◌, ℕ, zero, suc, List, [], ◌∷◌, Option, Some, None, Bool, true, false, true≢false, Result, Ok, Err, refl, sym, ap, subst, codes, bytes_eq}
+use Rattle.std.proofs.Common.{◌≡◌, ◌≢◌, ◌⊎◌, inl, inr, ◌∙◌, ◌++◌, ℕ, zero, suc, List, [], ◌∷◌, Option, Some, None, Bool, true, false, true≢false, Ok, Err, refl, sym, ap, subst, bytes_eq}
 use Rattle.std.specs.FinMap.{get}
 use Rattle.std.specs.List.{list_any}
-use Rattle.std.proofs.lemmas.List.{append_cancel_right}
 use Rattle.std.proofs.lemmas.Slice.Eq.{bytes_eq-Decides}
 use Rattle.bz_grammar.specs.Laws.{OneReading}
 use Rattle.bz_items.specs.Characters.{Bytes}
 use Rattle.bz_files.specs.Folder.{Folder, IsAside}
 use Rattle.bz_resume.specs.Pair.{journal_name}
 use Rattle.bz_command_line.specs.declared.line.Options.{Options}
-use Rattle.bz_resume.specs.declared.fault.ResumeFault.{ResumeFault}
 use Rattle.bz_workspace.specs.Found.{IsNameOf, PackagesFound, first_name, found_at, found_in, second_name}
 use Rattle.bz_workspace.specs.Journals.{OpensBeside, TakesBeside, file_of_journal, lines_of_journal}
 use Rattle.bz_workspace.specs.Packages.{Opened, Used, file_at, package_number, with_opened}
-use Rattle.bz_workspace.specs.Sessions.{Answer, History, present}
+use Rattle.bz_workspace.specs.Sessions.{Answer, History}
 use Rattle.bz_workspace.proofs.JournalSteps.{one_given}
 use Rattle.bz_workspace.proofs.NameSteps.{apart as packages_apart, journal_not_new, not_new}
 use Rattle.bz_buildozer.specs.Ending.{Left, all_kept, fixed_lines, status_of, texts_out}
 use Rattle.bz_buildozer.specs.Exact.{IsLeftOpen, SameLeft, SameLines}
-use Rattle.bz_buildozer.specs.Keeping.{AllAreKept, AnswersBeside, DoesBeside, FolderAfter, IsApart, PerformsBeside, RunsBeside, UsesBeside, file_after, state_after}
+use Rattle.bz_buildozer.specs.Keeping.{AllAreKept, AnswersBeside, DoesBeside, IsApart, PerformsBeside, RunsBeside, UsesBeside, file_after, state_after}
 use Rattle.bz_buildozer.specs.Run.{Finds, Progress, World, nothing_done, reported_of}
 use Rattle.bz_buildozer.specs.Steps.{RunStep, action_of, input_package, shows_input}
 use Rattle.bz_buildozer.proofs.ExactActions.{one_answer}
@@ -162,7 +160,7 @@ one_answered : OneReading → (step : RunStep) (place : ℕ) (file : Option Open
 one_answered one step place None state folder folder' then then' lines lines' after after' is is' = (is.0 ∙ sym is'.0, is.2 ∙ sym is'.2)
 one_answered one step place (Some file) state folder folder' then then' lines lines' after after' (answer, history, leads, following, reported, is) (answer', history', leads', following', reported', is') =
     let same = one_answer one (action_of step.target step.request.verb) step.request.text file.history answer answer' history history' leads leads' in (
-      reported ∙ ap (reported_of file.name step.request.text) same.0 ∙ sym reported',
+      reported ∙ ap (reported_of true file.name step.request.text) same.0 ∙ sym reported',
       is ∙ ap (λ (it : Answer). state_after place file it history state) same.0 ∙ ap (λ (it : History). state_after place file answer' it state) same.1 ∙ sym is',
     )
 

@@ -1,10 +1,9 @@
 -- Why operands and lines are refused, as their functions say it, but for patterns.
-use Rattle.std.proofs.Common.{◌≡◌, ◌⊎◌, inl, inr, ℕ, List, [], ◌∷◌, ◌++◌, Option, None, Result, Ok, Err, refl, sym, ap, subst, ◌∙◌}
+use Rattle.std.proofs.Common.{◌≡◌, ◌⊎◌, ◌+◌, inl, inr, ℕ, List, [], ◌∷◌, ◌++◌, length, Bool, true, if◌then◌else◌, Option, None, Result, Ok, Err, suc, arith, refl, sym, ap, ◌∙◌}
 use Rattle.bz_items.specs.Characters.{Bytes}
-use Rattle.bz_command_line.specs.Requested.{Requested, Refused, Usage, of_operand, no_command, no_target, no_line, nul, joined_operands, accepted, requested_by, requested_of, operand_group}
+use Rattle.bz_command_line.specs.Requested.{Requested, Refused, Usage, of_operand, no_command, no_target, no_line, nul, in_line, joined_operands, accepted, requested_by, requested_of, operand_group}
 use Rattle.bz_command_line.specs.Refused.{IsPatternFault, IsFirstRefused, IsFirstFault, IsGroupFault, IsScriptFault}
-use Rattle.bz_command_line.specs.Script.{line_with_nul, script_lines, lines_in, operands_in, in_front, operand_groups, some_groups, without_nul, script_of}
-use Rattle.bz_buildozer.specs.Reported.{IsUsageLine}
+use Rattle.bz_command_line.specs.Script.{line_with_nul, script_lines, is_read, operands_in, in_front, group_in_line, line_group, operand_groups, some_groups, without_nul, script_of}
 
 -- ---- operands
 
@@ -39,52 +38,60 @@ group_fault texts no_command fault = inl fault
 group_fault texts no_target fault = inl fault
 group_fault texts no_line fault = absurd fault
 group_fault texts (nul line) fault = absurd fault
+group_fault texts (in_line line usage) fault = absurd fault
 
 -- ---- lines
 
-both_in_front : (first : Result Requested Usage) (more : Result (List Requested) Usage) (groups : List Requested) → in_front first more ≡ Ok groups
-    → (a : Requested) × (b : List Requested) × (first ≡ Ok a) × (more ≡ Ok b)
+both_in_front : (first more : Result (List Requested) Usage) (groups : List Requested) → in_front first more ≡ Ok groups
+    → (a : List Requested) × (b : List Requested) × (first ≡ Ok a) × (more ≡ Ok b)
 both_in_front (Ok a) (Ok b) groups is = (a, b, refl, refl)
 both_in_front (Ok a) (Err usage) groups is = absurd (cc is)
 both_in_front (Err usage) more groups is = absurd (cc is)
 
-first_fault : (front rest : List Bytes) (line : Bytes) (usage : Usage) (groups : List Requested) → operand_groups front ≡ Ok groups
-    → operand_group (operands_in line) ≡ Err usage → operand_groups (front ++ line ∷ rest) ≡ Err usage
-first_fault [] rest line usage groups before is = ap (λ (it : Result Requested Usage). in_front it (operand_groups rest)) is
-first_fault (first ∷ front) rest line usage groups before is =
-    let parts = both_in_front (operand_group (operands_in first)) (operand_groups front) groups before in
-    ap (λ (it : Result Requested Usage). in_front it (operand_groups (front ++ line ∷ rest))) parts.2
-    ∙ ap (λ (it : Result (List Requested) Usage). in_front (Ok parts.0) it) (first_fault front rest line usage parts.1 parts.3 is)
+-- The line that is refused, after this many others.
+refused_group : (number : ℕ) (line : Bytes) (usage : Usage) → is_read line ≡ true → operand_group (operands_in line) ≡ Err usage
+    → line_group number line ≡ Err (in_line number usage)
+refused_group number line usage read is =
+    ap (λ (test : Bool). if test then group_in_line number (operand_group (operands_in line)) else Ok []) read ∙ ap (group_in_line number) is
 
--- There is a line, the one that is refused at least.
-some_line : (front rest : List Bytes) (line : Bytes) → some_groups (front ++ line ∷ rest) ≡ operand_groups (front ++ line ∷ rest)
-some_line [] rest line = refl
-some_line (first ∷ front) rest line = refl
+first_fault : (number : ℕ) (front rest : List Bytes) (line : Bytes) (usage : Usage) (groups : List Requested) → operand_groups number front ≡ Ok groups
+    → is_read line ≡ true → operand_group (operands_in line) ≡ Err usage
+    → operand_groups number (front ++ line ∷ rest) ≡ Err (in_line (number + length front) usage)
+first_fault number [] rest line usage groups before read is =
+    let same : number ≡ number + 0 = omega arith in
+    ap (λ (it : Result (List Requested) Usage). in_front it (operand_groups (number + 1) rest)) (refused_group number line usage read is)
+    ∙ ap (λ (n : ℕ). Err (in_line n usage)) same
+first_fault number (first ∷ front) rest line usage groups before read is =
+    let parts = both_in_front (line_group number first) (operand_groups (number + 1) front) groups before in
+    let same : number + 1 + length front ≡ number + suc (length front) = omega arith in
+    ap (λ (it : Result (List Requested) Usage). in_front it (operand_groups (number + 1) (front ++ line ∷ rest))) parts.2
+    ∙ ap (λ (it : Result (List Requested) Usage). in_front (Ok parts.0) it) (first_fault (number + 1) front rest line usage parts.1 parts.3 read is)
+    ∙ ap (λ (n : ℕ). Err (in_line n usage)) same
 
 -- a usage that reports a pattern of these lines
 abbrev pub ReportsLine : List Bytes → Usage → Type 0
-ReportsLine lines usage = (refused : Refused) × (usage ≡ of_operand refused) × IsFirstFault lines (of_operand refused) × IsPatternFault refused.operand refused.fault
+ReportsLine lines usage =
+    (refused : Refused) × (line : ℕ) × (usage ≡ in_line line (of_operand refused)) × IsFirstFault lines usage × IsPatternFault refused.operand refused.fault
 
-by_line : (text : Bytes) (usage : Usage) → line_with_nul (script_lines text) ≡ None → IsFirstFault (lines_in text) usage → (script_of text ≡ Err usage) ⊎ ReportsLine (lines_in text) usage
-by_line text usage none first = elim (group_fault (operands_in first.line) usage first.fault) [
-  | inl is ↦ inl (
-      ap (λ (line : Option ℕ). without_nul line (lines_in text)) none
-      ∙ ap some_groups first.split
-      ∙ some_line first.front first.rest first.line
-      ∙ first_fault first.front first.rest first.line usage first.groups first.before is
-      )
-  | inr reports ↦ inr (reports.0, reports.1, subst (λ (it : Usage). IsFirstFault (lines_in text) it) reports.1 first, reports.3)
-]
+by_line : (text : Bytes) (usage : Usage) → line_with_nul (script_lines text) ≡ None → IsFirstFault (script_lines text) usage
+    → (script_of text ≡ Err usage) ⊎ ReportsLine (script_lines text) usage
+by_line text usage none first =
+    let read = first.fault.0 in
+    let why = first.fault.1 in
+    let named = first.fault.3 in
+    elim (group_fault (operands_in first.line) why first.fault.2) [
+      | inl is ↦
+          let same : 1 + length first.front ≡ length first.front + 1 = omega arith in
+          inl (
+          ap (λ (line : Option ℕ). without_nul line (script_lines text)) none
+          ∙ ap (λ (lines : List Bytes). some_groups (operand_groups 1 lines)) first.split
+          ∙ ap some_groups (first_fault 1 first.front first.rest first.line why first.groups first.before read is)
+          ∙ ap (λ (n : ℕ). Err (in_line n why)) same
+          ∙ ap Err (sym named)
+          )
+      | inr reports ↦ inr (reports.0, length first.front + 1, named ∙ ap (in_line (length first.front + 1)) reports.1, first, reports.3)
+    ]
 
-pub script_fault : (text : Bytes) (usage : Usage) → IsScriptFault text usage → (script_of text ≡ Err usage) ⊎ ReportsLine (lines_in text) usage
+pub script_fault : (text : Bytes) (usage : Usage) → IsScriptFault text usage → (script_of text ≡ Err usage) ⊎ ReportsLine (script_lines text) usage
 script_fault text usage (inl is) = inl is
 script_fault text usage (inr (none, first)) = by_line text usage none first
-
--- ---- lines on standard error
-
-pub one_usage_line : (file : Bytes) (usage : Usage) (line other : Bytes) → IsUsageLine file usage line → IsUsageLine file usage other → line ≡ other
-one_usage_line file (of_operand refused) line other is other_is = is ∙ sym other_is
-one_usage_line file no_command line other is other_is = is ∙ sym other_is
-one_usage_line file no_target line other is other_is = is ∙ sym other_is
-one_usage_line file no_line line other is other_is = is ∙ sym other_is
-one_usage_line file (nul at) line other is other_is = is ∙ sym other_is

@@ -1,5 +1,5 @@
 -- Words, standard input and a folder have at most one outcome.
-use Rattle.std.proofs.Common.{◌≡◌, ◌⊎◌, ◌&&◌, ℕ, List, [], ◌∷◌, length, bytes_eq, Option, Some, None, Result, Ok, Err, IfOk, Bool, true, false, true≢false, inl, inr, refl, sym, ap, subst, ◌∙◌, arith}
+use Rattle.std.proofs.Common.{◌≡◌, ◌⊎◌, ◌&&◌, ℕ, List, [], ◌∷◌, length, bytes_eq, Option, Some, None, Result, Ok, Err, Bool, true, false, true≢false, inl, inr, refl, sym, ap, subst, ◌∙◌, arith}
 use Rattle.std.specs.FinMap.{get}
 use Rattle.std.specs.List.{list_any}
 use Rattle.std.specs.Str.{IsUtf8, IsValidUpTo}
@@ -9,10 +9,10 @@ use Rattle.bz_lex.specs.declared.fault.ReadFault.TheVariants.{NotUtf8}
 use Rattle.bz_grammar.specs.Laws.{OneReading}
 use Rattle.bz_items.specs.Characters.{Bytes}
 use Rattle.bz_resume.specs.Pair.{journal_name}
-use Rattle.bz_command_line.specs.Requested.{Requested, Refused, Usage, of_operand, operand_group}
+use Rattle.bz_command_line.specs.Requested.{Requested, Refused, Usage, of_operand, in_line, operand_group}
 use Rattle.bz_command_line.specs.Line.{Given, operands, script, LineUsage, of_clap, beside_script, beside_stdout, CommandLine, command_line_of}
 use Rattle.bz_command_line.specs.Refused.{IsFirstFault}
-use Rattle.bz_command_line.specs.Script.{lines_in, script_of}
+use Rattle.bz_command_line.specs.Script.{script_lines, script_of}
 use Rattle.bz_command_line.specs.declared.line.Options.{Options}
 use Rattle.bz_streams.specs.Reported.{fault_line}
 use Rattle.bz_buildozer.specs.Ending.{Left}
@@ -20,10 +20,10 @@ use Rattle.bz_buildozer.specs.Exact.{IsLeftOpen, SameLeft, ReportsPattern, Given
 use Rattle.bz_buildozer.specs.Outcome.{unused, LinesLeave, IsScript, reported_name, OperandsOutcome, LinesOutcome, TextOutcome, GivenOutcome, LineOutcome}
 use Rattle.bz_buildozer.specs.Run.{World}
 use Rattle.bz_buildozer.specs.Steps.{all_steps, names_input, input_package}
-use Rattle.bz_buildozer.specs.Reported.{IsUsageLine, IsLineUsageLine, operand_line}
+use Rattle.bz_buildozer.specs.Reported.{usage_line, IsLineUsageLine}
 use Rattle.bz_buildozer.proofs.ExactBeside.{same_kept}
 use Rattle.bz_buildozer.proofs.ExactEnding.{no_steps, performed_unread, reads_input, same_performed}
-use Rattle.bz_buildozer.proofs.ExactFaults.{group_fault, script_fault, one_usage_line}
+use Rattle.bz_buildozer.proofs.ExactFaults.{group_fault, script_fault}
 use Rattle.bz_buildozer.proofs.ExactLines.{same_lines, same_as}
 use Rattle.bz_buildozer.proofs.ExactSteps.{one_input}
 
@@ -39,18 +39,7 @@ same_left words world left other is = record {
 
 -- one line is printed
 abbrev Refuses : Bytes → Usage → World → Left → Type 0
-Refuses file usage world left = (line : Bytes) × IsUsageLine file usage line × (left ≡ unused world.folder line)
-
-same_refusal : (words : List Bytes) (file : Bytes) (usage : Usage) (world : World) (left other : Left) → Refuses file usage world left
-    → Refuses file usage world other → SameLeft words world left other
-same_refusal words file usage world left other (line, reported, is) (line', reported', is') =
-    same_left words world left other (is ∙ ap (unused world.folder) (one_usage_line file usage line line' reported reported') ∙ sym is')
-
-reported_pattern : (file : Bytes) (usage : Usage) (refused : Refused) (world : World) (left : Left) (line : Bytes) → usage ≡ of_operand refused
-    → IsUsageLine file usage line → left ≡ unused world.folder line → left ≡ unused world.folder (operand_line refused)
-reported_pattern file usage refused world left line is reported none =
-    let here : line ≡ operand_line refused = subst (λ (it : Usage). IsUsageLine file it line) is reported in
-    none ∙ ap (unused world.folder) here
+Refuses file usage world left = left ≡ unused world.folder (usage_line file usage)
 
 -- ---- by what is requested
 
@@ -65,7 +54,7 @@ IsOne {A} words world Done = (requested : A) (left other : Left) → Done reques
 same_decided : {A : Type 0} (words : List Bytes) (file : Bytes) (Done : A → World → Left → Type 0) (result : Result A Usage) (world : World) (left other : Left)
     → IsOne words world Done → Decided file Done result world left → Decided file Done result world other → SameLeft words world left other
 same_decided words file Done (Ok requested) world left other one decided decided' = one requested left other decided decided'
-same_decided words file Done (Err usage) world left other one decided decided' = same_refusal words file usage world left other decided decided'
+same_decided words file Done (Err usage) world left other one decided decided' = same_left words world left other (decided ∙ sym decided')
 
 -- ---- operands
 
@@ -77,9 +66,9 @@ OperandsExact options texts world left = Decided [] (OperandsDone options) (oper
 
 operands_exact : (options : Options) (texts : List Bytes) (world : World) (left : Left) → OperandsOutcome options texts world left
     → GivenReportsPattern (operands texts) world left ⊎ OperandsExact options texts world left
-operands_exact options texts world left (inl (usage, line, fault, reported, none)) = elim (group_fault texts usage fault) [
-  | inl is ↦ inr (subst (λ (it : Result Requested Usage). Decided [] (OperandsDone options) it world left) (sym is) (line, reported, none))
-  | inr reports ↦ inl (reports.0, reports.2, (reports.3, reported_pattern [] usage reports.0 world left line reports.1 reported none))
+operands_exact options texts world left (inl (usage, fault, none)) = elim (group_fault texts usage fault) [
+  | inl is ↦ inr (subst (λ (it : Result Requested Usage). Decided [] (OperandsDone options) it world left) (sym is) none)
+  | inr reports ↦ inl (reports.0, reports.2, (reports.3, none ∙ ap (λ (it : Usage). unused world.folder (usage_line [] it)) reports.1))
 ]
 operands_exact options texts world left (inr (requested, is, leave)) =
     inr (subst (λ (it : Result Requested Usage). Decided [] (OperandsDone options) it world left) (sym is) leave)
@@ -162,18 +151,24 @@ TextExact options name text world left =
     ((at : ℕ) × IsValidUpTo text at × (left ≡ unused world.folder (fault_line (reported_name name) (NotUtf8 at)))) ⊎ (IsUtf8 text × TextDecided options name text world left)
 
 -- a pattern of a line of this text is reported
-abbrev TextReports : Bytes → World → Left → Type 0
-TextReports text world left = (refused : Refused) × IsFirstFault (lines_in text) (of_operand refused) × IsReportedPattern refused world left
+abbrev TextReports : Bytes → Bytes → World → Left → Type 0
+TextReports name text world left = (refused : Refused) × (line : ℕ) × IsFirstFault (script_lines text) (in_line line (of_operand refused))
+    × IsReportedPattern refused (reported_name name) (in_line line (of_operand refused)) world left
 
 text_exact : (options : Options) (name text : Bytes) (world : World) (left : Left) → TextOutcome options name (Some text) world left
-    → TextReports text world left ⊎ TextExact options name text world left
+    → TextReports name text world left ⊎ TextExact options name text world left
 text_exact options name text world left (inl invalid) = inr (inl invalid)
-text_exact options name text world left (inr (inl (whole, (usage, line, fault, reported, none)))) = elim (script_fault text usage fault) [
+text_exact options name text world left (inr (inl (whole, (usage, fault, none)))) = elim (script_fault text usage fault) [
   | inl is ↦ inr (inr (
     whole,
-    subst (λ (it : Result (List Requested) Usage). Decided (reported_name name) (LinesOutcome options (bytes_eq name input_package)) it world left) (sym is) (line, reported, none),
+    subst (λ (it : Result (List Requested) Usage). Decided (reported_name name) (LinesOutcome options (bytes_eq name input_package)) it world left) (sym is) none,
   ))
-  | inr reports ↦ inl (reports.0, reports.2, (reports.3, reported_pattern (reported_name name) usage reports.0 world left line reports.1 reported none))
+  | inr reports ↦ inl (
+    reports.0,
+    reports.1,
+    subst (IsFirstFault (script_lines text)) reports.2 reports.3,
+    (reports.4, none ∙ ap (λ (it : Usage). unused world.folder (usage_line (reported_name name) it)) reports.2),
+  )
 ]
 text_exact options name text world left (inr (inr (whole, (lines, is, done)))) = inr (inr (
   whole,
@@ -215,10 +210,10 @@ exactly_operands one words bytes options texts world left other known plain (inr
     (λ requested l o done done'. same_leaves one words bytes options (requested ∷ []) world l o known plain done done') exact exact'))
 
 exactly_text : OneReading → (words : List Bytes) (bytes : Bytes) (options : Options) (name text : Bytes) (world : World) (left other : Left)
-    → world.known ≡ Some bytes → OpensJournals words options → IsScript world name (Some text) → TextReports text world left ⊎ TextExact options name text world left
-    → TextReports text world other ⊎ TextExact options name text world other → Exactly words (script name) world left other
-exactly_text one words bytes options name text world left other known plain is (inl reports) outcome = inl (text, is, reports.0, reports.1, reports.2)
-exactly_text one words bytes options name text world left other known plain is (inr exact) (inl reports) = inr (inl (text, is, reports.0, reports.1, reports.2))
+    → world.known ≡ Some bytes → OpensJournals words options → IsScript world name (Some text) → TextReports name text world left ⊎ TextExact options name text world left
+    → TextReports name text world other ⊎ TextExact options name text world other → Exactly words (script name) world left other
+exactly_text one words bytes options name text world left other known plain is (inl reports) outcome = inl (text, is, reports.0, reports.1, reports.2, reports.3)
+exactly_text one words bytes options name text world left other known plain is (inr exact) (inl reports) = inr (inl (text, is, reports.0, reports.1, reports.2, reports.3))
 exactly_text one words bytes options name text world left other known plain is (inr exact) (inr exact') =
     inr (inr (same_text one words bytes options name text world left other known plain exact exact'))
 

@@ -1,5 +1,5 @@
 -- Steps of a run do one thing, and print the same lines but for what is left open.
-use Rattle.std.proofs.Common.{◌≡◌, inl, inr, ℕ, List, [], ◌∷◌, ◌++◌, Option, Some, None, Bool, true≢false, refl, sym, ap, subst, ◌∙◌}
+use Rattle.std.proofs.Common.{◌≡◌, inl, inr, ℕ, List, [], ◌∷◌, ◌++◌, Option, Some, None, Bool, true≢false, refl, sym, ap, subst, ◌∙◌, false}
 use Rattle.bz_grammar.specs.Laws.{OneReading}
 use Rattle.bz_items.specs.Characters.{Bytes}
 use Rattle.bz_streams.specs.Ports.{IsInput}
@@ -96,7 +96,7 @@ one_answered : OneReading → (step : RunStep) (place : ℕ) (file : Option Open
 one_answered one step place None state lines lines' after after' is is' = (is.0 ∙ sym is'.0, is.1 ∙ sym is'.1)
 one_answered one step place (Some file) state lines lines' after after' (answer, history, leads, reported, is) (answer', history', leads', reported', is') =
     let same = one_answer one (action_of step.target step.request.verb) step.request.text file.history answer answer' history history' leads leads' in (
-      reported ∙ ap (reported_of file.name step.request.text) same.0 ∙ sym reported',
+      reported ∙ ap (reported_of false file.name step.request.text) same.0 ∙ sym reported',
       is ∙ ap (λ (it : Answer). answered place file it history state) same.0 ∙ ap (λ (it : History). answered place file answer' it state) same.1 ∙ sym is',
     )
 

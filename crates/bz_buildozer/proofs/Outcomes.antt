@@ -1,15 +1,15 @@
 -- What words and lines come to, by what was read of them.
-use Rattle.std.proofs.Common.{◌≡◌, ◌≢◌, ◌⊎◌, ◌&&◌, ◌||◌, inl, inr, ℕ, ◌<◌, List, [], ◌∷◌, length, take, codes, Option, Some, None, IfSome, IsSome, Result, Ok, Err, IfOk, Bool, true, false, true≢false, refl, sym, ap, subst, ◌∙◌, arith, bytes_eq}
+use Rattle.std.proofs.Common.{◌≡◌, ◌≢◌, ◌⊎◌, ◌&&◌, ◌||◌, ◌++◌, option_map, inl, inr, ℕ, ◌<◌, List, [], ◌∷◌, length, take, codes, Option, Some, None, IfSome, IsSome, Result, Ok, Err, IfOk, Bool, true, false, true≢false, refl, sym, ap, subst, ◌∙◌, arith, bytes_eq}
 use Rattle.std.specs.List.{All, list_any}
 use Rattle.std.specs.Str.{IsUtf8, IsValidUpTo}
-use Rattle.std.proofs.lemmas.List.{take_all, length-take}
+use Rattle.std.proofs.lemmas.List.{append-nil, take_all, length-take}
 use Rattle.std.proofs.lemmas.List.Elements.{All-head}
 use Rattle.std.proofs.lemmas.Slice.Eq.{bytes_eq-Decides}
 use Rattle.bz_lex.specs.declared.fault.ReadFault.TheVariants.{NotUtf8}
 use Rattle.bz_items.specs.Characters.{Bytes}
 use Rattle.bz_files.specs.Folder.{Folder}
 use Rattle.bz_label.specs.declared.target.Target.{Target}
-use Rattle.bz_command_line.specs.Requested.{Requested, Request, Refused, Usage, accepted, requested_of, complete, operand_group}
+use Rattle.bz_command_line.specs.Requested.{Requested, Request, Refused, Usage, in_line, accepted, requested_of, complete, operand_group}
 use Rattle.bz_command_line.specs.Line.{Given, script, CommandLine, LineUsage, command_line_of}
 use Rattle.bz_command_line.specs.Refused.{IsGroupFault, IsScriptFault}
 use Rattle.bz_command_line.specs.Script.{script_of}
@@ -23,7 +23,7 @@ use Rattle.bz_buildozer.specs.Outcome.{unused, LinesLeave, AreOfInput, AreOfInpu
 use Rattle.bz_buildozer.specs.Run.{World}
 use Rattle.bz_streams.specs.Ports.{IsInput}
 use Rattle.bz_buildozer.specs.Steps.{is_of_input, names_input, input_package}
-use Rattle.bz_buildozer.specs.Reported.{IsUsageLine, IsLineUsageLine, input_line}
+use Rattle.bz_buildozer.specs.Reported.{usage_line, refused_place, IsLineUsageLine, input_line}
 
 -- ---- lines on standard error
 
@@ -32,10 +32,29 @@ reported_once f g old new line reported = (g, new, reported, (refl, refl))
 
 -- What was reported holds for what was requested.
 pub usage_reported : (found : Option Usage) (file : Bytes) (f g : ℕ) (old new : Option Bytes) → IsSome found
-    → IfSome found (λ usage. (line : Bytes) × IsUsageLine file usage line × AppendsUnlessFailed f g old new line)
-    → (usage : Usage) × (line : Bytes) × (found ≡ Some usage) × IsUsageLine file usage line × Reports f g old new (line ∷ [])
+    → IfSome found (λ usage. AppendsUnlessFailed f g old new (usage_line file usage))
+    → (usage : Usage) × (line : Bytes) × (found ≡ Some usage) × (line ≡ usage_line file usage) × Reports f g old new (line ∷ [])
 usage_reported None file f g old new is holds = absurd (true≢false (sym is))
-usage_reported (Some usage) file f g old new is holds = (usage, holds.0, refl, holds.1, reported_once f g old new holds.0 holds.2)
+usage_reported (Some usage) file f g old new is holds = (usage, usage_line file usage, refl, refl, reported_once f g old new (usage_line file usage) holds)
+
+-- of operands nothing more is printed
+pub group_reported : (found : Option Usage) (f g : ℕ) (old new : Option Bytes)
+    → IfSome found (λ usage. (file : Bytes) → AppendsUnlessFailed f g old new (usage_line file usage ++ []))
+    → IfSome found (λ usage. AppendsUnlessFailed f g old new (usage_line [] usage))
+group_reported None f g old new holds = tt
+group_reported (Some usage) f g old new holds = subst (AppendsUnlessFailed f g old new) (append-nil (usage_line [] usage)) (holds [])
+
+-- of a line its place
+pub line_reported : (found : Option Usage) (line : ℕ) (file after : Bytes) (f g : ℕ) (old new : Option Bytes) → after ≡ refused_place file line
+    → IfSome found (λ usage. (other : Bytes) → AppendsUnlessFailed f g old new (usage_line other usage ++ after))
+    → IfSome (option_map (in_line line) found) (λ usage. AppendsUnlessFailed f g old new (usage_line file usage))
+line_reported None line file after f g old new is holds = tt
+line_reported (Some usage) line file after f g old new is holds =
+    subst (λ (it : Bytes). AppendsUnlessFailed f g old new (usage_line file usage ++ it)) is (holds file)
+
+pub some_in_line : (found : Option Usage) (line : ℕ) → IsSome found → IsSome (option_map (in_line line) found)
+some_in_line None line is = is
+some_in_line (Some usage) line is = refl
 
 pub line_usage_reported : (found : Option LineUsage) (f g : ℕ) (old new : Option Bytes) → IsSome found
     → IfSome found (λ usage. (line : Bytes) × IsLineUsageLine usage line × AppendsUnlessFailed f g old new line)
@@ -66,11 +85,11 @@ apart name differs same = true≢false (ap (λ (it : Bytes). bytes_eq it input_p
 -- ---- operands
 
 pub operands_refused : (options : Options) (texts : List Bytes) (world : World) (found : Option Usage) (usage : Usage) (line : Bytes) (status : ℕ)
-    (out : Option Bytes) (f g : ℕ) (old new : Option Bytes) → IfSome found (IsGroupFault texts) → found ≡ Some usage → IsUsageLine [] usage line
+    (out : Option Bytes) (f g : ℕ) (old new : Option Bytes) → IfSome found (IsGroupFault texts) → found ≡ Some usage → line ≡ usage_line [] usage
     → status ≡ 1 → Reports f g old new (line ∷ []) → (left : Left) × OperandsOutcome options texts world left × LeftStands left status world.folder out out f g old new
 operands_refused options texts world found usage line status out f g old new fault is reported exit reports = (
   unused world.folder line,
-  inl (usage, line, at_some (IsGroupFault texts) found usage is fault, reported, refl),
+  inl (usage, at_some (IsGroupFault texts) found usage is fault, ap (unused world.folder) reported),
   stands_unused world.folder world.folder line status out f g old new refl exit reports,
 )
 
@@ -159,13 +178,13 @@ text_invalid options name text reported world at at' out f g old new valid same 
 
 pub text_refused : (options : Options) (name text text' reported : Bytes) (world : World) (found : Option Usage) (usage : Usage) (line : Bytes) (status : ℕ)
     (out : Option Bytes) (f g : ℕ) (old new : Option Bytes) → text' ≡ text → IsUtf8 text → IfSome found (IsScriptFault text') → found ≡ Some usage
-    → reported ≡ reported_name name → IsUsageLine reported usage line → status ≡ 1 → Reports f g old new (line ∷ [])
+    → reported ≡ reported_name name → line ≡ usage_line reported usage → status ≡ 1 → Reports f g old new (line ∷ [])
     → (left : Left) × TextOutcome options name (Some text) world left × LeftStands left status world.folder out out f g old new
 text_refused options name text text' reported world found usage line status out f g old new same utf8 fault is called says exit reports =
     let why : IsScriptFault text usage = subst (λ (it : Bytes). IsScriptFault it usage) same (at_some (IsScriptFault text') found usage is fault) in
-    let as_reported : IsUsageLine (reported_name name) usage line = subst (λ (it : Bytes). IsUsageLine it usage line) called says in (
+    let as_reported : line ≡ usage_line (reported_name name) usage = says ∙ ap (λ (it : Bytes). usage_line it usage) called in (
       unused world.folder line,
-      inr (inl (utf8, (usage, line, why, as_reported, refl))),
+      inr (inl (utf8, (usage, why, ap (unused world.folder) as_reported))),
       stands_unused world.folder world.folder line status out f g old new refl exit reports,
     )
 

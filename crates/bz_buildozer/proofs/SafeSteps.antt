@@ -6,7 +6,7 @@ use Rattle.std.specs.Option.{option_map, option_map_or}
 use Rattle.std.proofs.lemmas.Bool.Decides.{eqb_tells}
 use Rattle.std.proofs.lemmas.Slice.Eq.{bytes_eq-Decides}
 use Rattle.bz_items.specs.Characters.{Bytes}
-use Rattle.bz_files.specs.Folder.{Elapses, Folder, IsAside, new_name}
+use Rattle.bz_files.specs.Folder.{Elapses, Folder, IsAside}
 use Rattle.bz_files.specs.declared.files.Files.{Ghosts as FilesOf}
 use Rattle.bz_files.proofs.Elapsing.{elapsed_on, weakened}
 use Rattle.bz_journal.specs.declared.keeping.KeepFault.{KeepFault}
@@ -15,7 +15,7 @@ use Rattle.bz_journal.specs.Keeping.{Keeps}
 use Rattle.bz_resume.specs.Pair.{journal_name}
 use Rattle.bz_resume.specs.Resuming.{Holds, OthersStay, Resumes, Survives}
 use Rattle.bz_workspace.specs.Found.{IsApartFrom, IsNameOf}
-use Rattle.bz_workspace.specs.Journals.{Adds, IsOpenedIn, TakesBeside}
+use Rattle.bz_workspace.specs.Journals.{IsOpenedIn, TakesBeside}
 use Rattle.bz_workspace.specs.Keeps.{KeepsAt, KeepsFile, KeepsFolder, after_keeping}
 use Rattle.bz_workspace.specs.Packages.{Opened, Used, file_at, package_number, with_opened}
 use Rattle.bz_workspace.specs.Sessions.{Action, History, Reply, present}

@@ -1,5 +1,5 @@
 -- What a run of status 1 prints, by what was read of the words and of the lines.
-use Rattle.std.proofs.Common.{◌≡◌, ◌&&◌, inl, inr, ℕ, List, [], ◌∷◌, codes, Option, Some, None, IfSome, Result, Ok, Err, Bool, true, refl, sym, ap, subst, ◌∙◌, bytes_eq}
+use Rattle.std.proofs.Common.{◌≡◌, inl, inr, ℕ, List, [], ◌∷◌, codes, Option, Some, None, IfSome, Result, Ok, Err, Bool, true, refl, sym, ap, subst, ◌∙◌, bytes_eq}
 use Rattle.std.specs.Str.{IsUtf8, IsValidUpTo}
 use Rattle.bz_lex.specs.declared.fault.ReadFault.TheVariants.{NotUtf8}
 use Rattle.bz_items.specs.Characters.{Bytes}
@@ -14,7 +14,7 @@ use Rattle.bz_streams.specs.Reported.{named_line, fault_line}
 use Rattle.bz_buildozer.specs.Outcome.{IsScript, reported_name}
 use Rattle.bz_buildozer.specs.Run.{World}
 use Rattle.bz_buildozer.specs.Steps.{input_package, names_input}
-use Rattle.bz_buildozer.specs.Reported.{IsUsageLine, IsLineUsageLine, no_journal_line}
+use Rattle.bz_buildozer.specs.Reported.{usage_line, IsLineUsageLine, no_journal_line}
 use Rattle.bz_buildozer.specs.Usage.{OperandsReport, LinesReport, TextReports, GivenReports, LineReports}
 use Rattle.bz_buildozer.proofs.Outcomes.{reported_once, at_some}
 
@@ -25,7 +25,7 @@ ReportsOne P f g old new = (line : Bytes) × P line × Reports f g old new (line
 -- ---- operands
 
 pub operands_reported : (options : Options) (texts : List Bytes) (found : Option Usage) (usage : Usage) (line : Bytes) (f g : ℕ) (old new : Option Bytes)
-    → IfSome found (IsGroupFault texts) → found ≡ Some usage → IsUsageLine [] usage line → Reports f g old new (line ∷ [])
+    → IfSome found (IsGroupFault texts) → found ≡ Some usage → line ≡ usage_line [] usage → Reports f g old new (line ∷ [])
     → ReportsOne (OperandsReport options texts) f g old new
 operands_reported options texts found usage line f g old new fault is says reports =
     (line, inl (usage, at_some (IsGroupFault texts) found usage is fault, says), reports)
@@ -47,11 +47,11 @@ text_reported options name text reported at at' f g old new valid same called ap
 )
 
 pub script_reported : (options : Options) (name text text' reported : Bytes) (found : Option Usage) (usage : Usage) (line : Bytes) (f g : ℕ) (old new : Option Bytes)
-    → text' ≡ text → IsUtf8 text → IfSome found (IsScriptFault text') → found ≡ Some usage → reported ≡ reported_name name → IsUsageLine reported usage line
+    → text' ≡ text → IsUtf8 text → IfSome found (IsScriptFault text') → found ≡ Some usage → reported ≡ reported_name name → line ≡ usage_line reported usage
     → Reports f g old new (line ∷ []) → ReportsOne (TextReports options name (Some text)) f g old new
 script_reported options name text text' reported found usage line f g old new same utf8 fault is called says reports =
     let why : IsScriptFault text usage = subst (λ (it : Bytes). IsScriptFault it usage) same (at_some (IsScriptFault text') found usage is fault) in
-    let as_reported : IsUsageLine (reported_name name) usage line = subst (λ (it : Bytes). IsUsageLine it usage line) called says in
+    let as_reported : line ≡ usage_line (reported_name name) usage = says ∙ ap (λ (it : Bytes). usage_line it usage) called in
     (line, inr (inl (utf8, (usage, why, as_reported))), reports)
 
 pub script_lines_reported : (options : Options) (name text text' : Bytes) (lines lines' : List Requested) (f g : ℕ) (old new : Option Bytes)

@@ -11,7 +11,7 @@ use Rattle.bz_files.specs.Folder.{Folder, with_file}
 use Rattle.bz_workspace.specs.Sessions.{History, Answer, changed, undone, opened, note_limit, gives, Changed, Moved}
 use Rattle.bz_label.specs.declared.target.Target.{Target}
 use Rattle.bz_label.specs.declared.target.Which.TheVariants.{Name}
-use Rattle.bz_command_line.specs.Requested.{Requested, Request, Usage, nothing_requested, operand_group, no_command, no_target, no_line, of_operand}
+use Rattle.bz_command_line.specs.Requested.{Requested, Request, Usage, nothing_requested, operand_group, no_command, no_target, no_line, in_line, of_operand}
 use Rattle.bz_command_line.specs.Line.{CommandLine, LineUsage, operands, script, command_line_of}
 use Rattle.bz_command_line.specs.Refused.{IsGroupFault}
 use Rattle.bz_command_line.specs.declared.line.Options.{Options}
@@ -31,7 +31,7 @@ use Rattle.bz_buildozer.specs.Ending.{Left, Performs}
 use Rattle.bz_buildozer.specs.Outcome.{WordsOutcome, LineOutcome, ScriptOutcome, unused}
 use Rattle.bz_buildozer.specs.Run.{World, Progress, Finds, Uses, Answers, Does, RunsSteps, nothing_done, reported_of, answered, ends_run}
 use Rattle.bz_buildozer.specs.Steps.{RunStep, all_steps, names_input}
-use Rattle.bz_buildozer.specs.Reported.{IsUsageLine}
+use Rattle.bz_buildozer.specs.Reported.{usage_line}
 use Rattle.bz_buildozer.specs.WorkedParts.{text_read, text_made}
 use Rattle.bz_buildozer.specs.WorkedRuns.{WorkedUsage, WorkedWholeRuns, HasBuild, OverBuild, BesideNone, OverInput}
 use Rattle.bz_buildozer.proofs.Outcomes.{apart}
@@ -65,9 +65,9 @@ abbrev plain : Options
 plain = record { keep_going = false; to_stdout = false; quiet = false; journal = false }
 
 usage_of : (words : List Bytes) (usage : Usage) (line : Bytes) (world : World) → command_line_of words ≡ Ok (record { options = plain; given = operands words })
-    → IsGroupFault words usage → IsUsageLine [] usage line → WordsOutcome words world (unused world.folder line)
+    → IsGroupFault words usage → line ≡ usage_line [] usage → WordsOutcome words world (unused world.folder line)
 usage_of words usage line world is fault reported =
-    subst (λ (whole : Result CommandLine LineUsage). LineOutcome whole world (unused world.folder line)) (sym is) (inl (usage, line, fault, reported, refl))
+    subst (λ (whole : Result CommandLine LineUsage). LineOutcome whole world (unused world.folder line)) (sym is) (inl (usage, fault, ap (unused world.folder) reported))
 
 script_of : (words : List Bytes) (name : Bytes) (world : World) (left : Left) → command_line_of words ≡ Ok (record { options = plain; given = script name })
     → ScriptOutcome plain name world left → WordsOutcome words world left
@@ -91,6 +91,10 @@ only_delete = record { commands = record { verb = Do (w.Rule wr.Delete); text = 
 comment_is_text : is_utf8 (codes "# none\n\n") ≡ true
 unfolding is_utf8 chars encode
 comment_is_text = refl
+
+delete_is_text : is_utf8 (codes "# none\ndelete\n") ≡ true
+unfolding is_utf8 chars encode
+delete_is_text = refl
 
 undo_is_text : is_utf8 (codes "undo|-:x\n") ≡ true
 unfolding is_utf8 chars encode
@@ -118,7 +122,12 @@ usage = (
   (λ world there. script_of (codes "-f" ∷ codes "lines" ∷ []) (codes "lines") world (unused world.folder (codes "lines: no operands\n")) refl (
     Some (codes "# none\n\n"),
     inr (apart (codes "lines") refl, sym there),
-    inr (inl (IsUtf8-from_is_utf8 (codes "# none\n\n") comment_is_text, (no_line, codes "lines: no operands\n", inl refl, refl, refl))),
+    inr (inl (IsUtf8-from_is_utf8 (codes "# none\n\n") comment_is_text, (no_line, inl refl, refl))),
+  )),
+  (λ world there. script_of (codes "-f" ∷ codes "lines" ∷ []) (codes "lines") world (unused world.folder (codes "buildozer: no target\nlines:2: refused\n")) refl (
+    Some (codes "# none\ndelete\n"),
+    inr (apart (codes "lines") refl, sym there),
+    inr (inl (IsUtf8-from_is_utf8 (codes "# none\ndelete\n") delete_is_text, (in_line 2 no_target, inl refl, refl))),
   )),
   (λ folder. script_of (codes "-f" ∷ codes "-" ∷ []) (codes "-") (record { folder = folder; known = Some (codes "undo|-:x\n") })
       (unused folder (codes "buildozer: package - cannot be edited beside -f -\n")) refl (
@@ -175,7 +184,7 @@ sets current name place state =
 
 goes_back : (current : Bytes) (count : ℕ) (text : Bytes) (place : ℕ) (file : Opened) (state : Progress) (answer : Answer) (history : History)
     → length text ≤ note_limit → (answer, history) ≡ undone count file.history
-    → Answers (step_at current (undo count text)) place (Some file) state (reported_of file.name text answer) (answered place file answer history state)
+    → Answers (step_at current (undo count text)) place (Some file) state (reported_of false file.name text answer) (answered place file answer history state)
 goes_back current count text place file state answer history short is = (answer, history, inr (short, is), refl, refl)
 
 one_step : (world : World) (keep : Bool) (step : RunStep) (steps : List RunStep) (before mid after : Progress) (first rest : List Bytes)
@@ -204,12 +213,12 @@ set_first world current name finds =
 -- What `set size small` made is taken back by this many steps, or that is refused.
 set_back : (world : World) (current name : Bytes) (count : ℕ) (text : Bytes) (answer : Answer) (history : History)
     → package_number current (after_set current name).used ≡ Some 0 → length text ≤ note_limit → (answer, history) ≡ undone count (set_history current)
-    → Does world (step_at current (undo count text)) (after_set current name) (reported_of name text answer)
+    → Does world (step_at current (undo count text)) (after_set current name) (reported_of false name text answer)
     (answered 0 (opened_with name text_read (set_history current)) answer history (after_set current name))
 set_back world current name count text answer history there short is =
     let file : Opened = opened_with name text_read (set_history current) in
     does world (step_at current (undo count text)) (after_set current name) (answered 0 file answer history (after_set current name)) 0
-    (after_set current name).used [] (reported_of name text answer) (inl (there, refl, refl))
+    (after_set current name).used [] (reported_of false name text answer) (inl (there, refl, refl))
     (goes_back current count text 0 file (after_set current name) answer history short is)
 
 abbrev back_history : Bytes → History
@@ -254,7 +263,7 @@ run_set_undo world current name there finds =
     (set_back world current name 1 undo_text (Ok Moved) (back_history current) there short_undo refl) (refl, refl))
 
 abbrev refused_two : Bytes
-refused_two = codes "buildozer: BUILD: undo 2: TooFar (61)\n"
+refused_two = codes "buildozer: BUILD: undo 2: TooFar (61)\nbuildozer: to undo or redo what earlier runs did, give --journal, as in those runs\n"
 
 abbrev after_two : Progress
 after_two = state_of (file_with [] build (set_history []) ∷ []) true
@@ -269,7 +278,7 @@ run_two world has =
     (set_back world [] build 2 (codes "undo 2") (Err TooFar) (set_history []) refl (leb-true (length (codes "undo 2")) note_limit refl) refl) (refl, refl))
 
 abbrev refused_one : Bytes
-refused_one = codes "buildozer: BUILD: undo: TooFar (61)\n"
+refused_one = codes "buildozer: BUILD: undo: TooFar (61)\nbuildozer: to undo or redo what earlier runs did, give --journal, as in those runs\n"
 
 abbrev build_read : Opened
 build_read = opened_fresh [] build text_read

@@ -182,3 +182,12 @@ pub record Proceeds (journals : Bool) (Premise : Type 0) (steps : List RunStep) 
 abbrev pub LeavesAfter : {W E F : Type 0} → SinkOf W → SinkOf E → FilesOf F → Left → ℕ → W → W → E → E → F → Type 0
 LeavesAfter sink errors files left status out out' err err' held' =
     LeftStands left status (files.folder held') (sink.contents out) (sink.contents out') (errors.faults err) (errors.faults err') (errors.contents err) (errors.contents err')
+
+-- Some outcome is what is left; of a run that standard output cuts the folder is, and a beginning of the output was printed.
+abbrev pub Reaches : {W E F : Type 0} → SinkOf W → SinkOf E → FilesOf F → (Left → Type 0) → ℕ → W → W → E → E → F → Type 0
+Reaches sink errors files IsOutcome status out out' err err' held' =
+    (left : Left) × IsOutcome left × LeavesAfter sink errors files left status out out' err err' held'
+
+abbrev pub BreaksOff : {W F : Type 0} → SinkOf W → FilesOf F → (Left → Type 0) → W → W → F → Type 0
+BreaksOff sink files IsOutcome out out' held' =
+    (left : Left) × IsOutcome left × PrintsSome sink out out' left.output × (files.folder held' ≡ left.folder)

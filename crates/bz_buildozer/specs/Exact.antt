@@ -1,21 +1,21 @@
 -- Words, standard input and a folder have at most one outcome, but for what is left open: clap's text, which fault of a text that
 -- can't be read is reported, names that end in `.bznew`, the bytes of journals, and whether `regex` takes a pattern.
-use Rattle.std.specs.Prelude.{◌≡◌, ◌⊎◌, true, List, [], ◌∷◌, Some, Ok, Err}
+use Rattle.std.specs.Prelude.{◌≡◌, ◌⊎◌, ℕ, true, List, [], ◌∷◌, Some, Ok, Err}
 use Rattle.bz_lex.specs.declared.fault.ReadFault.{ReadFault}
 use Rattle.bz_grammar.specs.Legal.{Accepted}
 use Rattle.bz_items.specs.Characters.{Bytes}
 use Rattle.bz_files.specs.Folder.{IsAside, SameBut}
 use Rattle.bz_grammar.specs.Faults.{IsFaultOf}
 use Rattle.bz_resume.specs.Pair.{journal_name}
-use Rattle.bz_command_line.specs.Requested.{Refused, of_operand}
+use Rattle.bz_command_line.specs.Requested.{Refused, Usage, of_operand, in_line}
 use Rattle.bz_command_line.specs.Line.{Given, operands, script, CommandLine, of_clap, command_line_of}
 use Rattle.bz_command_line.specs.Refused.{IsPatternFault, IsFirstRefused, IsFirstFault}
-use Rattle.bz_command_line.specs.Script.{lines_in}
+use Rattle.bz_command_line.specs.Script.{script_lines}
 use Rattle.bz_streams.specs.Reported.{fault_line}
 use Rattle.bz_buildozer.specs.Ending.{Left}
-use Rattle.bz_buildozer.specs.Outcome.{WordsOutcome, IsScript, unused}
+use Rattle.bz_buildozer.specs.Outcome.{WordsOutcome, IsScript, reported_name, unused}
 use Rattle.bz_buildozer.specs.Run.{World, Finds}
-use Rattle.bz_buildozer.specs.Reported.{operand_line}
+use Rattle.bz_buildozer.specs.Reported.{usage_line}
 
 -- ---- lines
 
@@ -62,15 +62,18 @@ pub record SameLeft (words : List Bytes) (world : World) (left other : Left) : T
   pub lines : SameLines words world left.lines other.lines
   pub folder : SameBut (IsLeftOpen words) left.folder other.folder
 
--- Nothing is done, and the pattern of this operand is reported as one that `regex` refuses.
-abbrev pub IsReportedPattern : Refused → World → Left → Type 0
-IsReportedPattern refused world left = IsPatternFault refused.operand refused.fault × (left ≡ unused world.folder (operand_line refused))
+-- Nothing is done, and the pattern of this operand is reported as one that `regex` refuses. (The name of the file of lines, and the usage.)
+abbrev pub IsReportedPattern : Refused → Bytes → Usage → World → Left → Type 0
+IsReportedPattern refused file usage world left =
+    IsPatternFault refused.operand refused.fault × (left ≡ unused world.folder (usage_line file usage))
 
 -- The operand is among the words, or in the file of lines.
 abbrev pub GivenReportsPattern : Given → World → Left → Type 0
-GivenReportsPattern (operands texts) world left = (refused : Refused) × IsFirstRefused texts refused × IsReportedPattern refused world left
+GivenReportsPattern (operands texts) world left = (refused : Refused) × IsFirstRefused texts refused × IsReportedPattern refused [] (of_operand refused) world left
 GivenReportsPattern (script name) world left =
-    (text : Bytes) × IsScript world name (Some text) × (refused : Refused) × IsFirstFault (lines_in text) (of_operand refused) × IsReportedPattern refused world left
+    (text : Bytes) × IsScript world name (Some text) × (refused : Refused) × (line : ℕ)
+    × IsFirstFault (script_lines text) (in_line line (of_operand refused))
+    × IsReportedPattern refused (reported_name name) (in_line line (of_operand refused)) world left
 
 abbrev pub ReportsPattern : List Bytes → World → Left → Type 0
 ReportsPattern words world left = (line : CommandLine) × (command_line_of words ≡ Ok line) × GivenReportsPattern line.given world left

@@ -62,7 +62,7 @@ AnswersBeside step place None folder state lines folder' after = (lines ≡ []) 
 AnswersBeside step place (Some file) folder state lines folder' after =
     (answer : Answer) × (history : History) × LeadsBy (action_of step.target step.request.verb) step.request.text file.history answer history
     × FolderAfter answer file history folder folder'
-    × (lines ≡ reported_of file.name step.request.text answer) × (after ≡ state_after place file answer history state)
+    × (lines ≡ reported_of true file.name step.request.text answer) × (after ≡ state_after place file answer history state)
 
 -- Its package is opened, if it was not used before; then its command is done there, and kept.
 pub record DoesBeside (step : RunStep) (folder : Folder) (before : Progress) (lines : List Bytes) (folder' : Folder) (after : Progress) : Type 0 where

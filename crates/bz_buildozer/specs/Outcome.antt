@@ -17,7 +17,7 @@ use Rattle.bz_buildozer.specs.Keeping.{PerformsBeside}
 use Rattle.bz_buildozer.specs.Run.{World}
 use Rattle.bz_streams.specs.Ports.{IsInput}
 use Rattle.bz_buildozer.specs.Steps.{RunStep, input_package, all_steps, names_input}
-use Rattle.bz_buildozer.specs.Reported.{IsUsageLine, IsLineUsageLine, input_line, no_journal_line}
+use Rattle.bz_buildozer.specs.Reported.{usage_line, IsLineUsageLine, input_line, no_journal_line}
 
 -- A fault of usage is reported by one line, and all else is as it was.
 abbrev pub unused : Folder → Bytes → Left
@@ -40,7 +40,7 @@ LinesLeave options lines world left =
 
 abbrev pub OperandsOutcome : Options → List Bytes → World → Left → Type 0
 OperandsOutcome options texts world left =
-    ((usage : Usage) × (line : Bytes) × IsGroupFault texts usage × IsUsageLine [] usage line × (left ≡ unused world.folder line))
+    ((usage : Usage) × IsGroupFault texts usage × (left ≡ unused world.folder (usage_line [] usage)))
     ⊎ ((requested : Requested) × (operand_group texts ≡ Ok requested) × LinesLeave options (requested ∷ []) world left)
 
 -- ---- operands in a file of lines
@@ -68,8 +68,7 @@ abbrev pub TextOutcome : Options → Bytes → Option Bytes → World → Left �
 TextOutcome options name None world left = left ≡ unused world.folder (named_line (reported_name name) (codes "cannot open"))
 TextOutcome options name (Some text) world left =
     ((at : ℕ) × IsValidUpTo text at × (left ≡ unused world.folder (fault_line (reported_name name) (NotUtf8 at))))
-    ⊎ (IsUtf8 text × ((usage : Usage) × (line : Bytes) × IsScriptFault text usage × IsUsageLine (reported_name name) usage line
-    × (left ≡ unused world.folder line)))
+    ⊎ (IsUtf8 text × ((usage : Usage) × IsScriptFault text usage × (left ≡ unused world.folder (usage_line (reported_name name) usage))))
     ⊎ (IsUtf8 text × ((lines : List Requested) × (script_of text ≡ Ok lines) × LinesOutcome options (bytes_eq name input_package) lines world left))
 
 abbrev pub ScriptOutcome : Options → Bytes → World → Left → Type 0

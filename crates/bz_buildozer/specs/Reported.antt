@@ -1,22 +1,29 @@
 -- The lines of buildozer on standard error that speak of commands, operands and usage.
-use Rattle.std.specs.Prelude.{◌≡◌, ℕ, ◌++◌, codes, decimal}
+use Rattle.std.specs.Prelude.{◌≡◌, ◌==◌, ◌&&◌, ℕ, Bool, not, [], ◌++◌, bytes_eq, codes, decimal, if◌then◌else◌}
 use Rattle.bz_items.specs.Characters.{Bytes}
 use Rattle.bz_value.specs.Refusals.{refusal_name, refusal_number}
 use Rattle.bz_value.specs.declared.refusal.Refusal.{Refusal}
-use Rattle.bz_command_line.specs.Requested.{Refused, Usage, of_operand, no_command, no_target, no_line, nul}
+use Rattle.bz_value.specs.declared.refusal.Refusal.TheVariants.{TooFar}
+use Rattle.bz_command_line.specs.Requested.{Refused, Usage, of_operand, no_command, no_target, no_line, nul, in_line}
 use Rattle.bz_command_line.specs.Hints.{hint_for}
 use Rattle.bz_command_line.specs.Line.{LineUsage, of_clap, beside_script, beside_stdout}
 use Rattle.bz_command_line.specs.Verbs.{operand_fault_name, operand_fault_number}
-use Rattle.bz_streams.specs.Reported.{named_line}
+use Rattle.bz_streams.specs.Reported.{stdin, named_line}
 
 -- what is refused, with the name and the number of the refusal
 abbrev pub numbered : Bytes → Bytes → ℕ → Bytes
 numbered refused name number = refused ++ codes ": " ++ name ++ codes " (" ++ decimal number ++ codes ")\n"
 
--- a command that is refused, by its text, in a file
-abbrev pub refusal_line : Bytes → Bytes → Refusal → Bytes
-refusal_line file command refusal =
-    codes "buildozer: " ++ file ++ codes ": " ++ numbered command (refusal_name refusal) (refusal_number refusal)
+-- Without journals the steps that earlier runs did in a file can't be undone or redone. (The flag: journals are kept.)
+abbrev pub history_hint : Bool → Bytes → Refusal → Bytes
+history_hint journals file refusal =
+    if not journals && not (bytes_eq file stdin) && refusal_number refusal == refusal_number TooFar
+    then codes "buildozer: to undo or redo what earlier runs did, give --journal, as in those runs\n" else []
+
+-- a command that is refused, by its text, in a file; after its line is the hint, if there is one
+abbrev pub refusal_line : Bool → Bytes → Bytes → Refusal → Bytes
+refusal_line journals file command refusal =
+    codes "buildozer: " ++ file ++ codes ": " ++ numbered command (refusal_name refusal) (refusal_number refusal) ++ history_hint journals file refusal
 
 -- an operand that is refused; after its line is the hint, if there is one
 abbrev pub operand_line : Refused → Bytes
@@ -30,13 +37,18 @@ fixed_line name = codes "fixed " ++ name ++ codes "\n"
 abbrev pub nul_line : Bytes → ℕ → Bytes
 nul_line file line = file ++ codes ":" ++ decimal line ++ codes ": NUL\n"
 
--- operands, or a file of lines of this name, that request nothing
-abbrev pub IsUsageLine : Bytes → Usage → Bytes → Type 0
-IsUsageLine file (of_operand refused) line = line ≡ operand_line refused
-IsUsageLine file no_command line = line ≡ codes "buildozer: no command\n"
-IsUsageLine file no_target line = line ≡ codes "buildozer: no target\n"
-IsUsageLine file no_line line = line ≡ named_line file (codes "no operands")
-IsUsageLine file (nul at) line = line ≡ nul_line file at
+-- the place of a line, from 1, that is refused in a file of lines
+abbrev pub refused_place : Bytes → ℕ → Bytes
+refused_place file line = file ++ codes ":" ++ decimal line ++ codes ": refused\n"
+
+-- operands, or a file of lines of this name, that request nothing; after a line that is refused is its place
+abbrev pub usage_line : Bytes → Usage → Bytes
+usage_line file (of_operand refused) = operand_line refused
+usage_line file no_command = codes "buildozer: no command\n"
+usage_line file no_target = codes "buildozer: no target\n"
+usage_line file no_line = named_line file (codes "no operands")
+usage_line file (nul line) = nul_line file line
+usage_line file (in_line line usage) = usage_line file usage ++ refused_place file line
 
 -- Words that are no line of the program's. Of a fault that clap finds the text is clap's.
 abbrev pub IsLineUsageLine : LineUsage → Bytes → Type 0

@@ -54,10 +54,10 @@ abbrev pub printed_by : Answer → Bytes
 printed_by (Ok reply) = printed_in reply
 printed_by (Err refusal) = []
 
--- what is reported of an answer: a refusal, by its file and its command
-abbrev pub reported_of : Bytes → Bytes → Answer → List Bytes
-reported_of name command (Ok reply) = []
-reported_of name command (Err refusal) = refusal_line name command refusal ∷ []
+-- what is reported of an answer: a refusal, by its file and its command (The flag: journals are kept.)
+abbrev pub reported_of : Bool → Bytes → Bytes → Answer → List Bytes
+reported_of journals name command (Ok reply) = []
+reported_of journals name command (Err refusal) = refusal_line journals name command refusal ∷ []
 
 -- the state after an answer of the open file with this number
 abbrev pub answered : ℕ → Opened → Answer → History → Progress → Progress
@@ -78,7 +78,7 @@ abbrev pub Answers : RunStep → ℕ → Option Opened → Progress → List Byt
 Answers step place None state lines after = (lines ≡ []) × (after ≡ record state { failed = true })
 Answers step place (Some file) state lines after =
     (answer : Answer) × (history : History) × LeadsBy (action_of step.target step.request.verb) step.request.text file.history answer history
-    × (lines ≡ reported_of file.name step.request.text answer) × (after ≡ answered place file answer history state)
+    × (lines ≡ reported_of false file.name step.request.text answer) × (after ≡ answered place file answer history state)
 
 -- Its package is opened, if it was not used before; then its command is done there.
 pub record Does (world : World) (step : RunStep) (before : Progress) (lines : List Bytes) (after : Progress) : Type 0 where

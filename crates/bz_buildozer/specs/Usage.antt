@@ -12,7 +12,7 @@ use Rattle.bz_streams.specs.Reported.{named_line, fault_line}
 use Rattle.bz_buildozer.specs.Outcome.{IsScript, reported_name}
 use Rattle.bz_buildozer.specs.Run.{World}
 use Rattle.bz_buildozer.specs.Steps.{input_package, names_input}
-use Rattle.bz_buildozer.specs.Reported.{IsUsageLine, IsLineUsageLine, input_line, no_journal_line}
+use Rattle.bz_buildozer.specs.Reported.{usage_line, IsLineUsageLine, input_line, no_journal_line}
 
 -- Lines mean rules of standard input, where journals are kept.
 abbrev pub ReportsNoJournal : Options → List Requested → Bytes → Type 0
@@ -21,7 +21,7 @@ ReportsNoJournal options lines line = (options.journal ≡ true) × (names_input
 -- Operands are refused, and the first one is reported, or lack a command or a target.
 abbrev pub OperandsReport : Options → List Bytes → Bytes → Type 0
 OperandsReport options texts line =
-    ((usage : Usage) × IsGroupFault texts usage × IsUsageLine [] usage line)
+    ((usage : Usage) × IsGroupFault texts usage × (line ≡ usage_line [] usage))
     ⊎ ((requested : Requested) × (operand_group texts ≡ Ok requested) × ReportsNoJournal options (requested ∷ []) line)
 
 -- Rules of standard input are meant where the lines are in it.
@@ -34,7 +34,7 @@ abbrev pub TextReports : Options → Bytes → Option Bytes → Bytes → Type 0
 TextReports options name None line = line ≡ named_line (reported_name name) (codes "cannot open")
 TextReports options name (Some text) line =
     ((at : ℕ) × IsValidUpTo text at × (line ≡ fault_line (reported_name name) (NotUtf8 at)))
-    ⊎ (IsUtf8 text × ((usage : Usage) × IsScriptFault text usage × IsUsageLine (reported_name name) usage line))
+    ⊎ (IsUtf8 text × ((usage : Usage) × IsScriptFault text usage × (line ≡ usage_line (reported_name name) usage)))
     ⊎ (IsUtf8 text × ((lines : List Requested) × (script_of text ≡ Ok lines) × LinesReport options (bytes_eq name input_package) lines line))
 
 -- The file of lines is that of the world, where the files are honest.

@@ -100,10 +100,10 @@ abbrev Reported : Type 0
 Reported =
     let name : Bytes = codes "app/BUILD" in
     -- What is refused is reported, by file and command; what is done or printed is not.
-    (reported_of name (codes "add size a") (Err NotAList) ≡ codes "buildozer: app/BUILD: add size a: NotAList (44)\n" ∷ [])
-    × (reported_of stdin (codes "redo") (Err TooFar) ≡ codes "buildozer: <stdin>: redo: TooFar (61)\n" ∷ [])
-    × (reported_of name (codes "set size small") (Ok Changed) ≡ []) × (reported_of name (codes "undo") (Ok Moved) ≡ [])
-    × (reported_of name (codes "print name") (Ok (Printed (codes "x\n"))) ≡ [])
+    (reported_of false name (codes "add size a") (Err NotAList) ≡ codes "buildozer: app/BUILD: add size a: NotAList (44)\n" ∷ [])
+    × (reported_of true name (codes "redo") (Err TooFar) ≡ codes "buildozer: app/BUILD: redo: TooFar (61)\n" ∷ [])
+    × (reported_of false name (codes "set size small") (Ok Changed) ≡ []) × (reported_of false name (codes "undo") (Ok Moved) ≡ [])
+    × (reported_of false name (codes "print name") (Ok (Printed (codes "x\n"))) ≡ [])
     -- Only what a command prints is printed.
     × (printed_by (Ok (Printed (codes "x\n"))) ≡ codes "x\n") × (printed_by (Ok Same) ≡ []) × (printed_by (Err NotAList) ≡ [])
     -- A refusal after a printed line: the line stays, and the run has failed from then on.

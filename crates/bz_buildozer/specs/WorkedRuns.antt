@@ -1,5 +1,5 @@
 -- Worked rows: how whole runs of buildozer end. Above a row is what is typed (in a shell).
-use Rattle.std.specs.Prelude.{◌≡◌, ℕ, true, List, [], ◌∷◌, codes, Some, None}
+use Rattle.std.specs.Prelude.{◌≡◌, ℕ, true, List, [], ◌∷◌, ◌++◌, codes, Some, None}
 use Rattle.std.specs.FinMap.{get}
 use Rattle.bz_files.specs.Folder.{Folder, with_file}
 use Rattle.bz_workspace.specs.Sessions.{gives, Means}
@@ -37,10 +37,12 @@ WorkedUsage =
     × IsUsage (codes "--stdout" ∷ codes "--journal" ∷ codes "undo" ∷ codes "//:x" ∷ []) (codes "buildozer: --stdout beside --journal\n")
     -- -k -k: what is printed is clap's own.
     × ((line : Bytes) → IsUsage (codes "-k" ∷ codes "-k" ∷ []) line)
-    -- -f lines: the file is not there, or has comments only.
+    -- -f lines: the file is not there, has comments only, or a line that is refused.
     × ((world : World) → get world.folder (codes "lines") ≡ None → Unused (codes "-f" ∷ codes "lines" ∷ []) (codes "lines: cannot open\n") world)
     × ((world : World) → get world.folder (codes "lines") ≡ Some (codes "# none\n\n")
     → Unused (codes "-f" ∷ codes "lines" ∷ []) (codes "lines: no operands\n") world)
+    × ((world : World) → get world.folder (codes "lines") ≡ Some (codes "# none\ndelete\n")
+    → Unused (codes "-f" ∷ codes "lines" ∷ []) (codes "buildozer: no target\nlines:2: refused\n") world)
     -- -f - with the line undo|-:x
     × ((folder : Folder) → Unused (codes "-f" ∷ codes "-" ∷ []) (codes "buildozer: package - cannot be edited beside -f -\n")
     (record { folder = folder; known = Some (codes "undo|-:x\n") }))
@@ -68,14 +70,15 @@ Still words output lines status world = WordsOutcome words world (record { outpu
 abbrev pub OverBuild : World → Type 0
 OverBuild world =
     let change : Bytes = codes "set size small" in let rule : Bytes = codes "//:x" in let fixed : Bytes = codes "fixed BUILD\n" in
+    let hint : Bytes = codes "buildozer: to undo or redo what earlier runs did, give --journal, as in those runs\n" in
     -- 'set size small' //:x; the same with --quiet, and with --stdout
     BuildWritten (change ∷ rule ∷ []) [] (fixed ∷ []) 0 world × BuildWritten (codes "--quiet" ∷ change ∷ rule ∷ []) [] [] 0 world
     × Still (codes "--stdout" ∷ change ∷ rule ∷ []) text_made [] 0 world
     -- 'set size small' undo //:x: the file is as it was read.
     × Still (change ∷ codes "undo" ∷ rule ∷ []) [] [] 3 world
     -- 'set size small' 'undo 2' //:x: what was done before the refusal is written. undo //:x: nothing was done.
-    × BuildWritten (change ∷ codes "undo 2" ∷ rule ∷ []) [] (codes "buildozer: BUILD: undo 2: TooFar (61)\n" ∷ fixed ∷ []) 2 world
-    × Still (codes "undo" ∷ rule ∷ []) [] (codes "buildozer: BUILD: undo: TooFar (61)\n" ∷ []) 2 world
+    × BuildWritten (change ∷ codes "undo 2" ∷ rule ∷ []) [] ((codes "buildozer: BUILD: undo 2: TooFar (61)\n" ++ hint) ∷ fixed ∷ []) 2 world
+    × Still (codes "undo" ∷ rule ∷ []) [] ((codes "buildozer: BUILD: undo: TooFar (61)\n" ++ hint) ∷ []) 2 world
 
 -- Package `none` has no file: 'set size small' //none:x //:x ends there; with -k it goes on. -k undo redo //none:x reports it once.
 abbrev pub BesideNone : World → Type 0

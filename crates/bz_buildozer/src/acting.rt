@@ -60,18 +60,25 @@ fn put_printed(reply: &Reply, printed: &mut Vec<u8>) -> Result<(), AllocError>
     Ok(())
 }
 
-// A command is refused, which is reported by its file.
-fn refuse<E: Sink>(run: &mut Run, place: usize, command: &str, refusal: Refusal, err: &mut E) -> Cut
+// A command is refused, which is reported by its file, where journals are kept or not.
+fn refuse<E: Sink>(
+    journals: bool,
+    run: &mut Run,
+    place: usize,
+    command: &str,
+    refusal: Refusal,
+    err: &mut E,
+) -> Cut
     requires { IsSome (file_at place run.old.workspace) }
     ensures kinds { (result ≡ Cut.Whole) ⊎ (result ≡ Cut.Memory) }
     ensures whole { result ≡ Cut.Whole → (refusal ≢ Refusal.Memory) }
     ensures state { progress_in run.new ≡ record (progress_in run.old) { failed = true } }
     ensures reported { (file : p.Opened) → file_at place run.old.workspace ≡ Some file
-        → ReportsLines E.Sink err.old err.new (reported_of file.name command.now (Err refusal)) }
+        → ReportsLines E.Sink err.old err.new (reported_of journals file.name command.now (Err refusal)) }
 {
     run.failed = true;
     let name = open_file(&run.workspace, place).name.as_str();
-    report_refusal(err, name, command, refusal);
+    report_refusal(err, journals, name, command, refusal);
     match refusal {
         Refusal::Memory => Cut::Memory,
         _ => Cut::Whole,
@@ -90,14 +97,14 @@ fn act_at<E: Sink>(
     ensures kinds { (result ≡ Cut.Whole) ⊎ (result ≡ Cut.Memory) }
     ensures whole { result ≡ Cut.Whole → (file : p.Opened) × (answer : Answer) × (history : History) × (file_at place run.old.workspace ≡ Some file)
         × Leads (action_in action.now) command.now file.history answer history × (progress_in run.new ≡ answered place file answer history (progress_in run.old))
-        × ReportsLines E.Sink err.old err.new (reported_of file.name command.now answer) }
+        × ReportsLines E.Sink err.old err.new (reported_of false file.name command.now answer) }
 {
     match run.workspace.act(place, action, command) {
         Ok(reply) => match put_printed(&reply, &mut run.printed) {
             Ok(()) => Cut::Whole,
-            Err(_) => refuse(run, place, command, Refusal::Memory, err),
+            Err(_) => refuse(false, run, place, command, Refusal::Memory, err),
         },
-        Err(refusal) => refuse(run, place, command, refusal, err),
+        Err(refusal) => refuse(false, run, place, command, refusal, err),
     }
 }
 
@@ -111,11 +118,11 @@ fn list_at<E: Sink>(alloc: Global, run: &mut Run, place: usize, command: &str, e
     ensures same { run.new.workspace ≡ run.old.workspace }
 {
     let Ok(text) = open_file(&run.workspace, place).editor.listing(alloc) else {
-        return refuse(run, place, command, Refusal::Memory, err);
+        return refuse(false, run, place, command, Refusal::Memory, err);
     };
     match put_printed(&Reply::Printed(text), &mut run.printed) {
         Ok(()) => Cut::Whole,
-        Err(_) => refuse(run, place, command, Refusal::Memory, err),
+        Err(_) => refuse(false, run, place, command, Refusal::Memory, err),
     }
 }
 
@@ -168,16 +175,16 @@ fn keep_at<F: Files, E: Sink>(
         × Leads (action_in action.now) command.now file.history answer history
         × FolderAfter answer file history (F.folder files.old) (F.folder files.new)
         × (progress_in run.new ≡ state_after place file answer history (progress_in run.old))
-        × ReportsLines E.Sink err.old err.new (reported_of file.name command.now answer) }
+        × ReportsLines E.Sink err.old err.new (reported_of true file.name command.now answer) }
     ensures keeps { KeepsSome F.Files place (action_in action.now) command.now run.old.workspace run.new.workspace files.old files.new }
     ensures works { WorksOn F.Files result files.old files.new }
 {
     match run.workspace.keep(place, action, command, files) {
         Ok(reply) => match put_printed(&reply, &mut run.printed) {
             Ok(()) => Cut::Whole,
-            Err(_) => refuse(run, place, command, Refusal::Memory, err),
+            Err(_) => refuse(true, run, place, command, Refusal::Memory, err),
         },
-        Err(KeepFault::Refused(refusal)) => refuse(run, place, command, refusal, err),
+        Err(KeepFault::Refused(refusal)) => refuse(true, run, place, command, refusal, err),
         Err(KeepFault::Pair(fault)) => leave(run, place, fault, err),
     }
 }

@@ -9,8 +9,7 @@ ghost use Rattle.bz_command_line.specs.Paths.{HasPath};
 ghost use Rattle.bz_command_line.specs.Script.{script_of};
 ghost use Rattle.bz_command_line.specs.Shown.{requested_in};
 ghost use Rattle.bz_workspace.specs.Keeps.{KeepsFolder};
-ghost use Rattle.bz_buildozer.specs.Calls.{ReportsLines, PrintsAll, PrintsSome, IsStill, ReadsNothing, world_with, world_of, PassesBy, IsEndedOver, LeavesAfter};
-ghost use Rattle.bz_buildozer.specs.Ending.{Left};
+ghost use Rattle.bz_buildozer.specs.Calls.{ReportsLines, PrintsAll, IsStill, ReadsNothing, world_with, world_of, PassesBy, IsEndedOver, Reaches, BreaksOff};
 ghost use Rattle.bz_buildozer.specs.Moments.{IsMomentOfRun, IsMomentOfSteps};
 ghost use Rattle.bz_buildozer.specs.Outcome.{LinesLeave, WordsOutcome, OperandsOutcome, TextOutcome, ScriptOutcome, AreOfInput, AreOfInputAndSome, IsOfInput, GivesNothing, KeepsJournals, LineGivesNothing, NamesNoFile, TakesNoFile, TakesNoInput, TakesScript};
 ghost use Rattle.bz_buildozer.specs.Steps.{all_steps, input_package, names_input};
@@ -18,9 +17,7 @@ ghost use Rattle.bz_buildozer.specs.Reported.{no_journal_line};
 ghost use Rattle.bz_buildozer.specs.Usage.{OperandsReport, TextReports, GivenReports, LineReports};
 
 use crate::ending::finish;
-use crate::reported::{
-    UNUSED, report_input, report_line_usage, report_no_journal, report_unread, report_usage,
-};
+use crate::reported::{UNUSED, report_line_usage, report_script, report_unread, report_usage};
 use crate::run::begun;
 use crate::running::run_lines;
 use crate::script::{INPUT, read_bytes, reported_name};
@@ -28,7 +25,7 @@ use crate::step::{names_input, shows_input};
 use bz_command_line::{Given, Options, Requested, read_group, read_line, read_script};
 use bz_files::Files;
 use bz_grammar::ReadFault;
-use bz_streams::{Cut, Exit, Sink, Source, report_fault};
+use bz_streams::{Cut, Exit, Sink, Source, report, report_fault};
 use std::alloc::Global;
 use std::convert::AsStr;
 use std::slice::from_ref;
@@ -52,13 +49,11 @@ fn perform<R: Source, W: Sink, E: Sink, F: Files>(
 ) -> Exit
     requires { All (λ requested. All HasPath requested.targets.items) lines.now }
     ensures whole { (F.honest files.old ≡ true) ⊎ AreOfInputAndSome (map requested_in lines.now)
-        → result.cut ≡ Cut.Whole → (left : Left)
-        × LinesLeave options (map requested_in lines.now) (world_of R.Source F.Files input.old files.old) left
-        × LeavesAfter W.Sink E.Sink F.Files left result.status out.old out.new err.old err.new files.new }
+        → result.cut ≡ Cut.Whole → Reaches W.Sink E.Sink F.Files
+        (LinesLeave options (map requested_in lines.now) (world_of R.Source F.Files input.old files.old)) result.status out.old out.new err.old err.new files.new }
     ensures write { (F.honest files.old ≡ true) ⊎ AreOfInputAndSome (map requested_in lines.now)
-        → result.cut ≡ Cut.Write → (left : Left)
-        × LinesLeave options (map requested_in lines.now) (world_of R.Source F.Files input.old files.old) left
-        × PrintsSome W.Sink out.old out.new left.output × (F.folder files.new ≡ left.folder) }
+        → result.cut ≡ Cut.Write → BreaksOff W.Sink F.Files
+        (LinesLeave options (map requested_in lines.now) (world_of R.Source F.Files input.old files.old)) out.old out.new files.new }
     ensures unread { options.journal ≡ true → names_input (map requested_in lines.now) ≡ true → (input.new ≡ input.old) × (out.new ≡ out.old) × (files.new ≡ files.old) }
     ensures reads_nothing { options.journal ≡ true → ReadsNothing R.Source result.cut input.old input.new }
     ensures unused { result.status ≡ 1 → (input.new ≡ input.old) × (out.new ≡ out.old) × (files.new ≡ files.old) }
@@ -73,7 +68,7 @@ fn perform<R: Source, W: Sink, E: Sink, F: Files>(
     ensures honest { F.honest files.new ≡ F.honest files.old }
 {
     if lacks_journal(options, lines) {
-        report_no_journal(err);
+        report(err, &["buildozer: package - has no journal\n"]);
         return UNUSED;
     }
     let mut run = begun(alloc);
@@ -93,13 +88,11 @@ fn run_operands<R: Source, W: Sink, E: Sink, F: Files>(
     files: &mut F,
 ) -> Exit
     ensures whole { (F.honest files.old ≡ true) ⊎ IsOfInput (words_given (map (λ s. s.now) operands.now))
-        → result.cut ≡ Cut.Whole → (left : Left)
-        × OperandsOutcome options (map (λ s. s.now) operands.now) (world_of R.Source F.Files input.old files.old) left
-        × LeavesAfter W.Sink E.Sink F.Files left result.status out.old out.new err.old err.new files.new }
+        → result.cut ≡ Cut.Whole → Reaches W.Sink E.Sink F.Files
+        (OperandsOutcome options (map (λ s. s.now) operands.now) (world_of R.Source F.Files input.old files.old)) result.status out.old out.new err.old err.new files.new }
     ensures write { (F.honest files.old ≡ true) ⊎ IsOfInput (words_given (map (λ s. s.now) operands.now))
-        → result.cut ≡ Cut.Write → (left : Left)
-        × OperandsOutcome options (map (λ s. s.now) operands.now) (world_of R.Source F.Files input.old files.old) left
-        × PrintsSome W.Sink out.old out.new left.output × (F.folder files.new ≡ left.folder) }
+        → result.cut ≡ Cut.Write → BreaksOff W.Sink F.Files
+        (OperandsOutcome options (map (λ s. s.now) operands.now) (world_of R.Source F.Files input.old files.old)) out.old out.new files.new }
     ensures unread { GivesNothing options (words_given (map (λ s. s.now) operands.now)) → (input.new ≡ input.old) × (out.new ≡ out.old) × (files.new ≡ files.old) }
     ensures unused { result.status ≡ 1 → (input.new ≡ input.old) × (out.new ≡ out.old) × (files.new ≡ files.old) }
     ensures usage { result.status ≡ 1 → (line : List ℕ) × OperandsReport options (map (λ s. s.now) operands.now) line
@@ -115,7 +108,7 @@ fn run_operands<R: Source, W: Sink, E: Sink, F: Files>(
 {
     match read_group(alloc, operands) {
         Ok(requested) => perform(alloc, options, from_ref(&requested), input, out, err, files),
-        Err(fault) => report_usage(alloc, err, "", &fault),
+        Err(fault) => report_usage(alloc, err, &fault, ""),
     }
 }
 
@@ -139,12 +132,11 @@ fn run_text<R: Source, W: Sink, E: Sink, F: Files>(
 ) -> Exit
     ensures whole { F.honest files.old ≡ true → result.cut ≡ Cut.Whole
         → (known : Option (List ℕ)) → (name.now ≢ input_package → known ≡ R.remaining input.old)
-        → (left : Left) × TextOutcome options name.now (Some bytes.now) (world_with F.Files files.old known) left
-        × LeavesAfter W.Sink E.Sink F.Files left result.status out.old out.new err.old err.new files.new }
+        → Reaches W.Sink E.Sink F.Files (TextOutcome options name.now (Some bytes.now) (world_with F.Files files.old known))
+        result.status out.old out.new err.old err.new files.new }
     ensures write { F.honest files.old ≡ true → result.cut ≡ Cut.Write
         → (known : Option (List ℕ)) → (name.now ≢ input_package → known ≡ R.remaining input.old)
-        → (left : Left) × TextOutcome options name.now (Some bytes.now) (world_with F.Files files.old known) left
-        × PrintsSome W.Sink out.old out.new left.output × (F.folder files.new ≡ left.folder) }
+        → BreaksOff W.Sink F.Files (TextOutcome options name.now (Some bytes.now) (world_with F.Files files.old known)) out.old out.new files.new }
     ensures unused { result.status ≡ 1 → (input.new ≡ input.old) × (out.new ≡ out.old) × (files.new ≡ files.old) }
     ensures usage { result.status ≡ 1 → (line : List ℕ) × TextReports options name.now (Some bytes.now) line
         × ReportsLines E.Sink err.old err.new (line ∷ []) }
@@ -166,11 +158,14 @@ fn run_text<R: Source, W: Sink, E: Sink, F: Files>(
     };
     let lines = match read_script(alloc, text) {
         Ok(lines) => lines,
-        Err(fault) => return report_usage(alloc, err, reported_name(name), &fault),
+        Err(fault) => return report_script(alloc, err, reported_name(name), &fault),
     };
     let lines = lines.as_slice();
     if edits_input(name, lines) {
-        report_input(err);
+        report(
+            err,
+            &["buildozer: package - cannot be edited beside -f -\n"],
+        );
         return UNUSED;
     }
     perform(alloc, options, lines, input, out, err, files)
@@ -186,12 +181,10 @@ fn run_script<R: Source, W: Sink, E: Sink, F: Files>(
     err: &mut E,
     files: &mut F,
 ) -> Exit
-    ensures whole { F.honest files.old ≡ true → result.cut ≡ Cut.Whole → (left : Left)
-        × ScriptOutcome options name.now (world_of R.Source F.Files input.old files.old) left
-        × LeavesAfter W.Sink E.Sink F.Files left result.status out.old out.new err.old err.new files.new }
-    ensures write { F.honest files.old ≡ true → result.cut ≡ Cut.Write → (left : Left)
-        × ScriptOutcome options name.now (world_of R.Source F.Files input.old files.old) left
-        × PrintsSome W.Sink out.old out.new left.output × (F.folder files.new ≡ left.folder) }
+    ensures whole { F.honest files.old ≡ true → result.cut ≡ Cut.Whole → Reaches W.Sink E.Sink F.Files
+        (ScriptOutcome options name.now (world_of R.Source F.Files input.old files.old)) result.status out.old out.new err.old err.new files.new }
+    ensures write { F.honest files.old ≡ true → result.cut ≡ Cut.Write → BreaksOff W.Sink F.Files
+        (ScriptOutcome options name.now (world_of R.Source F.Files input.old files.old)) out.old out.new files.new }
     ensures unused { result.status ≡ 1 → out.new ≡ out.old }
     ensures unused_input { result.status ≡ 1 → name.now ≢ input_package → input.new ≡ input.old }
     ensures unused_files { result.status ≡ 1 → name.now ≡ input_package → files.new ≡ files.old }
@@ -232,15 +225,13 @@ pub fn buildozer<S: AsStr, R: Source, W: Sink, E: Sink, F: Files>(
     // Where the files are honest, or none is named, a whole run leaves what the words, the bytes of standard input and the folder
     // mean, without journals as with them.
     ensures whole { (F.honest files.old ≡ true) ⊎ NamesNoFile (map S.text words.now)
-        → result.cut ≡ Cut.Whole → (left : Left)
-        × WordsOutcome (map S.text words.now) (world_of R.Source F.Files input.old files.old) left
-        × LeavesAfter W.Sink E.Sink F.Files left result.status out.old out.new err.old err.new files.new }
+        → result.cut ≡ Cut.Whole → Reaches W.Sink E.Sink F.Files
+        (WordsOutcome (map S.text words.now) (world_of R.Source F.Files input.old files.old)) result.status out.old out.new err.old err.new files.new }
 
     // Where standard output fails, a beginning of what it is to be given is there, and the files are as a whole run leaves them.
     ensures write { (F.honest files.old ≡ true) ⊎ NamesNoFile (map S.text words.now)
-        → result.cut ≡ Cut.Write → (left : Left)
-        × WordsOutcome (map S.text words.now) (world_of R.Source F.Files input.old files.old) left
-        × PrintsSome W.Sink out.old out.new left.output × (F.folder files.new ≡ left.folder) }
+        → result.cut ≡ Cut.Write → BreaksOff W.Sink F.Files
+        (WordsOutcome (map S.text words.now) (world_of R.Source F.Files input.old files.old)) out.old out.new files.new }
 
     // Words that request nothing leave the input, the output and the files as they were.
     ensures unread { LineGivesNothing (command_line_of (map S.text words.now)) → (input.new ≡ input.old) × (out.new ≡ out.old) × (files.new ≡ files.old) }

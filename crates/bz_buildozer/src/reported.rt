@@ -1,17 +1,17 @@
 //! The lines on standard error that speak of commands, operands and usage. Its faults are passed over.
-ghost use Rattle.std.specs.Prelude.{◌≡◌, ◌≢◌, ◌⊎◌, ◌++◌, codes, List, ℕ, IfSome, IsSome};
+ghost use Rattle.std.specs.Prelude.{◌≡◌, ◌≢◌, ◌⊎◌, ◌++◌, codes, List, ℕ, IfOk, IfSome, IsSome, string_bytes};
 ghost use Rattle.bz_command_line.specs.Hints.{hint_for};
-ghost use Rattle.bz_command_line.specs.Shown.{refused_in, usage_in, line_usage_in, hint_text};
+ghost use Rattle.bz_command_line.specs.Shown.{refused_in, usage_in, script_usage_in, line_usage_in, hint_text};
 ghost use Rattle.bz_streams.specs.Reported.{named_line};
 ghost use Rattle.bz_buildozer.specs.Calls.{ReportsLine};
-ghost use Rattle.bz_buildozer.specs.Reported.{numbered, refusal_line, operand_line, input_line, no_journal_line, nul_line, IsUsageLine, IsLineUsageLine};
+ghost use Rattle.bz_buildozer.specs.Reported.{numbered, history_hint, refusal_line, operand_line, nul_line, refused_place, usage_line, IsLineUsageLine};
 
 use crate::ending::{FAILED, USAGE};
-use bz_command_line::{Hint, LineFault, Refused, UsageFault, hint_for};
-use bz_streams::{Cut, Exit, Sink, report, report_clap, report_named};
+use bz_command_line::{Hint, LineFault, Refused, ScriptFault, UsageFault, hint_for};
+use bz_streams::{Cut, Exit, STDIN, Sink, report, report_clap, report_named};
 use bz_value::Refusal;
 use itoa::Buffer;
-use std::alloc::Global;
+use std::alloc::{AllocError, Global};
 
 /// The words, or the lines of a file, request nothing, which was reported.
 pub(crate) const UNUSED: Exit = Exit {
@@ -19,7 +19,18 @@ pub(crate) const UNUSED: Exit = Exit {
     cut: Cut::Whole,
 };
 
-// Reports what is refused after these two pieces and what is between them and it.
+// What is printed after the line of a refusal.
+fn history_hint(journals: bool, file: &str, refusal: Refusal) -> &'static str
+    ensures { result.now ≡ history_hint journals file.now refusal }
+{
+    if !journals && file != STDIN && refusal.number() == Refusal::TooFar.number() {
+        "buildozer: to undo or redo what earlier runs did, give --journal, as in those runs\n"
+    } else {
+        ""
+    }
+}
+
+// Reports what is refused after these two pieces and what is between them and it, and a hint after its line.
 fn report_numbered_in<'a, E: Sink>(
     err: &mut E,
     front: &'a str,
@@ -28,29 +39,37 @@ fn report_numbered_in<'a, E: Sink>(
     refused: &'a str,
     name: &'a str,
     number: u8,
+    hint: &'a str,
 )
     ensures { ReportsLine E.Sink err.old err.new
-        (front.entry.now ++ file.entry.now ++ between.entry.now ++ numbered refused.entry.now name.entry.now number) }
+        (front.entry.now ++ file.entry.now ++ between.entry.now ++ numbered refused.entry.now name.entry.now number ++ hint.entry.now) }
 {
     let mut numbers = Buffer::new();
     let number = numbers.format(number);
     report(
         err,
         &[
-            front, file, between, refused, ": ", name, " (", number, ")\n",
+            front, file, between, refused, ": ", name, " (", number, ")\n", hint,
         ],
     );
 }
 
-/// Reports that a command is refused in a file.
-pub(crate) fn report_refusal<E: Sink>(err: &mut E, file: &str, command: &str, refusal: Refusal)
-    ensures { ReportsLine E.Sink err.old err.new (refusal_line file.now command.now refusal) }
+/// Reports that a command is refused in a file, and a hint after its line, where journals are kept or not.
+pub(crate) fn report_refusal<E: Sink>(
+    err: &mut E,
+    journals: bool,
+    file: &str,
+    command: &str,
+    refusal: Refusal,
+)
+    ensures { ReportsLine E.Sink err.old err.new (refusal_line journals file.now command.now refusal) }
 {
     let (name, number) = (refusal.name(), refusal.number());
-    report_numbered_in(err, "buildozer: ", file, ": ", command, name, number);
+    let hint = history_hint(journals, file, refusal);
+    report_numbered_in(err, "buildozer: ", file, ": ", command, name, number, hint);
 }
 
-// Reports what is refused after this piece, and the three pieces of a hint after its line.
+// Reports what is refused after this piece; after its line are the three pieces of a hint, and this text.
 fn report_hinted<'a, E: Sink>(
     err: &mut E,
     front: &'a str,
@@ -60,9 +79,10 @@ fn report_hinted<'a, E: Sink>(
     hint_front: &'a str,
     hint_word: &'a str,
     hint_back: &'a str,
+    after: &'a str,
 )
-    ensures { ReportsLine E.Sink err.old err.new
-        (front.entry.now ++ numbered refused.entry.now name.entry.now number ++ (hint_front.entry.now ++ hint_word.entry.now ++ hint_back.entry.now)) }
+    ensures { ReportsLine E.Sink err.old err.new (front.entry.now ++ numbered refused.entry.now name.entry.now number
+        ++ (hint_front.entry.now ++ hint_word.entry.now ++ hint_back.entry.now) ++ after.entry.now) }
 {
     let mut numbers = Buffer::new();
     let number = numbers.format(number);
@@ -70,14 +90,15 @@ fn report_hinted<'a, E: Sink>(
         err,
         &[
             front, refused, ": ", name, " (", number, ")\n", hint_front, hint_word, hint_back,
+            after,
         ],
     );
 }
 
-// Reports that an operand is refused, and the hint of it after that.
-fn report_operand<E: Sink>(err: &mut E, refused: &Refused<'_>, hint: Hint)
+// Reports that an operand is refused, the hint of it after that, and then this text.
+fn report_operand<E: Sink>(err: &mut E, refused: &Refused<'_>, hint: Hint, after: &str)
     requires { hint_text hint ≡ hint_for (refused_in refused.now) }
-    ensures { ReportsLine E.Sink err.old err.new (operand_line (refused_in refused.now)) }
+    ensures { ReportsLine E.Sink err.old err.new (operand_line (refused_in refused.now) ++ after.now) }
 {
     let fault = refused.fault;
     report_hinted(
@@ -89,24 +110,15 @@ fn report_operand<E: Sink>(err: &mut E, refused: &Refused<'_>, hint: Hint)
         hint.front,
         hint.word,
         hint.back,
+        after,
     );
 }
 
-/// Reports that rules of standard input are meant where the lines are in it.
-pub(crate) fn report_input<E: Sink>(err: &mut E)
-    ensures { ReportsLine E.Sink err.old err.new input_line }
+// Reports this line, and this text after it.
+fn report_after<'a, E: Sink>(err: &mut E, line: &'a str, after: &'a str)
+    ensures { ReportsLine E.Sink err.old err.new (line.entry.now ++ after.entry.now) }
 {
-    report(
-        err,
-        &["buildozer: package - cannot be edited beside -f -\n"],
-    );
-}
-
-/// Reports that rules of standard input are meant where journals are kept.
-pub(crate) fn report_no_journal<E: Sink>(err: &mut E)
-    ensures { ReportsLine E.Sink err.old err.new no_journal_line }
-{
-    report(err, &["buildozer: package - has no journal\n"]);
+    report(err, &[line, after]);
 }
 
 // Reports that a line of a file of lines has a NUL byte.
@@ -129,16 +141,29 @@ fn memory_exit<E: Sink>(err: &mut E) -> Exit
     }
 }
 
-/// Reports why operands, or a file of lines of this name, request nothing, or that memory was refused. Returned: how the run ends.
+// The place of a line that is refused in a file of lines.
+fn refused_place(alloc: Global, file: &str, line: usize) -> Result<String, AllocError>
+    ensures { IfOk result (λ place. string_bytes place ≡ refused_place file.now line) }
+{
+    let mut numbers = Buffer::new();
+    let line = numbers.format(line);
+    let mut place = String::from_str(alloc, file)?;
+    place.push_str(":")?;
+    place.push_str(line)?;
+    place.push_str(": refused\n")?;
+    Ok(place)
+}
+
+/// Reports why operands request nothing, and this text after it, or that memory was refused. Returned: how the run ends.
 pub(crate) fn report_usage<E: Sink>(
     alloc: Global,
     err: &mut E,
-    file: &str,
     fault: &UsageFault<'_>,
+    after: &str,
 ) -> Exit
     ensures some { result.status ≡ 1 → IsSome (usage_in fault.now) }
-    ensures reported { result.status ≡ 1 → IfSome (usage_in fault.now) (λ usage. (line : List ℕ) × IsUsageLine file.now usage line
-        × ReportsLine E.Sink err.old err.new line) }
+    ensures reported { result.status ≡ 1 → IfSome (usage_in fault.now) (λ usage. (file : List ℕ)
+        → ReportsLine E.Sink err.old err.new (usage_line file usage ++ after.now)) }
     ensures whole { result.cut ≡ Cut.Whole → result.status ≡ 1 }
     ensures cut { result.cut ≢ Cut.Whole → result ≡ record { status = 2; cut = Cut.Memory } }
 {
@@ -147,13 +172,37 @@ pub(crate) fn report_usage<E: Sink>(
             let Ok(hint) = hint_for(alloc, refused) else {
                 return memory_exit(err);
             };
-            report_operand(err, refused, hint);
+            report_operand(err, refused, hint, after);
         }
-        UsageFault::NoCommand => report(err, &["buildozer: no command\n"]),
-        UsageFault::NoTarget => report(err, &["buildozer: no target\n"]),
-        UsageFault::NoLine => report_named(err, file, "no operands"),
-        UsageFault::Nul(line) => report_nul(err, file, *line),
+        UsageFault::NoCommand => report_after(err, "buildozer: no command\n", after),
+        UsageFault::NoTarget => report_after(err, "buildozer: no target\n", after),
         UsageFault::Memory => return memory_exit(err),
+    }
+    UNUSED
+}
+
+/// Reports why a file of lines of this name requests nothing, or that memory was refused. Returned: how the run ends.
+pub(crate) fn report_script<E: Sink>(
+    alloc: Global,
+    err: &mut E,
+    file: &str,
+    fault: &ScriptFault<'_>,
+) -> Exit
+    ensures some { result.status ≡ 1 → IsSome (script_usage_in fault.now) }
+    ensures reported { result.status ≡ 1 → IfSome (script_usage_in fault.now) (λ usage. ReportsLine E.Sink err.old err.new (usage_line file.now usage)) }
+    ensures whole { result.cut ≡ Cut.Whole → result.status ≡ 1 }
+    ensures cut { result.cut ≢ Cut.Whole → result ≡ record { status = 2; cut = Cut.Memory } }
+{
+    match fault {
+        ScriptFault::Line(line, fault) => {
+            let Ok(place) = refused_place(alloc, file, *line) else {
+                return memory_exit(err);
+            };
+            return report_usage(alloc, err, fault, place.as_str());
+        }
+        ScriptFault::NoLine => report_named(err, file, "no operands"),
+        ScriptFault::Nul(line) => report_nul(err, file, *line),
+        ScriptFault::Memory => return memory_exit(err),
     }
     UNUSED
 }

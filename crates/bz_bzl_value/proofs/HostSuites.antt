@@ -204,6 +204,6 @@ module _ (page : SuitesAndLeaves) where
             z.sees.after (suc n) e (omega arith) (omega arith) (omega arith) (lines_above page.leaves e)
             ∙ (others (suc n) e (omega arith) (lines_above page.leaves e)
             ∙ (ap (left_by (suc n) e suites) (lines_there page n e z.front (l ∷ ls) z.back (omega arith) (omega arith) z.leaves z.counted) ∙ sym (left (suc n) (omega arith) after))) in
-            ends_are M (all after).1 ∙ (ap (λ (w : ℕ). comments_in (map (λ l'. l'.line) (take (reach w (all after).1) (all after).1))) (sym i)
-            ∙ ap (λ (w : Lines). comments_in (map (λ l'. l'.line) (take (reach m w) w))) (sym same));
+            ends_are M (all after).1 ∙ (ap (λ (w : ℕ). comments_in ((take (reach w (all after).1) (all after).1))) (sym i)
+            ∙ ap (λ (w : Lines). comments_in ((take (reach m w) w))) (sym same));
       }

@@ -2,7 +2,7 @@
 use Rattle.std.proofs.Common.{◌≡◌, ◌<◌, ◌+◌, ◌++◌, ◌∷◌, [], ℕ, Bool, not, cond, nat_lt, List, Bor, map, position, take, drop, get_or, length, Some, None, IsUtf8, add-one, arith, zero, suc, refl, ap, sym, ◌∙◌}
 use Rattle.std.proofs.Math.Seq.{take-suc, drop-cons}
 use Rattle.std.specs.List.{position_or_len}
-use Rattle.std.proofs.lemmas.List.{length-map, map-append, take-append-drop}
+use Rattle.std.proofs.lemmas.List.{length-map, length-take-le, map-append, take-append-drop}
 use Rattle.bz_items.specs.Characters.{Bytes}
 use Rattle.bz_command_syntax.specs.Proper.{AreUtf8}
 
@@ -13,6 +13,10 @@ texts_in items = map (λ s. s.now) items
 pub texts_more : (items : List (Bor (List ℕ))) (at : ℕ) (none : Bor (List ℕ)) → at < length items
     → texts_in (take (at + 1) items) ≡ texts_in (take at items) ++ (get_or items at none).now ∷ []
 texts_more items at none within = rw (add-one, take-suc items at none within) (map-append (λ s. s.now) (take at items) (get_or items at none ∷ []))
+
+-- as many as come before a place
+pub texts_before : (items : List (Bor (List ℕ))) (at : ℕ) → at < length items → length (texts_in (take at items)) ≡ at
+texts_before items at within = length-map (take at items) (λ s. s.now) ∙ length-take-le at items (omega (arith, within))
 
 -- what is before a place, the text there, and what is after it
 pub texts_split : (items : List (Bor (List ℕ))) (at : ℕ) (none : Bor (List ℕ)) → at < length items

@@ -1,11 +1,11 @@
 -- Why operands and lines are refused. Whether `regex` takes a pattern is said here alone: a command's pattern is its source.
-use Rattle.std.specs.Prelude.{◌≡◌, ◌⊎◌, List, ◌∷◌, ◌++◌, None, Ok, Err}
+use Rattle.std.specs.Prelude.{◌≡◌, ◌⊎◌, ◌+◌, ℕ, List, ◌∷◌, ◌++◌, length, true, None, Ok, Err}
 use Rattle.bz_items.specs.Characters.{Bytes}
 use Rattle.bz_command_syntax.specs.Commands.{command_of}
 use Rattle.bz_command_syntax.specs.Refused.{HasBadPattern}
 use Rattle.bz_command_syntax.specs.declared.fault.CommandFault.TheVariants.{BadPattern}
-use Rattle.bz_command_line.specs.Requested.{Requested, Refused, Usage, of_operand, no_command, no_target, no_line, nul, requested_by, requested_of, operand_group}
-use Rattle.bz_command_line.specs.Script.{line_with_nul, script_lines, lines_in, operands_in, operand_groups, script_of}
+use Rattle.bz_command_line.specs.Requested.{Requested, Refused, Usage, of_operand, no_command, no_target, in_line, requested_by, requested_of, operand_group}
+use Rattle.bz_command_line.specs.Script.{line_with_nul, script_lines, is_read, operands_in, operand_groups, script_of}
 use Rattle.bz_command_line.specs.declared.verb.OperandFault.{OperandFault}
 use Rattle.bz_command_line.specs.declared.verb.OperandFault.TheVariants.{Command}
 
@@ -31,19 +31,22 @@ abbrev pub IsGroupFault : List Bytes → Usage → Type 0
 IsGroupFault operands (of_operand refused) = IsFirstRefused operands refused
 IsGroupFault operands no_command = operand_group operands ≡ Err no_command
 IsGroupFault operands no_target = operand_group operands ≡ Err no_target
-IsGroupFault operands no_line = ⊥
-IsGroupFault operands (nul line) = ⊥
+IsGroupFault operands usage = ⊥
 
--- The first line that requests nothing: those in front of it request something.
+-- why the line of this number requests nothing
+abbrev pub IsLineFault : ℕ → Bytes → Usage → Type 0
+IsLineFault number line usage = (is_read line ≡ true) × (why : Usage) × IsGroupFault (operands_in line) why × (usage ≡ in_line number why)
+
+-- The first line that is refused, by its number.
 pub record IsFirstFault (lines : List Bytes) (usage : Usage) : Type 0 where
   pub front : List Bytes
   pub line : Bytes
   pub rest : List Bytes
   pub groups : List Requested
   pub split : lines ≡ front ++ line ∷ rest
-  pub before : operand_groups front ≡ Ok groups
-  pub fault : IsGroupFault (operands_in line) usage
+  pub before : operand_groups 1 front ≡ Ok groups
+  pub fault : IsLineFault (length front + 1) line usage
 
 -- why the lines of a file request nothing; where none has a NUL byte, the first fault may be a pattern
 abbrev pub IsScriptFault : Bytes → Usage → Type 0
-IsScriptFault text usage = (script_of text ≡ Err usage) ⊎ ((line_with_nul (script_lines text) ≡ None) × IsFirstFault (lines_in text) usage)
+IsScriptFault text usage = (script_of text ≡ Err usage) ⊎ ((line_with_nul (script_lines text) ≡ None) × IsFirstFault (script_lines text) usage)

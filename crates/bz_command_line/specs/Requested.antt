@@ -48,13 +48,14 @@ abbrev pub requested_of : List Bytes → Result Requested Refused
 requested_of [] = Ok nothing_requested
 requested_of (operand ∷ operands) = joined_operands (requested_by operand) (requested_of operands)
 
--- why commands and targets of one line are none
+-- why operands, or the lines of a file, request nothing; `in_line` says why the operands of this line, from 1, do
 pub data Usage : Type 0 where
   of_operand : Refused → Usage
   no_command : Usage
   no_target : Usage
   no_line : Usage
   nul : ℕ → Usage
+  in_line : ℕ → Usage → Usage
 
 -- A line has a command and a target of its own.
 abbrev pub complete : List Request → List Target → Result Requested Usage

@@ -1,11 +1,11 @@
 -- What a file of lines requests. Its lines end at newlines, each with or without one carriage return before it, and the operands of a
 -- line are separated by `|`.
-use Rattle.std.specs.Prelude.{ℕ, ◌+◌, ◌==◌, Bool, false, not, List, [], ◌∷◌, drop, filter, position, option_map, if◌then◌else◌, Option, Some, None, Result, Ok, Err}
+use Rattle.std.specs.Prelude.{ℕ, ◌+◌, ◌==◌, Bool, false, not, List, [], ◌∷◌, ◌++◌, drop, position, option_map, if◌then◌else◌, Option, Some, None, Result, Ok, Err}
 use Rattle.std.specs.List.{list_any, slice_split}
 use Rattle.std.specs.Str.Lines.{lines}
 use Rattle.bz_items.specs.Characters.{Bytes, number_sign, vertical_bar}
 use Rattle.bz_command_line.specs.Operands.{begins_with}
-use Rattle.bz_command_line.specs.Requested.{Requested, Usage, no_line, nul, operand_group}
+use Rattle.bz_command_line.specs.Requested.{Requested, Usage, no_line, nul, in_line, operand_group}
 
 -- the bytes of U+FEFF
 abbrev pub byte_order_mark : Bytes
@@ -30,33 +30,39 @@ abbrev pub is_read : Bytes → Bool
 is_read [] = false
 is_read (first ∷ rest) = not (first == number_sign)
 
-abbrev pub lines_in : Bytes → List Bytes
-lines_in text = filter is_read (script_lines text)
-
 abbrev pub operands_in : Bytes → List Bytes
 operands_in line = slice_split (λ byte. byte == vertical_bar) line
 
 -- The first fault, in order, is reported.
-abbrev pub in_front : Result Requested Usage → Result (List Requested) Usage → Result (List Requested) Usage
-in_front (Ok group) (Ok groups) = Ok (group ∷ groups)
-in_front (Ok group) (Err usage) = Err usage
-in_front (Err usage) groups = Err usage
+abbrev pub in_front : Result (List Requested) Usage → Result (List Requested) Usage → Result (List Requested) Usage
+in_front (Ok groups) (Ok more) = Ok (groups ++ more)
+in_front (Ok groups) (Err usage) = Err usage
+in_front (Err usage) more = Err usage
 
--- what each of these lines requests
-abbrev pub operand_groups : List Bytes → Result (List Requested) Usage
-operand_groups [] = Ok []
-operand_groups (line ∷ lines) = in_front (operand_group (operands_in line)) (operand_groups lines)
+abbrev pub group_in_line : ℕ → Result Requested Usage → Result (List Requested) Usage
+group_in_line number (Ok requested) = Ok (requested ∷ [])
+group_in_line number (Err usage) = Err (in_line number usage)
 
--- There is a line at least.
-abbrev pub some_groups : List Bytes → Result (List Requested) Usage
-some_groups [] = Err no_line
-some_groups (line ∷ lines) = operand_groups (line ∷ lines)
+-- what the line of this number requests
+abbrev pub line_group : ℕ → Bytes → Result (List Requested) Usage
+line_group number line = if is_read line then group_in_line number (operand_group (operands_in line)) else Ok []
+
+-- what each of these lines requests, of which the first has this number
+abbrev pub operand_groups : ℕ → List Bytes → Result (List Requested) Usage
+operand_groups number [] = Ok []
+operand_groups number (line ∷ lines) = in_front (line_group number line) (operand_groups (number + 1) lines)
+
+-- A line at least requests something.
+abbrev pub some_groups : Result (List Requested) Usage → Result (List Requested) Usage
+some_groups (Ok []) = Err no_line
+some_groups (Ok (group ∷ groups)) = Ok (group ∷ groups)
+some_groups (Err usage) = Err usage
 
 -- A NUL byte is reported before all else.
 abbrev pub without_nul : Option ℕ → List Bytes → Result (List Requested) Usage
 without_nul (Some line) lines = Err (nul line)
-without_nul None lines = some_groups lines
+without_nul None lines = some_groups (operand_groups 1 lines)
 
 -- what the lines of a file request
 abbrev pub script_of : Bytes → Result (List Requested) Usage
-script_of text = without_nul (line_with_nul (script_lines text)) (lines_in text)
+script_of text = without_nul (line_with_nul (script_lines text)) (script_lines text)

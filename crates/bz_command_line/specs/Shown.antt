@@ -1,5 +1,5 @@
 -- What was read, as contracts see it.
-use Rattle.std.specs.Prelude.{map, ◌++◌, Option, Some, None}
+use Rattle.std.specs.Prelude.{map, option_map, ◌++◌, Option, Some, None}
 use Rattle.bz_items.specs.Characters.{Bytes}
 use Rattle.bz_command_line.specs.Requested as a
 use Rattle.bz_command_line.specs.Line as l
@@ -8,6 +8,8 @@ use Rattle.bz_command_line.specs.declared.requested.Request.{Request}
 use Rattle.bz_command_line.specs.declared.requested.Refused.{Refused}
 use Rattle.bz_command_line.specs.declared.group.UsageFault.{UsageFault}
 use Rattle.bz_command_line.specs.declared.group.UsageFault.TheVariants as u
+use Rattle.bz_command_line.specs.declared.script.ScriptFault.{ScriptFault}
+use Rattle.bz_command_line.specs.declared.script.ScriptFault.TheVariants as s
 use Rattle.bz_command_line.specs.declared.hint.Hint.{Hint}
 use Rattle.bz_command_line.specs.declared.line.Given.{Given}
 use Rattle.bz_command_line.specs.declared.line.Given.TheVariants as g
@@ -38,14 +40,19 @@ requested_in requested = record { commands = map request_in requested.commands.i
 abbrev pub refused_in : Refused → a.Refused
 refused_in refused = record { operand = refused.operand.now; fault = refused.fault }
 
--- why operands or lines request nothing, where memory is not the cause
+-- why operands request nothing, where memory is not the cause
 abbrev pub usage_in : UsageFault → Option a.Usage
 usage_in (u.Operand refused) = Some (a.of_operand (refused_in refused))
 usage_in u.NoCommand = Some a.no_command
 usage_in u.NoTarget = Some a.no_target
-usage_in u.NoLine = Some a.no_line
-usage_in (u.Nul line) = Some (a.nul line)
 usage_in u.Memory = None
+
+-- why the lines of a file request nothing, where memory is not the cause
+abbrev pub script_usage_in : ScriptFault → Option a.Usage
+script_usage_in (s.Line number fault) = option_map (a.in_line number) (usage_in fault)
+script_usage_in s.NoLine = Some a.no_line
+script_usage_in (s.Nul number) = Some (a.nul number)
+script_usage_in s.Memory = None
 
 -- the line that the pieces of a hint give, or nothing
 abbrev pub hint_text : Hint → Bytes

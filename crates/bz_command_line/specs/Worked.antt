@@ -6,7 +6,7 @@ use Rattle.bz_label.specs.declared.target.Which.TheVariants.{Name}
 use Rattle.bz_command_syntax.specs.declared.command.Operation.TheVariants as w
 use Rattle.bz_command_syntax.specs.declared.command.RuleOperation.TheVariants as wr
 use Rattle.bz_command_syntax.specs.declared.fault.CommandFault.TheVariants.{Unknown, Arguments}
-use Rattle.bz_command_line.specs.Requested.{Requested, Request, Usage, of_operand, no_command, no_target, no_line, nul, operand_group}
+use Rattle.bz_command_line.specs.Requested.{Requested, Request, Usage, of_operand, no_command, no_target, no_line, nul, in_line, operand_group}
 use Rattle.bz_command_line.specs.Hints.{hint_for}
 use Rattle.bz_command_line.specs.Line.{CommandLine, Given, operands, script, of_clap, beside_script, beside_stdout, command_line_of}
 use Rattle.bz_command_line.specs.Operands.{operand_target, verb_of}
@@ -88,24 +88,25 @@ Lines = (script_of (codes "# all\n\ndelete|//a:x\n#\n//a:y|delete") ≡ Ok (dele
     × (script_of (codes "# all" ++ carriage_return ++ codes "\n" ++ carriage_return ++ codes "\ndelete|//a:x" ++ carriage_return ++ codes "\n//a:y|delete")
     ≡ Ok (deleted (codes "x") ∷ deleted (codes "y") ∷ []))
     × (script_of (codes "delete|//a:x" ++ carriage_return ++ carriage_return ++ codes "\n") ≡ Ok (deleted (codes "x" ++ carriage_return) ∷ []))
-    × (script_of carriage_return ≡ Err (refused carriage_return (Command Unknown)))
+    × (script_of carriage_return ≡ Err (in_line 1 (refused carriage_return (Command Unknown))))
 
 -- a byte order mark, at the beginning alone; the first line with a NUL byte, in front of a line that is refused and in a comment
 abbrev Bytewise : Type 0
 Bytewise = (script_of (byte_order_mark ++ codes "delete|//a:x\n") ≡ Ok (deleted (codes "x") ∷ []))
     × (script_of (byte_order_mark ++ codes "\n") ≡ Err no_line)
-    × (script_of (byte_order_mark ++ byte_order_mark) ≡ Err (refused byte_order_mark (Command Unknown)))
+    × (script_of (byte_order_mark ++ byte_order_mark) ≡ Err (in_line 1 (refused byte_order_mark (Command Unknown))))
     × (script_of (codes "grow\n\n#" ++ (0 ∷ []) ++ codes "\n" ++ (0 ∷ [])) ≡ Err (nul 3))
 
--- a line with no text to read; a mark that is not the line's first; an empty operand; blanks around a bar, which belong to the operands
+-- a line with no text to read; a mark that is not the line's first; an empty operand; blanks around a bar, which belong to the operands, in the
+-- third line
 abbrev Faults : Type 0
 Faults = (script_of [] ≡ Err no_line) × (script_of (codes "#delete|//a:x\n\n") ≡ Err no_line)
-    × (script_of (codes " #\n") ≡ Err (refused (codes " #") (Command Unknown)))
-    × (script_of (codes "delete||//a:x\n") ≡ Err (refused [] (Command Unknown)))
-    × (script_of (codes "delete | //a:x\n") ≡ Err (refused (codes " //a:x") (Command Unknown)))
-    × (script_of (codes "delete|//a:x\ndelete\n//a:x\n") ≡ Err no_target)
-    × (script_of (codes "//a:x\ngrow\n") ≡ Err no_command)
-    × (script_of (codes "delete\ngrow|a:\n") ≡ Err no_target)
+    × (script_of (codes " #\n") ≡ Err (in_line 1 (refused (codes " #") (Command Unknown))))
+    × (script_of (codes "delete||//a:x\n") ≡ Err (in_line 1 (refused [] (Command Unknown))))
+    × (script_of (codes "#\n\ndelete | //a:x\n") ≡ Err (in_line 3 (refused (codes " //a:x") (Command Unknown))))
+    × (script_of (codes "delete|//a:x\ndelete\n//a:x\n") ≡ Err (in_line 2 no_target))
+    × (script_of (codes "//a:x\ngrow\n") ≡ Err (in_line 1 no_command))
+    × (script_of (codes "delete\ngrow|a:\n") ≡ Err (in_line 1 no_target))
 
 -- targets and commands, each by its text alone
 abbrev Operands : Type 0

@@ -10,7 +10,7 @@ use crate::requested::{Refused, Requested, read_requested};
 use crate::verb::OperandFault;
 use std::alloc::{AllocError, Global};
 
-/// Why operands, or the lines of a file, request nothing.
+/// Why operands request nothing.
 #[derive(Debug, Drop)]
 pub enum UsageFault<'a> {
     /// The first operand that is refused.
@@ -19,10 +19,6 @@ pub enum UsageFault<'a> {
     NoCommand,
     /// There is no target.
     NoTarget,
-    /// The file has no line of operands.
-    NoLine,
-    /// This line of the file, from 1, is the first one with a NUL byte.
-    Nul(usize),
     /// A growth was refused.
     Memory,
 }

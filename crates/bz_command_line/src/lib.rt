@@ -15,5 +15,5 @@ pub use hint::{Hint, hint_for};
 pub use laws::worked_command_lines;
 pub use line::{CommandLine, Given, LineFault, Options, read_line};
 pub use requested::{Refused, Request, Requested};
-pub use script::read_script;
+pub use script::{ScriptFault, read_script};
 pub use verb::{OperandFault, Verb};

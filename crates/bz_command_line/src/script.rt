@@ -1,16 +1,40 @@
 //! A file of lines.
-ghost use Rattle.std.specs.Prelude.{◌≡◌, ◌<◌, [], ◌∷◌, ◌++◌, length, position, Ok, IfOk, OnOk, IfErr, IfSome, map, filter};
+ghost use Rattle.std.specs.Prelude.{◌≡◌, ◌<◌, length, position, Ok, IfOk, OnOk, IfErr, IfSome, map};
 ghost use Rattle.std.specs.List.{All};
 ghost use Rattle.std.specs.Str.Lines.{lines};
 ghost use Rattle.bz_command_line.specs.Requested.{operand_group};
 ghost use Rattle.bz_command_line.specs.Paths.{HasPath};
-ghost use Rattle.bz_command_line.specs.Refused.{IsFirstFault, IsGroupFault, IsScriptFault};
-ghost use Rattle.bz_command_line.specs.Script.{has_nul, is_read, line_with_nul, operands_in, operand_groups, script_of, without_mark};
-ghost use Rattle.bz_command_line.specs.Shown.{requested_in, usage_in};
+ghost use Rattle.bz_command_line.specs.Refused.{IsFirstFault, IsGroupFault, IsLineFault, IsScriptFault};
+ghost use Rattle.bz_command_line.specs.Script.{has_nul, in_front, is_read, line_group, line_with_nul, operands_in, operand_groups, script_of, without_mark};
+ghost use Rattle.bz_command_line.specs.Shown.{requested_in, script_usage_in, usage_in};
 
 use crate::group::{UsageFault, read_group};
 use crate::requested::Requested;
 use std::alloc::{AllocError, Global};
+
+/// Why the lines of a file request nothing.
+#[derive(Debug, Drop)]
+pub enum ScriptFault<'a> {
+    /// This line, from 1, is the first one that is refused.
+    Line(usize, UsageFault<'a>),
+    /// There is no line of operands.
+    NoLine,
+    /// This line, from 1, is the first one with a NUL byte.
+    Nul(usize),
+    /// A growth was refused.
+    Memory,
+}
+
+impl From<AllocError> for ScriptFault<'_> {
+    ghost use Rattle.std.specs.Prelude.{◌≡◌};
+    ghost use Rattle.bz_command_line.specs.declared.script.ScriptFault.TheVariants as fault;
+
+    ghost from_gives = { λ _ made. made ≡ fault.Memory };
+
+    fn from(_refused: AllocError) -> Self {
+        ScriptFault::Memory
+    }
+}
 
 // A line that is not passed over.
 fn is_read(line: &str) -> bool
@@ -20,19 +44,6 @@ fn is_read(line: &str) -> bool
         [] => false,
         [first, ..] => *first != b'#',
     }
-}
-
-// The lines that are not passed over.
-fn lines_read<'a>(alloc: Global, all: &[&'a str]) -> Result<Vec<&'a str>, AllocError>
-    ensures { IfOk result (λ lines. map (λ s. s.now) lines.items ≡ filter is_read (map (λ s. s.now) all.now)) }
-{
-    let mut lines = Vec::new(alloc);
-    for &line in all {
-        if is_read(line) {
-            lines.push(line)?;
-        }
-    }
-    Ok(lines)
 }
 
 // What is after a byte order mark.
@@ -87,22 +98,39 @@ fn read_operands<'a>(alloc: Global, line: &'a str) -> Result<Requested<'a>, Usag
     read_group(alloc, &operands)
 }
 
-fn add<'a>(groups: &mut Vec<Requested<'a>>, group: Requested<'a>) -> Result<(), AllocError>
-    ensures { OnOk result (groups.new.items ≡ groups.old.items ++ group.entry ∷ []) }
+// Appends what the line of this number requests, unless it is passed over.
+fn add_line<'a>(
+    alloc: Global,
+    groups: &mut Vec<Requested<'a>>,
+    number: usize,
+    line: &'a str,
+) -> Result<(), ScriptFault<'a>>
+    ensures ok { OnOk result (in_front (Ok (map requested_in groups.old.items)) (line_group number line.entry.now) ≡ Ok (map requested_in groups.new.items)) }
+    ensures err { IfErr result (λ fault. IfSome (script_usage_in fault) (IsLineFault number line.entry.now)) }
+    ensures paths { All (λ requested. All HasPath requested.targets.items) groups.old.items
+        → OnOk result (All (λ requested. All HasPath requested.targets.items) groups.new.items) }
 {
-    groups.push(group)?;
-    Ok(())
+    if !is_read(line) {
+        return Ok(());
+    }
+    groups.reserve(1)?;
+    match read_operands(alloc, line) {
+        Ok(group) => {
+            groups.push_reserved(group);
+            Ok(())
+        }
+        Err(fault) => Err(ScriptFault::Line(number, fault)),
+    }
 }
 
-fn read_groups<'a>(alloc: Global, lines: &[&'a str]) -> Result<Vec<Requested<'a>>, UsageFault<'a>>
-    ensures ok { IfOk result (λ groups. operand_groups (map (λ s. s.now) lines.now) ≡ Ok (map requested_in groups.items)) }
-    ensures err { IfErr result (λ fault. IfSome (usage_in fault) (IsFirstFault (map (λ s. s.now) lines.now))) }
+fn read_groups<'a>(alloc: Global, lines: &[&'a str]) -> Result<Vec<Requested<'a>>, ScriptFault<'a>>
+    ensures ok { IfOk result (λ groups. operand_groups 1 (map (λ s. s.now) lines.now) ≡ Ok (map requested_in groups.items)) }
+    ensures err { IfErr result (λ fault. IfSome (script_usage_in fault) (IsFirstFault (map (λ s. s.now) lines.now))) }
     ensures paths { IfOk result (λ groups. All (λ requested. All HasPath requested.targets.items) groups.items) }
 {
     let mut groups = Vec::new(alloc);
-    for &line in lines {
-        let group = read_operands(alloc, line)?;
-        add(&mut groups, group)?;
+    for (at, &line) in lines.iter().enumerate() {
+        add_line(alloc, &mut groups, at + 1, line)?;
     }
     Ok(groups)
 }
@@ -110,20 +138,23 @@ fn read_groups<'a>(alloc: Global, lines: &[&'a str]) -> Result<Vec<Requested<'a>
 /// What the lines of a file request, in order. Its lines end at newlines alone, and one carriage return right before a
 /// newline goes with it; a byte order mark at the beginning is passed over. Lines that are empty or begin with `#` are
 /// passed over; `|` separates the operands of a line. Packages are as `read_group` gives them. Errors, in this order: `Nul`
-/// where some line has a NUL byte, `NoLine` where there is no line of operands, and the first line's that is refused, as
-/// `read_group` reports it; `Memory` where a growth was refused.
-pub fn read_script<'a>(alloc: Global, script: &'a str) -> Result<Vec<Requested<'a>>, UsageFault<'a>>
+/// where some line has a NUL byte; `Line` where one is refused, which is the first such, as `read_group` reports it; `NoLine`
+/// where there is no line of operands; and `Memory`, alone or of a line, where a growth was refused.
+pub fn read_script<'a>(
+    alloc: Global,
+    script: &'a str,
+) -> Result<Vec<Requested<'a>>, ScriptFault<'a>>
     ensures ok { IfOk result (λ groups. script_of script.entry.now ≡ Ok (map requested_in groups.items)) }
-    ensures err { IfErr result (λ fault. IfSome (usage_in fault) (IsScriptFault script.entry.now)) }
+    ensures err { IfErr result (λ fault. IfSome (script_usage_in fault) (IsScriptFault script.entry.now)) }
     ensures paths { IfOk result (λ groups. All (λ requested. All HasPath requested.targets.items) groups.items) }
 {
-    let all = script_lines(alloc, without_mark(script))?;
-    if let Some(line) = line_with_nul(&all) {
-        return Err(UsageFault::Nul(line));
+    let lines = script_lines(alloc, without_mark(script))?;
+    if let Some(line) = line_with_nul(&lines) {
+        return Err(ScriptFault::Nul(line));
     }
-    let lines = lines_read(alloc, &all)?;
-    if lines.is_empty() {
-        return Err(UsageFault::NoLine);
+    let groups = read_groups(alloc, &lines)?;
+    if groups.is_empty() {
+        return Err(ScriptFault::NoLine);
     }
-    read_groups(alloc, &lines)
+    Ok(groups)
 }

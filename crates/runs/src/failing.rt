@@ -480,9 +480,10 @@ impl<'a> Trial<'a> {
         false
     }
 
-    /// Whether a sound run prints this line, or it says that there is no text to go back to, after one that was not opened.
+    /// Whether a sound run prints this line, or it says that there is no text to go back to, after one that was not opened, or is its hint.
     fn is_known(&self, line: &[u8]) -> bool {
         line.ends_with(b": TooFar (61)")
+            || line.starts_with(b"buildozer: to undo or redo ")
             || has_line(self.sound.err.bytes(), line)
             || self
                 .without

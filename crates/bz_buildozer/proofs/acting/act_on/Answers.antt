@@ -1,4 +1,4 @@
-use Rattle.std.proofs.Common.{inl, inr, refl, ◌∙◌, ◌&&◌, [], Bool, Option, false, true≢false, ap, sym}
+use Rattle.std.proofs.Common.{inl, refl, ◌∙◌, ◌&&◌, [], Bool, Option, false, true≢false, ap, sym, true}
 use Rattle.std.specs.Option.{option_map_or}
 use Rattle.std.specs.Prelude.{option_map}
 use Rattle.bz_workspace.specs.Sessions.{action_in}
@@ -51,7 +51,7 @@ pub returns-then-journals-clause-beside : goal.returns-then-journals-clause-besi
 returns-then-journals-clause-beside g c = λ kept honest stand whole.
     let done = c.keep_at.ensures.whole honest stand whole in
     let step = step_of c.args.target.now (request_in c.args.request.now) in (
-      reported_of done.0.name step.request.text done.1,
+      reported_of true done.0.name step.request.text done.1,
       acted_beside step c.args.place (file_at c.args.place c.args.run.now.workspace) done.0 (action_in c.in-Some.action) done.1 done.2
           (g.F.Files.folder c.args.files.now) (g.F.Files.folder c.keep_at.new.files) (progress_in c.args.run.now) (progress_in c.keep_at.new.run) done.3
           (sym (ap (option_map action_in) c.in-Some.is) ∙ c.action_of.ensures) done.4 done.5 done.6,

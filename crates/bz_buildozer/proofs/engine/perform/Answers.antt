@@ -21,9 +21,9 @@ returns-then-lacks_journal-clause-whole g c premise is_whole =
       unused folder no_journal_line,
       inl (sym c.lacks_journal.ensures ∙ c.if-lacks_journal.true, refl),
       stands_unused folder folder no_journal_line 1 (g.W.Sink.contents c.args.out.now) (g.E.Sink.faults c.args.err.now)
-          (g.E.Sink.faults c.report_no_journal.new.err) (g.E.Sink.contents c.args.err.now) (g.E.Sink.contents c.report_no_journal.new.err) refl refl
-          (reported_once (g.E.Sink.faults c.args.err.now) (g.E.Sink.faults c.report_no_journal.new.err) (g.E.Sink.contents c.args.err.now)
-          (g.E.Sink.contents c.report_no_journal.new.err) no_journal_line c.report_no_journal.ensures),
+          (g.E.Sink.faults c.report.new.err) (g.E.Sink.contents c.args.err.now) (g.E.Sink.contents c.report.new.err) refl refl
+          (reported_once (g.E.Sink.faults c.args.err.now) (g.E.Sink.faults c.report.new.err) (g.E.Sink.contents c.args.err.now)
+          (g.E.Sink.contents c.report.new.err) no_journal_line c.report.ensures),
     )
 
 pub returns-then-lacks_journal-clause-usage : goal.returns-then-lacks_journal-clause-usage
@@ -31,8 +31,8 @@ returns-then-lacks_journal-clause-usage g c is =
     let both = both_true c.args.options.journal (names_input (map requested_in c.args.lines.now)) (sym c.lacks_journal.ensures ∙ c.if-lacks_journal.true) in (
       both.0,
       both.1,
-      reported_once (g.E.Sink.faults c.args.err.now) (g.E.Sink.faults c.report_no_journal.new.err) (g.E.Sink.contents c.args.err.now)
-          (g.E.Sink.contents c.report_no_journal.new.err) no_journal_line c.report_no_journal.ensures,
+      reported_once (g.E.Sink.faults c.args.err.now) (g.E.Sink.faults c.report.new.err) (g.E.Sink.contents c.args.err.now)
+          (g.E.Sink.contents c.report.new.err) no_journal_line c.report.ensures,
     )
 
 pub returns-then-lacks_journal-clause-moments : goal.returns-then-lacks_journal-clause-moments

@@ -11,7 +11,7 @@ use Rattle.bz_buildozer.specs.Moments.{IsMomentOfRun}
 use Rattle.bz_buildozer.specs.Run.{World}
 use Rattle.bz_buildozer.proofs.MomentSteps.{by_operands}
 use Rattle.bz_buildozer.proofs.UnusedSteps.{no_time}
-use Rattle.bz_buildozer.proofs.Outcomes.{usage_reported, names_given, operands_of_input, operands_refused, operands_done, operands_premise}
+use Rattle.bz_buildozer.proofs.Outcomes.{group_reported, usage_reported, names_given, operands_of_input, operands_refused, operands_done, operands_premise}
 use Rattle.bz_buildozer.proofs.UsageSteps.{operands_reported, operands_named}
 use Rattle.bz_buildozer.proofs.engine.run_operands.Goals as goal
 
@@ -45,7 +45,9 @@ pub returns-in-Err-clause-whole : goal.returns-in-Err-clause-whole
 returns-in-Err-clause-whole g c premise is_whole =
     let exit = c.report_usage.ensures.whole is_whole in
     let reported = usage_reported (usage_in c.in-Err.fault) [] (g.E.Sink.faults c.args.err.now) (g.E.Sink.faults c.report_usage.new.err)
-    (g.E.Sink.contents c.args.err.now) (g.E.Sink.contents c.report_usage.new.err) (c.report_usage.ensures.some exit) (c.report_usage.ensures.reported exit) in
+    (g.E.Sink.contents c.args.err.now) (g.E.Sink.contents c.report_usage.new.err) (c.report_usage.ensures.some exit)
+    (group_reported (usage_in c.in-Err.fault) (g.E.Sink.faults c.args.err.now) (g.E.Sink.faults c.report_usage.new.err)
+    (g.E.Sink.contents c.args.err.now) (g.E.Sink.contents c.report_usage.new.err) (c.report_usage.ensures.reported exit)) in
     let world : World = record { folder = g.F.Files.folder c.args.files.now; known = g.R.Source.remaining c.args.input.now } in
     operands_refused c.args.options (map (λ (s : Bor (List ℕ)). s.now) c.args.operands.now) world (usage_in c.in-Err.fault) reported.0 reported.1 c.report_usage.result.status
     (g.W.Sink.contents c.args.out.now) (g.E.Sink.faults c.args.err.now) (g.E.Sink.faults c.report_usage.new.err) (g.E.Sink.contents c.args.err.now)
@@ -63,7 +65,9 @@ returns-in-Ok-clause-unread g c nothing = elim nothing [
 pub returns-in-Err-clause-usage : goal.returns-in-Err-clause-usage
 returns-in-Err-clause-usage g c is =
     let reported = usage_reported (usage_in c.in-Err.fault) [] (g.E.Sink.faults c.args.err.now) (g.E.Sink.faults c.report_usage.new.err)
-    (g.E.Sink.contents c.args.err.now) (g.E.Sink.contents c.report_usage.new.err) (c.report_usage.ensures.some is) (c.report_usage.ensures.reported is) in
+    (g.E.Sink.contents c.args.err.now) (g.E.Sink.contents c.report_usage.new.err) (c.report_usage.ensures.some is)
+    (group_reported (usage_in c.in-Err.fault) (g.E.Sink.faults c.args.err.now) (g.E.Sink.faults c.report_usage.new.err)
+    (g.E.Sink.contents c.args.err.now) (g.E.Sink.contents c.report_usage.new.err) (c.report_usage.ensures.reported is)) in
     operands_reported c.args.options (map (λ (s : Bor (List ℕ)). s.now) c.args.operands.now) (usage_in c.in-Err.fault) reported.0 reported.1
     (g.E.Sink.faults c.args.err.now) (g.E.Sink.faults c.report_usage.new.err) (g.E.Sink.contents c.args.err.now) (g.E.Sink.contents c.report_usage.new.err)
     c.in-Err.ensures.err reported.2 reported.3 reported.4

@@ -2,7 +2,7 @@ use Rattle.std.proofs.Common.{List, refl, map, ap, sym, subst, ◌∙◌, inl, i
 use Rattle.std.specs.List.{All}
 use Rattle.std.specs.Str.{valid_up_to}
 use Rattle.bz_command_line.specs.Paths.{HasPath}
-use Rattle.bz_command_line.specs.Shown.{requested_in, usage_in}
+use Rattle.bz_command_line.specs.Shown.{requested_in, script_usage_in}
 use Rattle.bz_command_line.specs.declared.requested.Requested.{Requested}
 use Rattle.bz_buildozer.specs.Run.{World}
 use Rattle.bz_buildozer.proofs.MomentSteps.{IsMomentOfText, by_text}
@@ -27,9 +27,9 @@ pub returns-then-edits_input-clause-whole : goal.returns-then-edits_input-clause
 returns-then-edits_input-clause-whole g c honest is_whole known before =
     let world : World = record { folder = g.F.Files.folder c.args.files.now; known = known } in
     text_refuses c.args.options c.args.name.now c.args.bytes.now c.in-Ok.text.now world (map requested_in c.in-Ok-read_script.lines.items)
-    (map requested_in c.as_slice-lines.result.now) 1 (g.W.Sink.contents c.args.out.now) (g.E.Sink.faults c.args.err.now) (g.E.Sink.faults c.report_input.new.err)
-    (g.E.Sink.contents c.args.err.now) (g.E.Sink.contents c.report_input.new.err) c.in-Ok.ensures.cases.0 c.in-Ok.ensures.cases.1 c.in-Ok-read_script.ensures.ok
-    (ap (map requested_in) c.as_slice-lines.ensures.value) (sym c.edits_input.ensures ∙ c.if-edits_input.true) refl c.report_input.ensures
+    (map requested_in c.as_slice-lines.result.now) 1 (g.W.Sink.contents c.args.out.now) (g.E.Sink.faults c.args.err.now) (g.E.Sink.faults c.report.new.err)
+    (g.E.Sink.contents c.args.err.now) (g.E.Sink.contents c.report.new.err) c.in-Ok.ensures.cases.0 c.in-Ok.ensures.cases.1 c.in-Ok-read_script.ensures.ok
+    (ap (map requested_in) c.as_slice-lines.ensures.value) (sym c.edits_input.ensures ∙ c.if-edits_input.true) refl c.report.ensures
 
 pub returns-clause-whole : goal.returns-clause-whole
 returns-clause-whole g c honest is_whole known before =
@@ -54,13 +54,13 @@ returns-clause-write g c honest is_write known before =
 
 pub returns-in-Err-read_script-clause-whole : goal.returns-in-Err-read_script-clause-whole
 returns-in-Err-read_script-clause-whole g c honest is_whole known before =
-    let exit = c.report_usage.ensures.whole is_whole in
-    let reported = usage_reported (usage_in c.in-Err-read_script.fault) c.reported_name-in-Err-read_script.result.now (g.E.Sink.faults c.args.err.now) (g.E.Sink.faults c.report_usage.new.err)
-    (g.E.Sink.contents c.args.err.now) (g.E.Sink.contents c.report_usage.new.err) (c.report_usage.ensures.some exit) (c.report_usage.ensures.reported exit) in
+    let exit = c.report_script.ensures.whole is_whole in
+    let reported = usage_reported (script_usage_in c.in-Err-read_script.fault) c.reported_name-in-Err-read_script.result.now (g.E.Sink.faults c.args.err.now) (g.E.Sink.faults c.report_script.new.err)
+    (g.E.Sink.contents c.args.err.now) (g.E.Sink.contents c.report_script.new.err) (c.report_script.ensures.some exit) (c.report_script.ensures.reported exit) in
     let world : World = record { folder = g.F.Files.folder c.args.files.now; known = known } in
     text_refused c.args.options c.args.name.now c.args.bytes.now c.in-Ok.text.now c.reported_name-in-Err-read_script.result.now world
-    (usage_in c.in-Err-read_script.fault) reported.0 reported.1 c.report_usage.result.status (g.W.Sink.contents c.args.out.now) (g.E.Sink.faults c.args.err.now)
-    (g.E.Sink.faults c.report_usage.new.err) (g.E.Sink.contents c.args.err.now) (g.E.Sink.contents c.report_usage.new.err)
+    (script_usage_in c.in-Err-read_script.fault) reported.0 reported.1 c.report_script.result.status (g.W.Sink.contents c.args.out.now) (g.E.Sink.faults c.args.err.now)
+    (g.E.Sink.faults c.report_script.new.err) (g.E.Sink.contents c.args.err.now) (g.E.Sink.contents c.report_script.new.err)
     c.in-Ok.ensures.cases.0 c.in-Ok.ensures.cases.1 c.in-Err-read_script.ensures.err reported.2 c.reported_name-in-Err-read_script.ensures reported.3 exit reported.4
 
 pub returns-in-Err-clause-usage : goal.returns-in-Err-clause-usage
@@ -72,13 +72,13 @@ returns-in-Err-clause-usage g c is =
 pub returns-then-edits_input-clause-usage : goal.returns-then-edits_input-clause-usage
 returns-then-edits_input-clause-usage g c is =
     script_lines_reported c.args.options c.args.name.now c.args.bytes.now c.in-Ok.text.now (map requested_in c.in-Ok-read_script.lines.items)
-    (map requested_in c.as_slice-lines.result.now) (g.E.Sink.faults c.args.err.now) (g.E.Sink.faults c.report_input.new.err) (g.E.Sink.contents c.args.err.now)
-    (g.E.Sink.contents c.report_input.new.err) c.in-Ok.ensures.cases.0 c.in-Ok.ensures.cases.1 c.in-Ok-read_script.ensures.ok
+    (map requested_in c.as_slice-lines.result.now) (g.E.Sink.faults c.args.err.now) (g.E.Sink.faults c.report.new.err) (g.E.Sink.contents c.args.err.now)
+    (g.E.Sink.contents c.report.new.err) c.in-Ok.ensures.cases.0 c.in-Ok.ensures.cases.1 c.in-Ok-read_script.ensures.ok
     (ap (map requested_in) c.as_slice-lines.ensures.value) (
       input_line,
       inl (sym c.edits_input.ensures ∙ c.if-edits_input.true, refl),
-      reported_once (g.E.Sink.faults c.args.err.now) (g.E.Sink.faults c.report_input.new.err) (g.E.Sink.contents c.args.err.now) (g.E.Sink.contents c.report_input.new.err)
-          input_line c.report_input.ensures,
+      reported_once (g.E.Sink.faults c.args.err.now) (g.E.Sink.faults c.report.new.err) (g.E.Sink.contents c.args.err.now) (g.E.Sink.contents c.report.new.err)
+          input_line c.report.ensures,
     )
 
 pub returns-clause-usage : goal.returns-clause-usage
@@ -94,10 +94,10 @@ returns-clause-unread_kept g c kept = let still = c.perform.ensures.reads_nothin
 
 pub returns-in-Err-read_script-clause-usage : goal.returns-in-Err-read_script-clause-usage
 returns-in-Err-read_script-clause-usage g c is =
-    let reported = usage_reported (usage_in c.in-Err-read_script.fault) c.reported_name-in-Err-read_script.result.now (g.E.Sink.faults c.args.err.now) (g.E.Sink.faults c.report_usage.new.err)
-    (g.E.Sink.contents c.args.err.now) (g.E.Sink.contents c.report_usage.new.err) (c.report_usage.ensures.some is) (c.report_usage.ensures.reported is) in
-    script_reported c.args.options c.args.name.now c.args.bytes.now c.in-Ok.text.now c.reported_name-in-Err-read_script.result.now (usage_in c.in-Err-read_script.fault)
-    reported.0 reported.1 (g.E.Sink.faults c.args.err.now) (g.E.Sink.faults c.report_usage.new.err) (g.E.Sink.contents c.args.err.now) (g.E.Sink.contents c.report_usage.new.err)
+    let reported = usage_reported (script_usage_in c.in-Err-read_script.fault) c.reported_name-in-Err-read_script.result.now (g.E.Sink.faults c.args.err.now) (g.E.Sink.faults c.report_script.new.err)
+    (g.E.Sink.contents c.args.err.now) (g.E.Sink.contents c.report_script.new.err) (c.report_script.ensures.some is) (c.report_script.ensures.reported is) in
+    script_reported c.args.options c.args.name.now c.args.bytes.now c.in-Ok.text.now c.reported_name-in-Err-read_script.result.now (script_usage_in c.in-Err-read_script.fault)
+    reported.0 reported.1 (g.E.Sink.faults c.args.err.now) (g.E.Sink.faults c.report_script.new.err) (g.E.Sink.contents c.args.err.now) (g.E.Sink.contents c.report_script.new.err)
     c.in-Ok.ensures.cases.0 c.in-Ok.ensures.cases.1 c.in-Err-read_script.ensures.err reported.2 c.reported_name-in-Err-read_script.ensures reported.3 reported.4
 
 pub returns-in-Err-clause-moments : goal.returns-in-Err-clause-moments

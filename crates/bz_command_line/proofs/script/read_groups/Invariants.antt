@@ -5,8 +5,8 @@ use Rattle.bz_command_line.specs.Shown.{requested_in}
 use Rattle.bz_command_line.proofs.Texts.{texts_in}
 use Rattle.bz_command_line.proofs.script.read_groups.Given as goal
 
-abbrev pub invariant-loop-line : goal.invariant-loop-line
-invariant-loop-line l = record {
-  answered : operand_groups (texts_in (take l.line-index l.lines)) ≡ Ok (map requested_in l.groups.items);
+abbrev pub invariant-loop-at : goal.invariant-loop-at
+invariant-loop-at l = record {
+  answered : operand_groups 1 (texts_in (take l.at l.lines)) ≡ Ok (map requested_in l.groups.items);
   paths : All (λ requested. All HasPath requested.targets.items) l.groups.items;
 }
