@@ -267,6 +267,7 @@ VERSIONS = {
 }  # fmt: skip
 NAMES = {71: b"Damaged (71)", 72: b"Version (72)", 73: b"Stale (73)"}
 STALE_HINT = "buildozer: the file changed since the last run with --journal: restore it, or delete %s.journal to begin a new history\n"
+OTHER_HINT = "buildozer: %s.journal was written for //%s: move it back there, or delete it to begin a new history\n"
 
 # Promises of much with nothing behind them, each in a journal of the root package over the text of a 2.
 FRONT = b"bzjournal 2\npackage 0 \ntext 6\n" + TWO + b"\nsteps 1 now 1 before 0\ndigest " + digest(ONE) + b"\ndigest " + digest(TWO) + b"\n"
@@ -493,6 +494,8 @@ UNWRITTEN = b"p/BUILD: cannot write\n"
 DAMAGED, STALE = b"p/BUILD.journal: Damaged (71)\n", b"p/BUILD.journal: Stale (73)\n" + (STALE_HINT % P).encode()
 TOO_FAR = b"buildozer: p/BUILD: %s: TooFar (61)\n"
 UNKEPT = b"buildozer: to undo or redo what earlier runs did, give --journal, as in those runs\n"
+# what is reported of the journal of another package
+of_other = lambda package: told(err=DAMAGED + (OTHER_HINT % (P, package)).encode())
 # the journal of three texts, of which the present one is the last
 THREE = Journal(b"p", [b"x = 0\n", ONE, TWO], 2, 1, [Step([edit(*VALUE, digits(b"0"))], b"a"), Step([edit(*VALUE, digits(b"1"))], b"b")])
 # the file with a string of two lines, and with a label of another package
@@ -581,11 +584,10 @@ RUNS = {
     ),
     "another version is reported": runs({P: ODD, KEPT: b"bzjournal 9\n"}, (ADDING, 2, told(err=b"p/BUILD.journal: Version (72)\n"))),
     # journals that don't fit
-    "the journal of another package": runs(
-        {P: EVEN, KEPT: spelled(SAVED_ADD._replace(package=b"q"))}, (UNDOING, 2, told(err=DAMAGED)), (LISTING, 2, told(err=DAMAGED))
-    ),
-    "the journal of the root package": runs({P: EVEN, KEPT: spelled(SAVED_ADD._replace(package=b""))}, (UNDOING, 2, told(err=DAMAGED))),
-    "the journal of a package whose name goes on": runs({P: EVEN, KEPT: spelled(SAVED_ADD._replace(package=b"p/q"))}, (UNDOING, 2, told(err=DAMAGED))),
+    "the journal of another package": runs({P: EVEN, KEPT: spelled(SAVED_ADD._replace(package=b"q"))}, (UNDOING, 2, of_other("q")), (LISTING, 2, of_other("q"))),
+    "the journal of the root package": runs({P: EVEN, KEPT: spelled(SAVED_ADD._replace(package=b""))}, (UNDOING, 2, of_other(""))),
+    "the journal of a package whose name goes on": runs({P: EVEN, KEPT: spelled(SAVED_ADD._replace(package=b"p/q"))}, (UNDOING, 2, of_other("p/q"))),
+    "the journal of another package beside another text": runs({P: ODD + b"#", KEPT: spelled(SAVED_ADD._replace(package=b"q"))}, (UNDOING, 2, told(err=STALE))),
     "the journal of a package past the longest name": runs({P: EVEN, KEPT: spelled(SAVED_ADD._replace(package=b"p" * (LONGEST + 1)))}, (UNDOING, 2, told(err=DAMAGED))),
     "a file that was changed by hand": runs(
         ADDED, {P: EVEN + b"# by hand\n"}, *[(words, 2, told(err=STALE)) for words in (UNDOING, REDOING, ADDING, LISTING)], {P: EVEN},
@@ -714,7 +716,7 @@ def a_closed_folder_is_told(w):
 def a_second_path_finds_the_journal_of_the_first(w):
     """The journal is that of the package by its first path, so it is refused by the second one, and the edit by the first stays."""
     put(w.path, FILE)
-    err = b"./p/BUILD.journal: Damaged (71)\n" + fixed(P)
+    err = b"./p/BUILD.journal: Damaged (71)\n" + (OTHER_HINT % ("./p/BUILD", "p")).encode() + fixed(P)
     return w.leaves([*ADDING, "//./p:a"], 2, err=err, after=ADDED) and w.leaves(UNDOING, 0, err=fixed(P), after=BACK)
 
 

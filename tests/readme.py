@@ -63,7 +63,7 @@ CITED = re.compile(r"ghost use Rattle\.bz_[a-z]+\.specs\.([\w.]+)\.\{([^}]*)\}")
 # a row of the code's tables of numbers
 NUMBER = re.compile(r"\b(?:\w+Fault|Refusal)::(\w+)(?: \{ \.\. \})? => (\d+),")
 # a row of the table of why a journal is refused, in which the name and the number are one text
-TOLD = re.compile(r'\bResumeFault::(\w+) => "\1 \((\d+)\)",')
+TOLD = re.compile(r'\bResumeFault::(\w+) => \w+\(\s*err,\s*journal,\s*"\1 \((\d+)\)",')
 
 
 class Programs:

@@ -33,8 +33,7 @@ fn check_file<F: Files>(
     ensures ok { F.honest files.old ≡ true → OnOk result (get (F.folder files.old) file.now ≡ Some standing.now) }
     ensures changed { F.honest files.old ≡ true → IsErrOf result PairFault.Changed → get (F.folder files.old) file.now ≢ Some standing.now }
     ensures folder { F.honest files.old ≡ true → F.folder files.new ≡ F.folder files.old }
-    ensures time { F.honest files.old ≡ true → Elapses (F.moment files.old) (F.moment files.new) (F.since files.old) (F.since files.new)
-        (λ now. now ≡ F.folder files.old) }
+    ensures time { F.honest files.old ≡ true → Elapses (F.moment files.old) (F.moment files.new) (F.since files.old) (F.since files.new) (λ now. now ≡ F.folder files.old) }
     ensures kinds { IfErr result (λ fault. fault ≢ PairFault.Write) }
     ensures cause { IsErrOf result PairFault.Open → Rises (F.faults files.old) (F.faults files.new) }
     ensures kept { (IsErrOf result PairFault.Open → ⊥) → F.faults files.new ≡ F.faults files.old }
@@ -43,13 +42,8 @@ fn check_file<F: Files>(
 {
     let mut held = Vec::new(alloc);
     match files.read_most(file, standing.len() + 1, &mut held) {
-        Ok(()) => {
-            if held.as_slice() == standing {
-                Ok(())
-            } else {
-                Err(PairFault::Changed)
-            }
-        }
+        Ok(()) if held.as_slice() == standing => Ok(()),
+        Ok(()) => Err(PairFault::Changed),
         Err(FileFault::Absent) => Err(PairFault::Changed),
         Err(FileFault::Open) => Err(PairFault::Open),
         Err(_) => Err(PairFault::Memory),
@@ -86,9 +80,7 @@ fn write_pair<F: Files>(
     }
 }
 
-// Gives the journal of a file the bytes `stored`, and then the file the bytes `text`, where it still holds the text `standing`; it is
-// read for that first. Errors: `Changed`: it holds another text or isn't there; `Open`: it could not be read; `Memory`: a growth was
-// refused; at these nothing was replaced at any moment. `Write`: it changed in between, or one of the two could not be replaced.
+// The same, after a read of the file, which shows whether it holds that text. Errors: those of `keep`.
 fn replace_pair<F: Files>(
     alloc: Global,
     files: &mut F,
@@ -130,7 +122,6 @@ pub fn keep<F: Files>(
         → Resumes now file.now h.package h.texts ⊎ Resumes now file.now h.package after.texts }
     ensures kept { F.honest files.old ≡ true → OnOk result ((h after : History) (es : List (List Edit)) → MayResume (F.folder files.old) file.now standing.now stored.now text.now h after es
         → Holds (F.folder files.new) file.now h.package (present after) after.texts × OthersStay file.now (F.folder files.old) (F.folder files.new)) }
-
     ensures stored { F.honest files.old ≡ true → (now : Folder) → F.since files.new (F.moment files.old) now
         → (get now (journal_name file.now) ≡ get (F.folder files.old) (journal_name file.now)) ⊎ (get now (journal_name file.now) ≡ Some stored.now) }
     ensures journal { F.honest files.old ≡ true → OnOk result (get (F.folder files.new) (journal_name file.now) ≡ Some stored.now) }

@@ -1,6 +1,6 @@
 -- The files of packages, by their numbers.
-use Rattle.std.proofs.Common.{◌≡◌, ◌<◌, ℕ, zero, suc, List, [], ◌∷◌, ◌++◌, length, map, take, get_or, Option, Some, None, refl, sym, ap, ◌∙◌, arith, subst, true≢false}
-use Rattle.std.specs.Prelude.{slice_get, slice_set, is_some, IsSome}
+use Rattle.std.proofs.Common.{◌≡◌, ◌<◌, Bool, cond, ℕ, zero, suc, List, [], ◌∷◌, ◌++◌, length, map, take, get_or, Option, Some, None, Result, Ok, refl, sym, ap, ◌∙◌, arith, subst, true≢false}
+use Rattle.std.specs.Prelude.{slice_get, slice_set, is_ok, is_some, IsSome, if◌then◌else◌}
 use Rattle.std.specs.Option.{option_map}
 use Rattle.std.proofs.Math.Seq.{take-append_seam}
 use Rattle.std.proofs.lemmas.List.{length-map}
@@ -51,19 +51,20 @@ file_shown [] (suc place) = refl
 file_shown (one ∷ more) zero = refl
 file_shown (one ∷ more) (suc place) = file_shown more place
 
-same_place : (place : ℕ) (file : Option Opened) → option_map (λ (_ : Opened). place) file ≡ option_map (λ (_ : p.Opened). place) (option_map opened_in file)
-same_place place None = refl
-same_place place (Some file) = refl
+open_place : (place : ℕ) (file : Option Opened) (there : Bool) → there ≡ is_some file
+    → cond there (Some place) None ≡ option_map (λ (_ : p.Opened). place) (option_map opened_in file)
+open_place place None there is = ap (λ (b : Bool). cond b (Some place) None) is
+open_place place (Some file) there is = ap (λ (b : Bool). cond b (Some place) None) is
 
 looked_up : (slice items : List Used) (used : List p.Used) (place : ℕ) (found : Option Used) → slice ≡ items → map used_in items ≡ used
     → found ≡ slice_get slice place → file_of found ≡ file_at place used
 looked_up slice items used place found same shown is =
     ap file_of (is ∙ ap (λ (xs : List Used). slice_get xs place) same) ∙ (sym (file_shown items place) ∙ ap (file_at place) shown)
 
-pub found_open : (slice items : List Used) (used : List p.Used) (place : ℕ) (one : Used) → slice ≡ items → map used_in items ≡ used
-    → Some one ≡ slice_get slice place → option_map (λ (_ : Opened). place) one.file ≡ option_map (λ (_ : p.Opened). place) (file_at place used)
-found_open slice items used place one same shown is =
-    same_place place one.file ∙ ap (option_map (λ (_ : p.Opened). place)) (looked_up slice items used place (Some one) same shown is)
+pub found_open : (slice items : List Used) (used : List p.Used) (place : ℕ) (one : Used) (there : Bool) → slice ≡ items → map used_in items ≡ used
+    → Some one ≡ slice_get slice place → there ≡ is_some one.file → cond there (Some place) None ≡ option_map (λ (_ : p.Opened). place) (file_at place used)
+found_open slice items used place one there same shown is some =
+    open_place place one.file there some ∙ ap (option_map (λ (_ : p.Opened). place)) (looked_up slice items used place (Some one) same shown is)
 
 pub none_found : (slice items : List Used) (used : List p.Used) (place : ℕ) → slice ≡ items → map used_in items ≡ used → None ≡ slice_get slice place
     → None ≡ option_map (λ (_ : p.Opened). place) (file_at place used)
@@ -78,6 +79,19 @@ packages_stay (suc place) file (one ∷ more) = ap (λ rest. one.package ∷ res
 pub kept_by : (keys : List Bytes) (place : ℕ) (file : Option p.Opened) (used new : List p.Used) → keys ≡ packages_of used
     → new ≡ with_opened place file used → keys ≡ packages_of new
 kept_by keys place file used new kept is = kept ∙ sym (ap packages_of is ∙ packages_stay place file used)
+
+-- a package with its key, after the others with theirs
+packages_last : (items : List Used) (one : Used) → packages_of (map used_in (items ++ one ∷ [])) ≡ packages_of (map used_in items) ++ one.«package» ∷ []
+packages_last [] one = refl
+packages_last (first ∷ more) one = ap (λ (rest : List Bytes). first.«package» ∷ rest) (packages_last more one)
+
+pub kept_pushed : {E : Type 0} (result : Result (Unit {0}) E) (done : Unit {0}) (keys new : List Bytes) (items mid all : List Used) (one : Used)
+    → keys ≡ packages_of (map used_in items) → new ≡ keys ++ one.«package» ∷ [] → mid ≡ items → all ≡ (if is_ok result then mid ++ one ∷ [] else mid)
+    → result ≡ Ok done → new ≡ packages_of (map used_in all)
+kept_pushed {E} result done keys new items mid all one kept added still pushed is =
+    let whole : all ≡ items ++ one ∷ [] = pushed ∙ ap (λ (r : Result (Unit {0}) E). if is_ok r then mid ++ one ∷ [] else mid) is
+    ∙ ap (λ (xs : List Used). xs ++ one ∷ []) still in
+    added ∙ ap (λ (ks : List Bytes). ks ++ one.«package» ∷ []) kept ∙ sym (ap (λ (xs : List Used). packages_of (map used_in xs)) whole ∙ packages_last items one)
 
 -- the file that a package was given
 file_there : (place : ℕ) (file : Option p.Opened) (used : List p.Used) → place < length used → file_at place (with_opened place file used) ≡ file

@@ -5,7 +5,7 @@ use Rattle.bz_grammar.specs.Spell.{limit}
 use Rattle.bz_items.specs.Characters.{Bytes}
 use Rattle.bz_files.specs.Folder.{Folder}
 use Rattle.bz_streams.specs.Reported.{named_line}
-use Rattle.bz_workspace.specs.Found.{PackagesFound, first_name, found_at, found_in, second_name}
+use Rattle.bz_workspace.specs.Found.{PackagesFound, first_name, found_at, found_in, found_second, second_name}
 use Rattle.bz_workspace.specs.Journals.{OpensBeside, TakesBeside, journal_beside}
 use Rattle.bz_workspace.specs.Opens.{Opens}
 use Rattle.bz_workspace.specs.Packages.{Opened}
@@ -30,17 +30,13 @@ absent_opens : (journals : Bool) (current wanted name : Bytes) (folder : Folder)
 absent_opens journals current wanted name folder other file lines is held opens =
     subst (λ (bytes : Option Bytes). OpensBeside journals folder current (found_at wanted bytes other) file lines) (sym (ap (get folder) (sym is) ∙ held)) opens
 
--- what the second name of a package opens
-abbrev second_found : Folder → Bytes → Option PackagesFound
-second_found folder current = found_at (second_name current) (get folder (second_name current)) None
-
 pub second_opens : (journals : Bool) (current name front text : Bytes) (folder now : Folder) (file : Option Opened) (lines : List Bytes) → name ≡ second_name current
     → get folder name ≡ Some text → front ≡ take (limit + 1) text → now ≡ folder → TakesBeside (journal_beside journals now name) current name front file lines
-    → OpensBeside journals folder current (second_found folder current) file lines
+    → OpensBeside journals folder current (found_second folder current) file lines
 second_opens journals current name front text folder now file lines = there_opens journals current (second_name current) name front text folder now None file lines
 
 pub neither_opens : (journals : Bool) (current name : Bytes) (folder : Folder) → name ≡ second_name current → get folder name ≡ None
-    → OpensBeside journals folder current (second_found folder current) None (named_line name (codes "cannot open") ∷ [])
+    → OpensBeside journals folder current (found_second folder current) None (named_line name (codes "cannot open") ∷ [])
 neither_opens journals current name folder is held =
     absent_opens journals current (second_name current) name folder None None (named_line name (codes "cannot open") ∷ []) is held
     (refl, ap (λ (n : Bytes). named_line n (codes "cannot open") ∷ []) is)
@@ -49,14 +45,14 @@ pub first_opens : (journals : Bool) (current name front text : Bytes) (folder no
     → get folder name ≡ Some text → front ≡ take (limit + 1) text → now ≡ folder → TakesBeside (journal_beside journals now name) current name front file lines
     → OpensBeside journals folder current (found_in folder current) file lines
 first_opens journals current name front text folder now file lines =
-    there_opens journals current (first_name current) name front text folder now (second_found folder current) file lines
+    there_opens journals current (first_name current) name front text folder now (found_second folder current) file lines
 
 pub first_absent : (journals : Bool) (current name : Bytes) (folder now : Folder) (file : Option Opened) (lines : List Bytes) → name ≡ first_name current
-    → get folder name ≡ None → now ≡ folder → OpensBeside journals now current (second_found now current) file lines
+    → get folder name ≡ None → now ≡ folder → OpensBeside journals now current (found_second now current) file lines
     → OpensBeside journals folder current (found_in folder current) file lines
 first_absent journals current name folder now file lines is held same opens =
-    absent_opens journals current (first_name current) name folder (second_found folder current) file lines is held
-    (subst (λ (f : Folder). OpensBeside journals f current (second_found f current) file lines) same opens)
+    absent_opens journals current (first_name current) name folder (found_second folder current) file lines is held
+    (subst (λ (f : Folder). OpensBeside journals f current (found_second f current) file lines) same opens)
 
 -- without journals a file is opened as its text says
 pub plain_opens : (journals : Bool) (current : Bytes) (folder : Folder) (found : Option PackagesFound) (file : Option Opened) (lines : List Bytes) → journals ≡ false

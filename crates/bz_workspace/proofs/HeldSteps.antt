@@ -1,16 +1,13 @@
 -- A file that goes on is opened at the text that it holds.
-use Rattle.std.proofs.Common.{inl, inr, ◌≡◌, ◌∙◌, ℕ, Bool, true, false, List, [], ◌∷◌, Option, Some, None, Result, Ok, Err, refl, sym, ap, subst, bytes_eq}
+use Rattle.std.proofs.Common.{inl, inr, ◌≡◌, ◌∙◌, ℕ, Bool, true, false, List, Option, Some, None, Ok, refl, sym, ap, subst, bytes_eq}
 use Rattle.std.specs.Prelude.{if◌then◌else◌, unwrap_or}
-use Rattle.std.specs.FinMap.{get}
 use Rattle.std.proofs.lemmas.Slice.Eq.{bytes_eq-Decides}
 use Rattle.bz_grammar.specs.Legal.{Accepted}
 use Rattle.bz_items.specs.Characters.{Bytes}
 use Rattle.bz_files.specs.Folder.{Folder}
 use Rattle.bz_journal.specs.History.{History, present}
-use Rattle.bz_resume.specs.Pair.{journal_name}
 use Rattle.bz_resume.specs.Resuming.{IsRecordedBy}
 use Rattle.bz_resume.specs.Journals.{stands, text_at}
-use Rattle.bz_resume.specs.declared.fault.ResumeFault.{ResumeFault}
 use Rattle.bz_workspace.specs.Journals.{HeldFilesGoOn, TakesBeside, file_of_journal, journal_beside}
 use Rattle.bz_workspace.specs.Opens.{opened_fresh}
 use Rattle.bz_workspace.specs.Packages.{Opened, opened_with}

@@ -1,6 +1,7 @@
 -- What comes of a journal, by what its session says.
-use Rattle.std.proofs.Common.{◌≡◌, ◌≢◌, ◌⊎◌, ◌↔◌, ◌≤◌, ◌<◌, ◌+◌, inl, inr, ℕ, zero, suc, Bool, true, false, List, [], ◌∷◌, length, take, arith, refl, sym, ap, subst, ◌∙◌, Option, Some, None, Result, Ok, Err, length-take}
-use Rattle.std.specs.Prelude.{slice_index_or, bytes_eq, if◌then◌else◌}
+use Rattle.std.proofs.Common.{◌≡◌, ◌≢◌, ◌⊎◌, ◌↔◌, ◌≤◌, ◌<◌, ◌+◌, inl, inr, ℕ, zero, suc, Bool, true, false, List, [], ◌∷◌, length, take, ◌-◌, ◌^◌, arith, refl, sym, ap, subst, ◌∙◌, Option, Some, None, Result, Ok, Err, length-take}
+use Rattle.std.specs.Prelude.{Vec, slice_index_or, bytes_eq, if◌then◌else◌}
+use Rattle.std.specs.declared.alloc.Global.{Global}
 use Rattle.std.specs.FinMap.{get}
 use Rattle.std.specs.List.{All}
 use Rattle.std.proofs.lemmas.List.{take_all}
@@ -25,7 +26,7 @@ use Rattle.bz_journal.specs.History.{History}
 use Rattle.bz_journal.specs.Lasting.{IsResumedSession}
 use Rattle.bz_journal.specs.Shown.{session_history}
 use Rattle.bz_journal.specs.State.{SessionState}
-use Rattle.bz_workspace.specs.Journals.{JournalGives, JournalGivesOne, StandsAt, TakesBeside, file_of_journal, journal_beside, lines_of_journal}
+use Rattle.bz_workspace.specs.Journals.{JournalFault, JournalGives, JournalGivesOne, StandsAt, TakesBeside, file_of_journal, journal_beside, of_package, of_resuming}
 use Rattle.bz_workspace.specs.Opens.{Takes}
 use Rattle.bz_workspace.specs.Packages.{Opened, opened_with}
 use Rattle.bz_workspace.proofs.FrontSteps.{front_takes}
@@ -38,24 +39,19 @@ resumed_gives current bytes text s (h, es, journal, on) named =
     (h, on.at, ((es, journal), on.stands_there), sym (ap (λ (g : History). g.«package») on.history) ∙ named, on.history)
 
 pub other_gives : (current bytes text : Bytes) (s : SessionState) → IsResumedSession bytes text s → s.«package» ≢ current
-    → JournalGives current bytes text (Err f.Damaged)
+    → JournalGives current bytes text (Err (of_package s.«package»))
 other_gives current bytes text s (h, es, journal, on) other =
-    inl (h, on.at, ((es, journal), on.stands_there), λ same. other (ap (λ (g : History). g.«package») on.history ∙ same))
+    (h, on.at, ((es, journal), on.stands_there), sym (ap (λ (g : History). g.«package») on.history), other)
 
-pub fault_gives : (A : Type 0) (current bytes text : Bytes) (fault : ResumeFault) → (◌≡◌ {A = Result A ResumeFault} (Err fault) (Err f.Version) ↔ IsOtherVersion bytes)
+pub fault_gives : (A : Type 0) (current bytes text : Bytes) (fault : ResumeFault) → fault ≢ f.Memory
+    → (◌≡◌ {A = Result A ResumeFault} (Err fault) (Err f.Version) ↔ IsOtherVersion bytes)
     → (◌≡◌ {A = Result A ResumeFault} (Err fault) (Err f.Damaged) → NoJournal bytes)
     → (◌≡◌ {A = Result A ResumeFault} (Err fault) (Err f.Stale) → IsStale bytes text)
-    → (fault ≡ f.Memory) ⊎ JournalGives current bytes text (Err fault)
-fault_gives A current bytes text f.Memory version damaged stale = inl refl
-fault_gives A current bytes text f.Version version damaged stale = inr (version.0 refl)
-fault_gives A current bytes text f.Stale version damaged stale = inr (stale refl)
-fault_gives A current bytes text f.Damaged version damaged stale = inr (inr ((λ other. let e = version.1 other in absurd (cc)), damaged refl))
-
--- what is reported of a journal that is not resumed
-pub reported_gives : (current bytes text : Bytes) (fault : ResumeFault) → fault ≢ f.Memory → (fault ≡ f.Memory) ⊎ JournalGives current bytes text (Err fault)
-    → JournalGives current bytes text (Err fault)
-reported_gives current bytes text fault other (inl is) = absurd (other is)
-reported_gives current bytes text fault other (inr gives) = gives
+    → JournalGives current bytes text (Err (of_resuming fault))
+fault_gives A current bytes text f.Memory other version damaged stale = absurd (other refl)
+fault_gives A current bytes text f.Version other version damaged stale = version.0 refl
+fault_gives A current bytes text f.Stale other version damaged stale = stale refl
+fault_gives A current bytes text f.Damaged other version damaged stale = ((λ is. let e = version.1 is in absurd (cc)), damaged refl)
 
 -- an open file by the same name, text and session
 pub same_opened : (name called text read : Bytes) (s t : SessionState) → name ≡ called → text ≡ read → s ≡ t
@@ -85,46 +81,53 @@ one_standing bytes text h g at other one two =
     let place : at ≡ other = same_place h text at other one.1 (subst (λ (x : History). stands x text ≡ Some other) same two.1) in
     ap (λ (x : History). going_on x other) same ∙ ap (going_on h) (sym place)
 
-ok_one : (current bytes text : Bytes) (a : History) (other : Result History ResumeFault) → JournalGives current bytes text (Ok a)
+-- no fault of resuming comes of the journal of a history that matches the text
+not_refused : (current bytes text : Bytes) (h : History) (at : ℕ) (fault : ResumeFault) → StandsAt bytes text h at
+    → JournalGives current bytes text (Err (of_resuming fault)) → ⊥
+not_refused current bytes text h at f.Version one other = not_other bytes h one.0.0 other one.0.1
+not_refused current bytes text h at f.Stale one (g, es, two, none) =
+    not_both h text at one.1 (subst (λ (x : History). stands x text ≡ None) (one_history bytes h g one.0.0 es one.0.1 two) none)
+not_refused current bytes text h at f.Damaged one none = none.1 h one.0.0 one.0.1
+not_refused current bytes text h at f.Memory one gives = gives
+
+ok_one : (current bytes text : Bytes) (a : History) (other : Result History JournalFault) → JournalGives current bytes text (Ok a)
     → JournalGives current bytes text other → other ≡ Ok a
 ok_one current bytes text a (Ok b) (h, at, one, named, is) (g, place, two, called, was) = ap Ok (was ∙ one_standing bytes text h g at place one two ∙ sym is)
-ok_one current bytes text a (Err f.Version) (h, at, one, named, is) other = absurd (not_other bytes h one.0.0 other one.0.1)
-ok_one current bytes text a (Err f.Stale) (h, at, one, named, is) (g, es, two, none) =
-    absurd (not_both h text at one.1 (subst (λ (x : History). stands x text ≡ None) (one_history bytes h g one.0.0 es one.0.1 two) none))
-ok_one current bytes text a (Err f.Damaged) (h, at, one, named, is) (inl (g, place, two, other)) =
-    absurd (other (ap (λ (x : History). x.«package») (one_history bytes h g one.0.0 two.0.0 one.0.1 two.0.1) ∙ named))
-ok_one current bytes text a (Err f.Damaged) (h, at, one, named, is) (inr none) = absurd (none.1 h one.0.0 one.0.1)
-ok_one current bytes text a (Err f.Memory) gives other = absurd other
+ok_one current bytes text a (Err (of_package p)) (h, at, one, named, is) (g, place, two, of, other) =
+    absurd (other (sym of ∙ ap (λ (x : History). x.«package») (one_history bytes h g one.0.0 two.0.0 one.0.1 two.0.1) ∙ named))
+ok_one current bytes text a (Err (of_resuming fault)) (h, at, one, named, is) other = absurd (not_refused current bytes text h at fault one other)
 
-version_one : (current bytes text : Bytes) (other : Result History ResumeFault) → IsOtherVersion bytes → JournalGives current bytes text other
-    → other ≡ Err f.Version
-version_one current bytes text (Ok b) version (g, place, two, called, was) = absurd (not_other bytes g two.0.0 version two.0.1)
-version_one current bytes text (Err f.Version) version other = refl
-version_one current bytes text (Err f.Stale) version (g, es, two, none) = absurd (not_other bytes g es version two)
-version_one current bytes text (Err f.Damaged) version (inl (g, place, two, other)) = absurd (not_other bytes g two.0.0 version two.0.1)
-version_one current bytes text (Err f.Damaged) version (inr none) = absurd (none.0 version)
-version_one current bytes text (Err f.Memory) version other = absurd other
+package_one : (current bytes text p : Bytes) (other : Result History JournalFault) → JournalGives current bytes text (Err (of_package p))
+    → JournalGives current bytes text other → other ≡ Err (of_package p)
+package_one current bytes text p (Ok a) gives also = sym (ok_one current bytes text a (Err (of_package p)) also gives)
+package_one current bytes text p (Err (of_package q)) (h, at, one, of, other) (g, place, two, is, differs) =
+    ap (λ (x : Bytes). Err (of_package x)) (sym is ∙ ap (λ (x : History). x.«package») (one_history bytes h g one.0.0 two.0.0 one.0.1 two.0.1) ∙ of)
+package_one current bytes text p (Err (of_resuming fault)) (h, at, one, of, other) also = absurd (not_refused current bytes text h at fault one also)
 
-stale_one : (current bytes text : Bytes) (other : Result History ResumeFault) → IsStale bytes text → JournalGives current bytes text other
-    → other ≡ Err f.Stale
-stale_one current bytes text (Ok b) stale gives = sym (ok_one current bytes text b (Err f.Stale) gives stale)
-stale_one current bytes text (Err f.Version) stale version = sym (version_one current bytes text (Err f.Stale) version stale)
-stale_one current bytes text (Err f.Stale) stale other = refl
-stale_one current bytes text (Err f.Damaged) (h, es, one, none) (inl (g, place, two, other)) =
-    absurd (not_both g text place two.1 (subst (λ (x : History). stands x text ≡ None) (one_history bytes g h two.0.0 es two.0.1 one) none))
-stale_one current bytes text (Err f.Damaged) (h, es, one, none) (inr none_fits) = absurd (none_fits.1 h es one)
-stale_one current bytes text (Err f.Memory) stale other = absurd other
+one_fault : (current bytes text : Bytes) (fault other : ResumeFault) → JournalGives current bytes text (Err (of_resuming fault))
+    → JournalGives current bytes text (Err (of_resuming other)) → fault ≡ other
+one_fault current bytes text f.Version f.Version version also = refl
+one_fault current bytes text f.Version f.Stale version (g, es, two, none) = absurd (not_other bytes g es version two)
+one_fault current bytes text f.Version f.Damaged version also = absurd (also.0 version)
+one_fault current bytes text f.Version f.Memory version also = absurd also
+one_fault current bytes text f.Stale f.Version (g, es, two, none) version = absurd (not_other bytes g es version two)
+one_fault current bytes text f.Stale f.Stale stale also = refl
+one_fault current bytes text f.Stale f.Damaged (h, es, one, none) also = absurd (also.1 h es one)
+one_fault current bytes text f.Stale f.Memory stale also = absurd also
+one_fault current bytes text f.Damaged f.Version gives version = absurd (gives.0 version)
+one_fault current bytes text f.Damaged f.Stale gives (h, es, one, none) = absurd (gives.1 h es one)
+one_fault current bytes text f.Damaged f.Damaged gives also = refl
+one_fault current bytes text f.Damaged f.Memory gives also = absurd also
+one_fault current bytes text f.Memory other gives also = absurd gives
 
 pub one_given : JournalGivesOne
 one_given current bytes text (Ok a) other gives = λ also. sym (ok_one current bytes text a other gives also)
-one_given current bytes text (Err f.Version) other gives = λ also. sym (version_one current bytes text other gives also)
-one_given current bytes text (Err f.Stale) other gives = λ also. sym (stale_one current bytes text other gives also)
-one_given current bytes text (Err f.Damaged) (Ok b) gives = λ also. ok_one current bytes text b (Err f.Damaged) also gives
-one_given current bytes text (Err f.Damaged) (Err f.Version) gives = λ also. version_one current bytes text (Err f.Damaged) also gives
-one_given current bytes text (Err f.Damaged) (Err f.Stale) gives = λ also. stale_one current bytes text (Err f.Damaged) also gives
-one_given current bytes text (Err f.Damaged) (Err f.Damaged) gives = λ also. refl
-one_given current bytes text (Err f.Damaged) (Err f.Memory) gives = λ also. absurd also
-one_given current bytes text (Err f.Memory) other gives = absurd gives
+one_given current bytes text (Err (of_package p)) other gives = λ also. sym (package_one current bytes text p other gives also)
+one_given current bytes text (Err (of_resuming fault)) (Ok a) gives = λ also. ok_one current bytes text a (Err (of_resuming fault)) also gives
+one_given current bytes text (Err (of_resuming fault)) (Err (of_package p)) gives = λ also.
+    package_one current bytes text p (Err (of_resuming fault)) also gives
+one_given current bytes text (Err (of_resuming fault)) (Err (of_resuming other)) gives = λ also.
+    ap (λ (x : ResumeFault). Err (of_resuming x)) (one_fault current bytes text fault other gives also)
 
 -- ---- the first bytes of a text, one more than a text may have
 
@@ -164,16 +167,17 @@ not_long : (bytes text : Bytes) (h : History) (at : ℕ) → limit < length text
 not_long bytes text h at long stood = not_both h text at stood.1 (nowhere bytes text h stood.0.0 stood.0.1 long)
 
 -- what comes of a journal comes of it at each text that is too long
-long_gives : (current bytes one other : Bytes) (given : Result History ResumeFault) → limit < length one → limit < length other
+long_gives : (current bytes one other : Bytes) (given : Result History JournalFault) → limit < length one → limit < length other
     → JournalGives current bytes one given → JournalGives current bytes other given
 long_gives current bytes one other (Ok a) long past (h, at, stood, named, is) = absurd (not_long bytes one h at long stood)
-long_gives current bytes one other (Err f.Version) long past version = version
-long_gives current bytes one other (Err f.Stale) long past (h, es, journal, none) = (h, es, journal, nowhere bytes other h es journal past)
-long_gives current bytes one other (Err f.Damaged) long past (inl (h, at, stood, named)) = absurd (not_long bytes one h at long stood)
-long_gives current bytes one other (Err f.Damaged) long past (inr none) = inr none
-long_gives current bytes one other (Err f.Memory) long past gives = absurd gives
+long_gives current bytes one other (Err (of_package p)) long past (h, at, stood, named, differs) = absurd (not_long bytes one h at long stood)
+long_gives current bytes one other (Err (of_resuming f.Version)) long past version = version
+long_gives current bytes one other (Err (of_resuming f.Stale)) long past (h, es, journal, none) =
+    (h, es, journal, nowhere bytes other h es journal past)
+long_gives current bytes one other (Err (of_resuming f.Damaged)) long past none = none
+long_gives current bytes one other (Err (of_resuming f.Memory)) long past gives = absurd gives
 
-long_takes : (current name bytes one other : Bytes) (given : Result History ResumeFault) → limit < length one → limit < length other
+long_takes : (current name bytes one other : Bytes) (given : Result History JournalFault) → limit < length one → limit < length other
     → JournalGives current bytes one given → file_of_journal name one given ≡ file_of_journal name other given
 long_takes current name bytes one other (Ok a) long past (h, at, stood, named, is) = absurd (not_long bytes one h at long stood)
 long_takes current name bytes one other (Err fault) long past gives = refl
@@ -195,27 +199,29 @@ front_beside (Some bytes) current name front text file lines is (given, gives, o
 
 -- ---- a journal that was read
 
--- a list that is shorter than the most that was read is all that there was
-all_read : (reported bytes : Bytes) (most : ℕ) → length reported < most → reported ≡ take most bytes → reported ≡ bytes
-all_read reported bytes most less is =
-    let short : length (take most bytes) < most = subst (λ (it : Bytes). length it < most) is less in
-    is ∙ take_all most bytes (omega (arith, short, length-take most bytes))
+-- what is taken beside what was read of a journal, is taken beside what the folder has
+by_read : (journals : Bool) (folder : Folder) (current name journal text : Bytes) (read : Option Bytes) (file : Option Opened) (lines : List Bytes) → journals ≡ true
+    → journal ≡ journal_name name → get folder journal ≡ read → TakesBeside read current name text file lines
+    → TakesBeside (journal_beside journals folder name) current name text file lines
+by_read journals folder current name journal text read file lines kept called held takes =
+    let there : journal_beside journals folder name ≡ read = ap (λ (b : Bool). journal_beside b folder name) kept ∙ ap (get folder) (sym called) ∙ held in
+    subst (λ (beside : Option Bytes). TakesBeside beside current name text file lines) (sym there) takes
 
-pub read_beside : (journals : Bool) (folder : Folder) (current name journal reported bytes text : Bytes) (given : Result History ResumeFault) (most : ℕ) → journals ≡ true
-    → journal ≡ journal_name name → get folder journal ≡ Some bytes → length reported < most → reported ≡ take most bytes → JournalGives current reported text given
-    → TakesBeside (journal_beside journals folder name) current name text (file_of_journal name text given) (lines_of_journal name given)
-read_beside journals folder current name journal reported bytes text given most kept called held less is gives =
-    let there : journal_beside journals folder name ≡ Some reported =
-    ap (λ (b : Bool). journal_beside b folder name) kept ∙ ap (get folder) (sym called) ∙ held ∙ ap Some (sym (all_read reported bytes most less is)) in
-    subst (λ (beside : Option Bytes). TakesBeside beside current name text (file_of_journal name text given) (lines_of_journal name given)) (sym there)
-    (given, gives, refl, refl)
+-- a list has fewer elements than the most that are read of a journal, so that is all
+pub read_beside : (journals : Bool) (folder : Folder) (current name journal bytes reported text : Bytes) (read : Vec ℕ Global) (file : Option Opened) (lines : List Bytes)
+    → journals ≡ true → journal ≡ journal_name name → reported ≡ read.items → get folder journal ≡ Some bytes → read.items ≡ take (2 ^ 64 - 1) bytes
+    → TakesBeside (Some reported) current name text file lines → TakesBeside (journal_beside journals folder name) current name text file lines
+read_beside journals folder current name journal bytes reported text read file lines kept called same held is =
+    let ok = read.ok in
+    let small = read.small in
+    let cut : length read.items ≡ length (take (2 ^ 64 - 1) bytes) = ap length is in
+    let all = take_all (2 ^ 64 - 1) bytes (omega (arith, ok.0, ok.1, small, cut, length-take (2 ^ 64 - 1) bytes)) in
+    by_read journals folder current name journal text (Some reported) file lines kept called (held ∙ ap Some (sym (same ∙ is ∙ all)))
 
 pub none_beside : (journals : Bool) (folder : Folder) (current name journal text : Bytes) (file : Option Opened) (lines : List Bytes) → journals ≡ true
     → journal ≡ journal_name name → get folder journal ≡ None → Takes current name text file lines
     → TakesBeside (journal_beside journals folder name) current name text file lines
-none_beside journals folder current name journal text file lines kept called held takes =
-    let there : journal_beside journals folder name ≡ None = ap (λ (b : Bool). journal_beside b folder name) kept ∙ ap (get folder) (sym called) ∙ held in
-    subst (λ (beside : Option Bytes). TakesBeside beside current name text file lines) (sym there) takes
+none_beside journals folder current name journal text = by_read journals folder current name journal text None
 
 pub plain_beside : (journals : Bool) (folder : Folder) (current name text : Bytes) (file : Option Opened) (lines : List Bytes) → journals ≡ false
     → Takes current name text file lines → TakesBeside (journal_beside journals folder name) current name text file lines

@@ -1,5 +1,5 @@
 -- The file that an opening leaves, whatever comes.
-use Rattle.std.proofs.Common.{arith, ◌≡◌, ◌∙◌, ◌+◌, ◌<◌, ◌++◌, inl, inr, ℕ, suc, Bool, List, [], ◌∷◌, length, take, Option, Some, None, Result, Ok, Err, refl, sym, ap, subst}
+use Rattle.std.proofs.Common.{arith, ◌≡◌, ◌⊎◌, ◌∙◌, ◌+◌, ◌<◌, ◌++◌, inl, inr, ℕ, suc, Bool, List, [], ◌∷◌, length, take, Option, Some, None, Result, Ok, Err, refl, sym, ap, subst}
 use Rattle.std.specs.Prelude.{IfSome, IsSome, unwrap_or}
 use Rattle.std.specs.Option.{option_map}
 use Rattle.std.specs.FinMap.{get}
@@ -9,10 +9,15 @@ use Rattle.bz_files.specs.Folder.{Folder}
 use Rattle.bz_files.specs.declared.files.Files.{Ghosts as FilesOf}
 use Rattle.bz_files.proofs.Elapsing.{elapsed_on, stays}
 use Rattle.bz_journal.specs.History.{History}
-use Rattle.bz_resume.specs.declared.fault.ResumeFault.{ResumeFault}
+use Rattle.bz_resume.specs.Pair.{journal_name}
+use Rattle.bz_streams.specs.Outputs.{Reports}
+use Rattle.bz_streams.specs.declared.exit.Cut.{Cut}
+use Rattle.bz_streams.specs.declared.exit.Cut.TheVariants as c
+use Rattle.bz_streams.specs.declared.sink.Sink.{Ghosts as SinkOf}
 use Rattle.bz_workspace.specs.Found.{IsNameOf}
-use Rattle.bz_workspace.specs.Journals.{Adds, IsOpenedIn, Puts, TakesBeside, file_of_journal, journal_beside, lines_of_journal}
+use Rattle.bz_workspace.specs.Journals.{Adds, IsOpenedIn, JournalFault, JournalGives, Puts, TakesBeside, fault_lines, file_of_journal, journal_beside, lines_of_journal}
 use Rattle.bz_workspace.specs.Keeps.{KeepsFolder}
+use Rattle.bz_workspace.specs.Opens.{Fills}
 use Rattle.bz_workspace.specs.Packages.{Opened, Used, file_at, opened_with, with_opened}
 use Rattle.bz_workspace.proofs.FileSteps.{before_stay, none_stays, opened_there, put_last}
 use Rattle.bz_workspace.proofs.JournalSteps.{front_beside}
@@ -22,7 +27,7 @@ use Rattle.bz_workspace.proofs.JournalSteps.{front_beside}
 same_file : (one other : Opened) → ◌≡◌ {A = Option Opened} (Some one) (Some other) → one ≡ other
 same_file one other is = ap (λ (found : Option Opened). unwrap_or found one) is
 
-given_some : (name text : Bytes) (given : Result History ResumeFault) (file : Opened) (lines : List Bytes) → Some file ≡ file_of_journal name text given
+given_some : (name text : Bytes) (given : Result History JournalFault) (file : Opened) (lines : List Bytes) → Some file ≡ file_of_journal name text given
     → lines ≡ lines_of_journal name given → (file.name ≡ name) × (file.read ≡ text) × (lines ≡ [])
 given_some name text (Ok history) file lines is reported =
     let same = same_file file (opened_with name text history) is in (ap (λ (f : Opened). f.name) same, ap (λ (f : Opened). f.read) same, reported)
@@ -76,6 +81,38 @@ pub taken_put : (Trusted : Type 0) (journal : Option Bytes) (current name text :
 taken_put Trusted journal current name text place number before after None lines takes put at = (None, put, at, tt)
 taken_put Trusted journal current name text place number before after (Some file) lines takes put at =
     (Some file, put, at, λ trusted. taken journal current name text (Some file) lines (takes trusted))
+
+-- a file that fills a place as one thing says fills it as another does that follows
+pub fills_more : {E : Type 0} (sink : SinkOf E) (place : ℕ) (Is Now : Option Opened → List Bytes → Type 0) (number : Option ℕ) (before after : List Used) (old new : E)
+    → ((file : Option Opened) (lines : List Bytes) → Is file lines → Now file lines) → Fills sink Is place number before after old new
+    → Fills sink Now place number before after old new
+fills_more sink place Is Now number before after old new more (file, lines, is, put, at, reported) = (file, lines, more file lines is, put, at, reported)
+
+-- what an opening puts that memory alone may cut
+pub whole_put : {E : Type 0} (sink : SinkOf E) (Trusted : Type 0) (journal : Option Bytes) (current name text : Bytes) (Is : Option Opened → List Bytes → Type 0) (place : ℕ)
+    (cut : Cut) (number : Option ℕ) (before after : List Used) (old new : E) → file_at place before ≡ None
+    → (Trusted → (file : Option Opened) (lines : List Bytes) → Is file lines → TakesBeside journal current name text file lines)
+    → (cut ≡ c.Whole → Fills sink Is place number before after old new) → (cut ≡ c.Whole) ⊎ ((cut ≡ c.Memory) × (number ≡ None) × (after ≡ before))
+    → Puts place (λ f. Trusted → TakesBeside journal current name text (Some f) []) number before after
+whole_put sink Trusted journal current name text Is place cut number before after old new closed takes whole (inl is) =
+    let done = whole is in
+    taken_put Trusted journal current name text place number before after done.0 done.1 (λ trusted. takes trusted done.0 done.1 done.2) done.3 done.4
+whole_put sink Trusted journal current name text Is place cut number before after old new closed takes whole (inr memory) =
+    nothing_put place _ number before after closed memory.1 memory.2
+
+-- what a journal leaves that is refused
+pub refused_fills : {E : Type 0} (sink : SinkOf E) (current name journal bytes text : Bytes) (fault : JournalFault) (place : ℕ) (number : Option ℕ) (used : List Used) (old new : E)
+    → journal ≡ journal_name name → file_at place used ≡ None → number ≡ None → JournalGives current bytes text (Err fault)
+    → Reports (sink.faults old) (sink.faults new) (sink.contents old) (sink.contents new) (fault_lines journal fault)
+    → Fills sink (TakesBeside (Some bytes) current name text) place number used used old new
+refused_fills sink current name journal bytes text fault place number used old new named closed is gives reported = (
+  None,
+  fault_lines journal fault,
+  (Err fault, gives, refl, ap (λ (j : Bytes). fault_lines j fault) named),
+  sym (none_stays place used closed),
+  is,
+  reported,
+)
 
 pub puts_there : (place : ℕ) (Is : Opened → Type 0) (number : Option ℕ) (before after : List Used) → place < length before → Puts place Is number before after
     → IfSome number (λ at. IsSome (file_at at after))

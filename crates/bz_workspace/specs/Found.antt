@@ -25,9 +25,11 @@ found_at name (Some bytes) other = Some (name, bytes)
 found_at name None other = other
 
 -- The file of a package is `BUILD.bazel`, else `BUILD`.
+abbrev pub found_second : Folder → Bytes → Option PackagesFound
+found_second folder current = found_at (second_name current) (get folder (second_name current)) None
+
 abbrev pub found_in : Folder → Bytes → Option PackagesFound
-found_in folder current =
-    found_at (first_name current) (get folder (first_name current)) (found_at (second_name current) (get folder (second_name current)) None)
+found_in folder current = found_at (first_name current) (get folder (first_name current)) (found_second folder current)
 
 -- ---- files of other packages
 

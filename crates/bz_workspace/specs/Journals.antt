@@ -1,5 +1,6 @@
 -- How a file is opened that has a journal.
 use Rattle.std.specs.Prelude.{◌≡◌, ◌≢◌, ◌⊎◌, ◌++◌, ℕ, Bool, true, List, [], ◌∷◌, codes, length, if◌then◌else◌, Option, Some, None, IfSome, Result, Ok, Err}
+use Rattle.std.specs.List.{concat}
 use Rattle.std.specs.Option.{option_map}
 use Rattle.std.specs.FinMap.{get}
 use Rattle.bz_edit.specs.declared.edit.Edit.{Edit}
@@ -23,48 +24,48 @@ use Rattle.bz_workspace.specs.Packages.{Opened, Used, opened_with, with_opened}
 abbrev pub StandsAt : Bytes → Bytes → History → ℕ → Type 0
 StandsAt bytes text h at = ((es : List (List Edit)) × Journal bytes h es) × (stands h text ≡ Some at)
 
+-- why no history goes on with a journal: a fault of resuming it, or it is the journal of another package, which has this path
+pub data JournalFault : Type 0 where
+  of_resuming : ResumeFault → JournalFault
+  of_package : Bytes → JournalFault
+
 -- What comes of a journal for a file of this package that holds this text: the history that goes on at the number where it is
--- for the text; or why none does: the journal names another version, it matches the text nowhere, or it is the journal of another
+-- for the text; or why none does: the journal names another version, it matches the text nowhere, it is the journal of another
 -- package, or none at all.
-abbrev pub JournalGives : Bytes → Bytes → Bytes → Result History ResumeFault → Type 0
+abbrev pub JournalGives : Bytes → Bytes → Bytes → Result History JournalFault → Type 0
 JournalGives current bytes text (Ok history) =
     (h : History) × (at : ℕ) × StandsAt bytes text h at × (h.package ≡ current) × (history ≡ record h { cursor = at; before = at })
-JournalGives current bytes text (Err f.Version) = IsOtherVersion bytes
-JournalGives current bytes text (Err f.Stale) = IsStale bytes text
-JournalGives current bytes text (Err f.Damaged) =
-    ((h : History) × (at : ℕ) × StandsAt bytes text h at × (h.package ≢ current)) ⊎ ((IsOtherVersion bytes → ⊥) × NoJournal bytes)
-JournalGives current bytes text (Err f.Memory) = ⊥
+JournalGives current bytes text (Err (of_package other)) =
+    (h : History) × (at : ℕ) × StandsAt bytes text h at × (h.package ≡ other) × (other ≢ current)
+JournalGives current bytes text (Err (of_resuming f.Version)) = IsOtherVersion bytes
+JournalGives current bytes text (Err (of_resuming f.Stale)) = IsStale bytes text
+JournalGives current bytes text (Err (of_resuming f.Damaged)) = (IsOtherVersion bytes → ⊥) × NoJournal bytes
+JournalGives current bytes text (Err (of_resuming f.Memory)) = ⊥
 
--- the name and the number of a fault, as they are reported of a journal
-abbrev pub fault_word : ResumeFault → Bytes
-fault_word f.Memory = codes "Memory (8)"
-fault_word f.Damaged = codes "Damaged (71)"
-fault_word f.Version = codes "Version (72)"
-fault_word f.Stale = codes "Stale (73)"
-
-abbrev pub file_of_journal : Bytes → Bytes → Result History ResumeFault → Option Opened
+abbrev pub file_of_journal : Bytes → Bytes → Result History JournalFault → Option Opened
 file_of_journal name text (Ok history) = Some (opened_with name text history)
 file_of_journal name text (Err fault) = None
 
--- what may be done where a file holds no text that its journal matches
-abbrev pub stale_hint : Bytes → Bytes
-stale_hint journal = codes "buildozer: the file changed since the last run with --journal: restore it, or delete " ++ journal ++ codes " to begin a new history\n"
+-- What is reported of the journal with this name: the name and the number of the fault, and after it what may be done, where a file
+-- holds no text that its journal matches, and where the journal is of another package.
+abbrev pub fault_lines : Bytes → JournalFault → List Bytes
+fault_lines journal (of_resuming f.Memory) = named_line journal (codes "Memory (8)") ∷ []
+fault_lines journal (of_resuming f.Damaged) = named_line journal (codes "Damaged (71)") ∷ []
+fault_lines journal (of_resuming f.Version) = named_line journal (codes "Version (72)") ∷ []
+fault_lines journal (of_resuming f.Stale) = named_line journal (codes "Stale (73)")
+    ∷ (codes "buildozer: the file changed since the last run with --journal: restore it, or delete " ++ journal ++ codes " to begin a new history\n") ∷ []
+fault_lines journal (of_package other) = named_line journal (codes "Damaged (71)")
+    ∷ concat (codes "buildozer: " ∷ journal ∷ codes " was written for //" ∷ other ∷ codes ": move it back there, or delete it to begin a new history\n" ∷ []) ∷ []
 
-abbrev pub hints_of_journal : Bytes → ResumeFault → List Bytes
-hints_of_journal journal f.Memory = []
-hints_of_journal journal f.Damaged = []
-hints_of_journal journal f.Version = []
-hints_of_journal journal f.Stale = stale_hint journal ∷ []
-
-abbrev pub lines_of_journal : Bytes → Result History ResumeFault → List Bytes
+abbrev pub lines_of_journal : Bytes → Result History JournalFault → List Bytes
 lines_of_journal name (Ok history) = []
-lines_of_journal name (Err fault) = named_line (journal_name name) (fault_word fault) ∷ hints_of_journal (journal_name name) fault
+lines_of_journal name (Err fault) = fault_lines (journal_name name) fault
 
 -- A file without a journal is opened as its text says. One with a journal goes on with its history, or its fault is reported by the
 -- journal's name.
 abbrev pub TakesBeside : Option Bytes → Bytes → Bytes → Bytes → Option Opened → List Bytes → Type 0
 TakesBeside None current name text file lines = Takes current name text file lines
-TakesBeside (Some bytes) current name text file lines = (given : Result History ResumeFault) × JournalGives current bytes text given
+TakesBeside (Some bytes) current name text file lines = (given : Result History JournalFault) × JournalGives current bytes text given
     × (file ≡ file_of_journal name text given) × (lines ≡ lines_of_journal name given)
 
 -- the journal that is read beside a file: none where journals are not kept
@@ -100,7 +101,7 @@ Adds current Is number before after = ((after ≡ before) × (number ≡ None))
 
 -- One thing comes of a journal.
 abbrev pub JournalGivesOne : Type 0
-JournalGivesOne = (current bytes text : Bytes) (one other : Result History ResumeFault) → JournalGives current bytes text one
+JournalGivesOne = (current bytes text : Bytes) (one other : Result History JournalFault) → JournalGives current bytes text one
     → JournalGives current bytes text other → one ≡ other
 
 -- A file that goes on is opened, in its package and with its journal, at the text that it holds, and with all of its texts.

@@ -1,5 +1,6 @@
 -- How a package is opened, and what an action does in one.
 use Rattle.std.specs.Prelude.{◌≡◌, ◌⊎◌, ◌↔◌, ◌+◌, ℕ, List, [], ◌∷◌, take, codes, Option, Some, None}
+use Rattle.std.specs.Option.{option_map}
 use Rattle.bz_lex.specs.declared.fault.ReadFault.{ReadFault}
 use Rattle.bz_grammar.specs.Legal.{Accepted}
 use Rattle.bz_grammar.specs.Spell.{limit}
@@ -7,7 +8,9 @@ use Rattle.bz_items.specs.Characters.{Bytes}
 use Rattle.bz_journal.specs.Actions.{Action}
 use Rattle.bz_grammar.specs.Faults.{IsFaultOf}
 use Rattle.bz_journal.specs.History.{History, Answer, opened, Acts}
+use Rattle.bz_streams.specs.Outputs.{Reports}
 use Rattle.bz_streams.specs.Reported.{named_line, fault_line}
+use Rattle.bz_streams.specs.declared.sink.Sink.{Ghosts as SinkOf}
 use Rattle.bz_workspace.specs.Packages.{Opened, Used, file_at, opened_with, with_opened}
 use Rattle.bz_workspace.specs.Found.{PackagesFound, second_name}
 
@@ -30,6 +33,13 @@ FrontsAreReportedAlike = (current name text : Bytes) (file : Option Opened) (lin
 abbrev pub Opens : Bytes → Option PackagesFound → Option Opened → List Bytes → Type 0
 Opens current (Some found) file lines = Takes current found.0 found.1 file lines
 Opens current None file lines = (file ≡ None) × (lines ≡ named_line (second_name current) (codes "cannot open") ∷ [])
+
+-- The package with this number has a file from now on, or none, of which this is so, and the lines were printed. (Its number, where
+-- its file is open; the packages, and standard error, before and after.)
+abbrev pub Fills : {E : Type 0} → SinkOf E → (Option Opened → List Bytes → Type 0) → ℕ → Option ℕ → List Used → List Used → E → E → Type 0
+Fills sink Is place number before after old new = (file : Option Opened) × (lines : List Bytes) × Is file lines
+    × (after ≡ with_opened place file before) × (number ≡ option_map (λ _. place) file)
+    × Reports (sink.faults old) (sink.faults new) (sink.contents old) (sink.contents new) lines
 
 -- An action with a note is done in the open file of the package with this number.
 pub record ActsAt (place : ℕ) (action : Action) (note : Bytes) (before : List Used) (answer : Answer) (after : List Used) : Type 0 where

@@ -1,5 +1,6 @@
 //! What opening a file takes: its name, its bytes and its session.
-ghost use Rattle.std.specs.Prelude.{◌≡◌, ◌≢◌, ◌⊎◌, ◌≤◌, ◌∷◌, length, take, true, Some, None, Ok, Err, IfOk, IfErr, IsErrOf, string_bytes};
+ghost use Rattle.std.specs.Prelude.{◌≡◌, ◌≢◌, ◌⊎◌, ◌≤◌, [], ◌∷◌, length, map, take, true, Some, None, IfOk, IfErr, IsErrOf, string_bytes};
+ghost use Rattle.std.specs.List.{concat};
 ghost use Rattle.std.specs.FinMap.{get};
 ghost use Rattle.bz_grammar.specs.Legal.{Accepted};
 ghost use Rattle.bz_items.specs.Characters.{Bytes};
@@ -7,18 +8,16 @@ ghost use Rattle.bz_grammar.specs.Faults.{IsFaultOf};
 ghost use Rattle.bz_streams.specs.Faults.{Rises, AppendsUnlessFailed};
 ghost use Rattle.bz_streams.specs.Outputs.{Reports};
 ghost use Rattle.bz_streams.specs.Reported.{named_line};
-ghost use Rattle.bz_journal.specs.History.{History};
 ghost use Rattle.bz_workspace.specs.Found.{in_package};
-ghost use Rattle.bz_workspace.specs.Journals.{JournalGives, fault_word, hints_of_journal, stale_hint};
+ghost use Rattle.bz_workspace.specs.Journals.{fault_lines, of_resuming};
 ghost use Rattle.bz_workspace.specs.Keeps.{KeepsFolder};
 ghost use Rattle.bz_workspace.specs.Opens.{opened_fresh};
-ghost use Rattle.bz_workspace.specs.Packages.{opened_with};
 ghost use Rattle.bz_workspace.specs.Shown.{opened_in};
 
 use crate::Opened;
 use bz_files::{FileFault, Files};
 use bz_items::{Memory, Text};
-use bz_journal::{Editor, ResumeFault, Session};
+use bz_journal::{Editor, ResumeFault};
 use bz_lex::ReadFault;
 use bz_streams::{Cut, Sink, report, report_named};
 use std::alloc::Global;
@@ -32,11 +31,13 @@ pub struct Opening {
     pub cut: Cut,
 }
 
-/// No file is open.
-pub(crate) fn without_file(cut: Cut) -> Opening
-    ensures { result ≡ record { place = None; cut = cut } }
-{
-    Opening { place: None, cut }
+impl Opening {
+    /// What came of opening the package with this number, where its file is open.
+    pub(crate) fn new(place: Option<usize>, cut: Cut) -> Opening
+        ensures { result ≡ record { place = place; cut = cut } }
+    {
+        Opening { place, cut }
+    }
 }
 
 /// A file of a package, by its path below the current folder. The error: memory was refused.
@@ -88,84 +89,11 @@ pub(crate) fn opened(
     ensures ok { IfOk result (λ file. (opened_in file ≡ opened_fresh «package».now name.now text.items) × Accepted text.items) }
     ensures err { IfErr result (λ fault. (fault ≡ ReadFault.Memory) ⊎ ((Accepted text.items → ⊥) × IsFaultOf text.items fault)) }
 {
-    let editor = match Editor::open(alloc, package, text.as_slice()) {
-        Ok(editor) => editor,
-        Err(fault) => return Err(fault),
-    };
-    match String::from_str(alloc, name) {
-        Ok(name) => Ok(Opened::new(name, Text::from_vec(text), editor)),
-        Err(_) => Err(ReadFault::Memory),
-    }
-}
-
-/// The open file of a text that was read, with what its journal says. Errors: those of resuming the journal; `Damaged` also where it
-/// is the journal of another package's file; `Memory` where a growth was refused.
-pub(crate) fn resumed(
-    alloc: Global,
-    package: &str,
-    name: &str,
-    journal: &[u8],
-    text: Vec<u8>,
-) -> Result<Opened, ResumeFault>
-    ensures ok { IfOk result (λ file. (history : History) × JournalGives «package».now journal.now text.items (Ok history)
-        × (opened_in file ≡ opened_with name.now text.items history)) }
-    ensures err { IfErr result (λ fault. (fault ≡ ResumeFault.Memory) ⊎ JournalGives «package».now journal.now text.items (Err fault)) }
-{
-    let session = match Session::resume(alloc, journal, text.as_slice()) {
-        Ok(session) => session,
-        Err(fault) => return Err(fault),
-    };
-    if session.package() != package {
-        return Err(ResumeFault::Damaged);
-    }
     let name = String::from_str(alloc, name)?;
-    Ok(Opened::new(name, Text::from_vec(text), Editor::new(session)))
-}
-
-/// The name and the number of why a journal is refused, as they are printed after its name.
-fn reported_fault(fault: &ResumeFault) -> &'static str
-    ensures { result.now ≡ fault_word fault.now }
-{
-    match fault {
-        ResumeFault::Memory => "Memory (8)",
-        ResumeFault::Damaged => "Damaged (71)",
-        ResumeFault::Version => "Version (72)",
-        ResumeFault::Stale => "Stale (73)",
+    match Editor::open(alloc, package, text.as_slice()) {
+        Ok(editor) => Ok(Opened::new(name, Text::from_vec(text), editor)),
+        Err(fault) => Err(fault),
     }
-}
-
-/// Memory that was refused cuts a run, and no other fault of a journal.
-fn cut_of(fault: &ResumeFault) -> Cut
-    ensures whole { result ≡ Cut.Whole → fault.now ≢ ResumeFault.Memory }
-    ensures kinds { (result ≡ Cut.Whole) ⊎ (result ≡ Cut.Memory) }
-{
-    match fault {
-        ResumeFault::Memory => Cut::Memory,
-        _ => Cut::Whole,
-    }
-}
-
-// Prints what may be done where a journal matches the text of its file nowhere.
-fn report_hint<E: Sink>(err: &mut E, journal: &str, fault: &ResumeFault)
-    ensures { Reports (E.faults err.old) (E.faults err.new) (E.contents err.old) (E.contents err.new) (hints_of_journal journal.now fault.now) }
-{
-    match fault {
-        ResumeFault::Stale => report_stale(err, journal),
-        ResumeFault::Memory | ResumeFault::Damaged | ResumeFault::Version => {}
-    }
-}
-
-fn report_stale<'a, E: Sink>(err: &mut E, journal: &'a str)
-    ensures { AppendsUnlessFailed (E.faults err.old) (E.faults err.new) (E.contents err.old) (E.contents err.new) (stale_hint journal.entry.now) }
-{
-    report(
-        err,
-        &[
-            "buildozer: the file changed since the last run with --journal: restore it, or delete ",
-            journal,
-            " to begin a new history\n",
-        ],
-    );
 }
 
 /// Reports a word on a file, and no file is open.
@@ -175,20 +103,48 @@ pub(crate) fn fail<E: Sink>(err: &mut E, name: &str, word: &str, cut: Cut) -> Op
         (named_line name.now word.now) }
 {
     report_named(err, name, word);
-    without_file(cut)
+    Opening::new(None, cut)
 }
 
-/// Reports why a journal is refused, and after that what may be done; no file is open.
+/// Reports a word on a journal, and by these pieces what may be done; no file is open.
+pub(crate) fn fail_with_hint<E: Sink>(
+    err: &mut E,
+    journal: &str,
+    word: &str,
+    hint: &[&str],
+) -> Opening
+    ensures opening { result ≡ record { place = None; cut = Cut.Whole } }
+    ensures reported { Reports (E.faults err.old) (E.faults err.new) (E.contents err.old) (E.contents err.new)
+        (named_line journal.now word.now ∷ concat (map (λ piece. piece.now) hint.now) ∷ []) }
+{
+    let opening = fail(err, journal, word, Cut::Whole);
+    report(err, hint);
+    opening
+}
+
+/// Reports why a journal is not resumed, and after that what may be done; no file is open.
 pub(crate) fn unresumed<E: Sink>(err: &mut E, journal: &str, fault: &ResumeFault) -> Opening
     ensures place { result.place ≡ None }
     ensures whole { result.cut ≡ Cut.Whole → fault.now ≢ ResumeFault.Memory }
     ensures cut { (result.cut ≡ Cut.Whole) ⊎ (result.cut ≡ Cut.Memory) }
     ensures reported { Reports (E.faults err.old) (E.faults err.new) (E.contents err.old) (E.contents err.new)
-        (named_line journal.now (fault_word fault.now) ∷ hints_of_journal journal.now fault.now) }
+        (fault_lines journal.now (of_resuming fault.now)) }
 {
-    let opening = fail(err, journal, reported_fault(fault), cut_of(fault));
-    report_hint(err, journal, fault);
-    opening
+    match fault {
+        ResumeFault::Memory => fail(err, journal, "Memory (8)", Cut::Memory),
+        ResumeFault::Damaged => fail(err, journal, "Damaged (71)", Cut::Whole),
+        ResumeFault::Version => fail(err, journal, "Version (72)", Cut::Whole),
+        ResumeFault::Stale => fail_with_hint(
+            err,
+            journal,
+            "Stale (73)",
+            &[
+                "buildozer: the file changed since the last run with --journal: restore it, or delete ",
+                journal,
+                " to begin a new history\n",
+            ],
+        ),
+    }
 }
 
 /// Reports that memory was refused before a file of the package had its name, and no file is open.
@@ -197,5 +153,5 @@ pub(crate) fn unnamed<E: Sink>(err: &mut E, package: &str) -> Opening
 {
     let slash = if package.is_empty() { "" } else { "/" };
     report(err, &[package, slash, "BUILD", ": Memory\n"]);
-    without_file(Cut::Memory)
+    Opening::new(None, Cut::Memory)
 }

@@ -1,20 +1,17 @@
 //! The packages that a run has used, and their files.
-ghost use Rattle.std.specs.Prelude.{◌≡◌, ◌<◌, ◌==◌, ◌||◌, not, true, map, length, Some, IsSome, string_bytes};
+ghost use Rattle.std.specs.Prelude.{◌≡◌, ◌<◌, ◌==◌, ◌||◌, not, true, map, length, string_bytes};
 ghost use Rattle.std.specs.Option.{option_map};
 ghost use Rattle.bz_journal.specs.Actions.{action_in};
-ghost use Rattle.bz_journal.specs.History.{History, Acts};
+ghost use Rattle.bz_journal.specs.History.{History};
 ghost use Rattle.bz_journal.specs.Keeping.{IsRefused, Keeps};
 ghost use Rattle.bz_journal.specs.Shown.{session_history};
-ghost use Rattle.bz_workspace.specs.Packages as p;
-ghost use Rattle.bz_workspace.specs.Keeps.{KeepsAt, KeepsFile, after_keeping};
-ghost use Rattle.bz_workspace.specs.Opens.{ActsAt};
-ghost use Rattle.bz_workspace.specs.Packages.{file_at, opened_with, with_opened};
+ghost use Rattle.bz_workspace.specs.Keeps.{KeepsFile, after_keeping};
+ghost use Rattle.bz_workspace.specs.Packages.{opened_with, with_opened};
 ghost use Rattle.bz_workspace.specs.Shown.{opened_in, used_in};
 
 use bz_files::Files;
 use bz_items::Text;
 use bz_journal::{Action, Editor, KeepFault, Reply};
-use bz_value::Refusal;
 
 /// A file that is open.
 #[derive(Drop)]
@@ -62,7 +59,7 @@ impl Opened {
     }
 
     /// The same, and what became of the two is marked.
-    fn keep<F: Files>(
+    pub(crate) fn keep<F: Files>(
         &mut self,
         action: &Action<'_>,
         note: &str,
@@ -119,49 +116,4 @@ pub(crate) fn put_file(used: &mut Vec<Used>, place: usize, file: Option<Opened>)
     ensures { map used_in used.new.items ≡ with_opened place (option_map opened_in file) (map used_in used.old.items) }
 {
     used[place].file = file;
-}
-
-/// The number of the package, where its file is open.
-pub(crate) fn place_of_open(place: usize, used: &Used) -> Option<usize>
-    ensures { result ≡ option_map (λ _. place) used.now.file }
-{
-    match used.file {
-        Some(_) => Some(place),
-        None => None,
-    }
-}
-
-/// Does an action with a note in the open file of the package with this number.
-pub(crate) fn act_at(
-    used: &mut Vec<Used>,
-    place: usize,
-    action: &Action<'_>,
-    note: &str,
-) -> Result<Reply, Refusal>
-    requires within { place < length used.old.items }
-    requires there { IsSome (file_at place (map used_in used.old.items)) }
-    ensures { ActsAt place (action_in action.now) note.now (map used_in used.old.items) result (map used_in used.new.items) }
-{
-    match &mut used[place].file {
-        Some(opened) => opened.editor.act_noted(action, note),
-        None => unreachable!(),
-    }
-}
-
-/// The same, and its journal and it are kept.
-pub(crate) fn keep_at<F: Files>(
-    used: &mut Vec<Used>,
-    place: usize,
-    action: &Action<'_>,
-    note: &str,
-    files: &mut F,
-) -> Result<Reply, KeepFault>
-    requires within { place < length used.old.items }
-    requires there { IsSome (file_at place (map used_in used.old.items)) }
-    ensures { KeepsAt F.Files place (action_in action.now) note.now (map used_in used.old.items) result (map used_in used.new.items) files.old files.new }
-{
-    match &mut used[place].file {
-        Some(opened) => opened.keep(action, note, files),
-        None => unreachable!(),
-    }
 }

@@ -1,27 +1,27 @@
 //! The packages of a run, each found by its path in one step.
 ghost use Rattle.std.specs.Prelude.{◌≡◌, ◌⊎◌, ◌≤◌, ◌<◌, ℕ, [], ◌∷◌, ◌++◌, List, Option, map, length, take, true, false, Some, None, IsSome, IfSome, OnOk, OnErr, IfOk};
 ghost use Rattle.std.specs.Option.{option_map};
-ghost use Rattle.std.specs.FinMap.{get};
+ghost use Rattle.bz_resume.specs.Pair.{journal_name};
 ghost use Rattle.bz_items.specs.Characters.{Bytes};
 ghost use Rattle.bz_streams.specs.Faults.{Rises};
 ghost use Rattle.bz_streams.specs.Outputs.{Counts, Reports};
-ghost use Rattle.bz_workspace.specs.Found.{found_in, found_at, second_name};
+ghost use Rattle.bz_workspace.specs.Found.{found_in, found_second};
 ghost use Rattle.bz_workspace.specs.Kept.{texts_of_keys, packages_of};
 ghost use Rattle.bz_journal.specs.Actions.{action_in};
 ghost use Rattle.bz_journal.specs.Keeping.{IsWriteOrOpen};
 ghost use Rattle.bz_workspace.specs.Journals.{Adds, IsOpenedIn, OpensBeside, Puts, TakesBeside, journal_beside};
 ghost use Rattle.bz_workspace.specs.Keeps.{KeepsAt, KeepsFolder};
-ghost use Rattle.bz_workspace.specs.Opens.{ActsAt, Opens, Takes};
+ghost use Rattle.bz_workspace.specs.Opens.{ActsAt, Fills, Opens, Takes};
 ghost use Rattle.bz_workspace.specs.Packages as p;
 ghost use Rattle.bz_workspace.specs.Packages.{file_at, package_number, with_opened};
 ghost use Rattle.bz_workspace.specs.Shown.{opened_in, used_in};
 
-use crate::opening::{bytes_of, fail, name_in, opened, resumed, unnamed, unresumed, without_file};
-use crate::used::{act_at, keep_at, place_of_open, put_file};
+use crate::opening::{bytes_of, fail, fail_with_hint, name_in, opened, unnamed, unresumed};
+use crate::used::put_file;
 use crate::{Opened, Opening, Used};
 use bz_files::{FileFault, Files};
 use bz_items::{Memory, Text, at};
-use bz_journal::{Action, KeepFault, Reply};
+use bz_journal::{Action, Editor, KeepFault, Reply, Session};
 use bz_lex::ReadFault;
 use bz_resume::journal_name;
 use bz_streams::{Cut, MOST, Sink, report_fault, report_named};
@@ -50,38 +50,6 @@ impl Model for Workspace {
     ghost invariant = { λ workspace. texts_of_keys workspace.names.keys ≡ packages_of (map used_in workspace.used.items) };
 }
 
-/// The number of a key.
-fn place_in(names: &IndexSet<Vec<u8>>, package: &[u8]) -> Option<usize>
-    ensures { (used : List p.Used) → texts_of_keys names.now.keys ≡ packages_of used → result ≡ package_number «package».now used }
-{
-    names.get_index_of(package)
-}
-
-/// The package, which is none of them, is the last one from now on, with no file. The error: memory was refused, and all is as before.
-fn append(
-    alloc: Global,
-    names: &mut IndexSet<Vec<u8>>,
-    used: &mut Vec<Used>,
-    package: &[u8],
-) -> Result<(), Memory>
-    requires kept { texts_of_keys names.old.keys ≡ packages_of (map used_in used.old.items) }
-    requires new { package_number «package».now (map used_in used.old.items) ≡ None }
-    ensures names { OnOk result (texts_of_keys names.new.keys ≡ texts_of_keys names.old.keys ++ «package».now ∷ []) }
-    ensures used { OnOk result (map used_in used.new.items ≡ map used_in used.old.items ++ record { «package» = «package».now; file = None } ∷ []) }
-    ensures err { OnErr result ((texts_of_keys names.new.keys ≡ texts_of_keys names.old.keys) × (used.new.items ≡ used.old.items)) }
-{
-    let key = Vec::from_slice(alloc, package)?;
-    let package = Text::from_slice(alloc, package)?;
-    used.reserve(1)?;
-    names.insert(key)?;
-    used.push(Used {
-        package,
-        file: None,
-    })
-    .unwrap();
-    Ok(())
-}
-
 impl Workspace {
     /// No packages.
     pub fn new(alloc: Global) -> Workspace
@@ -97,7 +65,7 @@ impl Workspace {
     pub fn place(&self, package: &[u8]) -> Option<usize>
         ensures { result ≡ package_number «package».now self.now }
     {
-        place_in(&self.names, package)
+        self.names.get_index_of(package)
     }
 
     /// The package, which was not used before, is the last one from now on, with no file. Returned: its number. The error:
@@ -110,7 +78,15 @@ impl Workspace {
     {
         let place = self.used.len();
         let alloc = *self.used.allocator();
-        append(alloc, &mut self.names, &mut self.used, package)?;
+        let key = Vec::from_slice(alloc, package)?;
+        let package = Text::from_slice(alloc, package)?;
+        self.used.reserve(1)?;
+        self.names.insert(key)?;
+        let used = Used {
+            package,
+            file: None,
+        };
+        self.used.push(used).unwrap();
         Ok(place)
     }
 
@@ -119,7 +95,8 @@ impl Workspace {
         ensures { result ≡ option_map (λ _. place) (file_at place self.now) }
     {
         match at(&self.used, place) {
-            Some(used) => place_of_open(place, used),
+            Some(used) if used.file.is_some() => Some(place),
+            Some(_) => None,
             None => None,
         }
     }
@@ -132,10 +109,7 @@ impl Workspace {
         ensures there { IsSome (file_at place self.new) }
     {
         put_file(&mut self.used, place, Some(file));
-        Opening {
-            place: Some(place),
-            cut: Cut::Whole,
-        }
+        Opening::new(Some(place), Cut::Whole)
     }
 
     /// Opens the file of a used package with what was read of it, or reports its fault: `NAME:LINE:COLUMN: FAULT`,
@@ -151,11 +125,8 @@ impl Workspace {
     ) -> Opening
         requires short { length «package».now ≤ 65536 }
         requires within { place < length self.old }
-        ensures whole { result.cut ≡ Cut.Whole → (file : Option p.Opened) × (lines : List Bytes)
-            × Takes «package».now name.now text.items file lines
-            × (self.new ≡ with_opened place file self.old)
-            × (result.place ≡ option_map (λ _. place) file)
-            × Reports (E.faults err.old) (E.faults err.new) (E.contents err.old) (E.contents err.new) lines }
+        ensures whole { result.cut ≡ Cut.Whole
+            → Fills E.Sink (Takes «package».now name.now text.items) place result.place self.old self.new err.old err.new }
         ensures cut { (result.cut ≡ Cut.Whole) ⊎ ((result.cut ≡ Cut.Memory) × (result.place ≡ None) × (self.new ≡ self.old)) }
         ensures there { IfSome result.place (λ at. IsSome (file_at at self.new)) }
     {
@@ -166,11 +137,58 @@ impl Workspace {
         };
         report_fault(err, name, &fault);
         match fault {
-            ReadFault::Memory => without_file(Cut::Memory),
+            ReadFault::Memory => Opening::new(None, Cut::Memory),
             _ => {
                 put_file(&mut self.used, place, None);
-                without_file(Cut::Whole)
+                Opening::new(None, Cut::Whole)
             }
+        }
+    }
+
+    /// Opens the file of a used package as its journal says, whose bytes these are, or reports why no history goes on with it, and what may
+    /// be done. It is cut where memory was refused.
+    fn open_resumed<E: Sink>(
+        &mut self,
+        place: usize,
+        package: &str,
+        name: &str,
+        text: Vec<u8>,
+        journal: &str,
+        bytes: &[u8],
+        err: &mut E,
+    ) -> Opening
+        requires within { place < length self.old }
+        requires closed { file_at place self.old ≡ None }
+        requires named { journal.now ≡ journal_name name.now }
+        ensures whole { result.cut ≡ Cut.Whole
+            → Fills E.Sink (TakesBeside (Some bytes.now) «package».now name.now text.items) place result.place self.old self.new err.old err.new }
+        ensures cut { (result.cut ≡ Cut.Whole) ⊎ ((result.cut ≡ Cut.Memory) × (result.place ≡ None) × (self.new ≡ self.old)) }
+    {
+        let alloc = *self.used.allocator();
+        let session = match Session::resume(alloc, bytes, text.as_slice()) {
+            Ok(session) => session,
+            Err(fault) => return unresumed(err, journal, &fault),
+        };
+        if session.package() != package {
+            return fail_with_hint(
+                err,
+                journal,
+                "Damaged (71)",
+                &[
+                    "buildozer: ",
+                    journal,
+                    " was written for //",
+                    session.package(),
+                    ": move it back there, or delete it to begin a new history\n",
+                ],
+            );
+        }
+        match String::from_str(alloc, name) {
+            Ok(name) => self.put(
+                place,
+                Opened::new(name, Text::from_vec(text), Editor::new(session)),
+            ),
+            Err(_) => fail(err, journal, "Memory (8)", Cut::Memory),
         }
     }
 
@@ -189,12 +207,12 @@ impl Workspace {
         requires short { length «package».now ≤ 65536 }
         requires within { place < length self.old }
         requires closed { file_at place self.old ≡ None }
-        ensures whole { F.honest files.old ≡ true → result.cut ≡ Cut.Whole → (file : Option p.Opened) × (lines : List Bytes)
-            × TakesBeside (journal_beside journals (F.folder files.old) name.now) «package».now name.now text.items file lines
-            × (self.new ≡ with_opened place file self.old)
-            × (result.place ≡ option_map (λ _. place) file)
-            × Reports (E.faults err.old) (E.faults err.new) (E.contents err.old) (E.contents err.new) lines }
-        ensures puts { Puts place (λ file. F.honest files.old ≡ true → TakesBeside (journal_beside journals (F.folder files.old) name.now) «package».now name.now text.items (Some file) []) result.place self.old self.new }
+        ensures whole { F.honest files.old ≡ true → result.cut ≡ Cut.Whole
+            → Fills E.Sink (TakesBeside (journal_beside journals (F.folder files.old) name.now) «package».now name.now text.items) place result.place
+            self.old self.new err.old err.new }
+        ensures puts { Puts place (λ file. F.honest files.old ≡ true
+            → TakesBeside (journal_beside journals (F.folder files.old) name.now) «package».now name.now text.items (Some file) [])
+            result.place self.old self.new }
         ensures folder { F.honest files.old ≡ true → F.folder files.new ≡ F.folder files.old }
         ensures time { F.honest files.old ≡ true → KeepsFolder F.Files files.old files.new }
         ensures cut { (result.cut ≡ Cut.Whole) ⊎ (result.cut ≡ Cut.Memory) ⊎ ((result.cut ≡ Cut.Files) × Rises (F.faults files.old) (F.faults files.new)) }
@@ -211,10 +229,15 @@ impl Workspace {
         };
         let journal = journal.as_str();
         match bytes_of(alloc, files, journal, usize::MAX) {
-            Ok(bytes) => match resumed(alloc, package, name, bytes.as_slice(), text) {
-                Ok(file) => self.put(place, file),
-                Err(fault) => unresumed(err, journal, &fault),
-            },
+            Ok(bytes) => self.open_resumed(
+                place,
+                package,
+                name,
+                text,
+                journal,
+                bytes.as_slice(),
+                err,
+            ),
             Err(FileFault::Absent) => self.open_text(place, package, name, text, err),
             Err(FileFault::Memory) => fail(err, journal, "Memory", Cut::Memory),
             Err(_) => fail(err, journal, "cannot open", Cut::Files),
@@ -233,11 +256,9 @@ impl Workspace {
         requires short { length «package».now ≤ 65536 }
         requires within { place < length self.old }
         requires closed { file_at place self.old ≡ None }
-        ensures second { F.honest files.old ≡ true → result.cut ≡ Cut.Whole → (file : Option p.Opened) × (lines : List Bytes)
-            × OpensBeside journals (F.folder files.old) «package».now (found_at (second_name «package».now) (get (F.folder files.old) (second_name «package».now)) None) file lines
-            × (self.new ≡ with_opened place file self.old)
-            × (result.place ≡ option_map (λ _. place) file)
-            × Reports (E.faults err.old) (E.faults err.new) (E.contents err.old) (E.contents err.new) lines }
+        ensures second { F.honest files.old ≡ true → result.cut ≡ Cut.Whole
+            → Fills E.Sink (OpensBeside journals (F.folder files.old) «package».now (found_second (F.folder files.old) «package».now)) place result.place
+            self.old self.new err.old err.new }
         ensures puts { Puts place (λ file. F.honest files.old ≡ true → IsOpenedIn journals (F.folder files.old) «package».now file) result.place self.old self.new }
         ensures folder { F.honest files.old ≡ true → F.folder files.new ≡ F.folder files.old }
         ensures time { F.honest files.old ≡ true → KeepsFolder F.Files files.old files.new }
@@ -271,11 +292,9 @@ impl Workspace {
         requires short { length «package».now ≤ 65536 }
         requires within { place < length self.old }
         requires closed { file_at place self.old ≡ None }
-        ensures first { F.honest files.old ≡ true → result.cut ≡ Cut.Whole → (file : Option p.Opened) × (lines : List Bytes)
-            × OpensBeside journals (F.folder files.old) «package».now (found_in (F.folder files.old) «package».now) file lines
-            × (self.new ≡ with_opened place file self.old)
-            × (result.place ≡ option_map (λ _. place) file)
-            × Reports (E.faults err.old) (E.faults err.new) (E.contents err.old) (E.contents err.new) lines }
+        ensures first { F.honest files.old ≡ true → result.cut ≡ Cut.Whole
+            → Fills E.Sink (OpensBeside journals (F.folder files.old) «package».now (found_in (F.folder files.old) «package».now)) place result.place
+            self.old self.new err.old err.new }
         ensures puts { Puts place (λ file. F.honest files.old ≡ true → IsOpenedIn journals (F.folder files.old) «package».now file) result.place self.old self.new }
         ensures folder { F.honest files.old ≡ true → F.folder files.new ≡ F.folder files.old }
         ensures time { F.honest files.old ≡ true → KeepsFolder F.Files files.old files.new }
@@ -296,10 +315,7 @@ impl Workspace {
             Err(_) => {
                 report_named(err, name, "cannot open");
                 let opening = self.open_second(place, package, journals, files, err);
-                Opening {
-                    place: opening.place,
-                    cut: Cut::Files,
-                }
+                Opening::new(opening.place, Cut::Files)
             }
         }
     }
@@ -348,10 +364,7 @@ impl Workspace {
         ensures honest { F.honest files.new ≡ F.honest files.old }
     {
         if let Some(place) = self.place(package.as_bytes()) {
-            return Opening {
-                place: self.opened_at(place),
-                cut: Cut::Whole,
-            };
+            return Opening::new(self.opened_at(place), Cut::Whole);
         }
         match self.add(package.as_bytes()) {
             Ok(place) => self.open_first(place, package, journals, files, err),
@@ -365,7 +378,10 @@ impl Workspace {
         requires { IsSome (file_at place self.old) }
         ensures { ActsAt place (action_in action.now) note.now self.old result self.new }
     {
-        act_at(&mut self.used, place, action, note)
+        match &mut self.used[place].file {
+            Some(opened) => opened.editor.act_noted(action, note),
+            None => unreachable!(),
+        }
     }
 
     /// The same, and where the text is another one then, the file's journal and it are replaced. Errors: those of
@@ -384,7 +400,10 @@ impl Workspace {
         ensures count { F.faults files.old ≤ F.faults files.new }
         ensures honest { F.honest files.new ≡ F.honest files.old }
     {
-        keep_at(&mut self.used, place, action, note, files)
+        match &mut self.used[place].file {
+            Some(opened) => opened.keep(action, note, files),
+            None => unreachable!(),
+        }
     }
 
     /// The packages that were used, in order of first use.

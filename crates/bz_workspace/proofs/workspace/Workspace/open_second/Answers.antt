@@ -4,23 +4,18 @@ use Rattle.bz_workspace.specs.declared.opening.Opening.{Opening}
 use Rattle.bz_workspace.proofs.FileSteps.{none_stays}
 use Rattle.bz_workspace.proofs.FoundSteps.{second_opens, neither_opens}
 use Rattle.bz_files.specs.Folder.{Folder}
-use Rattle.bz_workspace.specs.Journals.{IsOpenedIn, TakesBeside, journal_beside}
-use Rattle.bz_workspace.proofs.OpenedSteps.{is_opened, nothing_put, puts_more, still_on}
+use Rattle.bz_workspace.specs.Journals.{TakesBeside, journal_beside}
+use Rattle.bz_workspace.proofs.OpenedSteps.{fills_more, is_opened, nothing_put, puts_more, still_on}
 use Rattle.bz_workspace.proofs.workspace.Workspace.open_second.Goals as goal
 
 pub returns-in-Ok-bytes_of-clause-second : goal.returns-in-Ok-bytes_of-clause-second
 returns-in-Ok-bytes_of-clause-second g c = λ honest cut.
     let read = c.in-Ok-bytes_of.ensures in
-    let done = c.open_found.ensures.whole (read.honest ∙ honest) cut in
-    let held = read.found honest in (
-      done.0,
-      done.1,
-      second_opens c.args.journals c.args.package.now c.as_str-name.result.now c.in-Ok-bytes_of.text.items held.0 (g.F.Files.folder c.args.files.now)
-          (g.F.Files.folder c.bytes_of.new.files) done.0 done.1 (c.as_str-name.ensures.value ∙ c.in-Ok.ensures) held.1 held.2 (read.folder honest) done.2,
-      done.3,
-      done.4,
-      done.5,
-    )
+    let held = read.found honest in
+    fills_more g.E.Sink c.args.place _ _ _ c.args.self.now c.open_found.new.self c.args.err.now c.open_found.new.err
+    (λ file lines. second_opens c.args.journals c.args.package.now c.as_str-name.result.now c.in-Ok-bytes_of.text.items held.0 (g.F.Files.folder c.args.files.now)
+    (g.F.Files.folder c.bytes_of.new.files) file lines (c.as_str-name.ensures.value ∙ c.in-Ok.ensures) held.1 held.2 (read.folder honest))
+    (c.open_found.ensures.whole (read.honest ∙ honest) cut)
 
 pub returns-in-Err-Absent-clause-second : goal.returns-in-Err-Absent-clause-second
 returns-in-Err-Absent-clause-second g c = λ honest cut.

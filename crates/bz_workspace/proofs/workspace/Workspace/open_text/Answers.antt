@@ -20,6 +20,6 @@ returns-in_default-clause-whole g c = λ _.
       fault_line name fault ∷ [],
       refused_takes c.args.package.now name c.args.text.items fault c.in-Err.ensures.err c.in_default.not-Memory,
       c.put_file.ensures ∙ ap (with_opened c.args.place None) c.self.view_is,
-      ap (λ (o : Opening). o.place) c.without_file-in_default.ensures,
+      ap (λ (o : Opening). o.place) c.new-in_default.ensures,
       (g.E.Sink.faults c.report_fault.new.err, g.E.Sink.contents c.report_fault.new.err, c.report_fault.ensures, (refl, refl)),
     )
