@@ -97,7 +97,8 @@ pub fn shortened<'a>(current: &[u8], text: &'a [u8]) -> &'a [u8]
     &text[text.len() - parts.name.len() - 1..]
 }
 
-fn group(text: &[u8]) -> u8
+/// The group of a key, by what it begins with: `:` is 1, `//` 2, `@` 3, and anything else 0.
+pub fn group(text: &[u8]) -> u8
     ensures { result ≡ group_of text.now }
 {
     match text {

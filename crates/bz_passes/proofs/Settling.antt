@@ -3,11 +3,11 @@ use Rattle.std.proofs.Common.{Bool, true, false, ◌&&◌, List, ◌≡◌, refl
 use Rattle.std.specs.Ordering.{is_lt}
 use Rattle.std.specs.Cmp.{IsStrictWeakOrder}
 use Rattle.std.proofs.lemmas.Bool.{and_right, and_parts}
-use Rattle.std.proofs.lemmas.Cmp.{nat_cmp_total, nat_list_cmp_total, then_total, on_total}
+use Rattle.std.proofs.lemmas.Cmp.{nat_cmp_total, nat_list_cmp_total, then_total, on_total, back_total}
 use Rattle.std.proofs.lemmas.List.MinMax.{ranks_by}
 use Rattle.bz_token.specs.declared.class.Class.TheVariants as c
 use Rattle.bz_grammar.specs.declared.kind.Kind.TheVariants as k
-use Rattle.bz_label.specs.Keys.{bytes_order}
+use Rattle.bz_label.specs.Keys.{bytes_order, group_of}
 use Rattle.bz_label.specs.Tables.{is_sorted, is_label_attribute, priority_of}
 use Rattle.bz_value.specs.declared.value.Expr.{Expr}
 use Rattle.bz_value.specs.declared.value.Item.{Item}
@@ -20,7 +20,7 @@ use Rattle.bz_passes.specs.Orders.{sort_by}
 use Rattle.bz_rule.specs.QuoteMarks.{between}
 use Rattle.bz_passes.specs.Marks.{any_marked, leave_alone}
 use Rattle.bz_passes.specs.Lists.{settled_list}
-use Rattle.bz_passes.specs.Passes.{on_statement, taken, on_taken, on_call, on_rule_arguments, on_attribute, quoted, quotes, labelled, labelled_value, labels_in, labels, sorted_value, in_assign, lists_in, lists, argument_order, argument_name, argument_precedes, arguments_in, arguments, symbol_precedes, symbols_in, symbols, path_group, path_order, path_of, is_loose_load, load_precedes, loads, tidied}
+use Rattle.bz_passes.specs.Passes.{on_statement, taken, on_taken, on_call, on_rule_arguments, on_attribute, quoted, quotes, labelled, labelled_value, labels_in, labels, sorted_value, in_assign, lists_in, lists, argument_order, argument_name, argument_precedes, arguments_in, arguments, symbol_precedes, symbols_in, symbols, path_order, path_of, is_loose_load, load_precedes, loads, tidied}
 use Rattle.bz_rule.specs.QuoteMarks.{local_name}
 use Rattle.bz_passes.proofs.Keeping.{Keeps, Settles, both, map_keeps, map_settles, third_settles, third_keeps_map, map_keeps_third, after_settles, after_keeps_map, map_keeps_after, test_keeps, test_settles, keeps_tested, tested_keeps}
 use Rattle.bz_passes.proofs.Sorting.{sort_settles, sort_keeps, map_keeps_sort}
@@ -210,7 +210,7 @@ flags_taken p h = map_keeps item_with_flags (on_statement (taken p)) (each_flags
 -- ---- loads
 
 load_order : IsStrictWeakOrder (λ (x y : Expr). is_lt (path_order (path_of x) (path_of y)))
-load_order = ranks_by (then_total (on_total path_group nat_cmp_total) nat_list_cmp_total) path_of
+load_order = ranks_by (then_total (on_total group_of (back_total nat_cmp_total)) nat_list_cmp_total) path_of
 
 pub load_one_way : (x y : Item) → load_precedes x y ≡ true → load_precedes y x ≡ false
 load_one_way (i.Block lines) y h = cc

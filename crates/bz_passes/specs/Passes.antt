@@ -5,9 +5,8 @@ use Rattle.std.specs.declared.cmp.Ordering.{Ordering}
 use Rattle.bz_token.specs.declared.class.Class.TheVariants as c
 use Rattle.bz_grammar.specs.declared.kind.Kind.TheVariants as k
 use Rattle.bz_grammar.specs.Shapes.{is_class}
-use Rattle.bz_label.specs.Pieces.{is_at, is_colon, is_slash}
 use Rattle.bz_label.specs.Tables.{is_sorted, is_label_attribute, priority_of}
-use Rattle.bz_label.specs.Keys.{bytes_order}
+use Rattle.bz_label.specs.Keys.{group_of, bytes_order}
 use Rattle.bz_value.specs.declared.value.Expr.{Expr, Token, Form', Row_of-Expr, end_of-Expr, more_of-Expr}
 use Rattle.bz_value.specs.declared.value.Expr.TheVariants as e
 use Rattle.bz_value.specs.declared.value.Item.{Item}
@@ -134,17 +133,9 @@ symbols = on_taken symbols_in
 
 -- ---- loads: each longest run of adjacent loads without comments above by path, then old order (law `sorting_is_the_one`)
 
--- by what a path begins with: @ 0, // 1, : 2, others 3
-abbrev pub path_group_from_slash : Bytes → ℕ
-path_group_from_slash [] = 3
-path_group_from_slash (second ∷ s) = if is_slash second then 1 else 3
-
-abbrev pub path_group : Bytes → ℕ
-path_group [] = 3
-path_group (first ∷ s) = if is_at first then 0 else (if is_colon first then 2 else (if is_slash first then path_group_from_slash s else 3))
-
+-- by what a path begins with, in the reverse order of keys: @, then //, then :, then others; then by its bytes
 abbrev pub path_order : Bytes → Bytes → Ordering
-path_order x y = ordering_then (nat_cmp (path_group x) (path_group y)) (bytes_order x y)
+path_order x y = ordering_then (nat_cmp (group_of y) (group_of x)) (bytes_order x y)
 
 abbrev pub path_of : Expr → Bytes
 path_of x = between (first_text (items_of x))

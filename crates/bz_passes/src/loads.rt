@@ -1,35 +1,23 @@
 //! The loads of a file, sorted run by run.
 ghost use Rattle.std.specs.Prelude.{◌≡◌, OnOk};
 ghost use Rattle.bz_passes.specs.Orders.{sort_by};
-ghost use Rattle.bz_passes.specs.Passes.{is_loose_load as is_loose, is_run_load, load_path, load_precedes, path_group as group_of, path_of as path_in, path_order as order_of};
+ghost use Rattle.bz_passes.specs.Passes.{is_loose_load as is_loose, is_run_load, load_path, load_precedes, path_of as path_in, path_order as order_of};
 ghost use Rattle.bz_passes.specs.private.Ranks.{path_ranks};
 
 use crate::runs::{InRuns, sort_runs};
 use bz_grammar::Kind;
 use bz_items::Memory;
+use bz_label::bytes::group;
 use bz_rule::{between, first_text};
 use bz_value::{Expr, Item};
 use std::alloc::Global;
 use std::cmp::Ordering;
 
-/// Where a path comes by what it begins with: a repository, a package, a file of the same package, anything else.
-fn path_group(path: &[u8]) -> usize
-    ensures { result ≡ group_of path.now }
-{
-    match path {
-        [b'@', ..] => 0,
-        [b'/', b'/', ..] => 1,
-        [b':', ..] => 2,
-        _ => 3,
-    }
-}
-
+/// By what paths begin with, in the reverse order of keys, then by their bytes.
 fn path_order(path: &[u8], other: &[u8]) -> Ordering
     ensures { result ≡ order_of path.now other.now }
 {
-    path_group(path)
-        .cmp(&path_group(other))
-        .then(path.cmp(other))
+    group(other).cmp(&group(path)).then(path.cmp(other))
 }
 
 /// The path of a load: the text between the quote marks of its first item.
