@@ -1,5 +1,5 @@
 -- New parts of a file value: no comments, no sequence split, no break.
-use Rattle.std.specs.Prelude.{Bool, false, List, [], ◌∷◌, ◌++◌, codes, if◌then◌else◌, map, nat_eq, nat_lt}
+use Rattle.std.specs.Prelude.{Bool, false, List, [], ◌∷◌, ◌++◌, codes, if◌then◌else◌, nat_eq, nat_lt}
 use Rattle.std.specs.List.{slice_split}
 use Rattle.bz_token.specs.declared.class.Class.{Class}
 use Rattle.bz_token.specs.declared.class.Class.TheVariants as c
@@ -48,9 +48,6 @@ string_of current attribute word = token c.String (string_text current attribute
 
 abbrev pub list_of : List Expr → Expr
 list_of items = sequence k.List [] items
-
-abbrev pub strings_of : Bytes → Bytes → List Bytes → Expr
-strings_of current attribute words = list_of (map (string_of current attribute) words)
 
 -- ---- sums
 

@@ -165,8 +165,8 @@ clauses close = sub first_clause (each clause (tok close done))
 
 -- an opening bracket: a list or a dict, or a comprehension
 abbrev pub bracketed : List Terminal → List Terminal → Nonterminal → Kind → Kind → Plan
-bracketed open_break close nonterminal whole comprehension =
-    one open_break (choose (finish whole (tok close done)) (piece nonterminal (choose (finish comprehension (clauses close)) (finish whole (more_items nonterminal close)))))
+bracketed opening close nonterminal whole comprehension =
+    one opening (choose (finish whole (tok close done)) (piece nonterminal (choose (finish comprehension (clauses close)) (finish whole (more_items nonterminal close)))))
 
 abbrev pub square : Plan
 square = bracketed open_square close_square test k.List k.ListComp

@@ -88,8 +88,8 @@ hosts_from separators n (x ∷ xs) =
 abbrev pub in_node : Frame → Kind → ℕ → List Measured → List Region
 in_node row kind n xs = in_row n xs
 in_node (sequence opener closer) kind n xs =
-    let open_break : ℕ = n + sizes (take (lead kind) xs) in
-    in_row n (take (lead kind) xs) ++ between open_break (n + sizes xs) ∷ hosts_from s.comma_mark (suc open_break) (drop (suc (lead kind)) xs)
+    let opening : ℕ = n + sizes (take (lead kind) xs) in
+    in_row n (take (lead kind) xs) ++ between opening (n + sizes xs) ∷ hosts_from s.comma_mark (suc opening) (drop (suc (lead kind)) xs)
 
 abbrev mutual
   pub measured : Part → Measured
@@ -123,18 +123,18 @@ pub data CommentPlace : Type 0 where
 abbrev pub ending_at : ℕ → List Region → Option ℕ
 ending_at leaf [] = None
 ending_at leaf (host first following next ∷ rs) = if nat_eq next leaf then Some first else ending_at leaf rs
-ending_at leaf (between open_break following ∷ rs) = ending_at leaf rs
+ending_at leaf (between opening following ∷ rs) = ending_at leaf rs
 
 -- the item that begins next in a sequence
 abbrev pub beginning_in : ℕ → ℕ → List Region → Option ℕ
 beginning_in leaf following [] = None
 beginning_in leaf following (host first b next ∷ rs) = if nat_le leaf first && nat_lt first following then Some first else beginning_in leaf following rs
-beginning_in leaf following (between open_break b ∷ rs) = beginning_in leaf following rs
+beginning_in leaf following (between opening b ∷ rs) = beginning_in leaf following rs
 
 -- the gap of the leaf is in the region
 abbrev pub holds_gap : ℕ → Region → Bool
 holds_gap leaf (host first following next) = nat_lt first leaf && nat_lt leaf following
-holds_gap leaf (between open_break following) = nat_lt open_break leaf && nat_lt leaf following
+holds_gap leaf (between opening following) = nat_lt opening leaf && nat_lt leaf following
 
 -- Regions are inside one another or apart, in the order in which they begin: the innermost around a gap is the last that
 -- holds it.
@@ -143,14 +143,14 @@ innermost leaf found [] = found
 innermost leaf found (r ∷ rs) = innermost leaf (if holds_gap leaf r then Some r else found) rs
 
 abbrev pub place_at_end : ℕ → Option ℕ → CommentPlace
-place_at_end open_break (Some first) = above first
-place_at_end open_break None = end_of open_break
+place_at_end opening (Some first) = above first
+place_at_end opening None = end_of opening
 
 -- In a host: above it. In a sequence: above the item that begins next, or at its end where none does.
 abbrev pub place_in : ℕ → List Region → Option Region → CommentPlace
 place_in leaf rs None = outside
 place_in leaf rs (Some (host first following next)) = above first
-place_in leaf rs (Some (between open_break following)) = place_at_end open_break (beginning_in leaf following rs)
+place_in leaf rs (Some (between opening following)) = place_at_end opening (beginning_in leaf following rs)
 
 abbrev pub place_unless : Option ℕ → CommentPlace → CommentPlace
 place_unless (Some first) place = suffix_of first
@@ -183,7 +183,7 @@ pub data Hosted : Type 0 where
 
 abbrev pub hosted_at : List Region → List Comment → Region → Hosted
 hosted_at rs cs (host first following next) = hosted (texts_at rs (above first) cs) (texts_at rs (suffix_of first) cs)
-hosted_at rs cs (between open_break following) = ended (texts_at rs (end_of open_break) cs)
+hosted_at rs cs (between opening following) = ended (texts_at rs (end_of opening) cs)
 
 -- groups on their own; an empty one is none
 abbrev pub hosts_alone : List (List Bytes) → List Hosted

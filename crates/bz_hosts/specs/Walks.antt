@@ -1,4 +1,4 @@
--- For private functions only: what the walk over a tree has so far. No definition here is to be trusted by a reader.
+-- What the walk over a tree has so far. Public calls state `seq_in` alone; the others are for private functions.
 use Rattle.std.specs.Prelude.{ℕ, Bool, zero, suc, false, not, nat_eq, List, [], ◌∷◌, ◌++◌, Option, None, ◌&&◌, map, take, drop}
 use Rattle.bz_grammar.specs.declared.kind.Kind.{Kind}
 use Rattle.bz_value.specs.declared.value.Form.{Form}

@@ -10,8 +10,6 @@ use Rattle.bz_journal.specs.Actions.{Do, Format, Undo, Redo}
 use Rattle.bz_journal.specs.declared.action.Reply.{Reply}
 use Rattle.bz_journal.specs.declared.action.Reply.TheVariants.{Changed, Same, Printed, Moved}
 use Rattle.bz_journal.specs.Meaning.{Meaning, gives, refuses, Means, Formats}
--- the path of the file's package, the texts in the order in which they came, a note of each step between two of them, the number of
--- the present text, and that of the one that was present before it
 pub use Rattle.bz_resume.specs.Journals.{History}
 
 abbrev pub present : History → Bytes

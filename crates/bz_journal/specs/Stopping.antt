@@ -29,5 +29,5 @@ abbrev pub StoppedIsResumed : Type 0
 StoppedIsResumed =
     (file : Bytes) (h after : History) (old now : Folder) (text bytes : Bytes) (result : Result SessionState ResumeFault)
     → Survives file h after old now → get now file ≡ Some text → get now (journal_name file) ≡ Some bytes
-    → ((printed_answer : History) (es : List (List Edit)) → Journal bytes printed_answer es → IsKnownSession printed_answer es text result)
+    → ((stored : History) (es : List (List Edit)) → Journal bytes stored es → IsKnownSession stored es text result)
     → ResumesAt h.«package» h.texts text result ⊎ ResumesAt h.«package» after.texts text result

@@ -15,6 +15,6 @@ gap_below (Some item) items = before_next item items
 abbrev pub LayoutsJoin : Type 0
 LayoutsJoin = (front : List Item) (item : Item) (items : List Item) → layout ((front ++ item ∷ []) ++ items) ≡ layout (front ++ item ∷ []) ++ (before_next item items ++ layout items)
 
--- and the tree of both layouts is as deep as the deeper one
+-- and the tree of both layouts is no deeper than the deeper one
 abbrev pub DepthsJoin : Type 0
 DepthsJoin = (front items : List Item) (depth : ℕ) → depth_of (laid_out front) ≤ depth → depth_of (laid_out items) ≤ depth → depth_of (laid_out (front ++ items)) ≤ depth

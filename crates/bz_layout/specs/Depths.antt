@@ -1,4 +1,4 @@
--- How deep what is laid out of a value is, as the private functions that look at it state it.
+-- How deep what is laid out of a value is, as the functions that look at it state it.
 use Rattle.std.specs.Prelude.{ℕ, suc, max, List, [], ◌∷◌}
 use Rattle.bz_value.specs.declared.value.Expr.{Expr, Token, Form', Row_of-Expr, end_of-Expr, more_of-Expr}
 use Rattle.bz_value.specs.declared.value.Form.{Form}

@@ -1,4 +1,4 @@
--- The texts of what is in a form, as the private functions that write them state them.
+-- The texts of what is in a form, as the functions that write them state them.
 use Rattle.std.specs.Prelude.{ℕ, Bool, ◌&&◌, List, [], ◌∷◌, ◌++◌, ◌+◌, None, length, nat_eq, map, if◌then◌else◌}
 use Rattle.std.specs.List.{flat_map}
 use Rattle.bz_grammar.specs.declared.kind.Kind.{Kind}

@@ -31,7 +31,7 @@ pub record Holds (folder : Folder) (file current text : Text) (texts : List Text
 abbrev pub Resumes : Folder → Text → Text → List Text → Type 0
 Resumes folder file current texts = (text : Text) × Holds folder file current text texts
 
--- one action leads from h to this history: the text before its present one is the one that is present in h
+-- one action leads from h to this history: the text that was present before it is the one that is present in h
 abbrev pub FollowsKept : History → History → Type 0
 FollowsKept h after = (after.package ≡ h.package) × (text_at after after.before ≡ present h)
 

@@ -1,4 +1,4 @@
--- What the private functions compute: the map of the code as names with places, and marks by places.
+-- What an index of names holds: the map of the code as names with places, and marks by places.
 use Rattle.std.specs.Prelude.{◌≡◌, ℕ, Bool, true, List, [], ◌∷◌, ◌++◌, Option, Vec, if◌then◌else◌, map, slice_set}
 use Rattle.std.specs.Option.{option_and_then}
 use Rattle.std.specs.declared.alloc.Global.{Global}

@@ -104,7 +104,7 @@ abbrev pub JournalGivesOne : Type 0
 JournalGivesOne = (current bytes text : Bytes) (one other : Result History JournalFault) → JournalGives current bytes text one
     → JournalGives current bytes text other → one ≡ other
 
--- A file that goes on is opened, in its package and with its journal, at the text that it holds, and with all of its texts.
+-- A file that goes on and holds an accepted text is opened, in its package and with its journal, at that text, and with all of its texts.
 abbrev pub HeldFilesGoOn : Type 0
 HeldFilesGoOn = (folder : Folder) (name current text : Bytes) (texts : List Bytes) (file : Option Opened) (lines : List Bytes)
     → Holds folder name current text texts → Accepted text → TakesBeside (journal_beside true folder name) current name text file lines

@@ -25,7 +25,7 @@ pub fn still_is_same()
     ensures { StillIsSame }
 {}
 
-/// A file that goes on is opened, in its package and with its journal, at the text that it holds, and with all of its texts. So what a stop
+/// A file that goes on and holds an accepted text is opened, in its package and with its journal, at that text, and with all of its texts. So what a stop
 /// leaves is gone on with.
 pub fn held_files_go_on()
     ensures { HeldFilesGoOn }

@@ -1,4 +1,4 @@
-//! Uses each public name by the crate that it is promised in, and prints what comes of it: while this program is built, one that
+//! Uses each promised name by the crate that it is promised in, and prints what comes of it: while this program is built, one that
 //! is written over these names goes on working.
 #![tactic(auto)]
 
