@@ -12,9 +12,8 @@ use Rattle.bz_journal.specs.Meaning.{Meaning, gives, refuses}
 use Rattle.bz_resume.specs.Pair.{journal_name}
 use Rattle.bz_resume.specs.Resuming.{Holds, IsRecordedBy, OthersStay}
 use Rattle.bz_resume.specs.Journals.{stands, text_at}
-use Rattle.bz_resume.specs.declared.fault.ResumeFault.{ResumeFault}
 use Rattle.bz_workspace.specs.Found.{PackagesFound, IsNameOf, first_name, found_at, found_in, second_name}
-use Rattle.bz_workspace.specs.Journals.{JournalGives, OpensBeside, TakesBeside, file_of_journal}
+use Rattle.bz_workspace.specs.Journals.{JournalFault, JournalGives, OpensBeside, TakesBeside, file_of_journal}
 use Rattle.bz_workspace.specs.Packages.{Opened, Used, file_at, package_number, with_opened}
 use Rattle.bz_workspace.specs.Sessions.{Action, Do, Format, Undo, Redo, Reply, Changed, Moved, History, Answer, Leads, present}
 use Rattle.bz_buildozer.specs.Keeping.{AllAreKept, AnswersBeside, DoesBeside, FolderAfter, IsApart, RunsBeside, IsKeptIn, UsesBeside, file_after}
@@ -244,7 +243,7 @@ all_after answer (suc place) (used ∷ more) file history folder folder' at foll
 
 -- ---- a package that is opened
 
-given_stands : (folder : Folder) (current name text bytes : Bytes) (given : Result History ResumeFault) → IsNameOf current name → get folder name ≡ Some text
+given_stands : (folder : Folder) (current name text bytes : Bytes) (given : Result History JournalFault) → IsNameOf current name → get folder name ≡ Some text
     → get folder (journal_name name) ≡ Some bytes → JournalGives current bytes text given → IfSome (file_of_journal name text given) (IsKeptIn folder current)
 given_stands folder current name text bytes (Err fault) named there beside comes = tt
 given_stands folder current name text bytes (Ok history) named there beside (h, at, ((es, journal), stood), of, is) =
