@@ -30,10 +30,14 @@ def shape(tag, **attributes):
     return f"<{tag} " + " ".join(f'{name.replace("_", "-")}="{value}"' for name, value in attributes.items()) + "/>"
 
 
-def words(x, y, text, size=13, fill=INK, anchor="middle", **further):
+# how a text is where it doesn't say otherwise
+TEXT = {"font_size": 13, "fill": INK, "text_anchor": "middle"}
+
+
+def words(x, y, text, **further):
     """A line of text at a place."""
-    attributes = {"x": x, "y": y, "font_size": size, "fill": fill, "text_anchor": anchor, **further}
-    return shape("text", **attributes)[:-2] + f">{escape(text)}</text>"
+    other = {name: value for name, value in further.items() if TEXT.get(name) != value}
+    return shape("text", x=x, y=y, **other)[:-2] + f">{escape(text)}</text>"
 
 
 def box(x, y, width, height, fill, stroke=LINE, **further):
@@ -43,7 +47,8 @@ def box(x, y, width, height, fill, stroke=LINE, **further):
 def picture(width, height, title, elements):
     """The whole file: on paper of its own, so that it reads on a dark page too."""
     front = f'<svg xmlns="http://www.w3.org/2000/svg" viewBox="0 0 {width} {height}" width="{width}" height="{height}"'
-    head = [f'{front} font-family="Helvetica, Arial, sans-serif" role="img">', f"<title>{escape(title)}</title>"]
+    text = shape("", **TEXT)[1:-2]
+    head = [f'{front} font-family="Helvetica, Arial, sans-serif"{text} role="img">', f"<title>{escape(title)}</title>"]
     paper = shape("rect", width=width, height=height, rx=8, fill=PAPER)
     return "\n".join([*head, paper, *elements, "</svg>", ""])
 
@@ -133,16 +138,16 @@ def places(levels, lower, upper):
             near = {one: [*lower.get(one, []), *upper.get(one, [])] for one in level}
             across.update(spread(level, {one: middle(one, near, across) for one in level}))
     least = min(across[one] - width_of(one) / 2 for one in across)
-    return {one: round(at - least + MARGIN, 1) for one, at in across.items()}
+    return {one: round(at - least + MARGIN) for one, at in across.items()}
 
 
 def curve(points):
     """A line through the points, upright in each."""
-    drawn = "M {} {}".format(*points[0])
+    drawn = "M{} {}".format(*points[0])
     for (x, y), (to_x, to_y) in zip(points, points[1:]):
-        between = round((y + to_y) / 2, 1)
-        drawn += f" C {x} {between} {to_x} {between} {to_x} {to_y}"
-    return shape("path", d=drawn, fill="none", stroke=LINE, stroke_width=1.3)
+        between = (y + to_y) // 2
+        drawn += f"V{to_y}" if x == to_x else f"C{x} {between} {to_x} {between} {to_x} {to_y}"
+    return shape("path", d=drawn)
 
 
 def line_through(chain, across, height_of):
@@ -156,10 +161,10 @@ def line_through(chain, across, height_of):
 
 def crate(name, x, y, others, is_program):
     """A crate, with those of others that it names below its own name."""
-    drawn = [box(round(x - WIDE / 2, 1), y, WIDE, HIGH, PROGRAM if is_program else LIBRARY)]
+    drawn = [box(x - WIDE // 2, y, WIDE, HIGH, PROGRAM if is_program else LIBRARY)]
     drawn.append(words(x, y + (15 if others else 21), name))
     if others:
-        drawn.append(words(x, y + 28, " ".join(others), size=9, fill=FAINT))
+        drawn.append(words(x, y + 28, " ".join(others), font_size=9, fill=FAINT))
     return drawn
 
 
@@ -194,7 +199,8 @@ def layers():
         return MARGIN + (len(levels) - 1 - at) * (HIGH + DOWN)
 
     used = {use for its in uses.values() for use in its}
-    drawn = [line_through(chain, across, height_of) for chain in lines]
+    drawn = [shape("g", fill="none", stroke=LINE, stroke_width=1.3)[:-2] + ">"]
+    drawn += [*(line_through(chain, across, height_of) for chain in lines), "</g>"]
     for name in uses:
         drawn += crate(name, across[name], height_of(name), others[name], name not in used)
     width = round(max(across[one] + width_of(one) / 2 for one in across) + MARGIN)
@@ -212,9 +218,9 @@ def a_text(number, x, y, is_present):
     """A text of a history: the present one is the tree that the session keeps, the others are kept as steps only."""
     if is_present:
         drawn = [box(x - 40, y, 80, 44, MARKED, stroke="#2f7d4a", stroke_width=2)]
-        drawn += [words(x, y + 18, f"text {number}"), words(x, y + 34, "the tree", size=11, fill=FAINT)]
+        drawn += [words(x, y + 18, f"text {number}"), words(x, y + 34, "the tree", font_size=11, fill=FAINT)]
         drawn.append(shape("path", d=f"M {x - 7} {y - 16} L {x + 7} {y - 16} L {x} {y - 4} Z", fill="#2f7d4a"))
-        return [*drawn, words(x, y - 21, "cursor", size=11, fill="#2f7d4a")]
+        return [*drawn, words(x, y - 21, "cursor", font_size=11, fill="#2f7d4a")]
     drawn = [box(x - 40, y, 80, 44, PAPER, stroke_dasharray="4 3")]
     return [*drawn, words(x, y + 26, f"text {number}", fill=FAINT)]
 
@@ -222,13 +228,13 @@ def a_text(number, x, y, is_present):
 def a_step(number, x, y, holds, is_marked):
     """A step between two texts, with the side that it holds."""
     drawn = [box(x - 34, y + 4, 68, 36, PROGRAM if is_marked else LIBRARY, stroke="#b4762a" if is_marked else LINE)]
-    drawn.append(words(x, y + 19, f"step {number}", size=12))
-    return [*drawn, words(x, y + 33, holds, size=9, fill=FAINT)]
+    drawn.append(words(x, y + 19, f"step {number}", font_size=12))
+    return [*drawn, words(x, y + 33, holds, font_size=9, fill=FAINT)]
 
 
 def a_history(y, title, remark, texts, cursor, marked):
     """A row: its title, the texts with the steps between them, and a remark below."""
-    drawn = [words(MARGIN, y, title, size=14, anchor="start", font_weight="bold")]
+    drawn = [words(MARGIN, y, title, font_size=14, text_anchor="start", font_weight="bold")]
     top, left = y + 46, MARGIN + 44
     drawn.append(shape("path", d=f"M {left} {top + 22} H {left + (texts - 1) * STRIDE}", stroke=LINE, stroke_width=1.3))
     for number in range(texts):
@@ -236,7 +242,7 @@ def a_history(y, title, remark, texts, cursor, marked):
     for number in range(1, texts):
         side = "earlier parts" if number <= cursor else "later parts"
         drawn += a_step(number, left + number * STRIDE - STRIDE // 2, top, side, number == marked)
-    return [*drawn, *(words(MARGIN, top + 66 + 17 * at, line, size=12, fill=FAINT, anchor="start") for at, line in enumerate(remark))]
+    return [*drawn, *(words(MARGIN, top + 66 + 17 * at, line, font_size=12, fill=FAINT, text_anchor="start") for at, line in enumerate(remark))]
 
 
 HISTORIES = [

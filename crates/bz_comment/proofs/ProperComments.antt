@@ -17,7 +17,7 @@ use Rattle.bz_value.specs.Commented.{with_comments}
 use Rattle.bz_value.specs.Gaps.{trimmed}
 use Rattle.bz_value.specs.Proper.{IsComment, AreComments, ProperExpr, comments_of, IsProperItem}
 use Rattle.bz_value.proofs.GapComments.{suffix_fine}
-use Rattle.bz_value.proofs.Lines.{NoneBefore, comment_stops}
+use Rattle.bz_value.proofs.Lines.{NoneBefore, line_stops}
 use Rattle.bz_command_syntax.specs.Commands.{is_one_line}
 use Rattle.bz_command_syntax.specs.Proper.{IsHost}
 use Rattle.bz_command_syntax.specs.declared.command.Host.{Host}
@@ -49,7 +49,7 @@ comment_fine text one u =
     let line : Bytes = number_sign ∷ space ∷ text in
     let coded : IsUtf8 line =
     IsUtf8-append (number_sign ∷ []) (space ∷ text) (one_ascii number_sign (omega arith)) (IsUtf8-append (space ∷ []) text (one_ascii space (omega arith)) u) in
-    subst (λ r. IsComment (trimmed (number_sign ∷ space ∷ r.words))) (comment_stops text (none_before text (not-true (list_any (λ byte. byte == line_feed) text) one)))
+    subst (λ r. IsComment (trimmed (number_sign ∷ space ∷ r.words))) (line_stops text (none_before text (not-true (list_any (λ byte. byte == line_feed) text) one)))
     (suffix_fine line coded)
 
 -- ---- expressions with other comments
