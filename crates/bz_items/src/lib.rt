@@ -3,9 +3,11 @@
 //! A clause sees neither pointer nor capacity, so a copy is equal to what it copies.
 #![tactic(auto)]
 
+mod gap;
 mod items;
 mod text;
 
+pub use gap::Gap;
 pub use items::{Items, at};
 pub use text::Text;
 
