@@ -1,5 +1,5 @@
 -- The first token of a line, by the leaves before it.
-use Rattle.std.proofs.Common.{◌≡◌, ◌≢◌, ℕ, ◌+◌, ◌-◌, ◌≤◌, ◌<◌, true, false, List, [], ◌++◌, inl, inr, length, take, drop, refl, sym, ap, ◌∙◌, subst, arith, append_assoc, length-append, length-drop}
+use Rattle.std.proofs.Common.{◌≡◌, ◌≢◌, ℕ, ◌+◌, ◌-◌, ◌≤◌, true, false, List, [], ◌++◌, inl, inr, length, take, drop, refl, sym, ap, ◌∙◌, subst, arith, append_assoc, length-append, length-drop}
 use Rattle.std.proofs.lemmas.List.{take-append-drop}
 use Rattle.bz_token.specs.declared.class.Class.TheVariants.{End}
 use Rattle.bz_token.specs.Tokens.{NoToken}

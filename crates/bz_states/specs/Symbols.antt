@@ -1,8 +1,9 @@
 -- What a token is to the grammar: which keyword or mark, else its class.
-use Rattle.std.specs.Prelude.{◌≡◌, ℕ, List, [], ◌∷◌, bytes_eq, if◌then◌else◌, codes}
+use Rattle.std.specs.Prelude.{◌≡◌, ℕ, Bool, true, false, List, [], ◌∷◌, Option, Some, None, bytes_eq, if◌then◌else◌, codes}
 use Rattle.bz_token.specs.declared.class.Class.{Class}
 use Rattle.bz_token.specs.declared.class.Class.TheVariants as c
 use Rattle.bz_lex.specs.declared.leaf.Leaf.{Leaf}
+use Rattle.bz_lex.specs.declared.front.Front.{Front}
 use Rattle.bz_states.specs.declared.symbol.Symbol.{Symbol}
 use Rattle.bz_states.specs.declared.symbol.Symbol.TheVariants as y
 use Rattle.bz_states.specs.declared.token.TokenSet.{TokenSet}
@@ -67,6 +68,11 @@ example y.Shift = mark (codes "<<")
 -- the symbol says of each set of tokens whether the first of these leaves is one of them
 abbrev pub DecidesFirst : Symbol → List Leaf → Type 0
 DecidesFirst symbol leaves = (token : TokenSet) → is_one_of (terminals_of token) (example symbol) ≡ starts_with (terminals_of token) leaves
+
+-- the front of the next leaf, where there is one
+abbrev pub next_of : Bool → Front → Option Front
+next_of true front = Some front
+next_of false front = None
 
 -- a text that the grammar requires, and what it is
 pub record SymbolEntry : Type 0 where

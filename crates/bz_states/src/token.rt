@@ -10,14 +10,14 @@ ghost use Rattle.bz_grammar.specs.declared.tree.Part.TheVariants as p;
 ghost use Rattle.bz_grammar.specs.Spell.{limit};
 ghost use Rattle.bz_lex.proofs.Coming.{to_come};
 ghost use Rattle.bz_lex.specs.Fronts.{AnswersFront};
-ghost use Rattle.bz_states.specs.Symbols.{example, DecidesFirst};
+ghost use Rattle.bz_states.specs.Symbols.{example, DecidesFirst, next_of};
 ghost use Rattle.bz_states.specs.Tokens.{terminals_of, token_at, Fails};
 ghost use Rattle.bz_states.specs.States.{binds_at};
 
 use crate::line::indent_of;
 use crate::state::LAMBDA;
 use crate::symbol::Symbol;
-use bz_lex::{Front, Leaf, Place, leaf_front};
+use bz_lex::{Class, Front, Leaf, Place, leaf_front};
 use std::alloc::{AllocError, AllocFailed, Global};
 use std::marker::Model;
 
@@ -244,7 +244,9 @@ pub struct Leaves<'a> {
     /// The text from the gap of the next leaf on, and where that is in a file.
     rest: &'a [u8],
     place: Place,
-    next: Option<Front>,
+    /// Whether there is a next leaf, and then its front.
+    is_there: bool,
+    front: Front,
     symbol: Symbol,
     /// How many bytes the whole text has.
     total: usize,
@@ -261,7 +263,7 @@ impl<'a> Model for Leaves<'a> {
     ghost use Rattle.bz_lex.specs.Places.{open_brackets};
     ghost use Rattle.bz_lex.specs.Fronts.{AnswersFront};
     ghost use Rattle.bz_lex.proofs.Coming.{to_come};
-    ghost use Rattle.bz_states.specs.Symbols.{DecidesFirst};
+    ghost use Rattle.bz_states.specs.Symbols.{DecidesFirst, next_of};
 
     ghost Value = { List Leaf };
 
@@ -269,7 +271,7 @@ impl<'a> Model for Leaves<'a> {
 
     ghost view = { λ leaves. to_come leaves.place leaves.rest.now };
 
-    ghost invariant = { λ leaves. AnswersFront leaves.place leaves.rest.now leaves.next × DecidesFirst leaves.symbol (to_come leaves.place leaves.rest.now) × (open_brackets leaves.place + length leaves.rest.now < 2 ^ 64) };
+    ghost invariant = { λ leaves. AnswersFront leaves.place leaves.rest.now (next_of leaves.is_there leaves.front) × DecidesFirst leaves.symbol (to_come leaves.place leaves.rest.now) × (open_brackets leaves.place + length leaves.rest.now < 2 ^ 64) };
 }
 
 impl<'a> Leaves<'a> {
@@ -278,13 +280,19 @@ impl<'a> Leaves<'a> {
         requires { length text.now ≤ limit }
         ensures { result ≡ to_come Place.Fresh text.now }
     {
-        let next = leaf_front(text, Place::Fresh);
+        let mut front = Front {
+            class: Class::End,
+            gap: 0,
+            token: 0,
+        };
+        let is_there = find(text, Place::Fresh, &mut front);
         Leaves {
             alloc,
             rest: text,
             place: Place::Fresh,
-            next,
-            symbol: symbol_at(next, text, Place::Fresh),
+            is_there,
+            front,
+            symbol: symbol_at(next_of(is_there, front), text, Place::Fresh),
             total: text.len(),
             too_deep: None,
             at_indent: None,
@@ -295,7 +303,7 @@ impl<'a> Leaves<'a> {
     pub fn is_empty(&self) -> bool
         ensures { IsTrue result ↔ (self.now ≡ []) }
     {
-        match self.next {
+        match next_of(self.is_there, self.front) {
             Some(_) => false,
             None => true,
         }
@@ -313,7 +321,7 @@ impl<'a> Leaves<'a> {
     pub fn next_indent(&self) -> &'a [u8]
         ensures { result.now ≡ first_indent self.now }
     {
-        indent_at(self.next, self.rest, self.place)
+        indent_at(next_of(self.is_there, self.front), self.rest, self.place)
     }
 
     /// Whether the next leaf is one of these tokens, at this indent.
@@ -387,7 +395,7 @@ impl<'a> Leaves<'a> {
 
     /// The byte of the text at which the token of the next leaf begins; None where no leaf comes.
     pub fn next_at(&self) -> Option<usize> {
-        match self.next {
+        match next_of(self.is_there, self.front) {
             Some(front) => Some(self.offset().saturating_add(front.gap)),
             None => None,
         }
@@ -430,43 +438,43 @@ impl<'a> Leaves<'a> {
 
     /// Passes over the next leaf, if there is one.
     #[inline(always)]
-    fn skip(&mut self)
+    pub fn skip(&mut self)
         ensures { self.new ≡ drop 1 self.old }
     {
-        if let Some(front) = self.next {
+        if let Some(front) = next_of(self.is_there, self.front) {
             let place = self
                 .place
                 .after_token(front.class, front.token_of(self.rest));
             let rest = front.rest_of(self.rest);
-            self.next = leaf_front(rest, place);
-            self.symbol = symbol_at(self.next, rest, place);
+            self.is_there = find(rest, place, &mut self.front);
+            self.symbol = symbol_at(next_of(self.is_there, self.front), rest, place);
             self.place = place;
             self.rest = rest;
         }
     }
 
-    /// Cuts off the next leaf, if there is one. The error: a growth was refused; the leaves are then as before.
+    /// The next leaf, cut off the text, if there is one. The error: a growth was refused.
     #[inline(always)]
-    fn cut(&mut self) -> Result<Option<Leaf>, AllocError>
-        ensures { IfOk result (λ leaf. MatchOption leaf (self.old ≡ []) (λ leaf. self.old ≡ leaf ∷ self.new)) }
+    fn cut(&self) -> Result<Option<Leaf>, AllocError>
+        ensures { IfOk result (λ leaf. MatchOption leaf (self.now ≡ []) (λ leaf. self.now ≡ leaf ∷ drop 1 self.now)) }
     {
-        let front = match self.next {
+        let front = match next_of(self.is_there, self.front) {
             Some(front) => front,
             None => return Ok(None),
         };
         let leaf = front.leaf(self.alloc, self.rest)?;
-        self.skip();
         Ok(Some(leaf))
     }
 
-    /// The next leaf, where it is one of these tokens. On an error the leaves are as before.
+    /// The next leaf, where it is one of these tokens. It is still the next one: `skip` passes over it, so that where its leaf goes is
+    /// done with before the one after it is found.
     ///
     /// Errors: `Unexpected` where no leaf comes or it is another token; `Memory` where a growth was refused.
     #[inline(always)]
     #[tactic(auto, unfolding(crate::specs::Tokens::token_at))]
-    pub fn take_next(&mut self, token: TokenSet) -> Result<Leaf, ParseHalt>
-        ensures ok { IfOk result (λ leaf. token_at (terminals_of token) self.old ≡ Some (p.Leaf leaf, self.new)) }
-        ensures err { Fails result (token_at (terminals_of token) self.old) }
+    pub fn next_leaf(&self, token: TokenSet) -> Result<Leaf, ParseHalt>
+        ensures ok { IfOk result (λ leaf. token_at (terminals_of token) self.now ≡ Some (p.Leaf leaf, drop 1 self.now)) }
+        ensures err { Fails result (token_at (terminals_of token) self.now) }
     {
         if !self.next_is(token) {
             return Err(ParseHalt::Unexpected);
@@ -475,6 +483,31 @@ impl<'a> Leaves<'a> {
             Some(leaf) => Ok(leaf),
             None => Err(ParseHalt::Unexpected),
         }
+    }
+}
+
+/// What is known of the next leaf, where there is one.
+#[inline(always)]
+fn next_of(is_there: bool, front: Front) -> Option<Front>
+    ensures { result ≡ next_of is_there front }
+{
+    if is_there { Some(front) } else { None }
+}
+
+/// Whether a leaf is where a text goes on so at a place; `front` becomes its own. Field by field: a value of several that is handed
+/// on as a whole is copied with the bytes between them.
+#[inline(always)]
+fn find(rest: &[u8], place: Place, front: &mut Front) -> bool
+    ensures { AnswersFront place rest.now (next_of result front.new) }
+{
+    match leaf_front(rest, place) {
+        Some(found) => {
+            front.class = found.class;
+            front.gap = found.gap;
+            front.token = found.token;
+            true
+        }
+        None => false,
     }
 }
 

@@ -9,3 +9,4 @@ pub mod Placed
 pub mod Pushed
 pub mod Blocks
 pub mod Listed
+mod Turned

@@ -1,5 +1,5 @@
 -- The items of a row, one at a time: the moves from one to the next, joined.
-use Rattle.std.proofs.Common.{◌≡◌, ℕ, ◌<◌, true, false, List, length, Some, None, refl, sym, ap, ◌∙◌, arith}
+use Rattle.std.proofs.Common.{◌≡◌, ℕ, ◌<◌, true, false, List, [], length, Option, Some, None, refl, sym, ap, ◌∙◌, arith}
 use Rattle.bz_lex.specs.declared.leaf.Leaf.{Leaf}
 use Rattle.bz_grammar.specs.declared.kind.Kind.{Kind}
 use Rattle.bz_grammar.specs.declared.tree.Part.{Part}
@@ -9,6 +9,16 @@ use Rattle.bz_states.specs.declared.token.TokenSet.{TokenSet}
 use Rattle.bz_states.specs.declared.state.ListedItems.{ListedItems}
 use Rattle.bz_states.specs.declared.state.PartNonterminal.{PartNonterminal}
 use Rattle.bz_states.specs.declared.state.ItemRow.{ItemRow}
+use Rattle.bz_states.specs.declared.state.NodeState.{NodeState}
+use Rattle.bz_states.specs.declared.token.TokenSet.TheVariants as t
+use Rattle.bz_grammar.specs.declared.kind.Kind.TheVariants as k
+use Rattle.bz_states.specs.declared.state.PartNonterminal.TheVariants as q
+use Rattle.bz_states.specs.declared.state.ListedItems.TheVariants as rows
+use Rattle.bz_states.specs.declared.state.SquareOrCurly.TheVariants as brackets
+use Rattle.bz_states.specs.declared.state.BracketsAt.TheVariants as brackets_at
+use Rattle.bz_states.specs.declared.state.ClausesAt.TheVariants as clauses_at
+use Rattle.bz_states.specs.declared.state.StatementAt.{StatementAt}
+use Rattle.bz_states.specs.declared.state.StatementAt.TheVariants as statement_at
 use Rattle.bz_states.specs.declared.state.ItemsAt.TheVariants as items_at
 use Rattle.bz_states.specs.declared.state.Move.TheVariants as m
 use Rattle.bz_states.specs.declared.state.NodeState.TheVariants as s
@@ -69,6 +79,21 @@ module _ (d : ℕ) (all : ListedItems) (row : ItemRow) (is : row ≡ row_of_item
   at_separator : Expects (plan_at (s.Items all items_at.Separator)) (m.Take row.separator (s.Items all items_at.Begin))
   at_separator = rw is (refl, refl)
 
+  at_more : Expects (plan_at (s.Items all items_at.More)) (m.Choose row.close (s.Rest row.kind (in_rest.Token row.close)) (s.Items all items_at.Separator))
+  at_more = rw is (refl, refl, refl)
+
+  pub more_ends : starts_with (terminals_of row.close) ts ≡ true → found_from d front (s.Rest row.kind (in_rest.Token row.close)) ts ≡ found_from d front (s.Items all items_at.More) ts
+  more_ends h = chooses_left d front (s.Items all items_at.More) ts row.close (s.Rest row.kind (in_rest.Token row.close)) (s.Items all items_at.Separator) at_more h
+
+  at_separator_read : starts_with (terminals_of row.close) ts ≡ false → found_from d front (s.Items all items_at.Separator) ts ≡ found_from d front (s.Items all items_at.More) ts
+  at_separator_read h = chooses_right d front (s.Items all items_at.More) ts row.close (s.Rest row.kind (in_rest.Token row.close)) (s.Items all items_at.Separator) at_more h
+
+  pub more_none : starts_with (terminals_of row.close) ts ≡ false → token_at (terminals_of row.separator) ts ≡ None → found_from d front (s.Items all items_at.More) ts ≡ None
+  more_none h n = sym (at_separator_read h) ∙ takes_none d front (s.Items all items_at.Separator) ts row.separator (s.Items all items_at.Begin) at_separator n
+
+  pub more_goes : starts_with (terminals_of row.close) ts ≡ false → (on : List Part) (vs : List Leaf) → Adds (token_at (terminals_of row.separator)) front ts on vs → found_from d on (s.Items all items_at.Begin) vs ≡ found_from d front (s.Items all items_at.More) ts
+  more_goes h on vs b = takes d front (s.Items all items_at.Separator) ts row.separator (s.Items all items_at.Begin) on vs at_separator b ∙ at_separator_read h
+
   pub row_ends : starts_with (terminals_of row.close) ts ≡ true → found_from d front (s.Rest row.kind (in_rest.Token row.close)) ts ≡ found_from d front (s.Items all items_at.Begin) ts
   row_ends h = chooses_left d front (s.Items all items_at.Begin) ts row.close (s.Rest row.kind (in_rest.Token row.close)) (s.Items all items_at.Part) at_begin h
 
@@ -101,3 +126,75 @@ module _ (d : ℕ) (all : ListedItems) (row : ItemRow) (is : row ≡ row_of_item
 pub item_shorter : (d : ℕ) (q : Nonterminal) (terminals : List Terminal) (ts us vs : List Leaf) (x y : Part) → part_at d q ts ≡ Some (x, us) → token_at terminals us ≡ Some (y, vs) → length vs < length ts
 unfolding part_at
 item_shorter d q terminals ts us vs x y e f = let w = token_parts terminals us vs y f in omega (arith, reading_takes d q ts (x, us) e, ap length w.1)
+
+-- what square brackets hold
+module _ (d : ℕ) (front : List Part) (ts : List Leaf) where
+  abbrev begun : NodeState
+  begun = s.Brackets brackets.Square brackets_at.Begin
+
+  abbrev element : NodeState
+  element = s.Brackets brackets.Square brackets_at.Element
+
+  abbrev after : NodeState
+  after = s.Brackets brackets.Square brackets_at.After
+
+  abbrev closed : NodeState
+  closed = s.Rest k.List (in_rest.Token t.CloseSquare)
+
+  abbrev clauses : NodeState
+  clauses = s.Clauses k.ListComp t.CloseSquare clauses_at.First
+
+  pub square_unopened : token_at (terminals_of t.OpenSquare) ts ≡ None → found_from d front s.Square ts ≡ None
+  square_unopened n = takes_none d front s.Square ts t.OpenSquare begun (refl, refl) n
+
+  module _ (mid : List Part) (us : List Leaf) (a : Adds (token_at (terminals_of t.OpenSquare)) front ts mid us) where
+    opened : found_from d mid begun us ≡ found_from d front s.Square ts
+    opened = takes d front s.Square ts t.OpenSquare begun mid us (refl, refl) a
+
+    pub square_empty : starts_with (terminals_of t.CloseSquare) us ≡ true → found_from d mid closed us ≡ found_from d front s.Square ts
+    square_empty h = chooses_left d mid begun us t.CloseSquare closed element (refl, refl, refl) h ∙ opened
+
+    module _ (h : starts_with (terminals_of t.CloseSquare) us ≡ false) where
+      unclosed : found_from d mid element us ≡ found_from d front s.Square ts
+      unclosed = chooses_right d mid begun us t.CloseSquare closed element (refl, refl, refl) h ∙ opened
+
+      pub square_none : part_at d (nonterminal_of (q.Level 13)) us ≡ None → found_from d front s.Square ts ≡ None
+      square_none n = sym unclosed ∙ reads_none d mid element us (q.Level 13) after (refl, refl) n
+
+      module _ (more : List Part) (vs : List Leaf) (b : Adds (part_at d (nonterminal_of (q.Level 13))) mid us more vs) where
+        element_read : found_from d more after vs ≡ found_from d front s.Square ts
+        element_read = reads d mid element us (q.Level 13) after more vs (refl, refl) b ∙ unclosed
+
+        pub square_for : starts_with (terminals_of t.For) vs ≡ true → found_from d more clauses vs ≡ found_from d front s.Square ts
+        square_for i = chooses_left d more after vs t.For clauses (s.Items rows.List items_at.More) (refl, refl, refl) i ∙ element_read
+
+        pub square_more : starts_with (terminals_of t.For) vs ≡ false → found_from d more (s.Items rows.List items_at.More) vs ≡ found_from d front s.Square ts
+        square_more i = chooses_right d more after vs t.For clauses (s.Items rows.List items_at.More) (refl, refl, refl) i ∙ element_read
+
+-- a statement of one line, by what it begins with
+module _ (d : ℕ) (ts : List Leaf) where
+  abbrev small : StatementAt → Option (Part × List Leaf)
+  small at = found_from d [] (s.Statement at) ts
+
+  abbrev flow : NodeState
+  flow = s.Rest k.Flow (in_rest.Token t.Flow)
+
+  pub small_load : starts_with (terminals_of t.Load) ts ≡ true → small statement_at.Load ≡ small statement_at.Begin
+  small_load h = chooses_left d [] (s.Statement statement_at.Begin) ts t.Load (s.Statement statement_at.Load) (s.Statement statement_at.NoLoad) (refl, refl, refl) h
+
+  module _ (h : starts_with (terminals_of t.Load) ts ≡ false) where
+    no_load : small statement_at.NoLoad ≡ small statement_at.Begin
+    no_load = chooses_right d [] (s.Statement statement_at.Begin) ts t.Load (s.Statement statement_at.Load) (s.Statement statement_at.NoLoad) (refl, refl, refl) h
+
+    pub small_return : starts_with (terminals_of t.Return) ts ≡ true → small statement_at.Return ≡ small statement_at.Begin
+    small_return i = chooses_left d [] (s.Statement statement_at.NoLoad) ts t.Return (s.Statement statement_at.Return) (s.Statement statement_at.NoReturn) (refl, refl, refl) i ∙ no_load
+
+    module _ (i : starts_with (terminals_of t.Return) ts ≡ false) where
+      no_return : small statement_at.NoReturn ≡ small statement_at.Begin
+      no_return = chooses_right d [] (s.Statement statement_at.NoLoad) ts t.Return (s.Statement statement_at.Return) (s.Statement statement_at.NoReturn) (refl, refl, refl) i ∙ no_load
+
+      pub small_flow : starts_with (terminals_of t.Flow) ts ≡ true → found_from d [] flow ts ≡ small statement_at.Begin
+      small_flow j = chooses_left d [] (s.Statement statement_at.NoReturn) ts t.Flow flow (s.Statement statement_at.Expression) (refl, refl, refl) j ∙ no_return
+
+      pub small_expression : starts_with (terminals_of t.Flow) ts ≡ false → small statement_at.Expression ≡ small statement_at.Begin
+      small_expression j = chooses_right d [] (s.Statement statement_at.NoReturn) ts t.Flow flow (s.Statement statement_at.Expression) (refl, refl, refl) j ∙ no_return

@@ -11,9 +11,9 @@ ghost use Rattle.bz_grammar.specs.declared.tree.Part.{Part};
 use crate::row::{Stack, deeper};
 use bz_grammar::Kind;
 use bz_states::{
-    ItemsAt, LAMBDA, LambdaAt, Leaves, ListedItems, Move, NOT, NodeState, PRIMARY, ParseHalt,
-    PartNonterminal, Precedence, RoundAt, StarredAt, StatementAt, SuffixAt, TEST, Tail, TokenSet,
-    UNARY, goes_on, mark_deep_part, mark_next, precedence_at,
+    ClausesAt, ItemsAt, LAMBDA, LambdaAt, Leaves, ListedItems, Move, NOT, NodeState, PRIMARY,
+    ParseHalt, PartNonterminal, Precedence, RoundAt, StarredAt, StatementAt, SuffixAt, TEST, Tail,
+    TokenSet, UNARY, goes_on, mark_deep_part, mark_next, precedence_at,
 };
 
 /// Whether the next leaf is one of these tokens. It is called and not compiled into the loop over moves, where each of them would
@@ -47,6 +47,9 @@ fn follow(
     'moves: loop {
         if let NodeState::Items(listed, ItemsAt::Begin) = state {
             return items_of_row(from, deep, listed, depth, stack, leaves);
+        }
+        if let NodeState::Items(listed, ItemsAt::More) = state {
+            return more_of_row(from, deep, listed, depth, stack, leaves);
         }
         if let NodeState::Rest(kind, Tail::TokenPart(token, nonterminal)) = state {
             return token_and_part(from, deep, kind, token, nonterminal, depth, stack, leaves);
@@ -98,6 +101,60 @@ fn items_of_row(
         deep = deeper(deep, stack.take(row.separator, leaves)?);
     }
     closing_token(from, deep, row.kind, row.close, depth, stack, leaves)
+}
+
+/// What is left of a row after one of its items where the closing token is looked for first: that token, or a separator and the
+/// items after it.
+#[cycle(parser)]
+fn more_of_row(
+    from: usize,
+    deep: u32,
+    listed: ListedItems,
+    depth: u32,
+    stack: &mut Stack,
+    leaves: &mut Leaves,
+) -> Result<u32, ParseHalt>
+    requires from { from ≤ length stack.old }
+    requires deep { deep ≡ deepest (drop from stack.old) }
+    requires within { deep ≤ depth }
+    requires small { depth ≤ 2 * depth_limit }
+    ensures ok { IfOk result (λ deep. Pushes (found_from depth (drop from stack.old) (NodeState.Items listed ItemsAt.More) leaves.old) (take from stack.old) stack.new leaves.new deep) }
+    ensures err { Fails result (found_from depth (drop from stack.old) (NodeState.Items listed ItemsAt.More) leaves.old) }
+{
+    let row = ListedItems::row(listed);
+    if leaves.next_is(row.close) {
+        return closing_token(from, deep, row.kind, row.close, depth, stack, leaves);
+    }
+    let deep = deeper(deep, stack.take(row.separator, leaves)?);
+    items_of_row(from, deep, listed, depth, stack, leaves)
+}
+
+/// A list or a comprehension in square brackets. Lists are in most texts, and are read without the loop over moves.
+#[cycle(parser)]
+fn square(depth: u32, stack: &mut Stack, leaves: &mut Leaves) -> Result<u32, ParseHalt>
+    requires small { depth ≤ 2 * depth_limit }
+    ensures ok { IfOk result (λ deep. Pushes (found_from depth [] NodeState.Square leaves.old) stack.old stack.new leaves.new deep) }
+    ensures err { Fails result (found_from depth [] NodeState.Square leaves.old) }
+{
+    let from = stack.len();
+    let open = stack.take(TokenSet::OpenSquare, leaves)?;
+    if leaves.next_is(TokenSet::CloseSquare) {
+        return closing_token(
+            from,
+            open,
+            Kind::List,
+            TokenSet::CloseSquare,
+            depth,
+            stack,
+            leaves,
+        );
+    }
+    let deep = deeper(open, part(TEST, depth, stack, leaves)?);
+    if leaves.next_is(TokenSet::For) {
+        let clauses = NodeState::Clauses(Kind::ListComp, TokenSet::CloseSquare, ClausesAt::First);
+        return follow(from, deep, clauses, depth, stack, leaves);
+    }
+    more_of_row(from, deep, ListedItems::List, depth, stack, leaves)
 }
 
 /// A node of this kind of which the closing token alone is left.
@@ -217,18 +274,30 @@ pub(crate) fn part(
         PartNonterminal::Entry => begin(NodeState::Entry, inner, stack, leaves),
         PartNonterminal::Clause => begin(NodeState::Clause, inner, stack, leaves),
         PartNonterminal::FirstClause => begin(NodeState::For, inner, stack, leaves),
-        PartNonterminal::Small => begin(
-            NodeState::Statement(StatementAt::Begin),
-            inner,
-            stack,
-            leaves,
-        ),
+        PartNonterminal::Small => begin(small_state(leaves), inner, stack, leaves),
         PartNonterminal::Line => {
             let statements = NodeState::Items(ListedItems::Statements, ItemsAt::Part);
             begin(statements, inner, stack, leaves)
         }
         PartNonterminal::Param => param(inner, stack, leaves),
     }
+}
+
+/// Where a statement of one line is read from: what most of them do not begin with is passed at once.
+#[inline(always)]
+fn small_state(leaves: &Leaves) -> NodeState
+    ensures { (depth : ℕ) → found_from depth [] result leaves.now ≡ found_from depth [] (NodeState.Statement StatementAt.Begin) leaves.now }
+{
+    if leaves.next_is(TokenSet::Load) {
+        return NodeState::Statement(StatementAt::Load);
+    }
+    if leaves.next_is(TokenSet::Return) {
+        return NodeState::Statement(StatementAt::Return);
+    }
+    if leaves.next_is(TokenSet::Flow) {
+        return NodeState::Rest(Kind::Flow, Tail::Token(TokenSet::Flow));
+    }
+    NodeState::Statement(StatementAt::Expression)
 }
 
 /// A leaf of this sort.
@@ -381,7 +450,7 @@ fn atom(depth: u32, stack: &mut Stack, leaves: &mut Leaves) -> Result<u32, Parse
     if leaves.next_is(TokenSet::OpenRound) {
         begin(NodeState::Round(RoundAt::Open), depth, stack, leaves)
     } else if leaves.next_is(TokenSet::OpenSquare) {
-        begin(NodeState::Square, depth, stack, leaves)
+        square(depth, stack, leaves)
     } else if leaves.next_is(TokenSet::OpenCurly) {
         begin(NodeState::Curly, depth, stack, leaves)
     } else {

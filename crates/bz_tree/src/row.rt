@@ -1,9 +1,10 @@
 //! The parts that are in no node yet.
-ghost use Rattle.std.specs.Prelude.{◌≡◌, ◌∷◌, ◌++◌, ◌≤◌, ◌<◌, [], false, length, take, drop, max, Ok, Some, OnOk, IfOk, IsTrue, slice_get};
+ghost use Rattle.std.specs.Prelude.{◌≡◌, ◌∷◌, ◌++◌, ◌≤◌, ◌<◌, [], false, length, take, drop, max, vec_len, vec_capacity, Ok, Some, OnOk, IfOk, IsTrue, slice_get};
 ghost use Rattle.std.specs.List.{AllByRecursion};
 ghost use Rattle.std.specs.Option.{option_copied};
 ghost use Rattle.bz_grammar.specs.declared.tree.Part.{Part};
 ghost use Rattle.bz_grammar.specs.declared.tree.Part.TheVariants as p;
+ghost use Rattle.bz_grammar.specs.Kinds.{kind_number};
 ghost use Rattle.bz_grammar.specs.Legal.{IsBuildPart};
 ghost use Rattle.bz_grammar.specs.Shapes.{name, has_token};
 ghost use Rattle.bz_grammar.specs.Reading.{node_part};
@@ -16,6 +17,7 @@ use bz_lex::{Class, Leaf};
 use bz_states::{Leaves, ParseHalt, TokenSet};
 use std::alloc::Global;
 use std::marker::Model;
+use std::mem;
 
 /// The parts that were read and are in no node yet, in the order of the text: those of the outermost open node first.
 /// One list serves all open nodes; a node takes its own off the end, in a list of just their number.
@@ -119,10 +121,12 @@ impl Stack {
         ensures { OnOk result (self.new ≡ take from self.old ++ node_part kind (drop from self.old) ∷ []) }
     {
         let _whole = self.parts.len();
+        let newer = may_be_newer(self.newer, kind);
+        // Of what a refused growth leaves nothing is said.
+        self.newer = true;
         // The room comes first: a push that fails gives the node back, and the proof that it is dropped is long.
-        self.parts.reserve(1)?;
-        let parts = Items::from_vec(self.parts.split_off(from)?);
-        self.newer = self.newer || kind.is_newer();
+        let parts = Items::from_vec(take_tail(&mut self.parts, from)?);
+        self.newer = newer;
         self.parts.push_reserved(Part::Node(Node { kind, parts }));
         Ok(())
     }
@@ -132,10 +136,47 @@ impl Stack {
         ensures ok { IfOk result (λ deep. Pushes (token_at (terminals_of token) leaves.old) self.old self.new leaves.new deep) }
         ensures err { Fails result (token_at (terminals_of token) leaves.old) }
     {
-        let leaf = leaves.take_next(token)?;
+        let leaf = leaves.next_leaf(token)?;
         self.push(leaf)?;
+        leaves.skip();
         Ok(0)
     }
+}
+
+/// From how many parts on a list is long.
+const LONG: usize = 1024;
+
+/// Takes the parts from a place on off others, and leaves room for one more. Where they are most of a long list they keep its room,
+/// and those in front of them move to a new one: no second room as large is needed. The error: a growth was refused.
+fn take_tail(parts: &mut Vec<Part>, from: usize) -> Result<Vec<Part>, Memory>
+    requires { from ≤ length parts.old.items }
+    ensures front { OnOk result (parts.new.items ≡ take from parts.old.items) }
+    ensures room { OnOk result (vec_len parts.new < vec_capacity parts.new) }
+    ensures tail { IfOk result (λ tail. tail.items ≡ drop from parts.old.items) }
+{
+    let len = parts.len();
+    if len < LONG || from > len / 2 {
+        parts.reserve(1)?;
+        let tail = parts.split_off(from)?;
+        return Ok(tail);
+    }
+    parts.rotate_left(from);
+    let mut tail = parts.split_off(len - from)?;
+    mem::swap(parts, &mut tail);
+    parts.reserve(1)?;
+    tail.shrink_to_fit();
+    Ok(tail)
+}
+
+/// Whether kinds that no BUILD file has may be among parts, where another node is of this kind.
+fn may_be_newer(newer: bool, kind: Kind) -> bool
+    ensures before { result ≡ false → newer ≡ false }
+    ensures kind { result ≡ false → kind_number kind < 35 }
+{
+    if newer {
+        return true;
+    }
+    kind.is_newer()
 }
 
 /// Whether a part is a name.

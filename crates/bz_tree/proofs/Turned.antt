@@ -1,0 +1,14 @@
+-- A list of which the front is put after the rest, and cut there.
+use Rattle.std.proofs.Common.{◌≡◌, ℕ, ◌≤◌, ◌-◌, List, ◌++◌, length, take, drop, sym, ap, ◌∙◌, length-drop}
+use Rattle.std.proofs.Math.Seq.{drop-append_seam, take-append_seam}
+use Rattle.bz_grammar.specs.declared.tree.Part.{Part}
+
+module _ (from n : ℕ) (xs ys zs : List Part) (h : from ≤ length xs) (e : n ≡ length xs) (turned : ys ≡ drop from xs ++ take from xs) where
+  seam : n - from ≡ length (drop from xs)
+  seam = ap (λ (k : ℕ). k - from) e ∙ sym (length-drop from xs)
+
+  pub turned_front : zs ≡ drop (n - from) ys → zs ≡ take from xs
+  turned_front f = f ∙ ap (drop (n - from)) turned ∙ ap (λ (k : ℕ). drop k (drop from xs ++ take from xs)) seam ∙ drop-append_seam (drop from xs) (take from xs)
+
+  pub turned_tail : zs ≡ take (n - from) ys → zs ≡ drop from xs
+  turned_tail f = f ∙ ap (take (n - from)) turned ∙ ap (λ (k : ℕ). take k (drop from xs ++ take from xs)) seam ∙ take-append_seam (drop from xs) (take from xs)
