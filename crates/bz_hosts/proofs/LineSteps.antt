@@ -1,6 +1,6 @@
 -- Steps of the loops over the lines of a file and the statements of a line.
-use Rattle.std.proofs.Common.{ℕ, zero, suc, false, ◌≡◌, List, [], ◌∷◌, ◌++◌, ◌<◌, ◌≤◌, ◌+◌, ◌-◌, Option, None, refl, sym, ap, ◌∙◌, map, drop, length, get_or, append_assoc, append-nil, length-drop, arith}
-use Rattle.std.proofs.lemmas.List.{length-map}
+use Rattle.std.proofs.Common.{ℕ, zero, suc, false, ◌≡◌, List, [], ◌∷◌, ◌++◌, ◌<◌, ◌≤◌, ◌+◌, ◌-◌, Option, None, refl, sym, ap, ◌∙◌, map, drop, length, get_or, set, append_assoc, append-nil, length-drop, arith}
+use Rattle.std.proofs.lemmas.List.{drop-set-lt, length-map}
 use Rattle.bz_grammar.specs.declared.tree.Node.{Node}
 use Rattle.bz_grammar.specs.declared.tree.Part.{Part}
 use Rattle.bz_grammar.specs.declared.tree.Part.TheVariants as p
@@ -67,6 +67,14 @@ statement_more ps at y before above next suffix cs x commented items new all l h
     ap (λ qs. statements_in above (map seen qs)) w.3 ∙ statement_step above (seen w.0) (seen w.1) (map seen w.2) in
     let left : statements_in next (map seen (drop (at + 2) ps)) ≡ rest = ap (λ qs. statements_in next (map seen qs)) last ∙ ap (λ t. statements_in t (map seen w.2)) n in
     ap (λ t. new ++ t) left ∙ (ap (λ t. t ++ rest) h ∙ (append_assoc items (i.Stmt commented ∷ []) rest ∙ (ap (λ z. items ++ z ∷ rest) made ∙ (ap (λ t. items ++ t) (sym step) ∙ j))))
+
+-- of a statement that is taken, of which another part is left in its place
+pub statement_taken : (ps : List Part) (at : ℕ) (z y : Part) (before above : List Bytes) (suffix : Option Bytes) (x commented : Expr) (items new : List Item) → at + 1 < length ps → y ≡ get_or ps at y → before ≡ above ++ (seen (get_or ps at y)).loose →
+    suffix ≡ line_suffix (map seen (drop (at + 1) (set ps at z))) → x ≡ (seen (get_or ps at y)).make no_comments false → commented ≡ with_comments x (record { before = before; suffix = suffix }) → new ≡ items ++ i.Stmt commented ∷ [] →
+    new ++ statements_in [] (map seen (drop (at + 2) ps)) ≡ items ++ statements_in above (map seen (drop at ps))
+statement_taken ps at z y before above suffix x commented items new l here b f e c h =
+    statement_more ps at y before above [] suffix (record { before = before; suffix = suffix }) x commented items new (items ++ statements_in above (map seen (drop at ps))) l here (b ∙ ap (λ (p : Part). above ++ (seen p).loose) (sym here))
+    (f ∙ ap (λ qs. line_suffix (map seen qs)) (drop-set-lt (at + 1) ps at z (omega arith))) refl (e ∙ ap (λ (p : Part). (seen p).make no_comments false) (sym here)) refl c refl h
 
 pub statements_done : (ps : List Part) (at : ℕ) (above : List Bytes) (items all : List Item) → length ps ≤ at + 1 → items ++ statements_in above (map seen (drop at ps)) ≡ all → items ≡ all
 statements_done ps at above items all l j =

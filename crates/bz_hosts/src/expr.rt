@@ -67,8 +67,9 @@ fn push_expr(
     }
 }
 
+/// The same of a node.
 #[cycle(seen)]
-fn push_form(
+pub(crate) fn push_form(
     alloc: Global,
     node: &Node,
     loose: &mut Items<Text>,

@@ -9,6 +9,7 @@ mod host_laws;
 mod joined;
 mod laws;
 mod marks;
+mod moved;
 mod taken;
 mod viewing;
 

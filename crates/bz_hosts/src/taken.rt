@@ -1,20 +1,25 @@
 //! The view of a tree that is given up.
-ghost use Rattle.std.specs.Prelude.{◌≡◌, ◌++◌, ◌∷◌, [], List, IfOk};
+ghost use Rattle.std.specs.Prelude.{◌≡◌, ◌++◌, ◌∷◌, [], ◌+◌, ◌<◌, List, length, map, drop, IfOk, OnOk};
 ghost use Rattle.bz_grammar.specs.declared.tree.Part.{Part};
 ghost use Rattle.bz_value.specs.Gaps.{lines_of};
 ghost use Rattle.bz_value.specs.Counted.{times};
 ghost use Rattle.bz_items.specs.Characters.{Bytes};
 ghost use Rattle.bz_hosts.specs.Kept.{occurrences};
-ghost use Rattle.bz_hosts.specs.View.{file_items, view_of};
+ghost use Rattle.bz_hosts.specs.View.{file_items, seen, statements_in, view_of};
 
-use crate::viewing::push_line_items;
+use crate::before::{gap_at, gap_of_last};
+use crate::commented::commented;
+use crate::groups::{push_all_groups, push_groups};
+use crate::moved::{give_back, is_followed, statement_moved};
+use crate::viewing::suffix_gap;
 use bz_grammar::{Part, Tree};
 use bz_items::{Items, Memory, Text};
-use bz_value::{File, Item};
+use bz_value::{File, Item, past_first_line};
 use std::alloc::Global;
+use std::mem;
 
-/// The file value that `view` makes, of a tree that is given up: each line of it is dropped as soon as its items are made, so
-/// that the whole tree is not held beside the whole value. The error: memory was refused.
+/// The file value that `view` makes, of a tree that is given up: its tokens are moved, and each line of it is dropped as soon as its
+/// items are made, a long one piece by piece, so that the whole tree is not held beside the whole value. The error: memory was refused.
 pub fn into_view(alloc: Global, tree: Tree) -> Result<File, Memory>
     ensures value { IfOk result (λ file. file ≡ view_of tree) }
     ensures comments { IfOk result (λ file. (text : Bytes) → times text file ≡ occurrences text tree) }
@@ -42,16 +47,76 @@ fn into_items(alloc: Global, lines: Items<Part>) -> Result<Items<Item>, Memory>
 fn push_last(
     alloc: Global,
     left: &[u8],
-    line: Part,
+    mut line: Part,
     items: &mut Items<Item>,
 ) -> Result<Text, Memory>
     ensures { IfOk result (λ rest. (xs : List Part) → items.new ++ file_items (lines_of rest) xs ≡ items.old ++ file_items (lines_of left.now) (line ∷ xs)) }
 {
-    let rest = match push_line_items(alloc, left, &line, items) {
-        Ok(rest) => Text::from_slice(alloc, rest),
-        Err(fault) => Err(fault),
-    };
+    let rest = push_moved_line(alloc, left, &mut line, items);
     // By a call: by the end of its scope, each form of the line would be a path of this proof.
     drop(line);
     rest
+}
+
+/// Appends the items of a line, or of the end, whose statements are given up.
+fn push_moved_line(
+    alloc: Global,
+    left: &[u8],
+    line: &mut Part,
+    items: &mut Items<Item>,
+) -> Result<Text, Memory>
+    ensures { IfOk result (λ rest. (xs : List Part) → items.new ++ file_items (lines_of rest) xs ≡ items.old ++ file_items (lines_of left.now) (line.old ∷ xs)) }
+{
+    match line {
+        Part::Leaf(end) => {
+            push_all_groups(alloc, left, end.gap.as_slice(), items)?;
+            Ok(Text::from_vec(Vec::new(alloc)))
+        }
+        Part::Node(line) => {
+            let parts = mem::replace(&mut line.parts, Items::new(alloc));
+            let above = push_groups(alloc, left, gap_at(parts.as_slice(), 0), items)?;
+            let rest = Text::from_slice(alloc, past_first_line(gap_of_last(parts.as_slice())))?;
+            push_moved_statements(alloc, parts, above, items)?;
+            Ok(rest)
+        }
+    }
+}
+
+/// Appends the statement with this index, which is given up, after which its semicolon or the Newline is, with these comments above it.
+fn push_moved_statement(
+    alloc: Global,
+    parts: &mut [Part],
+    at: usize,
+    above: Items<Text>,
+    items: &mut Items<Item>,
+) -> Result<(), Memory>
+    requires { at + 1 < length parts.old }
+    ensures rest { OnOk result (drop (at + 2) parts.new ≡ drop (at + 2) parts.old) }
+    ensures items { OnOk result (items.new ++ statements_in [] (map seen (drop (at + 2) parts.old)) ≡ items.old ++ statements_in above (map seen (drop at parts.old))) }
+{
+    let mut above = above;
+    let expr = statement_moved(alloc, &mut parts[at], &mut above)?;
+    let host = commented(alloc, expr, above, suffix_gap(parts, at + 1))?;
+    items.push(Item::Stmt(host))?;
+    Ok(())
+}
+
+/// Appends the statements of a line, which are given up, the first with these comments above it.
+fn push_moved_statements(
+    alloc: Global,
+    parts: Items<Part>,
+    above: Items<Text>,
+    items: &mut Items<Item>,
+) -> Result<(), Memory>
+    ensures { OnOk result (items.new ≡ items.old ++ statements_in above (map seen parts)) }
+{
+    let mut left = parts.into_vec();
+    let mut above = above;
+    let mut at = 0;
+    while is_followed(left.as_slice(), at) {
+        push_moved_statement(alloc, left.as_mut_slice(), at, above, items)?;
+        above = Items::new(alloc);
+        at = give_back(at + 2, &mut left);
+    }
+    Ok(())
 }

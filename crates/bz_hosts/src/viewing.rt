@@ -42,7 +42,7 @@ fn items_of(alloc: Global, lines: &[Part]) -> Result<Items<Item>, Memory>
 
 /// Appends the items of a line, or those of the end, where `left` is what the gap of the Newline before says after its
 /// first line. Returns the same of the line's own Newline.
-pub fn push_line_items<'a>(
+fn push_line_items<'a>(
     alloc: Global,
     left: &[u8],
     line: &'a Part,
@@ -88,7 +88,7 @@ pub fn push_statements(
 
 /// After a statement, where this index is that of its semicolon or of the Newline: the gap that its suffix is in, which
 /// is that of the Newline. The suffix of another statement of the line is none, and so is what an empty gap says.
-fn suffix_gap(parts: &[Part], at: usize) -> &[u8]
+pub(crate) fn suffix_gap(parts: &[Part], at: usize) -> &[u8]
     requires { at < length parts.now }
     ensures { suffix_in result.now ≡ line_suffix (map seen (drop at parts.now)) }
 {
