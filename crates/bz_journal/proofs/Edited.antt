@@ -1,7 +1,6 @@
 -- What a command on the value beside a session does is what the history says.
-use Rattle.std.proofs.Common.{◌≡◌, ◌≢◌, ◌⊎◌, ◌<◌, ◌∙◌, inl, inr, suc, Bool, List, [], ◌∷◌, length, Result, Ok, Err, Option, Some, None, is_ok, true, refl, sym, subst, ap}
-use Rattle.std.specs.Prelude.{IfSome, OnErr}
-use Rattle.std.proofs.lemmas.Bool.{false≢true}
+use Rattle.std.proofs.Common.{◌≡◌, ◌≢◌, ◌⊎◌, ◌<◌, ◌∙◌, inl, inr, suc, Bool, List, [], ◌∷◌, length, Result, Ok, Err, Option, refl, sym, subst, ap}
+use Rattle.std.specs.Prelude.{OnErr}
 use Rattle.bz_grammar.specs.declared.tree.Node.{Node}
 use Rattle.bz_grammar.specs.Legal.{Reads}
 use Rattle.bz_grammar.specs.Spell.{spell_node}
@@ -22,7 +21,7 @@ use Rattle.bz_relayout.specs.Relaid.{IsWritten}
 use Rattle.bz_journal.specs.Actions.{Do}
 use Rattle.bz_journal.specs.declared.action.Reply.{Reply}
 use Rattle.bz_journal.specs.Meaning.{gives, refuses, printed_answer, written, EffectMeans}
-use Rattle.bz_journal.specs.History.{History, Answer, present, unchanged, after_meaning, after_text, MakesOrWants}
+use Rattle.bz_journal.specs.History.{History, Answer, present, unchanged, after_meaning, MakesOrWants}
 use Rattle.bz_journal.specs.Editing.{IsLayoutOf, WrittenIsLaidOut}
 use Rattle.bz_journal.specs.State.{SessionState}
 use Rattle.bz_journal.proofs.Acting.{acts_refused, acts_same, meant_there, means_on, printed_answer_of}
@@ -90,23 +89,6 @@ value_taken laid_out items answer note h after reply tree proper tidy within (in
 value_taken laid_out items answer note h after reply tree proper tidy within (inl led) reads is =
     let laid : IsLayoutOf items tree = laid_out items answer note h after reply tree proper within led (subst (λ (t : Bytes). Reads t tree) is reads) in
     (sym tidy ∙ sym laid.1, subst (λ (xs : List Item). IsWritten xs tree) (sym laid.1) laid.0, laid.2 ∙ ap layout tidy)
-
--- of a new value, whose layout is this text, that was taken up the tree is the layout
-pub new_taken : WrittenIsLaidOut → (items : List Item) (printed : Option Bytes) (note : Bytes) (h after : History) (answer : Answer) (text : Bytes) (tree : Node)
-    → IsProper items → h.cursor < length h.texts → written items printed ≡ gives text printed
-    → (◌≡◌ {A = Answer × History} (answer, after) (after_text note h text printed)) ⊎ ((answer ≡ Err Memory) × (after ≡ h))
-    → Reads (spell_node tree) tree → spell_node tree ≡ present after → is_ok answer ≡ true → IsWritten (view_of tree) tree
-new_taken laid_out items printed note h after (Ok reply) text tree proper within spelled (inr memory) reads is done = let none : ◌≡◌ {A = Answer} (Ok reply) (Err Memory) = memory.0 in absurd (cc)
-new_taken laid_out items printed note h after (Ok reply) text tree proper within spelled (inl led) reads is done =
-    let end : ◌≡◌ {A = Answer × History} (Ok reply, after) (after_meaning note h (written items printed)) = led ∙ ap (after_meaning note h) (sym spelled) in
-    let laid : IsLayoutOf items tree = laid_out items printed note h after reply tree proper within end (subst (λ (t : Bytes). Reads t tree) is reads) in
-    subst (λ (xs : List Item). IsWritten xs tree) (sym laid.1) laid.0
-new_taken laid_out items printed note h after (Err refusal) text tree proper within spelled made reads is done = absurd (false≢true done)
-
--- no value is kept
-pub none_seen : (kept : Option (List Item)) (tree : Node) → kept ≡ None → IfSome kept (λ items. items ≡ view_of tree)
-none_seen None tree e = tt
-none_seen (Some items) tree e = absurd (cc)
 
 -- a session that nothing was done to
 pub stays_put : (answer : Answer) (s : SessionState) → OnErr answer (s ≡ s)

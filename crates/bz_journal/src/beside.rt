@@ -10,19 +10,18 @@ use crate::course::{Course, MOST_NOTE, unchanged};
 use crate::laws::written_is_laid_out;
 use crate::lines::Lines;
 use crate::meaning::{printed_answer, run_on_tree, value_of};
-use bz_build_format::{comments_fill, laid_out_of, reads_back, written};
+use bz_build_format::{comments_fill, laid_out_of, reads_back};
 use bz_command::{Extent, Spliced};
 use bz_command_syntax::Command;
 use bz_grammar::{LENGTH_LIMIT, Tree};
-use bz_items::{Items, Memory, Text};
+use bz_items::{Memory, Text};
 use bz_label::Target;
 use bz_layout::layout_is_accepted;
-use bz_passes::{tidy, tidy_stays};
-use bz_relayout::{renew, renew_spliced};
+use bz_passes::tidy_stays;
+use bz_relayout::{renew, renew_spliced, renew_whole};
 use bz_rule::take_apart;
 use bz_value::{File, Refusal};
 use std::alloc::Global;
-use std::mem;
 
 /// What is kept beside a course.
 #[derive(Drop)]
@@ -82,11 +81,10 @@ fn tidy_in(
                 None => Ok((None, LENGTH_LIMIT)),
             }
         }
-        Extent::Whole => {
-            let items = mem::replace(&mut file.items, Items::new(alloc));
-            *file = tidy(alloc, File { items })?;
-            Ok((None, LENGTH_LIMIT))
-        }
+        Extent::Whole => match renew_whole(alloc, file, tree)? {
+            Some(made) => Ok((Some(Lines::Spliced(made.respliced)), made.most)),
+            None => Ok((None, LENGTH_LIMIT)),
+        },
     }
 }
 
@@ -144,6 +142,7 @@ fn take_up_value(
     match take_up_tidied(course, &file, lines, printed, note) {
         Ok(reply) => {
             reads_back(course.present());
+            beside.written = true;
             beside.length_bound = most;
             beside.value = Some(file);
             Ok(reply)
@@ -184,7 +183,7 @@ fn take_up_made(
     }
 }
 
-/// Takes up the layout of a new value with a note. Errors: `TooLarge`, `TooDeep`, `Full`; `Memory`: a growth was refused.
+/// Tidies and takes up a new value, whatever the present text is. The errors are those of taking it up.
 fn take_up_new(
     course: &mut Course,
     beside: &mut Beside,
@@ -196,15 +195,19 @@ fn take_up_new(
     ensures end { EndsAt (after_meaning note.now (session_history course.old) (written file printed)) course.old result course.new }
     ensures beside { IsBeside course.new.tree beside.new }
 {
-    written_is_laid_out();
-    let _before = course.present();
-    let _items = &file.items;
-    let tree = written(course.alloc(), file)?;
-    let answer = course.take_up(tree, printed, note);
-    beside.written = answer.is_ok();
-    beside.length_bound = LENGTH_LIMIT;
-    reads_back(course.present());
-    answer
+    tidy_stays();
+    let mut file = file;
+    match renew_whole(course.alloc(), &mut file, course.present()) {
+        Ok(Some(made)) => {
+            let lines = Lines::Spliced(made.respliced);
+            take_up_value(course, beside, file, Some(lines), made.most, printed, note)
+        }
+        Ok(None) => take_up_value(course, beside, file, None, LENGTH_LIMIT, printed, note),
+        Err(_) => {
+            take_apart(file);
+            Err(Refusal::Memory)
+        }
+    }
 }
 
 /// Does a command with a note on the present text. At an error the course is as before. Errors: those of the command; `TooLarge` and

@@ -22,7 +22,7 @@ const FEWEST: usize = 500;
 /// After how many commands any value is kept, so that further ones cost the same in a short file as in a long one.
 const OFTEN: u32 = 64;
 
-/// The fewest bytes of a text that is kept once it was written, and so isn't spelled again for the next action.
+/// The fewest bytes of a text that is kept from the first action on, and so isn't spelled again for the next one.
 const LONG: usize = 1 << 16;
 
 /// The course of a file, and what is kept beside it. Of a text that was opened no digest is taken until something reads it:
@@ -35,7 +35,7 @@ pub struct Editor {
     beside: Beside,
     /// How many commands were done, up to `OFTEN`.
     done: u32,
-    /// The present text, where it was written and is long.
+    /// The present text, where it was opened or written, and is long or commands came often.
     text: Option<Vec<u8>>,
 }
 
@@ -58,9 +58,20 @@ impl Model for Editor {
         × IfSome editor.text (λ text. text.items ≡ present (session_history editor.course)) };
 }
 
-/// An editor of a course of whose first texts these are the digests. Nothing is kept beside it yet.
-fn editor_of(course: Course, digests: Vec<[u8; 32]>) -> Editor
-    requires { AreFirstDigests digests.items (session_history course).texts }
+/// A text, where it is long and memory is there for it.
+fn if_long(alloc: Global, text: &[u8]) -> Option<Vec<u8>>
+    ensures { IfSome result (λ own. own.items ≡ text.now) }
+{
+    if text.len() < LONG {
+        return None;
+    }
+    Vec::from_slice(alloc, text).ok()
+}
+
+/// An editor of a course of whose first texts these are the digests, and which may have this text. Nothing else is kept beside it yet.
+fn editor_of(course: Course, digests: Vec<[u8; 32]>, text: Option<Vec<u8>>) -> Editor
+    requires digests { AreFirstDigests digests.items (session_history course).texts }
+    requires text { IfSome text (λ own. own.items ≡ present (session_history course)) }
     ensures { result ≡ course }
 {
     Editor {
@@ -68,7 +79,7 @@ fn editor_of(course: Course, digests: Vec<[u8; 32]>) -> Editor
         digests,
         beside: Beside::none(),
         done: 0,
-        text: None,
+        text,
     }
 }
 
@@ -91,7 +102,8 @@ impl Editor {
         requires { length «package».now ≤ 65536 }
         ensures { OpensText «package».now text.now result }
     {
-        Ok(editor_of(begin(alloc, package, text)?, Vec::new(alloc)))
+        let course = begin(alloc, package, text)?;
+        Ok(editor_of(course, Vec::new(alloc), if_long(alloc, text)))
     }
 
     /// An editor of a session, whose digests are kept.
@@ -99,7 +111,7 @@ impl Editor {
         ensures { result ≡ session }
     {
         let (course, digests) = session.apart();
-        editor_of(course, digests)
+        editor_of(course, digests, None)
     }
 
     /// The number of the present text; the first is 0.
@@ -114,7 +126,10 @@ impl Editor {
         ensures ok { OnOk result (out.new.items ≡ out.old.items ++ present (session_history self.now)) }
         ensures err { OnErr result (out.new.items ≡ out.old.items) }
     {
-        self.course.present().spell_into(out)
+        match &self.text {
+            Some(text) => out.extend_from_slice(text.as_slice()),
+            None => self.course.present().spell_into(out),
+        }
     }
 
     /// The texts, one line each, as `Session::listing` gives them. The error: a growth was refused.
@@ -203,13 +218,13 @@ impl Editor {
         Ok(Some(Written { journal, text }))
     }
 
-    /// Keeps a long text that was written, which the file is to hold at the next action.
+    /// Keeps the text that was written, which the file is to hold at the next action, if it is long or commands came often.
     fn keep_text(&mut self, written: Result<Option<Written>, Memory>)
         requires { (from : ℕ) × IsWrittenSince self.old from written }
         ensures { self.new ≡ self.old }
     {
         if let Ok(Some(written)) = written
-            && written.text.len() >= LONG
+            && (written.text.len() >= LONG || self.done >= OFTEN)
         {
             self.text = Some(written.text);
         }

@@ -1,1 +1,2 @@
 pub mod Relaid
+pub mod private

@@ -3,9 +3,10 @@
 #![tactic(auto)]
 
 mod renewing;
+mod rereading;
 mod room;
 mod splicing;
 
 pub use bz_layout::{Relaid, Respliced};
 pub use renewing::{Renewed, renew};
-pub use splicing::{RenewedWindow, renew_spliced};
+pub use splicing::{RenewedWindow, renew_spliced, renew_whole};

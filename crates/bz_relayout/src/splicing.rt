@@ -7,13 +7,19 @@ ghost use Rattle.bz_layout.specs.Written.{layout};
 ghost use Rattle.bz_passes.specs.Passes.{tidied};
 ghost use Rattle.bz_relayout.specs.Relaid.{IsRespliced, IsWritten};
 
+use crate::rereading::reread;
 use crate::room::most_of;
 use bz_grammar::Tree;
-use bz_items::Memory;
-use bz_layout::{Respliced, is_window_shallow, is_window_short, relayout_spliced};
-use bz_passes::tidy_spliced;
+use bz_grammar::laws::one_reading;
+use bz_items::{Items, Memory};
+use bz_layout::{
+    Respliced, SetFault, is_window_shallow, is_window_short, layout_is_accepted, relayout_spliced,
+    text_of_file,
+};
+use bz_passes::{tidy, tidy_spliced};
 use bz_value::File;
-use std::alloc::Global;
+use std::alloc::{AllocError, Global};
+use std::mem;
 
 /// Lines that are laid out anew in the place of others, and how many bytes the text has at most with them.
 #[derive(Drop)]
@@ -71,4 +77,42 @@ pub fn renew_spliced(
 {
     let window = tidy_spliced(alloc, file, from, gone, come)?;
     window_laid_out(alloc, window.from, window.come, file, tree, length_bound)
+}
+
+/// The lines of a file that are other ones than in a tree, by the text of its layout, and their place in the tree; none where a limit is
+/// passed, or they aren't known.
+fn lines_by_text(alloc: Global, file: &File, tree: &Tree) -> Result<Option<RenewedWindow>, Memory>
+    ensures { IfOk result (λ found. IfSome found (λ renewed. IsRespliced renewed.respliced tree.now file.now × (length (layout file.now) ≤ renewed.most))) }
+{
+    one_reading();
+    layout_is_accepted();
+    let _items = &file.items;
+    let text = match text_of_file(alloc, file) {
+        Ok(text) => text,
+        Err(SetFault::Memory) => return Err(AllocError),
+        Err(_) => return Ok(None),
+    };
+    match reread(alloc, tree, text.as_slice())? {
+        Some(respliced) => Ok(Some(RenewedWindow {
+            respliced,
+            most: text.len(),
+        })),
+        None => Ok(None),
+    }
+}
+
+/// Renews a file, whatever it and its tree have to do with each other: tidies it, and gives the lines that are other ones than in the tree, and
+/// their place in it. None where a limit is passed, or the lines aren't known: the file is tidy then too, and its tree is to be laid out
+/// whole. The error: memory was refused; the file has no items then, or those that are tidy.
+pub fn renew_whole(
+    alloc: Global,
+    file: &mut File,
+    tree: &Tree,
+) -> Result<Option<RenewedWindow>, Memory>
+    ensures tidied { OnOk result (file.new ≡ tidied file.old) }
+    ensures lines { IfOk result (λ found. IfSome found (λ renewed. IsRespliced renewed.respliced tree.now file.new × (length (layout file.new) ≤ renewed.most))) }
+{
+    let items = mem::replace(&mut file.items, Items::new(alloc));
+    *file = tidy(alloc, File { items })?;
+    lines_by_text(alloc, file, tree)
 }
