@@ -7,8 +7,6 @@ pub mod Named
 pub mod Pieces
 pub mod PlainTexts
 pub mod ProperCommands
-pub mod ProperEntries
-pub mod ProperReads
 pub mod Strings
 pub mod TextMatches
 pub mod TextParts

@@ -11,7 +11,7 @@ use Rattle.bz_command_syntax.specs.declared.fault.CommandFault.TheVariants.{Unkn
 use Rattle.bz_command_syntax.specs.Refused.{IsReadAs}
 
 abbrev Table : Type 0
-Table = List (Bytes × (List Bytes → ReadCommand))
+Table = List (Bytes × (Bytes × (List Bytes → ReadCommand)))
 
 -- ---- a name that is in the table
 
@@ -38,7 +38,7 @@ none_in [] name other = refl
 none_in (command ∷ table) name other = rw (differs name command.0 other.0) (none_in table name other.1)
 
 pub unknown : (name : Bytes) (words : List Bytes) → IsNone name command_names → IsReadAs (command_in true (name ∷ words)) (Err Unknown)
-unknown name words other = inl (inl (ap (λ found. option_map_or (λ reader. reader words) found (Err Unknown)) (none_in commands name other)))
+unknown name words other = inl (inl (ap (λ found. option_map_or (λ (command : Bytes × (List Bytes → ReadCommand)). command.1 words) found (Err Unknown)) (none_in commands name other)))
 
 -- ---- a text that is too long
 
@@ -48,7 +48,7 @@ answered true = Err Arguments
 answered false = Err Unknown
 
 answered_by : (table : Table) (name : Bytes) (words : List Bytes)
-    → option_map_or (λ reader. if false then reader words else Err Arguments) (row_named table name) (Err Unknown) ≡ answered (list_any (bytes_eq name) (map (λ command. command.0) table))
+    → option_map_or (λ (command : Bytes × (List Bytes → ReadCommand)). if false then command.1 words else Err Arguments) (row_named table name) (Err Unknown) ≡ answered (list_any (bytes_eq name) (map (λ command. command.0) table))
 answered_by [] name words = refl
 answered_by (command ∷ table) name words = elim (cases_Bool (bytes_eq name command.0)) [
   | inl e ↦ rw e refl

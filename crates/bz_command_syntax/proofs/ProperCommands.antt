@@ -1,32 +1,117 @@
 -- Every command that is read is proper.
-use Rattle.std.proofs.Common.{◌≡◌, Bool, true, false, List, [], ◌∷◌, ◌&&◌, Option, Some, None, Ok, Err, subst, IfSome, codes, bytes_eq}
+use Rattle.std.proofs.Common.{◌≡◌, Bool, true, false, List, [], ◌∷◌, ◌&&◌, not, Option, Some, None, Ok, Err, refl, subst, arith, IsUtf8, IfSome, codes, bytes_eq, option_map}
 use Rattle.std.specs.Prelude.{if◌then◌else◌}
+use Rattle.std.specs.Str.{is_utf8, chars}
+use lib.Utf8.{encode}
 use Rattle.std.specs.List.{list_any}
-use Rattle.std.specs.Option.{option_map_or}
+use Rattle.std.specs.Option.{option_and_then, option_map_or}
 use Rattle.std.proofs.lemmas.Bool.{and_parts}
-use Rattle.bz_items.specs.Characters.{Bytes}
+use Rattle.std.proofs.lemmas.Str.{IsUtf8-from_is_utf8}
+use Rattle.bz_items.specs.Characters.{Bytes, colon, equals_sign}
 use Rattle.bz_command_syntax.specs.Words.{is_nonempty}
 use Rattle.bz_command_syntax.specs.Identifiers.{is_identifier, is_rule_kind}
 use Rattle.bz_command_syntax.specs.Commands as c
 use Rattle.bz_command_syntax.specs.Commands.{ReadCommand}
-use Rattle.bz_command_syntax.specs.Proper.{AreUtf8, AreValues, IsPlace, AreAttributes, AreMoved, IsProperCommand}
+use Rattle.bz_command_syntax.specs.Proper.{AreUtf8, EachIs, AreSome, IsAttribute, IsKind, IsPlace, AreAttributes, AreValues, AreMoved, IsEntry, IsSymbol, IsHost, IsField, IsProperCommand}
+use Rattle.bz_command_syntax.specs.declared.command.Attributes.{Attributes}
+use Rattle.bz_command_syntax.specs.declared.command.Entry.{Entry}
+use Rattle.bz_command_syntax.specs.declared.command.Fixes.{Fixes}
+use Rattle.bz_command_syntax.specs.declared.command.Host.{Host}
+use Rattle.bz_command_syntax.specs.declared.command.RulePlace.{RulePlace}
+use Rattle.bz_command_syntax.specs.declared.command.Symbol.{Symbol}
+use Rattle.bz_command_syntax.specs.declared.command.Values.{Values}
+use Rattle.bz_command_syntax.specs.declared.command.Values.TheVariants.{All, These}
 use Rattle.bz_command_syntax.specs.declared.command.Operation.{Operation}
 use Rattle.bz_command_syntax.specs.declared.command.Operation.TheVariants as w
 use Rattle.bz_command_syntax.specs.declared.command.RuleOperation.TheVariants as wr
 use Rattle.bz_command_syntax.specs.declared.command.AttributeOperation.TheVariants as wa
 use Rattle.bz_command_syntax.specs.declared.command.ValueOperation.TheVariants as wv
 use Rattle.bz_command_syntax.specs.declared.command.DictOperation.TheVariants as wd
+use Rattle.bz_command_syntax.specs.declared.command.LoadOperation.TheVariants as wl
 use Rattle.bz_command_syntax.specs.declared.command.CommentOperation.TheVariants as wc
-use Rattle.bz_command_syntax.specs.declared.command.Values.TheVariants.{All, These}
 use Rattle.bz_command_syntax.specs.declared.fault.CommandFault.TheVariants.{Unknown, Arguments}
-use Rattle.bz_command_syntax.proofs.ProperEntries.{entries_proper, new_load_proper, comment_proper, hosts_proper, fix_proper, print_proper}
-use Rattle.bz_command_syntax.proofs.ProperReads.{ReadsProper, given_proper, if_proper, made_proper, either, word_proper, values_proper, attributes_proper, two_words_proper}
+use Rattle.bz_command_syntax.proofs.Utf8Texts.{cut_utf8}
 
--- ---- parts
+-- ---- what is there, where there is something
 
-moved_proper : (t : Bool) (words : List Bytes) → AreValues words → AreMoved (if t then All else These words)
-moved_proper true words v = tt
-moved_proper false words v = v
+module _ {X : Type 0} (P : X → Type 0) where
+  given_is : (holds : Bool) (x : X) → (holds ≡ true → P x) → IfSome (c.given holds x) P
+  given_is true x f = f refl
+  given_is false x f = tt
+
+  either : (t : Bool) (a b : Option X) → (t ≡ true → IfSome a P) → IfSome b P → IfSome (if t then a else b) P
+  either true a b f h = f refl
+  either false a b f h = h
+
+  module _ {Y : Type 0} (Q : Y → Type 0) where
+    mapped : (f : X → Y) (o : Option X) → IfSome o P → ((x : X) → P x → Q (f x)) → IfSome (option_map f o) Q
+    mapped f None h g = tt
+    mapped f (Some x) h g = g x h
+
+    after : (f : X → Option Y) (o : Option X) → IfSome o P → ((x : X) → P x → IfSome (f x) Q) → IfSome (option_and_then f o) Q
+    after f None h g = tt
+    after f (Some x) h g = g x h
+
+  -- as many as there are words
+  each_proper : (form : Bytes → Option X) → ((word : Bytes) → IsUtf8 word → IfSome (form word) P) → (words : List Bytes) → AreUtf8 words
+      → IfSome (c.each_of form words) (λ xs. (is_nonempty xs ≡ is_nonempty words) × EachIs P xs)
+  each_proper form fits [] u = (refl, tt)
+  each_proper form fits (word ∷ words) u =
+      after (λ xs. (is_nonempty xs ≡ true) × EachIs P xs) (λ x. option_map (λ xs. x ∷ xs) (c.each_of form words)) (form word) (fits word u.0) (λ x p.
+      consed x p (c.each_of form words) (each_proper form fits words u.1))
+    where
+      consed : (x : X) → P x → (o : Option (List X)) → IfSome o (λ xs. (is_nonempty xs ≡ is_nonempty words) × EachIs P xs)
+          → IfSome (option_map (λ xs. x ∷ xs) o) (λ xs. (is_nonempty xs ≡ true) × EachIs P xs)
+      consed x p None h = tt
+      consed x p (Some xs) h = (refl, (p, h.1))
+
+  some_proper : (form : Bytes → Option X) → ((word : Bytes) → IsUtf8 word → IfSome (form word) P) → (words : List Bytes) → is_nonempty words ≡ true → AreUtf8 words
+      → IfSome (c.each_of form words) (AreSome P)
+  some_proper form fits words n u = subst (λ (b : Bool). IfSome (c.each_of form words) (λ xs. (is_nonempty xs ≡ b) × EachIs P xs)) n (each_proper form fits words u)
+
+-- ---- forms
+
+abbrev IsWord : Bytes × Bytes → Type 0
+IsWord parts = IsAttribute parts.0 × IsUtf8 parts.1
+
+word_proper : (words : List Bytes) → AreUtf8 words → IfSome (c.attribute_word words) IsWord
+word_proper [] u = tt
+word_proper (attribute ∷ []) u = tt
+word_proper (attribute ∷ word ∷ []) u = given_is IsWord (is_identifier attribute) (attribute, word) (λ i. ((i, u.0), u.1.0))
+word_proper (attribute ∷ word ∷ more ∷ words) u = tt
+
+abbrev AreTwo : Bytes × Bytes → Type 0
+AreTwo parts = IsAttribute parts.0 × IsAttribute parts.1
+
+two_proper : (words : List Bytes) → AreUtf8 words → IfSome (c.two_attributes words) AreTwo
+two_proper [] u = tt
+two_proper (from ∷ []) u = tt
+two_proper (from ∷ to ∷ []) u =
+    given_is AreTwo (is_identifier from && is_identifier to) (from, to) (λ h. let i = and_parts (is_identifier from) (is_identifier to) h in ((i.0, u.0), (i.1, u.1.0)))
+two_proper (from ∷ to ∷ more ∷ words) u = tt
+
+abbrev HasValues : Bytes × List Bytes → Type 0
+HasValues parts = IsAttribute parts.0 × AreValues parts.1
+
+values_proper : (words : List Bytes) → AreUtf8 words → IfSome (c.attribute_values words) HasValues
+values_proper [] u = tt
+values_proper (attribute ∷ values) u =
+    given_is HasValues (is_identifier attribute && is_nonempty values) (attribute, values) (λ h.
+    let i = and_parts (is_identifier attribute) (is_nonempty values) h in ((i.0, u.0), (i.1, u.1)))
+
+attributes_proper : (word : Bytes) → IsUtf8 word → IfSome (c.attributes_of word) AreAttributes
+attributes_proper word u = either AreAttributes (c.is_star word) _ _ (λ _. tt) (given_is AreAttributes (is_identifier word) _ (λ i. (i, u)))
+
+abbrev pub HasWords : Attributes × Bytes × Bytes → Type 0
+HasWords parts = AreAttributes parts.0 × IsUtf8 parts.1 × IsUtf8 parts.2
+
+pub words_proper : (words : List Bytes) → AreUtf8 words → IfSome (c.attributes_words words) HasWords
+words_proper [] u = tt
+words_proper (attribute ∷ []) u = tt
+words_proper (attribute ∷ first ∷ []) u = tt
+words_proper (attribute ∷ first ∷ second ∷ []) u =
+    mapped AreAttributes HasWords (λ attributes. (attributes, first, second)) (c.attributes_of attribute) (attributes_proper attribute u.0) (λ attributes a. (a, u.1.0, u.1.1.0))
+words_proper (attribute ∷ first ∷ second ∷ more ∷ words) u = tt
 
 place_proper : (words : List Bytes) → AreUtf8 words → IfSome (c.rule_place words) IsPlace
 place_proper [] u = tt
@@ -35,58 +120,121 @@ place_proper (side ∷ rule ∷ []) u =
     either IsPlace (bytes_eq side (codes "before")) _ _ (λ _. u.1.0) (either IsPlace (bytes_eq side (codes "after")) _ _ (λ _. u.1.0) tt)
 place_proper (side ∷ rule ∷ more ∷ words) u = tt
 
--- ---- commands
+abbrev IsNewRule : Bytes × Bytes × RulePlace → Type 0
+IsNewRule parts = IsKind parts.0 × IsUtf8 parts.1 × IsPlace parts.2
 
-new_proper : (words : List Bytes) → AreUtf8 words → ReadsProper (c.new_of words)
-new_proper [] u = tt
-new_proper (kind ∷ []) u = tt
-new_proper (kind ∷ name ∷ words) u =
-    if_proper (is_rule_kind kind) _ _ (λ k. made_proper IsPlace (λ place. w.Rule (wr.New kind name place)) (c.rule_place words) (place_proper words u.1.1) (λ place p. ((k, u.0), u.1.0, p))) tt
+rule_proper : (words : List Bytes) → AreUtf8 words → IfSome (c.new_rule words) IsNewRule
+rule_proper [] u = tt
+rule_proper (kind ∷ []) u = tt
+rule_proper (kind ∷ name ∷ words) u =
+    either IsNewRule (is_rule_kind kind) _ _ (λ k.
+    mapped IsPlace IsNewRule (λ place. (kind, name, place)) (c.rule_place words) (place_proper words u.1.1) (λ place p. ((k, u.0), u.1.0, p))) tt
 
-delete_proper : (words : List Bytes) → AreUtf8 words → ReadsProper (c.delete_of words)
-delete_proper [] u = tt
-delete_proper (word ∷ words) u = tt
+kind_proper : (words : List Bytes) → AreUtf8 words → IfSome (c.new_kind words) IsKind
+kind_proper [] u = tt
+kind_proper (word ∷ []) u = tt
+kind_proper (word ∷ kind ∷ []) u = given_is IsKind (is_rule_kind kind) kind (λ k. (k, u.1.0))
+kind_proper (word ∷ kind ∷ more ∷ words) u = tt
 
-set_kind_proper : (words : List Bytes) → AreUtf8 words → ReadsProper (c.set_kind_of words)
-set_kind_proper [] u = tt
-set_kind_proper (word ∷ []) u = tt
-set_kind_proper (word ∷ kind ∷ []) u = given_proper (is_rule_kind kind) (w.Rule (wr.SetKind kind)) (λ k. (k, u.1.0))
-set_kind_proper (word ∷ kind ∷ more ∷ words) u = tt
+abbrev IsMoved : Bytes × Bytes × Values → Type 0
+IsMoved parts = IsAttribute parts.0 × IsAttribute parts.1 × AreMoved parts.2
 
-set_proper : (words : List Bytes) → AreUtf8 words → ReadsProper (c.set_of words)
-set_proper words u =
-    if_proper (c.begins_with_kind words) _ _ (λ _. set_kind_proper words u)
-    (values_proper (λ attribute values. w.Attribute (wa.Set attribute values)) (λ attribute values i v. (i, v)) words u)
+all_or_these : (t : Bool) (words : List Bytes) → AreValues words → AreMoved (if t then All else These words)
+all_or_these true words v = tt
+all_or_these false words v = v
 
-set_if_absent_proper : (words : List Bytes) → AreUtf8 words → ReadsProper (c.set_if_absent_of words)
-set_if_absent_proper words u =
-    if_proper (c.begins_with_kind words) _ _ (λ _. tt)
-    (values_proper (λ attribute values. w.Attribute (wa.SetIfAbsent attribute values)) (λ attribute values i v. (i, v)) words u)
+moved_proper : (words : List Bytes) → AreUtf8 words → IfSome (c.moved_values words) IsMoved
+moved_proper [] u = tt
+moved_proper (from ∷ []) u = tt
+moved_proper (from ∷ to ∷ values) u =
+    given_is IsMoved (is_identifier from && is_identifier to && is_nonempty values) (from, to, c.values_of values) (λ h.
+    let i = and_parts (is_identifier from && is_identifier to) (is_nonempty values) h in
+    let j = and_parts (is_identifier from) (is_identifier to) i.0 in
+    ((j.0, u.0), (j.1, u.1.0), all_or_these (list_any c.is_star values) values (i.1, u.1.1)))
 
-remove_proper : (words : List Bytes) → AreUtf8 words → ReadsProper (c.remove_of words)
-remove_proper [] u = tt
-remove_proper (attribute ∷ values) u =
-    if_proper (is_nonempty values) _ _ (λ some. given_proper (is_identifier attribute) (w.Value (wv.Remove attribute values)) (λ i. ((i, u.0), (some, u.1))))
-    (made_proper AreAttributes (λ attributes. w.Attribute (wa.Remove attributes)) (c.attributes_of attribute) (attributes_proper attribute u.0) (λ attributes a. a))
+abbrev AreTexts : Bytes × Bytes → Type 0
+AreTexts parts = IsUtf8 parts.0 × IsUtf8 parts.1
 
-move_proper : (words : List Bytes) → AreUtf8 words → ReadsProper (c.move_of words)
-move_proper [] u = tt
-move_proper (from ∷ []) u = tt
-move_proper (from ∷ to ∷ values) u =
-    given_proper (is_identifier from && is_identifier to && is_nonempty values) (w.Value (wv.Move from to (c.values_of values))) (λ h.
-    let w = and_parts (is_identifier from && is_identifier to) (is_nonempty values) h in
-    let v = and_parts (is_identifier from) (is_identifier to) w.0 in
-    ((v.0, u.0), (v.1, u.1.0), moved_proper (list_any c.is_star values) values (w.1, u.1.1)))
+entry_proper : (word : Bytes) → IsUtf8 word → IfSome (c.entry_of word) IsEntry
+entry_proper word u = mapped AreTexts IsEntry _ (c.cut_at colon word) (cut_utf8 colon [] word (omega arith) u) (λ parts p. p)
 
-rename_proper : (words : List Bytes) → AreUtf8 words → ReadsProper (c.rename_of words)
-rename_proper [] u = tt
-rename_proper (from ∷ []) u = tt
-rename_proper (from ∷ to ∷ []) u =
-    given_proper (is_identifier from && is_identifier to) (w.Attribute (wa.Rename from to)) (λ h.
-    let w = and_parts (is_identifier from) (is_identifier to) h in ((w.0, u.0), (w.1, u.1.0)))
-rename_proper (from ∷ to ∷ more ∷ words) u = tt
+abbrev HasEntries : Bytes × List Entry → Type 0
+HasEntries parts = IsAttribute parts.0 × AreSome IsEntry parts.1
+
+entries_proper : (words : List Bytes) → AreUtf8 words → IfSome (c.dict_entries words) HasEntries
+entries_proper [] u = tt
+entries_proper (attribute ∷ words) u =
+    either HasEntries (is_identifier attribute && is_nonempty words) _ _ (λ h.
+    let i = and_parts (is_identifier attribute) (is_nonempty words) h in
+    mapped (AreSome IsEntry) HasEntries (λ entries. (attribute, entries)) (c.each_of c.entry_of words) (some_proper IsEntry c.entry_of entry_proper words i.1 u.1)
+    (λ entries e. ((i.0, u.0), e))) tt
+
+names_proper : (to from : Bytes) → IsUtf8 to → IsUtf8 from → IfSome (c.symbol_of_names to from) IsSymbol
+names_proper to from u v = given_is IsSymbol (is_identifier to && is_identifier from) _ (λ h. let i = and_parts (is_identifier to) (is_identifier from) h in ((i.0, u), (i.1, v)))
+
+symbol_proper : (word : Bytes) → IsUtf8 word → IfSome (c.symbol_of word) IsSymbol
+symbol_proper word u = by (c.cut_at equals_sign word) (cut_utf8 equals_sign [] word (omega arith) u)
+  where
+    by : (parts : Option (Bytes × Bytes)) → IfSome parts AreTexts → IfSome (option_map_or (λ both. c.symbol_of_names both.0 both.1) parts (c.symbol_of_names word word)) IsSymbol
+    by None h = names_proper word word u u
+    by (Some both) h = names_proper both.0 both.1 h.0 h.1
+
+abbrev HasSymbols : Bytes × List Symbol → Type 0
+HasSymbols parts = IsUtf8 parts.0 × AreSome IsSymbol parts.1
+
+symbols_proper : (words : List Bytes) → AreUtf8 words → IfSome (c.path_symbols words) HasSymbols
+symbols_proper [] u = tt
+symbols_proper (path ∷ words) u =
+    either HasSymbols (is_nonempty words) _ _ (λ some.
+    mapped (AreSome IsSymbol) HasSymbols (λ symbols. (path, symbols)) (c.each_of c.symbol_of words) (some_proper IsSymbol c.symbol_of symbol_proper words some u.1) (λ symbols s. (u.0, s))) tt
+
+host_proper : (words : List Bytes) → AreUtf8 words → IfSome (c.host_of words) IsHost
+host_proper [] u = tt
+host_proper (attribute ∷ []) u = given_is IsHost (is_identifier attribute) _ (λ i. (i, u.0))
+host_proper (attribute ∷ value ∷ []) u = given_is IsHost (is_identifier attribute) _ (λ i. ((i, u.0), u.1.0))
+host_proper (attribute ∷ value ∷ more ∷ words) u = tt
+
+abbrev AreCut : List Bytes × Bytes → Type 0
+AreCut parts = AreUtf8 parts.0 × IsUtf8 parts.1
+
+last_proper : (words : List Bytes) → AreUtf8 words → IfSome (c.split_last words) AreCut
+last_proper [] u = tt
+last_proper (word ∷ []) u = (tt, u.0)
+last_proper (word ∷ next ∷ words) u = mapped AreCut AreCut (λ parts. (word ∷ parts.0, parts.1)) (c.split_last (next ∷ words)) (last_proper (next ∷ words) u.1) (λ parts p. ((u.0, p.0), p.1))
+
+abbrev HasText : Host × Bytes → Type 0
+HasText parts = IsHost parts.0 × (c.is_one_line parts.1 ≡ true) × IsUtf8 parts.1
+
+text_proper : (words : List Bytes) → AreUtf8 words → IfSome (option_and_then c.host_text (c.split_last words)) HasText
+text_proper words u =
+    after AreCut HasText c.host_text (c.split_last words) (last_proper words u) (λ parts p.
+    either HasText (c.is_one_line parts.1) _ _ (λ line.
+    mapped IsHost HasText (λ host. (host, parts.1)) (c.host_of parts.0) (host_proper parts.0 p.0) (λ host h. (h, line, p.1))) tt)
+
+fixes_proper : (o : Option Fixes) → IfSome o (λ fixes. Unit {0})
+fixes_proper None = tt
+fixes_proper (Some fixes) = tt
+
+field_proper : (word : Bytes) → IsUtf8 word → IfSome (c.field_of word) IsField
+field_proper word u =
+    either IsField (bytes_eq word (codes "kind")) _ _ (λ _. tt) (either IsField (bytes_eq word (codes "startline")) _ _ (λ _. tt)
+    (either IsField (bytes_eq word (codes "rule")) _ _ (λ _. tt) (given_is IsField (is_identifier word && not (c.is_unknown_field word)) _ (λ h.
+    ((and_parts (is_identifier word) (not (c.is_unknown_field word)) h).0, u)))))
+
+name_is_text : is_utf8 (codes "name") ≡ true
+unfolding is_utf8 chars encode
+name_is_text = refl
+
+fields_proper : (words : List Bytes) → AreUtf8 words → IfSome (c.fields_of words) (AreSome IsField)
+fields_proper [] u = (refl, ((refl, IsUtf8-from_is_utf8 (codes "name") name_is_text), (tt, tt)))
+fields_proper (word ∷ words) u = some_proper IsField c.field_of field_proper (word ∷ words) refl u
 
 -- ---- the table
+
+-- the command is proper, where there is one
+abbrev ReadsProper : ReadCommand → Type 0
+ReadsProper (Ok command) = IsProperCommand command
+ReadsProper (Err fault) = Unit {0}
 
 abbrev Reader : Type 0
 Reader = List Bytes → ReadCommand
@@ -94,9 +242,42 @@ Reader = List Bytes → ReadCommand
 abbrev IsProperReader : Reader → Type 0
 IsProperReader reader = (words : List Bytes) → AreUtf8 words → ReadsProper (reader words)
 
-abbrev AllReadProper : List (Bytes × Reader) → Type 0
+made_proper : {X : Type 0} (make : X → Operation) (o : Option X) → IfSome o (λ x. IsProperCommand (make x)) → ReadsProper (c.operation_of make o)
+made_proper make None h = tt
+made_proper make (Some x) h = h
+
+by_form : {X : Type 0} (make : X → Operation) (form : List Bytes → Option X) → ((words : List Bytes) → AreUtf8 words → IfSome (form words) (λ x. IsProperCommand (make x)))
+    → IsProperReader (λ words. c.operation_of make (form words))
+by_form make form proper words u = made_proper make (form words) (proper words u)
+
+if_proper : (t : Bool) (x y : ReadCommand) → (t ≡ true → ReadsProper x) → ReadsProper y → ReadsProper (if t then x else y)
+if_proper true x y f k = f refl
+if_proper false x y f k = k
+
+delete_proper : IsProperReader c.delete_of
+delete_proper [] u = tt
+delete_proper (word ∷ words) u = tt
+
+set_proper : IsProperReader c.set_of
+set_proper words u =
+    if_proper (c.begins_with_kind words) _ _ (λ _. by_form (λ kind. w.Rule (wr.SetKind kind)) c.new_kind kind_proper words u)
+    (by_form (λ parts. w.Attribute (wa.Set parts.0 parts.1)) c.attribute_values values_proper words u)
+
+set_if_absent_proper : IsProperReader c.set_if_absent_of
+set_if_absent_proper words u =
+    if_proper (c.begins_with_kind words) _ _ (λ _. tt) (by_form (λ parts. w.Attribute (wa.SetIfAbsent parts.0 parts.1)) c.attribute_values values_proper words u)
+
+remove_proper : IsProperReader c.remove_of
+remove_proper [] u = tt
+remove_proper (attribute ∷ values) u =
+    if_proper (is_nonempty values) _ _
+    (λ some. made_proper (λ name. w.Value (wv.Remove name values)) (c.given (is_identifier attribute) attribute)
+    (given_is (λ name. IsAttribute name × AreValues values) (is_identifier attribute) attribute (λ i. ((i, u.0), (some, u.1)))))
+    (made_proper (λ attributes. w.Attribute (wa.Remove attributes)) (c.attributes_of attribute) (attributes_proper attribute u.0))
+
+abbrev AllReadProper : List (Bytes × (Bytes × Reader)) → Type 0
 AllReadProper [] = Unit {0}
-AllReadProper (command ∷ table) = IsProperReader command.1 × AllReadProper table
+AllReadProper (command ∷ table) = IsProperReader command.1.1 × AllReadProper table
 
 -- a command before others
 with_row : {A B : Type 0} → A → B → A × B
@@ -104,40 +285,40 @@ with_row first rest = (first, rest)
 
 commands_proper : AllReadProper c.commands
 commands_proper =
-    with_row new_proper
+    with_row (by_form (λ parts. w.Rule (wr.New parts.0 parts.1 parts.2)) c.new_rule rule_proper)
     (with_row delete_proper
     (with_row set_proper
     (with_row set_if_absent_proper
-    (with_row (values_proper (λ attribute values. w.Value (wv.Add attribute values)) (λ attribute values i v. (i, v)))
+    (with_row (by_form (λ parts. w.Value (wv.Add parts.0 parts.1)) c.attribute_values values_proper)
     (with_row remove_proper
-    (with_row (two_words_proper (λ attributes old new. w.Value (wv.Replace attributes old new)) (λ attributes old new a o n. (a, o, n)))
-    (with_row (two_words_proper (λ attributes pattern template. w.Value (wv.Substitute attributes pattern template)) (λ attributes pattern template a p t. (a, p, t)))
-    (with_row move_proper
-    (with_row rename_proper
-    (with_row (word_proper (λ attribute rule. w.Attribute (wa.Copy attribute rule)) (λ attribute rule i r. (i, r)))
-    (with_row (word_proper (λ attribute rule. w.Attribute (wa.CopyNoOverwrite attribute rule)) (λ attribute rule i r. (i, r)))
-    (with_row (entries_proper (λ attribute entries. w.Dict (wd.Add attribute entries)) (λ attribute entries i e. (i, e)))
-    (with_row (entries_proper (λ attribute entries. w.Dict (wd.Set attribute entries)) (λ attribute entries i e. (i, e)))
-    (with_row (values_proper (λ attribute keys. w.Dict (wd.Remove attribute keys)) (λ attribute keys i k. (i, k)))
-    (with_row new_load_proper
-    (with_row comment_proper
-    (with_row (hosts_proper (λ host. w.Comment (wc.Print host)) (λ host p. p))
-    (with_row (hosts_proper (λ host. w.Comment (wc.Remove host)) (λ host p. p))
-    (with_row fix_proper
-    (with_row print_proper tt))))))))))))))))))))
+    (with_row (by_form (λ parts. w.Value (wv.Replace parts.0 parts.1 parts.2)) c.attributes_words words_proper)
+    (with_row (by_form (λ parts. w.Value (wv.Substitute parts.0 parts.1 parts.2)) c.attributes_words words_proper)
+    (with_row (by_form (λ parts. w.Value (wv.Move parts.0 parts.1 parts.2)) c.moved_values moved_proper)
+    (with_row (by_form (λ parts. w.Attribute (wa.Rename parts.0 parts.1)) c.two_attributes two_proper)
+    (with_row (by_form (λ parts. w.Attribute (wa.Copy parts.0 parts.1)) c.attribute_word word_proper)
+    (with_row (by_form (λ parts. w.Attribute (wa.CopyNoOverwrite parts.0 parts.1)) c.attribute_word word_proper)
+    (with_row (by_form (λ parts. w.Dict (wd.Add parts.0 parts.1)) c.dict_entries entries_proper)
+    (with_row (by_form (λ parts. w.Dict (wd.Set parts.0 parts.1)) c.dict_entries entries_proper)
+    (with_row (by_form (λ parts. w.Dict (wd.Remove parts.0 parts.1)) c.attribute_values values_proper)
+    (with_row (by_form (λ parts. w.Load (wl.New parts.0 parts.1)) c.path_symbols symbols_proper)
+    (with_row (by_form (λ parts. w.Comment (wc.Add parts.0 parts.1)) (λ words. option_and_then c.host_text (c.split_last words)) text_proper)
+    (with_row (by_form (λ host. w.Comment (wc.Print host)) c.host_of host_proper)
+    (with_row (by_form (λ host. w.Comment (wc.Remove host)) c.host_of host_proper)
+    (with_row (by_form (λ fixes. w.Load (wl.Fix fixes)) c.fixes_of (λ words u. fixes_proper (c.fixes_of words)))
+    (with_row (by_form w.Print c.fields_of fields_proper) tt))))))))))))))))))))
 
-named_proper : (table : List (Bytes × Reader)) → AllReadProper table → (name : Bytes) → IfSome (c.row_named table name) IsProperReader
+named_proper : (table : List (Bytes × (Bytes × Reader))) → AllReadProper table → (name : Bytes) → IfSome (c.row_named table name) (λ command. IsProperReader command.1)
 named_proper [] h name = tt
-named_proper (command ∷ table) h name = either IsProperReader (bytes_eq name command.0) _ _ (λ _. h.0) (named_proper table h.1 name)
+named_proper (command ∷ table) h name = either (λ command. IsProperReader command.1) (bytes_eq name command.0) _ _ (λ _. h.0) (named_proper table h.1 name)
 
-fitting : (fits : Bool) (words : List Bytes) → AreUtf8 words → (o : Option Reader) → IfSome o IsProperReader
-    → ReadsProper (option_map_or (λ reader. if fits then reader words else Err Arguments) o (Err Unknown))
-fitting true words u (Some reader) h = h words u
-fitting false words u (Some reader) h = tt
+fitting : (fits : Bool) (words : List Bytes) → AreUtf8 words → (o : Option (Bytes × Reader)) → IfSome o (λ command. IsProperReader command.1)
+    → ReadsProper (option_map_or (λ command. if fits then command.1 words else Err Arguments) o (Err Unknown))
+fitting true words u (Some command) h = h words u
+fitting false words u (Some command) h = tt
 fitting fits words u None h = tt
 
 -- The operation that is read in words is proper.
-pub in_words : (fits : Bool) (words : List Bytes) → AreUtf8 words → ReadsProper (c.command_in fits words)
+in_words : (fits : Bool) (words : List Bytes) → AreUtf8 words → ReadsProper (c.command_in fits words)
 in_words fits [] u = tt
 in_words fits (name ∷ words) u = fitting fits words u.1 (c.row_named c.commands name) (named_proper c.commands commands_proper name)
 

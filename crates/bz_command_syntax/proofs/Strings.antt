@@ -1,8 +1,6 @@
 -- A word between quotation marks is a lexeme of class String.
-use Rattle.std.proofs.Common.{◌≡◌, ◌==◌, ◌<◌, ◌≤◌, ◌+◌, ℕ, false, [], ◌∷◌, ◌++◌, ◌||◌, length, get_or, take, refl, sym, ap, ◌∙◌, inl, inr}
+use Rattle.std.proofs.Common.{◌≡◌, ◌==◌, ℕ, false, [], ◌∷◌, ◌++◌, ◌||◌, refl, ap, ◌∙◌, inl, inr}
 use Rattle.std.specs.List.{flat_map, list_any}
-use Rattle.std.proofs.lemmas.List.{take_more, take_all, append-nil}
-use Rattle.std.proofs.lemmas.List.Concat.{flat_map-append}
 use Rattle.std.proofs.lemmas.Bool.{cases_Bool, or_parts}
 use Rattle.bz_token.specs.declared.class.Class.TheVariants as class
 use Rattle.bz_items.specs.Characters.{Bytes, backslash, line_feed, quotation_mark}
@@ -45,20 +43,3 @@ plain_text (byte ∷ word) h =
 
 pub quoted_plain : (word : Bytes) → list_any is_escaped word ≡ false → quoted_of word ≡ quotation_mark ∷ word ++ quotation_mark ∷ []
 quoted_plain word h = rw (plain_text word h) refl
-
--- ---- the loop that writes a word between quotation marks
-
--- one byte more, which is read at any `d` after the word
-pub quoted_turn : (word : Bytes) (at d : ℕ) (before after : Bytes) → at < length word → before ≡ quotation_mark ∷ flat_map escaped (take at word) → after ≡ before ++ escaped (get_or word at d)
-    → after ≡ quotation_mark ∷ flat_map escaped (take (at + 1) word)
-quoted_turn word at d before after within so_far more =
-    let front : Bytes = flat_map escaped (take at word) in
-    let byte : ℕ = get_or word at d in
-    let next : flat_map escaped (take (at + 1) word) ≡ front ++ escaped byte =
-    ap (flat_map escaped) (take_more word at d within) ∙ (flat_map-append escaped (take at word) (byte ∷ []) ∙ ap (λ (t : Bytes). front ++ t) (append-nil (escaped byte))) in
-    more ∙ (ap (λ (t : Bytes). t ++ escaped byte) so_far ∙ ap (λ (t : Bytes). quotation_mark ∷ t) (sym next))
-
--- the mark after the whole word
-pub quoted_end : (word : Bytes) (at : ℕ) (before after : Bytes) → length word ≤ at → before ≡ quotation_mark ∷ flat_map escaped (take at word) → after ≡ before ++ quotation_mark ∷ [] → after ≡ quoted_of word
-quoted_end word at before after following so_far more =
-    more ∙ ap (λ (t : Bytes). t ++ quotation_mark ∷ []) (so_far ∙ ap (λ (t : Bytes). quotation_mark ∷ flat_map escaped t) (take_all at word following))

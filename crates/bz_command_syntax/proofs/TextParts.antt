@@ -5,7 +5,7 @@ use Rattle.std.proofs.lemmas.Bool.Decides.{nat_tests}
 use Rattle.std.proofs.lemmas.List.Elements.{All-nil, All-cons, All-head, All-tail, All-drop}
 use Rattle.std.proofs.lemmas.Str.{IsUtf8-encode, scalars-chars}
 use Rattle.std.proofs.Math.Utf8.{scalars}
-use Rattle.std.specs.Char.{IsScalar, is_ascii, is_whitespace}
+use Rattle.std.specs.Char.{IsScalar, is_ascii}
 use Rattle.std.specs.List.{list_all}
 use Rattle.regex_class.proofs.RangesLemmas.{in_ranges-nil}
 use Rattle.regex_hir.specs.Meaning.{cat_all, alt_all}
@@ -16,7 +16,7 @@ use Rattle.regex_syntax.proofs.Always.{Always, never, found, either, only_if, af
 use Rattle.regex_syntax.proofs.FitsLemmas.{Fits-negate, Fits-folded}
 use Rattle.regex_syntax.proofs.SetLemmas.{in_ranges-members, ascii_member}
 use Rattle.regex_syntax.specs.WellFormed.{max_byte}
-use Rattle.regex_syntax.specs.Brackets.{Nested, flat, unite, operator, posix, member, set_item, after_hyphen, bracket_start, item_or, set_items, operations, bracket}
+use Rattle.regex_syntax.specs.Brackets.{Nested, flat, unite, operator, posix, member, set_item, bracket_start, item_or, set_items, operations, bracket}
 use Rattle.regex_syntax.specs.declared.Config.{Config}
 use Rattle.regex_syntax.specs.declared.flags.Flags.{Flags}
 use Rattle.regex_syntax.specs.Escapes.{Piece, character, class, assertion, one_letter, hex, unicode_class, named_class, boundary_name, boundary, escape, is_verbose}
@@ -251,12 +251,6 @@ module _ (config : Config) (utf8 : config.utf8 ≡ true) where
   member_rest : (t : Text) → AreChars t → Always (RestIsChars Piece) (member config t)
   unfolding member
   member_rest t h = search (walk, dropped, escape_rest) depth 12
-
-  after_hyphen_chars : (t : Text) → AreChars t → AreChars (after_hyphen config t)
-  unfolding after_hyphen
-  after_hyphen_chars t h =
-      let blank : (s : Text) → AreChars s → AreChars (take_run false is_whitespace (drop 1 s)).1 = λ s k. after_run false is_whitespace (drop 1 s) (dropped 1 s k) in
-      by_cases _ _ _ (dropped 1 t h) (by_cases _ _ _ (blank _ (blank t h)) (blank t h))
 
   set_item_rest : (t : Text) → AreChars t → Always (RestIsChars Set) (set_item config t)
   unfolding set_item

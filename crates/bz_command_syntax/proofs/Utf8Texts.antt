@@ -1,7 +1,7 @@
 -- What is UTF-8 and cut beside ASCII stays UTF-8.
 use Rattle.std.proofs.Common.{◌≡◌, ◌==◌, ◌<◌, ◌+◌, ℕ, Bool, true, false, List, [], ◌∷◌, ◌++◌, ◌&&◌, ◌||◌, not, map, filter, length, drop, get_or, refl, sym, ap, ◌∙◌, subst, inl, inr, arith, length-append, append_assoc, IsUtf8, IfSome, Option, Some, None, option_map}
 use Rattle.std.specs.Prelude.{if◌then◌else◌}
-use Rattle.std.specs.List.{flat_map, onto_first}
+use Rattle.std.specs.List.{flat_map}
 use Rattle.std.proofs.lemmas.Bool.{cases_Bool, eqb-true, or_cases, and_parts}
 use Rattle.std.proofs.lemmas.List.{take_at, drop_at, append-nil}
 use Rattle.std.proofs.lemmas.Str.{IsUtf8-take, IsUtf8-drop, IsUtf8-append, IsUtf8-from_ascii, IsCharBoundary-before_ascii, IsCharBoundary-after_ascii}
@@ -12,8 +12,8 @@ use Rattle.bz_items.specs.Characters.{Bytes, backslash, letter_n, line_feed, quo
 use Rattle.bz_command_syntax.specs.Commands.{cut_at}
 use Rattle.bz_command_syntax.specs.Proper.{AreUtf8}
 use Rattle.bz_command_syntax.specs.Quoted.{escaped, quoted_of}
-use Rattle.bz_command_syntax.specs.Words.{pieces, begins_with_space, unescaped, is_nonempty, words_of}
-use Rattle.bz_command_syntax.proofs.Pieces.{joined, joined-onto_first}
+use Rattle.bz_command_syntax.specs.Words.{pieces, begins_with_space, is_nonempty, joined, words_of}
+use Rattle.bz_command_syntax.proofs.Pieces.{joined-onto_first}
 
 -- a text on both sides of an ASCII byte
 pub beside_ascii : (front : Bytes) (byte : ℕ) (rest : Bytes) → byte < 128 → IsUtf8 (front ++ byte ∷ rest) → IsUtf8 front × IsUtf8 rest
@@ -106,39 +106,24 @@ nothing_before (piece ∷ all) u = u
 
 pieces_utf8 : (front : Bytes) (following : Bool) (text : Bytes) → IsUtf8 (front ++ text) → AreUtf8 (joined front (pieces following text))
 pieces_utf8 front following [] u = (u, tt)
-pieces_utf8 front following (byte ∷ rest) u =
-    let cut : Bool → Type 0 = λ t. AreUtf8 (joined front (if t then [] ∷ pieces false rest else onto_first byte (pieces (byte == backslash) rest))) in
-    elim (cases_Bool (byte == space && not following)) [
-      | inl e ↦
-          let same : byte ≡ space = eqb-true byte space ((and_parts (byte == space) (not following) e).0) in
-          let w = beside_ascii front byte rest (omega arith) u in
-          subst cut (sym e) (subst IsUtf8 (sym (append-nil front)) w.0, nothing_before (pieces false rest) (pieces_utf8 [] false rest w.1))
-      | inr e ↦
-          let all = pieces (byte == backslash) rest in
-          subst cut (sym e) (subst AreUtf8 (sym (joined-onto_first front byte all))
-          (pieces_utf8 (front ++ byte ∷ []) (byte == backslash) rest (rw append_assoc u)))
-    ]
+pieces_utf8 front following (byte ∷ rest) u = elim (cases_Bool (byte == space && not following)) [
+  | inl e ↦
+      let same : byte ≡ space = eqb-true byte space ((and_parts (byte == space) (not following) e).0) in
+      let w = beside_ascii front byte rest (omega arith) u in
+      rw e (subst IsUtf8 (sym (append-nil front)) w.0, nothing_before (pieces (byte == backslash) rest) (pieces_utf8 [] (byte == backslash) rest w.1))
+  | inr e ↦ elim (cases_Bool (byte == backslash && begins_with_space rest)) [
+    | inl f ↦
+        let same : byte ≡ backslash = eqb-true byte backslash ((and_parts (byte == backslash) (begins_with_space rest) f).0) in
+        let w = beside_ascii front byte rest (omega arith) u in
+        rw (e, f) (pieces_utf8 front (byte == backslash) rest (IsUtf8-append front rest w.0 w.1))
+    | inr f ↦ rw (e, f, joined-onto_first front byte (pieces (byte == backslash) rest)) (pieces_utf8 (front ++ byte ∷ []) (byte == backslash) rest (rw append_assoc u))
+  ]
+]
 
 filter_utf8 : (all : List Bytes) → AreUtf8 all → AreUtf8 (filter is_nonempty all)
 filter_utf8 [] u = tt
 filter_utf8 ([] ∷ all) u = filter_utf8 all u.1
 filter_utf8 ((byte ∷ piece) ∷ all) u = (u.0, filter_utf8 all u.1)
 
-unescaped_utf8 : (front text : Bytes) → IsUtf8 (front ++ text) → IsUtf8 (front ++ unescaped text)
-unescaped_utf8 front [] u = u
-unescaped_utf8 front (byte ∷ rest) u =
-    let following : Bool → Type 0 = λ t. IsUtf8 (front ++ (if t then unescaped rest else byte ∷ unescaped rest)) in
-    elim (cases_Bool (byte == backslash && begins_with_space rest)) [
-      | inl e ↦
-          let same : byte ≡ backslash = eqb-true byte backslash ((and_parts (byte == backslash) (begins_with_space rest) e).0) in
-          let w = beside_ascii front byte rest (omega arith) u in
-          subst following (sym e) (IsUtf8-append front (unescaped rest) w.0 (unescaped_utf8 [] rest w.1))
-      | inr e ↦ subst following (sym e) (rw append_assoc at (unescaped_utf8 (front ++ byte ∷ []) rest (rw append_assoc u)))
-    ]
-
-each_unescaped : (all : List Bytes) → AreUtf8 all → AreUtf8 (map unescaped all)
-each_unescaped [] u = tt
-each_unescaped (piece ∷ all) u = (unescaped_utf8 [] piece u.0, each_unescaped all u.1)
-
 pub words_utf8 : (text : Bytes) → IsUtf8 text → AreUtf8 (words_of text)
-words_utf8 text u = each_unescaped (filter is_nonempty (pieces false text)) (filter_utf8 (pieces false text) (nothing_before (pieces false text) (pieces_utf8 [] false text u)))
+words_utf8 text u = filter_utf8 (pieces false text) (nothing_before (pieces false text) (pieces_utf8 [] false text u))

@@ -34,10 +34,14 @@ use Rattle.bz_command_syntax.specs.declared.fault.CommandFault.TheVariants.{Unkn
 abbrev pub ReadCommand : Type 0
 ReadCommand = Result Operation CommandFault
 
--- the command, where its words have the form that it takes
-abbrev pub given : Bool → Operation → ReadCommand
-given true command = Ok command
-given false command = Err Arguments
+-- the command of these parts, where the words have the form that gives them
+abbrev pub operation_of : {X : Type 0} → (X → Operation) → Option X → ReadCommand
+operation_of make parts = ok_or (option_map make parts) Arguments
+
+-- the parts, where the words have this form
+abbrev pub given : {X : Type 0} → Bool → X → Option X
+given true parts = Some parts
+given false parts = None
 
 -- `*` alone
 abbrev pub is_star : Bytes → Bool
@@ -45,11 +49,33 @@ is_star word = bytes_eq word (asterisk ∷ [])
 
 -- `*`, or an attribute
 abbrev pub attributes_of : Bytes → Option Attributes
-attributes_of word = if is_star word then Some AllAttributes else (if is_identifier word then Some (Named word) else None)
+attributes_of word = if is_star word then Some AllAttributes else given (is_identifier word) (Named word)
 
 -- `*` beside other values is all
 abbrev pub values_of : List Bytes → Values
 values_of words = if list_any is_star words then AllValues else These words
+
+-- ATTRIBUTE WORD
+abbrev pub attribute_word : List Bytes → Option (Bytes × Bytes)
+attribute_word (attribute ∷ word ∷ []) = given (is_identifier attribute) (attribute, word)
+attribute_word _ = None
+
+-- ATTRIBUTE ATTRIBUTE
+abbrev pub two_attributes : List Bytes → Option (Bytes × Bytes)
+two_attributes (from ∷ to ∷ []) = given (is_identifier from && is_identifier to) (from, to)
+two_attributes _ = None
+
+-- ATTRIBUTE VALUE..
+abbrev pub attribute_values : List Bytes → Option (Bytes × List Bytes)
+attribute_values [] = None
+attribute_values (attribute ∷ values) = given (is_identifier attribute && is_nonempty values) (attribute, values)
+
+-- ATTRIBUTE WORD WORD or * WORD WORD
+abbrev pub attributes_words : List Bytes → Option (Attributes × Bytes × Bytes)
+attributes_words (attribute ∷ first ∷ second ∷ []) = option_map (λ attributes. (attributes, first, second)) (attributes_of attribute)
+attributes_words _ = None
+
+-- ---- what each command reads in the words after its name
 
 -- `before RULE` or `after RULE`
 abbrev pub beside : Bytes → Bytes → Option RulePlace
@@ -62,87 +88,78 @@ rule_place [] = Some End
 rule_place (side ∷ rule ∷ []) = beside side rule
 rule_place _ = None
 
--- ATTRIBUTE WORD
-abbrev pub attribute_word_of : (Bytes → Bytes → Operation) → List Bytes → ReadCommand
-attribute_word_of operation (attribute ∷ word ∷ []) = given (is_identifier attribute) (operation attribute word)
-attribute_word_of operation _ = Err Arguments
+-- KIND NAME [before|after RULE]
+abbrev pub new_rule : List Bytes → Option (Bytes × Bytes × RulePlace)
+new_rule (kind ∷ name ∷ words) = if is_rule_kind kind then option_map (λ place. (kind, name, place)) (rule_place words) else None
+new_rule _ = None
 
--- ATTRIBUTE VALUE..
-abbrev pub attribute_values_of : (Bytes → List Bytes → Operation) → List Bytes → ReadCommand
-attribute_values_of operation [] = Err Arguments
-attribute_values_of operation (attribute ∷ values) = given (is_identifier attribute && is_nonempty values) (operation attribute values)
-
--- ATTRIBUTE WORD WORD or * WORD WORD
-abbrev pub attributes_words_of : (Attributes → Bytes → Bytes → Operation) → List Bytes → ReadCommand
-attributes_words_of operation (attribute ∷ first ∷ second ∷ []) = ok_or (option_map (λ attributes. operation attributes first second) (attributes_of attribute)) Arguments
-attributes_words_of operation _ = Err Arguments
-
--- ---- what each command reads in the words after its name
-
--- new KIND NAME [before|after RULE]
 abbrev pub new_of : List Bytes → ReadCommand
-new_of (kind ∷ name ∷ words) = if is_rule_kind kind then ok_or (option_map (λ place. w.Rule (wr.New kind name place)) (rule_place words)) Arguments else Err Arguments
-new_of _ = Err Arguments
+new_of words = operation_of (λ parts. w.Rule (wr.New parts.0 parts.1 parts.2)) (new_rule words)
 
 -- delete
 abbrev pub delete_of : List Bytes → ReadCommand
 delete_of [] = Ok (w.Rule wr.Delete)
 delete_of _ = Err Arguments
 
--- set kind KIND
-abbrev pub set_kind_of : List Bytes → ReadCommand
-set_kind_of (word ∷ kind ∷ []) = given (is_rule_kind kind) (w.Rule (wr.SetKind kind))
-set_kind_of _ = Err Arguments
-
 -- the first word is `kind`
 abbrev pub begins_with_kind : List Bytes → Bool
 begins_with_kind [] = false
 begins_with_kind (word ∷ words) = bytes_eq word (codes "kind")
 
--- set ATTRIBUTE VALUE..; `kind` is no attribute where a value is set
+-- kind KIND
+abbrev pub new_kind : List Bytes → Option Bytes
+new_kind (word ∷ kind ∷ []) = given (is_rule_kind kind) kind
+new_kind _ = None
+
+-- set kind KIND, or set ATTRIBUTE VALUE..; `kind` is no attribute where a value is set
 abbrev pub set_of : List Bytes → ReadCommand
-set_of words = if begins_with_kind words then set_kind_of words else attribute_values_of (λ attribute values. w.Attribute (wa.Set attribute values)) words
+set_of words =
+    if begins_with_kind words then operation_of (λ kind. w.Rule (wr.SetKind kind)) (new_kind words)
+    else operation_of (λ parts. w.Attribute (wa.Set parts.0 parts.1)) (attribute_values words)
 
 -- set_if_absent ATTRIBUTE VALUE..
 abbrev pub set_if_absent_of : List Bytes → ReadCommand
-set_if_absent_of words = if begins_with_kind words then Err Arguments else attribute_values_of (λ attribute values. w.Attribute (wa.SetIfAbsent attribute values)) words
+set_if_absent_of words =
+    if begins_with_kind words then Err Arguments else operation_of (λ parts. w.Attribute (wa.SetIfAbsent parts.0 parts.1)) (attribute_values words)
 
 -- add ATTRIBUTE VALUE..
 abbrev pub add_of : List Bytes → ReadCommand
-add_of words = attribute_values_of (λ attribute values. w.Value (wv.Add attribute values)) words
+add_of words = operation_of (λ parts. w.Value (wv.Add parts.0 parts.1)) (attribute_values words)
 
 -- remove ATTRIBUTE, remove * or remove ATTRIBUTE VALUE..
 abbrev pub remove_of : List Bytes → ReadCommand
 remove_of [] = Err Arguments
 remove_of (attribute ∷ values) =
-    if is_nonempty values then given (is_identifier attribute) (w.Value (wv.Remove attribute values))
-    else ok_or (option_map (λ attributes. w.Attribute (wa.Remove attributes)) (attributes_of attribute)) Arguments
+    if is_nonempty values then operation_of (λ name. w.Value (wv.Remove name values)) (given (is_identifier attribute) attribute)
+    else operation_of (λ attributes. w.Attribute (wa.Remove attributes)) (attributes_of attribute)
 
 -- replace ATTRIBUTE OLD NEW or replace * OLD NEW
 abbrev pub replace_of : List Bytes → ReadCommand
-replace_of words = attributes_words_of (λ attributes old new. w.Value (wv.Replace attributes old new)) words
+replace_of words = operation_of (λ parts. w.Value (wv.Replace parts.0 parts.1 parts.2)) (attributes_words words)
 
 -- substitute ATTRIBUTE PATTERN TEMPLATE or substitute * PATTERN TEMPLATE, for each text that `regex` takes as a pattern
 abbrev pub substitute_of : List Bytes → ReadCommand
-substitute_of words = attributes_words_of (λ attributes pattern template. w.Value (wv.Substitute attributes pattern template)) words
+substitute_of words = operation_of (λ parts. w.Value (wv.Substitute parts.0 parts.1 parts.2)) (attributes_words words)
 
--- move FROM TO VALUE..
+-- FROM TO VALUE..
+abbrev pub moved_values : List Bytes → Option (Bytes × Bytes × Values)
+moved_values (from ∷ to ∷ values) = given (is_identifier from && is_identifier to && is_nonempty values) (from, to, values_of values)
+moved_values _ = None
+
 abbrev pub move_of : List Bytes → ReadCommand
-move_of (from ∷ to ∷ values) = given (is_identifier from && is_identifier to && is_nonempty values) (w.Value (wv.Move from to (values_of values)))
-move_of _ = Err Arguments
+move_of words = operation_of (λ parts. w.Value (wv.Move parts.0 parts.1 parts.2)) (moved_values words)
 
 -- rename FROM TO
 abbrev pub rename_of : List Bytes → ReadCommand
-rename_of (from ∷ to ∷ []) = given (is_identifier from && is_identifier to) (w.Attribute (wa.Rename from to))
-rename_of _ = Err Arguments
+rename_of words = operation_of (λ parts. w.Attribute (wa.Rename parts.0 parts.1)) (two_attributes words)
 
 -- copy ATTRIBUTE RULE
 abbrev pub copy_of : List Bytes → ReadCommand
-copy_of words = attribute_word_of (λ attribute rule. w.Attribute (wa.Copy attribute rule)) words
+copy_of words = operation_of (λ parts. w.Attribute (wa.Copy parts.0 parts.1)) (attribute_word words)
 
 -- copy_no_overwrite ATTRIBUTE RULE
 abbrev pub copy_no_overwrite_of : List Bytes → ReadCommand
-copy_no_overwrite_of words = attribute_word_of (λ attribute rule. w.Attribute (wa.CopyNoOverwrite attribute rule)) words
+copy_no_overwrite_of words = operation_of (λ parts. w.Attribute (wa.CopyNoOverwrite parts.0 parts.1)) (attribute_word words)
 
 -- what is before the first such byte, and what is after it
 abbrev pub cut_at : ℕ → Bytes → Option (Bytes × Bytes)
@@ -159,41 +176,44 @@ each_of form [] = Some []
 each_of form (word ∷ words) = option_and_then (λ x. option_map (λ xs. x ∷ xs) (each_of form words)) (form word)
 
 -- ATTRIBUTE KEY:VALUE..
-abbrev pub dict_entries_of : (Bytes → List Entry → Operation) → List Bytes → ReadCommand
-dict_entries_of operation [] = Err Arguments
-dict_entries_of operation (attribute ∷ words) =
-    if is_identifier attribute && is_nonempty words then ok_or (option_map (operation attribute) (each_of entry_of words)) Arguments else Err Arguments
+abbrev pub dict_entries : List Bytes → Option (Bytes × List Entry)
+dict_entries [] = None
+dict_entries (attribute ∷ words) =
+    if is_identifier attribute && is_nonempty words then option_map (λ entries. (attribute, entries)) (each_of entry_of words) else None
 
 -- dict_add ATTRIBUTE KEY:VALUE..
 abbrev pub dict_add_of : List Bytes → ReadCommand
-dict_add_of words = dict_entries_of (λ attribute entries. w.Dict (wd.Add attribute entries)) words
+dict_add_of words = operation_of (λ parts. w.Dict (wd.Add parts.0 parts.1)) (dict_entries words)
 
 -- dict_set ATTRIBUTE KEY:VALUE..
 abbrev pub dict_set_of : List Bytes → ReadCommand
-dict_set_of words = dict_entries_of (λ attribute entries. w.Dict (wd.Set attribute entries)) words
+dict_set_of words = operation_of (λ parts. w.Dict (wd.Set parts.0 parts.1)) (dict_entries words)
 
 -- dict_remove ATTRIBUTE KEY..
 abbrev pub dict_remove_of : List Bytes → ReadCommand
-dict_remove_of words = attribute_values_of (λ attribute keys. w.Dict (wd.Remove attribute keys)) words
+dict_remove_of words = operation_of (λ parts. w.Dict (wd.Remove parts.0 parts.1)) (attribute_values words)
 
 -- two names of a symbol, which are identifiers
 abbrev pub symbol_of_names : Bytes → Bytes → Option Symbol
-symbol_of_names to from = if is_identifier to && is_identifier from then Some (record { to = to; from = from }) else None
+symbol_of_names to from = given (is_identifier to && is_identifier from) (record { to = to; from = from })
 
 -- TO=FROM, or one name for both
 abbrev pub symbol_of : Bytes → Option Symbol
 symbol_of word = option_map_or (λ parts. symbol_of_names parts.0 parts.1) (cut_at equals_sign word) (symbol_of_names word word)
 
--- new_load PATH [TO=]FROM..
+-- PATH [TO=]FROM..
+abbrev pub path_symbols : List Bytes → Option (Bytes × List Symbol)
+path_symbols [] = None
+path_symbols (path ∷ words) = if is_nonempty words then option_map (λ symbols. (path, symbols)) (each_of symbol_of words) else None
+
 abbrev pub new_load_of : List Bytes → ReadCommand
-new_load_of [] = Err Arguments
-new_load_of (path ∷ words) = if is_nonempty words then ok_or (option_map (λ symbols. w.Load (wl.New path symbols)) (each_of symbol_of words)) Arguments else Err Arguments
+new_load_of words = operation_of (λ parts. w.Load (wl.New parts.0 parts.1)) (path_symbols words)
 
 -- nothing, ATTRIBUTE, or ATTRIBUTE VALUE
 abbrev pub host_of : List Bytes → Option Host
 host_of [] = Some h.Rule
-host_of (attribute ∷ []) = if is_identifier attribute then Some (h.Attribute attribute) else None
-host_of (attribute ∷ value ∷ []) = if is_identifier attribute then Some (h.Item attribute value) else None
+host_of (attribute ∷ []) = given (is_identifier attribute) (h.Attribute attribute)
+host_of (attribute ∷ value ∷ []) = given (is_identifier attribute) (h.Item attribute value)
 host_of _ = None
 
 -- what is before the last word, and the last word
@@ -205,19 +225,20 @@ split_last (word ∷ words) = option_map (λ parts. (word ∷ parts.0, parts.1))
 abbrev pub is_one_line : Bytes → Bool
 is_one_line text = not (list_any (λ byte. byte == line_feed) text)
 
--- comment [ATTRIBUTE [VALUE]] TEXT; the text has no newline
+-- [ATTRIBUTE [VALUE]] TEXT; the text has no newline
+abbrev pub host_text : List Bytes × Bytes → Option (Host × Bytes)
+host_text parts = if is_one_line parts.1 then option_map (λ host. (host, parts.1)) (host_of parts.0) else None
+
 abbrev pub comment_of : List Bytes → ReadCommand
-comment_of words =
-    option_map_or (λ parts. if is_one_line parts.1 then ok_or (option_map (λ host. w.Comment (wc.Add host parts.1)) (host_of parts.0)) Arguments else Err Arguments)
-    (split_last words) (Err Arguments)
+comment_of words = operation_of (λ parts. w.Comment (wc.Add parts.0 parts.1)) (option_and_then host_text (split_last words))
 
 -- print_comment [ATTRIBUTE [VALUE]]
 abbrev pub print_comment_of : List Bytes → ReadCommand
-print_comment_of words = ok_or (option_map (λ host. w.Comment (wc.Print host)) (host_of words)) Arguments
+print_comment_of words = operation_of (λ host. w.Comment (wc.Print host)) (host_of words)
 
 -- remove_comment [ATTRIBUTE [VALUE]]
 abbrev pub remove_comment_of : List Bytes → ReadCommand
-remove_comment_of words = ok_or (option_map (λ host. w.Comment (wc.Remove host)) (host_of words)) Arguments
+remove_comment_of words = operation_of (λ host. w.Comment (wc.Remove host)) (host_of words)
 
 -- one more fix, which isn't named yet
 abbrev pub with_fix : Bytes → Fixes → Option Fixes
@@ -236,7 +257,7 @@ fixes_of words = fixes_from (record { move_package_to_top = false; unused_loads 
 
 -- fix [unusedLoads] [movePackageToTop]
 abbrev pub fix_of : List Bytes → ReadCommand
-fix_of words = ok_or (option_map (λ fixes. w.Load (wl.Fix fixes)) (fixes_of words)) Arguments
+fix_of words = operation_of (λ fixes. w.Load (wl.Fix fixes)) (fixes_of words)
 
 -- these words name fields that are not known
 abbrev pub is_unknown_field : Bytes → Bool
@@ -248,7 +269,7 @@ field_of word =
     if bytes_eq word (codes "kind") then Some f.Kind
     else (if bytes_eq word (codes "startline") then Some f.StartLine
     else (if bytes_eq word (codes "rule") then Some f.Rule
-    else (if is_identifier word && not (is_unknown_field word) then Some (f.Attribute word) else None)))
+    else given (is_identifier word && not (is_unknown_field word)) (f.Attribute word)))
 
 -- Where none is named, the name and the kind are meant.
 abbrev pub fields_of : List Bytes → Option (List Field)
@@ -257,64 +278,41 @@ fields_of words = each_of field_of words
 
 -- print [FIELD..]
 abbrev pub print_of : List Bytes → ReadCommand
-print_of words = ok_or (option_map (λ fields. w.Print fields) (fields_of words)) Arguments
+print_of words = operation_of w.Print (fields_of words)
 
 -- ---- all commands
 
--- the table of commands, each with what it reads
-abbrev pub commands : List (Bytes × (List Bytes → ReadCommand))
+-- the table of commands: the name of each, the forms of its words, as they are printed where words have another one, and what it reads
+abbrev pub commands : List (Bytes × (Bytes × (List Bytes → ReadCommand)))
 commands =
-    (codes "new", new_of)
-    ∷ (codes "delete", delete_of)
-    ∷ (codes "set", set_of)
-    ∷ (codes "set_if_absent", set_if_absent_of)
-    ∷ (codes "add", add_of)
-    ∷ (codes "remove", remove_of)
-    ∷ (codes "replace", replace_of)
-    ∷ (codes "substitute", substitute_of)
-    ∷ (codes "move", move_of)
-    ∷ (codes "rename", rename_of)
-    ∷ (codes "copy", copy_of)
-    ∷ (codes "copy_no_overwrite", copy_no_overwrite_of)
-    ∷ (codes "dict_add", dict_add_of)
-    ∷ (codes "dict_set", dict_set_of)
-    ∷ (codes "dict_remove", dict_remove_of)
-    ∷ (codes "new_load", new_load_of)
-    ∷ (codes "comment", comment_of)
-    ∷ (codes "print_comment", print_comment_of)
-    ∷ (codes "remove_comment", remove_comment_of)
-    ∷ (codes "fix", fix_of)
-    ∷ (codes "print", print_of)
+    (codes "new", (codes "'new KIND NAME [before RULE]' or 'new KIND NAME [after RULE]'", new_of))
+    ∷ (codes "delete", (codes "'delete'", delete_of))
+    ∷ (codes "set", (codes "'set ATTR VALUE..' or 'set kind KIND'", set_of))
+    ∷ (codes "set_if_absent", (codes "'set_if_absent ATTR VALUE..'", set_if_absent_of))
+    ∷ (codes "add", (codes "'add ATTR VALUE..'", add_of))
+    ∷ (codes "remove", (codes "'remove ATTR', 'remove *' or 'remove ATTR VALUE..'", remove_of))
+    ∷ (codes "replace", (codes "'replace ATTR OLD NEW' or 'replace * OLD NEW'", replace_of))
+    ∷ (codes "substitute", (codes "'substitute ATTR PATTERN TEMPLATE' or 'substitute * PATTERN TEMPLATE'", substitute_of))
+    ∷ (codes "move", (codes "'move FROM TO VALUE..' or 'move FROM TO *'", move_of))
+    ∷ (codes "rename", (codes "'rename OLD NEW'", rename_of))
+    ∷ (codes "copy", (codes "'copy ATTR RULE'", copy_of))
+    ∷ (codes "copy_no_overwrite", (codes "'copy_no_overwrite ATTR RULE'", copy_no_overwrite_of))
+    ∷ (codes "dict_add", (codes "'dict_add ATTR KEY:VALUE..'", dict_add_of))
+    ∷ (codes "dict_set", (codes "'dict_set ATTR KEY:VALUE..'", dict_set_of))
+    ∷ (codes "dict_remove", (codes "'dict_remove ATTR KEY..'", dict_remove_of))
+    ∷ (codes "new_load", (codes "'new_load PATH [TO=]FROM..'", new_load_of))
+    ∷ (codes "comment", (codes "'comment [ATTR [VALUE]] TEXT'", comment_of))
+    ∷ (codes "print_comment", (codes "'print_comment [ATTR [VALUE]]'", print_comment_of))
+    ∷ (codes "remove_comment", (codes "'remove_comment [ATTR [VALUE]]'", remove_comment_of))
+    ∷ (codes "fix", (codes "'fix [unusedLoads] [movePackageToTop]'", fix_of))
+    ∷ (codes "print", (codes "'print [FIELD..]'", print_of))
     ∷ []
 
 abbrev pub command_names : List Bytes
 command_names = map (λ command. command.0) commands
 
--- the forms of the words of each command, as they are printed where words have another one
 abbrev pub command_forms : List (Bytes × Bytes)
-command_forms =
-    (codes "new", codes "'new KIND NAME [before RULE]' or 'new KIND NAME [after RULE]'")
-    ∷ (codes "delete", codes "'delete'")
-    ∷ (codes "set", codes "'set ATTR VALUE..' or 'set kind KIND'")
-    ∷ (codes "set_if_absent", codes "'set_if_absent ATTR VALUE..'")
-    ∷ (codes "add", codes "'add ATTR VALUE..'")
-    ∷ (codes "remove", codes "'remove ATTR', 'remove *' or 'remove ATTR VALUE..'")
-    ∷ (codes "replace", codes "'replace ATTR OLD NEW' or 'replace * OLD NEW'")
-    ∷ (codes "substitute", codes "'substitute ATTR PATTERN TEMPLATE' or 'substitute * PATTERN TEMPLATE'")
-    ∷ (codes "move", codes "'move FROM TO VALUE..' or 'move FROM TO *'")
-    ∷ (codes "rename", codes "'rename OLD NEW'")
-    ∷ (codes "copy", codes "'copy ATTR RULE'")
-    ∷ (codes "copy_no_overwrite", codes "'copy_no_overwrite ATTR RULE'")
-    ∷ (codes "dict_add", codes "'dict_add ATTR KEY:VALUE..'")
-    ∷ (codes "dict_set", codes "'dict_set ATTR KEY:VALUE..'")
-    ∷ (codes "dict_remove", codes "'dict_remove ATTR KEY..'")
-    ∷ (codes "new_load", codes "'new_load PATH [TO=]FROM..'")
-    ∷ (codes "comment", codes "'comment [ATTR [VALUE]] TEXT'")
-    ∷ (codes "print_comment", codes "'print_comment [ATTR [VALUE]]'")
-    ∷ (codes "remove_comment", codes "'remove_comment [ATTR [VALUE]]'")
-    ∷ (codes "fix", codes "'fix [unusedLoads] [movePackageToTop]'")
-    ∷ (codes "print", codes "'print [FIELD..]'")
-    ∷ []
+command_forms = map (λ command. (command.0, command.1.0)) commands
 
 -- what a table has for this name, where it has something
 abbrev pub row_named : {X : Type 0} → List (Bytes × X) → Bytes → Option X
@@ -328,7 +326,7 @@ text_limit = 65536
 -- An unknown name is reported first, then a text that is too long, then what is wrong with the words.
 abbrev pub command_in : Bool → List Bytes → ReadCommand
 command_in fits [] = Err Unknown
-command_in fits (name ∷ words) = option_map_or (λ reader. if fits then reader words else Err Arguments) (row_named commands name) (Err Unknown)
+command_in fits (name ∷ words) = option_map_or (λ command. if fits then command.1 words else Err Arguments) (row_named commands name) (Err Unknown)
 
 -- The command of a text.
 abbrev pub command_of : Bytes → ReadCommand

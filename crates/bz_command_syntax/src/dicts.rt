@@ -1,10 +1,7 @@
 //! What the commands on dicts read.
-ghost use Rattle.std.specs.Prelude.{◌≡◌, ◌⊎◌, Ok, Err, IfOk, IfErr, List};
-ghost use Rattle.bz_items.specs.Characters.{Bytes};
+ghost use Rattle.std.specs.Prelude.{◌≡◌, ◌⊎◌, Some, None, IfOk, IfErr};
 ghost use Rattle.bz_command_syntax.specs.Commands as c;
 ghost use Rattle.bz_command_syntax.specs.Refused.{IsReadAs};
-ghost use Rattle.bz_command_syntax.specs.declared.command.Entry.{Entry as EntryIn};
-ghost use Rattle.bz_command_syntax.specs.declared.command.Operation.{Operation as OperationIn};
 
 use crate::command::{DictOperation, Entry, Operation};
 use crate::fault::CommandFault;
@@ -34,8 +31,8 @@ impl FromWord for Entry {
 // The attribute and its entries, one or more. The errors: `Arguments`: the words have another form; `Memory`: a growth was
 // refused.
 fn entries_of(mut words: Vec<Text>) -> Result<(Text, Items<Entry>), CommandFault>
-    ensures ok { IfOk result (λ parts. (operation : Bytes → List EntryIn → OperationIn) → c.dict_entries_of operation words.items ≡ Ok (operation parts.0 parts.1)) }
-    ensures err { IfErr result (λ fault. ((operation : Bytes → List EntryIn → OperationIn) → c.dict_entries_of operation words.items ≡ Err fault) ⊎ (fault ≡ CommandFault.Memory)) }
+    ensures ok { IfOk result (λ parts. c.dict_entries words.items ≡ Some parts) }
+    ensures err { IfErr result (λ fault. ((c.dict_entries words.items ≡ None) × (fault ≡ CommandFault.Arguments)) ⊎ (fault ≡ CommandFault.Memory)) }
 {
     let attribute = take_first(&mut words)?;
     if !is_attribute(&attribute) || !has_values(&words) {

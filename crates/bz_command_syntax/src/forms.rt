@@ -1,11 +1,8 @@
 //! Forms that the readers of several commands share.
-ghost use Rattle.std.specs.Prelude.{◌≡◌, ◌⊎◌, ◌∷◌, ◌==◌, [], List, Option, Some, None, Ok, Err, IfOk, IfErr, IsUtf8, bytes_eq, position, MatchOption, MatchResult};
-ghost use Rattle.bz_items.specs.Characters.{Bytes};
+ghost use Rattle.std.specs.Prelude.{◌≡◌, ◌⊎◌, ◌∷◌, ◌==◌, [], Some, None, IfOk, IfErr, IsUtf8, bytes_eq, position, MatchOption, MatchResult};
 ghost use Rattle.bz_command_syntax.specs.Commands as c;
 ghost use Rattle.bz_command_syntax.specs.Identifiers.{is_identifier as is_identifier_in};
 ghost use Rattle.bz_command_syntax.specs.Words.{is_nonempty};
-ghost use Rattle.bz_command_syntax.specs.declared.command.Attributes.{Attributes as AttributesIn};
-ghost use Rattle.bz_command_syntax.specs.declared.command.Operation.{Operation as OperationIn};
 
 use crate::command::{Attributes, Operation};
 use crate::fault::CommandFault;
@@ -25,18 +22,6 @@ pub(crate) fn take_first(words: &mut Vec<Text>) -> Result<Text, CommandFault>
         return Err(CommandFault::Arguments);
     }
     Ok(words.remove(0))
-}
-
-/// The command, where its words have the form that it takes. The error: `Arguments`: they haven't.
-pub(crate) fn given(holds: bool, operation: Operation) -> Read
-    ensures { result ≡ c.given holds operation }
-{
-    if holds {
-        return Ok(operation);
-    }
-    // By a call: dropped here, each form of it would be a path of this function's proof.
-    drop(operation);
-    Err(CommandFault::Arguments)
 }
 
 /// Whether the word is an identifier.
@@ -94,8 +79,7 @@ pub(crate) fn has_values(words: &[Text]) -> bool
 
 /// The attribute and the word after it. The error: `Arguments`: the words have another form.
 pub(crate) fn attribute_and_word(mut words: Vec<Text>) -> Result<(Text, Text), CommandFault>
-    ensures ok { IfOk result (λ parts. (operation : Bytes → Bytes → OperationIn) → c.attribute_word_of operation words.items ≡ Ok (operation parts.0 parts.1)) }
-    ensures err { IfErr result (λ fault. (operation : Bytes → Bytes → OperationIn) → c.attribute_word_of operation words.items ≡ Err fault) }
+    ensures { MatchResult result (λ parts. c.attribute_word words.items ≡ Some parts) (λ fault. (c.attribute_word words.items ≡ None) × (fault ≡ CommandFault.Arguments)) }
 {
     let attribute = take_first(&mut words)?;
     let word = take_first(&mut words)?;
@@ -110,8 +94,7 @@ pub(crate) fn attribute_and_word(mut words: Vec<Text>) -> Result<(Text, Text), C
 pub(crate) fn attribute_and_values(
     mut words: Vec<Text>,
 ) -> Result<(Text, Items<Text>), CommandFault>
-    ensures ok { IfOk result (λ parts. (operation : Bytes → List Bytes → OperationIn) → c.attribute_values_of operation words.items ≡ Ok (operation parts.0 parts.1)) }
-    ensures err { IfErr result (λ fault. (operation : Bytes → List Bytes → OperationIn) → c.attribute_values_of operation words.items ≡ Err fault) }
+    ensures { MatchResult result (λ parts. c.attribute_values words.items ≡ Some parts) (λ fault. (c.attribute_values words.items ≡ None) × (fault ≡ CommandFault.Arguments)) }
 {
     let attribute = take_first(&mut words)?;
     if is_attribute(&attribute) && has_values(&words) {
@@ -125,8 +108,7 @@ pub(crate) fn attribute_and_values(
 pub(crate) fn attributes_and_words(
     mut words: Vec<Text>,
 ) -> Result<(Attributes, Text, Text), CommandFault>
-    ensures ok { IfOk result (λ parts. (operation : AttributesIn → Bytes → Bytes → OperationIn) → c.attributes_words_of operation words.items ≡ Ok (operation parts.0 parts.1 parts.2)) }
-    ensures err { IfErr result (λ fault. (operation : AttributesIn → Bytes → Bytes → OperationIn) → c.attributes_words_of operation words.items ≡ Err fault) }
+    ensures { MatchResult result (λ parts. c.attributes_words words.items ≡ Some parts) (λ fault. (c.attributes_words words.items ≡ None) × (fault ≡ CommandFault.Arguments)) }
 {
     let attribute = take_first(&mut words)?;
     let first = take_first(&mut words)?;

@@ -1,5 +1,5 @@
 //! What the commands on rules, attributes and values read.
-ghost use Rattle.std.specs.Prelude.{◌≡◌, false};
+ghost use Rattle.std.specs.Prelude.{◌≡◌, false, Some, None, MatchResult};
 ghost use Rattle.std.specs.Option.{ok_or};
 ghost use Rattle.std.specs.List.{list_any};
 ghost use Rattle.bz_command_syntax.specs.Commands as c;
@@ -9,7 +9,7 @@ use crate::command::{
 };
 use crate::fault::CommandFault;
 use crate::forms::{
-    Read, attribute_and_values, attribute_and_word, attributes_and_words, attributes_of, given,
+    Read, attribute_and_values, attribute_and_word, attributes_and_words, attributes_of,
     has_values, is_attribute, is_star, is_text, take_first,
 };
 use crate::identifier::is_kind_name;
@@ -69,30 +69,33 @@ pub(crate) fn new_of(mut words: Vec<Text>) -> Read
 {
     let kind = take_first(&mut words)?;
     let name = take_first(&mut words)?;
-    if is_kind_name(kind.as_slice()) {
-        let place = rule_place(words).ok_or(CommandFault::Arguments)?;
-        Ok(Operation::Rule(RuleOperation::New { kind, name, place }))
-    } else {
-        Err(CommandFault::Arguments)
+    if !is_kind_name(kind.as_slice()) {
+        return Err(CommandFault::Arguments);
     }
+    let place = rule_place(words).ok_or(CommandFault::Arguments)?;
+    Ok(Operation::Rule(RuleOperation::New { kind, name, place }))
 }
 
 pub(crate) fn delete_of(words: Vec<Text>) -> Read
     ensures { result ≡ c.delete_of words.items }
 {
-    given(words.is_empty(), Operation::Rule(RuleOperation::Delete))
+    if words.is_empty() {
+        Ok(Operation::Rule(RuleOperation::Delete))
+    } else {
+        Err(CommandFault::Arguments)
+    }
 }
 
-fn set_kind_of(words: Vec<Text>) -> Read
-    ensures { result ≡ c.set_kind_of words.items }
+fn new_kind(mut words: Vec<Text>) -> Result<Text, CommandFault>
+    ensures { MatchResult result (λ kind. c.new_kind words.items ≡ Some kind) (λ fault. (c.new_kind words.items ≡ None) × (fault ≡ CommandFault.Arguments)) }
 {
-    match <[Text; 2]>::try_from(words) {
-        Ok([word, kind]) => {
-            drop(word);
-            let fits = is_kind_name(kind.as_slice());
-            given(fits, Operation::Rule(RuleOperation::SetKind { kind }))
-        }
-        Err(_words) => Err(CommandFault::Arguments),
+    let word = take_first(&mut words)?;
+    drop(word);
+    let kind = take_first(&mut words)?;
+    if words.is_empty() && is_kind_name(kind.as_slice()) {
+        Ok(kind)
+    } else {
+        Err(CommandFault::Arguments)
     }
 }
 
@@ -100,7 +103,8 @@ pub(crate) fn set_of(words: Vec<Text>) -> Read
     ensures { result ≡ c.set_of words.items }
 {
     if begins_with_kind(&words) {
-        return set_kind_of(words);
+        let kind = new_kind(words)?;
+        return Ok(Operation::Rule(RuleOperation::SetKind { kind }));
     }
     let (attribute, values) = attribute_and_values(words)?;
     Ok(Operation::Attribute(AttributeOperation::Set { attribute, values }))
@@ -128,12 +132,11 @@ pub(crate) fn remove_of(mut words: Vec<Text>) -> Read
 {
     let attribute = take_first(&mut words)?;
     if has_values(&words) {
-        let fits = is_attribute(&attribute);
+        if !is_attribute(&attribute) {
+            return Err(CommandFault::Arguments);
+        }
         let values = Items::from_vec(words);
-        return given(
-            fits,
-            Operation::Value(ValueOperation::Remove { attribute, values }),
-        );
+        return Ok(Operation::Value(ValueOperation::Remove { attribute, values }));
     }
     let attributes = attributes_of(attribute).ok_or(CommandFault::Arguments)?;
     Ok(Operation::Attribute(AttributeOperation::Remove { attributes }))
@@ -155,24 +158,30 @@ pub(crate) fn move_of(mut words: Vec<Text>) -> Read
 {
     let from = take_first(&mut words)?;
     let to = take_first(&mut words)?;
-    let fits = is_attribute(&from) && is_attribute(&to) && has_values(&words);
+    if !is_attribute(&from) || !is_attribute(&to) || !has_values(&words) {
+        return Err(CommandFault::Arguments);
+    }
     let values = values_of(words);
-    given(
-        fits,
-        Operation::Value(ValueOperation::Move { from, to, values }),
-    )
+    Ok(Operation::Value(ValueOperation::Move { from, to, values }))
+}
+
+fn two_attributes(mut words: Vec<Text>) -> Result<(Text, Text), CommandFault>
+    ensures { MatchResult result (λ parts. c.two_attributes words.items ≡ Some parts) (λ fault. (c.two_attributes words.items ≡ None) × (fault ≡ CommandFault.Arguments)) }
+{
+    let from = take_first(&mut words)?;
+    let to = take_first(&mut words)?;
+    if words.is_empty() && is_attribute(&from) && is_attribute(&to) {
+        Ok((from, to))
+    } else {
+        Err(CommandFault::Arguments)
+    }
 }
 
 pub(crate) fn rename_of(words: Vec<Text>) -> Read
     ensures { result ≡ c.rename_of words.items }
 {
-    match <[Text; 2]>::try_from(words) {
-        Ok([from, to]) => given(
-            is_attribute(&from) && is_attribute(&to),
-            Operation::Attribute(AttributeOperation::Rename { from, to }),
-        ),
-        Err(_words) => Err(CommandFault::Arguments),
-    }
+    let (from, to) = two_attributes(words)?;
+    Ok(Operation::Attribute(AttributeOperation::Rename { from, to }))
 }
 
 pub(crate) fn copy_of(words: Vec<Text>) -> Read
