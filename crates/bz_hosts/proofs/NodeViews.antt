@@ -1,6 +1,5 @@
 -- What is seen of a node, by the list of its parts.
 use Rattle.std.proofs.Common.{ℕ, zero, suc, Bool, true, false, ◌≡◌, List, [], ◌∷◌, ◌<◌, ◌≤◌, refl, sym, ap, ◌∙◌, map, take, drop, length, get_or, ◌+◌, add-one, arith}
-use Rattle.std.proofs.Math.Seq.{drop-cons}
 use Rattle.std.proofs.lemmas.List.{drop-map}
 use Rattle.bz_grammar.specs.declared.kind.Kind.{Kind}
 use Rattle.bz_grammar.specs.declared.tree.Node.{Node}
@@ -16,7 +15,6 @@ use Rattle.bz_value.specs.Comments.{HostComments, no_comments}
 use Rattle.bz_value.specs.Frames.{Frame, row, sequence, frame, has_brackets, lead}
 use Rattle.bz_items.specs.Characters.{Bytes}
 use Rattle.bz_value.specs.Gaps.{has_newline}
-use Rattle.bz_value.specs.Proper.{is_operator}
 use Rattle.bz_hosts.specs.View.{Seen, seen, seen_row, seen_node, plain, first_seen_gap, is_open, is_split}
 use Rattle.bz_hosts.specs.Walks.{form_of_frame, loose_of, seq_in}
 
@@ -44,10 +42,6 @@ node_loose : (f : Frame) (kind : Kind) (ss : List Seen) → loose_of f kind ss �
 node_loose row kind ss = refl
 node_loose (sequence opener closer) kind ss = refl
 
-node_operator : (f : Frame) (kind : Kind) (ss : List Seen) → false ≡ is_operator (plain (seen_node f kind ss))
-node_operator row kind ss = refl
-node_operator (sequence opener closer) kind ss = refl
-
 node_comments : (f : Frame) (kind : Kind) (ss : List Seen) (b : Bool) (cs : HostComments) → with_comments ((seen_node f kind ss).make no_comments b) cs ≡ (seen_node f kind ss).make cs b
 node_comments row kind ss b cs = refl
 node_comments (sequence opener closer) kind ss b cs = refl
@@ -67,9 +61,6 @@ made_of_node x n b i = node_made (frame n.kind) n.kind (map seen n.parts) b ∙ 
 
 pub loose_of_node : (x : Part) (n : Node) → x ≡ p.Node n → loose_of (frame n.kind) n.kind (map seen n.parts) ≡ (seen x).loose
 loose_of_node x n i = node_loose (frame n.kind) n.kind (map seen n.parts) ∙ sym (ap (λ y. (seen y).loose) i ∙ ap (λ s. s.loose) (seen_Node n))
-
-pub operator_of_node : (x : Part) (n : Node) → x ≡ p.Node n → false ≡ is_operator (plain (seen x))
-operator_of_node x n i = node_operator (frame n.kind) n.kind (map seen n.parts) ∙ sym (ap (λ y. is_operator (plain (seen y))) i ∙ ap (λ s. is_operator (plain s)) (seen_Node n))
 
 -- the gap before a node is the one before its first part
 pub gap_none : (x : Part) (n : Node) (ps : List Part) → x ≡ p.Node n → ps ≡ n.parts → length ps < 1 → [] ≡ (seen x).gap
@@ -95,10 +86,6 @@ sequence_made (sequence opener closer) kind ps qs n es q cs h j i e g k =
     ap (λ t. made kind t q cs) head ∙ (ap (λ t. made kind (map plain (take (lead kind) (map seen ps))) t cs) body ∙ ap (λ t. made kind (map plain (take (lead kind) (map seen ps))) (seq_in (drop (suc (lead kind)) (map seen ps))) t) k)
 
 -- ---- parts of a row
-
--- from a part on
-pub seen_from : (ps : List Part) (at : ℕ) (y : Part) → at < length ps → y ≡ get_or ps at y → map seen (drop at ps) ≡ seen y ∷ map seen (drop (suc at) ps)
-seen_from ps at y l i = ap (map seen) (drop-cons ps at y l) ∙ ap (λ z. seen z ∷ map seen (drop (suc at) ps)) (sym i)
 
 -- right after the first part
 pub opened : (ps : List Part) → has_newline (first_seen_gap (map seen (drop 1 ps))) ≡ is_open (map seen ps)

@@ -49,6 +49,10 @@ first_bare (line ∷ lines) h = h.0
 all_quiet : (g : Bytes) → is_unsigned g ≡ true → all_in g ≡ []
 all_quiet g h = comments_bare (lines_of g) (lines_bare g h)
 
+-- at a glance, by which no comment is above what the gap is before
+pub none_quiet : (g seen : Bytes) (quiet : Bool) (above : List Bytes) → g ≡ seen → quiet ≡ is_unsigned g → quiet ≡ true → above ≡ [] → above ≡ all_in seen
+none_quiet g seen quiet above i q t e = e ∙ (sym (all_quiet g (sym q ∙ t)) ∙ ap all_in i)
+
 others_quiet : (g : Bytes) → is_unsigned g ≡ true → others_in g ≡ []
 others_quiet g h = comments_bare (after_first_line (lines_of g)) (rest_bare (lines_of g) (lines_bare g h))
 

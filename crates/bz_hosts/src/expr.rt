@@ -5,12 +5,12 @@ ghost use Rattle.bz_value.specs.Frames.{frame};
 ghost use Rattle.bz_hosts.specs.View.{items_in, loose_in, plain, row_exprs, seen};
 ghost use Rattle.bz_hosts.specs.Walks.{form_of_frame, loose_of, seq_in};
 
-use crate::before::{breaks_from, gap_at, is_operator_in};
+use crate::before::{breaks_from, is_operator_in};
 use crate::commented::comment_last;
-use crate::marks::{before_operator, breaks_after, is_quiet_after, opens, push_gap};
+use crate::marks::{above_first, before_operator, breaks_after, is_quiet_after, opens, push_gap};
 use bz_grammar::{Node, Part};
 use bz_items::{Items, Memory, Text};
-use bz_value::{Comments, Expr, Form, Seq, Token, is_binary, is_sequence, lead_of, push_all};
+use bz_value::{Comments, Expr, Form, Seq, Token, is_binary, is_sequence, lead_of};
 use std::alloc::Global;
 
 /// The expression of a part without comments of its own; of a token with this break. What is loose in the part is appended
@@ -214,8 +214,7 @@ pub fn seq_of(alloc: Global, parts: &[Part], from: usize) -> Result<Seq, Memory>
     let count = parts.len();
     let mut items = Vec::with_capacity(alloc, count / 2)?;
     // the comments above the next item; what is loose in the item goes there too
-    let mut above = Items::new(alloc);
-    push_all(alloc, gap_at(parts, from), &mut above)?;
+    let mut above = above_first(alloc, parts, from)?;
     let mut at = from;
     while at + 1 < count {
         push_host(alloc, parts, at, &mut above, &mut items)?;

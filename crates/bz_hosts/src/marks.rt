@@ -79,6 +79,21 @@ pub fn gap_after_item(parts: &[Part], at: usize) -> &[u8]
     gap_at(parts, at)
 }
 
+/// The comments above the first item of a sequence, where this index is that of the item or of the closing bracket. The error: memory was
+/// refused.
+#[tactic(auto, using(crate::proofs::UnsignedGaps::none_quiet))]
+pub fn above_first(alloc: Global, parts: &[Part], at: usize) -> Result<Items<Text>, Memory>
+    ensures { IfOk result (λ above. above ≡ all_in (first_seen_gap (map seen (drop at parts.now)))) }
+{
+    let mut above = Items::new(alloc);
+    let gap = gap_at(parts, at);
+    if is_quiet(gap) {
+        return Ok(above);
+    }
+    push_all(alloc, gap, &mut above)?;
+    Ok(above)
+}
+
 /// After an item of a sequence, where this index is that of its comma or of the closing bracket: the comments above the
 /// next item, or at the end. The error: memory was refused.
 pub fn above_next(alloc: Global, parts: &[Part], at: usize) -> Result<Items<Text>, Memory>

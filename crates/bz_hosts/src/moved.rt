@@ -6,13 +6,13 @@ ghost use Rattle.bz_value.specs.Frames.{frame};
 ghost use Rattle.bz_hosts.specs.View.{items_in, loose_in, row_exprs, seen};
 ghost use Rattle.bz_hosts.specs.Walks.{form_of_frame, loose_of, seq_in};
 
-use crate::before::{breaks_from, gap_at, is_operator_in};
+use crate::before::{breaks_from, is_operator_in};
 use crate::commented::comment_last;
 use crate::expr::{head_of, push_form};
-use crate::marks::{before_operator, breaks_after, is_quiet_after, opens, push_gap};
+use crate::marks::{above_first, before_operator, breaks_after, is_quiet_after, opens, push_gap};
 use bz_grammar::{Leaf, Node, Part};
 use bz_items::{Items, Memory, Text};
-use bz_value::{Comments, Expr, Form, Seq, Token, is_binary, is_sequence, lead_of, push_all};
+use bz_value::{Comments, Expr, Form, Seq, Token, is_binary, is_sequence, lead_of};
 use std::alloc::Global;
 use std::mem;
 
@@ -24,6 +24,7 @@ const DEPTH: usize = 64;
 
 /// Gives back what was walked over of a row, where it is long and a quarter of what is there. Returned: the index that the part with
 /// this index has then, which is not the first.
+#[inline(always)]
 pub(crate) fn give_back(at: usize, parts: &mut Vec<Part>) -> usize
     requires later { 0 < at }
     requires within { at ≤ length parts.old.items }
@@ -51,17 +52,18 @@ pub(crate) fn is_followed(parts: &[Part], at: usize) -> bool
     at < parts.len() && parts.len() - at > 1
 }
 
-/// The expression of a token, which is moved.
+/// The expression of a token, which is moved. The error: memory was refused.
 #[inline(always)]
-fn token_moved(leaf: &mut Leaf, alloc: Global, line_break: bool) -> Expr
-    ensures { result ≡ Expr.Token (record { class = leaf.old.class; text = leaf.old.token; line_break = line_break; comments = no_comments }) }
+fn token_moved(alloc: Global, leaf: &mut Leaf, line_break: bool) -> Result<Expr, Memory>
+    ensures { IfOk result (λ expr. expr ≡ Expr.Token (record { class = leaf.old.class; text = leaf.old.token; line_break = line_break; comments = no_comments })) }
 {
-    Expr::Token(Token {
+    let none = Text::from_slice(alloc, &[])?;
+    Ok(Expr::Token(Token {
         class: leaf.class,
-        text: mem::replace(&mut leaf.token, Text::from_vec(Vec::new(alloc))),
+        text: mem::replace(&mut leaf.token, none),
         line_break,
         comments: Comments::none(),
-    })
+    }))
 }
 
 /// The expression of a statement that is given up, without comments of its own. What is loose in it is appended to `loose`. The error:
@@ -75,7 +77,7 @@ pub(crate) fn statement_moved(
     ensures loose { OnOk result (loose.new ≡ loose.old ++ (seen part.old).loose) }
 {
     match part {
-        Part::Leaf(leaf) => Ok(token_moved(leaf, alloc, false)),
+        Part::Leaf(leaf) => token_moved(alloc, leaf, false),
         Part::Node(node) => Ok(Expr::Form(form_moved(alloc, node, DEPTH, loose)?)),
     }
 }
@@ -97,7 +99,8 @@ fn push_moved(
     match part {
         Part::Leaf(leaf) => {
             exprs.reserve(1)?;
-            exprs.push_reserved(token_moved(leaf, alloc, line_break));
+            let token = token_moved(alloc, leaf, line_break)?;
+            exprs.push_reserved(token);
             Ok(())
         }
         Part::Node(node) => {
@@ -228,8 +231,7 @@ fn seq_moved(alloc: Global, parts: Items<Part>, depth: usize, from: usize) -> Re
     let split = breaks_from(parts.as_slice(), from);
     let mut items = Vec::with_capacity(alloc, parts.len() / 2)?;
     // the comments above the next item; what is loose in the item goes there too
-    let mut above = Items::new(alloc);
-    push_all(alloc, gap_at(parts.as_slice(), from), &mut above)?;
+    let mut above = above_first(alloc, parts.as_slice(), from)?;
     let mut left = parts.into_vec();
     let mut at = from;
     while is_followed(left.as_slice(), at) {

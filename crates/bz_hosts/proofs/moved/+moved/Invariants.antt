@@ -1,4 +1,4 @@
-use Rattle.std.proofs.Common.{◌≡◌, ◌≤◌, ◌<◌, ◌+◌, ◌-◌, ◌*◌, ◌++◌, false, length, map, drop}
+use Rattle.std.proofs.Common.{◌≡◌, ◌+◌, ◌-◌, ◌*◌, ◌++◌, false, length, map, drop}
 use Rattle.bz_value.specs.Gaps.{all_in}
 use Rattle.bz_hosts.specs.View.{first_seen_gap, items_in, loose_in, row_exprs, seen}
 use Rattle.bz_hosts.specs.Walks.{loose_from}

@@ -1,4 +1,4 @@
-use Rattle.std.proofs.Common.{◌≡◌, length, arith}
+use Rattle.std.proofs.Common.{arith}
 use Rattle.bz_hosts.proofs.GivenBack.{given_back}
 use Rattle.bz_hosts.proofs.moved.give_back.Goals as goal
 

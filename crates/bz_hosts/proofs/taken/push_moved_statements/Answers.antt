@@ -1,4 +1,4 @@
-use Rattle.std.proofs.Common.{◌≡◌, ◌≤◌, ◌+◌, ◌++◌, List, length, subst}
+use Rattle.std.proofs.Common.{◌≤◌, ◌+◌, List, length, subst}
 use Rattle.bz_grammar.specs.declared.tree.Part.{Part}
 use Rattle.bz_hosts.proofs.LineSteps.{statements_done}
 use Rattle.bz_hosts.proofs.taken.push_moved_statements.Goals as goal
