@@ -11,7 +11,7 @@ use crate::content::Version;
 use crate::limits::SHORT_LIMIT;
 use crate::{Unread, read_counted, read_digest, read_field, read_mark, read_number};
 use bz_grammar::{Kind, Leaf};
-use bz_items::Text;
+use bz_items::{Gap, Text};
 use bz_token::Class;
 use std::alloc::Global;
 
@@ -67,7 +67,7 @@ pub fn read_leaf(alloc: Global, input: &[u8]) -> Result<(Leaf, &[u8]), Unread>
     let rest = read_mark(rest, b"\n")?;
     let leaf = Leaf {
         class,
-        gap: Text::from_slice(alloc, gap)?,
+        gap: Gap::from_slice(alloc, gap)?,
         token: Text::from_slice(alloc, token)?,
     };
     Ok((leaf, rest))

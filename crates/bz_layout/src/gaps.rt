@@ -4,8 +4,8 @@ ghost use Rattle.std.specs.Option.{option_copied};
 ghost use Rattle.bz_layout.specs.Layout.{new_line_at, margin_lines, suffix_text, ended};
 ghost use Rattle.bz_layout.specs.Written.{comment_lines};
 
-use bz_items::{Memory, Text};
-use std::alloc::AllocError;
+use bz_items::{Gap, Memory, Text};
+use std::alloc::{AllocError, Global};
 
 /// A limit that no text reaches.
 pub const NO_LIMIT: usize = usize::MAX;
@@ -15,6 +15,13 @@ pub fn deeper_margin(margin: usize) -> Result<usize, Memory>
     ensures { IfOk result (λ inner. inner ≡ margin + 4) }
 {
     margin.checked_add(4).ok_or(AllocError)
+}
+
+/// The gap of these bytes. The error: a growth was refused.
+pub fn gap_from(alloc: Global, bytes: Vec<u8>) -> Result<Gap, Memory>
+    ensures { IfOk result (λ gap. gap ≡ bytes.items) }
+{
+    Gap::from_slice(alloc, &bytes)
 }
 
 /// Appends a newline and the spaces of a margin. The error: a growth was refused, or there are more bytes than the limit already:

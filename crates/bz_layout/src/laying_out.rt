@@ -6,23 +6,18 @@ ghost use Rattle.bz_layout.specs.LaidOut.{piece_part, part_of, parts_in, layouts
 
 use crate::brackets::brackets_of_kind;
 use crate::breaks::is_broken;
-use crate::gaps::{NO_LIMIT, deeper_margin, push_above, push_after, push_ended, push_new_line};
+use crate::gaps::{
+    NO_LIMIT, deeper_margin, gap_from, push_above, push_after, push_ended, push_new_line,
+};
 use crate::parts::room_for;
 use crate::row_gaps::{margin_after, others, text_after};
 use bz_grammar::{Class, Kind, Leaf, Node, Part};
-use bz_items::{Items, Memory, Text};
+use bz_items::{Gap, Items, Memory, Text};
 use bz_value::{Expr, Form};
 use std::alloc::Global;
 
-/// The empty text.
-pub fn nothing(alloc: Global) -> Text
-    ensures { result ≡ [] }
-{
-    Text::from_vec(Vec::new(alloc))
-}
-
 /// A bracket or a comma after a gap.
-fn mark(alloc: Global, gap: Text, byte: u8) -> Result<Part, Memory>
+fn mark(alloc: Global, gap: Gap, byte: u8) -> Result<Part, Memory>
     ensures { IfOk result (λ part. part ≡ piece_part (layout.mark gap (byte ∷ []))) }
 {
     Ok(Part::Leaf(Leaf {
@@ -35,7 +30,7 @@ fn mark(alloc: Global, gap: Text, byte: u8) -> Result<Part, Memory>
 /// What is laid out of an expression after a gap, at a margin. The error: a growth was refused.
 #[cycle(lay_out)]
 #[tactic(auto, using(crate::proofs::Made::part_Form))]
-pub fn lay_out(alloc: Global, expr: &Expr, gap: Text, margin: usize) -> Result<Part, Memory>
+pub fn lay_out(alloc: Global, expr: &Expr, gap: Gap, margin: usize) -> Result<Part, Memory>
     ensures { IfOk result (λ part. part ≡ part_of expr.now gap margin) }
 {
     match expr {
@@ -53,7 +48,7 @@ pub fn lay_out(alloc: Global, expr: &Expr, gap: Text, margin: usize) -> Result<P
 
 #[cycle(lay_out)]
 #[tactic(auto, using(crate::proofs::Loops::row_parts, crate::proofs::Loops::sequence_parts))]
-fn lay_out_form(alloc: Global, form: &Form, gap: Text, margin: usize) -> Result<Items<Part>, Memory>
+fn lay_out_form(alloc: Global, form: &Form, gap: Gap, margin: usize) -> Result<Items<Part>, Memory>
     ensures { IfOk result (λ parts. parts ≡ parts_in form.now gap margin) }
 {
     let mut parts = room_for(alloc, form)?;
@@ -71,7 +66,7 @@ fn lay_out_form(alloc: Global, form: &Form, gap: Text, margin: usize) -> Result<
 fn lay_out_row(
     alloc: Global,
     form: &Form,
-    gap: Text,
+    gap: Gap,
     margin: usize,
     parts: &mut Items<Part>,
 ) -> Result<(), Memory>
@@ -93,7 +88,7 @@ fn lay_out_row(
 fn lay_out_head(
     alloc: Global,
     head: &[Expr],
-    gap: Text,
+    gap: Gap,
     margin: usize,
     opener: u8,
     parts: &mut Items<Part>,
@@ -103,7 +98,7 @@ fn lay_out_head(
     let mut gap = gap;
     for expr in head {
         parts.push(lay_out(alloc, expr, gap, margin)?)?;
-        gap = nothing(alloc);
+        gap = Gap::none(alloc);
     }
     parts.push(mark(alloc, gap, opener)?)
 }
@@ -139,7 +134,7 @@ fn push_comma(
     if others.is_empty() && !one {
         return Ok(());
     }
-    parts.push(mark(alloc, nothing(alloc), b',')?)
+    parts.push(mark(alloc, Gap::none(alloc), b',')?)
 }
 
 /// Items joined by a comma and a space; after a lone item a comma where it is to have one.
@@ -155,15 +150,15 @@ fn lay_out_joined(
 ) -> Result<(), Memory>
     ensures { OnOk result (parts.new ≡ parts.old ++ map piece_part (layout.joined margin [] closer one (layouts items.now))) }
 {
-    let mut gap = nothing(alloc);
+    let mut gap = Gap::none(alloc);
     let mut one = one;
     for (i, item) in items.iter().enumerate() {
         parts.push(lay_out(alloc, item, gap, margin)?)?;
         push_comma(alloc, others(items, i), one, parts)?;
         one = false;
-        gap = Text::from_slice(alloc, b" ")?;
+        gap = Gap::from_slice(alloc, b" ")?;
     }
-    parts.push(mark(alloc, nothing(alloc), closer)?)
+    parts.push(mark(alloc, Gap::none(alloc), closer)?)
 }
 
 /// Each item on lines of its own: its comments above it, a comma, its suffix.
@@ -185,11 +180,11 @@ fn lay_out_stacked(
         let inner = deeper_margin(margin)?;
         push_new_line(&mut gap, inner, NO_LIMIT)?;
         push_above(&mut gap, comments.before(), inner, NO_LIMIT)?;
-        parts.push(lay_out(alloc, item, Text::from_vec(gap), inner)?)?;
-        parts.push(mark(alloc, nothing(alloc), b',')?)?;
+        parts.push(lay_out(alloc, item, gap_from(alloc, gap)?, inner)?)?;
+        parts.push(mark(alloc, Gap::none(alloc), b',')?)?;
         gap = Vec::new(alloc);
         push_after(&mut gap, comments.suffix())?;
     }
     push_ended(&mut gap, end, margin, NO_LIMIT)?;
-    parts.push(mark(alloc, Text::from_vec(gap), closer)?)
+    parts.push(mark(alloc, gap_from(alloc, gap)?, closer)?)
 }

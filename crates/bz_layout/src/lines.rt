@@ -4,8 +4,8 @@ ghost use Rattle.bz_items.specs.Characters.{line_feed};
 ghost use Rattle.bz_layout.specs.Written as written;
 ghost use Rattle.bz_layout.specs.LaidOut.{line_part, own_lines, left_gap, before_next, lines_from};
 
-use crate::gaps::{push_after, push_comments};
-use crate::laying_out::{lay_out, nothing};
+use crate::gaps::{gap_from, push_after, push_comments};
+use crate::laying_out::lay_out;
 use bz_grammar::{Class, Kind, Leaf, Node, Part};
 use bz_items::{Items, Memory, Text};
 use bz_value::{Expr, Item};
@@ -67,14 +67,15 @@ pub fn lay_out_line(alloc: Global, expr: &Expr, gap: Vec<u8>) -> Result<Part, Me
     let comments = expr.comments();
     let mut following = Vec::new(alloc);
     push_after(&mut following, comments.suffix())?;
+    let following = gap_from(alloc, following)?;
     let token = Text::from_slice(alloc, b"\n")?;
     let mut gap = gap;
     push_comments(&mut gap, comments.before())?;
     // The statement comes last: what is there when memory is refused is dropped at each place where that can be.
-    let statement = lay_out(alloc, expr, Text::from_vec(gap), 0)?;
+    let statement = lay_out(alloc, expr, gap_from(alloc, gap)?, 0)?;
     let newline = Part::Leaf(Leaf {
         class: Class::Newline,
-        gap: Text::from_vec(following),
+        gap: following,
         token,
     });
     Ok(Part::Node(Node {
@@ -106,15 +107,15 @@ pub fn lay_out_item(
     }
 }
 
-/// The end of a file after a gap.
-pub fn end_after(alloc: Global, gap: Vec<u8>) -> Part
-    ensures { result ∷ [] ≡ lines_from gap.items [] }
+/// The end of a file after a gap. The error: a growth was refused.
+pub fn end_after(alloc: Global, gap: Vec<u8>) -> Result<Part, Memory>
+    ensures { IfOk result (λ end. end ∷ [] ≡ lines_from gap.items []) }
 {
-    Part::Leaf(Leaf {
+    Ok(Part::Leaf(Leaf {
         class: Class::End,
-        gap: Text::from_vec(gap),
-        token: nothing(alloc),
-    })
+        gap: gap_from(alloc, gap)?,
+        token: Text::from_slice(alloc, b"")?,
+    }))
 }
 
 /// The lines of a file's items, and its end. The error: a growth was refused.
@@ -128,6 +129,6 @@ pub fn lay_out_lines(alloc: Global, items: &[Item]) -> Result<Items<Part>, Memor
         gap = lay_out_item(alloc, item, gap, &mut parts)?;
         push_between(&mut gap, item, &items[i + 1..])?;
     }
-    parts.push(end_after(alloc, gap))?;
+    parts.push(end_after(alloc, gap)?)?;
     Ok(parts)
 }

@@ -4,9 +4,9 @@ ghost use Rattle.bz_value.specs.Proper.{has_break};
 ghost use Rattle.bz_layout.specs.Layout as layout;
 ghost use Rattle.bz_layout.specs.private.RowGaps.{written_gap};
 
-use crate::gaps::{NO_LIMIT, deeper_margin, push_new_line};
+use crate::gaps::{NO_LIMIT, deeper_margin, gap_from, push_new_line};
 use crate::is_spaced;
-use bz_items::{Memory, Text};
+use bz_items::{Gap, Memory};
 use bz_value::{Expr, Form};
 use std::alloc::Global;
 
@@ -70,17 +70,17 @@ pub fn margin_after(form: &Form, margin: usize, part: &Expr) -> Result<usize, Me
     }
 }
 
-/// The gap as a text.
-fn text_of_gap(alloc: Global, gap: RowGap) -> Result<Text, Memory>
+/// The gap as its bytes.
+fn text_of_gap(alloc: Global, gap: RowGap) -> Result<Gap, Memory>
     ensures { IfOk result (λ text. text ≡ written_gap gap) }
 {
     match gap {
-        RowGap::Nothing => Ok(Text::from_vec(Vec::new(alloc))),
-        RowGap::Space => Text::from_slice(alloc, b" "),
+        RowGap::Nothing => Ok(Gap::none(alloc)),
+        RowGap::Space => Gap::from_slice(alloc, b" "),
         RowGap::Line(margin) => {
             let mut out = Vec::new(alloc);
             push_new_line(&mut out, margin, NO_LIMIT)?;
-            Ok(Text::from_vec(out))
+            gap_from(alloc, out)
         }
     }
 }
@@ -112,14 +112,14 @@ pub fn push_row_gap(
     push_gap(out, gap_after(form, margin, part, others)?, limit)
 }
 
-/// The text of the gap after a part of a row, before the others. The error: a growth was refused.
+/// The bytes of the gap after a part of a row, before the others. The error: a growth was refused.
 pub fn text_after(
     alloc: Global,
     form: &Form,
     margin: usize,
     part: &Expr,
     others: &[Expr],
-) -> Result<Text, Memory>
+) -> Result<Gap, Memory>
     ensures { IfOk result (λ text. text ≡ layout.gap_after form.now.kind form.now.open_break margin part.now others.now) }
 {
     text_of_gap(alloc, gap_after(form, margin, part, others)?)

@@ -95,7 +95,7 @@ fn lay_out_first(
         push_between(&mut gap, item, others)?;
         rest = others;
     }
-    lines.push(end_after(alloc, gap))?;
+    lines.push(end_after(alloc, gap)?)?;
     Ok(())
 }
 

@@ -57,7 +57,7 @@ fn lay_out_each(alloc: Global, items: Items<Item>) -> Result<Items<Part>, Memory
     }
     let Standing { above, gap } = standing;
     drop(above);
-    parts.push(end_after(alloc, gap))?;
+    parts.push(end_after(alloc, gap)?)?;
     Ok(parts)
 }
 

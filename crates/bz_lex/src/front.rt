@@ -8,7 +8,7 @@ ghost use Rattle.bz_lex.specs.Lexing.{NoLexemes};
 use crate::gap::{GapFront, gap_front};
 use crate::leaf::Leaf;
 use crate::place::Place;
-use bz_items::{Text, at};
+use bz_items::{Gap, Text, at};
 use bz_token::{Class, opens_string, token};
 use std::alloc::{AllocError, Global};
 
@@ -37,7 +37,7 @@ impl Front {
         let (token, _) = after_gap.split_at(self.token);
         Ok(Leaf {
             class: self.class,
-            gap: Text::from_slice(alloc, gap)?,
+            gap: Gap::from_slice(alloc, gap)?,
             token: Text::from_slice(alloc, token)?,
         })
     }

@@ -1,6 +1,6 @@
 ghost use Rattle.std.specs.Prelude.{◌≡◌, ◌↔◌, IsTrue, IfOk};
 
-use bz_items::Text;
+use bz_items::{Gap, Text};
 use bz_token::Class;
 use std::alloc::AllocError;
 
@@ -8,7 +8,7 @@ use std::alloc::AllocError;
 #[derive(Debug, Drop)]
 pub struct Leaf {
     pub class: Class,
-    pub gap: Text,
+    pub gap: Gap,
     pub token: Text,
 }
 

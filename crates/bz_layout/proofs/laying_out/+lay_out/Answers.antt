@@ -7,7 +7,7 @@ lay_out_row-loop-i-preserved t c =
 
 pub lay_out_head-loop-expr-preserved : goal.lay_out_head-loop-expr-preserved
 lay_out_head-loop-expr-preserved t c =
-    head_turn _ _ _ _ _ _ _ c.expr-item.result _ _ _ c.loop-expr-test.true c.expr-item.is c.in_ok-lay_out.ensures c.in_ok-push.ensures.ok c.nothing-gap.ensures c.loop-expr.invariant
+    head_turn _ _ _ _ _ _ _ c.expr-item.result _ _ _ c.loop-expr-test.true c.expr-item.is c.in_ok-lay_out.ensures c.in_ok-push.ensures.ok c.none-gap.ensures c.loop-expr.invariant
 
 pub lay_out_joined-loop-i-preserved : goal.lay_out_joined-loop-i-preserved
 lay_out_joined-loop-i-preserved t c =
@@ -16,5 +16,5 @@ lay_out_joined-loop-i-preserved t c =
 pub lay_out_stacked-loop-item-preserved : goal.lay_out_stacked-loop-item-preserved
 lay_out_stacked-loop-item-preserved t c =
     stacked_turn _ _ _ _ _ _ _ _ _ c.item-item.result _ _ _ _ _ _ _ _ _ _ _ _ _ c.loop-item-test.true c.item-item.is c.comments-comments.ensures c.in_ok-inner.ensures c.in_ok-push_new_line.ensures c.before-in-loop-item.ensures
-    c.in_ok-push_above.ensures c.from_vec.ensures c.in_ok-lay_out.ensures c.in_ok-push.ensures.ok c.nothing.ensures c.in_ok-mark.ensures c.in_ok-push-2.ensures.ok c.new-gap-in-loop-item.ensures.items c.suffix.ensures c.in_ok-push_after.ensures
+    c.in_ok-push_above.ensures c.in_ok-gap_from.ensures c.in_ok-lay_out.ensures c.in_ok-push.ensures.ok c.none.ensures c.in_ok-mark.ensures c.in_ok-push-2.ensures.ok c.new-gap-in-loop-item.ensures.items c.suffix.ensures c.in_ok-push_after.ensures
     c.loop-item.invariant
