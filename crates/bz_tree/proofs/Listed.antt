@@ -18,6 +18,8 @@ use Rattle.bz_states.specs.declared.state.SquareOrCurly.TheVariants as brackets
 use Rattle.bz_states.specs.declared.state.BracketsAt.TheVariants as brackets_at
 use Rattle.bz_states.specs.declared.state.ClausesAt.TheVariants as clauses_at
 use Rattle.bz_states.specs.declared.state.StatementAt.{StatementAt}
+use Rattle.bz_states.specs.declared.state.SuffixAt.{SuffixAt}
+use Rattle.bz_states.specs.declared.state.SuffixAt.TheVariants as suffix_at
 use Rattle.bz_states.specs.declared.state.StatementAt.TheVariants as statement_at
 use Rattle.bz_states.specs.declared.state.ItemsAt.TheVariants as items_at
 use Rattle.bz_states.specs.declared.state.Move.TheVariants as m
@@ -198,3 +200,24 @@ module _ (d : ℕ) (ts : List Leaf) where
 
       pub small_expression : starts_with (terminals_of t.Flow) ts ≡ false → small statement_at.Expression ≡ small statement_at.Begin
       small_expression j = chooses_right d [] (s.Statement statement_at.NoReturn) ts t.Flow flow (s.Statement statement_at.Expression) (refl, refl, refl) j ∙ no_return
+
+-- what is after a primary, by what it begins with
+module _ (d : ℕ) (front : List Part) (ts : List Leaf) where
+  abbrev dot : NodeState
+  dot = s.Rest k.Dot (in_rest.Tokens t.Dot t.Name)
+
+  abbrev suffix : SuffixAt → Option (Part × List Leaf)
+  suffix at = found_from d front (s.Suffix at) ts
+
+  pub suffix_dot : starts_with (terminals_of t.Dot) ts ≡ true → found_from d front dot ts ≡ suffix suffix_at.Begin
+  suffix_dot h = chooses_left d front (s.Suffix suffix_at.Begin) ts t.Dot dot (s.Suffix suffix_at.CallOrIndex) (refl, refl, refl) h
+
+  module _ (h : starts_with (terminals_of t.Dot) ts ≡ false) where
+    no_dot : suffix suffix_at.CallOrIndex ≡ suffix suffix_at.Begin
+    no_dot = chooses_right d front (s.Suffix suffix_at.Begin) ts t.Dot dot (s.Suffix suffix_at.CallOrIndex) (refl, refl, refl) h
+
+    pub suffix_call : starts_with (terminals_of t.OpenRound) ts ≡ true → suffix suffix_at.Call ≡ suffix suffix_at.Begin
+    suffix_call i = chooses_left d front (s.Suffix suffix_at.CallOrIndex) ts t.OpenRound (s.Suffix suffix_at.Call) (s.Suffix suffix_at.Index) (refl, refl, refl) i ∙ no_dot
+
+    pub suffix_index : starts_with (terminals_of t.OpenRound) ts ≡ false → suffix suffix_at.Index ≡ suffix suffix_at.Begin
+    suffix_index i = chooses_right d front (s.Suffix suffix_at.CallOrIndex) ts t.OpenRound (s.Suffix suffix_at.Call) (s.Suffix suffix_at.Index) (refl, refl, refl) i ∙ no_dot

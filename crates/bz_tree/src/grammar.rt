@@ -1,5 +1,5 @@
 //! The parser: nodes by the table of states, expressions by their ranks.
-ghost use Rattle.std.specs.Prelude.{◌≡◌, ◌∷◌, ◌≤◌, ◌*◌, [], ℕ, IfOk, length, take, drop};
+ghost use Rattle.std.specs.Prelude.{◌≡◌, ◌∷◌, ◌≤◌, ◌*◌, [], ℕ, List, IfOk, length, take, drop};
 ghost use Rattle.bz_grammar.specs.Reading.{starts_with};
 ghost use Rattle.bz_grammar.specs.Spell.{deepest, depth_limit};
 ghost use Rattle.bz_states.specs.Tokens.{terminals_of, Fails};
@@ -300,6 +300,21 @@ fn small_state(leaves: &Leaves) -> NodeState
     NodeState::Statement(StatementAt::Expression)
 }
 
+/// Where what is after a primary is read from, by what it begins with.
+#[inline(always)]
+fn suffix_state(leaves: &Leaves) -> NodeState
+    ensures { (depth : ℕ) (front : List Part) → found_from depth front result leaves.now ≡ found_from depth front (NodeState.Suffix SuffixAt.Begin) leaves.now }
+{
+    if leaves.next_is(TokenSet::Dot) {
+        let name = Tail::Tokens(TokenSet::Dot, TokenSet::Name);
+        return NodeState::Rest(Kind::Dot, name);
+    }
+    if leaves.next_is(TokenSet::OpenRound) {
+        return NodeState::Suffix(SuffixAt::Call);
+    }
+    NodeState::Suffix(SuffixAt::Index)
+}
+
 /// A leaf of this sort.
 #[tactic(auto, unfolding(bz_states::specs::Tokens::token_at, crate::specs::private::Words::part_at))]
 fn leaf_of(
@@ -428,14 +443,7 @@ fn primary(depth: u32, stack: &mut Stack, leaves: &mut Leaves) -> Result<u32, Pa
     let from = stack.len();
     let mut deep = atom(depth, stack, leaves)?;
     'suffixes: while leaves.next_is(TokenSet::Suffixes) {
-        deep = go_on(
-            from,
-            deep,
-            NodeState::Suffix(SuffixAt::Begin),
-            depth,
-            stack,
-            leaves,
-        )?;
+        deep = go_on(from, deep, suffix_state(leaves), depth, stack, leaves)?;
     }
     Ok(deep)
 }

@@ -146,8 +146,8 @@ impl Stack {
 /// From how many parts on a list is long.
 const LONG: usize = 1024;
 
-/// Takes the parts from a place on off others, and leaves room for one more. Where they are most of a long list they keep its room,
-/// and those in front of them move to a new one: no second room as large is needed. The error: a growth was refused.
+/// Takes the parts from a place on off others, and leaves room for one more. The error: a growth was refused.
+#[inline(always)]
 fn take_tail(parts: &mut Vec<Part>, from: usize) -> Result<Vec<Part>, Memory>
     requires { from ≤ length parts.old.items }
     ensures front { OnOk result (parts.new.items ≡ take from parts.old.items) }
@@ -155,11 +155,25 @@ fn take_tail(parts: &mut Vec<Part>, from: usize) -> Result<Vec<Part>, Memory>
     ensures tail { IfOk result (λ tail. tail.items ≡ drop from parts.old.items) }
 {
     let len = parts.len();
-    if len < LONG || from > len / 2 {
-        parts.reserve(1)?;
-        let tail = parts.split_off(from)?;
-        return Ok(tail);
+    if len >= LONG && from <= len / 2 {
+        let most = take_most(parts, from)?;
+        return Ok(most);
     }
+    parts.reserve(1)?;
+    let tail = parts.split_off(from)?;
+    Ok(tail)
+}
+
+/// The same, where these parts are most of a long list: they keep its room, and those in front of them move to a new one, so that no
+/// second room as large is needed.
+#[inline(never)]
+fn take_most(parts: &mut Vec<Part>, from: usize) -> Result<Vec<Part>, Memory>
+    requires { from ≤ length parts.old.items }
+    ensures front { OnOk result (parts.new.items ≡ take from parts.old.items) }
+    ensures room { OnOk result (vec_len parts.new < vec_capacity parts.new) }
+    ensures tail { IfOk result (λ tail. tail.items ≡ drop from parts.old.items) }
+{
+    let len = parts.len();
     parts.rotate_left(from);
     let mut tail = parts.split_off(len - from)?;
     mem::swap(parts, &mut tail);
