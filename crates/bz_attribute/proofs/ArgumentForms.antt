@@ -1,84 +1,36 @@
 -- A named argument with another value: its name, and its value once more changed.
-use Rattle.std.proofs.Common.{◌≡◌, Bool, true, false, ◌||◌, List, [], ◌∷◌, refl, sym, ap, ◌∙◌, true≢false, inl, inr}
+use Rattle.std.proofs.Common.{◌≡◌, Bool, true, false, ◌||◌, List, [], ◌∷◌, refl, sym, ap, ◌∙◌, subst, true≢false, inl, inr}
 use Rattle.std.specs.Prelude.{Option, Some, None, is_some, if◌then◌else◌}
 use Rattle.std.specs.List.{list_any, slice_index_or}
-use Rattle.std.specs.Option.{option_and_then}
 use Rattle.std.proofs.lemmas.Bool.{cases_Bool}
-use Rattle.bz_grammar.specs.declared.kind.Kind.{Kind}
 use Rattle.bz_grammar.specs.declared.kind.Kind.TheVariants as k
 use Rattle.bz_grammar.specs.Shapes.{is_kind}
 use Rattle.bz_value.specs.declared.value.Form.{Form}
-use Rattle.bz_value.specs.declared.value.Expr.{Expr, Token, Form', items-the_row-Expr}
+use Rattle.bz_value.specs.declared.value.Expr.{Expr}
 use Rattle.bz_value.specs.declared.value.Expr.TheVariants as e
 use Rattle.bz_items.specs.Characters.{Bytes}
 use Rattle.bz_token.specs.declared.class.Class.TheVariants as c
 use Rattle.bz_rule.specs.Rules.{is_text, text_in, value_after, value_named}
-use Rattle.bz_rule.specs.Values.{has_kind, parts_of, with_parts, on_row, on_third}
-use Rattle.bz_rule.proofs.Forms.{form_in_Form}
-use Rattle.bz_rule.proofs.ProperChanges.{by_test, by_case}
+use Rattle.bz_rule.specs.Values.{has_kind, parts_of, with_parts, on_third}
+use Rattle.bz_rule.proofs.ProperChanges.{by_test}
 use Rattle.bz_attribute.specs.Attributes.{is_attribute, on_first_that, without_first, on_value, with_value, without}
-use Rattle.bz_attribute.proofs.FormsAgain.{if_true}
-use Rattle.bz_attribute.proofs.MakingForms.{part_list, item_list}
-
--- ---- a form by its lists
-
--- a form with these lists
-abbrev pub in_form : Form → List Expr → List Expr → Expr
-in_form f parts items = e.Form (record { kind = f.kind; parts = parts; seq = record { items = items; end = f.seq.end; split = f.seq.split }; open_break = f.open_break; comments = f.comments })
+use Rattle.bz_attribute.proofs.FormsAgain.{if_false, row_changed, row_twice, own_value, value_changed, three_parts}
+use Rattle.bz_attribute.proofs.MakingForms.{part_list}
 
 pub parts_Form : (f : Form) → parts_of (e.Form f) ≡ f.parts
 parts_Form f = part_list f
 
-with_parts_Form : (xs : List Expr) (f : Form) → with_parts xs (e.Form f) ≡ in_form f xs f.seq.items
-with_parts_Form xs f = ap (λ items. in_form f xs items) (item_list f)
-
-pub row_Form : (kind : Kind) (change : List Expr → List Expr) (f : Form) → on_row kind change (e.Form f) ≡ (if is_kind f.kind kind then in_form f (change f.parts) f.seq.items else e.Form f)
-row_Form kind change f =
-    ap (λ (x : Expr). if is_kind f.kind kind then x else e.Form f)
-    (ap (λ xs. with_parts (change xs) (e.Form f)) (parts_Form f) ∙ with_parts_Form (change f.parts) f)
-
--- ---- a named argument with other parts
-
-abbrev following : Bytes → Option Form → Option Expr
-following name found = option_and_then (λ (argument : Form). value_after name argument.parts) found
-
-pub value_Form : (name : Bytes) (f : Form) → is_kind f.kind k.Named ≡ true → value_named name (e.Form f) ≡ value_after name f.parts
-value_Form name f is = ap (following name) (form_in_Form k.Named f ∙ if_true (is_kind f.kind k.Named) (Some f) None is)
-
--- a change of the parts of a named argument that has these parts
-changed_row : (change : List Expr → List Expr) (ps : List Expr) (x : Expr) → has_kind k.Named x ≡ true → on_row k.Named change (with_parts ps x) ≡ with_parts (change ps) x
-changed_row change ps (Token t) is = absurd (true≢false (sym is))
-changed_row change ps (Form' kind s parts s' items end split open_break comments) is =
-    row_Form k.Named change (record { kind = kind; parts = ps; seq = record { items = items-the_row-Expr _ items; end = end; split = split }; open_break = open_break; comments = comments })
-    ∙ if_true (is_kind kind k.Named) _ _ is
-
-value_of_parts : (name : Bytes) (ps : List Expr) (x : Expr) → has_kind k.Named x ≡ true → value_named name (with_parts ps x) ≡ value_after name ps
-value_of_parts name ps (Token t) is = absurd (true≢false (sym is))
-value_of_parts name ps (Form' kind s parts s' items end split open_break comments) is =
-    value_Form name (record { kind = kind; parts = ps; seq = record { items = items-the_row-Expr _ items; end = end; split = split }; open_break = open_break; comments = comments }) is
-
-pub own_value : (name : Bytes) (x : Expr) → has_kind k.Named x ≡ true → value_named name x ≡ value_after name (parts_of x)
-own_value name (Token t) is = absurd (true≢false (sym is))
-own_value name (Form' kind s parts s' items end split open_break comments) is = ap (following name) (if_true (is_kind kind k.Named) _ None is)
-
 -- ---- the value of a named argument
 
-some_of : (b : Bool) (x : Expr) → is_some (if b then Some x else None) ≡ true → Some x ≡ (if b then Some x else None)
-some_of true x some = refl
-some_of false x some = absurd (true≢false (sym some))
-
-third_after : (name : Bytes) (ps : List Expr) (other : Expr) → is_some (value_after name ps) ≡ true → Some (slice_index_or ps 2 other) ≡ value_after name ps
-third_after name [] other some = absurd (true≢false (sym some))
-third_after name (x ∷ []) other some = absurd (true≢false (sym some))
-third_after name (x ∷ y ∷ []) other some = absurd (true≢false (sym some))
-third_after name (x ∷ y ∷ z ∷ []) other some = some_of (is_text name (text_in c.Name x)) z some
-third_after name (x ∷ y ∷ z ∷ w ∷ rest) other some = absurd (true≢false (sym some))
+third_of : (name : Bytes) (ps : List Expr) (other : Expr) (found : Option Expr) → value_after name ps ≡ found → is_some found ≡ true → Some (slice_index_or ps 2 other) ≡ found
+third_of name ps other None e some = absurd (true≢false (sym some))
+third_of name ps other (Some v) e some = subst (λ (qs : List Expr). Some (slice_index_or qs 2 other) ≡ Some v) (sym (three_parts name v ps e).are) refl
 
 -- where a form is an attribute of the name, its value is its third part
 pub value_taken : (name : Bytes) (f : Form) (x other : Expr) → x ≡ e.Form f → is_kind f.kind k.Named ≡ true → is_attribute name x ≡ true → Some (slice_index_or f.parts 2 other) ≡ value_named name x
 value_taken name f x other same is some =
-    let own : value_named name x ≡ value_after name f.parts = ap (value_named name) same ∙ value_Form name f is in
-    third_after name f.parts other (ap is_some (sym own) ∙ some) ∙ sym own
+    let own : value_named name x ≡ value_after name f.parts = ap (value_named name) same ∙ (own_value name (e.Form f) is ∙ ap (value_after name) (parts_Form f)) in
+    third_of name f.parts other (value_named name x) (sym own) some
 
 -- ---- a named argument with another value
 
@@ -100,18 +52,18 @@ third_twice v w (x ∷ y ∷ []) = refl
 third_twice v w (x ∷ y ∷ z ∷ rest) = refl
 
 pub same_name : (name : Bytes) (v x : Expr) → is_attribute name (on_value (λ _. v) x) ≡ is_attribute name x
-same_name name v x =
-    by_case (λ (y : Expr). is_attribute name y ≡ is_attribute name x) (has_kind k.Named x) (with_parts (on_third (λ _. v) (parts_of x)) x) x
-    (λ is. ap is_some (value_of_parts name (on_third (λ _. v) (parts_of x)) x is) ∙ (after_third name v (parts_of x) ∙ sym (ap is_some (own_value name x is))))
-    (λ is. refl)
+same_name name v x = elim (cases_Bool (has_kind k.Named x)) [
+  | inl is ↦ ap is_some (value_changed name (on_third (λ _. v)) x is) ∙ (after_third name v (parts_of x) ∙ sym (ap is_some (own_value name x is)))
+  | inr n ↦ ap (is_attribute name) (if_false (has_kind k.Named x) (with_parts (on_third (λ _. v) (parts_of x)) x) x n)
+]
 
 pub value_twice : (v w x : Expr) → on_value (λ _. w) (on_value (λ _. v) x) ≡ on_value (λ _. w) x
-value_twice v w x =
-    by_case (λ (y : Expr). on_value (λ _. w) y ≡ on_value (λ _. w) x) (has_kind k.Named x) (with_parts (on_third (λ _. v) (parts_of x)) x) x
-    (λ is.
-    changed_row (on_third (λ _. w)) (on_third (λ _. v) (parts_of x)) x is
-    ∙ (ap (λ ps. with_parts ps x) (third_twice v w (parts_of x)) ∙ sym (if_true (has_kind k.Named x) (with_parts (on_third (λ _. w) (parts_of x)) x) x is)))
-    (λ is. refl)
+value_twice v w x = elim (cases_Bool (has_kind k.Named x)) [
+  | inl is ↦
+      row_twice k.Named (on_third (λ _. w)) (on_third (λ _. v)) x is
+      ∙ (ap (λ ps. with_parts ps x) (third_twice v w (parts_of x)) ∙ sym (row_changed k.Named (on_third (λ _. w)) x is))
+  | inr n ↦ ap (on_value (λ _. w)) (if_false (has_kind k.Named x) (with_parts (on_third (λ _. v) (parts_of x)) x) x n)
+]
 
 -- ---- the first element that passes, changed
 

@@ -1,6 +1,6 @@
 -- Attributes that are there and absent ones, values that are put in again, and what is made where nothing is refused.
-use Rattle.std.proofs.Common.{◌≡◌, false, List, [], ◌∷◌, Option, Some, None, Ok, refl, sym, ap, ◌∙◌, codes, true≢false}
-use Rattle.std.specs.Prelude.{if◌then◌else◌, is_some, bytes_eq}
+use Rattle.std.proofs.Common.{◌≡◌, false, List, [], ◌∷◌, Option, Some, None, Ok, refl, sym, ap, ◌∙◌, subst, codes, true≢false}
+use Rattle.std.specs.Prelude.{is_some, bytes_eq}
 use Rattle.std.specs.Option.{option_or}
 use Rattle.std.proofs.lemmas.Bool.{or_parts}
 use Rattle.std.proofs.lemmas.Slice.Eq.{bytes_eq-Decides}
@@ -15,7 +15,7 @@ use Rattle.bz_rule.proofs.ProperChanges.{by_test}
 use Rattle.bz_attribute.specs.Attributes.{Arguments, by_value, is_attribute, has_attribute, on_value, with_value, without, inserted, with_new}
 use Rattle.bz_attribute.specs.Made.{node, mark, argument_of}
 use Rattle.bz_attribute.specs.Made as new
-use Rattle.bz_attribute.proofs.FormsAgain.{if_true, if_false, found_if, row_same, value_answered, value_parts, value_changed, attribute_first}
+use Rattle.bz_attribute.proofs.FormsAgain.{if_true, if_false, row_same, value_answered, value_parts, value_changed, three_parts, attribute_first, by_first}
 
 -- ---- by an attribute that is there, and by one that is absent
 
@@ -39,35 +39,22 @@ same_made xs ys result d e = cc
 -- ---- the value that is there
 
 third_same : (name : Bytes) (value : Expr) (ps : List Expr) → value_after name ps ≡ Some value → on_third (λ old. value) ps ≡ ps
-third_same name value [] h = refl
-third_same name value (x ∷ []) h = refl
-third_same name value (x ∷ y ∷ []) h = refl
-third_same name value (x ∷ y ∷ v ∷ []) h =
-    let own : Some v ≡ Some value = (found_if (is_text name (text_in c.Name x)) (Some v) value h).1 in
-    let same : value ≡ v = cc in
-    ap (λ z. x ∷ y ∷ z ∷ []) same
-third_same name value (x ∷ y ∷ v ∷ w ∷ rest) h = cc
+third_same name value ps h = subst (λ (qs : List Expr). on_third (λ old. value) qs ≡ qs) (sym (three_parts name value ps h).are) refl
 
 value_same : (name : Bytes) (value x : Expr) → value_named name x ≡ Some value → on_value (λ old. value) x ≡ x
 value_same name value x h = row_same k.Named (on_third (λ old. value)) x (third_same name value (parts_of x) (value_parts name value x h).1)
 
-same_step : (found rest : Option Expr) (value x y : Expr) (xs ys : List Expr) → option_or found rest ≡ Some value → (found ≡ Some value → y ≡ x) → (rest ≡ Some value → ys ≡ xs)
-    → (if is_some found then y ∷ xs else x ∷ ys) ≡ x ∷ xs
-same_step None rest value x y xs ys e f g = ap (λ zs. x ∷ zs) (g e)
-same_step (Some v) rest value x y xs ys e f g = ap (λ z. z ∷ xs) (f e)
-
 pub with_value_same : (name : Bytes) (value : Expr) (xs : List Expr) → attribute name xs ≡ Some value → with_value name value xs ≡ xs
-with_value_same name value [] e = refl
-with_value_same name value (x ∷ xs) e =
-    same_step (value_named name x) (attribute name xs) value x (on_value (λ old. value) x) xs (with_value name value xs) e (value_same name value x) (with_value_same name value xs)
+with_value_same name value xs e =
+    by_first (λ ys zs. zs ≡ ys) name value (on_value (λ old. value)) (λ x ys h. ap (λ z. z ∷ ys) (value_same name value x h)) (λ x ys zs n h. ap (λ ws. x ∷ ws) h) xs e
 
 -- ---- a new argument
 
 pub node_parts : (kind : Kind) (ps : List Expr) → parts_of (node kind ps) ≡ ps
 node_parts kind ps = items_hidden-the_row-Expr-0 ps
 
-own_value : (name : Bytes) (value : Expr) → value_named name (argument_of name value) ≡ Some value
-own_value name value =
+new_value : (name : Bytes) (value : Expr) → value_named name (argument_of name value) ≡ Some value
+new_value name value =
     value_answered name (argument_of name value)
     ∙ (ap (value_after name) (node_parts k.Named (new.name name ∷ mark (codes "=") ∷ value ∷ []))
     ∙ if_true (bytes_eq name name) (Some value) None ((bytes_eq-Decides name name).1 refl))
@@ -90,47 +77,38 @@ found_after : (name : Bytes) (value x : Expr) (xs : List Expr) → value_named n
 found_after name value x xs n h = ap (λ (found : Option Expr). option_or found (attribute name xs)) n ∙ h
 
 pub attribute_new : (name : Bytes) (value : Expr) (xs : List Expr) → has_attribute name xs ≡ false → attribute name (with_new name value xs) ≡ Some value
-attribute_new name value [] h = found_first name value (argument_of name value) [] (own_value name value)
+attribute_new name value [] h = found_first name value (argument_of name value) [] (new_value name value)
 attribute_new name value (x ∷ xs) h =
     let argument : Expr = argument_of name value in
     let p = none_first name x xs h in
     by_test (λ (ys : List Expr). attribute name ys ≡ Some value) (has_kind k.Star x) (argument ∷ x ∷ xs) (x ∷ inserted argument xs)
-    (found_first name value argument (x ∷ xs) (own_value name value))
+    (found_first name value argument (x ∷ xs) (new_value name value))
     (found_after name value x (inserted argument xs) (none_found (value_named name x) p.0) (attribute_new name value xs p.1))
 
 pub without_new : (name : Bytes) (value : Expr) (xs : List Expr) → has_attribute name xs ≡ false → without name (with_new name value xs) ≡ xs
 without_new name value [] h =
     let argument : Expr = argument_of name value in
-    if_true (is_attribute name argument) [] (argument ∷ []) (ap (λ (found : Option Expr). is_some found) (own_value name value))
+    if_true (is_attribute name argument) [] (argument ∷ []) (ap (λ (found : Option Expr). is_some found) (new_value name value))
 without_new name value (x ∷ xs) h =
     let argument : Expr = argument_of name value in
     let p = none_first name x xs h in
     by_test (λ (ys : List Expr). without name ys ≡ x ∷ xs) (has_kind k.Star x) (argument ∷ x ∷ xs) (x ∷ inserted argument xs)
-    (if_true (is_attribute name argument) (x ∷ xs) (argument ∷ without name (x ∷ xs)) (ap (λ (found : Option Expr). is_some found) (own_value name value)))
+    (if_true (is_attribute name argument) (x ∷ xs) (argument ∷ without name (x ∷ xs)) (ap (λ (found : Option Expr). is_some found) (new_value name value)))
     (if_false (is_attribute name x) (inserted argument xs) (x ∷ without name (inserted argument xs)) p.0 ∙ ap (λ zs. x ∷ zs) (without_new name value xs p.1))
 
 -- ---- another value
 
 third_found : (name : Bytes) (value other : Expr) (ps : List Expr) → value_after name ps ≡ Some value → value_after name (on_third (λ old. other) ps) ≡ Some other
-third_found name value other [] h = cc
-third_found name value other (x ∷ []) h = cc
-third_found name value other (x ∷ y ∷ []) h = cc
-third_found name value other (x ∷ y ∷ v ∷ []) h =
-    if_true (is_text name (text_in c.Name x)) (Some other) None (found_if (is_text name (text_in c.Name x)) (Some v) value h).0
-third_found name value other (x ∷ y ∷ v ∷ w ∷ rest) h = cc
+third_found name value other ps h =
+    let three = three_parts name value ps h in
+    subst (λ (qs : List Expr). value_after name (on_third (λ old. other) qs) ≡ Some other) (sym three.are) (if_true (is_text name (text_in c.Name three.left)) (Some other) None three.is)
 
 value_found : (name : Bytes) (value other x : Expr) → value_named name x ≡ Some value → value_named name (on_value (λ old. other) x) ≡ Some other
 value_found name value other x h =
     let p = value_parts name value x h in
     value_changed name (on_third (λ old. other)) x p.0 ∙ third_found name value other (parts_of x) p.1
 
-found_step : (name : Bytes) (found rest : Option Expr) (value other x y : Expr) (xs ys : List Expr) → option_or found rest ≡ Some value → value_named name x ≡ found
-    → (found ≡ Some value → value_named name y ≡ Some other) → (rest ≡ Some value → attribute name ys ≡ Some other) → attribute name (if is_some found then y ∷ xs else x ∷ ys) ≡ Some other
-found_step name None rest value other x y xs ys e d f g = found_after name other x ys d (g e)
-found_step name (Some v) rest value other x y xs ys e d f g = found_first name other y xs (f e)
-
 pub attribute_changed : (name : Bytes) (value other : Expr) (xs : List Expr) → attribute name xs ≡ Some value → attribute name (with_value name other xs) ≡ Some other
-attribute_changed name value other [] e = cc
-attribute_changed name value other (x ∷ xs) e =
-    found_step name (value_named name x) (attribute name xs) value other x (on_value (λ old. other) x) xs (with_value name other xs) e refl
-    (value_found name value other x) (attribute_changed name value other xs)
+attribute_changed name value other xs e =
+    by_first (λ ys zs. attribute name zs ≡ Some other) name value (on_value (λ old. other))
+    (λ x ys h. found_first name other (on_value (λ old. other) x) ys (value_found name value other x h)) (λ x ys zs n h. found_after name other x zs n h) xs e

@@ -1,7 +1,9 @@
 -- Expressions whose parts or items were changed, once and back again; named arguments; and tests in turn.
-use Rattle.std.proofs.Common.{◌≡◌, Bool, true, false, ◌||◌, List, ◌∷◌, Option, Some, None, refl, sym, ap, ◌∙◌, true≢false}
+use Rattle.std.proofs.Common.{◌≡◌, Bool, true, false, ◌||◌, List, [], ◌∷◌, Option, Some, None, inl, inr, refl, sym, ap, ◌∙◌, true≢false}
 use Rattle.std.specs.Prelude.{if◌then◌else◌, is_some}
+use Rattle.std.specs.List.{list_any}
 use Rattle.std.specs.Option.{option_and_then, option_or}
+use Rattle.std.proofs.lemmas.Bool.{cases_Bool}
 use Rattle.bz_grammar.specs.declared.kind.Kind.{Kind}
 use Rattle.bz_grammar.specs.declared.kind.Kind.TheVariants as k
 use Rattle.bz_grammar.specs.Shapes.{is_kind}
@@ -9,11 +11,12 @@ use Rattle.bz_value.specs.declared.value.Form.{Form}
 use Rattle.bz_value.specs.declared.value.Expr.{Expr, Token, Form', items-the_row-Expr, items_hidden-the_row-Expr-0}
 use Rattle.bz_value.specs.declared.value.Expr.TheVariants as e
 use Rattle.bz_items.specs.Characters.{Bytes}
-use Rattle.bz_rule.specs.Rules.{value_after, value_named, attribute}
+use Rattle.bz_token.specs.declared.class.Class.TheVariants as c
+use Rattle.bz_rule.specs.Rules.{is_text, text_in, value_after, value_named, attribute}
 use Rattle.bz_rule.specs.Values.{has_kind, parts_of, items_of, with_parts, with_items, on_row, on_items}
 use Rattle.bz_rule.proofs.ProperChanges.{by_case}
 pub use Rattle.bz_rule.proofs.Opened.{made, own_parts, own_items}
-use Rattle.bz_attribute.specs.Attributes.{is_attribute, has_attribute}
+use Rattle.bz_attribute.specs.Attributes.{is_attribute, has_attribute, on_first_that}
 
 -- ---- tests
 
@@ -106,15 +109,10 @@ row_twice kind f g x h =
 
 module _ (kind : Kind) (f g : List Expr → List Expr) where
   pub row_back : (x : Expr) → (has_kind kind x ≡ true → g (f (parts_of x)) ≡ parts_of x) → on_row kind g (on_row kind f x) ≡ x
-  row_back x h =
-      by_case (λ y. on_row kind g y ≡ x) (has_kind kind x) (with_parts (f (parts_of x)) x) x
-      (λ is.
-      let y : Expr = with_parts (f (parts_of x)) x in
-      if_true (has_kind kind y) (with_parts (g (parts_of y)) y) y (parts_kind kind (f (parts_of x)) x ∙ is)
-      ∙ (ap (λ ps. with_parts (g ps) y) (parts_filled kind (f (parts_of x)) x is)
-      ∙ (parts_twice (g (f (parts_of x))) (f (parts_of x)) x
-      ∙ (ap (λ ps. with_parts ps x) (h is) ∙ own_parts x))))
-      (λ n. if_false (has_kind kind x) (with_parts (g (parts_of x)) x) x n)
+  row_back x h = elim (cases_Bool (has_kind kind x)) [
+    | inl is ↦ row_twice kind g f x is ∙ (ap (λ ps. with_parts ps x) (h is) ∙ own_parts x)
+    | inr n ↦ ap (on_row kind g) (if_false (has_kind kind x) (with_parts (f (parts_of x)) x) x n) ∙ if_false (has_kind kind x) (with_parts (g (parts_of x)) x) x n
+  ]
 
   pub items_back : (x : Expr) → (has_kind kind x ≡ true → g (f (items_of x)) ≡ items_of x) → on_items kind g (on_items kind f x) ≡ x
   items_back x h =
@@ -135,6 +133,27 @@ value_answered name (Token t) = refl
 value_answered name (Form' own s parts s' items end split open_break comments) =
     then_if (is_kind own k.Named) (λ (argument : Form). value_after name argument.parts) (made own (items-the_row-Expr _ parts) (items-the_row-Expr _ items) end split open_break comments)
 
+pub own_value : (name : Bytes) (x : Expr) → has_kind k.Named x ≡ true → value_named name x ≡ value_after name (parts_of x)
+own_value name x is = value_answered name x ∙ if_true (has_kind k.Named x) (value_after name (parts_of x)) None is
+
+-- the parts of a named argument of this name and value
+pub record AreThree (name : Bytes) (value : Expr) (ps : List Expr) : Type 0 where
+  pub left : Expr
+  pub sign : Expr
+  pub are : ps ≡ left ∷ sign ∷ value ∷ []
+  pub is : is_text name (text_in c.Name left) ≡ true
+
+pub three_parts : (name : Bytes) (value : Expr) (ps : List Expr) → value_after name ps ≡ Some value → AreThree name value ps
+three_parts name value (x ∷ y ∷ v ∷ []) h =
+    let p = found_if (is_text name (text_in c.Name x)) (Some v) value h in
+    let own : Some v ≡ Some value = p.1 in
+    let same : v ≡ value = cc in
+    record { left = x; sign = y; are = ap (λ z. x ∷ y ∷ z ∷ []) same; is = p.0 }
+three_parts name value [] h = absurd cc
+three_parts name value (x ∷ []) h = absurd cc
+three_parts name value (x ∷ y ∷ []) h = absurd cc
+three_parts name value (x ∷ y ∷ v ∷ w ∷ rest) h = absurd cc
+
 pub attribute_parts : (name : Bytes) (x : Expr) → is_attribute name x ≡ true → (has_kind k.Named x ≡ true) × (is_some (value_after name (parts_of x)) ≡ true)
 attribute_parts name x h = some_if (has_kind k.Named x) (value_after name (parts_of x)) (sym (ap (λ (found : Option Expr). is_some found) (value_answered name x)) ∙ h)
 
@@ -146,9 +165,7 @@ pub value_changed : (name : Bytes) (change : List Expr → List Expr) (x : Expr)
 value_changed name change x h =
     let y : Expr = with_parts (change (parts_of x)) x in
     ap (value_named name) (row_changed k.Named change x h)
-    ∙ (value_answered name y
-    ∙ (if_true (has_kind k.Named y) (value_after name (parts_of y)) None (parts_kind k.Named (change (parts_of x)) x ∙ h)
-    ∙ ap (value_after name) (parts_filled k.Named (change (parts_of x)) x h)))
+    ∙ (own_value name y (parts_kind k.Named (change (parts_of x)) x ∙ h) ∙ ap (value_after name) (parts_filled k.Named (change (parts_of x)) x h))
 
 -- ---- attributes among arguments
 
@@ -158,3 +175,21 @@ some_or (Some x) rest = refl
 
 pub attribute_first : (name : Bytes) (x : Expr) (xs : List Expr) → has_attribute name (x ∷ xs) ≡ (is_attribute name x || has_attribute name xs)
 attribute_first name x xs = some_or (value_named name x) (attribute name xs)
+
+-- some argument has the name
+pub attribute_any : (name : Bytes) (xs : List Expr) → has_attribute name xs ≡ list_any (is_attribute name) xs
+attribute_any name [] = refl
+attribute_any name (x ∷ xs) = attribute_first name x xs ∙ ap (λ there. is_attribute name x || there) (attribute_any name xs)
+
+-- What holds where the first attribute changes, and still where another argument comes before it, holds of all arguments.
+module _ (R : List Expr → List Expr → Type 0) (name : Bytes) (value : Expr) (change : Expr → Expr)
+    (here : (x : Expr) (xs : List Expr) → value_named name x ≡ Some value → R (x ∷ xs) (change x ∷ xs))
+    (later : (x : Expr) (xs ys : List Expr) → value_named name x ≡ None → R xs ys → R (x ∷ xs) (x ∷ ys)) where
+  first_step : (found : Option Expr) (x : Expr) (xs ys : List Expr) → value_named name x ≡ found → option_or found (attribute name xs) ≡ Some value → (attribute name xs ≡ Some value → R xs ys)
+      → R (x ∷ xs) (if is_some found then change x ∷ xs else x ∷ ys)
+  first_step None x xs ys d e f = later x xs ys d (f e)
+  first_step (Some v) x xs ys d e f = here x xs (d ∙ e)
+
+  pub by_first : (xs : List Expr) → attribute name xs ≡ Some value → R xs (on_first_that (is_attribute name) change xs)
+  by_first [] e = absurd cc
+  by_first (x ∷ xs) e = first_step (value_named name x) x xs (on_first_that (is_attribute name) change xs) refl e (by_first xs)

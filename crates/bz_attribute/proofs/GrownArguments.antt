@@ -1,23 +1,21 @@
 -- What is counted of the comments of an expression, and changes of expressions and of arguments that make it no smaller.
-use Rattle.std.proofs.Common.{◌≡◌, ◌≤◌, ℕ, ◌+◌, false, List, [], ◌∷◌, ◌++◌, Option, Some, None, refl, sym, ap, subst, map, codes, true≢false}
-use Rattle.std.specs.Prelude.{if◌then◌else◌, is_some, IfOk}
-use Rattle.std.specs.Option.{option_or}
-use Rattle.bz_token.specs.declared.class.Class.TheVariants as c
+use Rattle.std.proofs.Common.{◌≡◌, ◌≤◌, ℕ, ◌+◌, false, List, [], ◌∷◌, ◌++◌, Some, refl, sym, ap, subst, map, codes, arith}
+use Rattle.std.specs.Prelude.{IfOk}
 use Rattle.bz_grammar.specs.declared.kind.Kind.{Kind}
 use Rattle.bz_grammar.specs.declared.kind.Kind.TheVariants as k
 use Rattle.bz_value.specs.declared.value.Expr.{Expr, Token, Form', Row_of-Expr, end_of-Expr, more_of-Expr, items-the_row-Expr}
 use Rattle.bz_value.specs.Comments.{no_comments}
-use Rattle.bz_value.specs.Counted.{total, host_amount, amount, row_amount}
+use Rattle.bz_value.specs.Counted.{total, amount, row_amount}
 use Rattle.bz_items.specs.Characters.{Bytes}
 use Rattle.bz_value.proofs.Totals.{form_amount}
-use Rattle.bz_rule.specs.Rules.{text_in, is_text, value_after, value_named, attribute}
+use Rattle.bz_rule.specs.Rules.{value_after, value_named, attribute}
 use Rattle.bz_rule.specs.Values.{has_kind, parts_of, items_of, with_parts, with_items, with_text, on_row, on_items, on_third, on_lists}
 use Rattle.bz_rule.proofs.ProperChanges.{by_test}
 use Rattle.bz_attribute.specs.Attributes.{Arguments, on_first_that, on_value, with_value, inserted}
 use Rattle.bz_attribute.specs.Lists.{with_more}
 use Rattle.bz_attribute.specs.Made.{mark, node, binds_looser, operand, plus}
-use Rattle.bz_attribute.proofs.FormsAgain.{made, own_parts, found_if, value_parts}
-use Rattle.bz_attribute.proofs.Grown.{itself, least, in_turn, both_at_most, first_at_most, second_at_most, last_at_most, part_at_most, more_parts, more_items, Grows, EachGrows, map_grows, third_grows, append_grows, first_that_grows}
+use Rattle.bz_attribute.proofs.FormsAgain.{made, own_parts, value_parts, three_parts, by_first}
+use Rattle.bz_attribute.proofs.Grown.{itself, Grows, EachGrows, map_grows, third_grows, append_grows, first_that_grows}
 
 module _ (number : Bytes → ℕ) where
   abbrev pub whole : Expr → ℕ
@@ -30,16 +28,18 @@ module _ (number : Bytes → ℕ) where
   pub parts_grow : (ys : List Expr) (x : Expr) → total whole (parts_of x) ≤ total whole ys → whole x ≤ whole (with_parts ys x)
   parts_grow ys (Token t) h = itself (whole (Token t))
   parts_grow ys (Form' kind s parts s' items end split open_break comments) h =
-      more_parts (host_amount number comments) (row_amount number parts) (total whole (items-the_row-Expr _ parts)) (total whole ys)
-      (row_amount number items) (total whole (items-the_row-Expr _ items)) (total number end) (whole (with_parts ys (Form' kind s parts s' items end split open_break comments)))
-      (form_amount number (made kind ys (items-the_row-Expr _ items) end split open_break comments)) (row_total _ parts) (row_total _ items) h
+      let all = form_amount number (made kind ys (items-the_row-Expr _ items) end split open_break comments) in
+      let before = row_total _ parts in
+      let beside = row_total _ items in
+      omega arith
 
   pub items_grow : (ys : List Expr) (x : Expr) → total whole (items_of x) ≤ total whole ys → whole x ≤ whole (with_items ys x)
   items_grow ys (Token t) h = itself (whole (Token t))
   items_grow ys (Form' kind s parts s' items end split open_break comments) h =
-      more_items (host_amount number comments) (row_amount number parts) (total whole (items-the_row-Expr _ parts)) (total whole ys)
-      (row_amount number items) (total whole (items-the_row-Expr _ items)) (total number end) (whole (with_items ys (Form' kind s parts s' items end split open_break comments)))
-      (form_amount number (made kind (items-the_row-Expr _ parts) ys end split open_break comments)) (row_total _ parts) (row_total _ items) h
+      let all = form_amount number (made kind (items-the_row-Expr _ parts) ys end split open_break comments) in
+      let beside = row_total _ parts in
+      let before = row_total _ items in
+      omega arith
 
   pub text_grows : (text : Bytes) → Grows whole (with_text text)
   text_grows text (Token t) = itself (whole (Token t))
@@ -74,61 +74,42 @@ module _ (number : Bytes → ℕ) where
       (on_row_grows k.Sum (on_first_that (has_kind k.List) change) (first_that_grows whole (has_kind k.List) change g) x) (g x)
 
   node_grows : (kind : Kind) (ps : List Expr) → total whole ps ≤ whole (node kind ps)
-  node_grows kind ps =
-      part_at_most (host_amount number no_comments) (total whole ps) (total whole [] + total number []) (whole (node kind ps)) (form_amount number (made kind ps [] [] false false no_comments))
+  node_grows kind ps = let all = form_amount number (made kind ps [] [] false false no_comments) in omega arith
 
   operand_grows : Grows whole operand
   operand_grows x =
       let ps : List Expr = mark (codes "(") ∷ x ∷ mark (codes ")") ∷ [] in
-      by_test (λ (y : Expr). whole x ≤ whole y) (binds_looser x) (node k.Paren ps) x
-      (in_turn (whole x) (total whole ps) (whole (node k.Paren ps)) (second_at_most (whole (mark (codes "("))) (whole x) (total whole (mark (codes ")") ∷ []))) (node_grows k.Paren ps))
-      (itself (whole x))
+      let all = node_grows k.Paren ps in
+      by_test (λ (y : Expr). whole x ≤ whole y) (binds_looser x) (node k.Paren ps) x (omega arith) (itself (whole x))
 
   pub plus_grows : (list : Expr) → Grows whole (λ x. plus x list)
   plus_grows list x =
       let more : List Expr = mark (codes "+") ∷ list ∷ [] in
-      let ps : List Expr = operand x ∷ more in
-      by_test (λ (y : Expr). whole x ≤ whole y) (has_kind k.Sum x) (on_row k.Sum (λ parts. parts ++ more) x) (node k.Sum ps)
-      (on_row_grows k.Sum (λ parts. parts ++ more) (append_grows whole more) x)
-      (in_turn (whole x) (whole (operand x)) (whole (node k.Sum ps)) (operand_grows x)
-      (in_turn (whole (operand x)) (total whole ps) (whole (node k.Sum ps)) (first_at_most (whole (operand x)) (total whole more)) (node_grows k.Sum ps)))
+      let all = node_grows k.Sum (operand x ∷ more) in
+      let first = operand_grows x in
+      by_test (λ (y : Expr). whole x ≤ whole y) (has_kind k.Sum x) (on_row k.Sum (λ parts. parts ++ more) x) (node k.Sum (operand x ∷ more))
+      (on_row_grows k.Sum (λ parts. parts ++ more) (append_grows whole more) x) (omega arith)
 
   -- ---- arguments
 
   third_known : (name : Bytes) (value new : Expr) (ps : List Expr) → value_after name ps ≡ Some value → whole value ≤ whole new → total whole ps ≤ total whole (on_third (λ old. new) ps)
-  third_known name value new [] e h = itself 0
-  third_known name value new (x ∷ []) e h = itself (total whole (x ∷ []))
-  third_known name value new (x ∷ y ∷ []) e h = itself (total whole (x ∷ y ∷ []))
-  third_known name value new (x ∷ y ∷ v ∷ []) e h =
-      let own : Some v ≡ Some value = (found_if (is_text name (text_in c.Name x)) (Some v) value e).1 in
-      let same : value ≡ v = cc in
-      both_at_most (whole x) (whole x) (total whole (y ∷ v ∷ [])) (total whole (y ∷ new ∷ [])) (itself (whole x))
-      (both_at_most (whole y) (whole y) (total whole (v ∷ [])) (total whole (new ∷ [])) (itself (whole y))
-      (both_at_most (whole v) (whole new) 0 0 (subst (λ z. whole z ≤ whole new) same h) (itself 0)))
-  third_known name value new (x ∷ y ∷ v ∷ z ∷ rest) e h = absurd (true≢false (sym (ap (λ (found : Option Expr). is_some found) e)))
+  third_known name value new ps e h = subst (λ (qs : List Expr). total whole qs ≤ total whole (on_third (λ old. new) qs)) (sym (three_parts name value ps e).are) (omega arith)
 
   value_known : (name : Bytes) (value new x : Expr) → value_named name x ≡ Some value → whole value ≤ whole new → whole x ≤ whole (on_value (λ old. new) x)
   value_known name value new x e h =
       by_test (λ (y : Expr). whole x ≤ whole y) (has_kind k.Named x) (with_parts (on_third (λ old. new) (parts_of x)) x) x
       (parts_grow (on_third (λ old. new) (parts_of x)) x (third_known name value new (parts_of x) (value_parts name value x e).1 h)) (itself (whole x))
 
-  known_step : (found rest : Option Expr) (value x y : Expr) (xs ys : List Expr) → option_or found rest ≡ Some value → (found ≡ Some value → whole x ≤ whole y) → (rest ≡ Some value → total whole xs ≤ total whole ys)
-      → total whole (x ∷ xs) ≤ total whole (if is_some found then y ∷ xs else x ∷ ys)
-  known_step None rest value x y xs ys e f g = both_at_most (whole x) (whole x) (total whole xs) (total whole ys) (itself (whole x)) (g e)
-  known_step (Some v) rest value x y xs ys e f g = both_at_most (whole x) (whole y) (total whole xs) (total whole xs) (f e) (itself (total whole xs))
-
   pub with_value_grows : (name : Bytes) (value new : Expr) (xs : List Expr) → attribute name xs ≡ Some value → whole value ≤ whole new → total whole xs ≤ total whole (with_value name new xs)
-  with_value_grows name value new [] e h = itself 0
-  with_value_grows name value new (x ∷ xs) e h =
-      known_step (value_named name x) (attribute name xs) value x (on_value (λ old. new) x) xs (with_value name new xs) e
-      (λ d. value_known name value new x d h) (λ d. with_value_grows name value new xs d h)
+  with_value_grows name value new xs e h =
+      by_first (λ ys zs. total whole ys ≤ total whole zs) name value (on_value (λ old. new))
+      (λ x ys d. let g = value_known name value new x d h in omega arith) (λ x ys zs n g. omega arith) xs e
 
   pub inserted_grows : (argument : Expr) → EachGrows whole (inserted argument)
-  inserted_grows argument [] = least (total whole (argument ∷ []))
+  inserted_grows argument [] = omega arith
   inserted_grows argument (x ∷ xs) =
-      by_test (λ (ys : List Expr). total whole (x ∷ xs) ≤ total whole ys) (has_kind k.Star x) (argument ∷ x ∷ xs) (x ∷ inserted argument xs)
-      (last_at_most (whole argument) (total whole (x ∷ xs)))
-      (both_at_most (whole x) (whole x) (total whole xs) (total whole (inserted argument xs)) (itself (whole x)) (inserted_grows argument xs))
+      let g = inserted_grows argument xs in
+      by_test (λ (ys : List Expr). total whole (x ∷ xs) ≤ total whole ys) (has_kind k.Star x) (argument ∷ x ∷ xs) (x ∷ inserted argument xs) (omega arith) (omega arith)
 
   -- ---- what is made of arguments
 

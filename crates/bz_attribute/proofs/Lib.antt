@@ -1,6 +1,5 @@
 pub mod ArgumentForms
 pub mod ArgumentPlaces
-pub mod ArgumentValues
 pub mod AttributesAgain
 pub mod FormsAgain
 pub mod Grown

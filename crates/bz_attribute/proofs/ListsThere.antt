@@ -3,6 +3,7 @@ use Rattle.std.proofs.Common.{◌≡◌, Bool, true, false, not, ◌&&◌, ◌||
 use Rattle.std.specs.Prelude.{if◌then◌else◌}
 use Rattle.std.specs.List.{list_any, filter, flat_map}
 use Rattle.std.proofs.lemmas.List.{append-nil}
+use Rattle.std.proofs.lemmas.List.Folds.{list_any-append}
 use Rattle.bz_grammar.specs.declared.kind.Kind.{Kind}
 use Rattle.bz_grammar.specs.declared.kind.Kind.TheVariants as k
 use Rattle.bz_grammar.specs.Shapes.{is_kind}
@@ -60,3 +61,15 @@ in_sum value h = sym (items_there value ∙ ap (λ b. if b then flat_map listed 
 
 pub in_value : (value : Expr) → has_kind k.Sum value ≡ false → flat_map listed (value ∷ []) ≡ items_in value
 in_value value h = append-nil (listed value) ∙ sym (items_there value ∙ ap (λ b. if b then flat_map listed (parts_of value) else listed value) h)
+
+-- ---- whether an item passes a test
+
+pub any_listed : (test : Expr → Bool) (xs : List Expr) → list_any test (flat_map listed xs) ≡ list_any (λ x. list_any test (listed x)) xs
+any_listed test [] = refl
+any_listed test (x ∷ xs) = list_any-append test (listed x) (flat_map listed xs) ∙ ap (λ z. list_any test (listed x) || z) (any_listed test xs)
+
+pub any_in_sum : (test : Expr → Bool) (value : Expr) → has_kind k.Sum value ≡ true → list_any test (items_in value) ≡ list_any (λ x. list_any test (listed x)) (parts_of value)
+any_in_sum test value h = ap (list_any test) (sym (in_sum value h)) ∙ any_listed test (parts_of value)
+
+pub any_alone : (test : Expr → Bool) (value : Expr) → has_kind k.Sum value ≡ false → list_any test (items_in value) ≡ list_any test (listed value)
+any_alone test value h = ap (list_any test) (sym (in_value value h) ∙ append-nil (listed value))

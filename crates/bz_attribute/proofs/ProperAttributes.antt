@@ -1,6 +1,7 @@
 -- The arguments of a rule with a value put in, with a new attribute, and with fewer.
 use Rattle.std.proofs.Common.{Bool, List, [], ◌∷◌}
 use Rattle.std.specs.Prelude.{IfSome, IfOk, Option, Some, None}
+use Rattle.std.specs.List.{AllByRecursion}
 use Rattle.bz_grammar.specs.declared.kind.Kind.TheVariants as k
 use Rattle.bz_grammar.specs.Shapes as s
 use Rattle.bz_value.specs.declared.value.Expr.{Expr}
@@ -23,9 +24,9 @@ AreArguments xs = AreOf s.argument xs
 abbrev pub StaysArgument : (Expr → Expr) → Type 0
 StaysArgument change = (x : Expr) → IsItem s.argument x → IsItem s.argument (change x)
 
-pub first_that_kept : (test : Expr → Bool) (change : Expr → Expr) → StaysArgument change → (xs : List Expr) → AreArguments xs → AreArguments (on_first_that test change xs)
-first_that_kept test change f [] h = tt
-first_that_kept test change f (x ∷ xs) h = by_test AreArguments (test x) (change x ∷ xs) (x ∷ on_first_that test change xs) (f x h.0, h.1) (h.0, first_that_kept test change f xs h.1)
+pub first_that_kept : (P : Expr → Type 0) (test : Expr → Bool) (change : Expr → Expr) → ((x : Expr) → P x → P (change x)) → (xs : List Expr) → AllByRecursion P xs → AllByRecursion P (on_first_that test change xs)
+first_that_kept P test change f [] h = tt
+first_that_kept P test change f (x ∷ xs) h = by_test (AllByRecursion P) (test x) (change x ∷ xs) (x ∷ on_first_that test change xs) (f x h.0, h.1) (h.0, first_that_kept P test change f xs h.1)
 
 pub first_that_stays : (test : Expr → Bool) (change : Expr → Expr) → Stays change → EachStays (on_first_that test change)
 first_that_stays test change h [] = none
@@ -37,7 +38,7 @@ pub value_stays : (change : Expr → Expr) → ((v : Expr) → IsValue v → IsV
 value_stays change f x = argument_changed (on_third change) (value_kept change f) x
 
 pub with_value_kept : (name : Bytes) (value : Expr) (xs : List Expr) → IsValue value → AreArguments xs → AreArguments (with_value name value xs)
-with_value_kept name value xs v h = first_that_kept (is_attribute name) (on_value (λ old. value)) (value_stays (λ old. value) (λ old o. v)) xs h
+with_value_kept name value xs v h = first_that_kept (IsItem s.argument) (is_attribute name) (on_value (λ old. value)) (value_stays (λ old. value) (λ old o. v)) xs h
 
 without_first_kept : (test : Expr → Bool) (xs : List Expr) → AreArguments xs → AreArguments (without_first test xs)
 without_first_kept test [] h = tt

@@ -9,18 +9,20 @@ use Rattle.bz_token.specs.Lexemes.{IsLexeme, is_mark}
 use Rattle.bz_grammar.specs.declared.kind.Kind.{Kind}
 use Rattle.bz_grammar.specs.declared.kind.Kind.TheVariants as k
 use Rattle.bz_grammar.specs.Shapes as s
-use Rattle.bz_grammar.specs.Shapes.{Fits, Listed, After, rank, is_kind}
+use Rattle.bz_grammar.specs.Shapes.{Fits, Listed, After, rank, is_kind, shape}
 use Rattle.bz_grammar.specs.Legal.{IsNonterminal}
 use Rattle.bz_grammar.specs.Spots.{Spot, Begins, Within}
 use Rattle.bz_label.specs.Tables.{is_label_attribute}
 use Rattle.bz_label.specs.Read.{shortened}
+use Rattle.bz_value.specs.declared.value.Form.{Form}
 use Rattle.bz_value.specs.declared.value.Expr.{Expr, Token, Form'}
 use Rattle.bz_value.specs.Comments.{no_comments}
 use Rattle.bz_items.specs.Characters.{Bytes, full_stop}
-use Rattle.bz_value.specs.Proper.{IsComment, AreComments, comments_of, has_break, is_operator_class, is_operator, after_expr, ProperExpr, IsProperItem}
-use Rattle.bz_value.specs.Roots.{root}
+use Rattle.bz_value.specs.Frames.{Frame, row, frame, is_binary}
+use Rattle.bz_value.specs.Proper.{IsComment, AreComments, comments_of, has_break, in_frame, is_operator_class, is_operator, after_expr, ProperExpr, IsProperItem}
+use Rattle.bz_value.specs.Roots.{root, row_in}
 use Rattle.bz_value.specs.Roots as r
-use Rattle.bz_value.proofs.FormParts.{AreParts, form_proper}
+use Rattle.bz_value.proofs.FormParts.{AreParts, AsRow, AsSequence, form_proper}
 use Rattle.bz_command_syntax.specs.Proper.{AreUtf8, IsAttribute, IsKind}
 use Rattle.bz_command_syntax.specs.Quoted.{quoted_of}
 use Rattle.bz_command_syntax.proofs.NameTests.{identifiers_are_names}
@@ -28,6 +30,7 @@ use Rattle.bz_command_syntax.proofs.Strings.{quoted_lexeme}
 use Rattle.bz_command_syntax.proofs.Utf8Texts.{quoted_utf8}
 use Rattle.bz_rule.specs.Values.{has_kind, on_row}
 use Rattle.bz_rule.proofs.ProperChanges.{by_test, by_case, Strung}
+use Rattle.bz_rule.proofs.Opened.{made}
 use Rattle.bz_rule.proofs.ProperItems.{IsValue, KeepsRow, row_within, value_within}
 use Rattle.bz_rule.proofs.ProperRules.{IsFunction}
 use Rattle.bz_rule.proofs.ProperSequences.{IsItem, AreOf, items_again, each_item}
@@ -42,7 +45,7 @@ pub record IsNew (x : Expr) : Type 0 where
   pub comments : comments_of x ≡ no_comments
   pub breaks : has_break x ≡ false
 
-none_there : AreComments no_comments
+pub none_there : AreComments no_comments
 none_there = (All-nil IsComment, tt)
 
 pub new_value : (x : Expr) → IsNew x → IsNonterminal s.test (root x) → IsValue x
@@ -58,8 +61,14 @@ name_new : (text : Bytes) → IsAttribute text → IsNew (name text)
 name_new text a = token_new c.Name text ((identifiers_are_names text).0 a.0) a.1
 
 -- a new part of a row before others
-new_part : (binary : Bool) (outer here : Spot) (x : Expr) (xs : List Expr) → IsNew x → AreParts binary outer (after_expr outer here x) xs → AreParts binary outer here (x ∷ xs)
+pub new_part : (binary : Bool) (outer here : Spot) (x : Expr) (xs : List Expr) → IsNew x → AreParts binary outer (after_expr outer here x) xs → AreParts binary outer here (x ∷ xs)
 new_part binary outer here x xs n h = (n.proper here, n.comments, λ b. absurd (true≢false (sym b ∙ n.breaks)), h)
+
+-- a node of a row of parts
+pub row_proper : (here : Spot) (kind : Kind) (ps : List Expr) → frame kind ≡ row → Fits IsNonterminal (shape kind) (row_in (frame kind) (map root ps) []) → AreParts (is_binary kind) here here ps → ProperExpr here (node kind ps)
+row_proper here kind ps is fits parts =
+    let f : Form = made kind ps [] [] false false no_comments in
+    form_proper here f fits (subst (λ (g : Frame). in_frame g (AsRow here f) (AsSequence here f)) (sym is) (parts, tt, refl, refl, λ e. absurd (true≢false (sym e))))
 
 list_new : (items : List Expr) → AreOf s.test items → IsNew (list_of items)
 list_new items h = record {
@@ -97,42 +106,22 @@ texts_are_items (text ∷ texts) h = ((string_value text h.0).0, texts_are_items
 -- ---- arguments
 
 pub argument_item : (attribute : Bytes) (value : Expr) → IsAttribute attribute → IsValue value → IsItem s.argument (argument_of attribute value)
-argument_item attribute value a v = (
-  (
-    form_proper Within (record { kind = k.Named; parts = name attribute ∷ mark (codes "=") ∷ value ∷ []; seq = record { items = []; end = []; split = false }; open_break = false; comments = no_comments })
-        (refl, (refl, (v.0.1, tt))) (
-          new_part false Within Within (name attribute) (mark (codes "=") ∷ value ∷ []) (name_new attribute a)
-              (new_part false Within Within (mark (codes "=")) (value ∷ []) (mark_new 61 (omega arith) refl)
-              (v.0.0.0, v.1, λ b. absurd (true≢false (sym b ∙ v.0.0.2)), tt)),
-          tt,
-          refl,
-          refl,
-          λ e. absurd (true≢false (sym e)),
-        ),
-    none_there,
-    refl,
-  ),
-  refl,
-)
+argument_item attribute value a v =
+    let last : AreParts false Within Within (value ∷ []) = (v.0.0.0, v.1, λ b. absurd (true≢false (sym b ∙ v.0.0.2)), tt) in
+    let parts : AreParts false Within Within (name attribute ∷ mark (codes "=") ∷ value ∷ []) =
+    new_part false Within Within (name attribute) (mark (codes "=") ∷ value ∷ []) (name_new attribute a) (new_part false Within Within (mark (codes "=")) (value ∷ []) (mark_new 61 (omega arith) refl) last) in
+    ((row_proper Within k.Named (name attribute ∷ mark (codes "=") ∷ value ∷ []) refl (refl, (refl, (v.0.1, tt))) parts, none_there, refl), refl)
 
 -- ---- functions and rules
 
 dot_function : (front : Expr) (text : Bytes) → IsFunction front → IsAttribute text → IsFunction (node k.Dot (front ∷ mark (codes ".") ∷ name text ∷ []))
-dot_function front text f a = (
-  λ here.
-      form_proper here (record { kind = k.Dot; parts = front ∷ mark (codes ".") ∷ name text ∷ []; seq = record { items = []; end = []; split = false }; open_break = false; comments = no_comments })
-      (f.2, (refl, (refl, tt))) (
-        new_part false here here front (mark (codes ".") ∷ name text ∷ []) (record { proper = f.0; comments = f.1.0; breaks = f.1.1 })
-            (new_part false here (after_expr here here front) (mark (codes ".")) (name text ∷ []) (mark_new 46 (omega arith) refl)
-            (new_part false here (after_expr here (after_expr here here front) (mark (codes "."))) (name text) [] (name_new text a) tt)),
-        tt,
-        refl,
-        refl,
-        λ e. absurd (true≢false (sym e)),
-      ),
-  (refl, refl),
-  refl,
-)
+dot_function front text f a =
+    let proper : (here : Spot) → ProperExpr here (node k.Dot (front ∷ mark (codes ".") ∷ name text ∷ [])) = λ here.
+    row_proper here k.Dot (front ∷ mark (codes ".") ∷ name text ∷ []) refl (f.2, (refl, (refl, tt)))
+    (new_part false here here front (mark (codes ".") ∷ name text ∷ []) (record { proper = f.0; comments = f.1.0; breaks = f.1.1 })
+    (new_part false here (after_expr here here front) (mark (codes ".")) (name text ∷ []) (mark_new 46 (omega arith) refl)
+    (new_part false here (after_expr here (after_expr here here front) (mark (codes "."))) (name text) [] (name_new text a) tt))) in
+    (proper, (refl, refl), refl)
 
 dotted_function : (front : Expr) (texts : List Bytes) → IsFunction front → AllByRecursion IsAttribute texts → IsFunction (dotted_after front texts)
 dotted_function front [] f h = f
@@ -162,18 +151,9 @@ name_coded = (codes "name", (refl, refl))
 pub made_rule : (kind word : Bytes) → IsKind kind → IsUtf8 word → IsProperItem (rule_made kind word)
 made_rule kind word h u =
     let argument = argument_item (codes "name") (token c.String (quoted_of word)) (refl, name_coded) (string_value (quoted_of word) (quoted_string word u)) in
-    let call : Expr = sequence k.Call (function_of kind ∷ []) (argument_of (codes "name") (token c.String (quoted_of word)) ∷ []) in (
-      refl,
-      form_proper Begins (record { kind = k.Bare; parts = call ∷ []; seq = record { items = []; end = []; split = false }; open_break = false; comments = no_comments })
-          (refl, tt) (
-            new_part false Begins Begins call [] (call_new (function_of kind) (argument_of (codes "name") (token c.String (quoted_of word))) (kind_function kind h) argument) tt,
-            tt,
-            refl,
-            refl,
-            λ e. absurd (true≢false (sym e)),
-          ),
-      none_there,
-    )
+    let call : Expr = sequence k.Call (function_of kind ∷ []) (argument_of (codes "name") (token c.String (quoted_of word)) ∷ []) in
+    let new : IsNew call = call_new (function_of kind) (argument_of (codes "name") (token c.String (quoted_of word))) (kind_function kind h) argument in
+    (refl, row_proper Begins k.Bare (call ∷ []) refl (refl, tt) (new_part false Begins Begins call [] new tt), none_there)
 
 -- ---- sums
 
@@ -201,26 +181,11 @@ tight (Token t) n b h = h
 tight (Form' kind s parts s' items end split open_break comments) n b h = tight_kind kind n b h
 
 paren_operand : (x : Expr) → IsValue x → IsOperand (node k.Paren (mark (codes "(") ∷ x ∷ mark (codes ")") ∷ []))
-paren_operand x v = (
-  (
-    form_proper Within (record { kind = k.Paren; parts = mark (codes "(") ∷ x ∷ mark (codes ")") ∷ []; seq = record { items = []; end = []; split = false }; open_break = false; comments = no_comments })
-        (refl, (v.0.1, (refl, tt))) (
-          new_part false Within Within (mark (codes "(")) (x ∷ mark (codes ")") ∷ []) (mark_new 40 (omega arith) refl) (
-            v.0.0.0,
-            v.1,
-            λ b. absurd (true≢false (sym b ∙ v.0.0.2)),
-            new_part false Within (after_expr Within Within x) (mark (codes ")")) [] (mark_new 41 (omega arith) refl) tt,
-          ),
-          tt,
-          refl,
-          refl,
-          λ e. absurd (true≢false (sym e)),
-        ),
-    refl,
-    refl,
-  ),
-  refl,
-)
+paren_operand x v =
+    let last : AreParts false Within (after_expr Within Within x) (mark (codes ")") ∷ []) = new_part false Within (after_expr Within Within x) (mark (codes ")")) [] (mark_new 41 (omega arith) refl) tt in
+    let parts : AreParts false Within Within (mark (codes "(") ∷ x ∷ mark (codes ")") ∷ []) =
+    new_part false Within Within (mark (codes "(")) (x ∷ mark (codes ")") ∷ []) (mark_new 40 (omega arith) refl) (v.0.0.0, v.1, λ b. absurd (true≢false (sym b ∙ v.0.0.2)), last) in
+    ((row_proper Within k.Paren (mark (codes "(") ∷ x ∷ mark (codes ")") ∷ []) refl (refl, (v.0.1, (refl, tt))) parts, refl, refl), refl)
 
 operand_proper : (x : Expr) → has_kind k.Sum x ≡ false → IsValue x → IsOperand (operand x)
 operand_proper x n v =
@@ -237,24 +202,9 @@ more_parts outer here items h =
     (new_part true outer (after_expr outer here (mark (codes "+"))) (list_of items) [] (list_new items h) tt)
 
 sum_value : (first : Expr) (items : List Expr) → IsOperand first → AreOf s.test items → IsValue (node k.Sum (first ∷ more_operands items))
-sum_value first items o h = (
-  (
-    (
-      form_proper Within (record { kind = k.Sum; parts = first ∷ more_operands items; seq = record { items = []; end = []; split = false }; open_break = false; comments = no_comments })
-          (o.1, (refl, (refl, tt))) (
-            (o.0.0, o.0.1, λ b. absurd (true≢false (sym b ∙ o.0.2)), more_parts Within (after_expr Within Within first) items h),
-            tt,
-            refl,
-            refl,
-            λ e. absurd (true≢false (sym e)),
-          ),
-      none_there,
-      refl,
-    ),
-    refl,
-  ),
-  refl,
-)
+sum_value first items o h =
+    let parts : AreParts true Within Within (first ∷ more_operands items) = (o.0.0, o.0.1, λ b. absurd (true≢false (sym b ∙ o.0.2)), more_parts Within (after_expr Within Within first) items h) in
+    (((row_proper Within k.Sum (first ∷ more_operands items) refl (o.1, (refl, (refl, tt))) parts, none_there, refl), refl), refl)
 
 -- a sum with a further operand
 

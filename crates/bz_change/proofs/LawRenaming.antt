@@ -1,6 +1,7 @@
 -- Renaming an attribute there and back.
-use Rattle.std.proofs.Common.{◌≡◌, Bool, true, false, not, ◌||◌, List, [], ◌∷◌, Option, Some, None, Ok, Err, inl, inr, refl, sym, ap, ◌∙◌, true≢false}
+use Rattle.std.proofs.Common.{◌≡◌, Bool, true, false, not, List, [], ◌∷◌, Option, Some, None, Ok, Err, inl, inr, refl, sym, ap, ◌∙◌, true≢false}
 use Rattle.std.specs.Prelude.{if◌then◌else◌, is_some}
+use Rattle.std.specs.List.{list_any}
 use Rattle.std.proofs.lemmas.Bool.{cases_Bool, or_parts}
 use Rattle.std.proofs.lemmas.Slice.Eq.{bytes_eq-Decides}
 use Rattle.bz_token.specs.declared.class.Class.TheVariants as c
@@ -13,7 +14,7 @@ use Rattle.bz_rule.specs.Rules.{text_in, is_text, value_after}
 use Rattle.bz_rule.specs.Values.{parts_of, with_parts, with_text, on_row, on_first}
 use Rattle.bz_attribute.specs.Attributes.{is_attribute, has_attribute, on_first_that}
 use Rattle.bz_attribute.specs.Attributes.{Arguments}
-use Rattle.bz_attribute.proofs.FormsAgain.{if_true, if_false, some_if, own_parts, row_twice, attribute_parts, value_changed, attribute_first}
+use Rattle.bz_attribute.proofs.FormsAgain.{some_if, own_parts, row_twice, attribute_parts, value_changed, attribute_any}
 use Rattle.bz_change.specs.Laws.{RenamedBack}
 use Rattle.bz_value.specs.declared.refusal.Refusal.TheVariants.{NoAttribute, AttributeExists}
 
@@ -60,28 +61,16 @@ argument_back from to x h =
 
 -- ---- the arguments
 
-list_back : (from to : Bytes) (xs : List Expr) → has_attribute from xs ≡ true → has_attribute to xs ≡ false
-    → (on_first_that (is_attribute to) (renamed from) (on_first_that (is_attribute from) (renamed to) xs) ≡ xs) × (has_attribute to (on_first_that (is_attribute from) (renamed to) xs) ≡ true)
-list_back from to [] h n = absurd (true≢false (sym h))
-list_back from to (x ∷ xs) h n = elim (cases_Bool (is_attribute from x)) [
-  | inl w ↦
-      let b : (renamed from (renamed to x) ≡ x) × (is_attribute to (renamed to x) ≡ true) = argument_back from to x w in
-      let first : on_first_that (is_attribute from) (renamed to) (x ∷ xs) ≡ renamed to x ∷ xs =
-      if_true (is_attribute from x) (renamed to x ∷ xs) (x ∷ on_first_that (is_attribute from) (renamed to) xs) w in (
-        ap (on_first_that (is_attribute to) (renamed from)) first
-            ∙ (if_true (is_attribute to (renamed to x)) (renamed from (renamed to x) ∷ xs) (renamed to x ∷ on_first_that (is_attribute to) (renamed from) xs) b.1 ∙ ap (λ z. z ∷ xs) b.0),
-        ap (has_attribute to) first ∙ (attribute_first to (renamed to x) xs ∙ ap (λ t. t || has_attribute to xs) b.1),
-      )
+-- the first that passes a test, changed, and the first that passes another one, changed back
+first_back : {X : Type 0} (p q : X → Bool) (f g : X → X) → ((x : X) → p x ≡ true → (g (f x) ≡ x) × (q (f x) ≡ true)) → (xs : List X) → list_any p xs ≡ true → list_any q xs ≡ false
+    → (on_first_that q g (on_first_that p f xs) ≡ xs) × (list_any q (on_first_that p f xs) ≡ true)
+first_back p q f g back [] h n = absurd (true≢false (sym h))
+first_back p q f g back (x ∷ xs) h n = elim (cases_Bool (p x)) [
+  | inl w ↦ let b = back x w in (rw w (rw b.1 (ap (λ z. z ∷ xs) b.0)), rw w (rw b.1 refl))
   | inr w ↦
-      let rest : List Expr = on_first_that (is_attribute from) (renamed to) xs in
-      let none : (is_attribute to x ≡ false) × (has_attribute to xs ≡ false) = or_parts (is_attribute to x) (has_attribute to xs) (sym (attribute_first to x xs) ∙ n) in
-      let later : has_attribute from xs ≡ true = sym (ap (λ t. t || has_attribute from xs) w) ∙ (sym (attribute_first from x xs) ∙ h) in
-      let b : (on_first_that (is_attribute to) (renamed from) rest ≡ xs) × (has_attribute to rest ≡ true) = list_back from to xs later none.1 in
-      let following : on_first_that (is_attribute from) (renamed to) (x ∷ xs) ≡ x ∷ rest = if_false (is_attribute from x) (renamed to x ∷ xs) (x ∷ rest) w in (
-        ap (on_first_that (is_attribute to) (renamed from)) following
-            ∙ (if_false (is_attribute to x) (renamed from x ∷ rest) (x ∷ on_first_that (is_attribute to) (renamed from) rest) none.0 ∙ ap (λ zs. x ∷ zs) b.0),
-        ap (has_attribute to) following ∙ (attribute_first to x rest ∙ (ap (λ t. t || has_attribute to rest) none.0 ∙ b.1)),
-      )
+      let none = or_parts (q x) (list_any q xs) n in
+      let b = first_back p q f g back xs (rw w at h) none.1 in
+      (rw w (rw none.0 (ap (λ zs. x ∷ zs) b.0)), rw w (rw none.0 b.1))
 ]
 
 -- renaming by its two tests
@@ -102,6 +91,6 @@ pub renamed_back : RenamedBack
 renamed_back from to xs new e n =
     let made : List Expr = on_first_that (is_attribute from) (renamed to) xs in
     let p : (has_attribute from xs ≡ true) × (has_attribute to xs ≡ false) × (made ≡ new) = not_refused (has_attribute from xs) (has_attribute to xs) made new e in
-    let b = list_back from to xs p.0 p.1 in
-    accepted (has_attribute to new) (has_attribute from new) (on_first_that (is_attribute to) (renamed from) new) (sym (ap (has_attribute to) p.2) ∙ b.1) n
+    let b = first_back (is_attribute from) (is_attribute to) (renamed to) (renamed from) (λ x w. argument_back from to x w) xs (sym (attribute_any from xs) ∙ p.0) (sym (attribute_any to xs) ∙ p.1) in
+    accepted (has_attribute to new) (has_attribute from new) (on_first_that (is_attribute to) (renamed from) new) (sym (ap (has_attribute to) p.2) ∙ (attribute_any to made ∙ b.1)) n
     ∙ ap Ok (sym (ap (on_first_that (is_attribute to) (renamed from)) p.2) ∙ b.0)

@@ -47,7 +47,7 @@ rename_keeps from to a xs h =
     let new : List Expr = on_first_that (is_attribute from) (on_row k.Named change) xs in
     by_test Made (not (has_attribute from xs)) (Err NoAttribute) (if has_attribute to xs then Err AttributeExists else Ok new) tt
     (by_test Made (has_attribute to xs) (Err AttributeExists) (Ok new) tt
-    (first_that_kept (is_attribute from) (on_row k.Named change) (argument_changed change (name_kept to ((identifiers_are_names to).0 a.0) a.1)) xs h))
+    (first_that_kept (IsItem s.argument) (is_attribute from) (on_row k.Named change) (argument_changed change (name_kept to ((identifiers_are_names to).0 a.0) a.1)) xs h))
 
 pub copy_keeps : (name : Bytes) (found : Option Expr) → IsAttribute name → IfSome found IsValue → Keeps (copy name found)
 copy_keeps name found a v xs h = of_value found (Err NoSource) (λ value. Ok (put name value xs)) v tt (λ value v. put_kept name value xs a v h)

@@ -2,6 +2,7 @@
 ghost use Rattle.bz_change.specs.Laws.{RenamedBack};
 
 /// Renaming there and back gives the arguments before.
+#[tactic(auto, using(crate::proofs::LawRenaming::renamed_back))]
 pub fn renamed_back()
     ensures { RenamedBack }
 {}

@@ -1,11 +1,9 @@
 -- A comment that is put is there then, unless that is refused.
 use Rattle.std.proofs.Common.{◌≡◌, ◌≤◌, ℕ, ◌+◌, Bool, true, false, ◌||◌, List, [], ◌∷◌, ◌++◌, Option, Some, None, Ok, Err, refl, sym, ap, subst, ◌∙◌, arith, true≢false}
 use Rattle.std.specs.Prelude.{bytes_eq, IfOk}
-use Rattle.std.specs.List.{list_any, flat_map}
-use Rattle.std.specs.Option.{option_or}
+use Rattle.std.specs.List.{list_any}
 use Rattle.std.proofs.lemmas.Bool.{and_parts}
 use Rattle.std.proofs.lemmas.Slice.Eq.{bytes_eq-Decides}
-use Rattle.bz_token.specs.declared.class.Class.TheVariants as c
 use Rattle.bz_grammar.specs.declared.kind.Kind.{Kind}
 use Rattle.bz_grammar.specs.declared.kind.Kind.TheVariants as k
 use Rattle.bz_value.specs.declared.value.Expr.{Expr, Token, Form'}
@@ -15,39 +13,25 @@ use Rattle.bz_items.specs.Characters.{Bytes}
 use Rattle.bz_value.proofs.Totals.{append_total}
 use Rattle.bz_command_syntax.specs.declared.command.Host.{Host}
 use Rattle.bz_command_syntax.specs.declared.command.Host.TheVariants as h
-use Rattle.bz_rule.specs.Rules.{text_in, is_text, value_after, value_named, attribute}
+use Rattle.bz_rule.specs.Rules.{value_after, value_named, attribute}
 use Rattle.bz_rule.specs.Values.{has_kind, parts_of, items_of, with_parts, with_items, on_row, on_items}
 use Rattle.bz_rule.proofs.ProperChanges.{by_case}
 use Rattle.bz_value.specs.declared.refusal.Refusal.TheVariants.{NoAttribute}
 use Rattle.bz_attribute.specs.Attributes.{Arguments, is_attribute, has_attribute, on_first_that, with_value}
-use Rattle.bz_attribute.specs.Lists.{has_lists, items_in, is_item, listed}
+use Rattle.bz_attribute.specs.Lists.{has_lists, items_in, is_item}
 use Rattle.bz_attribute.proofs.AttributesAgain.{attribute_changed}
-use Rattle.bz_attribute.proofs.FormsAgain.{if_true, if_false, found_if, parts_filled, items_filled, row_changed, items_changed, value_parts, attribute_first}
+use Rattle.bz_attribute.proofs.FormsAgain.{if_true, parts_filled, items_filled, row_changed, items_changed, value_parts, three_parts, attribute_any, by_first}
 use Rattle.bz_attribute.proofs.GrownArguments.{row_total}
 use Rattle.bz_comment.specs.Hosts.{comment_made, with_comment, has_item, on_first_item, put_value, on_named_item, comment}
 use Rattle.bz_comment.proofs.HostForms.{made_by}
 use Rattle.bz_comment.proofs.LawBack.{any_if, any_listed}
-use Rattle.bz_attribute.proofs.ListsThere.{items_there}
+use Rattle.bz_attribute.proofs.ListsThere.{any_alone, any_in_sum}
 
 -- ---- tests
 
 rest_of : (a b : Bool) → (a || b) ≡ true → a ≡ false → b ≡ true
 rest_of true b h e = absurd (true≢false e)
 rest_of false b h e = h
-
-at_first : (a b : ℕ) → 1 ≤ a → 1 ≤ a + b
-at_first a b h = omega arith
-
-following : (a b : ℕ) → 1 ≤ b → 1 ≤ a + b
-following a b h = omega arith
-
-at_most : (a b : ℕ) → 1 ≤ a → a ≤ b → 1 ≤ b
-at_most a b h i = omega arith
-
--- some argument has the name
-attribute_any : (name : Bytes) (xs : List Expr) → has_attribute name xs ≡ list_any (is_attribute name) xs
-attribute_any name [] = refl
-attribute_any name (x ∷ xs) = attribute_first name x xs ∙ ap (λ there. is_attribute name x || there) (attribute_any name xs)
 
 module _ (text : Bytes) where
   -- how often the comment occurs in an expression
@@ -71,39 +55,37 @@ module _ (text : Bytes) where
 
   -- ---- what is in an expression
 
-  pub parts_within : (x : Expr) → total copies (parts_of x) ≤ copies x
+  parts_within : (x : Expr) → total copies (parts_of x) ≤ copies x
   parts_within (Token t) = omega arith
   parts_within (Form' kind s parts s' items end split open_break comments) = let e = row_total (one_if (comment_made text)) _ parts in omega arith
 
-  pub items_within : (x : Expr) → total copies (items_of x) ≤ copies x
+  items_within : (x : Expr) → total copies (items_of x) ≤ copies x
   items_within (Token t) = omega arith
   items_within (Form' kind s parts s' items end split open_break comments) = let e = row_total (one_if (comment_made text)) _ items in omega arith
 
-  pub row_comes : (kind : Kind) (change : List Expr → List Expr) (x : Expr) → has_kind kind x ≡ true → 1 ≤ total copies (change (parts_of x)) → 1 ≤ copies (on_row kind change x)
+  row_comes : (kind : Kind) (change : List Expr → List Expr) (x : Expr) → has_kind kind x ≡ true → 1 ≤ total copies (change (parts_of x)) → 1 ≤ copies (on_row kind change x)
   row_comes kind change x is h =
-      let y : Expr = with_parts (change (parts_of x)) x in
-      let there : total copies (parts_of y) ≡ total copies (change (parts_of x)) = ap (total copies) (parts_filled kind (change (parts_of x)) x is) in
-      let within : total copies (parts_of y) ≤ copies y = parts_within y in
-      subst (λ z. 1 ≤ copies z) (sym (row_changed kind change x is)) (at_most (total copies (change (parts_of x))) (copies y) h (subst (λ n. n ≤ copies y) there within))
+      let there = ap (total copies) (parts_filled kind (change (parts_of x)) x is) in
+      let within = parts_within (with_parts (change (parts_of x)) x) in
+      subst (λ z. 1 ≤ copies z) (sym (row_changed kind change x is)) (omega arith)
 
-  pub items_come : (kind : Kind) (change : List Expr → List Expr) (x : Expr) → has_kind kind x ≡ true → 1 ≤ total copies (change (items_of x)) → 1 ≤ copies (on_items kind change x)
+  items_come : (kind : Kind) (change : List Expr → List Expr) (x : Expr) → has_kind kind x ≡ true → 1 ≤ total copies (change (items_of x)) → 1 ≤ copies (on_items kind change x)
   items_come kind change x is h =
-      let y : Expr = with_items (change (items_of x)) x in
-      let there : total copies (items_of y) ≡ total copies (change (items_of x)) = ap (total copies) (items_filled kind (change (items_of x)) x is) in
-      let within : total copies (items_of y) ≤ copies y = items_within y in
-      subst (λ z. 1 ≤ copies z) (sym (items_changed kind change x is)) (at_most (total copies (change (items_of x))) (copies y) h (subst (λ n. n ≤ copies y) there within))
+      let there = ap (total copies) (items_filled kind (change (items_of x)) x is) in
+      let within = items_within (with_items (change (items_of x)) x) in
+      subst (λ z. 1 ≤ copies z) (sym (items_changed kind change x is)) (omega arith)
 
   -- ---- the first element that passes a test
 
   abbrev Brings : (Expr → Bool) → (Expr → Expr) → Type 0
   Brings test change = (x : Expr) → test x ≡ true → 1 ≤ copies (change x)
 
-  pub first_that_comes : (test : Expr → Bool) (change : Expr → Expr) → Brings test change → (xs : List Expr) → list_any test xs ≡ true → 1 ≤ total copies (on_first_that test change xs)
+  first_that_comes : (test : Expr → Bool) (change : Expr → Expr) → Brings test change → (xs : List Expr) → list_any test xs ≡ true → 1 ≤ total copies (on_first_that test change xs)
   first_that_comes test change b [] h = absurd (true≢false (sym h))
   first_that_comes test change b (x ∷ xs) h =
       by_case (λ (ys : List Expr). 1 ≤ total copies ys) (test x) (change x ∷ xs) (x ∷ on_first_that test change xs)
-      (λ is. at_first (copies (change x)) (total copies xs) (b x is))
-      (λ other. following (copies x) (total copies (on_first_that test change xs)) (first_that_comes test change b xs (rest_of (test x) (list_any test xs) h other)))
+      (λ is. let here = b x is in omega arith)
+      (λ other. let rest = first_that_comes test change b xs (rest_of (test x) (list_any test xs) h other) in omega arith)
 
   -- ---- the first item of a value's lists
 
@@ -119,22 +101,15 @@ module _ (text : Bytes) where
       (λ is.
       row_comes k.Sum (on_first_that (has_item test) within) x is
       (first_that_comes (has_item test) within (in_list_comes test) (parts_of x)
-      (sym (any_listed test (parts_of x)) ∙ (sym (ap (list_any test) (items_there x ∙ if_true (has_kind k.Sum x) (flat_map listed (parts_of x)) (listed x) is)) ∙ h))))
+      (sym (any_listed test (parts_of x)) ∙ (sym (any_in_sum test x is) ∙ h))))
       (λ other.
       in_list_comes test x
-      (sym (any_if test (has_kind k.List x) (items_of x)) ∙ (sym (ap (list_any test) (items_there x ∙ if_false (has_kind k.Sum x) (flat_map listed (parts_of x)) (listed x) other)) ∙ h)))
+      (sym (any_if test (has_kind k.List x) (items_of x)) ∙ (sym (any_alone test x other) ∙ h)))
 
   -- ---- the value of an attribute
 
   third_within : (name : Bytes) (value : Expr) (ps : List Expr) → value_after name ps ≡ Some value → copies value ≤ total copies ps
-  third_within name value [] e = cc
-  third_within name value (x ∷ []) e = cc
-  third_within name value (x ∷ y ∷ []) e = cc
-  third_within name value (x ∷ y ∷ v ∷ []) e =
-      let own : Some v ≡ Some value = (found_if (is_text name (text_in c.Name x)) (Some v) value e).1 in
-      let same : v ≡ value = cc in
-      subst (λ z. copies z ≤ total copies (x ∷ y ∷ v ∷ [])) same (omega arith)
-  third_within name value (x ∷ y ∷ v ∷ w ∷ rest) e = cc
+  third_within name value ps e = subst (λ (qs : List Expr). copies value ≤ total copies qs) (sym (three_parts name value ps e).are) (omega arith)
 
   value_within : (name : Bytes) (value x : Expr) → value_named name x ≡ Some value → copies value ≤ copies x
   value_within name value x e =
@@ -142,15 +117,9 @@ module _ (text : Bytes) where
       let within : total copies (parts_of x) ≤ copies x = parts_within x in
       omega arith
 
-  within_step : (found rest : Option Expr) (value x : Expr) (xs : List Expr) → option_or found rest ≡ Some value → (found ≡ Some value → copies value ≤ copies x) → (rest ≡ Some value → copies value ≤ total copies xs)
-      → copies value ≤ total copies (x ∷ xs)
-  within_step None rest value x xs e f g = let there : copies value ≤ total copies xs = g e in omega arith
-  within_step (Some v) rest value x xs e f g = let there : copies value ≤ copies x = f e in omega arith
-
   attribute_within : (name : Bytes) (value : Expr) (xs : List Expr) → attribute name xs ≡ Some value → copies value ≤ total copies xs
-  attribute_within name value [] e = cc
-  attribute_within name value (x ∷ xs) e =
-      within_step (value_named name x) (attribute name xs) value x xs e (λ d. value_within name value x d) (λ d. attribute_within name value xs d)
+  attribute_within name value xs e =
+      by_first (λ ys zs. copies value ≤ total copies ys) name value (λ x. x) (λ x ys d. let there = value_within name value x d in omega arith) (λ x ys zs n h. omega arith) xs e
 
   -- ---- hosts
 
@@ -168,7 +137,7 @@ module _ (text : Bytes) where
   on_item_comes name test (Some v) xs a =
       let new : Expr = on_first_item test (with_comment text) v in
       put_comes name (has_lists v) (list_any test (items_in v)) new xs
-      (λ is. at_most (copies new) (total copies (with_value name new xs)) (item_comes test v is) (attribute_within name new (with_value name new xs) (attribute_changed name v new xs a)))
+      (λ is. let there = item_comes test v is in let within = attribute_within name new (with_value name new xs) (attribute_changed name v new xs a) in omega arith)
 
   -- of every host but the rule itself
   abbrev pub IsAmong : Host → Type 0

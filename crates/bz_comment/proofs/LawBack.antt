@@ -1,10 +1,12 @@
 -- A comment that was put where there was none, and is taken away again.
-use Rattle.std.proofs.Common.{◌≡◌, ℕ, Bool, true, false, not, ◌||◌, ◌&&◌, List, [], ◌∷◌, ◌++◌, Option, Some, None, Ok, Err, refl, sym, ap, ◌∙◌, subst, true≢false}
+use Rattle.std.proofs.Common.{◌≡◌, ℕ, Bool, true, false, not, ◌||◌, ◌&&◌, List, [], ◌∷◌, ◌++◌, Option, Some, None, Ok, Err, inl, inr, refl, sym, ap, ◌∙◌, subst}
 use Rattle.std.specs.Prelude.{if◌then◌else◌, is_some, IfSome, Result}
 use Rattle.std.specs.List.{find, flat_map, list_any}
 use Rattle.std.specs.Option.{option_or}
-use Rattle.std.proofs.lemmas.Bool.{and_parts}
-use Rattle.std.proofs.lemmas.List.Folds.{find-append, list_any-append}
+use Rattle.std.proofs.Math.Bool.{or-false}
+use Rattle.std.proofs.lemmas.Bool.{and_parts, cases_Bool}
+use Rattle.std.proofs.lemmas.List.{append-nil}
+use Rattle.std.proofs.lemmas.List.Folds.{find-append}
 use Rattle.bz_grammar.specs.declared.kind.Kind.{Kind}
 use Rattle.bz_grammar.specs.declared.kind.Kind.TheVariants as k
 use Rattle.bz_value.specs.declared.value.Expr.{Expr}
@@ -23,7 +25,8 @@ use Rattle.bz_attribute.specs.Lists.{has_lists, items_in, is_item, listed}
 use Rattle.bz_attribute.proofs.ArgumentForms.{any_same, with_value_twice}
 use Rattle.bz_attribute.proofs.AttributesAgain.{attribute_changed, none_found, with_value_same}
 use Rattle.bz_attribute.proofs.FormsAgain.{if_true, if_false, both, parts_kind, items_kind, parts_filled, items_filled, items_beside, row_back, items_back}
-use Rattle.bz_attribute.proofs.ListsThere.{lists_there, items_there, sum_no_list}
+use Rattle.bz_attribute.proofs.KeySets.{any_like}
+use Rattle.bz_attribute.proofs.ListsThere.{any_alone, any_in_sum, in_sum as of_sum, in_value, lists_there, sum_no_list}
 use Rattle.bz_comment.specs.Hosts.{with_comment, without_comments, comment_text, comment_line, suffix_line, printed_comments, has_item, on_first_item, put_value, on_named_item, comment, remove_comment, found_comments, item_comments, print_comment}
 use Rattle.bz_comment.proofs.FirstChanged.{first_back, first_found, found_first}
 use Rattle.bz_comment.proofs.HostForms.{made_by, found_any}
@@ -39,31 +42,20 @@ pub any_if : (test : Expr → Bool) (b : Bool) (xs : List Expr) → list_any tes
 any_if test true xs = refl
 any_if test false xs = refl
 
-pub any_listed : (test : Expr → Bool) (xs : List Expr) → list_any test (flat_map listed xs) ≡ list_any (has_item test) xs
-any_listed test [] = refl
-any_listed test (x ∷ xs) =
-    list_any-append test (listed x) (flat_map listed xs)
-    ∙ both (λ a b. a || b) (any_if test (has_kind k.List x) (items_of x)) (any_listed test xs)
-
-or_false : (b : Bool) → b ≡ (b || false)
-or_false true = refl
-or_false false = refl
-
-sum_or : (sum list here there : Bool) → (sum ≡ true → list ≡ false) → (if sum then there else (list && here)) ≡ ((list && here) || (sum && there))
-sum_or true true here there h = absurd (true≢false (h refl))
-sum_or true false here there h = refl
-sum_or false list here there h = or_false (list && here)
-
-any_either : (test : Expr → Bool) (b : Bool) (xs ys : List Expr) → list_any test (if b then xs else ys) ≡ (if b then list_any test xs else list_any test ys)
-any_either test true xs ys = refl
-any_either test false xs ys = refl
+pub any_listed : (test : Expr → Bool) (xs : List Expr) → list_any (λ x. list_any test (listed x)) xs ≡ list_any (has_item test) xs
+any_listed test xs = any_like (λ x. list_any test (listed x)) (has_item test) (λ x. any_if test (has_kind k.List x) (items_of x)) xs
 
 any_there : (test : Expr → Bool) (v : Expr) → list_any test (items_in v) ≡ lists_by (has_item test) v
-any_there test v =
-    ap (list_any test) (items_there v)
-    ∙ (any_either test (has_kind k.Sum v) (flat_map listed (parts_of v)) (listed v)
-    ∙ (both (λ a b. if has_kind k.Sum v then a else b) (any_listed test (parts_of v)) (any_if test (has_kind k.List v) (items_of v))
-    ∙ sum_or (has_kind k.Sum v) (has_kind k.List v) (list_any test (items_of v)) (list_any (has_item test) (parts_of v)) (sum_no_list v)))
+any_there test v = elim (cases_Bool (has_kind k.Sum v)) [
+  | inl w ↦
+      any_in_sum test v w
+      ∙ (any_listed test (parts_of v)
+      ∙ sym (both (λ list sum. (list && list_any test (items_of v)) || (sum && list_any (has_item test) (parts_of v))) (sum_no_list v w) w))
+  | inr n ↦
+      any_alone test v n
+      ∙ (any_if test (has_kind k.List v) (items_of v)
+      ∙ sym (ap (λ sum. has_item test v || (sum && list_any (has_item test) (parts_of v))) n ∙ or-false (has_item test v)))
+]
 
 -- ---- a change of the first item, and the one that takes it back
 
@@ -134,7 +126,6 @@ module _ (test : Expr → Bool) (f g : Expr → Expr) (same : (x : Expr) → tes
   value_back : (v : Expr) → IfSome (find test (items_in v)) IsBack → on_first_item test g (on_first_item test f v) ≡ v
   value_back v h =
       let ps : List Expr = in_sum f (parts_of v) in
-      let answered : IfSome (find test (if has_kind k.Sum v then flat_map listed (parts_of v) else listed v)) IsBack = subst (λ xs. IfSome (find test xs) IsBack) (items_there v) h in
       by_case (λ y. on_first_item test g y ≡ v) (has_kind k.Sum v) (on_row k.Sum (in_sum f) v) (in_list f v)
       (λ is.
       let y : Expr = on_row k.Sum (in_sum f) v in
@@ -142,13 +133,12 @@ module _ (test : Expr → Bool) (f g : Expr → Expr) (same : (x : Expr) → tes
       (ap (has_kind k.Sum) (if_true (has_kind k.Sum v) (with_parts ps v) v is) ∙ (parts_kind k.Sum ps v ∙ is))
       ∙ row_back k.Sum (in_sum f) (in_sum g) v
       (λ _. first_back (has_item test) (in_list f) (in_list g) list_item (parts_of v)
-      (lists_back (parts_of v) (subst (λ xs. IfSome (find test xs) IsBack) (if_true (has_kind k.Sum v) (flat_map listed (parts_of v)) (listed v) is) answered))))
+      (lists_back (parts_of v) (subst (λ xs. IfSome (find test xs) IsBack) (sym (of_sum v is)) h))))
       (λ n.
       let y : Expr = in_list f v in
       if_false (has_kind k.Sum y) (on_row k.Sum (in_sum g) y) (in_list g y) (list_kind k.Sum v ∙ n)
       ∙ list_back v
-      (λ is. subst (λ xs. IfSome (find test xs) IsBack)
-      (if_false (has_kind k.Sum v) (flat_map listed (parts_of v)) (listed v) n ∙ if_true (has_kind k.List v) (items_of v) [] is) answered))
+      (λ is. subst (λ xs. IfSome (find test xs) IsBack) (sym (in_value v n) ∙ (append-nil (listed v) ∙ if_true (has_kind k.List v) (items_of v) [] is)) h))
 
   -- ---- an item of an attribute
 

@@ -1,21 +1,20 @@
 -- What the commands on comments make of the arguments of a rule is arguments, and of a statement a statement.
 use Rattle.std.proofs.Common.{◌≡◌, zero, suc, Bool, true, false, List, [], ◌∷◌, ◌++◌, length, subst, arith, IsUtf8}
 use Rattle.std.specs.Prelude.{◌==◌, Option, Some, None, Ok, Err, IfSome}
-use Rattle.std.specs.List.{AllByRecursion, list_any}
+use Rattle.std.specs.List.{list_any}
 use Rattle.std.proofs.lemmas.Bool.{eqb-false, not-true, or_parts}
 use Rattle.std.proofs.lemmas.List.Elements.{All-append, All-cons, All-nil}
 use Rattle.std.proofs.lemmas.Str.{IsUtf8-append}
 use Rattle.bz_grammar.specs.declared.kind.Kind.TheVariants as k
 use Rattle.bz_grammar.specs.Shapes as s
 use Rattle.bz_grammar.specs.Shapes.{Nonterminal}
-use Rattle.bz_grammar.specs.Spots.{Spot}
 use Rattle.bz_value.specs.declared.value.Expr.{Expr, Token, Form'}
 use Rattle.bz_value.specs.declared.value.Item.TheVariants as i
 use Rattle.bz_items.specs.Characters.{Bytes, line_feed, number_sign, space}
 use Rattle.bz_value.specs.Comments.{HostComments, no_comments}
 use Rattle.bz_value.specs.Commented.{with_comments}
 use Rattle.bz_value.specs.Gaps.{trimmed}
-use Rattle.bz_value.specs.Proper.{IsComment, AreComments, ProperExpr, comments_of, IsProperItem}
+use Rattle.bz_value.specs.Proper.{IsComment, AreComments, comments_of, IsProperItem}
 use Rattle.bz_value.proofs.GapComments.{suffix_fine}
 use Rattle.bz_value.proofs.Lines.{NoneBefore, line_stops}
 use Rattle.bz_command_syntax.specs.Commands.{is_one_line}
@@ -32,7 +31,7 @@ use Rattle.bz_rule.proofs.ProperSequences.{IsItem, list_in_place}
 use Rattle.bz_value.specs.declared.refusal.Refusal.TheVariants.{NoAttribute}
 use Rattle.bz_attribute.specs.Attributes.{is_attribute, has_attribute, on_first_that}
 use Rattle.bz_attribute.specs.Lists.{has_lists, items_in, is_item}
-use Rattle.bz_attribute.proofs.ProperAttributes.{AreArguments, Made, Keeps, with_value_kept, first_that_stays}
+use Rattle.bz_attribute.proofs.ProperAttributes.{AreArguments, Made, Keeps, with_value_kept, first_that_kept, first_that_stays}
 use Rattle.bz_attribute.proofs.ProperTexts.{one_ascii}
 use Rattle.bz_comment.specs.Hosts.{comment_made, with_comment, without_comments, has_item, on_first_item, put_value, on_named_item, on_host, comment, remove_comment}
 use Rattle.bz_comment.proofs.HostForms.{made_by}
@@ -53,10 +52,6 @@ comment_fine text one u =
     (suffix_fine line coded)
 
 -- ---- expressions with other comments
-
-proper_commented : (here : Spot) (cs : HostComments) (x : Expr) → ProperExpr here x → ProperExpr here (with_comments x cs)
-proper_commented here cs (Token t) h = h
-proper_commented here cs (Form' kind s parts s' items end split open_break comments) h = h
 
 item_commented : (nonterminal : Nonterminal) (cs : HostComments) (x : Expr) → AreComments cs → IsItem nonterminal x → IsItem nonterminal (with_comments x cs)
 item_commented nonterminal cs (Token t) a h = ((h.0.0, a, h.0.2), h.1)
@@ -92,16 +87,11 @@ remove_statement_keeps x h = statement_commented no_comments x nothing h
 
 -- ---- hosts among arguments
 
-first_that_all : (P : Expr → Type 0) (test : Expr → Bool) (change : Expr → Expr) → ((x : Expr) → P x → P (change x)) → (xs : List Expr) → AllByRecursion P xs → AllByRecursion P (on_first_that test change xs)
-first_that_all P test change f [] h = tt
-first_that_all P test change f (x ∷ xs) h =
-    by_test (AllByRecursion P) (test x) (change x ∷ xs) (x ∷ on_first_that test change xs) (f x h.0, h.1) (h.0, first_that_all P test change f xs h.1)
-
 module _ (change : Expr → Expr) (keeps : KeepsItems change) where
   value_keeps : (test : Expr → Bool) (x : Expr) → IsValue x → IsValue (on_first_item test change x)
   value_keeps test x v =
       let within : List Expr → List Expr = on_first_that test change in
-      let stays : Stays (on_items k.List within) = list_in_place within (λ xs a. first_that_all (IsItem s.test) test change (keeps s.test) xs a) in
+      let stays : Stays (on_items k.List within) = list_in_place within (λ xs a. first_that_kept (IsItem s.test) test change (keeps s.test) xs a) in
       let operands : List Expr → List Expr = on_first_that (has_item test) (on_items k.List within) in
       value_in_place x (on_first_item test change x)
       (by_test (InPlace x) (has_kind k.Sum x) (on_row k.Sum operands x) (on_items k.List within x)
@@ -120,7 +110,7 @@ module _ (change : Expr → Expr) (keeps : KeepsItems change) where
   host_keeps current h.Rule xs h = h
   host_keeps current (h.Attribute name) xs h =
       by_test Made (has_attribute name xs) (Ok (on_first_that (is_attribute name) change xs)) (Err NoAttribute)
-      (first_that_all (IsItem s.argument) (is_attribute name) change (keeps s.argument) xs h) tt
+      (first_that_kept (IsItem s.argument) (is_attribute name) change (keeps s.argument) xs h) tt
   host_keeps current (h.Item name word) xs h = item_keeps name (is_item current name word) (attribute name xs) xs (attribute_value name xs h) h
 
 -- ---- the commands

@@ -1,17 +1,20 @@
 -- The places of the keys of entries: after one entry more, and after another value of an entry.
-use Rattle.std.proofs.Common.{◌≡◌, ◌<◌, ◌≤◌, ◌+◌, ℕ, zero, suc, Bool, true, false, ◌||◌, List, [], ◌∷◌, ◌++◌, length, get_or, set, drop, refl, sym, ap, ◌∙◌, cond, inl, inr, arith, true≢false}
+use Rattle.std.proofs.Common.{◌≡◌, ◌<◌, ◌≤◌, ◌+◌, ℕ, zero, suc, Bool, true, false, List, [], ◌∷◌, ◌++◌, length, get_or, set, drop, refl, sym, ap, ◌∙◌, cond, arith, true≢false}
 use Rattle.std.specs.Prelude.{Vec, Option, Some, None, is_some, bytes_eq, if◌then◌else◌}
 use Rattle.std.specs.List.{list_any, position_from}
 use Rattle.std.specs.Option.{option_or}
 use Rattle.std.specs.BTreeMap.{BTreeMap}
 use Rattle.std.specs.declared.alloc.Global.{Global}
-use Rattle.std.proofs.lemmas.Bool.{cases_Bool}
+use Rattle.std.proofs.lemmas.Iterator.Adapters.{position_from-zero}
 use Rattle.std.proofs.lemmas.List.{drop_more, drop_all}
+use Rattle.std.proofs.lemmas.List.Folds.{list_any_at, list_any_none}
 use Rattle.bz_value.specs.declared.value.Expr.{Expr}
 use Rattle.bz_items.specs.Characters.{Bytes}
 use Rattle.bz_command_syntax.specs.declared.command.Entry.{Entry}
 use Rattle.bz_rule.specs.Rules.{is_text}
 use Rattle.bz_attribute.specs.Attributes.{on_first_that}
+use Rattle.bz_attribute.specs.Made.{mark}
+use Rattle.bz_attribute.proofs.ArgumentPlaces.{IsFirst, is_first, none_passes, changed_at}
 use Rattle.bz_dict.specs.Dicts.{key_of, has_key, entry_made, with_entry_value}
 use Rattle.bz_dict.specs.private.Keys.{place_at, first_place, AreIndexed, entry_put, entries_put}
 use Rattle.bz_dict.specs.declared.entries.Change.{Change}
@@ -20,79 +23,21 @@ use Rattle.bz_attribute.proofs.FormsAgain.{if_true, if_false}
 use Rattle.bz_attribute.proofs.KeySets.{equal_texts}
 use Rattle.bz_dict.proofs.EntryForms.{key_kept}
 
--- ---- the first that passes
+-- ---- the first place
 
 or_none : (found : Option ℕ) → option_or found None ≡ found
 or_none None = refl
 or_none (Some i) = refl
 
-same_index : (i : ℕ) → Some i ≡ Some (i + 0)
-same_index i = let e : i ≡ i + 0 = omega arith in ap (λ (n : ℕ). Some n) e
-
 module _ {X : Type 0} (test : X → Bool) where
-  last_place : (b : Bool) (i : ℕ) → cond b (Some i) None ≡ cond b (Some (i + 0)) None
-  last_place b i = ap (λ z. cond b z None) (same_index i)
-
-  later_place : (b : Bool) (i n : ℕ) → cond b (Some (i + 1 + n)) None ≡ cond b (Some (i + suc n)) None
-  later_place b i n = let e : i + 1 + n ≡ i + suc n = omega arith in ap (λ (m : ℕ). cond b (Some m) None) e
-
   push_step : (b : Bool) (found last : Option ℕ) (i : ℕ) → cond b (Some i) (option_or found last) ≡ option_or (cond b (Some i) found) last
   push_step true found last i = refl
   push_step false found last i = refl
 
-  position_push : (i : ℕ) (xs : List X) (y : X) → position_from test i (xs ++ y ∷ []) ≡ option_or (position_from test i xs) (cond (test y) (Some (i + length xs)) None)
-  position_push i [] y = last_place (test y) i
-  position_push i (x ∷ xs) y =
-      ap (λ z. cond (test x) (Some i) z) (position_push (i + 1) xs y ∙ ap (λ z. option_or (position_from test (i + 1) xs) z) (later_place (test y) i (length xs)))
-      ∙ push_step (test x) (position_from test (i + 1) xs) (cond (test y) (Some (i + suc (length xs))) None) i
-
-  from_zero : (b : Bool) (n : ℕ) → cond b (Some (0 + n)) None ≡ cond b (Some n) None
-  from_zero b n = let e : 0 + n ≡ n = omega arith in ap (λ (m : ℕ). cond b (Some m) None) e
-
-  pub place_push : (xs : List X) (y : X) → position_from test 0 (xs ++ y ∷ []) ≡ option_or (position_from test 0 xs) (cond (test y) (Some (length xs)) None)
-  place_push xs y = position_push 0 xs y ∙ ap (λ z. option_or (position_from test 0 xs) z) (from_zero (test y) (length xs))
-
-  some_place : (b : Bool) (i : ℕ) (found : Option ℕ) (any : Bool) → is_some found ≡ any → is_some (cond b (Some i) found) ≡ (b || any)
-  some_place true i found any e = refl
-  some_place false i found any e = e
-
-  -- whether any passes
-  pub any_place : (i : ℕ) (xs : List X) → is_some (position_from test i xs) ≡ list_any test xs
-  any_place i [] = refl
-  any_place i (x ∷ xs) = some_place (test x) i (position_from test (i + 1) xs) (list_any test xs) (any_place (i + 1) xs)
-
-  -- the first that passes, changed
-  pub record IsAt (change : X → X) (xs : List X) (i at : ℕ) : Type 0 where
-    pub index : ℕ
-    pub is : at ≡ i + index
-    pub within : index < length xs
-    pub changed : (d : X) → on_first_that test change xs ≡ set xs index (change (get_or xs index d))
-
-  at_first : (b : Bool) (i at : ℕ) (found : Option ℕ) → cond b (Some i) found ≡ Some at → b ≡ true → at ≡ i
-  at_first true i at found e is = cc
-  at_first false i at found e is = absurd (true≢false (sym is))
-
-  at_later : (b : Bool) (i at : ℕ) (found : Option ℕ) → cond b (Some i) found ≡ Some at → b ≡ false → found ≡ Some at
-  at_later true i at found e is = absurd (true≢false is)
-  at_later false i at found e is = e
-
-  pub place_changed : (change : X → X) (xs : List X) (i at : ℕ) → position_from test i xs ≡ Some at → IsAt change xs i at
-  place_changed change [] i at e = cc
-  place_changed change (x ∷ xs) i at e = elim (cases_Bool (test x)) [
-    | inl t ↦
-        let same : at ≡ i = at_first (test x) i at (position_from test (i + 1) xs) e t in
-        record { index = 0; is = omega (arith, same); within = omega arith; changed = λ d. if_true (test x) (change x ∷ xs) (x ∷ on_first_that test change xs) t }
-    | inr t ↦
-        let rest = place_changed change xs (i + 1) at (at_later (test x) i at (position_from test (i + 1) xs) e t) in
-        let here : at ≡ i + suc rest.index = omega (arith, rest.is) in
-        let inside : suc rest.index < suc (length xs) = omega (arith, rest.within) in
-        record {
-          index = suc rest.index;
-          is = here;
-          within = inside;
-          changed = λ d. if_false (test x) (change x ∷ xs) (x ∷ on_first_that test change xs) t ∙ ap (λ ys. x ∷ ys) (rest.changed d);
-        }
-  ]
+  pub place_push : (i last : ℕ) (xs : List X) (y : X) → i + length xs ≡ last → position_from test i (xs ++ y ∷ []) ≡ option_or (position_from test i xs) (cond (test y) (Some last) None)
+  place_push i last [] y e = let same : i ≡ last = omega (arith, e) in ap (λ (n : ℕ). cond (test y) (Some n) None) same
+  place_push i last (x ∷ xs) y e =
+      ap (λ z. cond (test x) (Some i) z) (place_push (i + 1) last xs y (omega (arith, e))) ∙ push_step (test x) (position_from test (i + 1) xs) (cond (test y) (Some last) None) i
 
   -- an element that passes as the one before it did
   pub place_set : (i : ℕ) (xs : List X) (at : ℕ) (y d : X) → test y ≡ test (get_or xs at d) → position_from test i (set xs at y) ≡ position_from test i xs
@@ -100,12 +45,26 @@ module _ {X : Type 0} (test : X → Bool) where
   place_set i (x ∷ xs) zero y d e = ap (λ z. cond z (Some i) (position_from test (i + 1) xs)) e
   place_set i (x ∷ xs) (suc at) y d e = ap (λ z. cond (test x) (Some i) z) (place_set (i + 1) xs at y d e)
 
+-- ---- by what the map has at a key
+
+at_place : (places : BTreeMap (Vec ℕ Global) ℕ) (items : List Expr) (key : Bytes) (at : ℕ) → place_at places key ≡ Some at → AreIndexed places items → IsFirst (has_key key) items at
+at_place places items key at is all = is_first (has_key key) items at (mark []) (sym (position_from-zero (has_key key) items ∙ (sym (all key) ∙ is)))
+
+any_there : (places : BTreeMap (Vec ℕ Global) ℕ) (items : List Expr) (key : Bytes) (at : ℕ) → place_at places key ≡ Some at → AreIndexed places items → list_any (has_key key) items ≡ true
+any_there places items key at is all =
+    let first = at_place places items key at is all in
+    list_any_at (has_key key) items at (mark []) first.within (first.passes (mark []))
+
+none_there : (places : BTreeMap (Vec ℕ Global) ℕ) (items : List Expr) (key : Bytes) → place_at places key ≡ None → AreIndexed places items → list_any (has_key key) items ≡ false
+none_there places items key none all =
+    list_any_none (has_key key) items (none_passes (has_key key) items (sym (position_from-zero (has_key key) items ∙ (sym (all key) ∙ none)))).all
+
 -- ---- one entry more
 
 pub no_key_pushed : (places : BTreeMap (Vec ℕ Global) ℕ) (items : List Expr) (x : Expr) → key_of x ≡ None → AreIndexed places items → AreIndexed places (items ++ x ∷ [])
 no_key_pushed places items x none all = λ key.
     all key
-    ∙ sym (place_push (has_key key) items x
+    ∙ sym (place_push (has_key key) 0 (length items) items x (omega arith)
     ∙ (ap (λ (z : Option Bytes). option_or (first_place items key) (cond (is_text key z) (Some (length items)) None)) none
     ∙ or_none (first_place items key)))
 
@@ -118,7 +77,7 @@ pub known_pushed : (places : BTreeMap (Vec ℕ Global) ℕ) (items : List Expr) 
     → AreIndexed places items → AreIndexed places (items ++ x ∷ [])
 known_pushed places items x own read known all = λ key.
     all key
-    ∙ sym (place_push (has_key key) items x
+    ∙ sym (place_push (has_key key) 0 (length items) items x (omega arith)
     ∙ (ap (λ (z : Option Bytes). option_or (first_place items key) (cond (is_text key z) (Some (length items)) None)) read
     ∙ either_found (bytes_eq own key) (first_place items key) (length items)
     (λ same. ap is_some (sym (all key) ∙ ap (place_at places) (sym (equal_texts own key same))) ∙ known)))
@@ -140,21 +99,16 @@ new_pushed places more items x own at read fresh here all e = λ key.
     (λ same. ap (place_at places) (sym (equal_texts own key same)) ∙ none_some (place_at places own) fresh)
     ∙ (ap (λ z. option_or z (cond (bytes_eq own key) (Some at) None)) (all key)
     ∙ (ap (λ (n : ℕ). option_or (first_place items key) (cond (bytes_eq own key) (Some n) None)) here
-    ∙ sym (place_push (has_key key) items x ∙ ap (λ (z : Option Bytes). option_or (first_place items key) (cond (is_text key z) (Some (length items)) None)) read))))
+    ∙ sym (place_push (has_key key) 0 (length items) items x (omega arith) ∙ ap (λ (z : Option Bytes). option_or (first_place items key) (cond (is_text key z) (Some (length items)) None)) read))))
 
 -- ---- an entry that is put
 
 pub entry_absent : (change : Change) (current name : Bytes) (entry : Entry) (places : BTreeMap (Vec ℕ Global) ℕ) (items : List Expr) → place_at places entry.key ≡ None → AreIndexed places items
     → items ++ entry_made current name entry ∷ [] ≡ entry_put change current name entry items
 entry_absent Add current name entry places items none all =
-    let any : list_any (has_key entry.key) items ≡ false = sym (any_place (has_key entry.key) 0 items) ∙ ap is_some (sym (all entry.key) ∙ none) in
-    sym (if_false (list_any (has_key entry.key) items) items (items ++ entry_made current name entry ∷ []) any)
+    sym (if_false (list_any (has_key entry.key) items) items (items ++ entry_made current name entry ∷ []) (none_there places items entry.key none all))
 entry_absent Set current name entry places items none all =
-    let any : list_any (has_key entry.key) items ≡ false = sym (any_place (has_key entry.key) 0 items) ∙ ap is_some (sym (all entry.key) ∙ none) in
-    sym (if_false (list_any (has_key entry.key) items) (on_first_that (has_key entry.key) (with_entry_value current name entry) items) (items ++ entry_made current name entry ∷ []) any)
-
-any_there : (places : BTreeMap (Vec ℕ Global) ℕ) (items : List Expr) (key : Bytes) (at : ℕ) → place_at places key ≡ Some at → AreIndexed places items → list_any (has_key key) items ≡ true
-any_there places items key at is all = sym (any_place (has_key key) 0 items) ∙ ap is_some (sym (all key) ∙ is)
+    sym (if_false (list_any (has_key entry.key) items) (on_first_that (has_key entry.key) (with_entry_value current name entry) items) (items ++ entry_made current name entry ∷ []) (none_there places items entry.key none all))
 
 pub entry_there : (current name : Bytes) (entry : Entry) (places : BTreeMap (Vec ℕ Global) ℕ) (items : List Expr) (at : ℕ) → place_at places entry.key ≡ Some at → AreIndexed places items
     → items ≡ entry_put Add current name entry items
@@ -162,19 +116,14 @@ entry_there current name entry places items at is all =
     sym (if_true (list_any (has_key entry.key) items) items (items ++ entry_made current name entry ∷ []) (any_there places items entry.key at is all))
 
 pub place_within : (places : BTreeMap (Vec ℕ Global) ℕ) (items : List Expr) (key : Bytes) (at : ℕ) → place_at places key ≡ Some at → AreIndexed places items → at < length items
-place_within places items key at is all =
-    let found = place_changed (has_key key) (λ x. x) items 0 at (sym (all key) ∙ is) in
-    omega (arith, found.is, found.within)
+place_within places items key at is all = (at_place places items key at is all).within
 
 pub entry_set : (current name : Bytes) (entry : Entry) (places : BTreeMap (Vec ℕ Global) ℕ) (items : List Expr) (at : ℕ) (x : Expr) → place_at places entry.key ≡ Some at → AreIndexed places items
     → set items at (with_entry_value current name entry (get_or items at x)) ≡ entry_put Set current name entry items
 entry_set current name entry places items at x is all =
-    let found = place_changed (has_key entry.key) (with_entry_value current name entry) items 0 at (sym (all entry.key) ∙ is) in
-    let same : at ≡ found.index = omega (arith, found.is) in
-    ap (λ (n : ℕ). set items n (with_entry_value current name entry (get_or items n x))) same
-    ∙ (sym (found.changed x)
+    sym (changed_at (has_key entry.key) (with_entry_value current name entry) items at x (at_place places items entry.key at is all))
     ∙ sym (if_true (list_any (has_key entry.key) items) (on_first_that (has_key entry.key) (with_entry_value current name entry) items) (items ++ entry_made current name entry ∷ [])
-    (any_there places items entry.key at is all)))
+    (any_there places items entry.key at is all))
 
 pub set_indexed : (current name : Bytes) (entry : Entry) (places : BTreeMap (Vec ℕ Global) ℕ) (items : List Expr) (at : ℕ) (x : Expr) → AreIndexed places items
     → AreIndexed places (set items at (with_entry_value current name entry (get_or items at x)))

@@ -1,9 +1,9 @@
 -- Entries that are added, set and removed: which keys are there afterwards.
-use Rattle.std.proofs.Common.{◌≡◌, Bool, true, false, not, ◌||◌, List, [], ◌∷◌, ◌++◌, Option, Some, None, Ok, Err, inl, inr, refl, sym, ap, ◌∙◌, codes, true≢false}
+use Rattle.std.proofs.Common.{◌≡◌, Bool, true, false, not, ◌||◌, List, [], ◌∷◌, ◌++◌, Option, Some, None, Ok, Err, refl, sym, ap, ◌∙◌, subst, codes, true≢false}
 use Rattle.std.specs.Prelude.{if◌then◌else◌, is_some}
 use Rattle.std.specs.List.{AllByRecursion, filter, list_any}
 use Rattle.std.specs.Option.{option_map_or}
-use Rattle.std.proofs.lemmas.Bool.{and_parts, and_from, or_cases, not-true, or_left, or_right}
+use Rattle.std.proofs.lemmas.Bool.{and_parts, and_from, not-true, or_left, or_right}
 use Rattle.std.proofs.lemmas.List.Folds.{list_any-append}
 use Rattle.bz_token.specs.declared.class.Class.TheVariants as c
 use Rattle.bz_grammar.specs.declared.kind.Kind.TheVariants as k
@@ -23,6 +23,7 @@ use Rattle.bz_dict.specs.Laws.{are_keys, has_keys, have_plain_keys, keys_of, Ent
 use Rattle.bz_attribute.proofs.ArgumentForms.{any_same}
 use Rattle.bz_attribute.proofs.AttributesAgain.{by_there, by_absent, same_made, with_value_same, node_parts, attribute_new, without_new, attribute_changed}
 use Rattle.bz_attribute.proofs.FormsAgain.{if_true, if_false, items_kind, items_same}
+use Rattle.bz_attribute.proofs.KeySets.{any_on}
 use Rattle.bz_attribute.proofs.PlainWords.{IsPlain, equal_self, body_quoted}
 use Rattle.bz_dict.proofs.EntryForms.{key_kept, items_changed}
 
@@ -82,23 +83,22 @@ there_last current name entry items plain =
     (or_left (has_key entry.key (entry_made current name entry)) false (made_key current name entry plain))
 
 -- each entry that is put in takes no key away, and its own key is there then
-module _ (put : Entry → List Expr → List Expr) (stays : (entry : Entry) (items : List Expr) (key : Bytes) → IsThere key items → IsThere key (put entry items))
+module _ (put : Entry → List Expr → List Expr) (all : List Entry → List Expr → List Expr) (none : (items : List Expr) → all [] items ≡ items)
+    (more : (entry : Entry) (entries : List Entry) (items : List Expr) → all (entry ∷ entries) items ≡ all entries (put entry items))
+    (stays : (entry : Entry) (items : List Expr) (key : Bytes) → IsThere key items → IsThere key (put entry items))
     (comes : (entry : Entry) (items : List Expr) → IsPlain entry.key → IsThere entry.key (put entry items)) where
-  abbrev all_put : List Entry → List Expr → List Expr
-  all_put [] items = items
-  all_put (entry ∷ entries) items = all_put entries (put entry items)
+  all_stay : (entries : List Entry) (items : List Expr) (key : Bytes) → IsThere key items → IsThere key (all entries items)
+  all_stay [] items key h = subst (IsThere key) (sym (none items)) h
+  all_stay (entry ∷ entries) items key h = subst (IsThere key) (sym (more entry entries items)) (all_stay entries (put entry items) key (stays entry items key h))
 
-  all_stay : (entries : List Entry) (items : List Expr) (key : Bytes) → IsThere key items → IsThere key (all_put entries items)
-  all_stay [] items key h = h
-  all_stay (entry ∷ entries) items key h = all_stay entries (put entry items) key (stays entry items key h)
-
-  all_come : (entries : List Entry) (items : List Expr) → have_plain_keys entries ≡ true → are_keys entries (all_put entries items) ≡ true
+  all_come : (entries : List Entry) (items : List Expr) → have_plain_keys entries ≡ true → are_keys entries (all entries items) ≡ true
   all_come [] items plain = refl
   all_come (entry ∷ entries) items plain =
       let p = and_parts (not (list_any is_escaped entry.key)) (have_plain_keys entries) plain in
-      and_from (list_any (has_key entry.key) (all_put entries (put entry items))) (are_keys entries (all_put entries (put entry items)))
+      subst (λ (after : List Expr). are_keys (entry ∷ entries) after ≡ true) (sym (more entry entries items))
+      (and_from (list_any (has_key entry.key) (all entries (put entry items))) (are_keys entries (all entries (put entry items)))
       (all_stay entries (put entry items) entry.key (comes entry items (not-true (list_any is_escaped entry.key) p.0)))
-      (all_come entries (put entry items) p.1)
+      (all_come entries (put entry items) p.1))
 
 module _ (current name : Bytes) where
   added_stays : (entry : Entry) (items : List Expr) (key : Bytes) → IsThere key items → IsThere key (with_entry current name entry items)
@@ -121,19 +121,11 @@ module _ (current name : Bytes) where
       by_case (IsThere entry.key) (list_any (has_key entry.key) items) (on_first_that (has_key entry.key) (with_entry_value current name entry) items) (items ++ entry_made current name entry ∷ [])
       (λ h. value_same entry items entry.key ∙ h) (λ h. there_last current name entry items plain)
 
-  all_added : (entries : List Entry) (items : List Expr) → all_put (with_entry current name) added_stays added_comes entries items ≡ with_entries current name entries items
-  all_added [] items = refl
-  all_added (entry ∷ entries) items = all_added entries (with_entry current name entry items)
-
-  all_set : (entries : List Entry) (items : List Expr) → all_put (with_entry_set current name) set_stays set_comes entries items ≡ with_entries_set current name entries items
-  all_set [] items = refl
-  all_set (entry ∷ entries) items = all_set entries (with_entry_set current name entry items)
-
   added_keys : (entries : List Entry) (items : List Expr) → have_plain_keys entries ≡ true → are_keys entries (with_entries current name entries items) ≡ true
-  added_keys entries items plain = ap (are_keys entries) (sym (all_added entries items)) ∙ all_come (with_entry current name) added_stays added_comes entries items plain
+  added_keys = all_come (with_entry current name) (with_entries current name) (λ items. refl) (λ entry entries items. refl) added_stays added_comes
 
   set_keys : (entries : List Entry) (items : List Expr) → have_plain_keys entries ≡ true → are_keys entries (with_entries_set current name entries items) ≡ true
-  set_keys entries items plain = ap (are_keys entries) (sym (all_set entries items)) ∙ all_come (with_entry_set current name) set_stays set_comes entries items plain
+  set_keys = all_come (with_entry_set current name) (with_entries_set current name) (λ items. refl) (λ entry entries items. refl) set_stays set_comes
 
 -- ---- the attribute afterwards
 
@@ -206,15 +198,9 @@ none_left test (x ∷ xs) a = if_false (not (test x)) (x ∷ filter (λ y. not (
 -- the first key is there
 first_there : (entries : List Entry) (items : List Expr) → is_nonempty entries ≡ true → are_keys entries items ≡ true → list_any (has_some_key (keys_of entries)) items ≡ true
 first_there [] items full h = absurd (true≢false (sym full))
-first_there (entry ∷ entries) items full h = any_more items (and_parts (list_any (has_key entry.key) items) (are_keys entries items) h).0
-  where
-    any_more : (xs : List Expr) → list_any (has_key entry.key) xs ≡ true → list_any (has_some_key (keys_of (entry ∷ entries))) xs ≡ true
-    any_more [] i = i
-    any_more (x ∷ xs) i = elim (or_cases (has_key entry.key x) (list_any (has_key entry.key) xs) i) [
-      | inl t ↦
-          or_left (has_some_key (keys_of (entry ∷ entries)) x) (list_any (has_some_key (keys_of (entry ∷ entries))) xs) (or_left (has_key entry.key x) (has_some_key (keys_of entries) x) t)
-      | inr t ↦ or_right (has_some_key (keys_of (entry ∷ entries)) x) (list_any (has_some_key (keys_of (entry ∷ entries))) xs) (any_more xs t)
-    ]
+first_there (entry ∷ entries) items full h =
+    any_on (has_key entry.key) (has_some_key (keys_of (entry ∷ entries))) (λ x t. or_left (has_key entry.key x) (has_some_key (keys_of entries) x) t) items
+    (and_parts (list_any (has_key entry.key) items) (are_keys entries items) h).0
 
 pub removing_again : EntriesRemovedAgain
 removing_again current name entries xs new absent full plain e =

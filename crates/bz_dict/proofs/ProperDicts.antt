@@ -1,5 +1,5 @@
 -- What each command on dicts makes of the arguments of a rule is arguments.
-use Rattle.std.proofs.Common.{◌≡◌, Bool, true, false, not, List, [], ◌∷◌, ◌++◌, Ok, Err, refl, sym, ◌∙◌, map, arith, codes, true≢false}
+use Rattle.std.proofs.Common.{◌≡◌, Bool, true, false, not, List, [], ◌∷◌, ◌++◌, Ok, Err, refl, sym, map, arith, codes, true≢false}
 use Rattle.std.specs.Prelude.{if◌then◌else◌}
 use Rattle.std.specs.List.{list_any}
 use Rattle.std.proofs.lemmas.List.Elements.{All-nil}
@@ -13,7 +13,7 @@ use Rattle.bz_grammar.specs.Spots.{Spot, Within}
 use Rattle.bz_value.specs.declared.value.Expr.{Expr, Token, Form', items-the_row-Expr}
 use Rattle.bz_value.specs.Comments.{no_comments}
 use Rattle.bz_items.specs.Characters.{Bytes}
-use Rattle.bz_value.specs.Proper.{IsComment, AreComments, after_expr}
+use Rattle.bz_value.specs.Proper.{IsComment, after_expr}
 use Rattle.bz_value.specs.Roots.{root}
 use Rattle.bz_value.specs.Roots as r
 use Rattle.bz_value.proofs.FormParts.{AreParts, form_proper}
@@ -31,19 +31,12 @@ use Rattle.bz_rule.proofs.ProperSequences as sequences
 use Rattle.bz_value.specs.declared.refusal.Refusal.TheVariants.{NotADict}
 use Rattle.bz_attribute.specs.Attributes.{on_first_that, with_value, with_new, without}
 use Rattle.bz_attribute.specs.Made.{token, mark, string_text, string_of}
-use Rattle.bz_attribute.proofs.ProperAttributes.{AreArguments, Made, Keeps, of_attribute, with_value_kept, without_kept, with_new_kept}
-use Rattle.bz_attribute.proofs.ProperMade.{IsNew, new_value, token_new, quoted_string, string_strung}
+use Rattle.bz_attribute.proofs.ProperAttributes.{AreArguments, Made, Keeps, of_attribute, first_that_kept, with_value_kept, without_kept, with_new_kept}
+use Rattle.bz_attribute.proofs.ProperMade.{IsNew, new_part, new_value, none_there, row_proper, token_new, quoted_string, string_strung}
 use Rattle.bz_attribute.proofs.ProperTexts.{one_ascii}
 use Rattle.bz_dict.specs.Dicts.{has_key, has_some_key, entry_made, with_entry, with_entries, with_entry_value, with_entry_set, with_entries_set, without_entries, dict_of, on_dict, dict_add, dict_set, cleared_dict, without_keys, dict_remove}
 
 -- ---- new entries and new dicts
-
-none_there : AreComments no_comments
-none_there = (All-nil IsComment, tt)
-
--- a new part of a row before others
-new_part : (outer here : Spot) (x : Expr) (xs : List Expr) → IsNew x → AreParts false outer (after_expr outer here x) xs → AreParts false outer here (x ∷ xs)
-new_part outer here x xs n h = (n.proper here, n.comments, λ b. absurd (true≢false (sym b ∙ n.breaks)), h)
 
 key_new : (entry : Entry) → IsEntry entry → IsNew (token c.String (quoted_of entry.key))
 key_new entry e = let strung = quoted_string entry.key e.0 in token_new c.String (quoted_of entry.key) strung.0 strung.1
@@ -58,23 +51,12 @@ entry_item : (current name : Bytes) (entry : Entry) → IsEntry entry → IsItem
 entry_item current name entry e =
     let key : Expr = token c.String (quoted_of entry.key) in
     let colon : Expr = mark (codes ":") in
-    let value : Expr = string_of current name entry.value in (
-      (
-        form_proper Within (record { kind = k.Entry; parts = key ∷ colon ∷ value ∷ []; seq = record { items = []; end = []; split = false }; open_break = false; comments = no_comments })
-            (refl, (refl, (refl, tt))) (
-              new_part Within Within key (colon ∷ value ∷ []) (key_new entry e)
-                  (new_part Within (after_expr Within Within key) colon (value ∷ []) colon_new
-                  (new_part Within (after_expr Within (after_expr Within Within key) colon) value [] (value_new current name entry e) tt)),
-              tt,
-              refl,
-              refl,
-              λ o. absurd (true≢false (sym o)),
-            ),
-        none_there,
-        refl,
-      ),
-      refl,
-    )
+    let value : Expr = string_of current name entry.value in
+    let parts : AreParts false Within Within (key ∷ colon ∷ value ∷ []) =
+    new_part false Within Within key (colon ∷ value ∷ []) (key_new entry e)
+    (new_part false Within (after_expr Within Within key) colon (value ∷ []) colon_new
+    (new_part false Within (after_expr Within (after_expr Within Within key) colon) value [] (value_new current name entry e) tt)) in
+    ((row_proper Within k.Entry (key ∷ colon ∷ value ∷ []) refl (refl, (refl, (refl, tt))) parts, none_there, refl), refl)
 
 dict_new : (items : List Expr) → AreOf s.entry items → IsNew (dict_of items)
 dict_new items h = record {
@@ -123,16 +105,9 @@ module _ (value : Expr) (new : IsNew value) (nonterminal : IsNonterminal s.test 
   value_kept end split open_break (x ∷ []) xs h = absurd h.0.1
   value_kept end split open_break (x ∷ y ∷ []) xs h = absurd h.0.1.1
   value_kept end split open_break (x ∷ y ∷ v ∷ []) xs h =
-      let g = h.1.0 in (
-        (h.0.0, (h.0.1.0, (nonterminal, tt))),
-        (
-          (g.0, g.1, g.2, (g.3.0, g.3.1, g.3.2, new_part Within (after_expr Within (after_expr Within Within x) y) value [] new tt)),
-          h.1.1,
-          h.1.2,
-          h.1.3,
-          h.1.4,
-        ),
-      )
+      let g = h.1.0 in
+      let last : AreParts false Within (after_expr Within (after_expr Within Within x) y) (value ∷ []) = new_part false Within (after_expr Within (after_expr Within Within x) y) value [] new tt in
+      ((h.0.0, (h.0.1.0, (nonterminal, tt))), ((g.0, g.1, g.2, (g.3.0, g.3.1, g.3.2, last)), h.1.1, h.1.2, h.1.3, h.1.4))
   value_kept end split open_break (x ∷ y ∷ v ∷ w ∷ rest) xs h = absurd h.0.1.1.1
 
   only_entry : (kind : Kind) → is_kind kind k.Entry ≡ true → KeepsRow kind (on_third (λ old. value))
@@ -156,11 +131,8 @@ module _ (current name : Bytes) where
   entries_added (entry ∷ entries) e items h = entries_added entries e.1 (with_entry current name entry items) (entry_added entry e.0 items h)
 
   first_set : (entry : Entry) → IsEntry entry → KeepsEntries (on_first_that (has_key entry.key) (with_entry_value current name entry))
-  first_set entry e [] h = tt
-  first_set entry e (x ∷ xs) h =
-      let value : Expr = string_of current name entry.value in
-      by_test (AreOf s.entry) (has_key entry.key x) (with_entry_value current name entry x ∷ xs) (x ∷ on_first_that (has_key entry.key) (with_entry_value current name entry) xs)
-      (entry_changed value (value_new current name entry e) refl x h.0, h.1) (h.0, first_set entry e xs h.1)
+  first_set entry e items h =
+      first_that_kept (IsItem s.entry) (has_key entry.key) (with_entry_value current name entry) (entry_changed (string_of current name entry.value) (value_new current name entry e) refl) items h
 
   entry_set : (entry : Entry) → IsEntry entry → KeepsEntries (with_entry_set current name entry)
   entry_set entry e items h =

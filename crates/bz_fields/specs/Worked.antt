@@ -1,59 +1,37 @@
 -- Worked rows: what rules and values print.
-use Rattle.std.specs.Prelude.{◌≡◌, false, List, [], ◌∷◌, codes, None, Some}
-use Rattle.bz_token.specs.declared.class.Class.{Class}
+use Rattle.std.specs.Prelude.{◌≡◌, List, [], ◌∷◌, codes, None, Some}
 use Rattle.bz_token.specs.declared.class.Class.TheVariants as c
-use Rattle.bz_grammar.specs.declared.kind.Kind.{Kind}
 use Rattle.bz_grammar.specs.declared.kind.Kind.TheVariants as k
 use Rattle.bz_value.specs.declared.value.Expr.{Expr}
-use Rattle.bz_value.specs.declared.value.Expr.TheVariants as e
 use Rattle.bz_value.specs.declared.value.Item.{Item}
 use Rattle.bz_value.specs.declared.value.Item.TheVariants as i
-use Rattle.bz_value.specs.Comments.{no_comments}
 use Rattle.bz_items.specs.Characters.{Bytes}
+use Rattle.bz_attribute.specs.Made.{token, name, node, sequence, list_of, argument_of}
 use Rattle.bz_command_syntax.specs.declared.command.Field.TheVariants as f
 use Rattle.bz_fields.specs.Prints.{printed_value, printed_item}
 
 -- ---- expressions without comments
 
-abbrev token : Class → Bytes → Expr
-token class text = e.Token (record { class = class; text = text; line_break = false; comments = no_comments })
-
-abbrev name : Bytes → Expr
-name text = token c.Name text
-
 abbrev string : Bytes → Expr
 string text = token c.String text
 
-abbrev row : Kind → List Expr → Expr
-row kind parts = e.Form (record { kind = kind; parts = parts; seq = record { items = []; end = []; split = false }; open_break = false; comments = no_comments })
-
-abbrev sequence : Kind → List Expr → List Expr → Expr
-sequence kind parts items = e.Form (record { kind = kind; parts = parts; seq = record { items = items; end = []; split = false }; open_break = false; comments = no_comments })
-
-abbrev list : List Expr → Expr
-list items = sequence k.List [] items
-
--- NAME = VALUE
-abbrev argument : Bytes → Expr → Expr
-argument left value = row k.Named (name left ∷ token c.Mark (codes "=") ∷ value ∷ [])
-
 -- a statement that is a call
 abbrev call : Expr → List Expr → Item
-call function arguments = i.Stmt (row k.Bare (sequence k.Call (function ∷ []) arguments ∷ []))
+call function arguments = i.Stmt (node k.Bare (sequence k.Call (function ∷ []) arguments ∷ []))
 
 -- ---- items
 
 -- cc_library(name = "a", srcs = ["b.c", "a.c"])
 abbrev library : Item
-library = call (name (codes "cc_library")) (argument (codes "name") (string (codes "\"a\"")) ∷ argument (codes "srcs") (list (string (codes "\"b.c\"") ∷ string (codes "\"a.c\"") ∷ [])) ∷ [])
+library = call (name (codes "cc_library")) (argument_of (codes "name") (string (codes "\"a\"")) ∷ argument_of (codes "srcs") (list_of (string (codes "\"b.c\"") ∷ string (codes "\"a.c\"") ∷ [])) ∷ [])
 
 -- native.filegroup()
 abbrev group : Item
-group = call (row k.Dot (name (codes "native") ∷ token c.Mark (codes ".") ∷ name (codes "filegroup") ∷ [])) []
+group = call (node k.Dot (name (codes "native") ∷ token c.Mark (codes ".") ∷ name (codes "filegroup") ∷ [])) []
 
 -- "a"
 abbrev words : Item
-words = i.Stmt (row k.Bare (string (codes "\"a\"") ∷ []))
+words = i.Stmt (node k.Bare (string (codes "\"a\"") ∷ []))
 
 abbrev pub WorkedPrints : Type 0
 WorkedPrints =
@@ -68,9 +46,9 @@ WorkedPrints =
     )
     -- values
     × (
-    (printed_value (list []) ≡ codes "[]")
+    (printed_value (list_of []) ≡ codes "[]")
     × (printed_value (string (codes "'a'")) ≡ codes "a")
-    × (printed_value (list (name (codes "SOURCES") ∷ [])) ≡ codes "[SOURCES]")
-    × (printed_value (list (string (codes "\"a\"") ∷ name (codes "b") ∷ [])) ≡ codes "[\n    \"a\",\n    b,\n]")
+    × (printed_value (list_of (name (codes "SOURCES") ∷ [])) ≡ codes "[SOURCES]")
+    × (printed_value (list_of (string (codes "\"a\"") ∷ name (codes "b") ∷ [])) ≡ codes "[\n    \"a\",\n    b,\n]")
     × (printed_value (name (codes "SOURCES")) ≡ codes "SOURCES")
     )

@@ -1,42 +1,25 @@
 -- What is added is what is not known yet.
-use Rattle.std.proofs.Common.{◌≡◌, Bool, true, false, not, ◌&&◌, ◌||◌, List, [], ◌∷◌, ◌++◌, refl, ap, ◌∙◌, map, subst}
-use Rattle.std.specs.Prelude.{Option, Some, None, Result, Ok, Err, if◌then◌else◌, bytes_eq}
-use Rattle.std.specs.List.{list_any, flat_map}
-use Rattle.std.specs.Option.{option_map_or, option_and_then}
+use Rattle.std.proofs.Common.{◌≡◌, Bool, true, false, ◌||◌, List, [], ◌∷◌, refl, sym, ap, ◌∙◌, map, subst}
+use Rattle.std.specs.Prelude.{Option, Some, None, Result, Ok, Err, if◌then◌else◌}
+use Rattle.std.specs.List.{list_any}
+use Rattle.std.specs.Option.{option_map_or}
+use Rattle.std.proofs.Math.Bool.{or_assoc}
 use Rattle.std.proofs.Math.Path.{fun_ext}
 use Rattle.bz_label.specs.Tables.{is_label_attribute}
-use Rattle.bz_label.specs.Read.{shortened}
 use Rattle.bz_value.specs.declared.value.Expr.{Expr}
 use Rattle.bz_items.specs.Characters.{Bytes}
-use Rattle.bz_command_syntax.specs.Quoted.{quoted_of}
 use Rattle.bz_rule.specs.Rules.{attribute}
-use Rattle.bz_rule.specs.Values.{with_text}
 use Rattle.bz_attribute.proofs.KeySets.{or_group, or_none}
 use Rattle.bz_list.specs.declared.adding.Added.{Added}
 use Rattle.bz_list.specs.declared.adding.Added.TheVariants as a
 use Rattle.bz_value.specs.declared.refusal.Refusal.{Refusal}
 use Rattle.bz_value.specs.declared.refusal.Refusal.TheVariants.{NotAList}
 use Rattle.bz_attribute.specs.Attributes.{with_value, with_new, by_value}
-use Rattle.bz_attribute.specs.Lists.{body_of, are_one, is_item, fresh, travelled, is_there, arriving, has_lists, items_in, is_no_list, listed, with_more}
+use Rattle.bz_attribute.specs.Lists.{body_of, are_one, is_item, fresh, travelled, is_there, arriving, has_lists, items_in, is_no_list, with_more}
 use Rattle.bz_attribute.specs.Made.{string_of, list_of, plus}
 use Rattle.bz_list.specs.Changes.{with_items_added}
 use Rattle.bz_list.specs.private.KnownValues.{Membership, none_known, with_word, is_known_item, with_item, with_known_items, new_words, new_items}
-use Rattle.bz_list.specs.private.Adding.{added_by, added_to, shorter_in, shorter, with_added}
-
--- ---- an item that comes to another attribute
-
-text_by : (b : Bool) (text : Bytes) (x : Expr) → (if b then with_text text x else x) ≡ option_map_or (λ t. with_text t x) (if b then Some text else None) x
-text_by true text x = refl
-text_by false text x = refl
-
-travelled_in : (current attribute : Bytes) (found : Option Bytes) (x : Expr)
-    → option_map_or (λ text. if is_label_attribute attribute && not (bytes_eq (shortened current text) text) then with_text (quoted_of (shortened current text)) x else x) found x
-    ≡ option_map_or (λ t. with_text t x) (option_and_then (shorter_in current attribute) found) x
-travelled_in current attribute None x = refl
-travelled_in current attribute (Some text) x = text_by (is_label_attribute attribute && not (bytes_eq (shortened current text) text)) (quoted_of (shortened current text)) x
-
-pub travelled_by : (current attribute : Bytes) (x : Expr) → travelled current attribute x ≡ option_map_or (λ t. with_text t x) (shorter current attribute x) x
-travelled_by current attribute x = travelled_in current attribute (body_of x) x
+use Rattle.bz_list.specs.private.Adding.{added_by, added_to, with_added}
 
 -- ---- what is known of items that are there
 
@@ -71,10 +54,6 @@ all_known current attribute items =
 choice : {X : Type 0} (b c : Bool) (x : X) (xs xs' ys ys' : List X) → b ≡ c → xs ≡ xs' → ys ≡ ys' → (if b then xs else x ∷ ys) ≡ (if c then xs' else x ∷ ys')
 choice b c x xs xs' ys ys' d e f = ap (λ z. if z then xs else x ∷ ys) d ∙ (ap (λ z. if c then z else x ∷ ys) e ∙ ap (λ z. if c then xs' else x ∷ z) f)
 
-or_assoc : (a b c : Bool) → (a || (b || c)) ≡ ((a || b) || c)
-or_assoc true b c = refl
-or_assoc false b c = refl
-
 -- the words before, and the items that are there
 abbrev seen : Bytes → Bytes → List Expr → List Bytes → Bytes → Bool
 seen current attribute there earlier word = list_any (are_one current attribute word) earlier || list_any (is_item current attribute word) there
@@ -90,7 +69,7 @@ words_new current attribute there test earlier (word ∷ words) e =
     (words_new current attribute there test earlier words e)
     (words_new current attribute there (λ other. are_one current attribute other word || test other) (word ∷ earlier) words
     (fun_ext (λ other. ap (λ (t : Bytes → Bool). are_one current attribute other word || t other) e
-    ∙ or_assoc (are_one current attribute other word) (list_any (are_one current attribute other) earlier) (list_any (is_item current attribute other) there))))
+    ∙ sym (or_assoc (are_one current attribute other word) (list_any (are_one current attribute other) earlier) (list_any (is_item current attribute other) there)))))
 
 items_new : (current attribute : Bytes) (test : Bytes → Bool) (there items : List Expr) → test ≡ (λ word. list_any (is_item current attribute word) there)
     → new_items current attribute (known_as current attribute test) items ≡ arriving current attribute there items
@@ -112,16 +91,10 @@ added_there current name (a.Words words) there =
 added_there current name (a.Moved items) there =
     ap (λ known. new_items current name known items) (all_known current name there) ∙ items_new current name (λ word. list_any (is_item current name word) there) there items refl
 
+pub added_none : (current name : Bytes) (added : Added) → added_to current name added (none_known current name) ≡ added_by current name added []
+added_none current name added = added_there current name added []
+
 -- ---- one word alone
-
--- whether a test holds of an item of lists, one after the other
-any_more : (test : Expr → Bool) (xs ys : List Expr) → list_any test (xs ++ ys) ≡ (list_any test xs || list_any test ys)
-any_more test [] ys = refl
-any_more test (x ∷ xs) ys = ap (λ z. test x || z) (any_more test xs ys) ∙ or_assoc (test x) (list_any test xs) (list_any test ys)
-
-pub any_listed : (test : Expr → Bool) (xs : List Expr) → list_any test (flat_map listed xs) ≡ list_any (λ x. list_any test (listed x)) xs
-any_listed test [] = refl
-any_listed test (x ∷ xs) = any_more test (listed x) (flat_map listed xs) ∙ ap (λ z. list_any test (listed x) || z) (any_listed test xs)
 
 -- it is added where it is no item that is there
 pub one_fresh : (current attribute : Bytes) (there : List Expr) (word : Bytes)

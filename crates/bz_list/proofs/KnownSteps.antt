@@ -1,10 +1,11 @@
 -- What is known, and what it becomes.
-use Rattle.std.proofs.Common.{◌≡◌, inl, inr, Bool, true, false, ◌||◌, ◌&&◌, List, [], ◌∷◌, ◌++◌, refl, sym, ap, ◌∙◌}
-use Rattle.std.specs.Prelude.{if◌then◌else◌, bytes_eq, Option, Some, None}
+use Rattle.std.proofs.Common.{◌≡◌, ℕ, ◌+◌, ◌<◌, length, drop, get_or, inl, inr, Bool, true, false, ◌||◌, ◌&&◌, List, [], ◌∷◌, ◌++◌, refl, sym, ap, ◌∙◌, true≢false}
+use Rattle.std.specs.Prelude.{bytes_eq, Option, Some, None}
 use Rattle.std.specs.List.{list_any, flat_map}
 use Rattle.std.specs.Option.{option_map_or}
-use Rattle.std.proofs.lemmas.Bool.{cases_Bool, and_from}
-use Rattle.std.proofs.lemmas.Slice.Eq.{bytes_eq-Decides}
+use Rattle.std.proofs.lemmas.Bool.{cases_Bool, and_from, and_parts}
+use Rattle.std.proofs.lemmas.List.{drop_more}
+use Rattle.std.proofs.lemmas.List.Folds.{list_any_none}
 use Rattle.std.proofs.Math.Path.{fun_ext}
 use Rattle.std.proofs.lemmas.Cmp.{nat_list_eq_equiv}
 use Rattle.bz_label.specs.declared.label.Label.{Label}
@@ -12,10 +13,11 @@ use Rattle.bz_label.specs.Read.{label_in, is_equal, are_equal, is_same}
 use Rattle.bz_label.specs.Tables.{is_label_attribute}
 use Rattle.bz_value.specs.declared.value.Expr.{Expr}
 use Rattle.bz_items.specs.Characters.{Bytes}
-use Rattle.bz_attribute.specs.Lists.{body_of, items_in, are_one, is_some_item, listed}
-use Rattle.bz_attribute.proofs.KeySets.{equal_texts, or_group, or_none}
+use Rattle.bz_attribute.specs.Lists.{body_of, are_one, is_some_item, listed}
+use Rattle.bz_attribute.proofs.KeySets.{any_like, equal_texts, or_group, or_none}
+use Rattle.bz_attribute.proofs.PlainWords.{equal_self}
 use Rattle.bz_list.specs.declared.known.Chosen.TheVariants as h
-use Rattle.bz_list.specs.private.Listing.{chooses, with_lists}
+use Rattle.bz_list.specs.private.Listing.{chooses}
 use Rattle.bz_list.specs.private.KnownValues.{mean_the_same, label_meant, is_among, KnownValues, Membership, membership, none_known, with_word, with_words, is_known_item, with_item, with_known_items}
 
 -- ---- words mean one value both ways
@@ -23,7 +25,7 @@ use Rattle.bz_list.specs.private.KnownValues.{mean_the_same, label_meant, is_amo
 bytes_alike : (xs ys : Bytes) → bytes_eq xs ys ≡ bytes_eq ys xs
 bytes_alike xs ys = nat_list_eq_equiv.symm xs ys
 
-all_three : (a b c a' b' c' : Bool) → a ≡ a' → b ≡ b' → c ≡ c' → (a && b && c) ≡ (a' && b' && c')
+pub all_three : (a b c a' b' c' : Bool) → a ≡ a' → b ≡ b' → c ≡ c' → (a && b && c) ≡ (a' && b' && c')
 all_three a b c a' b' c' e f g = ap (λ z. z && b && c) e ∙ (ap (λ z. a' && z && c) f ∙ ap (λ z. a' && b' && z) g)
 
 equal_alike : (one other : Label) → is_equal one other ≡ is_equal other one
@@ -42,20 +44,17 @@ same_alike : (current one other : Bytes) → is_same current one other ≡ is_sa
 same_alike current one other = ap (λ z. z || are_equal (label_in current one) (label_in current other)) (bytes_alike one other)
     ∙ ap (λ z. bytes_eq other one || z) (labels_alike (label_in current one) (label_in current other))
 
-pub alike_both : (is_label : Bool) (current one other : Bytes) → mean_the_same is_label current one other ≡ mean_the_same is_label current other one
+alike_both : (is_label : Bool) (current one other : Bytes) → mean_the_same is_label current one other ≡ mean_the_same is_label current other one
 alike_both true current one other = same_alike current one other
 alike_both false current one other = bytes_alike one other
 
 -- ---- one more word
 
-equal_self : (xs : Bytes) → bytes_eq xs xs ≡ true
-equal_self xs = (bytes_eq-Decides xs xs).1 refl
-
 is_equal_self : (label : Label) → is_equal label label ≡ true
 is_equal_self label = and_from _ _ (and_from _ _ (equal_self label.repository) (equal_self label.«package»)) (equal_self label.name)
 
 -- words mean one value where they mean one label, or neither means a label and they are equal
-abbrev are_one_key : Bytes → Bytes → Option Label → Option Label → Bool
+abbrev pub are_one_key : Bytes → Bytes → Option Label → Option Label → Bool
 are_one_key word other (Some one) (Some two) = is_equal one two
 are_one_key word other None None = bytes_eq word other
 are_one_key word other _ _ = false
@@ -84,44 +83,52 @@ alike_keys : (is_label : Bool) (current word other : Bytes) → mean_the_same is
 alike_keys true current word other = same_keys current word other
 alike_keys false current word other = refl
 
-label_more : (labels more : List Label) (texts : List Bytes) (added : Label) (word text : Bytes) (read : Option Label)
-    → ((label : Label) → list_any (is_equal label) more ≡ (is_equal label added || list_any (is_equal label) labels))
-    → is_among more texts word read ≡ (are_one_key word text read (Some added) || is_among labels texts word read)
-label_more labels more texts added word text (Some label) e = e label
-label_more labels more texts added word text None e = refl
+pub equal_labels : (one two : Label) → is_equal one two ≡ true → one ≡ two
+equal_labels one two h =
+    let p = and_parts (bytes_eq one.repository two.repository && bytes_eq one.«package» two.«package») (bytes_eq one.name two.name) h in
+    let q = and_parts (bytes_eq one.repository two.repository) (bytes_eq one.«package» two.«package») p.0 in
+    ap (λ (x : Bytes). record { repository = x; «package» = one.«package»; name = one.name }) (equal_texts _ _ q.0)
+    ∙ (ap (λ (x : Bytes). record { repository = two.repository; «package» = x; name = one.name }) (equal_texts _ _ q.1)
+    ∙ ap (λ (x : Bytes). record { repository = two.repository; «package» = two.«package»; name = x }) (equal_texts _ _ p.1))
 
-text_more : (labels : List Label) (texts more : List Bytes) (word text : Bytes) (read : Option Label)
-    → list_any (bytes_eq word) more ≡ (bytes_eq word text || list_any (bytes_eq word) texts)
-    → is_among labels more word read ≡ (are_one_key word text read None || is_among labels texts word read)
-text_more labels texts more word text (Some label) e = refl
-text_more labels texts more word text None e = e
+-- what means the same as another word means the same as any third one just where the other does
+key_alike : (word other third : Bytes) (one two three : Option Label) → are_one_key word other one two ≡ true → are_one_key word third one three ≡ are_one_key other third two three
+key_alike word other third (Some one) (Some two) (Some three) h = ap (λ (label : Label). is_equal label three) (equal_labels one two h)
+key_alike word other third (Some one) (Some two) None h = refl
+key_alike word other third None None (Some three) h = refl
+key_alike word other third None None None h = ap (λ (text : Bytes). bytes_eq text third) (equal_texts word other h)
+key_alike word other third (Some one) None three h = absurd (true≢false (sym h))
+key_alike word other third None (Some two) three h = absurd (true≢false (sym h))
 
--- a word that means a label
-pub label_pushed : (current : Bytes) (is_label : Bool) (labels more : List Label) (texts : List Bytes) (text : Bytes) (added : Label)
-    → Some added ≡ label_meant is_label current text
-    → ((label : Label) → list_any (is_equal label) more ≡ (is_equal label added || list_any (is_equal label) labels))
-    → membership (record { current = current; is_label = is_label; labels = more; texts = texts })
+pub meant_alike : (is_label : Bool) (current word other third : Bytes) → mean_the_same is_label current word other ≡ true → mean_the_same is_label current word third ≡ mean_the_same is_label current other third
+meant_alike is_label current word other third h =
+    alike_keys is_label current word third
+    ∙ (key_alike word other third (label_meant is_label current word) (label_meant is_label current other) (label_meant is_label current third) (sym (alike_keys is_label current word other) ∙ h)
+    ∙ sym (alike_keys is_label current other third))
+
+pub label_more : (labels more : List Label) (texts : List Bytes) (added : Label) (text : Bytes) → ((label : Label) → list_any (is_equal label) more ≡ (is_equal label added || list_any (is_equal label) labels))
+    → (word : Bytes) (read : Option Label) → is_among more texts word read ≡ (are_one_key word text read (Some added) || is_among labels texts word read)
+label_more labels more texts added text e word (Some label) = e label
+label_more labels more texts added text e word None = refl
+
+pub text_more : (labels : List Label) (texts more : List Bytes) (text : Bytes) → ((word : Bytes) → list_any (bytes_eq word) more ≡ (bytes_eq word text || list_any (bytes_eq word) texts))
+    → (word : Bytes) (read : Option Label) → is_among labels more word read ≡ (are_one_key word text read None || is_among labels texts word read)
+text_more labels texts more text e word (Some label) = refl
+text_more labels texts more text e word None = e word
+
+-- a word that means this label, or none
+pub pushed : (current : Bytes) (is_label : Bool) (labels more_labels : List Label) (texts more_texts : List Bytes) (text : Bytes) (added : Option Label) → added ≡ label_meant is_label current text
+    → ((word : Bytes) (read : Option Label) → is_among more_labels more_texts word read ≡ (are_one_key word text read added || is_among labels texts word read))
+    → membership (record { current = current; is_label = is_label; labels = more_labels; texts = more_texts })
     ≡ with_word text (membership (record { current = current; is_label = is_label; labels = labels; texts = texts }))
-label_pushed current is_label labels more texts text added read e =
+pushed current is_label labels more_labels texts more_texts text added read e =
     ap (λ (test : Bytes → Bool). record { current = current; is_label = is_label; is_known = test })
-    (fun_ext (λ word. label_more labels more texts added word text (label_meant is_label current word) e
-    ∙ ap (λ z. z || is_among labels texts word (label_meant is_label current word))
-    (ap (are_one_key word text (label_meant is_label current word)) read ∙ sym (alike_keys is_label current word text))))
-
--- and one that means none
-pub text_pushed : (current : Bytes) (is_label : Bool) (labels : List Label) (texts more : List Bytes) (text : Bytes)
-    → None ≡ label_meant is_label current text
-    → ((word : Bytes) → list_any (bytes_eq word) more ≡ (bytes_eq word text || list_any (bytes_eq word) texts))
-    → membership (record { current = current; is_label = is_label; labels = labels; texts = more })
-    ≡ with_word text (membership (record { current = current; is_label = is_label; labels = labels; texts = texts }))
-text_pushed current is_label labels texts more text read e =
-    ap (λ (test : Bytes → Bool). record { current = current; is_label = is_label; is_known = test })
-    (fun_ext (λ word. text_more labels texts more word text (label_meant is_label current word) (e word)
+    (fun_ext (λ word. e word (label_meant is_label current word)
     ∙ ap (λ z. z || is_among labels texts word (label_meant is_label current word))
     (ap (are_one_key word text (label_meant is_label current word)) read ∙ sym (alike_keys is_label current word text))))
 
 -- nothing is known
-pub none_among : (word : Bytes) (read : Option Label) → is_among [] [] word read ≡ false
+none_among : (word : Bytes) (read : Option Label) → is_among [] [] word read ≡ false
 none_among word (Some label) = refl
 none_among word None = refl
 
@@ -135,9 +142,9 @@ more_items : (xs ys : List Expr) (known : Membership) → with_known_items (xs +
 more_items [] ys known = refl
 more_items (x ∷ xs) ys known = more_items xs ys (with_item x known)
 
-pub lists_known : (xs : List Expr) (known : Membership) → with_known_items (flat_map listed xs) known ≡ with_lists xs known
-lists_known [] known = refl
-lists_known (x ∷ xs) known = more_items (listed x) (flat_map listed xs) known ∙ lists_known xs (with_known_items (listed x) known)
+pub lists_next : (xs : List Expr) (k : ℕ) (d : Expr) (known : Membership) → k < length xs
+    → with_known_items (flat_map listed (drop k xs)) known ≡ with_known_items (flat_map listed (drop (k + 1) xs)) (with_known_items (listed (get_or xs k d)) known)
+lists_next xs k d known h = ap (λ ys. with_known_items (flat_map listed ys) known) (drop_more xs k d h) ∙ more_items (listed (get_or xs k d)) (flat_map listed (drop (k + 1) xs)) known
 
 -- ---- the words as they are looked up
 
@@ -150,19 +157,12 @@ words_known (word ∷ words) known = words_known words (with_word word known)
     (fun_ext (λ other. or_group (list_any (mean_the_same known.is_label known.current other) words) (mean_the_same known.is_label known.current other word) (known.is_known other)))
 
 any_alike : (is_label : Bool) (current other : Bytes) (words : List Bytes) → list_any (mean_the_same is_label current other) words ≡ list_any (λ word. mean_the_same is_label current word other) words
-any_alike is_label current other [] = refl
-any_alike is_label current other (word ∷ words) =
-    ap (λ z. z || list_any (mean_the_same is_label current other) words) (alike_both is_label current other word)
-    ∙ ap (λ z. mean_the_same is_label current word other || z) (any_alike is_label current other words)
+any_alike is_label current other words = any_like (mean_the_same is_label current other) (λ word. mean_the_same is_label current word other) (λ word. alike_both is_label current other word) words
 
 -- an item is one of the words, looked up by the body of a plain string
 by_body : (current attribute : Bytes) (words : List Bytes) (found : Option Bytes)
     → option_map_or (λ other. list_any (λ word. are_one current attribute word other) words) found false ≡ list_any (λ word. option_map_or (are_one current attribute word) found false) words
-by_body current attribute words None = sym (none_any words)
-  where
-    none_any : (ws : List Bytes) → list_any (λ (word : Bytes). false) ws ≡ false
-    none_any [] = refl
-    none_any (w ∷ ws) = none_any ws
+by_body current attribute words None = sym (list_any_none (λ (word : Bytes). false) words (λ k d l. refl))
 by_body current attribute words (Some other) = refl
 
 words_membership : (current attribute : Bytes) (words : List Bytes) (x : Expr) → is_known_item (with_words words (none_known current attribute)) x ≡ is_some_item current attribute words x

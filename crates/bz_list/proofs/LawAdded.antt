@@ -1,75 +1,42 @@
 -- What was added is there afterwards.
-use Rattle.std.proofs.Common.{◌≡◌, Bool, true, false, not, ◌||◌, List, [], ◌∷◌, ◌++◌, Option, Some, None, Ok, Err, inl, inr, refl, sym, ap, ◌∙◌, codes, true≢false}
+use Rattle.std.proofs.Common.{◌≡◌, Bool, true, false, ◌&&◌, ◌||◌, List, [], ◌∷◌, ◌++◌, Option, Some, None, Ok, Err, inl, inr, refl, sym, ap, ◌∙◌, codes, true≢false}
 use Rattle.std.specs.Prelude.{◌⊎◌, if◌then◌else◌, is_some}
-use Rattle.std.specs.List.{AllByRecursion, filter, flat_map, list_any}
+use Rattle.std.specs.List.{AllByRecursion, flat_map, list_any}
 use Rattle.std.specs.Option.{option_map_or}
-use Rattle.std.proofs.lemmas.Bool.{cases_Bool, or_right}
+use Rattle.std.proofs.Math.Bool.{or_assoc, or-false}
+use Rattle.std.proofs.lemmas.Bool.{cases_Bool, or_parts, or_right}
+use Rattle.std.proofs.lemmas.Grind.{flat_map-append}
 use Rattle.std.proofs.lemmas.List.{append-nil}
-use Rattle.std.proofs.lemmas.List.Elements.{filter-append}
 use Rattle.std.proofs.lemmas.List.Folds.{list_any-append}
-use Rattle.bz_grammar.specs.declared.kind.Kind.{Kind}
 use Rattle.bz_grammar.specs.declared.kind.Kind.TheVariants as k
-use Rattle.bz_grammar.specs.Shapes.{is_kind}
-use Rattle.bz_value.specs.declared.value.Expr.{Expr, Token, Form'}
+use Rattle.bz_value.specs.declared.value.Expr.{Expr}
 use Rattle.bz_items.specs.Characters.{Bytes}
-use Rattle.bz_value.specs.Empty.{is_empty}
 use Rattle.bz_rule.specs.Rules.{attribute}
 use Rattle.bz_rule.specs.Values.{has_kind, parts_of, items_of, with_parts, with_items, on_row, on_items}
 use Rattle.bz_rule.proofs.ProperChanges.{by_case}
-use Rattle.bz_attribute.specs.Attributes.{on_first_that, with_value, with_new}
-use Rattle.bz_attribute.specs.Attributes.{Arguments, by_value}
+use Rattle.bz_attribute.specs.Attributes.{Arguments, by_value, on_first_that, with_value, with_new}
 use Rattle.bz_attribute.proofs.AttributesAgain.{node_parts, attribute_new, attribute_changed}
-use Rattle.bz_attribute.proofs.FormsAgain.{if_true, if_false, parts_kind, items_kind, parts_filled, items_filled, row_changed, items_changed}
+use Rattle.bz_attribute.proofs.FormsAgain.{if_true, if_false, both, parts_kind, items_kind, parts_filled, items_filled, row_changed, items_changed}
+use Rattle.bz_attribute.proofs.ListsThere.{any_alone, any_in_sum, in_sum, lists_there, sum_no_list}
 use Rattle.bz_attribute.proofs.PlainWords.{IsPlain}
 use Rattle.bz_list.specs.Laws.{are_there, AddedIsThere}
-use Rattle.bz_attribute.specs.Lists.{lists_of, has_lists, items_in, is_no_list, with_more, is_item}
+use Rattle.bz_attribute.specs.Lists.{has_lists, items_in, is_no_list, listed, with_more, is_item}
 use Rattle.bz_attribute.specs.Made.{mark, node, list_of, binds_looser, operand, plus}
 use Rattle.bz_value.specs.declared.refusal.Refusal.TheVariants.{NotAList}
 use Rattle.bz_list.proofs.LawAdding.{grown, strings_for}
 use Rattle.bz_list.proofs.LawItems.{list_items, items_list, each_plain, added_words}
 
--- ---- the items of a value by its kind
-
--- the items of the lists among some expressions
-abbrev items_among : List Expr → List Expr
-items_among xs = flat_map items_of (filter (has_kind k.List) xs)
-
-list_first : (x : Expr) (xs : List Expr) → has_kind k.List x ≡ true → items_among (x ∷ xs) ≡ items_of x ++ items_among xs
-list_first x xs h = ap (flat_map items_of) (if_true (has_kind k.List x) (x ∷ filter (has_kind k.List) xs) (filter (has_kind k.List) xs) h)
-
-other_first : (x : Expr) (xs : List Expr) → has_kind k.List x ≡ false → items_among (x ∷ xs) ≡ items_among xs
-other_first x xs h = ap (flat_map items_of) (if_false (has_kind k.List x) (x ∷ filter (has_kind k.List) xs) (filter (has_kind k.List) xs) h)
-
-abbrev operands : Expr → List Expr
-operands x = if has_kind k.Sum x then filter (has_kind k.List) (parts_of x) else []
-
-items_of_list : (x : Expr) → has_kind k.List x ≡ true → items_in x ≡ items_of x
-items_of_list x h = ap (flat_map items_of) (if_true (has_kind k.List x) (x ∷ []) (operands x) h) ∙ append-nil (items_of x)
-
-lists_of_sum : (x : Expr) → has_kind k.List x ≡ false → has_kind k.Sum x ≡ true → lists_of x ≡ filter (has_kind k.List) (parts_of x)
-lists_of_sum x n h = if_false (has_kind k.List x) (x ∷ []) (operands x) n ∙ if_true (has_kind k.Sum x) (filter (has_kind k.List) (parts_of x)) [] h
-
-lists_of_other : (x : Expr) → has_kind k.List x ≡ false → has_kind k.Sum x ≡ false → lists_of x ≡ []
-lists_of_other x n h = if_false (has_kind k.List x) (x ∷ []) (operands x) n ∙ if_false (has_kind k.Sum x) (filter (has_kind k.List) (parts_of x)) [] h
-
--- a sum with other parts
-items_of_sum : (x : Expr) (ps : List Expr) → has_kind k.List x ≡ false → has_kind k.Sum x ≡ true → items_in (with_parts ps x) ≡ items_among ps
-items_of_sum x ps n h =
-    ap (flat_map items_of) (lists_of_sum (with_parts ps x) (parts_kind k.List ps x ∙ n) (parts_kind k.Sum ps x ∙ h))
-    ∙ ap items_among (parts_filled k.Sum ps x h)
-
-list_kind : (kind : Kind) → is_kind kind k.List ≡ true → is_kind kind k.Sum ≡ false
-list_kind k.List h = refl
-list_kind _ h = absurd (true≢false (sym h))
-
-no_sum : (x : Expr) → has_kind k.List x ≡ true → has_kind k.Sum x ≡ false
-no_sum (Token t) h = refl
-no_sum (Form' kind s parts s' items end split open_break comments) h = list_kind kind h
-
 -- ---- further items at the end of the first list
 
 abbrev longer : List Expr → Expr → Expr
 longer more = on_items k.List (λ items. items ++ more)
+
+any_longer : (test : Expr → Bool) (more : List Expr) (x : Expr) → has_kind k.List x ≡ true → list_any test (listed (longer more x)) ≡ (list_any test (listed x) || list_any test more)
+any_longer test more x w =
+    let y : Expr = with_items (items_of x ++ more) x in
+    ap (λ z. list_any test (listed z)) (items_changed k.List (λ items. items ++ more) x w)
+    ∙ (ap (list_any test) (if_true (has_kind k.List y) (items_of y) [] (items_kind k.List (items_of x ++ more) x ∙ w) ∙ items_filled k.List (items_of x ++ more) x w)
+    ∙ (list_any-append test (items_of x) more ∙ ap (λ xs. list_any test xs || list_any test more) (sym (if_true (has_kind k.List x) (items_of x) [] w))))
 
 or_moved : (a b d : Bool) → ((a || d) || b) ≡ ((a || b) || d)
 or_moved true b d = refl
@@ -78,88 +45,50 @@ or_moved false true false = refl
 or_moved false false true = refl
 or_moved false false false = refl
 
-any_moved : (test : Expr → Bool) (xs more rest : List Expr) → list_any test ((xs ++ more) ++ rest) ≡ (list_any test (xs ++ rest) || list_any test more)
-any_moved test xs more rest =
-    list_any-append test (xs ++ more) rest
-    ∙ (ap (λ b. b || list_any test rest) (list_any-append test xs more)
-    ∙ (or_moved (list_any test xs) (list_any test rest) (list_any test more)
-    ∙ ap (λ b. b || list_any test more) (sym (list_any-append test xs rest))))
-
-any_longer : (test : Expr → Bool) (more xs : List Expr) → is_empty (filter (has_kind k.List) xs) ≡ false
-    → list_any test (items_among (on_first_that (has_kind k.List) (longer more) xs)) ≡ (list_any test (items_among xs) || list_any test more)
-any_longer test more [] h = absurd (true≢false h)
-any_longer test more (x ∷ xs) h = elim (cases_Bool (has_kind k.List x)) [
-  | inl w ↦
-      let y : Expr = with_items (items_of x ++ more) x in
-      let first : on_first_that (has_kind k.List) (longer more) (x ∷ xs) ≡ y ∷ xs =
-      if_true (has_kind k.List x) (longer more x ∷ xs) (x ∷ on_first_that (has_kind k.List) (longer more) xs) w ∙ ap (λ z. z ∷ xs) (items_changed k.List (λ items. items ++ more) x w) in
-      let items : items_among (y ∷ xs) ≡ (items_of x ++ more) ++ items_among xs =
-      list_first y xs (items_kind k.List (items_of x ++ more) x ∙ w) ∙ ap (λ zs. zs ++ items_among xs) (items_filled k.List (items_of x ++ more) x w) in
-      ap (λ zs. list_any test (items_among zs)) first
-      ∙ (ap (list_any test) items
-      ∙ (any_moved test (items_of x) more (items_among xs)
-      ∙ ap (λ zs. list_any test zs || list_any test more) (sym (list_first x xs w))))
-  | inr n ↦
-      let rest : List Expr = on_first_that (has_kind k.List) (longer more) xs in
-      let following : on_first_that (has_kind k.List) (longer more) (x ∷ xs) ≡ x ∷ rest = if_false (has_kind k.List x) (longer more x ∷ xs) (x ∷ rest) n in
-      let later : is_empty (filter (has_kind k.List) xs) ≡ false =
-      sym (ap (λ (zs : List Expr). is_empty zs) (if_false (has_kind k.List x) (x ∷ filter (has_kind k.List) xs) (filter (has_kind k.List) xs) n)) ∙ h in
-      ap (λ zs. list_any test (items_among zs)) following
-      ∙ (ap (list_any test) (other_first x rest n)
-      ∙ (any_longer test more xs later
-      ∙ ap (λ zs. list_any test zs || list_any test more) (sym (other_first x xs n))))
+-- where the change of the first that passes brings one more answer, the answer of all is that or the one before
+any_grown : {X : Type 0} (first within : X → Bool) (change : X → X) (more : Bool) → ((x : X) → first x ≡ true → within (change x) ≡ (within x || more)) → (xs : List X) → list_any first xs ≡ true
+    → list_any within (on_first_that first change xs) ≡ (list_any within xs || more)
+any_grown first within change more grows [] h = absurd (true≢false (sym h))
+any_grown first within change more grows (x ∷ xs) h = elim (cases_Bool (first x)) [
+  | inl w ↦ rw w (rw (grows x w) (or_moved (within x) (list_any within xs) more))
+  | inr n ↦ rw n (rw (any_grown first within change more grows xs (rw n at h)) (sym (or_assoc (within x) (list_any within xs) more)))
 ]
-
-not_false : (b : Bool) → not b ≡ true → b ≡ false
-not_false true h = absurd (true≢false (sym h))
-not_false false h = refl
-
-not_true : (b : Bool) → not b ≡ false → b ≡ true
-not_true true h = refl
-not_true false h = absurd (true≢false h)
 
 any_more : (test : Expr → Bool) (more : List Expr) (value : Expr) → has_lists value ≡ true → list_any test (items_in (with_more more value)) ≡ (list_any test (items_in value) || list_any test more)
 any_more test more value l =
     let change : List Expr → List Expr = on_first_that (has_kind k.List) (longer more) in
-    let summed : Expr = on_row k.Sum change value in
-    elim (cases_Bool (has_kind k.List value)) [
+    let any : Bool = list_any (has_kind k.List) (parts_of value) in
+    let within : Expr → Bool = λ x. list_any test (listed x) in
+    elim (cases_Bool (has_kind k.Sum value)) [
       | inl w ↦
-          let y : Expr = with_items (items_of value ++ more) value in
-          let grown_list : with_more more value ≡ y = if_false (has_kind k.Sum value) summed (longer more value) (no_sum value w) ∙ items_changed k.List (λ items. items ++ more) value w in
-          let items : items_in y ≡ items_of value ++ more = items_of_list y (items_kind k.List (items_of value ++ more) value ∙ w) ∙ items_filled k.List (items_of value ++ more) value w in
-          ap (λ z. list_any test (items_in z)) grown_list
-          ∙ (ap (list_any test) items
-          ∙ (list_any-append test (items_of value) more
-          ∙ ap (λ zs. list_any test zs || list_any test more) (sym (items_of_list value w))))
-      | inr n ↦ elim (cases_Bool (has_kind k.Sum value)) [
-        | inl w ↦
-            let grown_sum : with_more more value ≡ with_parts (change (parts_of value)) value = if_true (has_kind k.Sum value) summed (longer more value) w ∙ row_changed k.Sum change value w in
-            let some : is_empty (filter (has_kind k.List) (parts_of value)) ≡ false = sym (ap (λ (zs : List Expr). is_empty zs) (lists_of_sum value n w)) ∙ not_false (is_empty (lists_of value)) l in
-            ap (λ z. list_any test (items_in z)) grown_sum
-            ∙ (ap (list_any test) (items_of_sum value (change (parts_of value)) n w)
-            ∙ (any_longer test more (parts_of value) some
-            ∙ ap (λ zs. list_any test (flat_map items_of zs) || list_any test more) (sym (lists_of_sum value n w))))
-        | inr m ↦ absurd (true≢false (sym l ∙ ap (λ (zs : List Expr). not (is_empty zs)) (lists_of_other value n m)))
-      ]
+          let y : Expr = with_parts (change (parts_of value)) value in
+          let some : any ≡ true = sym (both (λ a b. a || (b && any)) (sum_no_list value w) w) ∙ (sym (lists_there value) ∙ l) in
+          ap (λ z. list_any test (items_in z)) (if_true (has_kind k.Sum value) (on_row k.Sum change value) (longer more value) w ∙ row_changed k.Sum change value w)
+          ∙ (any_in_sum test y (parts_kind k.Sum (change (parts_of value)) value ∙ w)
+          ∙ (ap (list_any within) (parts_filled k.Sum (change (parts_of value)) value w)
+          ∙ (any_grown (has_kind k.List) within (longer more) (list_any test more) (any_longer test more) (parts_of value) some
+          ∙ ap (λ b. b || list_any test more) (sym (any_in_sum test value w)))))
+      | inr n ↦
+          let list : has_kind k.List value ≡ true = sym (or-false (has_kind k.List value)) ∙ (sym (ap (λ b. has_kind k.List value || (b && any)) n) ∙ (sym (lists_there value) ∙ l)) in
+          let alone : has_kind k.Sum (longer more value) ≡ false =
+          ap (has_kind k.Sum) (items_changed k.List (λ items. items ++ more) value list) ∙ (items_kind k.Sum (items_of value ++ more) value ∙ n) in
+          ap (λ z. list_any test (items_in z)) (if_false (has_kind k.Sum value) (on_row k.Sum change value) (longer more value) n)
+          ∙ (any_alone test (longer more value) alone ∙ (any_longer test more value list ∙ ap (λ b. b || list_any test more) (sym (any_alone test value n))))
     ]
 
 -- ---- a list after a value that has none
 
-no_list : (value : Expr) → has_lists value ≡ false → has_kind k.List value ≡ false
-no_list value h = elim (cases_Bool (has_kind k.List value)) [
-  | inl w ↦ absurd (true≢false (sym (ap (λ (zs : List Expr). not (is_empty zs)) (if_true (has_kind k.List value) (value ∷ []) (operands value) w)) ∙ h))
-  | inr n ↦ n
-]
-
-nothing : (xs : List Expr) → is_empty xs ≡ true → xs ≡ []
-nothing [] h = refl
-nothing (x ∷ xs) h = absurd (true≢false (sym h))
+none_listed : (xs : List Expr) → list_any (has_kind k.List) xs ≡ false → flat_map listed xs ≡ []
+none_listed [] h = refl
+none_listed (x ∷ xs) h =
+    let p = or_parts (has_kind k.List x) (list_any (has_kind k.List) xs) h in
+    both (λ ys zs. ys ++ zs) (if_false (has_kind k.List x) (items_of x) [] p.0) (none_listed xs p.1)
 
 -- a sign and a list
 abbrev following : List Expr → List Expr
 following items = mark (codes "+") ∷ list_of items ∷ []
 
-items_after : (items : List Expr) → items_among (following items) ≡ items
+items_after : (items : List Expr) → flat_map listed (following items) ≡ items
 items_after items = append-nil (items_of (list_of items)) ∙ list_items items
 
 no_operand : (value : Expr) → has_kind k.List value ≡ false → has_kind k.List (operand value) ≡ false
@@ -167,17 +96,22 @@ no_operand value n = by_case (λ (x : Expr). has_kind k.List x ≡ false) (binds
 
 items_plus : (value : Expr) (items : List Expr) → has_lists value ≡ false → items_in (plus value (list_of items)) ≡ items
 items_plus value items h =
-    let n : has_kind k.List value ≡ false = no_list value h in
+    let any : Bool = list_any (has_kind k.List) (parts_of value) in
+    let none = or_parts (has_kind k.List value) (has_kind k.Sum value && any) (sym (lists_there value) ∙ h) in
     let more : List Expr → List Expr = λ parts. parts ++ following items in
     let ps : List Expr = operand value ∷ following items in
     by_case (λ (x : Expr). items_in x ≡ items) (has_kind k.Sum value) (on_row k.Sum more value) (node k.Sum ps)
     (λ w.
-    let none : filter (has_kind k.List) (parts_of value) ≡ [] = nothing (filter (has_kind k.List) (parts_of value)) (sym (ap (λ (zs : List Expr). is_empty zs) (lists_of_sum value n w)) ∙ not_true (is_empty (lists_of value)) h) in
+    let y : Expr = with_parts (more (parts_of value)) value in
+    let no : any ≡ false = sym (ap (λ b. b && any) w) ∙ none.1 in
     ap items_in (row_changed k.Sum more value w)
-    ∙ (items_of_sum value (more (parts_of value)) n w
-    ∙ (ap (flat_map items_of) (filter-append (has_kind k.List) (parts_of value) (following items) ∙ ap (λ zs. zs ++ filter (has_kind k.List) (following items)) none)
-    ∙ items_after items)))
-    (λ m. ap items_among (node_parts k.Sum ps) ∙ (other_first (operand value) (following items) (no_operand value n) ∙ items_after items))
+    ∙ (sym (in_sum y (parts_kind k.Sum (more (parts_of value)) value ∙ w))
+    ∙ (ap (flat_map listed) (parts_filled k.Sum (more (parts_of value)) value w)
+    ∙ (flat_map-append listed (parts_of value) (following items) ∙ both (λ xs ys. xs ++ ys) (none_listed (parts_of value) no) (items_after items)))))
+    (λ m.
+    sym (in_sum (node k.Sum ps) refl)
+    ∙ (ap (flat_map listed) (node_parts k.Sum ps)
+    ∙ both (λ xs ys. xs ++ ys) (if_false (has_kind k.List (operand value)) (items_of (operand value)) [] (no_operand value none.0)) (items_after items)))
 
 -- ---- what was added
 

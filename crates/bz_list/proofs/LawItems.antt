@@ -9,6 +9,7 @@ use Rattle.bz_command_syntax.specs.Quoted.{is_escaped}
 use Rattle.bz_rule.specs.Values.{items_of}
 use Rattle.bz_rule.proofs.ProperChanges.{by_test}
 use Rattle.bz_attribute.proofs.FormsAgain.{if_true, if_false}
+use Rattle.bz_attribute.proofs.KeySets.{any_on}
 use Rattle.bz_attribute.proofs.PlainWords.{IsPlain}
 use Rattle.bz_list.specs.Laws.{become_plain}
 use Rattle.bz_attribute.specs.Lists.{items_in, are_one, is_item, fresh}
@@ -43,13 +44,6 @@ fresh_all P current name items earlier (word ∷ words) a =
 -- the word is one of these items
 abbrev pub IsThere : Bytes → Bytes → List Expr → Bytes → Type 0
 IsThere current name all word = list_any (is_item current name word) all ≡ true
-
-any_on : (test other : Expr → Bool) → ((x : Expr) → test x ≡ true → other x ≡ true) → (xs : List Expr) → list_any test xs ≡ true → list_any other xs ≡ true
-any_on test other f [] h = h
-any_on test other f (x ∷ xs) h = elim (or_cases (test x) (list_any test xs) h) [
-  | inl t ↦ or_left (other x) (list_any other xs) (f x t)
-  | inr t ↦ or_right (other x) (list_any other xs) (any_on test other f xs t)
-]
 
 -- where the strings of some words are, the words are
 strings_there : (current name : Bytes) (all : List Expr) (words : List Bytes) → AllByRecursion IsPlain words

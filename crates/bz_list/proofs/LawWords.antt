@@ -1,13 +1,11 @@
 -- A word put into an attribute and what it means there: its string means the same, and meaning the same carries on.
-use Rattle.std.proofs.Common.{◌≡◌, Bool, true, false, ◌&&◌, ◌||◌, [], ◌∷◌, ◌++◌, Option, Some, None, inl, inr, refl, sym, ap, ◌∙◌, subst, codes, true≢false}
-use Rattle.std.specs.Prelude.{if◌then◌else◌, bytes_eq}
+use Rattle.std.proofs.Common.{◌≡◌, Bool, true, false, [], ◌∷◌, ◌++◌, Option, Some, None, refl, ap, ◌∙◌, codes}
+use Rattle.std.specs.Prelude.{◌||◌, if◌then◌else◌, bytes_eq}
 use Rattle.std.specs.List.{list_any}
 use Rattle.std.specs.Option.{option_map_or}
-use Rattle.std.proofs.lemmas.Bool.{and_parts, and_from, or_parts, or_cases, or_right}
-use Rattle.std.proofs.lemmas.Slice.Eq.{bytes_eq-Decides}
-use Rattle.bz_label.specs.declared.label.Label.{Label}
+use Rattle.std.proofs.lemmas.Bool.{or_parts}
 use Rattle.bz_label.specs.Pieces.{is_colon}
-use Rattle.bz_label.specs.Read.{are_equal, label_in, is_same, is_own, shortened}
+use Rattle.bz_label.specs.Read.{is_same, is_own, shortened}
 use Rattle.bz_label.specs.Shorter.{before_colon, after_colon, is_repeated, unrepeated}
 use Rattle.bz_label.specs.Tables.{is_label_attribute}
 use Rattle.bz_label.proofs.LabelFunctions.{same_exactly, is_shortened}
@@ -20,6 +18,7 @@ use Rattle.bz_attribute.specs.Made.{shortened_in, string_of}
 use Rattle.bz_rule.proofs.ProperChanges.{by_test}
 use Rattle.bz_attribute.proofs.PlainWords.{IsPlain, equal_self, body_quoted}
 use Rattle.bz_attribute.proofs.FormsAgain.{both}
+use Rattle.bz_list.proofs.KnownSteps.{meant_alike}
 
 -- ---- a shorter label of a plain word
 
@@ -59,41 +58,10 @@ word_is_item current attribute word h =
     ap (λ (found : Option Bytes). option_map_or (are_one current attribute word) found false) (body_quoted short (word_plain current attribute word h))
     ∙ shorter_is_one (is_label_attribute attribute) current word
 
-equal_on : (one two three : Bytes) → bytes_eq one two ≡ true → bytes_eq two three ≡ true → bytes_eq one three ≡ true
-equal_on one two three h i = subst (λ z. bytes_eq one z ≡ true) ((bytes_eq-Decides two three).0 i) h
-
-labels_on : (one two three : Option Label) → are_equal one two ≡ true → are_equal two three ≡ true → are_equal one three ≡ true
-labels_on (Some one) (Some two) (Some three) h i =
-    let p = and_parts (bytes_eq one.repository two.repository && bytes_eq one.package two.package) (bytes_eq one.name two.name) h in
-    let p' = and_parts (bytes_eq one.repository two.repository) (bytes_eq one.package two.package) p.0 in
-    let q = and_parts (bytes_eq two.repository three.repository && bytes_eq two.package three.package) (bytes_eq two.name three.name) i in
-    let q' = and_parts (bytes_eq two.repository three.repository) (bytes_eq two.package three.package) q.0 in
-    and_from (bytes_eq one.repository three.repository && bytes_eq one.package three.package) (bytes_eq one.name three.name)
-    (and_from (bytes_eq one.repository three.repository) (bytes_eq one.package three.package)
-    (equal_on one.repository two.repository three.repository p'.0 q'.0) (equal_on one.package two.package three.package p'.1 q'.1))
-    (equal_on one.name two.name three.name p.1 q.1)
-labels_on None two three h i = absurd (true≢false (sym h))
-labels_on (Some one) None three h i = absurd (true≢false (sym h))
-labels_on (Some one) (Some two) None h i = absurd (true≢false (sym i))
-
-same_on : (current one two three : Bytes) → is_same current one two ≡ true → is_same current two three ≡ true → is_same current one three ≡ true
-same_on current one two three h i = elim (or_cases (bytes_eq one two) (are_equal (label_in current one) (label_in current two)) h) [
-  | inl e ↦ subst (λ z. is_same current z three ≡ true) (sym ((bytes_eq-Decides one two).0 e)) i
-  | inr l ↦ elim (or_cases (bytes_eq two three) (are_equal (label_in current two) (label_in current three)) i) [
-    | inl e ↦ subst (λ z. is_same current one z ≡ true) ((bytes_eq-Decides two three).0 e) h
-    | inr m ↦ or_right (bytes_eq one three) (are_equal (label_in current one) (label_in current three)) (labels_on (label_in current one) (label_in current two) (label_in current three) l m)
-  ]
-]
-
-one_on : (label : Bool) (current one two three : Bytes) → (if label then is_same current one two else bytes_eq one two) ≡ true → (if label then is_same current two three else bytes_eq two three) ≡ true
-    → (if label then is_same current one three else bytes_eq one three) ≡ true
-one_on true current one two three h i = same_on current one two three h i
-one_on false current one two three h i = equal_on one two three h i
-
 body_on : (current attribute word other : Bytes) → are_one current attribute word other ≡ true → (found : Option Bytes) → option_map_or (are_one current attribute other) found false ≡ true
     → option_map_or (are_one current attribute word) found false ≡ true
 body_on current attribute word other h None i = i
-body_on current attribute word other h (Some text) i = one_on (is_label_attribute attribute) current word other text h i
+body_on current attribute word other h (Some text) i = meant_alike (is_label_attribute attribute) current word other text h ∙ i
 
 -- what a word that means the same as another means is what the other means
 pub item_on : (current attribute word other : Bytes) → are_one current attribute word other ≡ true → (x : Expr) → is_item current attribute other x ≡ true → is_item current attribute word x ≡ true

@@ -15,6 +15,7 @@ use Rattle.bz_attribute.specs.Attributes.{Arguments, by_value}
 use Rattle.bz_list.specs.Changes.{cleared, without_items, is_moved, items_moved, with_items_added, move}
 use Rattle.bz_list.specs.private.Adding.{added_by}
 use Rattle.bz_list.specs.private.Listing.{without_chosen, chosen_in}
+use Rattle.bz_attribute.proofs.FormsAgain.{if_true, if_false}
 use Rattle.bz_attribute.proofs.ListsThere.{some_filtered}
 
 module _ (current from to : Bytes) (values : Values) (arguments : List Expr) where
@@ -28,14 +29,6 @@ module _ (current from to : Bytes) (values : Values) (arguments : List Expr) whe
       if not (has_lists value) then Err NotAList
       else (if list_any test (items_in value) then items_moved current from to (filter test (items_in value)) (without_items from test value arguments) else Ok arguments))
 
-  second : (b : Bool) (x y : Arguments) → b ≡ true → (if not b then x else y) ≡ y
-  second true x y h = refl
-  second false x y h = absurd (true≢false (sym h))
-
-  any_by : (b : Bool) (x y : Arguments) → b ≡ true → (if b then x else y) ≡ x
-  any_by true x y h = refl
-  any_by false x y h = absurd (true≢false (sym h))
-
   none_by : (b : Bool) (x : Arguments) (value : Expr) → b ≡ false
       → (if b then x else Ok arguments) ≡ Ok (if b then cleared from (on_lists (filter (λ y. not (test y))) value) arguments else arguments)
   none_by true x value h = absurd (true≢false h)
@@ -46,7 +39,7 @@ module _ (current from to : Bytes) (values : Values) (arguments : List Expr) whe
 
   from_there : (value : Expr) → attribute from arguments ≡ Some value → has_lists value ≡ true
       → move current from to values arguments ≡ (if list_any test (items_in value) then items_moved current from to (filter test (items_in value)) (without_items from test value arguments) else Ok arguments)
-  from_there value own lists = ap from_value own ∙ second (has_lists value) (Err NotAList) _ lists
+  from_there value own lists = ap from_value own ∙ if_false (not (has_lists value)) (Err NotAList) _ (ap not lists)
 
   pub nothing_moved : (value : Expr) (taken left : List Expr) → attribute from arguments ≡ Some value → has_lists value ≡ true
       → taken ≡ chosen_in test (attribute from arguments) → left ≡ without_chosen from test (attribute from arguments) arguments → taken ≡ []
@@ -63,6 +56,6 @@ module _ (current from to : Bytes) (values : Values) (arguments : List Expr) whe
   something_moved value taken left own lists took is some =
       let took' : taken ≡ filter test (items_in value) = took ∙ ap (chosen_in test) own in
       from_there value own lists
-      ∙ (any_by (list_any test (items_in value)) _ _ (any_taken value taken took' ∙ ap not some)
+      ∙ (if_true (list_any test (items_in value)) _ _ (any_taken value taken took' ∙ ap not some)
       ∙ (ap (λ xs. items_moved current from to xs (without_items from test value arguments)) (sym took')
       ∙ ap (λ xs. items_moved current from to taken xs) (sym (is ∙ ap (λ found. without_chosen from test found arguments) own))))

@@ -69,7 +69,7 @@ in_attributes_keeps t.All change stays xs h =
     (value_stays (in_value (change (first_text (parts_of x)))) (changed_value (change (first_text (parts_of x))) (stays (first_text (parts_of x)))) x i) i)
     xs h
 in_attributes_keeps (t.Named name) change stays xs h =
-    first_that_kept (is_attribute name) (on_value (in_value (change name))) (value_stays (in_value (change name)) (changed_value (change name) (stays name))) xs h
+    first_that_kept (IsItem s.argument) (is_attribute name) (on_value (in_value (change name))) (value_stays (in_value (change name)) (changed_value (change name) (stays name))) xs h
 
 pub replace_keeps : (current : Bytes) (attributes : Attributes) (old new : Bytes) → IsUtf8 new → Keeps (replace current attributes old new)
 replace_keeps current attributes old new u =

@@ -2,21 +2,22 @@
 //! needed is handed to `drop`: dropped by the end of its scope, each form of it would be a path of that function's proof.
 ghost use Rattle.std.specs.Prelude.{◌≡◌, ◌⊎◌, ◌++◌, ◌∷◌, [], List, ℕ, Ok, Err, IfOk, OnOk, IfErr, map};
 ghost use Rattle.std.specs.List.{list_any, position};
+ghost use Rattle.std.specs.Option.{option_map_or};
 ghost use Rattle.bz_grammar.specs.declared.kind.Kind.TheVariants as kinds;
 ghost use Rattle.bz_value.specs.declared.value.Expr.{Expr as Value};
 ghost use Rattle.bz_items.specs.Characters.{Bytes};
-ghost use Rattle.bz_rule.specs.Values.{has_kind as is_of, on_items};
+ghost use Rattle.bz_rule.specs.Values.{has_kind as is_of, on_items, with_text};
 ghost use Rattle.bz_attribute.specs.Attributes.{on_first_that};
 ghost use Rattle.bz_attribute.specs.Lists.{fresh, is_item as is_item_of, items_in, listed, travelled as as_travelled, with_more};
 ghost use Rattle.bz_attribute.specs.Made.{list_of as list_made, plus as sum_made, string_of as string_made};
 ghost use Rattle.bz_list.specs.Changes.{with_items_added};
 ghost use Rattle.bz_list.specs.private.KnownValues.{Membership, membership, new_words, new_items as items_new};
-ghost use Rattle.bz_list.specs.private.Adding.{added_by, added_to, shorter, with_added};
+ghost use Rattle.bz_list.specs.private.Adding.{added_by, added_to, with_added};
 
 use crate::known::Known;
 use bz_attribute::{
-    Slot, add_attribute, append, append_to, body_of, has_kind, has_lists, is_item, is_no_list,
-    items_of, list_of, operands_of, plus, set_text, set_value, string_of, take_value,
+    Slot, add_attribute, append_to, body_of, has_kind, has_lists, is_item, is_no_list, items_of,
+    list_of, operands_of, plus, set_text, set_value, string_of, take_value,
 };
 use bz_command_syntax::quoted;
 use bz_grammar::Kind;
@@ -64,7 +65,7 @@ fn new_strings(slot: Slot<'_>, words: &[Text], mut known: Known) -> Result<Vec<E
 
 /// The shorter text of an item that comes to a label attribute, where it has one.
 fn shorter_text(slot: Slot<'_>, x: &Expr) -> Result<Option<Text>, Memory>
-    ensures { IfOk result (λ text. text ≡ shorter slot.entry.current.now slot.entry.attribute.now x.now) }
+    ensures { IfOk result (λ text. option_map_or (λ new. with_text new x.now) text x.now ≡ as_travelled slot.entry.current.now slot.entry.attribute.now x.now) }
 {
     let Some(text) = body_of(x) else {
         return Ok(None);
@@ -80,7 +81,6 @@ fn shorter_text(slot: Slot<'_>, x: &Expr) -> Result<Option<Text>, Memory>
 }
 
 /// An item as it comes to another attribute.
-#[tactic(auto, using(crate::proofs::AddedItems::travelled_by))]
 fn travelled(slot: Slot<'_>, mut x: Expr) -> Result<Expr, Memory>
     ensures { IfOk result (λ there. there ≡ as_travelled slot.entry.current.now slot.entry.attribute.now x) }
 {
@@ -184,6 +184,7 @@ fn one_beside(slot: Slot<'_>, word: &[u8], value: &Expr) -> Result<Vec<Expr>, Me
 }
 
 /// The items that are added to those of a value, of which a set is made.
+#[tactic(auto, using(crate::proofs::AddedItems::added_there))]
 fn more_beside(slot: Slot<'_>, added: Added<'_>, value: &Expr) -> Result<Vec<Expr>, Memory>
     ensures { IfOk result (λ items. items.items ≡ added_by slot.entry.current.now slot.entry.attribute.now added.entry (items_in value.now)) }
 {
@@ -204,6 +205,7 @@ fn added_beside(slot: Slot<'_>, added: Added<'_>, value: &Expr) -> Result<Vec<Ex
 }
 
 /// A list of the items that are added where there are none.
+#[tactic(auto, using(crate::proofs::AddedItems::added_none))]
 fn added_alone(slot: Slot<'_>, added: Added<'_>) -> Result<Expr, Memory>
     ensures { IfOk result (λ list. list ≡ list_made (added_by slot.entry.current.now slot.entry.attribute.now added.entry [])) }
 {
@@ -235,15 +237,8 @@ fn append_to_value(more: &mut Vec<Expr>, value: &mut Expr) -> Result<(), Memory>
     ensures { OnOk result (value.new ≡ with_more more.old.items value.old) }
 {
     match value {
-        Expr::Token(_) => Ok(()),
-        Expr::Form(form) => {
-            if form.kind == Kind::Sum {
-                append_to_first(more, &mut form.parts)?;
-            } else if form.kind == Kind::List {
-                append(more, &mut form.seq.items)?;
-            }
-            Ok(())
-        }
+        Expr::Form(form) if form.kind == Kind::Sum => append_to_first(more, &mut form.parts),
+        _ => append_to(Kind::List, more, value),
     }
 }
 

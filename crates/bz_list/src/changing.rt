@@ -38,7 +38,6 @@ fn change_in_place(
             old,
             new,
         } => {
-            let (old, new) = (old.as_slice(), new.as_slice());
             let change = Change::Replace { old, new };
             Ok(change.on_attributes(alloc, current, attributes, arguments)?)
         }
@@ -47,7 +46,6 @@ fn change_in_place(
             pattern,
             template,
         } => {
-            let template = template.as_slice();
             let change = Change::Substitute { pattern, template };
             Ok(change.on_attributes(alloc, current, attributes, arguments)?)
         }

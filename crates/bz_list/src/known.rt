@@ -13,7 +13,7 @@ ghost use Rattle.bz_attribute.specs.Lists.{items_in, is_some_item, listed};
 ghost use Rattle.bz_list.specs.Changes.{is_moved};
 ghost use Rattle.bz_list.specs.private.KnownKeys.{label_of_key, labels_of};
 ghost use Rattle.bz_list.specs.private.KnownValues.{label_meant, membership, none_known, with_word, with_words, is_known_item, with_item, with_known_items};
-ghost use Rattle.bz_list.specs.private.Listing.{chooses, with_lists};
+ghost use Rattle.bz_list.specs.private.Listing.{chooses};
 
 use bz_attribute::{Slot, body_of, has_kind, has_text, insert_text, items_of, operands_of};
 use bz_command_syntax::Values;
@@ -172,8 +172,9 @@ impl Known {
     }
 
     /// The items of the lists among these expressions.
+    #[tactic(auto, using(crate::proofs::KnownSteps::lists_next))]
     fn insert_lists(&mut self, operands: &[Expr]) -> Result<(), Memory>
-        ensures { OnOk result (membership self.new ≡ with_lists operands.now (membership self.old)) }
+        ensures { OnOk result (membership self.new ≡ with_known_items (flat_map listed operands.now) (membership self.old)) }
     {
         for x in operands {
             self.insert_list(x)?;

@@ -2,16 +2,19 @@
 ghost use Rattle.bz_list.specs.Laws.{AddedAgain, AddedIsThere, RemovedAgain};
 
 /// Adding what is there changes nothing.
+#[tactic(auto, using(crate::proofs::LawAdding::adding_again))]
 pub fn adding_again()
     ensures { AddedAgain }
 {}
 
 /// What was added is an item of the attribute's lists afterwards.
+#[tactic(auto, using(crate::proofs::LawAdded::added_is_there))]
 pub fn added_is_there()
     ensures { AddedIsThere }
 {}
 
 /// Removing what was added to an absent attribute gives the arguments before.
+#[tactic(auto, using(crate::proofs::LawRemoving::removing_again))]
 pub fn removing_again()
     ensures { RemovedAgain }
 {}

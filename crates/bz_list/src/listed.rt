@@ -69,13 +69,10 @@ fn take_from_list(chosen: &Chosen, x: &mut Expr, taken: &mut Vec<Expr>) -> Resul
     ensures taken { OnOk result (taken.new.items ≡ taken.old.items ++ filter (chooses chosen.now) (listed x.old)) }
 {
     match x {
-        Expr::Token(_) => Ok(()),
-        Expr::Form(form) => {
-            if form.kind == Kind::List {
-                take_chosen(chosen, &mut form.seq.items, taken)?;
-            }
-            Ok(())
+        Expr::Form(form) if form.kind == Kind::List => {
+            take_chosen(chosen, &mut form.seq.items, taken)
         }
+        _ => Ok(()),
     }
 }
 

@@ -22,32 +22,31 @@ use std::alloc::Global;
 pub(crate) enum Change<'a> {
     /// A value becomes another one.
     Replace {
-        old: &'a [u8],
-        new: &'a [u8],
+        old: &'a Text,
+        new: &'a Text,
     },
     /// In the body each match of the pattern is replaced by the template.
     Substitute {
         pattern: &'a Pattern,
-        template: &'a [u8],
+        template: &'a Text,
     },
 }
 
 /// The text that an item gets where it is the old value; `None` where it stays.
-fn text_replaced(slot: Slot<'_>, old: &[u8], new: &[u8], x: &Expr) -> Result<Option<Text>, Memory>
+fn text_replaced(slot: Slot<'_>, old: &Text, new: &Text, x: &Expr) -> Result<Option<Text>, Memory>
     ensures { IfOk result (λ text. option_map_or (λ new. with_text new x.now) text x.now ≡ replaced_item slot.entry.current.now slot.entry.attribute.now old.now new.now x.now) }
 {
-    if !is_item(slot.current, slot.attribute, old, x) {
+    if !is_item(slot.current, slot.attribute, old.as_slice(), x) {
         return Ok(None);
     }
-    let text = string_text(slot, new)?;
-    Ok(Some(text))
+    Ok(Some(string_text(slot, new.as_slice())?))
 }
 
 /// The text that an item gets where its body is changed; `None` where it is no plain string or its body stays.
 fn text_substituted(
     slot: Slot<'_>,
     pattern: &Pattern,
-    template: &[u8],
+    template: &Text,
     x: &Expr,
 ) -> Result<Option<Text>, Memory>
     ensures { IfOk result (λ text. option_map_or (λ new. with_text new x.now) text x.now ≡ substituted_item slot.entry.current.now slot.entry.attribute.now pattern.now template.now x.now) }
@@ -55,7 +54,7 @@ fn text_substituted(
     let Some(body) = body_of(x) else {
         return Ok(None);
     };
-    let new = pattern.substituted(slot.alloc, template, body)?;
+    let new = pattern.substituted(slot.alloc, template.as_slice(), body)?;
     if new.as_slice() == body {
         return Ok(None);
     }

@@ -1,16 +1,12 @@
 -- What is added to an attribute, in the steps in which it is.
-use Rattle.std.specs.Prelude.{not, ◌&&◌, List, [], Option, Some, None, Result, Ok, Err, map, if◌then◌else◌, bytes_eq}
-use Rattle.std.specs.Option.{option_and_then}
-use Rattle.bz_label.specs.Tables.{is_label_attribute}
-use Rattle.bz_label.specs.Read.{shortened}
+use Rattle.std.specs.Prelude.{List, [], Result, Ok, Err, map, if◌then◌else◌}
 use Rattle.bz_value.specs.declared.value.Expr.{Expr}
 use Rattle.bz_items.specs.Characters.{Bytes}
-use Rattle.bz_command_syntax.specs.Quoted.{quoted_of}
 use Rattle.bz_list.specs.declared.adding.Added.{Added}
 use Rattle.bz_list.specs.declared.adding.Added.TheVariants as a
 use Rattle.bz_value.specs.declared.refusal.Refusal.{Refusal}
 use Rattle.bz_value.specs.declared.refusal.Refusal.TheVariants.{NotAList}
-use Rattle.bz_attribute.specs.Lists.{body_of, fresh, arriving, has_lists, items_in, is_no_list, with_more}
+use Rattle.bz_attribute.specs.Lists.{fresh, arriving, has_lists, items_in, is_no_list, with_more}
 use Rattle.bz_attribute.specs.Made.{list_of, plus, string_of}
 use Rattle.bz_list.specs.private.KnownValues.{Membership, new_words, new_items}
 
@@ -23,14 +19,6 @@ added_by current name (a.Moved items) there = arriving current name there items
 abbrev pub added_to : Bytes → Bytes → Added → Membership → List Expr
 added_to current name (a.Words words) known = map (string_of current name) (new_words known words.now)
 added_to current name (a.Moved items) known = new_items current name known items
-
--- the text that an item takes in a label attribute, where it becomes shorter
-abbrev pub shorter_in : Bytes → Bytes → Bytes → Option Bytes
-shorter_in current attribute text =
-    if is_label_attribute attribute && not (bytes_eq (shortened current text) text) then Some (quoted_of (shortened current text)) else None
-
-abbrev pub shorter : Bytes → Bytes → Expr → Option Bytes
-shorter current attribute x = option_and_then (shorter_in current attribute) (body_of x)
 
 -- a value with items added
 abbrev pub with_added : (List Expr → List Expr) → Expr → Result Expr Refusal

@@ -1,14 +1,14 @@
 -- What the commands on lists do, in the steps in which they do it.
-use Rattle.std.specs.Prelude.{Bool, true, not, List, [], ◌∷◌, Option, Some, None, if◌then◌else◌}
+use Rattle.std.specs.Prelude.{Bool, true, not, List, [], Option, Some, None, if◌then◌else◌}
 use Rattle.std.specs.List.{filter}
 use Rattle.bz_value.specs.declared.value.Expr.{Expr}
 use Rattle.bz_items.specs.Characters.{Bytes}
 use Rattle.bz_list.specs.declared.known.Chosen.{Chosen}
 use Rattle.bz_list.specs.declared.known.Chosen.TheVariants as h
 use Rattle.bz_attribute.specs.Attributes.{with_value}
-use Rattle.bz_attribute.specs.Lists.{items_in, listed}
+use Rattle.bz_attribute.specs.Lists.{items_in}
 use Rattle.bz_list.specs.Changes.{cleared, without_items}
-use Rattle.bz_list.specs.private.KnownValues.{Membership, membership, is_known_item, with_known_items}
+use Rattle.bz_list.specs.private.KnownValues.{membership, is_known_item}
 
 -- whether a command is meant for an item
 abbrev pub chooses : Chosen → Expr → Bool
@@ -17,11 +17,6 @@ chooses (h.These known) x = is_known_item (membership known) x
 
 abbrev pub is_left : Chosen → Expr → Bool
 is_left chosen x = not (chooses chosen x)
-
--- the items of the lists among some expressions are known too
-abbrev pub with_lists : List Expr → Membership → Membership
-with_lists [] known = known
-with_lists (x ∷ xs) known = with_lists xs (with_known_items (listed x) known)
 
 -- what is left of a value put back, where items were taken and where none was
 abbrev pub put_back : Bytes → Bool → Expr → List Expr → List Expr

@@ -1,7 +1,7 @@
 use Rattle.std.proofs.Common.{sym, ap, ◌∙◌}
 use Rattle.std.specs.List.{list_any}
 use Rattle.bz_attribute.specs.Lists.{is_item}
-use Rattle.bz_list.proofs.AddedItems.{any_listed}
+use Rattle.bz_attribute.proofs.ListsThere.{any_listed}
 use Rattle.bz_list.proofs.adding.is_in_value.Goals as goal
 
 pub returns : goal.returns

@@ -3,7 +3,7 @@ use Rattle.std.specs.Prelude.{Ok, OnOk}
 use Rattle.bz_items.specs.Characters.{Bytes}
 use Rattle.bz_command_syntax.specs.declared.command.ValueOperation.{ValueOperation}
 use Rattle.bz_attribute.specs.Attributes.{Arguments}
-use Rattle.bz_list.specs.Changes.{add, in_attributes, in_value, replaced_item, substituted_item, values_changed}
+use Rattle.bz_list.specs.Changes.{add, values_changed}
 use Rattle.bz_list.proofs.changing.change_in_place.Goals as goal
 
 pub returns-in-Add-clause-ok : goal.returns-in-Add-clause-ok
@@ -19,17 +19,8 @@ returns-in-Add-clause-ok c =
 
 pub returns-in_ok-on_attributes-in-Replace-clause-ok : goal.returns-in_ok-on_attributes-in-Replace-clause-ok
 returns-in_ok-on_attributes-in-Replace-clause-ok c =
-    let current = c.args.current.now in
-    let xs = c.args.arguments.now in
-    ap (λ (operation : ValueOperation). values_changed operation current xs) c.in-Replace.is
-    ∙ ap Ok (sym (c.in_ok-on_attributes-in-Replace.ensures
-    ∙ (ap (λ (old : Bytes). in_attributes c.in-Replace.attributes (λ name. in_value (replaced_item current name old c.as_slice-new.result.now)) xs) c.as_slice-old.ensures
-    ∙ ap (λ (new : Bytes). in_attributes c.in-Replace.attributes (λ name. in_value (replaced_item current name c.in-Replace.old new)) xs) c.as_slice-new.ensures)))
+    ap (λ (operation : ValueOperation). values_changed operation c.args.current.now c.args.arguments.now) c.in-Replace.is ∙ ap Ok (sym c.in_ok-on_attributes-in-Replace.ensures)
 
 pub returns-in_ok-on_attributes-in-Substitute-clause-ok : goal.returns-in_ok-on_attributes-in-Substitute-clause-ok
 returns-in_ok-on_attributes-in-Substitute-clause-ok c =
-    let current = c.args.current.now in
-    let xs = c.args.arguments.now in
-    ap (λ (operation : ValueOperation). values_changed operation current xs) c.in-Substitute.is
-    ∙ ap Ok (sym (c.in_ok-on_attributes-in-Substitute.ensures
-    ∙ ap (λ (template : Bytes). in_attributes c.in-Substitute.attributes (λ name. in_value (substituted_item current name c.in-Substitute.pattern template)) xs) c.as_slice-template.ensures))
+    ap (λ (operation : ValueOperation). values_changed operation c.args.current.now c.args.arguments.now) c.in-Substitute.is ∙ ap Ok (sym c.in_ok-on_attributes-in-Substitute.ensures)

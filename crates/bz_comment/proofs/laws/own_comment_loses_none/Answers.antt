@@ -1,5 +1,0 @@
-use Rattle.bz_comment.proofs.LawKeeping as keeping
-use Rattle.bz_comment.proofs.laws.own_comment_loses_none.Goals as goal
-
-pub returns : goal.returns
-returns c = keeping.own_comment_loses_none
