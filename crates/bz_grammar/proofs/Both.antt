@@ -76,11 +76,6 @@ tokens_of p (l ∷ ls) h = (token_stands l.class l.token ls p (from_may p l (spe
 
 -- ---- to the list
 
-text_token : (class : Class) (token : List ℕ) (ls : List Leaf) → TokenStands class token ls → TokenText class token (spell_leaves ls)
-text_token c.Newline token ls t = t
-text_token c.End token ls t = t.0
-text_token _ token ls t = t
-
 -- at the end of a text nothing is left to spell, after the end no leaf
 abbrev Left : Place → List Leaf → Type 0
 Left Last ls = spell_leaves ls ≡ []

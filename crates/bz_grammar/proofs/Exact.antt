@@ -52,9 +52,6 @@ pub record Exact (X : Type 0) (spell : X → List Leaf) (P : X → Type 0) (go :
 
 -- ---- parts with separators between them
 
-abbrev starts_after : List Terminal → List Terminal → List Leaf → Type 0
-starts_after go stop ts = starts_with go ts ≡ false
-
 module _ (P : Part → Type 0) (next : Read Part) (go_on begin : List Terminal) (exact : Exact Part leaves_part P go_on next) (begins : (p : Part) (rest : List Leaf) → P p → starts_with begin (leaves_part p ++ rest) ≡ true)
     (sep : List Terminal) (last : Bool) (stop : List Terminal) (K : List Part → Type 0) (readK : Read (List Part)) (goK : List Terminal) (exactK : Exact (List Part) all_leaves K goK readK)
     (quiet : (ps : List Part) (rest : List Leaf) → K ps → starts_with goK rest ≡ false → (starts_with go_on (all_leaves ps ++ rest) ≡ false) × (starts_with sep (all_leaves ps ++ rest) ≡ false))

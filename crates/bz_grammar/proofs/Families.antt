@@ -84,10 +84,6 @@ module _ (P : Nonterminal → Part → Type 0) where
   pub small_agrees : Each (Agrees small small_plan) small_plan
   small_agrees = ((refl, λ ps h. h), ((refl, λ ps h. h), ((refl, λ ps h. h), ((refl, λ ps h. h), (refl, λ ps h. h)))))
 
-  -- a node of these kinds is what its plan finds
-  pub finds_atom : (kind : Kind) (ps : List Part) → Fits P (bzl_shape kind) ps → (plan : Plan) → ((qs : List Part) → Fits P (bzl_shape kind) qs → Fits P (shape_in kind plan) qs) → Finds P plan kind ps
-  finds_atom kind ps h plan f = plan_of_shape P plan kind ps (f ps h)
-
   pub finds_list : (ps : List Part) → Fits P (bzl_shape k.List) ps → Finds P square k.List ps
   finds_list ps h = plan_of_shape P square k.List ps (unroll P test open_square close_square ps h)
 

@@ -1,5 +1,5 @@
 -- Parts of BUILD files, by their rows and by their lists.
-use Rattle.std.proofs.Common.{◌≡◌, ℕ, zero, suc, ◌<◌, ◌≤◌, Bool, false, IsTrue, ◌↔◌, List, [], ◌∷◌, ◌++◌, inl, inr, length, take, drop, get_or, refl, sym, subst, arith}
+use Rattle.std.proofs.Common.{◌≡◌, ℕ, zero, suc, ◌<◌, ◌≤◌, Bool, false, IsTrue, ◌↔◌, List, [], ◌∷◌, ◌++◌, inl, inr, take, drop, refl, sym, subst}
 use Rattle.std.proofs.lemmas.Bool.{cases_lt, both_ways}
 use Rattle.std.specs.List.{AllByRecursion}
 use Rattle.bz_grammar.specs.declared.kind.Kind.{Kind}
@@ -27,16 +27,6 @@ module _ (x : Part) (n : Node) (is : x ≡ v.Node n) where
 
   pub node_build : IsBuildPart x → AllBuild n.parts
   node_build h = let g : IsBuildPart (v.Node n) = rw is at h in subst AllBuild (items_of_row n) (row_build _ (row_of n).1 g.1)
-
-pub build_at : (ps : List Part) (i : ℕ) (d : Part) → i < length ps → AllBuild ps → IsBuildPart (get_or ps i d)
-build_at [] i d lt h = absurd (omega (arith, lt))
-build_at (p ∷ ps) zero d lt h = h.0
-build_at (p ∷ ps) (suc i) d lt h = build_at ps i d (omega (arith, lt)) h.1
-
-pub build_next : (ps : List Part) (i : ℕ) (d : Part) → i < length ps → AllBuild (take i ps) → IsBuildPart (get_or ps i d) → AllBuild (take (suc i) ps)
-build_next [] i d lt h g = tt
-build_next (p ∷ ps) zero d lt h g = (g, tt)
-build_next (p ∷ ps) (suc i) d lt h g = (h.0, build_next ps i d (omega (arith, lt)) h.1 g)
 
 -- ---- a stack of parts
 

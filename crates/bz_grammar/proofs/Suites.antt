@@ -306,9 +306,6 @@ good_suite : (d : ℕ) (i : List ℕ) (F : List Part → Type 0) (ps : List Part
 good_suite d i F ps (hs, x, is, h, g) o =
     let w = owned_parts i hs (x ∷ []) (subst (AllOwned i) is o) in (hs, x, is, h, (g, w.1.0))
 
-any_suite : (d : ℕ) (i : List ℕ) (F : List Part → Type 0) (ps : List Part) → And F (GoodSuite d i) ps → And F (At d suite) ps
-any_suite d i F ps (hs, x, is, h, g) = (hs, x, is, h, g.0)
-
 joined : (d : ℕ) (i : List ℕ) (r : Shape) (ps : List Part) → Ends r → And (Fits (At d) r) (GoodSuite d i) ps → Fits (At d) (then_sub suite r) ps
 joined d i r ps e (hs, x, is, h, g) = subst (Fits (At d) (then_sub suite r)) (sym is) (join_sub (At d) suite r hs x h g.0 e)
 
@@ -417,9 +414,6 @@ module _ (d : ℕ) (i : List ℕ) (suite_read : Read Part)
       (subst (NoDeeper i) (sym regroup) (at_indent i (all_leaves front ++ (all_leaves back ++ rest)) f.2), ap (branches_of n (run (reading d)) suite_read i) regroup ∙ (ap (λ (m : ℕ). branches_of m (run (reading d)) suite_read i (all_leaves front ++ (all_leaves back ++ rest))) n_is ∙ (all ∙ ap (λ (zs : List Part). Some (zs, rest)) (sym is))))
 
   -- ---- a statement, of which the suites are read so
-
-  stmt_leaf : (l : Leaf) → is_one_of (leaves_at stmt) l ≡ false
-  stmt_leaf l = refl
 
   header_statement : (kind : Kind) (r : Shape) → nonterminal_has_kind stmt kind ≡ true → nullable (bzl_shape kind) ≡ false → bzl_shape kind ≡ then_sub suite r → is_deterministic goes r ≡ true → go goes r ≡ [] → Ends r → plain i d r ≡ true
       → (ts : List Leaf) (y : Part × List Leaf) → first_indent ts ≡ i → wrap kind (with_suite (run (reading d) r) suite_read ts) ≡ Some y → GoodStatement (suc d) i y.0 × (ts ≡ leaves_part y.0 ++ y.1)

@@ -138,8 +138,6 @@ held_Node d n = (
 )
 
 module _ (d : ℕ) (nodes : Reader Node) (exact : IsExact Node node_body (IsHeldNode d) nodes) where
-  as_part : {X : Type 0} (make : X → Part) → X × List ℕ → Option (Part × List ℕ)
-  as_part make x = Some (make x.0, x.1)
 
   choice_sound : (s : List ℕ) (x : Part) (rest : List ℕ) → choice nodes s ≡ Some (x, rest) → IsHeld d x × (s ≡ part_text x ++ rest)
   unfolding choice

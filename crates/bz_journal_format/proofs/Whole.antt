@@ -73,9 +73,6 @@ note_exact Two =
 abbrev edit_of : List ℕ → ℕ → ℕ → List Part → Edit
 edit_of path at count held = record { path = path; at = at; count = count; held = held }
 
-abbrev path_body : Edit → List ℕ
-path_body e = spaced_number (length e.path) ++ flat_map spaced_number e.path
-
 abbrev held_body : Edit → List ℕ
 held_body e = last_number (length e.held) ++ flat_map part_text e.held
 

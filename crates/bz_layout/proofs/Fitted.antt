@@ -191,10 +191,6 @@ module _ (grammar : Kind → Shape) (sequences : HasSequences grammar) where
 
 -- ---- rows of expressions
 
-pub row_rooted : (m : _) (r : Row_of-Expr m) → AreRooted (parts_of r)
-row_rooted m end_of-Expr = tt
-row_rooted m (more_of-Expr x rest) = (root_same x, row_rooted _ rest)
-
 pub roots_of_row : (m : _) (r : Row_of-Expr m) → rooted (parts_of r) ≡ roots r
 roots_of_row m end_of-Expr = refl
 roots_of_row m (more_of-Expr x rest) = ap (λ t. root x ∷ t) (roots_of_row _ rest)

@@ -1,7 +1,6 @@
 -- What is laid out of an expression reads back as the expression with its flags settled.
 use Rattle.std.proofs.Common.{◌≡◌, ℕ, suc, Bool, true, false, ◌&&◌, List, [], ◌∷◌, ◌++◌, refl, sym, ap, ◌∙◌, subst, map, take, drop, length, true≢false}
 use Rattle.std.specs.Prelude.{nat_eq}
-use Rattle.std.specs.List.{AllByRecursion}
 use Rattle.bz_grammar.specs.declared.kind.Kind.{Kind}
 use Rattle.bz_grammar.specs.declared.tree.Node.{Node}
 use Rattle.bz_grammar.specs.declared.tree.Part.{Part, Row_of-Part, end_of-Part, more_of-Part, items-the_row-Part}
@@ -139,10 +138,6 @@ mutual
   row_read n (more_of-Expr x rest) f = (expr_back x f.0, row_read _ rest f.1)
 
 -- ---- lists of expressions
-
-pub list_read : (xs : List Expr) → AllByRecursion Readable xs → Reads (layouts xs)
-list_read [] f = tt
-list_read (x ∷ xs) f = (expr_back x f.0, list_read xs f.1)
 
 pub settled_list : (xs : List Expr) → settled (layouts xs) ≡ map with_flags xs
 settled_list [] = refl

@@ -1,5 +1,5 @@
 -- What the tests of the limits say of the tree of a layout.
-use Rattle.std.proofs.Common.{◌≡◌, ◌≤◌, ◌<◌, ◌-◌, true, false, suc, List, [], length, ap, sym, ◌∙◌, subst, arith}
+use Rattle.std.proofs.Common.{◌≡◌, ◌≤◌, ◌<◌, ◌-◌, List, [], length, ap, sym, ◌∙◌, subst}
 use Rattle.bz_grammar.specs.declared.kind.Kind.TheVariants as k
 use Rattle.bz_grammar.specs.declared.tree.Node.{Node}
 use Rattle.bz_grammar.specs.declared.tree.Part.{Part}
@@ -11,8 +11,6 @@ use Rattle.bz_hosts.specs.View.{view_of}
 use Rattle.bz_layout.specs.Written.{layout}
 use Rattle.bz_layout.specs.LaidOut.{lines_from, laid_out}
 use Rattle.bz_layout.specs.Flags.{flags}
-use Rattle.bz_layout.specs.Depths.{depth_items}
-use Rattle.bz_layout.proofs.Deep.{laid_out_depth}
 use Rattle.bz_layout.proofs.LegalFiles.{laid_out_legal}
 use Rattle.bz_layout.proofs.LinesBack.{view_back}
 use Rattle.bz_layout.proofs.Spelled.{laid_out_spelled}
@@ -20,18 +18,6 @@ use Rattle.bz_layout.proofs.Spelled.{laid_out_spelled}
 -- a file of these parts
 abbrev pub file_of : List Part → Node
 file_of parts = record { kind = k.File; parts = parts }
-
-pub past_limit : (xs : List Item) → (length (layout xs) ≤ limit → false ≡ true) → limit < length (layout xs)
-past_limit xs long = let longer : length (layout xs) ≤ limit → ⊥ = λ short. let no_ : false ≡ true = long short in cc in omega (arith, longer)
-
-pub past_depth : (xs : List Item) → length (layout xs) ≤ limit → (depth_items xs ≤ depth_limit - 1 → false ≡ true) → (length (layout xs) ≤ limit) × (depth_limit < depth_of (laid_out xs))
-past_depth xs short deep =
-    let deeper_margin : depth_items xs ≤ depth_limit - 1 → ⊥ = λ shallow. let no_ : false ≡ true = deep shallow in cc in
-    let depth : depth_of (laid_out xs) ≡ suc (depth_items xs) = laid_out_depth xs in
-    (short, omega (arith, depth, deeper_margin))
-
-pub within_depth : (xs : List Item) → depth_items xs ≤ depth_limit - 1 → depth_of (laid_out xs) ≤ depth_limit
-within_depth xs shallow = let depth : depth_of (laid_out xs) ≡ suc (depth_items xs) = laid_out_depth xs in omega (arith, depth, shallow)
 
 pub legal_file : (xs : List Item) (parts : List Part) → IsProper xs → parts ≡ lines_from [] xs → length (layout xs) ≤ limit → depth_of (laid_out xs) ≤ depth_limit →
     Legal (file_of parts) × (length (spell_node (file_of parts)) ≤ limit)

@@ -18,7 +18,7 @@ use Rattle.bz_grammar.specs.Shapes.{Fits}
 use Rattle.bz_grammar.specs.Legal.{IsNonterminal}
 use Rattle.bz_grammar.specs.Spots.{Spot, Within, onward, Role, opens, closes, role, following_token, after_part, AtLeaves, AtParts, BzlStands}
 use Rattle.bz_grammar.proofs.Nested.{row_of, items_of_row}
-use Rattle.bz_grammar.proofs.Balance.{no_such, row_of_parts}
+use Rattle.bz_grammar.proofs.Balance.{row_of_parts}
 use Rattle.bz_value.specs.declared.value.Expr.{Expr, Token, Form', Row_of-Expr, end_of-Expr, more_of-Expr}
 use Rattle.bz_items.specs.Characters.{Bytes, comma, space}
 use Rattle.bz_value.specs.Frames.{Frame, row, sequence, frame, is_binary, is_comprehension}
@@ -69,12 +69,6 @@ first_part outer here there x gap m xs d g h = (d.stands gap m g, subst (λ z. A
 abbrev pub after_row : Spot → Spot → List Child → Spot
 after_row outer here [] = here
 after_row outer here (x ∷ xs) = after_row outer (after_expr outer here x.0) xs
-
--- no line begins there
-pub row_goes_on : (outer here : Spot) (xs : List Child) → RowLaysOut outer here xs → is_empty xs ≡ false → is_begins (after_row outer here xs) ≡ false
-row_goes_on outer here [] h e = no_such (sym e)
-row_goes_on outer here (x ∷ []) h e = h.0.no_first
-row_goes_on outer here (x ∷ y ∷ ys) h e = row_goes_on outer (after_expr outer here x.0) (y ∷ ys) h.1 refl
 
 -- a row, and what follows it
 pub rowed_at : (kind : Kind) (open_break : Bool) (m : ℕ) (outer here : Spot) (gap : Bytes) (n : ℕ) (xs : List Child) (rest : List Part) → FitsAt here gap → RowLaysOut outer here xs → RowBreaks open_break outer here xs →

@@ -40,10 +40,6 @@ bare_made x g m r n b =
     let s : Seen = seen (x.1 g m) in
     ap (λ l. s.make (record { before = l; suffix = None }) false) (r.loose g m) ∙ (ap (λ z. s.make no_comments z) (sym b) ∙ (ap (λ z. s.make z (has_break x.0)) (sym n) ∙ r.value g m))
 
-joined_begun : (m : ℕ) (g : Bytes) (closer : ℕ) (one : Bool) (xs : List (Expr × PartAt)) → Begun (look (joined m g closer one xs))
-joined_begun m g closer one [] = tt
-joined_begun m g closer one (x ∷ xs) = tt
-
 -- the gap before the sequence says nothing
 abbrev IsQuiet : Bytes → Type 0
 IsQuiet g = lines_of g ≡ []

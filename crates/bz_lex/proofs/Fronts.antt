@@ -124,10 +124,6 @@ pub fresh_answered : (gap : GapFront) (s : List ℕ) (c : ℕ) (r : Option Front
 fresh_answered gap s c (Some front) g b t = fresh_token gap s c front g b t
 fresh_answered gap s c None g b t = fresh_no_token gap s c g b t
 
--- the leaves that are no token
-end_text : (s : List ℕ) (n : ℕ) → drop n s ≡ [] → n ≤ length s → n ≡ length s
-end_text s n e w = let k : 0 ≡ length s - n = ap length (sym e) ∙ length-drop n s in omega arith
-
 pub fresh_end : (gap : GapFront) (s : List ℕ) (front : Front) → IsGapFront true gap s → slice_get s gap.length ≡ None → front ≡ record { class = End; gap = gap.length; token = 0 } → IsFront Fresh front s
 fresh_end gap s front g b e =
     let r = rest_none s gap.length b in

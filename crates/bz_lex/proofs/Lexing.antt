@@ -141,9 +141,6 @@ go_on text ts rest front h f = record {
 pub done : (text : List ℕ) (ts : List (List ℕ)) (rest : List ℕ) → IsLexedTo text ts rest → IsGap true true rest → AreLexemes ts text
 done text ts rest h g = rw append-nil at (h.sound [] g)
 
-pub no_tokens : (text : List ℕ) (ts : List (List ℕ)) (rest : List ℕ) → IsLexedTo text ts rest → NoLexemes rest → NoLexemes text
-no_tokens text ts rest h n us k = let w = h.complete us k in n w.0 w.1
-
 -- one turn of the loop
 pub next_turn : (text : List ℕ) (ts us : List (List ℕ)) (rest following token : List ℕ) (front : Front) → IsLexedTo text ts rest → IsLexemeFront front rest → token ≡ front_token front rest → us ≡ ts ++ (token ∷ []) → following ≡ after_front front rest → IsLexedTo text us following
 next_turn text ts us rest following token front h f e i j = rw (i, e, j) (go_on text ts rest front h f)

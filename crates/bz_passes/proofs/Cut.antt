@@ -1,7 +1,7 @@
 -- Runs: what no item passes cuts a list, and each piece is sorted by itself.
 use Rattle.std.proofs.Common.{ℕ, suc, ◌+◌, ◌-◌, ◌<◌, ◌≤◌, Bool, true, false, ◌&&◌, List, [], ◌∷◌, ◌++◌, ◌≡◌, refl, sym, ap, ap₂, ◌∙◌, subst, inl, inr, if◌then◌else◌, arith, length, take, drop, get_or, slice_range, append_assoc, drop-drop, drop_at, length-append, length-take-le, take-append-drop, take_at}
 use Rattle.std.proofs.lemmas.List.{drop_more}
-use Rattle.std.proofs.lemmas.List.Edits.{between_more, length-between}
+use Rattle.std.proofs.lemmas.List.Edits.{length-between}
 use Rattle.std.specs.List.{AllByRecursion}
 use Rattle.std.proofs.lemmas.Bool.{cases_Bool, and_right, and_left}
 use Rattle.bz_passes.specs.Orders.{insert_by, sort_by}
@@ -56,13 +56,6 @@ module _ {X : Type 0} (p : X → Bool) (lt : X → X → Bool) where
 
   pub none_yet : (items : List X) (at : ℕ) → AllByRecursion (λ y. p y ≡ true) (slice_range items at at)
   none_yet items at = let none : 0 ≡ at - at = omega arith in subst (λ n. AllByRecursion (λ y. p y ≡ true) (take n (drop at items))) none tt
-
-  -- the item after a run goes on with it
-  pub run_longer : (items : List X) (from at : ℕ) (x : X) → from ≤ at → at < length items → x ≡ get_or items at x → p x ≡ true
-      → AllByRecursion (λ y. p y ≡ true) (slice_range items from at) → AllByRecursion (λ y. p y ≡ true) (slice_range items from (at + 1))
-  run_longer items from at x a b is t h =
-      subst (AllByRecursion (λ y. p y ≡ true)) (sym (between_more items from at x a b ∙ ap (λ z. slice_range items from at ++ z ∷ []) (sym is)))
-      (all_more (λ y. p y ≡ true) (slice_range items from at) x h t)
 
   -- the item after a run ends it, and the run was sorted
   pub run_out : (items new whole : List X) (from at : ℕ) (x : X) → from ≤ at → at < length items → x ≡ get_or items at x → p x ≡ false

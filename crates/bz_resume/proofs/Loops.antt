@@ -29,9 +29,6 @@ same_read (Ok (Some root)) tree text outline reads h n is outline_is = let s = s
 same_read (Ok None) tree text outline reads h n is outline_is = other_tree n tree text outline reads is outline_is h
 same_read (Err e) tree text outline reads h n is outline_is = h
 
-pub no_tree : (n : Node) (text : List ℕ) → ((m : Node) → Reads text m → ⊥) → text ≡ spell_node n → IsTree n → ⊥
-no_tree n text none is tree = none n (tree.0, sym is, subst (λ (s : List ℕ). length s ≤ limit) (sym is) tree.1)
-
 -- after i steps: the tree and its text, and all steps are known just where those that are left are
 pub record IsGoing (n : Node) (es : List (List Edit)) (ds : List (List ℕ)) (i : ℕ) (m : Node) (text : List ℕ) : Type 0 where
   pub tree : IsTree m

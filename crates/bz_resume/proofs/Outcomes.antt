@@ -91,9 +91,6 @@ not_other j h es other journal = own_version journal.version (record_of h es) (s
 pub none_read : (r : Record) → NoTree r.text → NoneAgrees r
 none_read r none n reads agrees = none n reads
 
-pub one_agrees : (r : Record) (n m : Node) → Reads r.text n → Reads r.text m → n ≡ m
-one_agrees r n m a b = one_tree n m a.0 b.0 (a.1 ∙ sym b.1)
-
 -- ---- no bytes are two journals
 
 same_history : (p q : Text) (ts us ns ms : List Text) (c d b a : ℕ) → q ≡ p → us ≡ ts → ms ≡ ns → d ≡ c → a ≡ b

@@ -75,9 +75,6 @@ not_before : (path : List ℕ) → IsBefore path [] → ⊥
 not_before [] h = h
 not_before (i ∷ path) h = h
 
-same_child : (i : ℕ) (n a b : Node) → slice_get n.parts i ≡ Some (p.Node a) → slice_get n.parts i ≡ Some (p.Node b) → child i n ≡ Some a → child i n ≡ Some b → a ≡ b
-same_child i n a b e f g h = same_Some a b (sym g ∙ h)
-
 found_child : (i : ℕ) (n m : Node) → slice_get n.parts i ≡ Some (p.Node m) → child i n ≡ Some m
 found_child i n m e = ap node_in e ∙ ap opened_node (outs-Node m)
 

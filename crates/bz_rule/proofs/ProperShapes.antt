@@ -119,10 +119,6 @@ other_string text text' = record {
 itself : (x : Part) → AlikeRoots x x
 itself x = same_root x x refl
 
-pub alike_itself : (xs : List Part) → Alike xs xs
-alike_itself [] = over
-alike_itself (x ∷ xs) = more x x xs xs (itself x) (alike_itself xs)
-
 commas_alike : (xs ys : List Part) (closer : Part) → Alike xs ys → Alike (each_with_comma xs ++ closer ∷ []) (each_with_comma ys ++ closer ∷ [])
 commas_alike xs ys closer over = more closer closer [] [] (itself closer) over
 commas_alike xs ys closer (more x y xs' ys' r w) = more x y _ _ r (more (mark_leaf comma) (mark_leaf comma) _ _ (itself (mark_leaf comma)) (commas_alike xs' ys' closer w))
