@@ -4,7 +4,7 @@ use Rattle.std.proofs.lemmas.Bool.{both_ways}
 use Rattle.bz_lex.specs.declared.leaf.Leaf.{Leaf}
 use Rattle.bz_lex.specs.declared.front.Front.{Front}
 use Rattle.bz_lex.specs.declared.place.Place.{Place}
-use Rattle.bz_lex.specs.Places.{next, after_token, same_depth}
+use Rattle.bz_lex.specs.Places.{next}
 use Rattle.bz_lex.specs.Fronts.{IsFront, NoLeaf, AnswersFront, front_leaf, front_token, after_front}
 use Rattle.bz_lex.proofs.Coming.{to_come, come_first, come_none}
 use Rattle.bz_grammar.specs.Shapes.{Terminal, any, this, is_class, is_one_of}
@@ -13,9 +13,7 @@ use Rattle.bz_states.specs.Tokens.{bare, terminals_of}
 use Rattle.bz_states.specs.declared.symbol.Symbol.{Symbol}
 use Rattle.bz_states.specs.declared.symbol.Symbol.TheVariants as y
 use Rattle.bz_states.specs.Symbols.{example, symbol_of_token, DecidesFirst}
-use Rattle.bz_states.specs.declared.token.TokenSet.TheVariants as t
 use Rattle.bz_states.proofs.Answered.{symbol_answered, nothing}
-use Rattle.bz_states.proofs.Unbound.{unbound}
 
 -- no terminal requires a gap
 pub same_token : (terminals : List Terminal) (l : Leaf) → is_one_of terminals l ≡ is_one_of terminals (bare l.class l.token)
@@ -32,9 +30,6 @@ module _ (p : Place) (s : List ℕ) (now : List Leaf) (view : to_come p s ≡ no
 
   pub first_comes : (f : Front) → after ≡ Some f → now ≡ front_leaf f s ∷ to_come (next p (front_leaf f s)) (after_front f s)
   first_comes f e = let w : IsFront p f s = rw e at answered in sym view ∙ come_first p s f w
-
-  pub same_place : (f : Front) → after ≡ Some f → starts_with (terminals_of t.Bounds) now ≡ false → after_token f.class (front_token f s) p ≡ same_depth p
-  same_place f e h = unbound p f.class (front_token f s) (sym (same_token (terminals_of t.Bounds) (front_leaf f s)) ∙ ap (starts_with (terminals_of t.Bounds)) (sym (first_comes f e)) ∙ h)
 
   pub none_empty : after ≡ None → IsTrue true ↔ (now ≡ [])
   none_empty e = (λ h. none_comes e, λ h. refl)

@@ -1,4 +1,3 @@
 mod Answered
 mod Cutting
 mod Lines
-mod Unbound

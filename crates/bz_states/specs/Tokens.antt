@@ -43,7 +43,6 @@ terminals_of t.Clauses = starts clause
 terminals_of t.Statements = starts stmt
 terminals_of t.Expressions = starts expr
 terminals_of t.SliceStops = close_square ++ colon_mark
-terminals_of t.Bounds = open_round ++ (open_square ++ (open_curly ++ (close_round ++ (close_square ++ (close_curly ++ (newline ++ end))))))
 terminals_of t.Ends = comma_mark ++ (close_round ++ (close_square ++ (close_curly ++ (colon_mark ++ (equals ++ (semicolon ++ newline))))))
 terminals_of t.Star = one_mark (codes "*")
 terminals_of t.DoubleStar = one_mark (codes "**")

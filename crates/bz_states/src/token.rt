@@ -1,5 +1,5 @@
 //! The tokens that the grammar requires, and the leaves of a text, of which the next one is known.
-ghost use Rattle.std.specs.Prelude.{◌≡◌, ◌↔◌, ◌≤◌, ◌<◌, ◌^◌, ◌&&◌, ◌∷◌, [], ℕ, nat_le, false, Some, None, length, drop, MatchOption, IfOk, IsTrue};
+ghost use Rattle.std.specs.Prelude.{◌≡◌, ◌↔◌, ◌≤◌, ◌<◌, ◌&&◌, ◌∷◌, [], ℕ, nat_le, false, Some, None, length, drop, MatchOption, IfOk, IsTrue};
 ghost use Rattle.bz_grammar.specs.Shapes.{is_one_of};
 ghost use Rattle.bz_grammar.specs.Reading.{starts_with};
 ghost use Rattle.bz_grammar.specs.Indents.{first_indent};
@@ -10,7 +10,6 @@ ghost use Rattle.bz_grammar.specs.declared.tree.Part.TheVariants as p;
 ghost use Rattle.bz_grammar.specs.Spell.{limit};
 ghost use Rattle.bz_lex.proofs.Coming.{to_come};
 ghost use Rattle.bz_lex.specs.Fronts.{AnswersFront};
-ghost use Rattle.bz_lex.specs.Places.{after_token, open_brackets, same_depth};
 ghost use Rattle.bz_states.specs.Symbols.{example, DecidesFirst, next_of};
 ghost use Rattle.bz_states.specs.Tokens.{terminals_of, token_at, Fails};
 ghost use Rattle.bz_states.specs.States.{binds_at};
@@ -93,8 +92,6 @@ pub enum TokenSet {
     Expressions,
     /// `]` or `:`.
     SliceStops,
-    /// After what the place is another: a bracket, a newline or the end.
-    Bounds,
     /// What an expression ends before, where no comma binds in it: a comma, a closing bracket, `:`, `=`, `;` or a newline.
     Ends,
     Bar,
@@ -160,7 +157,6 @@ impl TokenSet {
             TokenSet::Statements => symbol.begins_statement(),
             TokenSet::Expressions => symbol.begins_expression(),
             TokenSet::SliceStops => matches!(symbol, Symbol::CloseSquare | Symbol::Colon),
-            TokenSet::Bounds => symbol.bounds_place(),
             TokenSet::Ends => symbol.ends_expression(),
             TokenSet::Bar => matches!(symbol, Symbol::Bar),
             TokenSet::Caret => matches!(symbol, Symbol::Caret),
@@ -213,22 +209,6 @@ impl Symbol {
                 | Symbol::OpenRound
                 | Symbol::OpenSquare
                 | Symbol::OpenCurly
-        )
-    }
-
-    fn bounds_place(self) -> bool
-        ensures { result ≡ is_one_of (terminals_of t.Bounds) (example self) }
-    {
-        matches!(
-            self,
-            Symbol::OpenRound
-                | Symbol::OpenSquare
-                | Symbol::OpenCurly
-                | Symbol::CloseRound
-                | Symbol::CloseSquare
-                | Symbol::CloseCurly
-                | Symbol::Newline
-                | Symbol::End
         )
     }
 
@@ -462,12 +442,9 @@ impl<'a> Leaves<'a> {
         ensures { self.new ≡ drop 1 self.old }
     {
         if let Some(front) = next_of(self.is_there, self.front) {
-            let place = place_after(
-                self.next_is(TokenSet::Bounds),
-                self.place,
-                front.class,
-                front.token_of(self.rest),
-            );
+            let place = self
+                .place
+                .after_token(front.class, front.token_of(self.rest));
             let rest = front.rest_of(self.rest);
             self.is_there = find(rest, place, &mut self.front);
             self.symbol = symbol_at(next_of(self.is_there, self.front), rest, place);
@@ -531,30 +508,6 @@ fn find(rest: &[u8], place: Place, front: &mut Front) -> bool
             true
         }
         None => false,
-    }
-}
-
-/// The place after a token of this class; `bounds` says whether it may be a bracket, a newline or the end. Most tokens are none of these,
-/// and need not be looked at again.
-#[inline(always)]
-fn place_after(bounds: bool, place: Place, class: Class, token: &[u8]) -> Place
-    requires small { open_brackets place < 2 ^ 64 }
-    requires others { bounds ≡ false → after_token class token.now place ≡ same_depth place }
-    ensures { result ≡ after_token class token.now place }
-{
-    if bounds {
-        return place.after_token(class, token);
-    }
-    same_depth(place)
-}
-
-/// The place after a token that is no bracket, newline or end.
-fn same_depth(place: Place) -> Place
-    ensures { result ≡ same_depth place }
-{
-    match place {
-        Place::Inside(depth) => Place::Inside(depth),
-        _ => Place::After,
     }
 }
 
