@@ -21,7 +21,7 @@ fn are_even(steps: &[Step]) -> bool
 }
 
 /// Equal steps. The error: a growth was refused.
-fn copy_steps(alloc: Global, steps: &[Step]) -> Result<Items<Step>, Memory>
+pub fn copy_steps(alloc: Global, steps: &[Step]) -> Result<Items<Step>, Memory>
     ensures { IfOk result (λ copied. copied ≡ steps.now) }
 {
     let mut copied = Items::new(alloc);

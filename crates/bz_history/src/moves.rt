@@ -11,13 +11,13 @@ use bz_edit::{Step, advance, advance_across, advance_at};
 use bz_grammar::{Part, Tree};
 use bz_items::{Items, Memory};
 
-/// Puts a step after the first n, in the place of those that follow.
-fn put_after(steps: &mut Vec<Step>, n: usize, step: Step)
-    requires room { vec_len steps.old < vec_capacity steps.old }
-    ensures { steps.new.items ≡ take n steps.old.items ++ step ∷ [] }
+/// Puts an item after the first n, in the place of those that follow.
+pub fn put_after<T: Drop>(items: &mut Vec<T>, n: usize, item: T)
+    requires room { vec_len items.old < vec_capacity items.old }
+    ensures { items.new.items ≡ take n items.old.items ++ item ∷ [] }
 {
-    steps.truncate(n);
-    steps.push(step).unwrap();
+    items.truncate(n);
+    items.push(item).unwrap();
 }
 
 /// Takes up the next tree, which spells another text: the texts after the present one are cut, and its text is appended and

@@ -4,14 +4,13 @@ ghost use Rattle.bz_journal.specs.Clauses.{OpensText, AreIn, AreSpliced, EndsAt,
 ghost use Rattle.bz_journal.specs.Actions as a;
 
 use crate::action::Reply;
-use crate::digests::put_after;
 use crate::lines::{Lines, stand_in, take_up_lines};
 use bz_build_format::{formatted, formatted_once, reads_back};
 use bz_edit::Step;
 use bz_grammar::laws::one_reading;
 use bz_grammar::{ReadFault, Tree};
 use bz_history::laws::{starts_small, texts_kept};
-use bz_history::{go_back, go_forward};
+use bz_history::{go_back, go_forward, put_after};
 use bz_items::{Memory, Text};
 use bz_tree::parse;
 use bz_value::Refusal;

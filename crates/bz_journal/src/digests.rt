@@ -1,5 +1,5 @@
 //! The SHA-256 of the texts of a course: of the first ones, as they were taken, or of all, taken of a copy that goes through them.
-ghost use Rattle.std.specs.Prelude.{◌≡◌, ◌<◌, ◌++◌, [], ◌∷◌, IfOk, IfSome, length, map, take, vec_len, vec_capacity};
+ghost use Rattle.std.specs.Prelude.{◌≡◌, ◌<◌, IfOk, IfSome, length, map};
 ghost use Rattle.bz_journal.specs.Actions.{Action};
 ghost use Rattle.bz_journal.specs.Clauses.{Acts, AreFirstDigests, Bytes, History, IsTrail, present, session_history, sha256, texts_of, trail_at};
 
@@ -9,20 +9,11 @@ use crate::digest::digest_of;
 use bz_edit::Step;
 use bz_grammar::Tree;
 use bz_history::laws::texts_kept;
-use bz_history::{go_back, go_forward};
-use bz_items::{Items, Memory};
+use bz_history::{copy_steps, go_back, go_forward};
+use bz_items::Memory;
 use bz_value::Refusal;
 use sha2::{Digest, Sha256};
 use std::alloc::Global;
-
-/// Puts an item after the first n, in the place of those that follow.
-pub(crate) fn put_after<T: Drop>(items: &mut Vec<T>, n: usize, item: T)
-    requires room { vec_len items.old < vec_capacity items.old }
-    ensures { items.new.items ≡ take n items.old.items ++ item ∷ [] }
-{
-    items.truncate(n);
-    items.push(item).unwrap();
-}
 
 /// Takes the digest of the present text, which is this, where those before it are known and it isn't yet, as far as memory allows.
 pub(crate) fn learn(digests: &mut Vec<[u8; 32]>, course: &Course, text: &[u8])
@@ -59,17 +50,6 @@ pub(crate) fn known<'a>(digests: &'a [[u8; 32]], course: &Course) -> Option<&'a 
     } else {
         None
     }
-}
-
-/// Equal steps. The error: a growth was refused.
-fn copy_steps(alloc: Global, steps: &[Step]) -> Result<Items<Step>, Memory>
-    ensures { IfOk result (λ copied. copied ≡ steps.now) }
-{
-    let mut copied = Items::new(alloc);
-    for step in steps {
-        copied.push(step.copy()?)?;
-    }
-    Ok(copied)
 }
 
 /// The digests of all texts, from the tree of the first one on, which goes to the last. The error: a growth was refused.

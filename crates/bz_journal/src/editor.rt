@@ -22,9 +22,6 @@ const FEWEST: usize = 500;
 /// After how many commands any value is kept, so that further ones cost the same in a short file as in a long one.
 const OFTEN: u32 = 64;
 
-/// The fewest bytes of a text that is kept from the first action on, and so isn't spelled again for the next one.
-const LONG: usize = 1 << 16;
-
 /// The course of a file, and what is kept beside it. Of a text that was opened no digest is taken until something reads it:
 /// `keep_noted` or `listing`. Contracts see the session.
 #[derive(Drop)]
@@ -35,7 +32,7 @@ pub struct Editor {
     beside: Beside,
     /// How many commands were done, up to `OFTEN`.
     done: u32,
-    /// The present text, where it was opened or written, and is long or commands came often.
+    /// The present text, where it was opened or written.
     text: Option<Vec<u8>>,
 }
 
@@ -56,16 +53,6 @@ impl Model for Editor {
 
     ghost invariant = { λ editor. IsBeside editor.course.tree editor.beside × AreFirstDigests editor.digests.items (session_history editor.course).texts
         × IfSome editor.text (λ text. text.items ≡ present (session_history editor.course)) };
-}
-
-/// A text, where it is long and memory is there for it.
-fn if_long(alloc: Global, text: &[u8]) -> Option<Vec<u8>>
-    ensures { IfSome result (λ own. own.items ≡ text.now) }
-{
-    if text.len() < LONG {
-        return None;
-    }
-    Vec::from_slice(alloc, text).ok()
 }
 
 /// An editor of a course of whose first texts these are the digests, and which may have this text. Nothing else is kept beside it yet.
@@ -103,7 +90,8 @@ impl Editor {
         ensures { OpensText «package».now text.now result }
     {
         let course = begin(alloc, package, text)?;
-        Ok(editor_of(course, Vec::new(alloc), if_long(alloc, text)))
+        let own = Vec::from_slice(alloc, text).ok();
+        Ok(editor_of(course, Vec::new(alloc), own))
     }
 
     /// An editor of a session, whose digests are kept.
@@ -218,14 +206,12 @@ impl Editor {
         Ok(Some(Written { journal, text }))
     }
 
-    /// Keeps the text that was written, which the file is to hold at the next action, if it is long or commands came often.
+    /// Keeps the text that was written, which the file is to hold at the next action.
     fn keep_text(&mut self, written: Result<Option<Written>, Memory>)
         requires { (from : ℕ) × IsWrittenSince self.old from written }
         ensures { self.new ≡ self.old }
     {
-        if let Ok(Some(written)) = written
-            && (written.text.len() >= LONG || self.done >= OFTEN)
-        {
+        if let Ok(Some(written)) = written {
             self.text = Some(written.text);
         }
     }

@@ -7,13 +7,13 @@ use crate::action::{Action, Reply, is_changed};
 use crate::beside::{Beside, act};
 use crate::course::{Course, MOST_NOTE, begin, text_of};
 use crate::digest::digest_of;
-use crate::digests::put_after;
 use crate::keeping::{KeepFault, Written, persist};
 use crate::listing::listed;
 use bz_edit::{Step, weight};
 use bz_files::Files;
 use bz_grammar::{ReadFault, Tree};
 use bz_history::laws::texts_kept;
+use bz_history::put_after;
 use bz_items::{Memory, Text};
 use bz_value::Refusal;
 use core::mem::replace_with;
@@ -153,9 +153,8 @@ impl Session {
         self.present().spell_into(out)
     }
 
-    /// The texts, one line each: `*` at the present one or a space, a space, its number from 0, a space, its SHA-256 in 64
-    /// digits, and after a space the note of the step to it where there is one, newlines as `\n`. The error: a growth was
-    /// refused.
+    /// The texts, one line each: `*` at the present one or a space, a space, its number from 0, a space, its SHA-256 in 64 digits, and
+    /// after a space the note of the step to it where there is one, newlines as `\n`. The error: a growth was refused.
     pub fn listing(&self, alloc: Global) -> Result<Text, Memory>
         ensures { IfOk result (λ text. text ≡ listing (session_history self.now)) }
     {
@@ -171,12 +170,11 @@ impl Session {
         self.act_noted(action, "")
     }
 
-    /// Does an action, with a note of at most 65,536 bytes for the step that it makes. At an error the history is as before.
-    /// Errors: `NoteTooLong` before all others; those of the command; `TooLarge` and `TooDeep` where the new text would be past
-    /// a limit; `TooFar` where there aren't this many steps; `Full` where a command or formatting would change the present text,
-    /// which is 100,000 steps from the first; `Memory`: a growth was refused, never at undo and redo by no step or by steps whose
-    /// edits hold as many parts as they cover. After formatting the present text is formatted: to format it once more leaves it
-    /// as it is.
+    /// Does an action, with a note of at most 65,536 bytes for the step that it makes. At an error the history is as before. Errors:
+    /// `NoteTooLong` before all others; those of the command; `TooLarge` and `TooDeep` where the new text would be past a limit; `TooFar`
+    /// where there aren't this many steps; `Full` where a command or formatting would change the present text, which is 100,000 steps from
+    /// the first; `Memory`: a growth was refused, never at undo and redo by no step or by steps whose edits hold as many parts as they
+    /// cover. After formatting the present text is formatted: to format it once more leaves it as it is.
     pub fn act_noted(&mut self, action: &Action<'_>, note: &str) -> Result<Reply, Refusal>
         ensures { HasActed (action_in action.now) note.now self.old result self.new }
     {

@@ -23,7 +23,7 @@ use Rattle.bz_layout.specs.LaidOut.{laid_out}
 use Rattle.bz_layout.specs.Laws.{LayoutIsAccepted}
 use Rattle.bz_layout.specs.Written.{layout}
 use Rattle.bz_relayout.specs.Relaid.{IsRespliced}
-use Rattle.bz_relayout.specs.private.Rereading.{EndsLine, ReadAsLines}
+use Rattle.bz_relayout.specs.private.Rereading.{IsWholeLine, ReadAsLines}
 
 -- what parts spell
 abbrev text_of : List Part → Bytes
@@ -44,7 +44,7 @@ last_leaf [] l = refl
 last_leaf (m ∷ []) l = refl
 last_leaf (m ∷ k ∷ ls) l = last_leaf (k ∷ ls) l
 
-pub whole_lines : (ps front : List Part) (x : Part) → ps ≡ front ++ x ∷ [] → EndsLine x → AreWholeLines ps
+pub whole_lines : (ps front : List Part) (x : Part) → ps ≡ front ++ x ∷ [] → IsWholeLine x → AreWholeLines ps
 whole_lines ps front x is (line, own, (before, y, at, feed)) =
     let newline : Leaf = feed.0 in
     let last : leaves_part (p.Node line) ≡ flat_map leaves_part before ++ newline ∷ [] =

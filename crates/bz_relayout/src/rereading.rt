@@ -5,7 +5,7 @@ ghost use Rattle.bz_items.specs.Characters.{Bytes};
 ghost use Rattle.bz_grammar.specs.Joined.{AreWholeLines, file_with};
 ghost use Rattle.bz_grammar.specs.Legal.{Reads};
 ghost use Rattle.bz_grammar.specs.Spell.{limit, spell_leaf, spell_part};
-ghost use Rattle.bz_relayout.specs.private.Rereading.{EndInLineFeed, EndsLine, IsLineFeed, ReadAsLines};
+ghost use Rattle.bz_relayout.specs.private.Rereading.{EndInLineFeed, IsEndOfLine, IsWholeLine, ReadAsLines};
 
 use bz_grammar::laws::{lines_join, lines_split};
 use bz_grammar::{Part, ReadFault, Tree};
@@ -133,7 +133,7 @@ fn same_back<'a>(parts: &[Part], text: &'a [u8]) -> (usize, &'a [u8])
 
 /// Whether the part is a line feed, with what is before it.
 fn is_line_feed(part: &Part) -> bool
-    ensures { IsTrue result → IsLineFeed part.now }
+    ensures { IsTrue result → IsEndOfLine part.now }
 {
     match part {
         Part::Leaf(leaf) => leaf.token.as_slice() == b"\n".as_slice(),
@@ -153,7 +153,7 @@ fn end_with_line_feed(parts: &[Part]) -> bool
 
 /// Whether a part of a file is a line that ends with a line feed.
 fn ends_line(part: &Part) -> bool
-    ensures { IsTrue result → EndsLine part.now }
+    ensures { IsTrue result → IsWholeLine part.now }
 {
     match part {
         Part::Leaf(_) => false,

@@ -9,16 +9,16 @@ use Rattle.bz_grammar.specs.Joined.{AreWholeLines}
 use Rattle.bz_grammar.specs.Legal.{Reads}
 
 -- the part is a line feed, with what is before it
-abbrev pub IsLineFeed : Part → Type 0
-IsLineFeed x = (l : Leaf) × (x ≡ p.Leaf l) × (l.token ≡ line_feed ∷ [])
+abbrev pub IsEndOfLine : Part → Type 0
+IsEndOfLine x = (l : Leaf) × (x ≡ p.Leaf l) × (l.token ≡ line_feed ∷ [])
 
 -- the last of the parts is
 abbrev pub EndInLineFeed : List Part → Type 0
-EndInLineFeed ps = (front : List Part) × (x : Part) × (ps ≡ front ++ x ∷ []) × IsLineFeed x
+EndInLineFeed ps = (front : List Part) × (x : Part) × (ps ≡ front ++ x ∷ []) × IsEndOfLine x
 
 -- the part is a line that ends with one
-abbrev pub EndsLine : Part → Type 0
-EndsLine x = (line : Node) × (x ≡ p.Node line) × EndInLineFeed line.parts
+abbrev pub IsWholeLine : Part → Type 0
+IsWholeLine x = (line : Node) × (x ≡ p.Node line) × EndInLineFeed line.parts
 
 -- the text reads as a file of these whole lines, with nothing between the last of them and the end
 pub record AreReadOf (text : Bytes) (lines : List Part) : Type 0 where

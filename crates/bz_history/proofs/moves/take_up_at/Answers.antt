@@ -7,6 +7,6 @@ use Rattle.bz_history.proofs.moves.take_up_at.Goals as goal
 
 pub returns-clause-ok : goal.returns-clause-ok
 returns-clause-ok c =
-    took_up (trail_at c.args.tree.now c.args.steps.now.items c.args.cursor) (with_parts_in c.args.places.now c.args.lines.now c.args.tree.now) c.advance_at.new.tree c.in_ok-step.step c.reserve.new.self.items c.put_after.new.steps.items
+    took_up (trail_at c.args.tree.now c.args.steps.now.items c.args.cursor) (with_parts_in c.args.places.now c.args.lines.now c.args.tree.now) c.advance_at.new.tree c.in_ok-step.step c.reserve.new.self.items c.put_after.new.items.items
     c.requires.trail c.requires.next (subst IsStep c.step.view_is c.step.invariant) c.requires.other
     c.in_ok-step.ensures.step c.in_ok-step.ensures.tree c.reserve.ensures.items c.put_after.ensures
