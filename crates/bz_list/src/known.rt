@@ -47,6 +47,7 @@ impl Key {
 }
 
 /// Whether one of the labels has these parts.
+#[tactic(auto, using(crate::proofs::KnownKeys::label_found))]
 fn has_label(labels: &BTreeSet<Key>, key: &Key) -> bool
     ensures { result ≡ list_any (is_equal (label_of_key key.now)) (labels_of labels.now) }
 {
@@ -54,6 +55,7 @@ fn has_label(labels: &BTreeSet<Key>, key: &Key) -> bool
 }
 
 /// The label is one of them from now on.
+#[tactic(auto, using(crate::proofs::KnownKeys::label_inserted))]
 fn insert_label(labels: &mut BTreeSet<Key>, key: Key) -> Result<(), Memory>
     ensures { (label : Label) → OnOk result (list_any (is_equal label) (labels_of labels.new) ≡ (is_equal label (label_of_key key) || list_any (is_equal label) (labels_of labels.old))) }
 {
