@@ -47,13 +47,8 @@ one name read text = record { name = name; held = read; bytes = text } ∷ []
 
 -- A file that isn't standard input, whose text is another one than was read.
 pub writing_is : (to_stdout : Bool) (used : Used) (file : Opened) (text : Bytes) → to_stdout ≡ false → is_input used ≡ false → used.file ≡ Some file
-    → Some text ≡ (if differs file then Some (present file.history) else None) → writing_of to_stdout used ≡ one file.name file.read text
-writing_is to_stdout used file text stays other there new = rw (stays, other, there) (go (differs file) new)
-  where
-    go : (changed : Bool) → Some text ≡ (if changed then Some (present file.history) else None)
-        → (if is_written false false changed then one file.name file.read (present file.history) else []) ≡ one file.name file.read text
-    go true new = ap (one file.name file.read) (cc (sym new))
-    go false new = absurd (cc new)
+    → differs file ≡ true → text ≡ present file.history → writing_of to_stdout used ≡ one file.name file.read text
+writing_is to_stdout used file text stays other there changed is = rw (stays, other, there, changed) (ap (one file.name file.read) (sym is))
 
 pub written_alone : (before after : Folder) (name read text : Bytes) (files : List Writing) (honest : Bool) → files ≡ one name read text
     → (honest ≡ true → WritesFiles (one name read text) before after) → (honest ≡ true) ⊎ (files ≡ []) → WritesFiles files before after

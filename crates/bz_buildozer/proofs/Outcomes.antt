@@ -18,6 +18,11 @@ use Rattle.bz_streams.specs.Faults.{AppendsUnlessFailed}
 use Rattle.bz_streams.specs.Outputs.{Reports}
 use Rattle.bz_streams.specs.Reported.{named_line, fault_line}
 use Rattle.bz_streams.proofs.Outputs.{appends_nothing}
+use Rattle.bz_streams.specs.declared.exit.Cut.TheVariants as c
+use Rattle.bz_streams.specs.declared.exit.Exit.{Exit}
+use Rattle.bz_streams.specs.declared.sink.Sink.{Ghosts as SinkOf}
+use Rattle.bz_files.specs.declared.files.Files.{Ghosts as FilesOf}
+use Rattle.bz_buildozer.specs.Calls.{LeavesOutcome}
 use Rattle.bz_buildozer.specs.Ending.{Left, LeftStands}
 use Rattle.bz_buildozer.specs.Outcome.{unused, LinesLeave, AreOfInput, AreOfInputAndSome, IsOfInput, NamesNoFile, KeepsJournals, IsScript, reported_name, OperandsOutcome, LinesOutcome, TextOutcome, ScriptOutcome, GivenOutcome, LineOutcome, WordsOutcome}
 use Rattle.bz_buildozer.specs.Run.{World}
@@ -69,6 +74,20 @@ at_some P found x is holds = subst (λ it. IfSome it P) is holds
 pub stands_unused : (folder folder' : Folder) (line : Bytes) (status : ℕ) (out : Option Bytes) (f g : ℕ) (old new : Option Bytes) → folder' ≡ folder
     → status ≡ 1 → Reports f g old new (line ∷ []) → LeftStands (unused folder line) status folder' out out f g old new
 stands_unused folder folder' line status out f g old new same exit reported = record { exit = exit; files = same; output = appends_nothing out; lines = reported }
+
+-- What is left as one thing says is left as another does that follows.
+pub leaves_more : {W E F : Type 0} (sink : SinkOf W) (errors : SinkOf E) (files : FilesOf F) (Is Now : Left → Type 0) (exit : Exit) (out out' : W) (err err' : E) (held' : F)
+    → ((left : Left) → Is left → Now left) → LeavesOutcome sink errors files Is exit out out' err err' held' → LeavesOutcome sink errors files Now exit out out' err err' held'
+leaves_more sink errors files Is Now exit out out' err err' held' more leaves = record {
+  whole = λ is. let done = leaves.whole is in (done.0, more done.0 done.1, done.2);
+  write = λ is. let done = leaves.write is in (done.0, more done.0 done.1, done.2, done.3);
+}
+
+-- Standard output doesn't cut what memory alone cuts.
+pub unwritten : (exit : Exit) → (exit.cut ≢ c.Whole → exit ≡ record { status = 2; cut = c.Memory }) → exit.cut ≡ c.Write → ⊥
+unwritten exit memory is =
+    let out : exit.cut ≡ c.Memory = ap (λ (it : Exit). it.cut) (memory (λ whole. absurd (cc (sym is ∙ whole)))) in
+    absurd (cc (sym is ∙ out))
 
 -- ---- the bytes of standard input
 

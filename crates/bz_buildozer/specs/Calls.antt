@@ -10,6 +10,7 @@ use Rattle.bz_streams.specs.Faults.{AppendsSome, AppendsUnlessFailed}
 use Rattle.bz_streams.specs.Outputs.{Reports, Counts}
 use Rattle.bz_streams.specs.declared.exit.Cut.{Cut}
 use Rattle.bz_streams.specs.declared.exit.Cut.TheVariants as c
+use Rattle.bz_streams.specs.declared.exit.Exit.{Exit}
 use Rattle.bz_streams.specs.declared.sink.Sink.{Ghosts as SinkOf}
 use Rattle.bz_streams.specs.declared.source.Source.{Ghosts as SourceOf}
 use Rattle.bz_journal.specs.declared.keeping.KeepFault.{KeepFault}
@@ -191,3 +192,9 @@ Reaches sink errors files IsOutcome status out out' err err' held' =
 abbrev pub BreaksOff : {W F : Type 0} → SinkOf W → FilesOf F → (Left → Type 0) → W → W → F → Type 0
 BreaksOff sink files IsOutcome out out' held' =
     (left : Left) × IsOutcome left × PrintsSome sink out out' left.output × (files.folder held' ≡ left.folder)
+
+-- A whole run leaves such an outcome, and one that standard output cuts breaks off in one. (How it ended.)
+pub record LeavesOutcome {W E F : Type 0} (sink : SinkOf W) (errors : SinkOf E) (files : FilesOf F) (IsOutcome : Left → Type 0) (exit : Exit) (out out' : W) (err err' : E)
+    (held' : F) : Type 0 where
+  pub whole : exit.cut ≡ c.Whole → Reaches sink errors files IsOutcome exit.status out out' err err' held'
+  pub write : exit.cut ≡ c.Write → BreaksOff sink files IsOutcome out out' held'

@@ -14,7 +14,7 @@ ghost use Rattle.bz_buildozer.specs.private.Shown.{progress_in};
 ghost use Rattle.bz_buildozer.specs.Steps.{input_package, step_of};
 
 use crate::opening::open_package;
-use crate::reported::report_refusal;
+use crate::reported::{fail, report_refusal};
 use crate::run::Run;
 use crate::step::{action_of, package_of};
 use bz_command_line::Request;
@@ -22,7 +22,7 @@ use bz_files::Files;
 use bz_items::at;
 use bz_label::Target;
 use bz_resume::PairFault;
-use bz_streams::{Cut, Sink, Source, first_cut, report_named};
+use bz_streams::{Cut, Sink, Source, first_cut};
 use bz_value::Refusal;
 use bz_workspace::{Action, KeepFault, Opened, Reply, Used, Workspace};
 use std::alloc::{AllocError, Global};
@@ -145,18 +145,9 @@ fn leave<E: Sink>(run: &mut Run, place: usize, fault: PairFault, err: &mut E) ->
     run.failed = true;
     let name = open_file(&run.workspace, place).name.as_str();
     match fault {
-        PairFault::Memory => {
-            report_named(err, name, "Memory");
-            Cut::Memory
-        }
-        PairFault::Changed => {
-            report_named(err, name, "cannot write");
-            Cut::Whole
-        }
-        PairFault::Open | PairFault::Write => {
-            report_named(err, name, "cannot write");
-            Cut::Files
-        }
+        PairFault::Memory => fail(err, name, "Memory", Cut::Memory),
+        PairFault::Changed => fail(err, name, "cannot write", Cut::Whole),
+        PairFault::Open | PairFault::Write => fail(err, name, "cannot write", Cut::Files),
     }
 }
 
@@ -222,13 +213,8 @@ fn act_on<F: Files, E: Sink>(
     }
     match action_of(&request.verb, target) {
         None => list_at(alloc, run, place, request.text, err),
-        Some(action) => {
-            if journals {
-                keep_at(run, place, &action, request.text, files, err)
-            } else {
-                act_at(run, place, &action, request.text, err)
-            }
-        }
+        Some(action) if journals => keep_at(run, place, &action, request.text, files, err),
+        Some(action) => act_at(run, place, &action, request.text, err),
     }
 }
 

@@ -1,5 +1,5 @@
 //! What a run leaves after its steps.
-ghost use Rattle.std.specs.Prelude.{◌≡◌, ◌≢◌, ◌⊎◌, ◌++◌, [], ◌∷◌, ℕ, Some, None, true, false, map, option_map, if◌then◌else◌, IfOk, IfErr};
+ghost use Rattle.std.specs.Prelude.{◌≡◌, ◌≢◌, ◌⊎◌, ◌++◌, [], ◌∷◌, ℕ, true, false, map, if◌then◌else◌, IfOk, IfErr};
 ghost use Rattle.std.specs.List.{list_any};
 ghost use Rattle.bz_workspace.specs.Sessions.{present};
 ghost use Rattle.bz_streams.specs.Faults.{Rises};
@@ -10,22 +10,17 @@ ghost use Rattle.bz_buildozer.specs.Ending.{differs, has_changed, is_input, goes
 ghost use Rattle.bz_buildozer.specs.private.Shown.{progress_in};
 ghost use Rattle.bz_buildozer.specs.Reported.{fixed_line};
 
+use crate::reported::{FAILED, fail};
 use crate::run::Run;
 use crate::script::INPUT;
 use bz_command_line::Options;
 use bz_files::Files;
 use bz_items::Memory;
-use bz_streams::{Cut, Exit, Sink, first_cut, report, report_named, write_whole};
+use bz_streams::{Cut, Exit, Sink, first_cut, report, write_whole};
 use bz_workspace::{Opened, Used};
 use std::alloc::Global;
 
 const CHANGED: u8 = 0;
-
-/// The status of words that request nothing.
-pub(crate) const USAGE: u8 = 1;
-
-/// The status of a run of which a step or a port failed.
-pub(crate) const FAILED: u8 = 2;
 
 const SAME: u8 = 3;
 
@@ -49,6 +44,16 @@ fn goes_out(of_input: bool, shown: bool, to_stdout: bool, changed: bool) -> bool
     }
 }
 
+// Appends the text of a file. Whether it is another one than was read.
+fn put_file(file: &Opened, output: &mut Vec<u8>) -> Result<bool, Memory>
+    ensures { IfOk result (λ changed. (changed ≡ differs (opened_in file.now))
+        × (output.new.items ≡ output.old.items ++ present (opened_in file.now).history)) }
+{
+    let start = output.len();
+    file.editor.text_into(output)?;
+    Ok(&output[start..] != file.read.as_slice())
+}
+
 // Appends what a package gives to standard output. Whether its text is another one than was read.
 fn put_text(used: &Used, shown: bool, to_stdout: bool, output: &mut Vec<u8>) -> Result<bool, Memory>
     ensures { IfOk result (λ changed. (changed ≡ has_changed (used_in used.now))
@@ -58,8 +63,7 @@ fn put_text(used: &Used, shown: bool, to_stdout: bool, output: &mut Vec<u8>) -> 
         return Ok(false);
     };
     let start = output.len();
-    file.editor.text_into(output)?;
-    let changed = &output[start..] != file.read.as_slice();
+    let changed = put_file(file, output)?;
     if !goes_out(is_input(used), shown, to_stdout, changed) {
         output.truncate(start);
     }
@@ -78,9 +82,7 @@ fn put_texts(
 {
     let mut changed = false;
     for used in packages {
-        if put_text(used, shown, to_stdout, output)? {
-            changed = true;
-        }
+        changed |= put_text(used, shown, to_stdout, output)?;
     }
     Ok(changed)
 }
@@ -105,29 +107,11 @@ fn print_all<W: Sink, E: Sink>(
 {
     let mut output = printed;
     let Ok(changed) = put_texts(packages, shown, to_stdout, &mut output) else {
-        report_named(err, STDOUT, "Memory");
-        return Err(Cut::Memory);
+        return Err(fail(err, STDOUT, "Memory", Cut::Memory));
     };
     match write_whole(out, &output) {
         Ok(()) => Ok(changed),
-        Err(_) => {
-            report_named(err, STDOUT, "cannot write");
-            Err(Cut::Write)
-        }
-    }
-}
-
-// The text of a file at the end, where it is another one than was read. The error: memory was refused.
-fn new_text(alloc: Global, file: &Opened) -> Result<Option<Vec<u8>>, Memory>
-    ensures { IfOk result (λ new. option_map (λ text. text.items) new
-        ≡ (if differs (opened_in file.now) then Some (present (opened_in file.now).history) else None)) }
-{
-    let mut text = Vec::new(alloc);
-    file.editor.text_into(&mut text)?;
-    if text.as_slice() == file.read.as_slice() {
-        Ok(None)
-    } else {
-        Ok(Some(text))
+        Err(_) => Err(fail(err, STDOUT, "cannot write", Cut::Write)),
     }
 }
 
@@ -168,23 +152,18 @@ fn write_file<F: Files, E: Sink>(
     if options.to_stdout || is_input(used) {
         return Cut::Whole;
     }
-    match new_text(alloc, file) {
-        Ok(Some(text)) => match files.rewrite(name, file.read.as_slice(), &text) {
-            Ok(()) => {
-                report_written(options.quiet, name, err);
-                Cut::Whole
-            }
-            Err(_) => {
-                report_named(err, name, "cannot write");
-                Cut::Files
-            }
-        },
-        Ok(None) => Cut::Whole,
-        Err(_) => {
-            report_named(err, name, "Memory");
-            Cut::Memory
-        }
+    let mut text = Vec::new(alloc);
+    let Ok(changed) = put_file(file, &mut text) else {
+        return fail(err, name, "Memory", Cut::Memory);
+    };
+    if !changed {
+        return Cut::Whole;
     }
+    let Ok(()) = files.rewrite(name, file.read.as_slice(), &text) else {
+        return fail(err, name, "cannot write", Cut::Files);
+    };
+    report_written(options.quiet, name, err);
+    Cut::Whole
 }
 
 // Writes the files that changed, in order; each is tried. With journals they were written before, which is reported.

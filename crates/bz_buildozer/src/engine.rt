@@ -9,7 +9,7 @@ ghost use Rattle.bz_command_line.specs.Paths.{HasPath};
 ghost use Rattle.bz_command_line.specs.Script.{script_of};
 ghost use Rattle.bz_command_line.specs.Shown.{requested_in};
 ghost use Rattle.bz_workspace.specs.Keeps.{KeepsFolder};
-ghost use Rattle.bz_buildozer.specs.Calls.{ReportsLines, PrintsAll, IsStill, ReadsNothing, world_with, world_of, PassesBy, IsEndedOver, Reaches, BreaksOff};
+ghost use Rattle.bz_buildozer.specs.Calls.{ReportsLines, PrintsAll, IsStill, ReadsNothing, world_with, world_of, PassesBy, IsEndedOver, LeavesOutcome};
 ghost use Rattle.bz_buildozer.specs.Moments.{IsMomentOfRun, IsMomentOfSteps};
 ghost use Rattle.bz_buildozer.specs.Outcome.{LinesLeave, WordsOutcome, OperandsOutcome, TextOutcome, ScriptOutcome, AreOfInput, AreOfInputAndSome, IsOfInput, GivesNothing, KeepsJournals, LineGivesNothing, NamesNoFile, TakesNoFile, TakesNoInput, TakesScript};
 ghost use Rattle.bz_buildozer.specs.Steps.{all_steps, input_package, names_input};
@@ -31,6 +31,7 @@ use std::convert::AsStr;
 use std::slice::from_ref;
 
 // Whether rules of standard input are meant where journals are kept: it has none.
+#[tactic(auto, using(crate::proofs::StepLists::named_in_lines))]
 fn lacks_journal(options: Options, lines: &[Requested<'_>]) -> bool
     ensures { result ≡ (options.journal && names_input (map requested_in lines.now)) }
 {
@@ -48,12 +49,8 @@ fn perform<R: Source, W: Sink, E: Sink, F: Files>(
     files: &mut F,
 ) -> Exit
     requires { All (λ requested. All HasPath requested.targets.items) lines.now }
-    ensures whole { (F.honest files.old ≡ true) ⊎ AreOfInputAndSome (map requested_in lines.now)
-        → result.cut ≡ Cut.Whole → Reaches W.Sink E.Sink F.Files
-        (LinesLeave options (map requested_in lines.now) (world_of R.Source F.Files input.old files.old)) result.status out.old out.new err.old err.new files.new }
-    ensures write { (F.honest files.old ≡ true) ⊎ AreOfInputAndSome (map requested_in lines.now)
-        → result.cut ≡ Cut.Write → BreaksOff W.Sink F.Files
-        (LinesLeave options (map requested_in lines.now) (world_of R.Source F.Files input.old files.old)) out.old out.new files.new }
+    ensures leaves { (F.honest files.old ≡ true) ⊎ AreOfInputAndSome (map requested_in lines.now) → LeavesOutcome W.Sink E.Sink F.Files
+        (LinesLeave options (map requested_in lines.now) (world_of R.Source F.Files input.old files.old)) result out.old out.new err.old err.new files.new }
     ensures unread { options.journal ≡ true → names_input (map requested_in lines.now) ≡ true → (input.new ≡ input.old) × (out.new ≡ out.old) × (files.new ≡ files.old) }
     ensures reads_nothing { options.journal ≡ true → ReadsNothing R.Source result.cut input.old input.new }
     ensures unused { result.status ≡ 1 → (input.new ≡ input.old) × (out.new ≡ out.old) × (files.new ≡ files.old) }
@@ -87,12 +84,8 @@ fn run_operands<R: Source, W: Sink, E: Sink, F: Files>(
     err: &mut E,
     files: &mut F,
 ) -> Exit
-    ensures whole { (F.honest files.old ≡ true) ⊎ IsOfInput (words_given (map (λ s. s.now) operands.now))
-        → result.cut ≡ Cut.Whole → Reaches W.Sink E.Sink F.Files
-        (OperandsOutcome options (map (λ s. s.now) operands.now) (world_of R.Source F.Files input.old files.old)) result.status out.old out.new err.old err.new files.new }
-    ensures write { (F.honest files.old ≡ true) ⊎ IsOfInput (words_given (map (λ s. s.now) operands.now))
-        → result.cut ≡ Cut.Write → BreaksOff W.Sink F.Files
-        (OperandsOutcome options (map (λ s. s.now) operands.now) (world_of R.Source F.Files input.old files.old)) out.old out.new files.new }
+    ensures leaves { (F.honest files.old ≡ true) ⊎ IsOfInput (words_given (map (λ s. s.now) operands.now)) → LeavesOutcome W.Sink E.Sink F.Files
+        (OperandsOutcome options (map (λ s. s.now) operands.now) (world_of R.Source F.Files input.old files.old)) result out.old out.new err.old err.new files.new }
     ensures unread { GivesNothing options (words_given (map (λ s. s.now) operands.now)) → (input.new ≡ input.old) × (out.new ≡ out.old) × (files.new ≡ files.old) }
     ensures unused { result.status ≡ 1 → (input.new ≡ input.old) × (out.new ≡ out.old) × (files.new ≡ files.old) }
     ensures usage { result.status ≡ 1 → (line : List ℕ) × OperandsReport options (map (λ s. s.now) operands.now) line
@@ -113,6 +106,7 @@ fn run_operands<R: Source, W: Sink, E: Sink, F: Files>(
 }
 
 // Whether rules of standard input are meant where the lines are read from there.
+#[tactic(auto, using(crate::proofs::StepLists::named_in_lines))]
 fn edits_input(name: &str, lines: &[Requested<'_>]) -> bool
     ensures { result ≡ (bytes_eq name.now input_package && names_input (map requested_in lines.now)) }
 {
@@ -130,13 +124,9 @@ fn run_text<R: Source, W: Sink, E: Sink, F: Files>(
     err: &mut E,
     files: &mut F,
 ) -> Exit
-    ensures whole { F.honest files.old ≡ true → result.cut ≡ Cut.Whole
-        → (known : Option (List ℕ)) → (name.now ≢ input_package → known ≡ R.remaining input.old)
-        → Reaches W.Sink E.Sink F.Files (TextOutcome options name.now (Some bytes.now) (world_with F.Files files.old known))
-        result.status out.old out.new err.old err.new files.new }
-    ensures write { F.honest files.old ≡ true → result.cut ≡ Cut.Write
-        → (known : Option (List ℕ)) → (name.now ≢ input_package → known ≡ R.remaining input.old)
-        → BreaksOff W.Sink F.Files (TextOutcome options name.now (Some bytes.now) (world_with F.Files files.old known)) out.old out.new files.new }
+    ensures leaves { F.honest files.old ≡ true → (known : Option (List ℕ)) → (name.now ≢ input_package → known ≡ R.remaining input.old)
+        → LeavesOutcome W.Sink E.Sink F.Files (TextOutcome options name.now (Some bytes.now) (world_with F.Files files.old known))
+        result out.old out.new err.old err.new files.new }
     ensures unused { result.status ≡ 1 → (input.new ≡ input.old) × (out.new ≡ out.old) × (files.new ≡ files.old) }
     ensures usage { result.status ≡ 1 → (line : List ℕ) × TextReports options name.now (Some bytes.now) line
         × ReportsLines E.Sink err.old err.new (line ∷ []) }
@@ -181,10 +171,8 @@ fn run_script<R: Source, W: Sink, E: Sink, F: Files>(
     err: &mut E,
     files: &mut F,
 ) -> Exit
-    ensures whole { F.honest files.old ≡ true → result.cut ≡ Cut.Whole → Reaches W.Sink E.Sink F.Files
-        (ScriptOutcome options name.now (world_of R.Source F.Files input.old files.old)) result.status out.old out.new err.old err.new files.new }
-    ensures write { F.honest files.old ≡ true → result.cut ≡ Cut.Write → BreaksOff W.Sink F.Files
-        (ScriptOutcome options name.now (world_of R.Source F.Files input.old files.old)) out.old out.new files.new }
+    ensures leaves { F.honest files.old ≡ true → LeavesOutcome W.Sink E.Sink F.Files
+        (ScriptOutcome options name.now (world_of R.Source F.Files input.old files.old)) result out.old out.new err.old err.new files.new }
     ensures unused { result.status ≡ 1 → out.new ≡ out.old }
     ensures unused_input { result.status ≡ 1 → name.now ≢ input_package → input.new ≡ input.old }
     ensures unused_files { result.status ≡ 1 → name.now ≡ input_package → files.new ≡ files.old }
@@ -223,15 +211,10 @@ pub fn buildozer<S: AsStr, R: Source, W: Sink, E: Sink, F: Files>(
     files: &mut F,
 ) -> Exit
     // Where the files are honest, or none is named, a whole run leaves what the words, the bytes of standard input and the folder
-    // mean, without journals as with them.
-    ensures whole { (F.honest files.old ≡ true) ⊎ NamesNoFile (map S.text words.now)
-        → result.cut ≡ Cut.Whole → Reaches W.Sink E.Sink F.Files
-        (WordsOutcome (map S.text words.now) (world_of R.Source F.Files input.old files.old)) result.status out.old out.new err.old err.new files.new }
-
-    // Where standard output fails, a beginning of what it is to be given is there, and the files are as a whole run leaves them.
-    ensures write { (F.honest files.old ≡ true) ⊎ NamesNoFile (map S.text words.now)
-        → result.cut ≡ Cut.Write → BreaksOff W.Sink F.Files
-        (WordsOutcome (map S.text words.now) (world_of R.Source F.Files input.old files.old)) out.old out.new files.new }
+    // mean, without journals as with them. Where standard output fails, a beginning of what it is to be given is there, and the files
+    // are as a whole run leaves them.
+    ensures leaves { (F.honest files.old ≡ true) ⊎ NamesNoFile (map S.text words.now) → LeavesOutcome W.Sink E.Sink F.Files
+        (WordsOutcome (map S.text words.now) (world_of R.Source F.Files input.old files.old)) result out.old out.new err.old err.new files.new }
 
     // Words that request nothing leave the input, the output and the files as they were.
     ensures unread { LineGivesNothing (command_line_of (map S.text words.now)) → (input.new ≡ input.old) × (out.new ≡ out.old) × (files.new ≡ files.old) }

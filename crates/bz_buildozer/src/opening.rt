@@ -3,8 +3,8 @@ ghost use Rattle.std.specs.Prelude.{◌≡◌, ◌≢◌, ◌⊎◌, ◌≤◌, 
 ghost use Rattle.bz_streams.specs.Outputs.{Counts};
 ghost use Rattle.bz_streams.specs.Reported.{stdin};
 ghost use Rattle.bz_workspace.specs.Keeps.{KeepsFolder};
-ghost use Rattle.bz_workspace.specs.Opens.{Opens};
-ghost use Rattle.bz_workspace.specs.Packages.{Opened, package_number, file_at};
+ghost use Rattle.bz_workspace.specs.Opens.{Extends, Opens};
+ghost use Rattle.bz_workspace.specs.Packages.{package_number, file_at};
 ghost use Rattle.bz_buildozer.specs.Calls.{ReportsLines, ReadsNothing, UsesSome, world_with, AreCutOver};
 ghost use Rattle.bz_buildozer.specs.Cuts.{AreCutBy, IsLeft, OpensInput};
 ghost use Rattle.bz_buildozer.specs.Keeping.{UsesBeside};
@@ -34,10 +34,8 @@ fn open_input<R: Source, E: Sink>(
     err: &mut E,
 ) -> Opening
     requires { package_number input_package workspace.old ≡ None }
-    ensures whole { result.cut ≡ Cut.Whole → (text : List ℕ) × (file : Option Opened) × (lines : List (List ℕ)) × IsInput (R.remaining input.old) text
-        × Opens input_package (Some (stdin, text)) file lines × (workspace.new ≡ workspace.old ++ record { «package» = input_package; file = file } ∷ [])
-        × (result.place ≡ option_map (λ _. length workspace.old) file)
-        × ReportsLines E.Sink err.old err.new lines }
+    ensures whole { result.cut ≡ Cut.Whole → (text : List ℕ) × IsInput (R.remaining input.old) text
+        × Extends E.Sink (Opens input_package (Some (stdin, text))) input_package result.place workspace.old workspace.new err.old err.new }
     ensures there { IfSome result.place (λ at. IsSome (file_at at workspace.new)) }
     ensures failed { result.cut ≡ Cut.Read → (result.place ≡ None) × (workspace.new ≡ workspace.old ++ record { «package» = input_package; file = None } ∷ []) }
     ensures works { R.sound input.old ≡ true → result.cut ≢ Cut.Read }

@@ -6,18 +6,31 @@ ghost use Rattle.bz_streams.specs.Reported.{named_line};
 ghost use Rattle.bz_buildozer.specs.Calls.{ReportsLine};
 ghost use Rattle.bz_buildozer.specs.Reported.{numbered, history_hint, refusal_line, operand_line, nul_line, refused_place, usage_line, IsLineUsageLine};
 
-use crate::ending::{FAILED, USAGE};
 use bz_command_line::{Hint, LineFault, Refused, ScriptFault, UsageFault, hint_for};
 use bz_streams::{Cut, Exit, STDIN, Sink, report, report_clap, report_named};
 use bz_value::Refusal;
 use itoa::Buffer;
 use std::alloc::{AllocError, Global};
 
+// The status of words that request nothing.
+const USAGE: u8 = 1;
+
+/// The status of a run of which a step or a port failed.
+pub(crate) const FAILED: u8 = 2;
+
 /// The words, or the lines of a file, request nothing, which was reported.
 pub(crate) const UNUSED: Exit = Exit {
     status: USAGE,
     cut: Cut::Whole,
 };
+
+/// Reports a word on a file. Returned: why the run is cut.
+pub(crate) fn fail<E: Sink>(err: &mut E, name: &str, word: &str, cut: Cut) -> Cut
+    ensures { result ≡ cut }
+{
+    report_named(err, name, word);
+    cut
+}
 
 // What is printed after the line of a refusal.
 fn history_hint(journals: bool, file: &str, refusal: Refusal) -> &'static str

@@ -1,12 +1,11 @@
 //! Commands and targets as a session takes them.
-ghost use Rattle.std.specs.Prelude.{◌≡◌, map, option_map};
+ghost use Rattle.std.specs.Prelude.{◌≡◌, option_map};
 ghost use Rattle.std.specs.List.{list_any};
 ghost use Rattle.bz_command_line.specs.Paths.{HasPath};
 ghost use Rattle.bz_workspace.specs.Sessions.{action_in};
-ghost use Rattle.bz_command_line.specs.Shown.{requested_in};
 ghost use Rattle.bz_buildozer.specs.Steps as s;
 ghost use Rattle.bz_buildozer.specs.private.Shown.{targets_input_in, prints_nothing_in, shown_in};
-ghost use Rattle.bz_buildozer.specs.Steps.{is_of_input, names_input, shows_input, all_steps};
+ghost use Rattle.bz_buildozer.specs.Steps.{is_of_input};
 
 use crate::script::INPUT;
 use bz_command_line::{Request, Requested, Verb};
@@ -68,28 +67,16 @@ fn is_shown(line: &Requested<'_>) -> bool
     targets_input(line) && any_prints_nothing(&line.commands)
 }
 
-fn any_targets_input(lines: &[Requested<'_>]) -> bool
+/// Whether rules of standard input are meant in one of the lines.
+pub(crate) fn names_input(lines: &[Requested<'_>]) -> bool
     ensures { result ≡ list_any targets_input_in lines.now }
 {
     lines.iter().any(|line| targets_input(line))
 }
 
-fn any_shown(lines: &[Requested<'_>]) -> bool
+/// Whether the text of standard input is shown: a command on it is not one that prints.
+pub(crate) fn shows_input(lines: &[Requested<'_>]) -> bool
     ensures { result ≡ list_any shown_in lines.now }
 {
     lines.iter().any(|line| is_shown(line))
-}
-
-/// Whether rules of standard input are meant in one of the lines.
-pub(crate) fn names_input(lines: &[Requested<'_>]) -> bool
-    ensures { result ≡ names_input (map requested_in lines.now) }
-{
-    any_targets_input(lines)
-}
-
-/// Whether the text of standard input is shown: a command on it is not one that prints.
-pub(crate) fn shows_input(lines: &[Requested<'_>]) -> bool
-    ensures { result ≡ shows_input (all_steps (map requested_in lines.now)) }
-{
-    any_shown(lines)
 }

@@ -3,7 +3,8 @@ use Rattle.std.proofs.Common.{◌≡◌, ◌∙◌, ◌||◌, ℕ, Bool, not, tr
 use Rattle.std.specs.Prelude.{◌==◌, IfErr}
 use Rattle.bz_journal.specs.declared.action.Reply.{Reply}
 use Rattle.bz_journal.specs.declared.keeping.KeepFault.{KeepFault}
-use Rattle.bz_journal.specs.declared.keeping.KeepFault.TheVariants.{Refused, Pair}
+use Rattle.bz_journal.specs.declared.keeping.KeepFault.TheVariants.{Pair}
+use Rattle.bz_resume.specs.declared.pair_fault.PairFault.{PairFault}
 use Rattle.bz_journal.specs.History.{History}
 use Rattle.bz_journal.specs.Keeping.{IsRefused}
 use Rattle.bz_journal.specs.State.{SessionState}
@@ -25,8 +26,6 @@ marked_written after file mid written from to same marked begun ended =
     ∙ ap (λ (n : ℕ). file.written || not (n == file.history.cursor)) ended in
     ap (λ (f : Opened). record f { written = written }) same ∙ ap (λ (b : Bool). record file { history = after; written = b }) wrote
 
-pub marked_left : (fault : KeepFault) (after : History) (file mid : Opened) (left : Bool) → mid ≡ record file { history = after }
-    → (IsRefused fault → left ≡ mid.left) → ((IsRefused fault → ⊥) → left ≡ true) → record mid { left = left } ≡ after_keeping (Err fault) after file
-marked_left (Refused refusal) after file mid left same refused pair = ap (λ (b : Bool). record mid { left = b }) (refused tt) ∙ same
-marked_left (Pair why) after file mid left same refused pair =
-    ap (λ (b : Bool). record mid { left = b }) (pair (λ h. h)) ∙ ap (λ (f : Opened). record f { left = true }) same
+pub marked_left : (fault : PairFault) (after : History) (file mid : Opened) → mid ≡ record file { history = after }
+    → record mid { left = true } ≡ after_keeping (Err (Pair fault)) after file
+marked_left fault after file mid same = ap (λ (f : Opened). record f { left = true }) same

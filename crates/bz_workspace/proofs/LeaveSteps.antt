@@ -1,20 +1,15 @@
--- What an action leaves of a history, and what keeping one leaves of a file that goes on.
+-- What an action leaves of a history.
 use Rattle.std.proofs.Common.{◌≡◌, ◌≢◌, ◌⊎◌, ◌∙◌, ◌+◌, ◌-◌, arith, ℕ, Bool, true, false, true≢false, eq-eqb, refl, sym, ap, subst, inl, inr, Option, Result, Ok, Err, nat_lt, if◌then◌else◌}
 use Rattle.std.specs.Prelude.{◌==◌, bytes_eq, length}
 use Rattle.bz_items.specs.Characters.{Bytes}
 use Rattle.bz_value.specs.declared.refusal.Refusal.TheVariants.{TooFar, Full, NoteTooLong}
-use Rattle.bz_files.specs.declared.files.Files.{Ghosts as FilesOf}
-use Rattle.bz_resume.specs.Resuming.{Resumes}
 use Rattle.bz_journal.specs.Actions.{Action}
 use Rattle.bz_journal.specs.Actions.{Do, Format, Undo, Redo}
 use Rattle.bz_journal.specs.declared.action.Reply.{Reply}
 use Rattle.bz_journal.specs.declared.action.Reply.TheVariants.{Changed, Moved}
-use Rattle.bz_journal.specs.declared.keeping.KeepFault.{KeepFault}
-use Rattle.bz_journal.specs.declared.keeping.KeepFault.TheVariants.{Refused, Pair}
 use Rattle.bz_journal.specs.Meaning.{Meaning, gives, refuses}
 use Rattle.bz_journal.specs.History.{History, Answer, Acts, Makes, after_meaning, changed, most_steps, moved, present, unchanged}
-use Rattle.bz_journal.specs.Keeping.{Keeps}
-use Rattle.bz_workspace.specs.Keeps.{KeepsFile, StillIsSame}
+use Rattle.bz_workspace.specs.Keeps.{StillIsSame}
 
 -- The history is as it was; or it was answered well, another text is the present one, and its package is the same.
 abbrev pub Leaves : History → Answer → History → Type 0
@@ -76,38 +71,3 @@ still_same action note h after answer acts = go (acts_leaves action note h after
     go : Leaves h answer after → (after.«package» ≡ h.«package») × (after.cursor ≡ h.cursor → after ≡ h)
     go (inl same) = (ap (λ (g : History). g.«package») same, λ _. same)
     go (inr went) = (went.2, λ back. absurd (went.1 back))
-
--- a refused action leaves the history
-refused_same : (h after : History) (answer : Answer) → Leaves h answer after → ((reply : Reply) → answer ≢ Ok reply) → after ≡ h
-refused_same h after answer (inl same) other = same
-refused_same h after answer (inr went) other = absurd (other went.0.0 went.0.1)
-
--- ---- a file that goes on
-
--- the pair did not fail
-abbrev pub IsKeptOrRefused : Result Reply KeepFault → Type 0
-IsKeptOrRefused (Ok reply) = Unit {0}
-IsKeptOrRefused (Err (Refused refusal)) = Unit {0}
-IsKeptOrRefused (Err (Pair fault)) = ⊥
-
-still_goes : {F : Type 0} (files : FilesOf F) (name : Bytes) (before after : History) (old new : F) → after ≡ before → new ≡ old
-    → Resumes (files.folder old) name before.«package» before.texts → Resumes (files.folder new) name after.«package» after.texts
-still_goes {F = F} files name before after old new same stays resumes =
-    subst (λ (f : F). Resumes (files.folder f) name after.«package» after.texts) (sym stays)
-    (subst (λ (h : History). Resumes (files.folder old) name h.«package» h.texts) (sym same) resumes)
-
--- A file that went on, and whose pair did not fail, goes on with the texts of its history then.
-pub goes_on : {F : Type 0} (files : FilesOf F) (action : Action) (note name : Bytes) (before after : History) (answer : Result Reply KeepFault) (old new : F)
-    → Keeps action note before answer after → KeepsFile files name before after answer old new → IsKeptOrRefused answer → files.honest old ≡ true
-    → Resumes (files.folder old) name before.«package» before.texts → Resumes (files.folder new) name after.«package» after.texts
-goes_on files action note name before after (Ok reply) old new keeps pair kept honest resumes =
-    elim (acts_leaves action note before after (Ok reply) keeps) [
-      | inl same ↦ still_goes files name before after old new same (pair.still (ap (λ (h : History). h.cursor) same)) resumes
-      | inr went ↦
-          let holds = (pair.kept honest resumes went.1).0 in
-          subst (λ (current : Bytes). Resumes (files.folder new) name current after.texts) (sym went.2) (present after, holds)
-    ]
-goes_on files action note name before after (Err (Refused refusal)) old new keeps pair kept honest resumes =
-    let same = refused_same before after (Err refusal) (acts_leaves action note before after (Err refusal) keeps) (λ reply is. absurd (cc)) in
-    still_goes files name before after old new same (pair.refused tt) resumes
-goes_on files action note name before after (Err (Pair fault)) old new keeps pair kept honest resumes = absurd kept

@@ -1,5 +1,5 @@
 -- The file that an opening leaves, whatever comes.
-use Rattle.std.proofs.Common.{arith, ◌≡◌, ◌⊎◌, ◌∙◌, ◌+◌, ◌<◌, ◌++◌, inl, inr, ℕ, suc, Bool, List, [], ◌∷◌, length, take, Option, Some, None, Result, Ok, Err, refl, sym, ap, subst}
+use Rattle.std.proofs.Common.{arith, ◌≡◌, true, ◌⊎◌, ◌∙◌, ◌+◌, ◌<◌, ◌++◌, inl, inr, ℕ, suc, Bool, List, [], ◌∷◌, length, take, Option, Some, None, Result, Ok, Err, refl, sym, ap, subst}
 use Rattle.std.specs.Prelude.{IfSome, IsSome, unwrap_or}
 use Rattle.std.specs.Option.{option_map}
 use Rattle.std.specs.FinMap.{get}
@@ -7,16 +7,17 @@ use Rattle.bz_grammar.specs.Spell.{limit}
 use Rattle.bz_items.specs.Characters.{Bytes}
 use Rattle.bz_files.specs.Folder.{Folder}
 use Rattle.bz_files.specs.declared.files.Files.{Ghosts as FilesOf}
-use Rattle.bz_files.proofs.Elapsing.{elapsed_on, stays}
+use Rattle.bz_files.proofs.Elapsing.{elapsed_on}
 use Rattle.bz_journal.specs.History.{History}
 use Rattle.bz_resume.specs.Pair.{journal_name}
-use Rattle.bz_streams.specs.Outputs.{Reports}
+use Rattle.bz_streams.specs.Faults.{Rises}
+use Rattle.bz_streams.specs.Outputs.{Counts, Reports}
 use Rattle.bz_streams.specs.declared.exit.Cut.{Cut}
 use Rattle.bz_streams.specs.declared.exit.Cut.TheVariants as c
 use Rattle.bz_streams.specs.declared.sink.Sink.{Ghosts as SinkOf}
 use Rattle.bz_workspace.specs.Found.{IsNameOf}
 use Rattle.bz_workspace.specs.Journals.{Adds, IsOpenedIn, JournalFault, JournalGives, Puts, TakesBeside, fault_lines, file_of_journal, journal_beside, lines_of_journal}
-use Rattle.bz_workspace.specs.Keeps.{KeepsFolder}
+use Rattle.bz_workspace.specs.Keeps.{KeepsFolder, ReadsFiles}
 use Rattle.bz_workspace.specs.Opens.{Fills}
 use Rattle.bz_workspace.specs.Packages.{Opened, Used, file_at, opened_with, with_opened}
 use Rattle.bz_workspace.proofs.FileSteps.{before_stay, none_stays, opened_there, put_last}
@@ -141,15 +142,18 @@ length_last (first ∷ more) one = ap suc (length_last more one)
 pub last_within : (place : ℕ) (used mid : List Used) (one : Used) → place ≡ length used → mid ≡ used ++ one ∷ [] → place < length mid
 last_within place used mid one at is = let long = ap length is ∙ length_last used one in omega (arith, at, long)
 
--- ---- moments
+-- ---- files that are read
 
--- no time went by
-pub still_same : {F : Type 0} (files : FilesOf F) (old : F) → KeepsFolder files old old
-still_same files old = stays (files.moment old) (files.since old) (λ (now : Folder). now ≡ files.folder old)
-
--- two calls, one after the other
-pub still_on : {F : Type 0} (files : FilesOf F) (old mid new : F) → files.folder mid ≡ files.folder old → KeepsFolder files old mid → KeepsFolder files mid new
-    → KeepsFolder files old new
-still_on files old mid new same first second =
-    elapsed_on (files.moment old) (files.moment mid) (files.moment new) (files.since old) (files.since mid) (files.since new)
-    (λ (now : Folder). now ≡ files.folder old) (λ (now : Folder). now ≡ files.folder mid) (λ now is. is ∙ same) first second
+-- two reads, one after the other, of which the first did not fail
+pub reads_on : {F : Type 0} (files : FilesOf F) (why : Cut) (old mid new : F) → (files.honest old ≡ true → files.folder mid ≡ files.folder old)
+    → (files.honest old ≡ true → KeepsFolder files old mid) → files.faults mid ≡ files.faults old → files.honest mid ≡ files.honest old
+    → ReadsFiles files why mid new → ReadsFiles files why old new
+reads_on files why old mid new same time still honest more = record {
+  folder = λ trusted. more.folder (honest ∙ trusted) ∙ same trusted;
+  time = λ trusted. elapsed_on (files.moment old) (files.moment mid) (files.moment new) (files.since old) (files.since mid) (files.since new)
+      (λ (now : Folder). now ≡ files.folder old) (λ (now : Folder). now ≡ files.folder mid) (λ now is. is ∙ same trusted) (time trusted) (more.time (honest ∙ trusted));
+  cut = subst (λ (n : ℕ). (why ≡ c.Whole) ⊎ ((why ≡ c.Memory) ⊎ ((why ≡ c.Files) × Rises n (files.faults new)))) still more.cut;
+  steady = λ whole. more.steady whole ∙ still;
+  counts = subst (λ (n : ℕ). Counts n (files.faults new)) still more.counts;
+  honest = more.honest ∙ honest;
+}

@@ -16,11 +16,23 @@ use Rattle.bz_journal.specs.declared.keeping.KeepFault.{KeepFault}
 use Rattle.bz_journal.specs.declared.keeping.KeepFault.TheVariants.{Refused, Pair}
 use Rattle.bz_journal.specs.History.{Acts, Answer, History, present}
 use Rattle.bz_journal.specs.Keeping.{IsRefused, IsWriteOrOpen, Keeps}
+use Rattle.bz_streams.specs.Outputs.{Counts}
+use Rattle.bz_streams.specs.declared.exit.Cut.{Cut}
+use Rattle.bz_streams.specs.declared.exit.Cut.TheVariants as c
 use Rattle.bz_workspace.specs.Packages.{Opened, Used, file_at, with_opened}
 
 -- A folder of honest files was the same at each moment of the call.
 abbrev pub KeepsFolder : {F : Type 0} → FilesOf F → F → F → Type 0
 KeepsFolder files old new = Elapses (files.moment old) (files.moment new) (files.since old) (files.since new) (λ now. now ≡ files.folder old)
+
+-- Files are read: a folder of honest ones stays the same, and a fault of theirs is counted and cuts what is opened. (Why it is cut.)
+pub record ReadsFiles {F : Type 0} (files : FilesOf F) (why : Cut) (old new : F) : Type 0 where
+  pub folder : files.honest old ≡ true → files.folder new ≡ files.folder old
+  pub time : files.honest old ≡ true → KeepsFolder files old new
+  pub cut : (why ≡ c.Whole) ⊎ (why ≡ c.Memory) ⊎ ((why ≡ c.Files) × Rises (files.faults old) (files.faults new))
+  pub steady : why ≡ c.Whole → files.faults new ≡ files.faults old
+  pub counts : Counts (files.faults old) (files.faults new)
+  pub honest : files.honest new ≡ files.honest old
 
 -- What keeping an action does to files: to the file of this name and to its journal, by the history before and the one after it, and
 -- by what was answered. (The files before and after.)

@@ -1,5 +1,5 @@
 -- How a package is opened, and what an action does in one.
-use Rattle.std.specs.Prelude.{◌≡◌, ◌⊎◌, ◌↔◌, ◌+◌, ℕ, List, [], ◌∷◌, take, codes, Option, Some, None}
+use Rattle.std.specs.Prelude.{◌≡◌, ◌⊎◌, ◌↔◌, ◌+◌, ◌++◌, ℕ, List, [], ◌∷◌, length, take, codes, Option, Some, None}
 use Rattle.std.specs.Option.{option_map}
 use Rattle.bz_lex.specs.declared.fault.ReadFault.{ReadFault}
 use Rattle.bz_grammar.specs.Legal.{Accepted}
@@ -39,6 +39,12 @@ Opens current None file lines = (file ≡ None) × (lines ≡ named_line (second
 abbrev pub Fills : {E : Type 0} → SinkOf E → (Option Opened → List Bytes → Type 0) → ℕ → Option ℕ → List Used → List Used → E → E → Type 0
 Fills sink Is place number before after old new = (file : Option Opened) × (lines : List Bytes) × Is file lines
     × (after ≡ with_opened place file before) × (number ≡ option_map (λ _. place) file)
+    × Reports (sink.faults old) (sink.faults new) (sink.contents old) (sink.contents new) lines
+
+-- The same of a package that is the last one from now on.
+abbrev pub Extends : {E : Type 0} → SinkOf E → (Option Opened → List Bytes → Type 0) → Bytes → Option ℕ → List Used → List Used → E → E → Type 0
+Extends sink Is current number before after old new = (file : Option Opened) × (lines : List Bytes) × Is file lines
+    × (after ≡ before ++ record { «package» = current; file = file } ∷ []) × (number ≡ option_map (λ _. length before) file)
     × Reports (sink.faults old) (sink.faults new) (sink.contents old) (sink.contents new) lines
 
 -- An action with a note is done in the open file of the package with this number.

@@ -72,10 +72,8 @@ pub(crate) fn bytes_of<F: Files>(
     ensures honest { F.honest files.new ≡ F.honest files.old }
 {
     let mut text = Vec::new(alloc);
-    match files.read_most(name, most, &mut text) {
-        Ok(()) => Ok(text),
-        Err(fault) => Err(fault),
-    }
+    files.read_most(name, most, &mut text)?;
+    Ok(text)
 }
 
 /// The open file of a text that was read. Errors: those of reading the text; `Memory` where a growth was refused.

@@ -1,9 +1,9 @@
 //! The packages that a run has used, and their files.
-ghost use Rattle.std.specs.Prelude.{◌≡◌, ◌<◌, ◌==◌, ◌||◌, not, true, map, length, string_bytes};
+ghost use Rattle.std.specs.Prelude.{◌≡◌, ◌<◌, map, length, string_bytes};
 ghost use Rattle.std.specs.Option.{option_map};
 ghost use Rattle.bz_journal.specs.Actions.{action_in};
 ghost use Rattle.bz_journal.specs.History.{History};
-ghost use Rattle.bz_journal.specs.Keeping.{IsRefused, Keeps};
+ghost use Rattle.bz_journal.specs.Keeping.{Keeps};
 ghost use Rattle.bz_journal.specs.Shown.{session_history};
 ghost use Rattle.bz_workspace.specs.Keeps.{KeepsFile, after_keeping};
 ghost use Rattle.bz_workspace.specs.Packages.{opened_with, with_opened};
@@ -72,32 +72,15 @@ impl Opened {
         let from = self.editor.cursor();
         match self.keep_pair(action, note, files) {
             Ok(reply) => {
-                self.written = has_written(self.written, from, self.editor.cursor());
+                self.written |= self.editor.cursor() != from;
                 Ok(reply)
             }
-            Err(fault) => {
-                self.left = leaves(self.left, &fault);
-                Err(fault)
+            Err(KeepFault::Refused(refusal)) => Err(KeepFault::Refused(refusal)),
+            Err(KeepFault::Pair(fault)) => {
+                self.left = true;
+                Err(KeepFault::Pair(fault))
             }
         }
-    }
-}
-
-/// Whether a pair was written before, or was now since the number of the present text is another one.
-fn has_written(before: bool, from: u32, to: u32) -> bool
-    ensures { result ≡ (before || not (to == from)) }
-{
-    before || to != from
-}
-
-/// Whether a file is left alone: it was before, or its pair could not be written now.
-fn leaves(before: bool, fault: &KeepFault) -> bool
-    ensures refused { IsRefused fault.now → result ≡ before }
-    ensures pair { (IsRefused fault.now → ⊥) → result ≡ true }
-{
-    match fault {
-        KeepFault::Refused(_) => before,
-        KeepFault::Pair(_) => true,
     }
 }
 

@@ -4,14 +4,13 @@ ghost use Rattle.std.specs.Option.{option_map};
 ghost use Rattle.bz_resume.specs.Pair.{journal_name};
 ghost use Rattle.bz_items.specs.Characters.{Bytes};
 ghost use Rattle.bz_streams.specs.Faults.{Rises};
-ghost use Rattle.bz_streams.specs.Outputs.{Counts, Reports};
 ghost use Rattle.bz_workspace.specs.Found.{found_in, found_second};
 ghost use Rattle.bz_workspace.specs.Kept.{texts_of_keys, packages_of};
 ghost use Rattle.bz_journal.specs.Actions.{action_in};
 ghost use Rattle.bz_journal.specs.Keeping.{IsWriteOrOpen};
 ghost use Rattle.bz_workspace.specs.Journals.{Adds, IsOpenedIn, OpensBeside, Puts, TakesBeside, journal_beside};
-ghost use Rattle.bz_workspace.specs.Keeps.{KeepsAt, KeepsFolder};
-ghost use Rattle.bz_workspace.specs.Opens.{ActsAt, Fills, Opens, Takes};
+ghost use Rattle.bz_workspace.specs.Keeps.{KeepsAt, ReadsFiles};
+ghost use Rattle.bz_workspace.specs.Opens.{ActsAt, Extends, Fills, Opens, Takes};
 ghost use Rattle.bz_workspace.specs.Packages as p;
 ghost use Rattle.bz_workspace.specs.Packages.{file_at, package_number, with_opened};
 ghost use Rattle.bz_workspace.specs.Shown.{opened_in, used_in};
@@ -213,12 +212,7 @@ impl Workspace {
         ensures puts { Puts place (λ file. F.honest files.old ≡ true
             → TakesBeside (journal_beside journals (F.folder files.old) name.now) «package».now name.now text.items (Some file) [])
             result.place self.old self.new }
-        ensures folder { F.honest files.old ≡ true → F.folder files.new ≡ F.folder files.old }
-        ensures time { F.honest files.old ≡ true → KeepsFolder F.Files files.old files.new }
-        ensures cut { (result.cut ≡ Cut.Whole) ⊎ (result.cut ≡ Cut.Memory) ⊎ ((result.cut ≡ Cut.Files) × Rises (F.faults files.old) (F.faults files.new)) }
-        ensures steady { result.cut ≡ Cut.Whole → F.faults files.new ≡ F.faults files.old }
-        ensures counts { Counts (F.faults files.old) (F.faults files.new) }
-        ensures honest { F.honest files.new ≡ F.honest files.old }
+        ensures files { ReadsFiles F.Files result.cut files.old files.new }
     {
         if !journals {
             return self.open_text(place, package, name, text, err);
@@ -260,12 +254,7 @@ impl Workspace {
             → Fills E.Sink (OpensBeside journals (F.folder files.old) «package».now (found_second (F.folder files.old) «package».now)) place result.place
             self.old self.new err.old err.new }
         ensures puts { Puts place (λ file. F.honest files.old ≡ true → IsOpenedIn journals (F.folder files.old) «package».now file) result.place self.old self.new }
-        ensures folder { F.honest files.old ≡ true → F.folder files.new ≡ F.folder files.old }
-        ensures time { F.honest files.old ≡ true → KeepsFolder F.Files files.old files.new }
-        ensures cut { (result.cut ≡ Cut.Whole) ⊎ (result.cut ≡ Cut.Memory) ⊎ ((result.cut ≡ Cut.Files) × Rises (F.faults files.old) (F.faults files.new)) }
-        ensures steady { result.cut ≡ Cut.Whole → F.faults files.new ≡ F.faults files.old }
-        ensures counts { Counts (F.faults files.old) (F.faults files.new) }
-        ensures honest { F.honest files.new ≡ F.honest files.old }
+        ensures files { ReadsFiles F.Files result.cut files.old files.new }
     {
         let alloc = *self.used.allocator();
         let Ok(name) = name_in(alloc, package, "BUILD") else {
@@ -296,12 +285,7 @@ impl Workspace {
             → Fills E.Sink (OpensBeside journals (F.folder files.old) «package».now (found_in (F.folder files.old) «package».now)) place result.place
             self.old self.new err.old err.new }
         ensures puts { Puts place (λ file. F.honest files.old ≡ true → IsOpenedIn journals (F.folder files.old) «package».now file) result.place self.old self.new }
-        ensures folder { F.honest files.old ≡ true → F.folder files.new ≡ F.folder files.old }
-        ensures time { F.honest files.old ≡ true → KeepsFolder F.Files files.old files.new }
-        ensures cut { (result.cut ≡ Cut.Whole) ⊎ (result.cut ≡ Cut.Memory) ⊎ ((result.cut ≡ Cut.Files) × Rises (F.faults files.old) (F.faults files.new)) }
-        ensures steady { result.cut ≡ Cut.Whole → F.faults files.new ≡ F.faults files.old }
-        ensures counts { Counts (F.faults files.old) (F.faults files.new) }
-        ensures honest { F.honest files.new ≡ F.honest files.old }
+        ensures files { ReadsFiles F.Files result.cut files.old files.new }
     {
         let alloc = *self.used.allocator();
         let Ok(name) = name_in(alloc, package, "BUILD.bazel") else {
@@ -338,17 +322,10 @@ impl Workspace {
             → (result ≡ record { place = option_map (λ _. place) (file_at place self.old); cut = Cut.Whole })
             × (self.new ≡ self.old) × (files.new ≡ files.old) × (err.new ≡ err.old) }
         ensures first { journals ≡ false → F.honest files.old ≡ true → result.cut ≡ Cut.Whole → package_number «package».now self.old ≡ None
-            → (file : Option p.Opened) × (lines : List Bytes)
-            × Opens «package».now (found_in (F.folder files.old) «package».now) file lines
-            × (self.new ≡ self.old ++ record { «package» = «package».now; file = file } ∷ [])
-            × (result.place ≡ option_map (λ _. length self.old) file)
-            × Reports (E.faults err.old) (E.faults err.new) (E.contents err.old) (E.contents err.new) lines }
+            → Extends E.Sink (Opens «package».now (found_in (F.folder files.old) «package».now)) «package».now result.place self.old self.new err.old err.new }
         ensures opens { F.honest files.old ≡ true → result.cut ≡ Cut.Whole → package_number «package».now self.old ≡ None
-            → (file : Option p.Opened) × (lines : List Bytes)
-            × OpensBeside journals (F.folder files.old) «package».now (found_in (F.folder files.old) «package».now) file lines
-            × (self.new ≡ self.old ++ record { «package» = «package».now; file = file } ∷ [])
-            × (result.place ≡ option_map (λ _. length self.old) file)
-            × Reports (E.faults err.old) (E.faults err.new) (E.contents err.old) (E.contents err.new) lines }
+            → Extends E.Sink (OpensBeside journals (F.folder files.old) «package».now (found_in (F.folder files.old) «package».now)) «package».now result.place
+            self.old self.new err.old err.new }
         ensures there { IfSome result.place (λ at. IsSome (file_at at self.new)) }
 
         // Whatever comes, the packages that were used before stay as they were, and the new one is the last or not there; its file, where
@@ -356,12 +333,7 @@ impl Workspace {
         ensures kept { take (length self.old) self.new ≡ self.old }
         ensures adds { package_number «package».now self.old ≡ None → Adds «package».now (λ file. F.honest files.old ≡ true
             → IsOpenedIn journals (F.folder files.old) «package».now file) result.place self.old self.new }
-        ensures folder { F.honest files.old ≡ true → F.folder files.new ≡ F.folder files.old }
-        ensures time { F.honest files.old ≡ true → KeepsFolder F.Files files.old files.new }
-        ensures cut { (result.cut ≡ Cut.Whole) ⊎ (result.cut ≡ Cut.Memory) ⊎ ((result.cut ≡ Cut.Files) × Rises (F.faults files.old) (F.faults files.new)) }
-        ensures steady { result.cut ≡ Cut.Whole → F.faults files.new ≡ F.faults files.old }
-        ensures counts { Counts (F.faults files.old) (F.faults files.new) }
-        ensures honest { F.honest files.new ≡ F.honest files.old }
+        ensures files { ReadsFiles F.Files result.cut files.old files.new }
     {
         if let Some(place) = self.place(package.as_bytes()) {
             return Opening::new(self.opened_at(place), Cut::Whole);
@@ -378,7 +350,8 @@ impl Workspace {
         requires { IsSome (file_at place self.old) }
         ensures { ActsAt place (action_in action.now) note.now self.old result self.new }
     {
-        match &mut self.used[place].file {
+        let used = &mut self.used[place];
+        match &mut used.file {
             Some(opened) => opened.editor.act_noted(action, note),
             None => unreachable!(),
         }

@@ -47,8 +47,8 @@ returns-then-is_left_at-clause-keeps g c = λ kept. inl (refl, refl)
 pub returns-in-None-clause-keeps : goal.returns-in-None-clause-keeps
 returns-in-None-clause-keeps g c = λ kept. inl (c.list_at.ensures.same, refl)
 
-pub returns-then-journals-clause-beside : goal.returns-then-journals-clause-beside
-returns-then-journals-clause-beside g c = λ kept honest stand whole.
+pub returns-in-Some-clause-beside : goal.returns-in-Some-clause-beside
+returns-in-Some-clause-beside g c = λ kept honest stand whole.
     let done = c.keep_at.ensures.whole honest stand whole in
     let step = step_of c.args.target.now (request_in c.args.request.now) in (
       reported_of true done.0.name step.request.text done.1,

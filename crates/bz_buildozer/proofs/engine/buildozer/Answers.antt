@@ -5,44 +5,38 @@ use Rattle.bz_command_line.specs.Shown.{given_in, line_in, line_usage_in}
 use Rattle.bz_streams.proofs.Outputs.{appends_nothing}
 use Rattle.bz_buildozer.specs.Outcome.{GivesNothing, LineGivesNothing}
 use Rattle.bz_buildozer.specs.Run.{World}
-use Rattle.bz_buildozer.proofs.Outcomes.{line_usage_reported, words_refused, words_done, words_kept, words_premise, words_of_input, script_premise}
+use Rattle.bz_buildozer.proofs.Outcomes.{leaves_more, unwritten, line_usage_reported, words_refused, words_done, words_kept, words_premise, words_of_input, script_premise}
 use Rattle.bz_buildozer.proofs.MomentSteps.{by_words, each_of, no_words}
 use Rattle.bz_buildozer.proofs.UnusedSteps.{no_time, lines_apart, lines_of_input}
 use Rattle.bz_buildozer.proofs.UsageSteps.{words_reported, given_reported}
 use Rattle.bz_buildozer.proofs.engine.buildozer.Goals as goal
 
-pub returns-in-Err-clause-whole : goal.returns-in-Err-clause-whole
-returns-in-Err-clause-whole g c premise is_whole =
-    let exit = c.report_line_usage.ensures.whole is_whole in
-    let reported = line_usage_reported (line_usage_in c.in-Err.fault) (g.E.Sink.faults c.args.err.now) (g.E.Sink.faults c.report_line_usage.new.err)
-    (g.E.Sink.contents c.args.err.now) (g.E.Sink.contents c.report_line_usage.new.err) (c.report_line_usage.ensures.some exit) (c.report_line_usage.ensures.reported exit) in
-    let world : World = record { folder = g.F.Files.folder c.args.files.now; known = g.R.Source.remaining c.args.input.now } in
-    words_refused (map g.S.AsStr.text c.args.words.now) world (line_usage_in c.in-Err.fault) reported.0 reported.1 c.report_line_usage.result.status
-    (g.W.Sink.contents c.args.out.now) (g.E.Sink.faults c.args.err.now) (g.E.Sink.faults c.report_line_usage.new.err) (g.E.Sink.contents c.args.err.now)
-    (g.E.Sink.contents c.report_line_usage.new.err) c.in-Err.ensures.err reported.2 reported.3 exit reported.4
+pub returns-in-Err-clause-leaves : goal.returns-in-Err-clause-leaves
+returns-in-Err-clause-leaves g c premise = record {
+  whole = λ is_whole.
+      let exit = c.report_line_usage.ensures.whole is_whole in
+      let reported = line_usage_reported (line_usage_in c.in-Err.fault) (g.E.Sink.faults c.args.err.now) (g.E.Sink.faults c.report_line_usage.new.err)
+      (g.E.Sink.contents c.args.err.now) (g.E.Sink.contents c.report_line_usage.new.err) (c.report_line_usage.ensures.some exit) (c.report_line_usage.ensures.reported exit) in
+      let world : World = record { folder = g.F.Files.folder c.args.files.now; known = g.R.Source.remaining c.args.input.now } in
+      words_refused (map g.S.AsStr.text c.args.words.now) world (line_usage_in c.in-Err.fault) reported.0 reported.1 c.report_line_usage.result.status
+      (g.W.Sink.contents c.args.out.now) (g.E.Sink.faults c.args.err.now) (g.E.Sink.faults c.report_line_usage.new.err) (g.E.Sink.contents c.args.err.now)
+      (g.E.Sink.contents c.report_line_usage.new.err) c.in-Err.ensures.err reported.2 reported.3 exit reported.4;
+  write = λ is. absurd (unwritten c.report_line_usage.result c.report_line_usage.ensures.cut is);
+}
 
-pub returns-in-Operands-clause-whole : goal.returns-in-Operands-clause-whole
-returns-in-Operands-clause-whole g c premise is_whole =
+pub returns-in-Operands-clause-leaves : goal.returns-in-Operands-clause-leaves
+returns-in-Operands-clause-leaves g c premise =
     let words = map g.S.AsStr.text c.args.words.now in
     let line = line_in c.in-Ok.line in
     let texts = map (λ (s : Bor (List ℕ)). s.now) c.deref.result.now in
     let same : line.given ≡ operands texts = ap given_in c.in-Operands.is ∙ ap (λ (these : List (Bor (List ℕ))). operands (map (λ (s : Bor (List ℕ)). s.now) these)) (sym c.deref.ensures.value) in
     let world : World = record { folder = g.F.Files.folder c.args.files.now; known = g.R.Source.remaining c.args.input.now } in
-    let done = c.run_operands.ensures.whole (words_premise (g.F.Files.honest c.args.files.now) words line (operands texts) c.in-Ok.ensures.ok same premise) is_whole in
-    (done.0, words_done words line (operands texts) world done.0 c.in-Ok.ensures.ok same done.1, done.2)
+    leaves_more g.W.Sink g.E.Sink g.F.Files _ _ c.run_operands.result c.args.out.now c.run_operands.new.out c.args.err.now c.run_operands.new.err c.run_operands.new.files
+    (λ left. words_done words line (operands texts) world left c.in-Ok.ensures.ok same)
+    (c.run_operands.ensures.leaves (words_premise (g.F.Files.honest c.args.files.now) words line (operands texts) c.in-Ok.ensures.ok same premise))
 
-pub returns-in-Operands-clause-write : goal.returns-in-Operands-clause-write
-returns-in-Operands-clause-write g c premise is_write =
-    let words = map g.S.AsStr.text c.args.words.now in
-    let line = line_in c.in-Ok.line in
-    let texts = map (λ (s : Bor (List ℕ)). s.now) c.deref.result.now in
-    let same : line.given ≡ operands texts = ap given_in c.in-Operands.is ∙ ap (λ (these : List (Bor (List ℕ))). operands (map (λ (s : Bor (List ℕ)). s.now) these)) (sym c.deref.ensures.value) in
-    let world : World = record { folder = g.F.Files.folder c.args.files.now; known = g.R.Source.remaining c.args.input.now } in
-    let done = c.run_operands.ensures.write (words_premise (g.F.Files.honest c.args.files.now) words line (operands texts) c.in-Ok.ensures.ok same premise) is_write in
-    (done.0, words_done words line (operands texts) world done.0 c.in-Ok.ensures.ok same done.1, done.2, done.3)
-
-pub returns-clause-whole : goal.returns-clause-whole
-returns-clause-whole g c premise is_whole =
+pub returns-clause-leaves : goal.returns-clause-leaves
+returns-clause-leaves g c premise =
     let words = map g.S.AsStr.text c.args.words.now in
     let line = line_in c.in-Ok.line in
     let name = c.in-Script.name.now in
@@ -50,20 +44,8 @@ returns-clause-whole g c premise is_whole =
     let world : World = record { folder = g.F.Files.folder c.args.files.now; known = g.R.Source.remaining c.args.input.now } in
     let honest = script_premise (g.F.Files.honest c.args.files.now) name
     (words_premise (g.F.Files.honest c.args.files.now) words line (script name) c.in-Ok.ensures.ok same premise) in
-    let done = c.run_script.ensures.whole honest is_whole in
-    (done.0, words_done words line (script name) world done.0 c.in-Ok.ensures.ok same done.1, done.2)
-
-pub returns-clause-write : goal.returns-clause-write
-returns-clause-write g c premise is_write =
-    let words = map g.S.AsStr.text c.args.words.now in
-    let line = line_in c.in-Ok.line in
-    let name = c.in-Script.name.now in
-    let same : line.given ≡ script name = ap given_in c.in-Script.is in
-    let world : World = record { folder = g.F.Files.folder c.args.files.now; known = g.R.Source.remaining c.args.input.now } in
-    let honest = script_premise (g.F.Files.honest c.args.files.now) name
-    (words_premise (g.F.Files.honest c.args.files.now) words line (script name) c.in-Ok.ensures.ok same premise) in
-    let done = c.run_script.ensures.write honest is_write in
-    (done.0, words_done words line (script name) world done.0 c.in-Ok.ensures.ok same done.1, done.2, done.3)
+    leaves_more g.W.Sink g.E.Sink g.F.Files _ _ c.run_script.result c.args.out.now c.run_script.new.out c.args.err.now c.run_script.new.err c.run_script.new.files
+    (λ left. words_done words line (script name) world left c.in-Ok.ensures.ok same) (c.run_script.ensures.leaves honest)
 
 pub returns-in-Operands-clause-unread : goal.returns-in-Operands-clause-unread
 returns-in-Operands-clause-unread g c nothing =

@@ -13,18 +13,23 @@ use Rattle.bz_buildozer.proofs.Outcomes.{both_true, lines_premise, stands_unused
 use Rattle.bz_buildozer.proofs.MomentSteps.{unused_yet}
 use Rattle.bz_buildozer.proofs.UnusedSteps.{no_more_time, no_time}
 use Rattle.bz_buildozer.proofs.ReadSteps.{nothing_left, read_before}
+use Rattle.bz_buildozer.proofs.StepLists.{shown_by_lines}
 use Rattle.bz_buildozer.proofs.engine.perform.Goals as goal
 
-pub returns-then-lacks_journal-clause-whole : goal.returns-then-lacks_journal-clause-whole
-returns-then-lacks_journal-clause-whole g c premise is_whole =
-    let folder = g.F.Files.folder c.args.files.now in (
-      unused folder no_journal_line,
-      inl (sym c.lacks_journal.ensures ∙ c.if-lacks_journal.true, refl),
-      stands_unused folder folder no_journal_line 1 (g.W.Sink.contents c.args.out.now) (g.E.Sink.faults c.args.err.now)
-          (g.E.Sink.faults c.report.new.err) (g.E.Sink.contents c.args.err.now) (g.E.Sink.contents c.report.new.err) refl refl
-          (reported_once (g.E.Sink.faults c.args.err.now) (g.E.Sink.faults c.report.new.err) (g.E.Sink.contents c.args.err.now)
-          (g.E.Sink.contents c.report.new.err) no_journal_line c.report.ensures),
-    )
+pub returns-then-lacks_journal-clause-leaves : goal.returns-then-lacks_journal-clause-leaves
+returns-then-lacks_journal-clause-leaves g c premise =
+    let folder = g.F.Files.folder c.args.files.now in
+    record {
+      whole = λ is_whole. (
+        unused folder no_journal_line,
+        inl (sym c.lacks_journal.ensures ∙ c.if-lacks_journal.true, refl),
+        stands_unused folder folder no_journal_line 1 (g.W.Sink.contents c.args.out.now) (g.E.Sink.faults c.args.err.now)
+            (g.E.Sink.faults c.report.new.err) (g.E.Sink.contents c.args.err.now) (g.E.Sink.contents c.report.new.err) refl refl
+            (reported_once (g.E.Sink.faults c.args.err.now) (g.E.Sink.faults c.report.new.err) (g.E.Sink.contents c.args.err.now)
+            (g.E.Sink.contents c.report.new.err) no_journal_line c.report.ensures),
+      );
+      write = λ is. absurd (cc is);
+    }
 
 pub returns-then-lacks_journal-clause-usage : goal.returns-then-lacks_journal-clause-usage
 returns-then-lacks_journal-clause-usage g c is =
@@ -44,44 +49,8 @@ returns-clause-unread g c kept named =
     let neither = sym c.lacks_journal.ensures ∙ c.if-lacks_journal.false in
     absurd (true≢false (sym (rw (kept, named) refl) ∙ neither))
 
-pub returns-clause-whole : goal.returns-clause-whole
-returns-clause-whole g c given is_whole =
-    let neither = sym c.lacks_journal.ensures ∙ c.if-lacks_journal.false in
-    let premise = lines_premise (g.F.Files.honest c.args.files.now) c.args.options.journal (map requested_in c.args.lines.now) neither given in
-    let ended = c.finish.ensures.whole is_whole in
-    let ran = c.run_lines-cut in
-    let lines = map requested_in c.args.lines.now in
-    let folder = g.F.Files.folder in
-    let known = g.R.Source.remaining c.args.input.now in
-    let world : World = record { folder = folder c.args.files.now; known = known } in
-    let options = c.args.options in
-    let begun_is = c.begun-run.ensures in
-    let start = progress_in c.begun-run.result in
-    let state = progress_in ran.new.run in
-    elim (reported_apart options.journal) [
-      | inl plain ↦
-          let can = plain_premise (g.F.Files.honest c.args.files.now) options.journal (AreOfInput lines) premise in
-          let done = ran.ensures.does plain can ended.0 known (λ _. refl) in
-          let still = honest_still (g.F.Files.honest c.args.files.now) (g.F.Files.honest ran.new.files) options.to_stdout world
-          options.keep_going lines start done.0 state ran.ensures.honest begun_is done.1 can in
-          performed options lines world start done.0 state c.shows_input-shown.result c.finish.result.status
-          (folder ran.new.files) (folder c.finish.new.files) (g.W.Sink.contents c.args.out.now) (g.W.Sink.contents c.finish.new.out)
-          (g.E.Sink.faults c.args.err.now) (g.E.Sink.faults ran.new.err) (g.E.Sink.faults c.finish.new.err)
-          (g.E.Sink.contents c.args.err.now) (g.E.Sink.contents ran.new.err) (g.E.Sink.contents c.finish.new.err)
-          neither plain begun_is done.1 c.shows_input-shown.ensures ended.1 (ran.ensures.folder plain can) (c.finish.ensures.writes plain still ended.0 (inl is_whole))
-          ended.2 done.3 ended.5
-      | inr kept ↦
-          let honest = kept_premise (g.F.Files.honest c.args.files.now) options.journal (AreOfInput lines) kept premise in
-          let done = ran.ensures.keeps kept honest ended.0 (subst (λ (from : Progress). AllAreKept (folder c.args.files.now) from.used) (sym begun_is) tt) in
-          performed_beside options lines world start done.0 state c.shows_input-shown.result c.finish.result.status
-          (folder ran.new.files) (folder c.finish.new.files) (g.W.Sink.contents c.args.out.now) (g.W.Sink.contents c.finish.new.out)
-          (g.E.Sink.faults c.args.err.now) (g.E.Sink.faults ran.new.err) (g.E.Sink.faults c.finish.new.err)
-          (g.E.Sink.contents c.args.err.now) (g.E.Sink.contents ran.new.err) (g.E.Sink.contents c.finish.new.err)
-          neither kept begun_is done.1 c.shows_input-shown.ensures ended.1 (ap folder (c.finish.ensures.kept kept)) ended.2 done.2 ended.5
-    ]
-
-pub returns-clause-write : goal.returns-clause-write
-returns-clause-write g c given is_write =
+pub returns-clause-leaves : goal.returns-clause-leaves
+returns-clause-leaves g c given =
     let neither = sym c.lacks_journal.ensures ∙ c.if-lacks_journal.false in
     let premise = lines_premise (g.F.Files.honest c.args.files.now) c.args.options.journal (map requested_in c.args.lines.now) neither given in
     let ran = c.run_lines-cut in
@@ -93,24 +62,51 @@ returns-clause-write g c given is_write =
     let begun_is = c.begun-run.ensures in
     let start = progress_in c.begun-run.result in
     let state = progress_in ran.new.run in
-    let ended = c.finish.ensures.write is_write (λ is. uncut ran.result (g.R.Source.faults c.args.input.now) (g.R.Source.faults ran.new.input)
-    (g.F.Files.faults c.args.files.now) (g.F.Files.faults ran.new.files) is ran.ensures.cut) in
-    elim (reported_apart options.journal) [
-      | inl plain ↦
-          let can = plain_premise (g.F.Files.honest c.args.files.now) options.journal (AreOfInput lines) premise in
-          let done = ran.ensures.does plain can ended.0 known (λ _. refl) in
-          let still = honest_still (g.F.Files.honest c.args.files.now) (g.F.Files.honest ran.new.files) options.to_stdout world
-          options.keep_going lines start done.0 state ran.ensures.honest begun_is done.1 can in
-          broken_off options lines world start done.0 state c.shows_input-shown.result (folder ran.new.files) (folder c.finish.new.files)
-          (g.W.Sink.contents c.args.out.now) (g.W.Sink.contents c.finish.new.out) neither plain begun_is done.1 c.shows_input-shown.ensures
-          (ran.ensures.folder plain can) (c.finish.ensures.writes plain still ended.0 (inr is_write)) ended.1
-      | inr kept ↦
-          let honest = kept_premise (g.F.Files.honest c.args.files.now) options.journal (AreOfInput lines) kept premise in
-          let done = ran.ensures.keeps kept honest ended.0 (subst (λ (from : Progress). AllAreKept (folder c.args.files.now) from.used) (sym begun_is) tt) in
-          broken_beside options lines world start done.0 state c.shows_input-shown.result (folder ran.new.files) (folder c.finish.new.files)
-          (g.W.Sink.contents c.args.out.now) (g.W.Sink.contents c.finish.new.out) neither kept begun_is done.1 c.shows_input-shown.ensures
-          (ap folder (c.finish.ensures.kept kept)) ended.1
-    ]
+    let shown = c.shows_input-shown.ensures ∙ sym (shown_by_lines c.args.lines.now) in
+    record {
+      whole = λ is_whole.
+          let ended = c.finish.ensures.whole is_whole in
+          elim (reported_apart options.journal) [
+            | inl plain ↦
+                let can = plain_premise (g.F.Files.honest c.args.files.now) options.journal (AreOfInput lines) premise in
+                let done = ran.ensures.does plain can ended.0 known (λ _. refl) in
+                let still = honest_still (g.F.Files.honest c.args.files.now) (g.F.Files.honest ran.new.files) options.to_stdout world
+                options.keep_going lines start done.0 state ran.ensures.honest begun_is done.1 can in
+                performed options lines world start done.0 state c.shows_input-shown.result c.finish.result.status
+                (folder ran.new.files) (folder c.finish.new.files) (g.W.Sink.contents c.args.out.now) (g.W.Sink.contents c.finish.new.out)
+                (g.E.Sink.faults c.args.err.now) (g.E.Sink.faults ran.new.err) (g.E.Sink.faults c.finish.new.err)
+                (g.E.Sink.contents c.args.err.now) (g.E.Sink.contents ran.new.err) (g.E.Sink.contents c.finish.new.err)
+                neither plain begun_is done.1 shown ended.1 (ran.ensures.folder plain can) (c.finish.ensures.writes plain still ended.0 (inl is_whole))
+                ended.2 done.3 ended.5
+            | inr kept ↦
+                let honest = kept_premise (g.F.Files.honest c.args.files.now) options.journal (AreOfInput lines) kept premise in
+                let done = ran.ensures.keeps kept honest ended.0 (subst (λ (from : Progress). AllAreKept (folder c.args.files.now) from.used) (sym begun_is) tt) in
+                performed_beside options lines world start done.0 state c.shows_input-shown.result c.finish.result.status
+                (folder ran.new.files) (folder c.finish.new.files) (g.W.Sink.contents c.args.out.now) (g.W.Sink.contents c.finish.new.out)
+                (g.E.Sink.faults c.args.err.now) (g.E.Sink.faults ran.new.err) (g.E.Sink.faults c.finish.new.err)
+                (g.E.Sink.contents c.args.err.now) (g.E.Sink.contents ran.new.err) (g.E.Sink.contents c.finish.new.err)
+                neither kept begun_is done.1 shown ended.1 (ap folder (c.finish.ensures.kept kept)) ended.2 done.2 ended.5
+          ];
+      write = λ is_write.
+          let ended = c.finish.ensures.write is_write (λ is. uncut ran.result (g.R.Source.faults c.args.input.now) (g.R.Source.faults ran.new.input)
+          (g.F.Files.faults c.args.files.now) (g.F.Files.faults ran.new.files) is ran.ensures.cut) in
+          elim (reported_apart options.journal) [
+            | inl plain ↦
+                let can = plain_premise (g.F.Files.honest c.args.files.now) options.journal (AreOfInput lines) premise in
+                let done = ran.ensures.does plain can ended.0 known (λ _. refl) in
+                let still = honest_still (g.F.Files.honest c.args.files.now) (g.F.Files.honest ran.new.files) options.to_stdout world
+                options.keep_going lines start done.0 state ran.ensures.honest begun_is done.1 can in
+                broken_off options lines world start done.0 state c.shows_input-shown.result (folder ran.new.files) (folder c.finish.new.files)
+                (g.W.Sink.contents c.args.out.now) (g.W.Sink.contents c.finish.new.out) neither plain begun_is done.1 shown
+                (ran.ensures.folder plain can) (c.finish.ensures.writes plain still ended.0 (inr is_write)) ended.1
+            | inr kept ↦
+                let honest = kept_premise (g.F.Files.honest c.args.files.now) options.journal (AreOfInput lines) kept premise in
+                let done = ran.ensures.keeps kept honest ended.0 (subst (λ (from : Progress). AllAreKept (folder c.args.files.now) from.used) (sym begun_is) tt) in
+                broken_beside options lines world start done.0 state c.shows_input-shown.result (folder ran.new.files) (folder c.finish.new.files)
+                (g.W.Sink.contents c.args.out.now) (g.W.Sink.contents c.finish.new.out) neither kept begun_is done.1 shown
+                (ap folder (c.finish.ensures.kept kept)) ended.1
+          ];
+    }
 
 pub returns-clause-reads_nothing : goal.returns-clause-reads_nothing
 returns-clause-reads_nothing g c kept =

@@ -11,7 +11,7 @@ use Rattle.bz_buildozer.specs.Moments.{IsMomentOfRun}
 use Rattle.bz_buildozer.specs.Run.{World}
 use Rattle.bz_buildozer.proofs.MomentSteps.{by_operands}
 use Rattle.bz_buildozer.proofs.UnusedSteps.{no_time}
-use Rattle.bz_buildozer.proofs.Outcomes.{group_reported, usage_reported, names_given, operands_of_input, operands_refused, operands_done, operands_premise}
+use Rattle.bz_buildozer.proofs.Outcomes.{group_reported, leaves_more, unwritten, usage_reported, names_given, operands_of_input, operands_refused, operands_done, operands_premise}
 use Rattle.bz_buildozer.proofs.UsageSteps.{operands_reported, operands_named}
 use Rattle.bz_buildozer.proofs.engine.run_operands.Goals as goal
 
@@ -21,37 +21,31 @@ perform-requires g c =
     All-push (λ (requested : Requested). All HasPath requested.targets.items) [] c.in-Ok.requested (λ k d less. absurd (omega arith)) c.in-Ok.ensures.paths in
     subst (λ (lines : List Requested). All (λ (requested : Requested). All HasPath requested.targets.items) lines) (sym c.from_ref.ensures.value) paths
 
-pub returns-in-Ok-clause-whole : goal.returns-in-Ok-clause-whole
-returns-in-Ok-clause-whole g c premise is_whole =
+pub returns-in-Ok-clause-leaves : goal.returns-in-Ok-clause-leaves
+returns-in-Ok-clause-leaves g c premise =
     let texts = map (λ (s : Bor (List ℕ)). s.now) c.args.operands.now in
     let requested = requested_in c.in-Ok.requested in
     let lines = map requested_in c.from_ref.result.now in
     let same : lines ≡ requested ∷ [] = ap (map requested_in) c.from_ref.ensures.value in
     let world : World = record { folder = g.F.Files.folder c.args.files.now; known = g.R.Source.remaining c.args.input.now } in
-    let done = c.perform.ensures.whole (operands_premise (g.F.Files.honest c.args.files.now) texts requested lines c.in-Ok.ensures.ok same premise) is_whole in
-    (done.0, operands_done c.args.options texts world requested lines done.0 c.in-Ok.ensures.ok same done.1, done.2)
+    leaves_more g.W.Sink g.E.Sink g.F.Files _ _ c.perform.result c.args.out.now c.perform.new.out c.args.err.now c.perform.new.err c.perform.new.files
+    (λ left. operands_done c.args.options texts world requested lines left c.in-Ok.ensures.ok same)
+    (c.perform.ensures.leaves (operands_premise (g.F.Files.honest c.args.files.now) texts requested lines c.in-Ok.ensures.ok same premise))
 
-pub returns-in-Ok-clause-write : goal.returns-in-Ok-clause-write
-returns-in-Ok-clause-write g c premise is_write =
-    let texts = map (λ (s : Bor (List ℕ)). s.now) c.args.operands.now in
-    let requested = requested_in c.in-Ok.requested in
-    let lines = map requested_in c.from_ref.result.now in
-    let same : lines ≡ requested ∷ [] = ap (map requested_in) c.from_ref.ensures.value in
-    let world : World = record { folder = g.F.Files.folder c.args.files.now; known = g.R.Source.remaining c.args.input.now } in
-    let done = c.perform.ensures.write (operands_premise (g.F.Files.honest c.args.files.now) texts requested lines c.in-Ok.ensures.ok same premise) is_write in
-    (done.0, operands_done c.args.options texts world requested lines done.0 c.in-Ok.ensures.ok same done.1, done.2, done.3)
-
-pub returns-in-Err-clause-whole : goal.returns-in-Err-clause-whole
-returns-in-Err-clause-whole g c premise is_whole =
-    let exit = c.report_usage.ensures.whole is_whole in
-    let reported = usage_reported (usage_in c.in-Err.fault) [] (g.E.Sink.faults c.args.err.now) (g.E.Sink.faults c.report_usage.new.err)
-    (g.E.Sink.contents c.args.err.now) (g.E.Sink.contents c.report_usage.new.err) (c.report_usage.ensures.some exit)
-    (group_reported (usage_in c.in-Err.fault) (g.E.Sink.faults c.args.err.now) (g.E.Sink.faults c.report_usage.new.err)
-    (g.E.Sink.contents c.args.err.now) (g.E.Sink.contents c.report_usage.new.err) (c.report_usage.ensures.reported exit)) in
-    let world : World = record { folder = g.F.Files.folder c.args.files.now; known = g.R.Source.remaining c.args.input.now } in
-    operands_refused c.args.options (map (λ (s : Bor (List ℕ)). s.now) c.args.operands.now) world (usage_in c.in-Err.fault) reported.0 reported.1 c.report_usage.result.status
-    (g.W.Sink.contents c.args.out.now) (g.E.Sink.faults c.args.err.now) (g.E.Sink.faults c.report_usage.new.err) (g.E.Sink.contents c.args.err.now)
-    (g.E.Sink.contents c.report_usage.new.err) c.in-Err.ensures.err reported.2 reported.3 exit reported.4
+pub returns-in-Err-clause-leaves : goal.returns-in-Err-clause-leaves
+returns-in-Err-clause-leaves g c premise = record {
+  whole = λ is_whole.
+      let exit = c.report_usage.ensures.whole is_whole in
+      let reported = usage_reported (usage_in c.in-Err.fault) [] (g.E.Sink.faults c.args.err.now) (g.E.Sink.faults c.report_usage.new.err)
+      (g.E.Sink.contents c.args.err.now) (g.E.Sink.contents c.report_usage.new.err) (c.report_usage.ensures.some exit)
+      (group_reported (usage_in c.in-Err.fault) (g.E.Sink.faults c.args.err.now) (g.E.Sink.faults c.report_usage.new.err)
+      (g.E.Sink.contents c.args.err.now) (g.E.Sink.contents c.report_usage.new.err) (c.report_usage.ensures.reported exit)) in
+      let world : World = record { folder = g.F.Files.folder c.args.files.now; known = g.R.Source.remaining c.args.input.now } in
+      operands_refused c.args.options (map (λ (s : Bor (List ℕ)). s.now) c.args.operands.now) world (usage_in c.in-Err.fault) reported.0 reported.1 c.report_usage.result.status
+      (g.W.Sink.contents c.args.out.now) (g.E.Sink.faults c.args.err.now) (g.E.Sink.faults c.report_usage.new.err) (g.E.Sink.contents c.args.err.now)
+      (g.E.Sink.contents c.report_usage.new.err) c.in-Err.ensures.err reported.2 reported.3 exit reported.4;
+  write = λ is. absurd (unwritten c.report_usage.result c.report_usage.ensures.cut is);
+}
 
 pub returns-in-Ok-clause-unread : goal.returns-in-Ok-clause-unread
 returns-in-Ok-clause-unread g c nothing = elim nothing [

@@ -1,41 +1,31 @@
 use Rattle.std.proofs.Common.{◌≡◌, ap, sym, ◌∙◌}
 use Rattle.bz_files.specs.Folder.{Folder}
 use Rattle.bz_buildozer.specs.Run.{World}
-use Rattle.bz_buildozer.proofs.Outcomes.{script_unread, script_done}
+use Rattle.bz_buildozer.proofs.Outcomes.{leaves_more, script_unread, script_done}
 use Rattle.bz_buildozer.proofs.MomentSteps.{by_no_script, by_script}
 use Rattle.bz_buildozer.proofs.UnusedSteps.{no_more_time}
 use Rattle.bz_buildozer.proofs.UsageSteps.{read_reported, script_missing}
 use Rattle.bz_buildozer.proofs.engine.run_script.Goals as goal
 
-pub returns-in-Err-clause-whole : goal.returns-in-Err-clause-whole
-returns-in-Err-clause-whole g c honest is_whole =
-    let whole = sym c.report_unread.ensures.cut ∙ is_whole in
-    let reported = c.report_unread.ensures.whole whole in
-    let world : World = record { folder = g.F.Files.folder c.args.files.now; known = g.R.Source.remaining c.args.input.now } in
-    script_unread c.args.options c.args.name.now c.reported_name.result.now world (g.F.Files.folder c.read_bytes.new.files) c.report_unread.result.status
-    (g.W.Sink.contents c.args.out.now) (g.E.Sink.faults c.args.err.now) (g.E.Sink.faults c.report_unread.new.err) (g.E.Sink.contents c.args.err.now)
-    (g.E.Sink.contents c.report_unread.new.err) (c.read_bytes.ensures.folder honest) (c.in-Err.ensures.err.0 whole honest) c.reported_name.ensures reported.0 reported.1
+pub returns-in-Err-clause-leaves : goal.returns-in-Err-clause-leaves
+returns-in-Err-clause-leaves g c honest = record {
+  whole = λ is_whole.
+      let whole = sym c.report_unread.ensures.cut ∙ is_whole in
+      let reported = c.report_unread.ensures.whole whole in
+      let world : World = record { folder = g.F.Files.folder c.args.files.now; known = g.R.Source.remaining c.args.input.now } in
+      script_unread c.args.options c.args.name.now c.reported_name.result.now world (g.F.Files.folder c.read_bytes.new.files) c.report_unread.result.status
+      (g.W.Sink.contents c.args.out.now) (g.E.Sink.faults c.args.err.now) (g.E.Sink.faults c.report_unread.new.err) (g.E.Sink.contents c.args.err.now)
+      (g.E.Sink.contents c.report_unread.new.err) (c.read_bytes.ensures.folder honest) (c.in-Err.ensures.err.0 whole honest) c.reported_name.ensures reported.0 reported.1;
+  write = λ is. absurd (c.in-Err.ensures.err.1 (sym c.report_unread.ensures.cut ∙ is));
+}
 
-pub returns-in-Ok-clause-whole : goal.returns-in-Ok-clause-whole
-returns-in-Ok-clause-whole g c honest is_whole =
+pub returns-in-Ok-clause-leaves : goal.returns-in-Ok-clause-leaves
+returns-in-Ok-clause-leaves g c honest =
     let known = g.R.Source.remaining c.args.input.now in
-    let done = c.run_text.ensures.whole (c.read_bytes.ensures.honest ∙ honest) is_whole known (λ other. ap g.R.Source.remaining (sym (c.read_bytes.ensures.input other))) in (
-      done.0,
-      script_done c.args.options c.args.name.now c.in-Ok.bytes.items c.deref.result.now (g.F.Files.folder c.args.files.now)
-          (g.F.Files.folder c.read_bytes.new.files) known done.0 c.deref.ensures.value (c.read_bytes.ensures.folder honest) (c.in-Ok.ensures.ok.0 honest) done.1,
-      done.2,
-    )
-
-pub returns-in-Ok-clause-write : goal.returns-in-Ok-clause-write
-returns-in-Ok-clause-write g c honest is_write =
-    let known = g.R.Source.remaining c.args.input.now in
-    let done = c.run_text.ensures.write (c.read_bytes.ensures.honest ∙ honest) is_write known (λ other. ap g.R.Source.remaining (sym (c.read_bytes.ensures.input other))) in (
-      done.0,
-      script_done c.args.options c.args.name.now c.in-Ok.bytes.items c.deref.result.now (g.F.Files.folder c.args.files.now)
-          (g.F.Files.folder c.read_bytes.new.files) known done.0 c.deref.ensures.value (c.read_bytes.ensures.folder honest) (c.in-Ok.ensures.ok.0 honest) done.1,
-      done.2,
-      done.3,
-    )
+    leaves_more g.W.Sink g.E.Sink g.F.Files _ _ c.run_text.result c.args.out.now c.run_text.new.out c.args.err.now c.run_text.new.err c.run_text.new.files
+    (λ left. script_done c.args.options c.args.name.now c.in-Ok.bytes.items c.deref.result.now (g.F.Files.folder c.args.files.now)
+    (g.F.Files.folder c.read_bytes.new.files) known left c.deref.ensures.value (c.read_bytes.ensures.folder honest) (c.in-Ok.ensures.ok.0 honest))
+    (c.run_text.ensures.leaves (c.read_bytes.ensures.honest ∙ honest) known (λ other. ap g.R.Source.remaining (sym (c.read_bytes.ensures.input other))))
 
 pub returns-in-Err-clause-usage : goal.returns-in-Err-clause-usage
 returns-in-Err-clause-usage g c is is_whole =

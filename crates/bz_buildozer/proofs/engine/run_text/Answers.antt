@@ -7,61 +7,57 @@ use Rattle.bz_command_line.specs.declared.requested.Requested.{Requested}
 use Rattle.bz_buildozer.specs.Run.{World}
 use Rattle.bz_buildozer.proofs.MomentSteps.{IsMomentOfText, by_text}
 use Rattle.bz_buildozer.proofs.UnusedSteps.{no_time}
-use Rattle.bz_buildozer.proofs.Outcomes.{reported_once, usage_reported, text_invalid, text_refused, text_refuses, text_done}
+use Rattle.bz_buildozer.proofs.Outcomes.{leaves_more, unwritten, reported_once, usage_reported, text_invalid, text_refused, text_refuses, text_done}
 use Rattle.bz_buildozer.proofs.UsageSteps.{text_reported, script_reported, script_lines_reported}
 use Rattle.bz_buildozer.specs.Reported.{input_line, no_journal_line}
 use Rattle.bz_buildozer.proofs.engine.run_text.Goals as goal
 
-pub returns-in-Err-clause-whole : goal.returns-in-Err-clause-whole
-returns-in-Err-clause-whole g c honest is_whole known before =
-    let world : World = record { folder = g.F.Files.folder c.args.files.now; known = known } in
-    text_invalid c.args.options c.args.name.now c.args.bytes.now c.reported_name.result.now world (valid_up_to c.in-Err.fault) c.valid_up_to-at.result
-    (g.W.Sink.contents c.args.out.now) (g.E.Sink.faults c.args.err.now) (g.E.Sink.faults c.report_fault.new.err) (g.E.Sink.contents c.args.err.now)
-    (g.E.Sink.contents c.report_fault.new.err) c.in-Err.ensures.cases.1 c.valid_up_to-at.ensures c.reported_name.ensures c.report_fault.ensures
+pub returns-in-Err-clause-leaves : goal.returns-in-Err-clause-leaves
+returns-in-Err-clause-leaves g c honest known before = record {
+  whole = λ is_whole.
+      let world : World = record { folder = g.F.Files.folder c.args.files.now; known = known } in
+      text_invalid c.args.options c.args.name.now c.args.bytes.now c.reported_name.result.now world (valid_up_to c.in-Err.fault) c.valid_up_to-at.result
+      (g.W.Sink.contents c.args.out.now) (g.E.Sink.faults c.args.err.now) (g.E.Sink.faults c.report_fault.new.err) (g.E.Sink.contents c.args.err.now)
+      (g.E.Sink.contents c.report_fault.new.err) c.in-Err.ensures.cases.1 c.valid_up_to-at.ensures c.reported_name.ensures c.report_fault.ensures;
+  write = λ is. absurd (cc is);
+}
 
 pub perform-requires : goal.perform-requires
 perform-requires g c =
     subst (λ (lines : List Requested). All (λ (requested : Requested). All HasPath requested.targets.items) lines) (sym c.as_slice-lines.ensures.value) c.in-Ok-read_script.ensures.paths
 
-pub returns-then-edits_input-clause-whole : goal.returns-then-edits_input-clause-whole
-returns-then-edits_input-clause-whole g c honest is_whole known before =
-    let world : World = record { folder = g.F.Files.folder c.args.files.now; known = known } in
-    text_refuses c.args.options c.args.name.now c.args.bytes.now c.in-Ok.text.now world (map requested_in c.in-Ok-read_script.lines.items)
-    (map requested_in c.as_slice-lines.result.now) 1 (g.W.Sink.contents c.args.out.now) (g.E.Sink.faults c.args.err.now) (g.E.Sink.faults c.report.new.err)
-    (g.E.Sink.contents c.args.err.now) (g.E.Sink.contents c.report.new.err) c.in-Ok.ensures.cases.0 c.in-Ok.ensures.cases.1 c.in-Ok-read_script.ensures.ok
-    (ap (map requested_in) c.as_slice-lines.ensures.value) (sym c.edits_input.ensures ∙ c.if-edits_input.true) refl c.report.ensures
+pub returns-then-edits_input-clause-leaves : goal.returns-then-edits_input-clause-leaves
+returns-then-edits_input-clause-leaves g c honest known before = record {
+  whole = λ is_whole.
+      let world : World = record { folder = g.F.Files.folder c.args.files.now; known = known } in
+      text_refuses c.args.options c.args.name.now c.args.bytes.now c.in-Ok.text.now world (map requested_in c.in-Ok-read_script.lines.items)
+      (map requested_in c.as_slice-lines.result.now) 1 (g.W.Sink.contents c.args.out.now) (g.E.Sink.faults c.args.err.now) (g.E.Sink.faults c.report.new.err)
+      (g.E.Sink.contents c.args.err.now) (g.E.Sink.contents c.report.new.err) c.in-Ok.ensures.cases.0 c.in-Ok.ensures.cases.1 c.in-Ok-read_script.ensures.ok
+      (ap (map requested_in) c.as_slice-lines.ensures.value) (sym c.edits_input.ensures ∙ c.if-edits_input.true) refl c.report.ensures;
+  write = λ is. absurd (cc is);
+}
 
-pub returns-clause-whole : goal.returns-clause-whole
-returns-clause-whole g c honest is_whole known before =
-    let done = c.perform.ensures.whole (inl honest) is_whole in (
-      done.0,
-      text_done c.args.options c.args.name.now c.args.bytes.now c.in-Ok.text.now (g.F.Files.folder c.args.files.now) known (g.R.Source.remaining c.args.input.now)
-          (map requested_in c.in-Ok-read_script.lines.items) (map requested_in c.as_slice-lines.result.now) done.0 c.in-Ok.ensures.cases.0 c.in-Ok.ensures.cases.1
-          c.in-Ok-read_script.ensures.ok (ap (map requested_in) c.as_slice-lines.ensures.value) (sym c.edits_input.ensures ∙ c.if-edits_input.false) before done.1,
-      done.2,
-    )
+pub returns-clause-leaves : goal.returns-clause-leaves
+returns-clause-leaves g c honest known before =
+    leaves_more g.W.Sink g.E.Sink g.F.Files _ _ c.perform.result c.args.out.now c.perform.new.out c.args.err.now c.perform.new.err c.perform.new.files
+    (λ left. text_done c.args.options c.args.name.now c.args.bytes.now c.in-Ok.text.now (g.F.Files.folder c.args.files.now) known (g.R.Source.remaining c.args.input.now)
+    (map requested_in c.in-Ok-read_script.lines.items) (map requested_in c.as_slice-lines.result.now) left c.in-Ok.ensures.cases.0 c.in-Ok.ensures.cases.1
+    c.in-Ok-read_script.ensures.ok (ap (map requested_in) c.as_slice-lines.ensures.value) (sym c.edits_input.ensures ∙ c.if-edits_input.false) before)
+    (c.perform.ensures.leaves (inl honest))
 
-pub returns-clause-write : goal.returns-clause-write
-returns-clause-write g c honest is_write known before =
-    let done = c.perform.ensures.write (inl honest) is_write in (
-      done.0,
-      text_done c.args.options c.args.name.now c.args.bytes.now c.in-Ok.text.now (g.F.Files.folder c.args.files.now) known (g.R.Source.remaining c.args.input.now)
-          (map requested_in c.in-Ok-read_script.lines.items) (map requested_in c.as_slice-lines.result.now) done.0 c.in-Ok.ensures.cases.0 c.in-Ok.ensures.cases.1
-          c.in-Ok-read_script.ensures.ok (ap (map requested_in) c.as_slice-lines.ensures.value) (sym c.edits_input.ensures ∙ c.if-edits_input.false) before done.1,
-      done.2,
-      done.3,
-    )
-
-pub returns-in-Err-read_script-clause-whole : goal.returns-in-Err-read_script-clause-whole
-returns-in-Err-read_script-clause-whole g c honest is_whole known before =
-    let exit = c.report_script.ensures.whole is_whole in
-    let reported = usage_reported (script_usage_in c.in-Err-read_script.fault) c.reported_name-in-Err-read_script.result.now (g.E.Sink.faults c.args.err.now) (g.E.Sink.faults c.report_script.new.err)
-    (g.E.Sink.contents c.args.err.now) (g.E.Sink.contents c.report_script.new.err) (c.report_script.ensures.some exit) (c.report_script.ensures.reported exit) in
-    let world : World = record { folder = g.F.Files.folder c.args.files.now; known = known } in
-    text_refused c.args.options c.args.name.now c.args.bytes.now c.in-Ok.text.now c.reported_name-in-Err-read_script.result.now world
-    (script_usage_in c.in-Err-read_script.fault) reported.0 reported.1 c.report_script.result.status (g.W.Sink.contents c.args.out.now) (g.E.Sink.faults c.args.err.now)
-    (g.E.Sink.faults c.report_script.new.err) (g.E.Sink.contents c.args.err.now) (g.E.Sink.contents c.report_script.new.err)
-    c.in-Ok.ensures.cases.0 c.in-Ok.ensures.cases.1 c.in-Err-read_script.ensures.err reported.2 c.reported_name-in-Err-read_script.ensures reported.3 exit reported.4
+pub returns-in-Err-read_script-clause-leaves : goal.returns-in-Err-read_script-clause-leaves
+returns-in-Err-read_script-clause-leaves g c honest known before = record {
+  whole = λ is_whole.
+      let exit = c.report_script.ensures.whole is_whole in
+      let reported = usage_reported (script_usage_in c.in-Err-read_script.fault) c.reported_name-in-Err-read_script.result.now (g.E.Sink.faults c.args.err.now) (g.E.Sink.faults c.report_script.new.err)
+      (g.E.Sink.contents c.args.err.now) (g.E.Sink.contents c.report_script.new.err) (c.report_script.ensures.some exit) (c.report_script.ensures.reported exit) in
+      let world : World = record { folder = g.F.Files.folder c.args.files.now; known = known } in
+      text_refused c.args.options c.args.name.now c.args.bytes.now c.in-Ok.text.now c.reported_name-in-Err-read_script.result.now world
+      (script_usage_in c.in-Err-read_script.fault) reported.0 reported.1 c.report_script.result.status (g.W.Sink.contents c.args.out.now) (g.E.Sink.faults c.args.err.now)
+      (g.E.Sink.faults c.report_script.new.err) (g.E.Sink.contents c.args.err.now) (g.E.Sink.contents c.report_script.new.err)
+      c.in-Ok.ensures.cases.0 c.in-Ok.ensures.cases.1 c.in-Err-read_script.ensures.err reported.2 c.reported_name-in-Err-read_script.ensures reported.3 exit reported.4;
+  write = λ is. absurd (unwritten c.report_script.result c.report_script.ensures.cut is);
+}
 
 pub returns-in-Err-clause-usage : goal.returns-in-Err-clause-usage
 returns-in-Err-clause-usage g c is =

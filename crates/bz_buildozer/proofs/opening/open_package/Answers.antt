@@ -15,16 +15,17 @@ use Rattle.bz_buildozer.proofs.opening.open_package.Goals as goal
 pub returns-then-wants_input-clause-uses : goal.returns-then-wants_input-clause-uses
 returns-then-wants_input-clause-uses g c = λ plain can whole known left.
     let requested = c.wants_input.ensures.yes c.if-wants_input.true in
-    let done = c.open_input.ensures.whole whole in
+    let read = c.open_input.ensures.whole whole in
+    let done = read.2 in
     let old = c.args.workspace.now in
     let new = c.open_input.new.workspace in (
       length old,
-      done.2,
-      uses_input (record { folder = g.F.Files.folder c.args.files.now; known = known }) c.args.package.now done.0 old new done.1 done.2 requested.1 requested.2
-          (subst (λ (bytes : Option Bytes). IsInput bytes done.0) (left requested.2) done.3) done.4 done.5,
-      last_place old new input_package done.1 c.open_input.result.place done.5 done.6,
-      left_after_input known (g.R.Source.remaining c.open_input.new.input) old new (record { «package» = input_package; file = done.1 }) refl done.5,
-      done.7,
+      done.1,
+      uses_input (record { folder = g.F.Files.folder c.args.files.now; known = known }) c.args.package.now read.0 old new done.0 done.1 requested.1 requested.2
+          (subst (λ (bytes : Option Bytes). IsInput bytes read.0) (left requested.2) read.1) done.2 done.3,
+      last_place old new input_package done.0 c.open_input.result.place done.3 done.4,
+      left_after_input known (g.R.Source.remaining c.open_input.new.input) old new (record { «package» = input_package; file = done.0 }) refl done.3,
+      done.5,
     )
 
 pub returns-clause-uses : goal.returns-clause-uses
@@ -94,7 +95,7 @@ returns-clause-folder g c = λ plain can.
     let old = c.args.workspace.now in
     let name = c.args.package.now in
     elim can [
-      | inl honest ↦ c.open.ensures.folder honest
+      | inl honest ↦ c.open.ensures.files.folder honest
       | inr is ↦ elim (is_found (package_number name old)) [
         | inl none ↦ absurd (c.wants_input.ensures.other c.if-wants_input.false plain is (sym (ap (λ (n : Bytes). package_number n old) is) ∙ none))
         | inr some ↦ ap g.F.Files.folder (c.open.ensures.again some.0 some.1).2
@@ -105,7 +106,7 @@ pub returns-then-wants_input-clause-input : goal.returns-then-wants_input-clause
 returns-then-wants_input-clause-input g c = λ plain is.
     let requested = c.wants_input.ensures.yes c.if-wants_input.true in
     opens_first c.args.workspace.now c.open_input.new.workspace c.open_input.result.place c.open_input.result.cut requested.2 c.open_input.ensures.failed
-    (λ whole. let done = c.open_input.ensures.whole whole in (done.1, done.5))
+    (λ whole. let done = (c.open_input.ensures.whole whole).2 in (done.0, done.3))
 
 pub returns-clause-input : goal.returns-clause-input
 returns-clause-input g c = λ plain is.

@@ -5,7 +5,7 @@ use Rattle.bz_workspace.proofs.FileSteps.{none_stays}
 use Rattle.bz_workspace.proofs.FoundSteps.{second_opens, neither_opens}
 use Rattle.bz_files.specs.Folder.{Folder}
 use Rattle.bz_workspace.specs.Journals.{TakesBeside, journal_beside}
-use Rattle.bz_workspace.proofs.OpenedSteps.{fills_more, is_opened, nothing_put, puts_more, still_on}
+use Rattle.bz_workspace.proofs.OpenedSteps.{fills_more, is_opened, nothing_put, puts_more, reads_on}
 use Rattle.bz_workspace.proofs.workspace.Workspace.open_second.Goals as goal
 
 pub returns-in-Ok-bytes_of-clause-second : goal.returns-in-Ok-bytes_of-clause-second
@@ -40,10 +40,11 @@ returns-in-Ok-bytes_of-clause-puts g c =
     held.1 held.2 (subst (λ (f : Folder). TakesBeside (journal_beside c.args.journals f name) c.args.package.now name c.in-Ok-bytes_of.text.items (Some file) [])
     (read.folder honest) (is (read.honest ∙ honest)))) c.open_found.ensures.puts
 
-pub returns-in-Ok-bytes_of-clause-time : goal.returns-in-Ok-bytes_of-clause-time
-returns-in-Ok-bytes_of-clause-time g c honest =
+pub returns-in-Ok-bytes_of-clause-files : goal.returns-in-Ok-bytes_of-clause-files
+returns-in-Ok-bytes_of-clause-files g c =
     let read = c.in-Ok-bytes_of.ensures in
-    still_on g.F.Files c.args.files.now c.bytes_of.new.files c.open_found.new.files (read.folder honest) (read.time honest) (c.open_found.ensures.time (read.honest ∙ honest))
+    reads_on g.F.Files c.open_found.result.cut c.args.files.now c.bytes_of.new.files c.open_found.new.files read.folder read.time (read.kept (λ failed. absurd (cc failed))) read.honest
+    c.open_found.ensures.files
 
 pub returns-in_default-clause-puts : goal.returns-in_default-clause-puts
 returns-in_default-clause-puts g c = nothing_put c.args.place _ _ c.args.self.now c.args.self.now c.requires.closed (ap (λ (o : Opening). o.place) c.unnamed.ensures) refl
