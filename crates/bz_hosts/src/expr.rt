@@ -7,7 +7,9 @@ ghost use Rattle.bz_hosts.specs.Walks.{form_of_frame, loose_of, seq_in};
 
 use crate::before::{breaks_from, is_operator_in};
 use crate::commented::comment_last;
-use crate::marks::{above_first, before_operator, breaks_after, is_quiet_after, opens, push_gap};
+use crate::marks::{
+    before_operator, breaks_after, comments_above_first, is_quiet_after, opens, push_gap,
+};
 use bz_grammar::{Node, Part};
 use bz_items::{Items, Memory, Text};
 use bz_value::{Comments, Expr, Form, Seq, Token, is_binary, is_sequence, lead_of};
@@ -214,7 +216,7 @@ pub fn seq_of(alloc: Global, parts: &[Part], from: usize) -> Result<Seq, Memory>
     let count = parts.len();
     let mut items = Vec::with_capacity(alloc, count / 2)?;
     // the comments above the next item; what is loose in the item goes there too
-    let mut above = above_first(alloc, parts, from)?;
+    let mut above = comments_above_first(alloc, parts, from)?;
     let mut at = from;
     while at + 1 < count {
         push_host(alloc, parts, at, &mut above, &mut items)?;

@@ -82,7 +82,7 @@ pub fn gap_after_item(parts: &[Part], at: usize) -> &[u8]
 /// The comments above the first item of a sequence, where this index is that of the item or of the closing bracket. The error: memory was
 /// refused.
 #[tactic(auto, using(crate::proofs::UnsignedGaps::none_quiet))]
-pub fn above_first(alloc: Global, parts: &[Part], at: usize) -> Result<Items<Text>, Memory>
+pub fn comments_above_first(alloc: Global, parts: &[Part], at: usize) -> Result<Items<Text>, Memory>
     ensures { IfOk result (λ above. above ≡ all_in (first_seen_gap (map seen (drop at parts.now)))) }
 {
     let mut above = Items::new(alloc);

@@ -9,14 +9,16 @@ ghost use Rattle.bz_hosts.specs.Walks.{form_of_frame, loose_of, seq_in};
 use crate::before::{breaks_from, is_operator_in};
 use crate::commented::comment_last;
 use crate::expr::{head_of, push_form};
-use crate::marks::{above_first, before_operator, breaks_after, is_quiet_after, opens, push_gap};
+use crate::marks::{
+    before_operator, breaks_after, comments_above_first, is_quiet_after, opens, push_gap,
+};
 use bz_grammar::{Leaf, Node, Part};
 use bz_items::{Items, Memory, Text};
 use bz_value::{Comments, Expr, Form, Seq, Token, is_binary, is_sequence, lead_of};
 use std::alloc::Global;
 use std::mem;
 
-/// So many parts are given back at once, at least.
+/// At least this many parts are given back at once.
 const MANY: usize = 4096;
 
 /// In what is nested deeper than this in a statement, nothing is given up before the whole is.
@@ -231,7 +233,7 @@ fn seq_moved(alloc: Global, parts: Items<Part>, depth: usize, from: usize) -> Re
     let split = breaks_from(parts.as_slice(), from);
     let mut items = Vec::with_capacity(alloc, parts.len() / 2)?;
     // the comments above the next item; what is loose in the item goes there too
-    let mut above = above_first(alloc, parts.as_slice(), from)?;
+    let mut above = comments_above_first(alloc, parts.as_slice(), from)?;
     let mut left = parts.into_vec();
     let mut at = from;
     while is_followed(left.as_slice(), at) {
