@@ -5,24 +5,24 @@ use Rattle.std.proofs.lemmas.Bool.{cases_Bool}
 use Rattle.std.proofs.lemmas.List.{append-nil}
 use Rattle.bz_items.specs.Characters.{Bytes, backslash, space}
 use Rattle.bz_command_syntax.specs.Words.{pieces, begins_with_space, is_nonempty, words_of, words_after}
-pub use Rattle.bz_command_syntax.specs.Words.{joined}
+pub use Rattle.bz_command_syntax.specs.Words.{after_word}
 
-pub joined-onto_first : (word : Bytes) (byte : ℕ) (all : List Bytes) → joined word (onto_first byte all) ≡ joined (word ++ byte ∷ []) all
-joined-onto_first word byte [] = refl
-joined-onto_first word byte (piece ∷ more) = ap (λ first. first ∷ more) (sym (append_assoc word (byte ∷ []) piece))
+pub after_word-onto_first : (word : Bytes) (byte : ℕ) (all : List Bytes) → after_word word (onto_first byte all) ≡ after_word (word ++ byte ∷ []) all
+after_word-onto_first word byte [] = refl
+after_word-onto_first word byte (piece ∷ more) = ap (λ first. first ∷ more) (sym (append_assoc word (byte ∷ []) piece))
 
 -- there is a piece, so it goes after nothing as it is
-joined-none : (following : Bool) (text : Bytes) → joined [] (pieces following text) ≡ pieces following text
-joined-none following [] = refl
-joined-none following (byte ∷ rest) = elim (cases_Bool (byte == space && not following)) [
+after_word-none : (following : Bool) (text : Bytes) → after_word [] (pieces following text) ≡ pieces following text
+after_word-none following [] = refl
+after_word-none following (byte ∷ rest) = elim (cases_Bool (byte == space && not following)) [
   | inl e ↦ rw e refl
   | inr e ↦ elim (cases_Bool (byte == backslash && begins_with_space rest)) [
-    | inl f ↦ rw (e, f) (joined-none (byte == backslash) rest)
+    | inl f ↦ rw (e, f) (after_word-none (byte == backslash) rest)
     | inr f ↦ rw (e, f) (some (pieces (byte == backslash) rest))
   ]
 ]
   where
-    some : (all : List Bytes) → joined [] (onto_first byte all) ≡ onto_first byte all
+    some : (all : List Bytes) → after_word [] (onto_first byte all) ≡ onto_first byte all
     some [] = refl
     some (piece ∷ more) = refl
 
@@ -32,12 +32,12 @@ apart (byte ∷ word) more = refl
 
 pub words_begin : (text : Bytes) → words_after [] false text ≡ words_of text
 unfolding words_after
-words_begin text = ap (filter is_nonempty) (joined-none false text)
+words_begin text = ap (filter is_nonempty) (after_word-none false text)
 
 pub words_at_space : (word : Bytes) (following : Bool) (byte : ℕ) (rest : Bytes) → (byte == space && not following) ≡ true
     → words_after word following (byte ∷ rest) ≡ filter is_nonempty (word ∷ []) ++ words_after [] (byte == backslash) rest
 unfolding words_after
-words_at_space word following byte rest e = rw (e, joined-none (byte == backslash) rest, append-nil word) (apart word (pieces (byte == backslash) rest))
+words_at_space word following byte rest e = rw (e, after_word-none (byte == backslash) rest, append-nil word) (apart word (pieces (byte == backslash) rest))
 
 pub words_at_backslash : (word : Bytes) (following : Bool) (byte : ℕ) (rest : Bytes) → (byte == space && not following) ≡ false
     → (byte == backslash && begins_with_space rest) ≡ true → words_after word following (byte ∷ rest) ≡ words_after word (byte == backslash) rest
@@ -47,7 +47,7 @@ words_at_backslash word following byte rest e f = rw (e, f) refl
 pub words_at_byte : (word : Bytes) (following : Bool) (byte : ℕ) (rest : Bytes) → (byte == space && not following) ≡ false
     → (byte == backslash && begins_with_space rest) ≡ false → words_after word following (byte ∷ rest) ≡ words_after (word ++ byte ∷ []) (byte == backslash) rest
 unfolding words_after
-words_at_byte word following byte rest e f = rw (e, f, joined-onto_first word byte (pieces (byte == backslash) rest)) refl
+words_at_byte word following byte rest e f = rw (e, f, after_word-onto_first word byte (pieces (byte == backslash) rest)) refl
 
 pub words_end : (word : Bytes) (following : Bool) → words_after word following [] ≡ filter is_nonempty (word ∷ [])
 unfolding words_after

@@ -12,8 +12,8 @@ use Rattle.bz_items.specs.Characters.{Bytes, backslash, letter_n, line_feed, quo
 use Rattle.bz_command_syntax.specs.Commands.{cut_at}
 use Rattle.bz_command_syntax.specs.Proper.{AreUtf8}
 use Rattle.bz_command_syntax.specs.Quoted.{escaped, quoted_of}
-use Rattle.bz_command_syntax.specs.Words.{pieces, begins_with_space, is_nonempty, joined, words_of}
-use Rattle.bz_command_syntax.proofs.Pieces.{joined-onto_first}
+use Rattle.bz_command_syntax.specs.Words.{pieces, begins_with_space, is_nonempty, after_word, words_of}
+use Rattle.bz_command_syntax.proofs.Pieces.{after_word-onto_first}
 
 -- a text on both sides of an ASCII byte
 pub beside_ascii : (front : Bytes) (byte : ℕ) (rest : Bytes) → byte < 128 → IsUtf8 (front ++ byte ∷ rest) → IsUtf8 front × IsUtf8 rest
@@ -100,11 +100,11 @@ quoted_utf8 word u =
 
 -- ---- the words of a text
 
-nothing_before : (all : List Bytes) → AreUtf8 (joined [] all) → AreUtf8 all
+nothing_before : (all : List Bytes) → AreUtf8 (after_word [] all) → AreUtf8 all
 nothing_before [] u = tt
 nothing_before (piece ∷ all) u = u
 
-pieces_utf8 : (front : Bytes) (following : Bool) (text : Bytes) → IsUtf8 (front ++ text) → AreUtf8 (joined front (pieces following text))
+pieces_utf8 : (front : Bytes) (following : Bool) (text : Bytes) → IsUtf8 (front ++ text) → AreUtf8 (after_word front (pieces following text))
 pieces_utf8 front following [] u = (u, tt)
 pieces_utf8 front following (byte ∷ rest) u = elim (cases_Bool (byte == space && not following)) [
   | inl e ↦
@@ -116,7 +116,7 @@ pieces_utf8 front following (byte ∷ rest) u = elim (cases_Bool (byte == space 
         let same : byte ≡ backslash = eqb-true byte backslash ((and_parts (byte == backslash) (begins_with_space rest) f).0) in
         let w = beside_ascii front byte rest (omega arith) u in
         rw (e, f) (pieces_utf8 front (byte == backslash) rest (IsUtf8-append front rest w.0 w.1))
-    | inr f ↦ rw (e, f, joined-onto_first front byte (pieces (byte == backslash) rest)) (pieces_utf8 (front ++ byte ∷ []) (byte == backslash) rest (rw append_assoc u))
+    | inr f ↦ rw (e, f, after_word-onto_first front byte (pieces (byte == backslash) rest)) (pieces_utf8 (front ++ byte ∷ []) (byte == backslash) rest (rw append_assoc u))
   ]
 ]
 

@@ -26,10 +26,10 @@ abbrev pub words_of : Bytes → List Bytes
 words_of text = filter is_nonempty (pieces false text)
 
 -- the first piece goes after what is there of it
-abbrev pub joined : Bytes → List Bytes → List Bytes
-joined word [] = word ∷ []
-joined word (piece ∷ more) = (word ++ piece) ∷ more
+abbrev pub after_word : Bytes → List Bytes → List Bytes
+after_word word [] = word ∷ []
+after_word word (piece ∷ more) = (word ++ piece) ∷ more
 
 -- the words of a text, whose first goes after what is there of it
 unfoldable pub words_after : Bytes → Bool → Bytes → List Bytes
-words_after word after_backslash text = filter is_nonempty (joined word (pieces after_backslash text))
+words_after word after_backslash text = filter is_nonempty (after_word word (pieces after_backslash text))
