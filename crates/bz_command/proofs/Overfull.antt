@@ -1,8 +1,7 @@
 -- A comment that is put on each of rules enough that its copies are past the limit.
-use Rattle.std.proofs.Common.{◌≡◌, ◌⊎◌, ◌≤◌, ◌<◌, ◌+◌, ◌*◌, ◌/◌, ◌∙◌, ℕ, Bool, true, false, List, [], ◌∷◌, inl, inr, Option, Some, None, Result, Ok, Err, length, refl, sym, ap, subst, arith, true≢false}
+use Rattle.std.proofs.Common.{◌≡◌, ◌⊎◌, ◌≤◌, ◌<◌, ◌+◌, ◌*◌, ◌∙◌, ℕ, Bool, true, false, List, [], ◌∷◌, inl, inr, Option, Some, None, Result, Ok, Err, length, refl, sym, ap, subst, arith, true≢false}
 use Rattle.std.specs.Prelude.{is_some, IfOk, IfErr, IsOk, IsTrue, if◌then◌else◌}
 use Rattle.std.specs.List.{list_any}
-use Rattle.std.specs.Option.{option_map_or}
 use Rattle.std.proofs.lemmas.Bool.{cases_Bool}
 use Rattle.std.proofs.Math.Nat.{mul-le-mul_right}
 use Rattle.bz_grammar.specs.Spell.{limit}
@@ -24,7 +23,7 @@ use Rattle.bz_value.specs.declared.refusal.Refusal.{Refusal}
 use Rattle.bz_value.specs.declared.refusal.Refusal.TheVariants.{Memory}
 use Rattle.bz_attribute.specs.Attributes.{Arguments}
 use Rattle.bz_comment.specs.Hosts.{comment_made, with_comment, comment}
-use Rattle.bz_comment.proofs.Coming.{copies, own_comes, Comes, IsAmong, comment_comes}
+use Rattle.bz_comment.proofs.Coming.{copies, own_comes, Comes, comment_comes}
 use Rattle.bz_command.specs.Effect.{NewItem, effect, with_arguments, made_of, on_rule, with_item_first, on_statement}
 use Rattle.bz_command.specs.Laws.{EffectsStayProper}
 use Rattle.bz_command.specs.Overfull.{IsOverfilling, IsRefusing, Overfills, all_commented, commented, marked_rules}
@@ -109,57 +108,6 @@ comment_refused text current host target lines items refusal refused = made_of_m
 -- what is known of the items that are left is known of all
 abbrev pub Follows : Result (List Item) Refusal → Result (List Item) Refusal → Type 0
 Follows left all = (IsOk left → IsOk all) × ((refusal : Refusal) → left ≡ Err refusal → all ≡ Err refusal)
-
-pub follow_more : (item : NewItem) (rest all : Result (List Item) Refusal) → IsOk item → Follows (with_item_first item rest) all → Follows rest all
-follow_more (Ok item) (Ok items) all h f = (λ made. f.0 refl, λ refusal is. cc)
-follow_more (Ok item) (Err other) all h f = (λ made. absurd (true≢false (sym made)), λ refusal is. f.1 refusal is)
-follow_more (Err refusal) rest all h f = absurd (true≢false (sym h))
-
-pub follow_refused : (item : NewItem) (rest all : Result (List Item) Refusal) (refusal : Refusal) → item ≡ Err refusal → Follows (with_item_first item rest) all → all ≡ Err refusal
-follow_refused (Ok item) rest all refusal h f = cc
-follow_refused (Err other) rest all refusal h f = f.1 refusal (let same : other ≡ refusal = cc in ap Err same)
-
--- ---- a host in an item
-
-ok_in_rule : (change : List Expr → Arguments) (item : Item) (rule : Option RuleRead) → is_some rule ≡ true → IsOk (change (option_map_or (λ (r : RuleRead). r.arguments) rule [])) → IsOk (on_rule change rule item)
-ok_in_rule change item None some h = refl
-ok_in_rule change item (Some rule) some h = ok_made item (change rule.arguments) h
-  where
-    ok_made : (item : Item) (result : Arguments) → IsOk result → IsOk (made_of item result)
-    ok_made item (Ok new) h = refl
-    ok_made item (Err refusal) h = absurd (true≢false (sym h))
-
-refused_in_rule : (change : List Expr → Arguments) (item : Item) (rule : Option RuleRead) (refusal : Refusal) → is_some rule ≡ true → change (option_map_or (λ (r : RuleRead). r.arguments) rule []) ≡ Err refusal → on_rule change rule item ≡ Err refusal
-refused_in_rule change item None refusal some h = absurd (true≢false (sym some))
-refused_in_rule change item (Some rule) refusal some h = ap (made_of item) h
-
-ok_elsewhere : (change : List Expr → Arguments) (item : Item) (rule : Option RuleRead) → is_some rule ≡ false → IsOk (on_rule change rule item)
-ok_elsewhere change item None none = refl
-ok_elsewhere change item (Some rule) none = absurd (true≢false none)
-
-pub found_in : (current : Bytes) (host : Host) (text : Bytes) (item : Item) → IsAmong text host → is_rule item ≡ true
-    → IsOk (comment current host text (option_map_or (λ (r : RuleRead). r.arguments) (rule_of item) [])) → IsOk (commented current host text item)
-found_in current Rule text item among is h = absurd among
-found_in current (Attribute name) text item among is h = ok_in_rule (comment current (Attribute name) text) item (rule_of item) is h
-found_in current (ItemHost name word) text item among is h = ok_in_rule (comment current (ItemHost name word) text) item (rule_of item) is h
-
-pub refused_in : (current : Bytes) (host : Host) (text : Bytes) (item : Item) (refusal : Refusal) → IsAmong text host → is_rule item ≡ true
-    → comment current host text (option_map_or (λ (r : RuleRead). r.arguments) (rule_of item) []) ≡ Err refusal → commented current host text item ≡ Err refusal
-refused_in current Rule text item refusal among is h = absurd among
-refused_in current (Attribute name) text item refusal among is h = refused_in_rule (comment current (Attribute name) text) item (rule_of item) refusal is h
-refused_in current (ItemHost name word) text item refusal among is h = refused_in_rule (comment current (ItemHost name word) text) item (rule_of item) refusal is h
-
-pub found_elsewhere : (current : Bytes) (host : Host) (text : Bytes) (item : Item) → is_rule item ≡ false → IsOk (commented current host text item)
-found_elsewhere current Rule text item none = refl
-found_elsewhere current (Attribute name) text item none = ok_elsewhere (comment current (Attribute name) text) item (rule_of item) none
-found_elsewhere current (ItemHost name word) text item none = ok_elsewhere (comment current (ItemHost name word) text) item (rule_of item) none
-
--- ---- products
-
-pub quotient_past : (count size : ℕ) → 0 < size → limit / size < count → limit < count * size
-quotient_past count size some h =
-    let more : (limit / size + 1) * size ≤ count * size = mul-le-mul_right size (omega arith) in
-    omega arith
 
 -- ---- what is answered of a command
 
