@@ -10,8 +10,8 @@ use Rattle.bz_command_syntax.specs.declared.command.Symbol.{Symbol}
 use Rattle.bz_attribute.proofs.KeySets.{any_map, or_twice, or_turn, equal_texts}
 use Rattle.bz_load.specs.declared.readings.Loaded.{Loaded}
 use Rattle.bz_load.specs.contracts.readings.LoadedPartialEq.TheImpl as loaded_eq
-use Rattle.bz_load.specs.NewLoad.{is_symbol}
-use Rattle.bz_load.specs.private.Known.{knows, and_symbol}
+use Rattle.bz_load.specs.NewLoad.{is_symbol, and_symbol}
+use Rattle.bz_load.specs.private.Known.{knows}
 use Rattle.bz_load.specs.private.KnownKeys.{symbol_of_key, symbols_of_keys}
 
 -- ---- one key more

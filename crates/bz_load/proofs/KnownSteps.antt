@@ -16,8 +16,8 @@ use Rattle.bz_rule.specs.Values.{has_kind, parts_of, text_of}
 use Rattle.bz_attribute.specs.Lists.{body_of}
 use Rattle.bz_attribute.proofs.KeySets.{or_group, or_none}
 use Rattle.bz_load.specs.Loads.{is_alias_of, loads_symbol, is_load_from, symbols_of, is_loaded}
-use Rattle.bz_load.specs.NewLoad.{is_symbol, new_symbols, symbol_made}
-use Rattle.bz_load.specs.private.Known.{symbol, alias_in, symbol_in, knows, and_symbol, and_loaded, and_each, and_load, and_loads, unknown}
+use Rattle.bz_load.specs.NewLoad.{is_symbol, and_symbol, new_symbols, symbol_made}
+use Rattle.bz_load.specs.private.Known.{symbol, alias_in, symbol_in, knows, and_loaded, and_each, and_load, and_loads}
 use Rattle.bz_load.proofs.KeySets.{known_again}
 
 abbrev Test : Type 0
@@ -93,26 +93,8 @@ known_answered path items = fun_ext (λ other. loads_answered other path items (
 
 -- ---- the symbols that are not known
 
-or_apart : (a b c : Bool) → ((a || b) || c) ≡ (a || (b || c))
-or_apart true b c = refl
-or_apart false b c = refl
-
-abbrev after : Bytes → List Item → List Symbol → Test
-after path items earlier other = list_any (is_symbol other) earlier || is_loaded path items other
-
-both_ways : (first : Symbol) (b : Bool) {xs ys xs' ys' : List Symbol} → xs ≡ xs' → ys ≡ ys' → (if b then xs else first ∷ ys) ≡ (if b then xs' else first ∷ ys')
-both_ways first true e f = e
-both_ways first false e f = ap (λ zs. first ∷ zs) f
-
-unknown_by : (path : Bytes) (items : List Item) (earlier symbols : List Symbol) → new_symbols path items earlier symbols ≡ unknown (after path items earlier) symbols
-unknown_by path items earlier [] = refl
-unknown_by path items earlier (first ∷ rest) =
-    both_ways first (after path items earlier first) (unknown_by path items earlier rest)
-    (unknown_by path items (first ∷ earlier) rest
-    ∙ ap (λ (test : Test). unknown test rest) (fun_ext (λ other. or_apart (is_symbol other first) (list_any (is_symbol other) earlier) (is_loaded path items other))))
-
-pub unknown_symbols : (path : Bytes) (items : List Item) (symbols : List Symbol) → new_symbols path items [] symbols ≡ unknown (and_loads path items (knows [])) symbols
-unknown_symbols path items symbols = unknown_by path items [] symbols ∙ ap (λ (test : Test). unknown test symbols) (sym (known_answered path items))
+pub unknown_symbols : (path : Bytes) (items : List Item) (symbols : List Symbol) → new_symbols (is_loaded path items) symbols ≡ new_symbols (and_loads path items (knows [])) symbols
+unknown_symbols path items symbols = ap (λ (test : Test). new_symbols test symbols) (sym (known_answered path items))
 
 -- ---- one symbol more
 
@@ -125,29 +107,29 @@ not_false true e = absurd (true≢false e)
 not_false false e = refl
 
 not_new : (xs ys rest : List Symbol) (first : Symbol) → false ≡ not (knows xs first) → knows ys ≡ and_symbol first (knows xs)
-    → unknown (knows ys) rest ≡ unknown (knows xs) (first ∷ rest)
+    → new_symbols (knows ys) rest ≡ new_symbols (knows xs) (first ∷ rest)
 not_new xs ys rest first h e =
     let there : knows xs first ≡ true = not_not (knows xs first) h in
-    ap (λ (test : Test). unknown test rest) (e ∙ known_again xs first there) ∙ sym (ap (λ b. if b then unknown (knows xs) rest else first ∷ unknown (and_symbol first (knows xs)) rest) there)
+    ap (λ (test : Test). new_symbols test rest) (e ∙ known_again xs first there) ∙ sym (ap (λ b. if b then new_symbols (knows xs) rest else first ∷ new_symbols (and_symbol first (knows xs)) rest) there)
 
 is_new : (xs ys rest : List Symbol) (first : Symbol) → true ≡ not (knows xs first) → knows ys ≡ and_symbol first (knows xs)
-    → first ∷ unknown (knows ys) rest ≡ unknown (knows xs) (first ∷ rest)
+    → first ∷ new_symbols (knows ys) rest ≡ new_symbols (knows xs) (first ∷ rest)
 is_new xs ys rest first h e =
     let apart : knows xs first ≡ false = not_false (knows xs first) h in
-    ap (λ (test : Test). first ∷ unknown test rest) e ∙ sym (ap (λ b. if b then unknown (knows xs) rest else first ∷ unknown (and_symbol first (knows xs)) rest) apart)
+    ap (λ (test : Test). first ∷ new_symbols test rest) e ∙ sym (ap (λ b. if b then new_symbols (knows xs) rest else first ∷ new_symbols (and_symbol first (knows xs)) rest) apart)
 
 -- what is made of a symbol, by whether it was new
 pub old_pushed : (made : List Expr) (xs ys : List Symbol) (key first : Symbol) (new : Bool) → key ≡ first → new ≡ not (knows xs key) → knows ys ≡ and_symbol key (knows xs) → new ≡ false
-    → (rest : List Symbol) → made ++ map symbol_made (unknown (knows ys) rest) ≡ made ++ map symbol_made (unknown (knows xs) (first ∷ rest))
+    → (rest : List Symbol) → made ++ map symbol_made (new_symbols (knows ys) rest) ≡ made ++ map symbol_made (new_symbols (knows xs) (first ∷ rest))
 old_pushed made xs ys key first true same h e is rest = absurd (true≢false is)
 old_pushed made xs ys key first false same h e is rest =
-    ap (λ zs. made ++ map symbol_made zs) (not_new xs ys rest key h e ∙ ap (λ z. unknown (knows xs) (z ∷ rest)) same)
+    ap (λ zs. made ++ map symbol_made zs) (not_new xs ys rest key h e ∙ ap (λ z. new_symbols (knows xs) (z ∷ rest)) same)
 
 pub new_pushed : (made : List Expr) (xs ys : List Symbol) (key first : Symbol) (new : Bool) → key ≡ first → new ≡ not (knows xs key) → knows ys ≡ and_symbol key (knows xs) → new ≡ true
-    → (rest : List Symbol) → (made ++ symbol_made first ∷ []) ++ map symbol_made (unknown (knows ys) rest) ≡ made ++ map symbol_made (unknown (knows xs) (first ∷ rest))
+    → (rest : List Symbol) → (made ++ symbol_made first ∷ []) ++ map symbol_made (new_symbols (knows ys) rest) ≡ made ++ map symbol_made (new_symbols (knows xs) (first ∷ rest))
 new_pushed made xs ys key first false same h e is rest = absurd (true≢false (sym is))
 new_pushed made xs ys key first true same h e is rest =
-    append_assoc made (symbol_made first ∷ []) (map symbol_made (unknown (knows ys) rest))
+    append_assoc made (symbol_made first ∷ []) (map symbol_made (new_symbols (knows ys) rest))
     ∙ ap (λ zs. made ++ zs)
-    (ap (λ z. symbol_made z ∷ map symbol_made (unknown (knows ys) rest)) (sym same)
-    ∙ (ap (map symbol_made) (is_new xs ys rest key h e) ∙ ap (λ z. map symbol_made (unknown (knows xs) (z ∷ rest))) same))
+    (ap (λ z. symbol_made z ∷ map symbol_made (new_symbols (knows ys) rest)) (sym same)
+    ∙ (ap (map symbol_made) (is_new xs ys rest key h e) ∙ ap (λ z. map symbol_made (new_symbols (knows xs) (z ∷ rest))) same))

@@ -1,7 +1,7 @@
 -- new_load and fix keep each comment as often as it occurred there.
-use Rattle.std.proofs.Common.{◌≡◌, ℕ, ◌+◌, Bool, true, false, not, ◌&&◌, ◌||◌, List, [], ◌∷◌, ◌++◌, Option, Some, None, refl, sym, ap, ◌∙◌, map, codes, arith, true≢false}
+use Rattle.std.proofs.Common.{◌≡◌, ℕ, zero, suc, ◌+◌, Bool, true, false, not, ◌&&◌, ◌||◌, List, [], ◌∷◌, ◌++◌, Option, Some, None, refl, sym, ap, ◌∙◌, map, codes, arith, true≢false}
 use Rattle.std.specs.Prelude.{IfSome, bytes_eq, if◌then◌else◌}
-use Rattle.std.specs.List.{AllByRecursion, list_any, filter}
+use Rattle.std.specs.List.{AllByRecursion, list_any, filter, insert}
 use Rattle.std.specs.Option.{option_map_or}
 use Rattle.std.proofs.lemmas.Bool.{and_parts, or_parts, not-true}
 use Rattle.std.proofs.lemmas.List.Elements.{recursion_from_All}
@@ -28,13 +28,12 @@ use Rattle.bz_attribute.specs.Made.{token, node, mark, name}
 use Rattle.bz_attribute.specs.Attributes.{on_first_that, without_first}
 use Rattle.bz_attribute.proofs.FormsAgain.{if_false, made}
 use Rattle.bz_attribute.proofs.GrownArguments.{whole, row_total}
-use Rattle.bz_load.specs.Loads.{is_load_item, is_load_from, after_path}
-use Rattle.bz_load.specs.Places.{is_block, after_last, after_blocks, after_loads}
+use Rattle.bz_load.specs.Loads.{is_load_from, is_loaded, after_path}
+use Rattle.bz_load.specs.Places.{leading_blocks, loads_end, after_loads}
 use Rattle.bz_load.specs.NewLoad.{new_symbols, symbol_made, load_made, with_symbols, new_load}
 use Rattle.bz_load.specs.Uses.{is_used}
-use Rattle.bz_load.specs.Fixes.{is_commented, path_comments, end_of, has_own_comments, symbol_stays, is_emptied, used_alone, is_package_call, first_that, package_after_blocks, package_moved, move_package_to_top, fix}
+use Rattle.bz_load.specs.Fixes.{is_commented, path_comments, end_of, has_own_comments, symbol_stays, is_emptied, used_alone, is_package_call, first_that, package_moved, move_package_to_top, fix}
 use Rattle.bz_load.specs.Laws.{LoadsKeepComments}
-use Rattle.bz_load.proofs.PlaceSteps.{block_no_package}
 use Rattle.bz_load.proofs.ProperLoads.{fix_keeps}
 use Rattle.bz_load.proofs.LoadParts.{alias_parts, load_parts}
 
@@ -84,61 +83,41 @@ module _ (number : Bytes → ℕ) where
       let b = symbols_none symbols in
       omega arith
 
-  load_none : (path : Bytes) (symbols : List Symbol) → item_amount number (load_made path symbols) ≡ 0
-  load_none path symbols =
-      let all = symbols_none symbols in
-      let h = form_amount number (made k.Load (token c.Keyword (codes "load") ∷ []) (token c.String (quoted_of path) ∷ map symbol_made symbols) [] false false no_comments) in
-      omega arith
+  module _ (more : List Expr) (none : total (whole number) more ≡ 0) where
+    load_none : (path : Bytes) → item_amount number (load_made path more) ≡ 0
+    load_none path =
+        let h = form_amount number (made k.Load (token c.Keyword (codes "load") ∷ []) (token c.String (quoted_of path) ∷ more) [] false false no_comments) in
+        omega arith
 
-  more_same : (symbols : List Symbol) (item : Item) → item_amount number (with_symbols symbols item) ≡ item_amount number item
-  more_same symbols (i.Block lines) = refl
-  more_same symbols (i.Stmt x) = by (has_kind k.Load x)
-    where
-      by : (b : Bool) → whole number (if b then with_items (items_of x ++ map symbol_made symbols) x else x) ≡ whole number x
-      by true =
-          let a = append_total (whole number) (items_of x) (map symbol_made symbols) in
-          let z = symbols_none symbols in
-          items_same (items_of x ++ map symbol_made symbols) x (omega arith)
-      by false = refl
+    more_same : (item : Item) → item_amount number (with_symbols more item) ≡ item_amount number item
+    more_same (i.Block lines) = refl
+    more_same (i.Stmt x) = by (has_kind k.Load x)
+      where
+        by : (b : Bool) → whole number (if b then with_items (items_of x ++ more) x else x) ≡ whole number x
+        by true = let a = append_total (whole number) (items_of x) more in items_same (items_of x ++ more) x (omega arith)
+        by false = refl
 
   -- ---- places
 
   abbrev file : List Item → ℕ
   file = total (item_amount number)
 
-  last_total : (test : Item → Bool) (new : Item) (xs : List Item) → file (after_last test new xs) ≡ item_amount number new + file xs
-  last_total test new [] = refl
-  last_total test new (x ∷ xs) = by (list_any test (x ∷ xs)) (last_total test new xs)
-    where
-      by : (b : Bool) → file (after_last test new xs) ≡ item_amount number new + file xs
-          → file (if b then x ∷ after_last test new xs else new ∷ x ∷ xs) ≡ item_amount number new + (item_amount number x + file xs)
-      by true rest = omega arith
-      by false rest = refl
-
-  blocks_total : (new : Item) (xs : List Item) → file (after_blocks new xs) ≡ item_amount number new + file xs
-  blocks_total new [] = refl
-  blocks_total new (x ∷ xs) = by (is_block x) (blocks_total new xs)
-    where
-      by : (b : Bool) → file (after_blocks new xs) ≡ item_amount number new + file xs
-          → file (if b then x ∷ after_blocks new xs else new ∷ x ∷ xs) ≡ item_amount number new + (item_amount number x + file xs)
-      by true rest = omega arith
-      by false rest = refl
-
-  loads_total : (new : Item) (xs : List Item) → file (after_loads new xs) ≡ item_amount number new + file xs
-  loads_total new xs = by (list_any is_load_item xs)
-    where
-      by : (b : Bool) → file (if b then after_last is_load_item new xs else after_blocks new xs) ≡ item_amount number new + file xs
-      by true = last_total is_load_item new xs
-      by false = blocks_total new xs
+  put_total : (n : ℕ) (new : Item) (xs : List Item) → file (insert xs n new) ≡ item_amount number new + file xs
+  put_total zero new xs = refl
+  put_total (suc n) new [] = refl
+  put_total (suc n) new (x ∷ xs) = let rest = put_total n new xs in omega arith
 
   pub new_load_same : (path : Bytes) (symbols : List Symbol) (items : List Item) → file (new_load path symbols items) ≡ file items
   new_load_same path symbols items = by (list_any (is_load_from path) items)
     where
-      by : (b : Bool) → file (if b then on_first_that (is_load_from path) (with_symbols (new_symbols path items [] symbols)) items else after_loads (load_made path (new_symbols path items [] symbols)) items) ≡ file items
-      by true = first_same (item_amount number) (is_load_from path) (with_symbols (new_symbols path items [] symbols)) (more_same (new_symbols path items [] symbols)) items
+      chosen : List Symbol
+      chosen = new_symbols (is_loaded path items) symbols
+
+      by : (b : Bool) → file (if b then on_first_that (is_load_from path) (with_symbols (map symbol_made chosen)) items else after_loads (load_made path (map symbol_made chosen)) items) ≡ file items
+      by true = first_same (item_amount number) (is_load_from path) (with_symbols (map symbol_made chosen)) (more_same (map symbol_made chosen) (symbols_none chosen)) items
       by false =
-          let a = loads_total (load_made path (new_symbols path items [] symbols)) items in
-          let z = load_none path (new_symbols path items [] symbols) in
+          let a = put_total (loads_end (leading_blocks items) 0 items) (load_made path (map symbol_made chosen)) items in
+          let z = load_none (map symbol_made chosen) (symbols_none chosen) path in
           omega arith
 
   -- ---- what is dropped has no comments
@@ -251,25 +230,10 @@ module _ (number : Bytes → ℕ) where
       by false None rest = tt
       by false (Some new) rest = omega arith
 
-  top_total : (new : Item) (xs : List Item) → file (package_after_blocks new xs) ≡ item_amount number new + file (without_first is_package_call xs)
-  top_total new [] = refl
-  top_total new (x ∷ xs) = by (is_block x) refl (top_total new xs)
-    where
-      by : (b : Bool) → is_block x ≡ b → file (package_after_blocks new xs) ≡ item_amount number new + file (without_first is_package_call xs)
-          → file (if b then x ∷ package_after_blocks new xs else new ∷ without_first is_package_call (x ∷ xs)) ≡ item_amount number new + file (without_first is_package_call (x ∷ xs))
-      by true e rest =
-          let z = ap file (if_false (is_package_call x) xs (x ∷ without_first is_package_call xs) (block_no_package x e)) in
-          omega arith
-      by false e rest = refl
-
   moved_by : (items : List Item) (found : Option Item) → IfSome found (λ new. file items ≡ item_amount number new + file (without_first is_package_call items))
       → file (option_map_or (package_moved items) found items) ≡ file items
   moved_by items None h = refl
-  moved_by items (Some new) h = by (list_any is_load_item items)
-    where
-      by : (b : Bool) → file (if b then after_last is_load_item new (without_first is_package_call items) else package_after_blocks new items) ≡ file items
-      by true = last_total is_load_item new (without_first is_package_call items) ∙ sym h
-      by false = top_total new items ∙ sym h
+  moved_by items (Some new) h = put_total (loads_end (leading_blocks items) 0 (without_first is_package_call items)) new (without_first is_package_call items) ∙ sym h
 
   moved_same : (items : List Item) → file (move_package_to_top items) ≡ file items
   moved_same items = moved_by items (first_that is_package_call items) (taken_total is_package_call items)

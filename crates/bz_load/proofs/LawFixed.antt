@@ -1,7 +1,7 @@
 -- A file mended twice.
-use Rattle.std.proofs.Common.{◌≡◌, Bool, true, false, not, ◌||◌, List, [], ◌∷◌, map, refl, sym, ap, ◌∙◌, true≢false, inl, inr}
+use Rattle.std.proofs.Common.{◌≡◌, ℕ, suc, ◌+◌, Bool, true, false, not, ◌||◌, List, [], ◌∷◌, map, refl, sym, ap, ◌∙◌, true≢false, inl, inr}
 use Rattle.std.specs.Prelude.{Option, Some, None, option_map, if◌then◌else◌}
-use Rattle.std.specs.List.{list_any, filter}
+use Rattle.std.specs.List.{list_any, filter, insert}
 use Rattle.std.specs.Option.{option_map_or}
 use Rattle.std.proofs.lemmas.Bool.{cases_Bool, or_parts}
 use Rattle.std.proofs.lemmas.List.Elements.{All-from_recursion, recursion_from_All}
@@ -12,11 +12,11 @@ use Rattle.bz_items.specs.Characters.{Bytes}
 use Rattle.bz_attribute.specs.Attributes.{without_first}
 use Rattle.bz_attribute.proofs.FormsAgain.{if_true, if_false}
 use Rattle.bz_load.specs.Loads.{is_load_item}
-use Rattle.bz_load.specs.Places.{is_block, after_last}
+use Rattle.bz_load.specs.Places.{is_block, leading_blocks, loads_end}
 use Rattle.bz_load.specs.Uses.{is_used}
-use Rattle.bz_load.specs.Fixes.{is_emptied, used_alone, unused_loads, is_package_call, first_that, package_after_blocks, package_moved, move_package_to_top, fix}
+use Rattle.bz_load.specs.Fixes.{is_emptied, used_alone, unused_loads, is_package_call, first_that, package_moved, move_package_to_top, fix}
 use Rattle.bz_load.specs.Laws.{has_second_package, loses_load, FixedAgain}
-use Rattle.bz_load.proofs.PlaceSteps.{package_no_load}
+use Rattle.bz_load.proofs.PlaceSteps.{map_put, next_end, package_no_load}
 use Rattle.bz_load.proofs.ProperLoads.{fix_keeps}
 use Rattle.bz_load.proofs.LawPackage.{moved_again}
 use Rattle.bz_load.proofs.LawUnused.{unused_again, used_load, other_stays}
@@ -24,10 +24,6 @@ use Rattle.bz_load.proofs.LawUnused.{unused_again, used_load, other_stays}
 -- ---- items that are changed, each by itself, so that the tests see no difference
 
 module _ (f : Item → Item) where
-  any_map : (test : Item → Bool) → ((x : Item) → test (f x) ≡ test x) → (xs : List Item) → list_any test (map f xs) ≡ list_any test xs
-  any_map test same [] = refl
-  any_map test same (x ∷ xs) = ap (λ z. z || list_any test (map f xs)) (same x) ∙ ap (λ z. test x || z) (any_map test same xs)
-
   by_same : {X Y : Type 0} (g : X → Y) (a b : Bool) {x x' : Y} {y y' : X} → a ≡ b → x ≡ g y → x' ≡ g y' → (if a then x else x') ≡ g (if b then y else y')
   by_same g a true e p q = if_true a _ _ e ∙ p
   by_same g a false e p q = if_false a _ _ e ∙ q
@@ -40,21 +36,23 @@ module _ (f : Item → Item) where
   left_map test same [] = refl
   left_map test same (x ∷ xs) = by_same (map f) (test (f x)) (test x) (same x) refl (ap (λ ys. f x ∷ ys) (left_map test same xs))
 
-  last_map : (test : Item → Bool) → ((x : Item) → test (f x) ≡ test x) → (new : Item) (xs : List Item) → after_last test (f new) (map f xs) ≡ map f (after_last test new xs)
-  last_map test same new [] = refl
-  last_map test same new (x ∷ xs) = by_same (map f) (list_any test (map f (x ∷ xs))) (list_any test (x ∷ xs)) (any_map test same (x ∷ xs)) (ap (λ ys. f x ∷ ys) (last_map test same new xs)) refl
+  ends_map : ((x : Item) → is_load_item (f x) ≡ is_load_item x) → (other passed : ℕ) (xs : List Item) → loads_end other passed (map f xs) ≡ loads_end other passed xs
+  ends_map same other passed [] = refl
+  ends_map same other passed (x ∷ xs) =
+      ap (next_end other passed (map f xs)) (same x) ∙ ends_map same (if is_load_item x then passed + 1 else other) (passed + 1) xs
+
+  blocks_map : ((x : Item) → is_block (f x) ≡ is_block x) → (xs : List Item) → leading_blocks (map f xs) ≡ leading_blocks xs
+  blocks_map same [] = refl
+  blocks_map same (x ∷ xs) = rw (same x) (ap (λ n. if is_block x then suc n else 0) (blocks_map same xs))
 
   module _ (loads : (x : Item) → is_load_item (f x) ≡ is_load_item x) (blocks : (x : Item) → is_block (f x) ≡ is_block x) (packages : (x : Item) → is_package_call (f x) ≡ is_package_call x) where
-    top_map : (new : Item) (xs : List Item) → package_after_blocks (f new) (map f xs) ≡ map f (package_after_blocks new xs)
-    top_map new [] = refl
-    top_map new (x ∷ xs) =
-        by_same (map f) (is_block (f x)) (is_block x) (blocks x) (ap (λ ys. f x ∷ ys) (top_map new xs)) (ap (λ ys. f new ∷ ys) (left_map is_package_call packages (x ∷ xs)))
-
     placed_map : (xs : List Item) (found : Option Item) → option_map_or (package_moved (map f xs)) (option_map f found) (map f xs) ≡ map f (option_map_or (package_moved xs) found xs)
     placed_map xs None = refl
     placed_map xs (Some new) =
-        by_same (map f) (list_any is_load_item (map f xs)) (list_any is_load_item xs) (any_map is_load_item loads xs)
-        (ap (after_last is_load_item (f new)) (left_map is_package_call packages xs) ∙ last_map is_load_item loads new (without_first is_package_call xs)) (top_map new xs)
+        let rest : List Item = without_first is_package_call xs in
+        ap (λ ys. insert ys (loads_end (leading_blocks (map f xs)) 0 ys) (f new)) (left_map is_package_call packages xs)
+        ∙ (ap (λ n. insert (map f rest) n (f new)) (ends_map loads (leading_blocks (map f xs)) 0 rest ∙ ap (λ n. loads_end n 0 rest) (blocks_map blocks xs))
+        ∙ map_put f (loads_end (leading_blocks xs) 0 rest) new rest)
 
     moved_map : (xs : List Item) → move_package_to_top (map f xs) ≡ map f (move_package_to_top xs)
     moved_map xs = ap (λ o. option_map_or (package_moved (map f xs)) o (map f xs)) (found_map is_package_call packages xs) ∙ placed_map xs (first_that is_package_call xs)

@@ -1,9 +1,9 @@
 -- The same symbols, loaded once more.
-use Rattle.std.proofs.Common.{◌≡◌, Bool, true, false, ◌&&◌, ◌||◌, List, [], ◌∷◌, ◌++◌, map, refl, sym, ap, ◌∙◌, subst, true≢false, inl, inr}
+use Rattle.std.proofs.Common.{◌≡◌, ℕ, Bool, true, false, ◌&&◌, ◌||◌, List, [], ◌∷◌, ◌++◌, map, refl, sym, ap, ◌∙◌, subst, true≢false, inl, inr}
 use Rattle.std.specs.Prelude.{bytes_eq, codes, if◌then◌else◌}
 use Rattle.std.specs.List.{AllByRecursion, list_any, list_all}
-use Rattle.std.proofs.lemmas.Bool.{and_parts, and_from, or_cases, not-true, or_left, or_right}
-use Rattle.std.proofs.lemmas.List.{append-nil}
+use Rattle.std.proofs.lemmas.Bool.{cases_Bool, and_parts, and_from, or_cases, not-true, or_left, or_right}
+use Rattle.std.proofs.lemmas.List.Folds.{list_any-append}
 use Rattle.std.proofs.lemmas.Slice.Eq.{bytes_eq-Decides}
 use Rattle.bz_token.specs.declared.class.Class.TheVariants as c
 use Rattle.bz_grammar.specs.declared.kind.Kind.TheVariants as k
@@ -18,15 +18,15 @@ use Rattle.bz_rule.specs.Values.{has_kind, items_of, with_items, on_items}
 use Rattle.bz_attribute.specs.Made.{token, node, mark, name}
 use Rattle.bz_attribute.specs.Attributes.{on_first_that}
 use Rattle.bz_attribute.specs.Lists.{body_of}
-use Rattle.bz_attribute.proofs.FormsAgain.{if_true, own_items, items_kind, items_filled}
+use Rattle.bz_attribute.proofs.FormsAgain.{if_true, items_kind, items_filled}
 use Rattle.bz_attribute.proofs.PlainWords.{IsPlain, equal_self, body_quoted}
-use Rattle.bz_attribute.proofs.KeySets.{or_turn}
-use Rattle.bz_load.specs.Loads.{is_load_item, path_in, is_load_from, is_alias_of, loads_symbol, after_path, symbols_of, is_loaded}
-use Rattle.bz_load.specs.Places.{is_block, after_last, after_blocks, after_loads}
-use Rattle.bz_load.specs.NewLoad.{is_symbol, new_symbols, symbol_made, load_made, with_symbols, new_load}
+use Rattle.bz_load.specs.Loads.{path_in, is_load_from, is_alias_of, loads_symbol, after_path, symbols_of, is_loaded}
+use Rattle.bz_load.specs.Places.{leading_blocks, loads_end, after_loads}
+use Rattle.bz_load.specs.NewLoad.{is_symbol, and_symbol, new_symbols, symbol_made, load_made, with_symbols, new_load}
 use Rattle.bz_load.specs.Laws.{becomes_plain, LoadedAgain}
 use Rattle.bz_load.proofs.KeySets.{same_symbol}
-use Rattle.bz_load.proofs.LawPackage.{any_placed}
+use Rattle.bz_load.proofs.PlaceSteps.{any_put}
+use Rattle.bz_load.proofs.PutSteps.{with_none}
 
 -- ---- a new symbol is loaded
 
@@ -73,116 +73,76 @@ each_made (first ∷ rest) h = (
 
 -- ---- the symbols that are new
 
-module _ (path : Bytes) (items : List Item) where
-  chosen_plain : (earlier symbols : List Symbol) → AllByRecursion Plain symbols → AllByRecursion Plain (new_symbols path items earlier symbols)
-  chosen_plain earlier [] h = tt
-  chosen_plain earlier (first ∷ rest) h =
-      by (list_any (is_symbol first) earlier || is_loaded path items first) (chosen_plain earlier rest h.1) (chosen_plain (first ∷ earlier) rest h.1)
-    where
-      by : (b : Bool) → AllByRecursion Plain (new_symbols path items earlier rest) → AllByRecursion Plain (new_symbols path items (first ∷ earlier) rest)
-          → AllByRecursion Plain (if b then new_symbols path items earlier rest else first ∷ new_symbols path items (first ∷ earlier) rest)
-      by true old new = old
-      by false old new = (h.0, new)
+chosen_plain : (is_known : Symbol → Bool) (symbols : List Symbol) → AllByRecursion Plain symbols → AllByRecursion Plain (new_symbols is_known symbols)
+chosen_plain is_known [] h = tt
+chosen_plain is_known (first ∷ rest) h = elim (cases_Bool (is_known first)) [
+  | inl e ↦ rw e (chosen_plain is_known rest h.1)
+  | inr e ↦ rw e (h.0, chosen_plain (and_symbol first is_known) rest h.1)
+]
 
-  -- where what was loaded and what is new is loaded, all symbols are
-  module _ (P : Symbol → Type 0) (stays : (symbol : Symbol) → is_loaded path items symbol ≡ true → P symbol) where
-    all_loaded : (earlier symbols : List Symbol) → ((symbol : Symbol) → list_any (is_symbol symbol) earlier ≡ true → P symbol)
-        → AllByRecursion P (new_symbols path items earlier symbols) → AllByRecursion P symbols
-    all_loaded earlier [] before new = tt
-    all_loaded earlier (first ∷ rest) before new =
-        step earlier first rest before (list_any (is_symbol first) earlier || is_loaded path items first) refl (all_loaded earlier rest) (all_loaded (first ∷ earlier) rest) new
-      where
-        step : (earlier : List Symbol) (first : Symbol) (rest : List Symbol) → ((symbol : Symbol) → list_any (is_symbol symbol) earlier ≡ true → P symbol)
-            → (b : Bool) → (list_any (is_symbol first) earlier || is_loaded path items first) ≡ b
-            → (((symbol : Symbol) → list_any (is_symbol symbol) earlier ≡ true → P symbol) → AllByRecursion P (new_symbols path items earlier rest) → AllByRecursion P rest)
-            → (((symbol : Symbol) → list_any (is_symbol symbol) (first ∷ earlier) ≡ true → P symbol) → AllByRecursion P (new_symbols path items (first ∷ earlier) rest) → AllByRecursion P rest)
-            → AllByRecursion P (if b then new_symbols path items earlier rest else first ∷ new_symbols path items (first ∷ earlier) rest) → AllByRecursion P (first ∷ rest)
-        step earlier first rest before true e old more new = (
-          elim (or_cases (list_any (is_symbol first) earlier) (is_loaded path items first) e) [ inl w ↦ before first w | inr w ↦ stays first w ],
-          old before new,
-        )
-        step earlier first rest before false e old more new = (
-          new.0,
-          more
-              (λ symbol h. elim (or_cases (is_symbol symbol first) (list_any (is_symbol symbol) earlier) h) [
-                | inl w ↦ subst P (sym (same_symbol symbol first w)) new.0
-                | inr w ↦ before symbol w
-              ])
-              new.1,
-        )
+-- where what was known and what is new is loaded, all symbols are
+all_loaded : (P : Symbol → Type 0) (is_known : Symbol → Bool) (symbols : List Symbol) → ((symbol : Symbol) → is_known symbol ≡ true → P symbol)
+    → AllByRecursion P (new_symbols is_known symbols) → AllByRecursion P symbols
+all_loaded P is_known [] known new = tt
+all_loaded P is_known (first ∷ rest) known new = elim (cases_Bool (is_known first)) [
+  | inl e ↦ (known first e, all_loaded P is_known rest known (rw e at new))
+  | inr e ↦
+      let more : AllByRecursion P (first ∷ new_symbols (and_symbol first is_known) rest) = rw e at new in (
+        more.0,
+        all_loaded P (and_symbol first is_known) rest
+            (λ symbol h. elim (or_cases (is_symbol symbol first) (is_known symbol) h) [
+              | inl w ↦ subst P (sym (same_symbol symbol first w)) more.0
+              | inr w ↦ known symbol w
+            ])
+            more.1,
+      )
+]
 
-none_new : (path : Bytes) (items : List Item) (symbols : List Symbol) → AllByRecursion (λ symbol. is_loaded path items symbol ≡ true) symbols → new_symbols path items [] symbols ≡ []
-none_new path items [] h = refl
-none_new path items (first ∷ rest) h = if_true (is_loaded path items first) _ _ h.0 ∙ none_new path items rest h.1
+none_new : (is_known : Symbol → Bool) (symbols : List Symbol) → AllByRecursion (λ symbol. is_known symbol ≡ true) symbols → new_symbols is_known symbols ≡ []
+none_new is_known [] h = refl
+none_new is_known (first ∷ rest) h = rw h.0 (none_new is_known rest h.1)
 
 -- ---- nothing is put after
 
-same_with_none : (item : Item) → with_symbols [] item ≡ item
-same_with_none (i.Block lines) = refl
-same_with_none (i.Stmt x) = ap i.Stmt (by (has_kind k.Load x))
-  where
-    by : (b : Bool) → (if b then with_items (items_of x ++ []) x else x) ≡ x
-    by true = ap (λ xs. with_items xs x) (append-nil (items_of x)) ∙ own_items x
-    by false = refl
-
 first_same : (test : Item → Bool) (change : Item → Item) → ((x : Item) → change x ≡ x) → (xs : List Item) → on_first_that test change xs ≡ xs
 first_same test change f [] = refl
-first_same test change f (x ∷ xs) = by (test x) (first_same test change f xs)
-  where
-    by : (b : Bool) → on_first_that test change xs ≡ xs → (if b then change x ∷ xs else x ∷ on_first_that test change xs) ≡ x ∷ xs
-    by true rest = ap (λ y. y ∷ xs) (f x)
-    by false rest = ap (λ ys. x ∷ ys) rest
+first_same test change f (x ∷ xs) = elim (cases_Bool (test x)) [
+  | inl e ↦ rw e (ap (λ y. y ∷ xs) (f x))
+  | inr e ↦ rw e (ap (λ ys. x ∷ ys) (first_same test change f xs))
+]
 
 -- a file that has a load from the path, and loads all these symbols from it
 loaded_stays : (path : Bytes) (symbols : List Symbol) (items : List Item) → list_any (is_load_from path) items ≡ true
     → AllByRecursion (λ symbol. is_loaded path items symbol ≡ true) symbols → new_load path symbols items ≡ items
 loaded_stays path symbols items there all =
     if_true (list_any (is_load_from path) items) _ _ there
-    ∙ (ap (λ more. on_first_that (is_load_from path) (with_symbols more) items) (none_new path items symbols all) ∙ first_same (is_load_from path) (with_symbols []) same_with_none items)
+    ∙ (ap (λ chosen. on_first_that (is_load_from path) (with_symbols (map symbol_made chosen)) items) (none_new (is_loaded path items) symbols all) ∙ first_same (is_load_from path) (with_symbols []) with_none items)
 
 -- ---- the first load from the path, with more symbols
 
 first_any : (test other : Item → Bool) (change : Item → Item) → ((x : Item) → test x ≡ true → other (change x) ≡ true) → (xs : List Item) → list_any test xs ≡ true
     → list_any other (on_first_that test change xs) ≡ true
 first_any test other change f [] h = absurd (true≢false (sym h))
-first_any test other change f (x ∷ xs) h = by (test x) refl h (first_any test other change f xs)
-  where
-    by : (b : Bool) → test x ≡ b → (b || list_any test xs) ≡ true → (list_any test xs ≡ true → list_any other (on_first_that test change xs) ≡ true)
-        → list_any other (if b then change x ∷ xs else x ∷ on_first_that test change xs) ≡ true
-    by true e h rest = or_left (other (change x)) (list_any other xs) (f x e)
-    by false e h rest = or_right (other x) (list_any other (on_first_that test change xs)) (rest h)
+first_any test other change f (x ∷ xs) h = elim (cases_Bool (test x)) [
+  | inl e ↦ rw e (or_left (other (change x)) (list_any other xs) (f x e))
+  | inr e ↦ rw e (or_right (other x) (list_any other (on_first_that test change xs)) (first_any test other change f xs (rw e at h)))
+]
 
 still_any : (test other : Item → Bool) (change : Item → Item) → ((x : Item) → test x ≡ true → other x ≡ true → other (change x) ≡ true) → (xs : List Item) → list_any other xs ≡ true
     → list_any other (on_first_that test change xs) ≡ true
 still_any test other change f [] h = h
-still_any test other change f (x ∷ xs) h = by (test x) refl (still_any test other change f xs)
-  where
-    by : (b : Bool) → test x ≡ b → (list_any other xs ≡ true → list_any other (on_first_that test change xs) ≡ true)
-        → list_any other (if b then change x ∷ xs else x ∷ on_first_that test change xs) ≡ true
-    by true e rest = elim (or_cases (other x) (list_any other xs) h) [
-      | inl w ↦ or_left (other (change x)) (list_any other xs) (f x e w)
-      | inr w ↦ or_right (other (change x)) (list_any other xs) w
-    ]
-    by false e rest = elim (or_cases (other x) (list_any other xs) h) [
-      | inl w ↦ or_left (other x) (list_any other (on_first_that test change xs)) w
-      | inr w ↦ or_right (other x) (list_any other (on_first_that test change xs)) (rest w)
-    ]
-
-any_front : {X : Type 0} (test : X → Bool) (xs ys : List X) → list_any test xs ≡ true → list_any test (xs ++ ys) ≡ true
-any_front test [] ys h = absurd (true≢false (sym h))
-any_front test (x ∷ xs) ys h = elim (or_cases (test x) (list_any test xs) h) [
-  | inl w ↦ or_left (test x) (list_any test (xs ++ ys)) w
-  | inr w ↦ or_right (test x) (list_any test (xs ++ ys)) (any_front test xs ys w)
+still_any test other change f (x ∷ xs) h = elim (cases_Bool (test x)) [
+  | inl e ↦ rw e (elim (or_cases (other x) (list_any other xs) h) [
+    | inl w ↦ or_left (other (change x)) (list_any other xs) (f x e w)
+    | inr w ↦ or_right (other (change x)) (list_any other xs) w
+  ])
+  | inr e ↦ rw e (elim (or_cases (other x) (list_any other xs) h) [
+    | inl w ↦ or_left (other x) (list_any other (on_first_that test change xs)) w
+    | inr w ↦ or_right (other x) (list_any other (on_first_that test change xs)) (still_any test other change f xs w)
+  ])
 ]
 
-any_back : {X : Type 0} (test : X → Bool) (xs ys : List X) → list_any test ys ≡ true → list_any test (xs ++ ys) ≡ true
-any_back test [] ys h = h
-any_back test (x ∷ xs) ys h = or_right (test x) (list_any test (xs ++ ys)) (any_back test xs ys h)
-
-module _ (path : Bytes) (symbols : List Symbol) where
-  abbrev more : List Expr
-  more = map symbol_made symbols
-
+module _ (path : Bytes) (more : List Expr) where
   path_kept : (xs : List Expr) → is_text path (path_in xs) ≡ true → is_text path (path_in (xs ++ more)) ≡ true
   path_kept [] h = absurd (true≢false (sym h))
   path_kept (x ∷ xs) h = h
@@ -192,7 +152,7 @@ module _ (path : Bytes) (symbols : List Symbol) where
   after_kept (x ∷ xs) h = refl
 
   -- a load from the path stays one, and has these symbols after its own
-  more_after : (item : Item) → is_load_from path item ≡ true → (is_load_from path (with_symbols symbols item) ≡ true) × (symbols_of (with_symbols symbols item) ≡ symbols_of item ++ more)
+  more_after : (item : Item) → is_load_from path item ≡ true → (is_load_from path (with_symbols more item) ≡ true) × (symbols_of (with_symbols more item) ≡ symbols_of item ++ more)
   more_after (i.Block lines) h = absurd (true≢false (sym h))
   more_after (i.Stmt x) h =
       let p = and_parts (has_kind k.Load x) (is_text path (path_in (items_of x))) h in
@@ -208,45 +168,29 @@ module _ (path : Bytes) (symbols : List Symbol) where
   abbrev loads : Symbol → Item → Bool
   loads symbol item = is_load_from path item && list_any (loads_symbol symbol) (symbols_of item)
 
-  more_loads : (symbol : Symbol) → IsIn more symbol → (item : Item) → is_load_from path item ≡ true → loads symbol (with_symbols symbols item) ≡ true
+  more_loads : (symbol : Symbol) → IsIn more symbol → (item : Item) → is_load_from path item ≡ true → loads symbol (with_symbols more item) ≡ true
   more_loads symbol e item h =
       let w = more_after item h in
-      and_from (is_load_from path (with_symbols symbols item)) (list_any (loads_symbol symbol) (symbols_of (with_symbols symbols item))) w.0
-      (ap (list_any (loads_symbol symbol)) w.1 ∙ any_back (loads_symbol symbol) (symbols_of item) more e)
+      and_from (is_load_from path (with_symbols more item)) (list_any (loads_symbol symbol) (symbols_of (with_symbols more item))) w.0
+      (ap (list_any (loads_symbol symbol)) w.1 ∙ list_any-append (loads_symbol symbol) (symbols_of item) more ∙ or_right (list_any (loads_symbol symbol) (symbols_of item)) (list_any (loads_symbol symbol) more) e)
 
-  still_loads : (symbol : Symbol) (item : Item) → is_load_from path item ≡ true → loads symbol item ≡ true → loads symbol (with_symbols symbols item) ≡ true
+  still_loads : (symbol : Symbol) (item : Item) → is_load_from path item ≡ true → loads symbol item ≡ true → loads symbol (with_symbols more item) ≡ true
   still_loads symbol item h e =
       let w = more_after item h in
-      and_from (is_load_from path (with_symbols symbols item)) (list_any (loads_symbol symbol) (symbols_of (with_symbols symbols item))) w.0
-      (ap (list_any (loads_symbol symbol)) w.1 ∙ any_front (loads_symbol symbol) (symbols_of item) more (and_parts (is_load_from path item) (list_any (loads_symbol symbol) (symbols_of item)) e).1)
+      and_from (is_load_from path (with_symbols more item)) (list_any (loads_symbol symbol) (symbols_of (with_symbols more item))) w.0
+      (ap (list_any (loads_symbol symbol)) w.1 ∙ list_any-append (loads_symbol symbol) (symbols_of item) more ∙ or_left (list_any (loads_symbol symbol) (symbols_of item)) (list_any (loads_symbol symbol) more) (and_parts (is_load_from path item) (list_any (loads_symbol symbol) (symbols_of item)) e).1)
 
   -- ---- a new load
-
-  block_any : (other : Item → Bool) (new : Item) (xs : List Item) → list_any other (after_blocks new xs) ≡ (other new || list_any other xs)
-  block_any other new [] = refl
-  block_any other new (x ∷ xs) = by (is_block x) (block_any other new xs)
-    where
-      by : (b : Bool) → list_any other (after_blocks new xs) ≡ (other new || list_any other xs)
-          → list_any other (if b then x ∷ after_blocks new xs else new ∷ x ∷ xs) ≡ (other new || (other x || list_any other xs))
-      by true rest = ap (λ z. other x || z) rest ∙ or_turn (other x) (other new) (list_any other xs)
-      by false rest = refl
-
-  load_any : (other : Item → Bool) (new : Item) (xs : List Item) → list_any other (after_loads new xs) ≡ (other new || list_any other xs)
-  load_any other new xs = by (list_any is_load_item xs)
-    where
-      by : (b : Bool) → list_any other (if b then after_last is_load_item new xs else after_blocks new xs) ≡ (other new || list_any other xs)
-      by true = any_placed is_load_item other new xs
-      by false = block_any other new xs
 
   abbrev made_items : List Expr
   made_items = token c.String (quoted_of path) ∷ more
 
-  new_from : IsPlain path → is_load_from path (load_made path symbols) ≡ true
+  new_from : IsPlain path → is_load_from path (load_made path more) ≡ true
   new_from h = ap (λ xs. is_text path (path_in xs)) (items_hidden-the_row-Expr-0 made_items) ∙ text_quoted path h
 
-  new_loads : IsPlain path → (symbol : Symbol) → IsIn more symbol → loads symbol (load_made path symbols) ≡ true
+  new_loads : IsPlain path → (symbol : Symbol) → IsIn more symbol → loads symbol (load_made path more) ≡ true
   new_loads h symbol e =
-      and_from (is_load_from path (load_made path symbols)) (list_any (loads_symbol symbol) (symbols_of (load_made path symbols))) (new_from h)
+      and_from (is_load_from path (load_made path more)) (list_any (loads_symbol symbol) (symbols_of (load_made path more))) (new_from h)
       (ap (λ xs. list_any (loads_symbol symbol) (after_path xs)) (items_hidden-the_row-Expr-0 made_items) ∙ e)
 
 -- ---- once more
@@ -259,35 +203,38 @@ each_plain (first ∷ rest) h =
 
 module _ (path : Bytes) (symbols : List Symbol) (items : List Item) (plain_path : IsPlain path) (plain : AllByRecursion Plain symbols) where
   abbrev chosen : List Symbol
-  chosen = new_symbols path items [] symbols
+  chosen = new_symbols (is_loaded path items) symbols
 
-  all_made : AllByRecursion (IsIn (map symbol_made chosen)) chosen
-  all_made = each_made chosen (chosen_plain path items [] symbols plain)
+  abbrev added : List Expr
+  added = map symbol_made chosen
+
+  all_made : AllByRecursion (IsIn added) chosen
+  all_made = each_made chosen (chosen_plain (is_loaded path items) symbols plain)
 
   -- a file that has the symbols that are new and what it had
   abbrev Loads : List Item → Symbol → Type 0
   Loads new symbol = is_loaded path new symbol ≡ true
 
-  again : (new : List Item) → list_any (is_load_from path) new ≡ true → ((symbol : Symbol) → IsIn (map symbol_made chosen) symbol → Loads new symbol)
+  again : (new : List Item) → list_any (is_load_from path) new ≡ true → ((symbol : Symbol) → IsIn added symbol → Loads new symbol)
       → ((symbol : Symbol) → Loads items symbol → Loads new symbol) → new_load path symbols new ≡ new
-  again new there added still =
-      loaded_stays path symbols new there
-      (all_loaded path items (Loads new) still [] symbols (λ symbol e. absurd (true≢false (sym e))) (weaker (IsIn (map symbol_made chosen)) (Loads new) added chosen all_made))
+  again new there put still =
+      loaded_stays path symbols new there (all_loaded (Loads new) (is_loaded path items) symbols still (weaker (IsIn added) (Loads new) put chosen all_made))
 
   by_load : (b : Bool) → list_any (is_load_from path) items ≡ b
-      → new_load path symbols (if b then on_first_that (is_load_from path) (with_symbols chosen) items else after_loads (load_made path chosen) items)
-      ≡ (if b then on_first_that (is_load_from path) (with_symbols chosen) items else after_loads (load_made path chosen) items)
+      → new_load path symbols (if b then on_first_that (is_load_from path) (with_symbols added) items else after_loads (load_made path added) items)
+      ≡ (if b then on_first_that (is_load_from path) (with_symbols added) items else after_loads (load_made path added) items)
   by_load true e =
-      again (on_first_that (is_load_from path) (with_symbols chosen) items)
-      (first_any (is_load_from path) (is_load_from path) (with_symbols chosen) (λ x h. (more_after path chosen x h).0) items e)
-      (λ symbol h. first_any (is_load_from path) (loads path chosen symbol) (with_symbols chosen) (more_loads path chosen symbol h) items e)
-      (λ symbol h. still_any (is_load_from path) (loads path chosen symbol) (with_symbols chosen) (still_loads path chosen symbol) items h)
+      again (on_first_that (is_load_from path) (with_symbols added) items)
+      (first_any (is_load_from path) (is_load_from path) (with_symbols added) (λ x h. (more_after path added x h).0) items e)
+      (λ symbol h. first_any (is_load_from path) (loads path added symbol) (with_symbols added) (more_loads path added symbol h) items e)
+      (λ symbol h. still_any (is_load_from path) (loads path added symbol) (with_symbols added) (still_loads path added symbol) items h)
   by_load false e =
-      let new : Item = load_made path chosen in
+      let new : Item = load_made path added in
+      let place : ℕ = loads_end (leading_blocks items) 0 items in
       again (after_loads new items)
-      (load_any path chosen (is_load_from path) new items ∙ or_left (is_load_from path new) (list_any (is_load_from path) items) (new_from path chosen plain_path))
-      (λ symbol h. load_any path chosen (loads path chosen symbol) new items ∙ or_left (loads path chosen symbol new) (is_loaded path items symbol) (new_loads path chosen plain_path symbol h))
-      (λ symbol h. load_any path chosen (loads path chosen symbol) new items ∙ or_right (loads path chosen symbol new) (is_loaded path items symbol) h)
+      (any_put (is_load_from path) place new items ∙ or_left (is_load_from path new) (list_any (is_load_from path) items) (new_from path added plain_path))
+      (λ symbol h. any_put (loads path added symbol) place new items ∙ or_left (loads path added symbol new) (is_loaded path items symbol) (new_loads path added plain_path symbol h))
+      (λ symbol h. any_put (loads path added symbol) place new items ∙ or_right (loads path added symbol new) (is_loaded path items symbol) h)
 
 pub loaded_again : LoadedAgain
 loaded_again path symbols items plain_path plain =

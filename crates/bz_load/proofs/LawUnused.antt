@@ -44,10 +44,6 @@ left_passes test (x ∷ xs) = by (test x) refl (left_passes test xs)
     by true h rest = ap (λ z. not (z || list_any test (filter test xs))) h
     by false h rest = rest
 
-all_pass : {X : Type 0} (test : X → Bool) (xs : List X) → AllByRecursion (λ x. test x ≡ true) xs → filter test xs ≡ xs
-all_pass test [] h = refl
-all_pass test (x ∷ xs) h = if_true (test x) _ _ h.0 ∙ ap (λ ys. x ∷ ys) (all_pass test xs h.1)
-
 -- ---- a load that keeps the symbols that are to stay
 
 abbrev kept : Test → List Expr → List Expr

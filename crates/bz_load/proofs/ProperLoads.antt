@@ -32,12 +32,13 @@ use Rattle.bz_attribute.specs.Made.{token, node, mark, name}
 use Rattle.bz_attribute.specs.Attributes.{on_first_that, without_first}
 use Rattle.bz_attribute.proofs.ProperTexts.{one_ascii}
 use Rattle.bz_attribute.proofs.ProperMade.{IsNew, token_new, quoted_string}
-use Rattle.bz_load.specs.Loads.{is_load_item, path_in, is_load_from, is_loaded}
-use Rattle.bz_load.specs.Places.{is_block, after_last, after_blocks, after_loads}
-use Rattle.bz_load.specs.NewLoad.{is_symbol, new_symbols, symbol_made, load_made, with_symbols, new_load}
+use Rattle.bz_load.specs.Loads.{path_in, is_load_from, is_loaded}
+use Rattle.bz_load.specs.Places.{leading_blocks, loads_end, after_loads}
+use Rattle.bz_load.specs.NewLoad.{and_symbol, new_symbols, symbol_made, load_made, with_symbols, new_load}
 use Rattle.bz_load.specs.Uses.{is_used}
 use Rattle.bz_load.specs.Laws.{LoadsStayProper}
-use Rattle.bz_load.specs.Fixes.{has_own_comments, symbol_stays, with_used, is_emptied, used_alone, unused_loads, is_package_call, first_that, package_after_blocks, package_moved, move_package_to_top, fix}
+use Rattle.bz_load.specs.Fixes.{has_own_comments, symbol_stays, with_used, is_emptied, used_alone, unused_loads, is_package_call, first_that, package_moved, move_package_to_top, fix}
+use Rattle.bz_load.proofs.PlaceSteps.{all_put}
 
 abbrev AreFine : List Item → Type 0
 AreFine items = AllByRecursion IsProperItem items
@@ -85,11 +86,11 @@ symbol_items : (symbols : List Symbol) → EachIs IsSymbol symbols → AreOf s.l
 symbol_items [] h = tt
 symbol_items (symbol ∷ symbols) h = (symbol_item symbol h.0, symbol_items symbols h.1)
 
-chosen_symbols : (path : Bytes) (items : List Item) (earlier symbols : List Symbol) → EachIs IsSymbol symbols → EachIs IsSymbol (new_symbols path items earlier symbols)
-chosen_symbols path items earlier [] h = tt
-chosen_symbols path items earlier (symbol ∷ symbols) h =
-    by_test (EachIs IsSymbol) (list_any (is_symbol symbol) earlier || is_loaded path items symbol) (new_symbols path items earlier symbols) (symbol ∷ new_symbols path items (symbol ∷ earlier) symbols)
-    (chosen_symbols path items earlier symbols h.1) (h.0, chosen_symbols path items (symbol ∷ earlier) symbols h.1)
+chosen_symbols : (is_known : Symbol → Bool) (symbols : List Symbol) → EachIs IsSymbol symbols → EachIs IsSymbol (new_symbols is_known symbols)
+chosen_symbols is_known [] h = tt
+chosen_symbols is_known (symbol ∷ symbols) h =
+    by_test (EachIs IsSymbol) (is_known symbol) (new_symbols is_known symbols) (symbol ∷ new_symbols (and_symbol symbol is_known) symbols)
+    (chosen_symbols is_known symbols h.1) (h.0, chosen_symbols (and_symbol symbol is_known) symbols h.1)
 
 -- ---- a new load
 
@@ -97,14 +98,13 @@ load_coded : IsUtf8 (codes "load")
 unfolding lib.Utf8.encode
 load_coded = (codes "load", (refl, refl))
 
-load_proper : (path : Bytes) (symbols : List Symbol) → IsUtf8 path → EachIs IsSymbol symbols → IsProperItem (load_made path symbols)
-load_proper path symbols u h =
-    let all : AreOf s.loaded (map symbol_made symbols) = symbol_items symbols h in
+load_proper : (path : Bytes) (more : List Expr) → IsUtf8 path → AreOf s.loaded more → IsProperItem (load_made path more)
+load_proper path more u all =
     let word = token_new c.Keyword (codes "load") refl load_coded in (
       refl,
-      form_proper Begins (record { kind = k.Load; parts = token c.Keyword (codes "load") ∷ []; seq = record { items = token c.String (quoted_of path) ∷ map symbol_made symbols; end = []; split = false }; open_break = false; comments = no_comments })
-          (refl, (refl, (refl, inr (refl, items_again s.loaded s.close_round (r.mark_leaf 41) refl (map symbol_made symbols) all))))
-          ((word.proper Begins, (refl, refl), tt), ((string_new path u).proper Within, none_there, refl, each_item s.loaded s.close_round (r.mark_leaf 41) (map symbol_made symbols) all), All-nil IsComment, refl),
+      form_proper Begins (record { kind = k.Load; parts = token c.Keyword (codes "load") ∷ []; seq = record { items = token c.String (quoted_of path) ∷ more; end = []; split = false }; open_break = false; comments = no_comments })
+          (refl, (refl, (refl, inr (refl, items_again s.loaded s.close_round (r.mark_leaf 41) refl more all))))
+          ((word.proper Begins, (refl, refl), tt), ((string_new path u).proper Within, none_there, refl, each_item s.loaded s.close_round (r.mark_leaf 41) more all), All-nil IsComment, refl),
       none_there,
     )
 
@@ -121,13 +121,12 @@ stays_statement x y p w = (subst (λ b. b ≡ true) p.statement w.0, p.proper Be
 more_keeps : (more : List Expr) → AreOf s.loaded more → Keeps s.loaded (λ ys. ys ++ more)
 more_keeps more m xs h = all_joined (IsItem s.loaded) xs more h m
 
-more_symbols : (path : Bytes) (symbols : List Symbol) → EachIs IsSymbol symbols → (item : Item) → is_load_from path item ≡ true → IsProperItem item → IsProperItem (with_symbols symbols item)
-more_symbols path symbols h (i.Block lines) is w = w
-more_symbols path symbols h (i.Stmt x) is w =
-    let more : List Expr = map symbol_made symbols in
+more_symbols : (path : Bytes) (more : List Expr) → AreOf s.loaded more → (item : Item) → is_load_from path item ≡ true → IsProperItem item → IsProperItem (with_symbols more item)
+more_symbols path more h (i.Block lines) is w = w
+more_symbols path more h (i.Stmt x) is w =
     let p = and_parts (has_kind k.Load x) (is_text path (path_in (items_of x))) is in
     subst (λ (ys : List Expr). IsProperItem (i.Stmt (if has_kind k.Load x then with_items ys x else x))) (after_the_path path more (items_of x) p.1)
-    (stays_statement x (on_items k.Load (on_rest (λ ys. ys ++ more)) x) (load_in_place (λ ys. ys ++ more) (more_keeps more (symbol_items symbols h)) x) w)
+    (stays_statement x (on_items k.Load (on_rest (λ ys. ys ++ more)) x) (load_in_place (λ ys. ys ++ more) (more_keeps more h) x) w)
 
 -- ---- places
 
@@ -136,25 +135,14 @@ first_changed test change f [] h = tt
 first_changed test change f (item ∷ items) h =
     by_case AreFine (test item) (change item ∷ items) (item ∷ on_first_that test change items) (λ is. (f item is h.0, h.1)) (λ is. (h.0, first_changed test change f items h.1))
 
-last_placed : (test : Item → Bool) (new : Item) (items : List Item) → IsProperItem new → AreFine items → AreFine (after_last test new items)
-last_placed test new [] n h = (n, tt)
-last_placed test new (item ∷ items) n h =
-    by_test AreFine (list_any test (item ∷ items)) (item ∷ after_last test new items) (new ∷ item ∷ items) (h.0, last_placed test new items n h.1) (n, h)
-
-block_placed : (new : Item) (items : List Item) → IsProperItem new → AreFine items → AreFine (after_blocks new items)
-block_placed new [] n h = (n, tt)
-block_placed new (item ∷ items) n h = by_test AreFine (is_block item) (item ∷ after_blocks new items) (new ∷ item ∷ items) (h.0, block_placed new items n h.1) (n, h)
-
-load_placed : (new : Item) (items : List Item) → IsProperItem new → AreFine items → AreFine (after_loads new items)
-load_placed new items n h = by_test AreFine (list_any is_load_item items) (after_last is_load_item new items) (after_blocks new items) (last_placed is_load_item new items n h) (block_placed new items n h)
-
 pub new_load_keeps : (path : Bytes) (symbols : List Symbol) (items : List Item) → IsUtf8 path → AreSome IsSymbol symbols → AllByRecursion IsProperItem items → AllByRecursion IsProperItem (new_load path symbols items)
 new_load_keeps path symbols items u some h =
-    let chosen : List Symbol = new_symbols path items [] symbols in
-    let fine : EachIs IsSymbol chosen = chosen_symbols path items [] symbols some.1 in
-    by_test AreFine (list_any (is_load_from path) items) (on_first_that (is_load_from path) (with_symbols chosen) items) (after_loads (load_made path chosen) items)
-    (first_changed (is_load_from path) (with_symbols chosen) (more_symbols path chosen fine) items h)
-    (load_placed (load_made path chosen) items (load_proper path chosen u fine) h)
+    let chosen : List Symbol = new_symbols (is_loaded path items) symbols in
+    let more : List Expr = map symbol_made chosen in
+    let fine : AreOf s.loaded more = symbol_items chosen (chosen_symbols (is_loaded path items) symbols some.1) in
+    by_test AreFine (list_any (is_load_from path) items) (on_first_that (is_load_from path) (with_symbols more) items) (after_loads (load_made path more) items)
+    (first_changed (is_load_from path) (with_symbols more) (more_symbols path more fine) items h)
+    (all_put IsProperItem (loads_end (leading_blocks items) 0 items) (load_made path more) items (load_proper path more u fine) h)
 
 -- ---- unused symbols
 
@@ -188,17 +176,11 @@ others_fine : (test : Item → Bool) (items : List Item) → AreFine items → A
 others_fine test [] h = tt
 others_fine test (item ∷ items) h = by_test AreFine (test item) items (item ∷ without_first test items) h.1 (h.0, others_fine test items h.1)
 
-top_placed : (new : Item) (items : List Item) → IsProperItem new → AreFine items → AreFine (package_after_blocks new items)
-top_placed new [] n h = (n, tt)
-top_placed new (item ∷ items) n h =
-    by_test AreFine (is_block item) (item ∷ package_after_blocks new items) (new ∷ without_first is_package_call (item ∷ items))
-    (h.0, top_placed new items n h.1) (n, others_fine is_package_call (item ∷ items) h)
-
 package_placed : (items : List Item) → AreFine items → (found : Option Item) → IfSome found IsProperItem → AreFine (option_map_or (package_moved items) found items)
 package_placed items h None f = h
 package_placed items h (Some new) f =
-    by_test AreFine (list_any is_load_item items) (after_last is_load_item new (without_first is_package_call items)) (package_after_blocks new items)
-    (last_placed is_load_item new (without_first is_package_call items) f (others_fine is_package_call items h)) (top_placed new items f h)
+    let rest : List Item = without_first is_package_call items in
+    all_put IsProperItem (loads_end (leading_blocks items) 0 rest) new rest f (others_fine is_package_call items h)
 
 package_keeps : (items : List Item) → AreFine items → AreFine (move_package_to_top items)
 package_keeps items h = package_placed items h (first_that is_package_call items) (first_fine is_package_call items h)

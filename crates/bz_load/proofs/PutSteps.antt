@@ -16,30 +16,30 @@ use Rattle.bz_attribute.proofs.ArgumentPlaces.{is_first, none_passes, changed_at
 use Rattle.bz_attribute.proofs.FormsAgain.{if_true, if_false, items_changed, items_filled, items_same}
 use Rattle.bz_load.specs.Loads.{is_load_from, path_in}
 use Rattle.bz_load.specs.Places.{after_loads}
-use Rattle.bz_load.specs.private.Placed.{with_more_symbols, load_of, with_load}
+use Rattle.bz_load.specs.NewLoad.{with_symbols, load_made, with_load}
 use Rattle.bz_load.proofs.PlaceSteps.{first_at, none_any}
 use Rattle.bz_load.proofs.Splices.{another, put_over}
 
 pub put_there : (path : Bytes) (more : List Expr) (items : List Item) (at : ℕ) (x new : Item) → Some at ≡ position (is_load_from path) items
-    → x ≡ get_or items at x → new ≡ with_more_symbols more x → set items at new ≡ with_load path more items
+    → x ≡ get_or items at x → new ≡ with_symbols more x → set items at new ≡ with_load path more items
 put_there path more items at x new h is e =
     let first = is_first (is_load_from path) items at x h in
-    ap (set items at) (e ∙ ap (with_more_symbols more) is)
-    ∙ sym (if_true (list_any (is_load_from path) items) _ _ (first_at (is_load_from path) items at first) ∙ changed_at (is_load_from path) (with_more_symbols more) items at x first)
+    ap (set items at) (e ∙ ap (with_symbols more) is)
+    ∙ sym (if_true (list_any (is_load_from path) items) _ _ (first_at (is_load_from path) items at first) ∙ changed_at (is_load_from path) (with_symbols more) items at x first)
 
 pub put_new : (path : Bytes) (more : List Expr) (items new : List Item) → None ≡ position (is_load_from path) items
-    → new ≡ after_loads (load_of path more) items → new ≡ with_load path more items
+    → new ≡ after_loads (load_made path more) items → new ≡ with_load path more items
 put_new path more items new h e = e ∙ sym (if_false (list_any (is_load_from path) items) _ _ (none_any (is_load_from path) items (none_passes (is_load_from path) items h)))
 
 -- ---- whether the items are the same
 
 -- with no symbol more a load is the one that it was
-with_none : (item : Item) → with_more_symbols [] item ≡ item
+pub with_none : (item : Item) → with_symbols [] item ≡ item
 with_none (i.Block lines) = refl
 with_none (i.Stmt x) = ap i.Stmt (items_same k.Load (λ xs. xs ++ []) x (append-nil (items_of x)))
 
 -- with some it is another one
-none_added : (path : Bytes) (more : List Expr) (item : Item) → is_load_from path item ≡ true → with_more_symbols more item ≡ item → more ≡ []
+none_added : (path : Bytes) (more : List Expr) (item : Item) → is_load_from path item ≡ true → with_symbols more item ≡ item → more ≡ []
 none_added path more (i.Block lines) from same = absurd (true≢false (sym from))
 none_added path more (i.Stmt x) from same =
     let load : has_kind k.Load x ≡ true = (and_parts (has_kind k.Load x) (is_text path (path_in (items_of x))) from).0 in
@@ -52,11 +52,11 @@ none_added path more (i.Stmt x) from same =
 
 -- so all items are the same where no symbol is added, and only there
 pub same_by : (path : Bytes) (more : List Expr) (items : List Item) (at : ℕ) (x new : Item) (same : Bool) → Some at ≡ position (is_load_from path) items
-    → x ≡ get_or items at x → new ≡ with_more_symbols more x → IsTrue same ↔ (more ≡ []) → IsTrue same ↔ (set items at new ≡ items)
+    → x ≡ get_or items at x → new ≡ with_symbols more x → IsTrue same ↔ (more ≡ []) → IsTrue same ↔ (set items at new ≡ items)
 same_by path more items at x new same h is e added =
     let first = is_first (is_load_from path) items at x h in
     let from : is_load_from path x ≡ true = ap (is_load_from path) is ∙ first.passes x in (
-      λ answered. ap (set items at) (e ∙ (ap (λ xs. with_more_symbols xs x) (added.0 answered) ∙ (with_none x ∙ is))) ∙ set-get_or items at x,
+      λ answered. ap (set items at) (e ∙ (ap (λ xs. with_symbols xs x) (added.0 answered) ∙ (with_none x ∙ is))) ∙ set-get_or items at x,
       λ equal.
           let stands : new ≡ x =
           sym (get_or-set_same items at new new first.within) ∙ (ap (λ xs. get_or xs at new) equal ∙ (get_or_default items at new x first.within ∙ sym is)) in

@@ -1,7 +1,7 @@
 -- Symbols that nothing uses are loaded no more, and the package goes after the loads. (Own profile of buildozer's fixes
 -- `unusedLoads` and `movePackageToTop`.)
 use Rattle.std.specs.Prelude.{Bool, false, not, ◌&&◌, ◌||◌, List, [], ◌∷◌, Option, Some, None, codes, map, if◌then◌else◌}
-use Rattle.std.specs.List.{list_any, filter}
+use Rattle.std.specs.List.{list_any, filter, insert}
 use Rattle.std.specs.Option.{option_map_or}
 use Rattle.bz_grammar.specs.declared.kind.Kind.TheVariants as k
 use Rattle.bz_value.specs.declared.value.Expr.{Expr, Form'}
@@ -17,8 +17,8 @@ use Rattle.bz_rule.specs.Rules.{is_rule_of_kind as is_rule_of}
 use Rattle.bz_rule.specs.Values.{has_kind, items_of, on_items, on_rest}
 use Rattle.bz_rule.specs.QuoteMarks.{local_name}
 use Rattle.bz_attribute.specs.Attributes.{without_first}
-use Rattle.bz_load.specs.Loads.{is_load_item, after_path}
-use Rattle.bz_load.specs.Places.{after_last, is_block}
+use Rattle.bz_load.specs.Loads.{after_path}
+use Rattle.bz_load.specs.Places.{leading_blocks, loads_end}
 use Rattle.bz_load.specs.Uses.{is_used}
 
 -- ---- unusedLoads
@@ -69,13 +69,9 @@ first_that test [] = None
 first_that test (item ∷ items) = if test item then Some item else first_that test items
 
 -- Without a load the comment blocks count that lead the file as it is, so what is among them goes first.
-abbrev pub package_after_blocks : Item → List Item → List Item
-package_after_blocks new [] = new ∷ []
-package_after_blocks new (item ∷ items) =
-    if is_block item then item ∷ package_after_blocks new items else new ∷ without_first is_package_call (item ∷ items)
-
 abbrev pub package_moved : List Item → Item → List Item
-package_moved items new = if list_any is_load_item items then after_last is_load_item new (without_first is_package_call items) else package_after_blocks new items
+package_moved items new =
+    insert (without_first is_package_call items) (loads_end (leading_blocks items) 0 (without_first is_package_call items)) new
 
 -- the first rule of kind `package` right after the last load; without a load after the leading comment blocks
 abbrev pub move_package_to_top : List Item → List Item

@@ -2,9 +2,8 @@
 ghost use Rattle.std.specs.Prelude.{◌≡◌, ◌↔◌, [], map, IfOk, IsTrue, OnOk};
 ghost use Rattle.std.specs.List.{list_any, position};
 ghost use Rattle.bz_value.specs.Exchanged.{IsSpliced};
-ghost use Rattle.bz_load.specs.Loads.{is_load_from as is_from};
-ghost use Rattle.bz_load.specs.NewLoad.{new_load, new_symbols, symbol_made};
-ghost use Rattle.bz_load.specs.private.Placed.{with_load, with_more_symbols};
+ghost use Rattle.bz_load.specs.Loads.{is_load_from as is_from, is_loaded};
+ghost use Rattle.bz_load.specs.NewLoad.{new_load, new_symbols, symbol_made, with_load, with_symbols};
 
 use crate::known::{insert_loads, unknown};
 use crate::making::load_of;
@@ -38,7 +37,7 @@ fn new_symbols(
     symbols: &[Symbol],
     items: &[Item],
 ) -> Result<Vec<Expr>, Memory>
-    ensures { IfOk result (λ made. made.items ≡ map symbol_made (new_symbols path.now items.now [] symbols.now)) }
+    ensures { IfOk result (λ made. made.items ≡ map symbol_made (new_symbols (is_loaded path.now items.now) symbols.now)) }
 {
     let mut known = IndexSet::new(alloc);
     insert_loads(path, items, &mut known)?;
@@ -54,7 +53,7 @@ fn place_of_load(path: &[u8], items: &[Item]) -> Option<usize>
 }
 
 fn append_to_item(more: &mut Vec<Expr>, item: &mut Item) -> Result<(), Memory>
-    ensures { OnOk result (item.new ≡ with_more_symbols more.old.items item.old) }
+    ensures { OnOk result (item.new ≡ with_symbols more.old.items item.old) }
 {
     match item {
         Item::Block(_) => Ok(()),

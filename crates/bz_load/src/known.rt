@@ -1,9 +1,9 @@
 //! The symbols that are loaded from a path, to check whether a symbol is one of them.
 ghost use Rattle.std.specs.Prelude.{◌≡◌, List, ◌∷◌, ◌++◌, not, map, IfOk, OnOk};
 ghost use Rattle.bz_command_syntax.specs.declared.command.Symbol.{Symbol};
-ghost use Rattle.bz_load.specs.private.Known.{and_each, and_load, and_loaded, and_loads, and_symbol, knows, unknown};
+ghost use Rattle.bz_load.specs.private.Known.{and_each, and_load, and_loaded, and_loads, knows};
 ghost use Rattle.bz_load.specs.private.KnownKeys.{symbol_of_key, symbols_of_keys};
-ghost use Rattle.bz_load.specs.NewLoad.{symbol_made as made_of};
+ghost use Rattle.bz_load.specs.NewLoad.{and_symbol, new_symbols, symbol_made as made_of};
 
 use crate::making::symbol_made;
 use crate::readings::{Loaded, is_load_from, symbol_in, symbols_of};
@@ -84,7 +84,7 @@ fn push_new<'a>(
     known: &mut Known<'a>,
     made: &mut Vec<Expr>,
 ) -> Result<(), Memory>
-    ensures { (rest : List Symbol) → OnOk result (made.new.items ++ map made_of (unknown (knows (symbols_of_keys known.new.keys)) rest) ≡ made.old.items ++ map made_of (unknown (knows (symbols_of_keys known.old.keys)) (symbol.now ∷ rest))) }
+    ensures { (rest : List Symbol) → OnOk result (made.new.items ++ map made_of (new_symbols (knows (symbols_of_keys known.new.keys)) rest) ≡ made.old.items ++ map made_of (new_symbols (knows (symbols_of_keys known.old.keys)) (symbol.now ∷ rest))) }
 {
     if !insert_key(names_of(symbol), known)? {
         return Ok(());
@@ -100,7 +100,7 @@ pub(crate) fn unknown<'a>(
     symbols: &'a [Symbol],
     known: &mut Known<'a>,
 ) -> Result<Vec<Expr>, Memory>
-    ensures { IfOk result (λ made. made.items ≡ map made_of (unknown (knows (symbols_of_keys known.old.keys)) symbols.now)) }
+    ensures { IfOk result (λ made. made.items ≡ map made_of (new_symbols (knows (symbols_of_keys known.old.keys)) symbols.now)) }
 {
     let mut made = Vec::new(alloc);
     for symbol in symbols {

@@ -3,7 +3,7 @@ ghost use Rattle.std.specs.Prelude.{◌≡◌, OnOk, codes};
 ghost use Rattle.std.specs.List.{position};
 ghost use Rattle.bz_load.specs.Fixes.{is_package_call as is_any_package, move_package_to_top};
 
-use crate::places::{count_of_blocks, count_to_last_load};
+use crate::places::{count_of_blocks, place_after_loads};
 use bz_items::Memory;
 use bz_rule::is_rule_of_kind;
 use bz_value::Item;
@@ -30,8 +30,7 @@ pub(crate) fn move_package(items: &mut Vec<Item>) -> Result<(), Memory>
     };
     let blocks = count_of_blocks(items.as_slice());
     let package = items.remove(from);
-    let loads = count_to_last_load(items.as_slice());
-    let to = if loads > 0 { loads } else { blocks };
+    let to = place_after_loads(items.as_slice(), blocks);
     items.insert(to, package)?;
     Ok(())
 }

@@ -10,7 +10,7 @@ use Rattle.bz_command_syntax.specs.declared.command.Symbol.{Symbol}
 use Rattle.bz_rule.specs.Values.{has_kind, parts_of, text_of}
 use Rattle.bz_attribute.specs.Lists.{body_of}
 use Rattle.bz_load.specs.Loads.{is_load_from, symbols_of}
-use Rattle.bz_load.specs.NewLoad.{is_symbol}
+use Rattle.bz_load.specs.NewLoad.{is_symbol, and_symbol}
 use Rattle.bz_load.specs.Uses.{operands, operand_names_in}
 
 -- ---- symbols
@@ -29,9 +29,6 @@ symbol_in x = if has_kind k.Alias x then alias_in (parts_of x) else option_map (
 abbrev pub knows : List Symbol → Symbol → Bool
 knows symbols other = list_any (is_symbol other) symbols
 
-abbrev pub and_symbol : Symbol → (Symbol → Bool) → Symbol → Bool
-and_symbol added is_known other = is_symbol other added || is_known other
-
 abbrev pub and_loaded : Expr → (Symbol → Bool) → Symbol → Bool
 and_loaded x is_known = option_map_or (λ added. and_symbol added is_known) (symbol_in x) is_known
 
@@ -45,11 +42,6 @@ and_load path item is_known = if is_load_from path item then and_each (symbols_o
 abbrev pub and_loads : Bytes → List Item → (Symbol → Bool) → Symbol → Bool
 and_loads path [] is_known = is_known
 and_loads path (item ∷ items) is_known = and_loads path items (and_load path item is_known)
-
--- the symbols that are not known, each once
-abbrev pub unknown : (Symbol → Bool) → List Symbol → List Symbol
-unknown is_known [] = []
-unknown is_known (first ∷ rest) = if is_known first then unknown is_known rest else first ∷ unknown (and_symbol first is_known) rest
 
 -- ---- names
 

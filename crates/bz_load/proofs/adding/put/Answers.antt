@@ -6,7 +6,7 @@ use Rattle.bz_value.specs.declared.value.Item.{Item}
 use Rattle.bz_value.specs.Exchanged.{IsSpliced}
 use Rattle.bz_load.specs.Loads.{is_load_from}
 use Rattle.bz_load.specs.Places.{after_loads}
-use Rattle.bz_load.specs.private.Placed.{with_load}
+use Rattle.bz_load.specs.NewLoad.{with_load}
 use Rattle.bz_load.proofs.PutSteps.{put_there, put_new, same_by, other_by, over_by}
 use Rattle.bz_load.proofs.Splices.{put_in}
 use Rattle.bz_load.proofs.adding.put.Goals as goal
