@@ -135,7 +135,7 @@ def texts_in(file, name):
 
 def forms_of_code():
     """The forms of commands, as hints print them."""
-    tables = definition("bz_command_syntax/specs/Commands.antt", "command_forms") + definition("bz_command_line/specs/Hints.antt", "verb_forms")
+    tables = definition("bz_command_syntax/specs/Commands.antt", "commands") + definition("bz_command_line/specs/Hints.antt", "verb_forms")
     return sorted(re.findall(r"'([^']+)'", tables))
 
 

@@ -91,11 +91,11 @@ ReadsAsListed row (Ok operation) = IsAsListed row operation
 ReadsAsListed row (Err fault) = Unit {0}
 
 -- Commands, each with what it reads in the words after its name, have these rows, one by one.
-abbrev pub HaveRows : List (Bytes × (List Bytes → ReadCommand)) → List CommandRow → Type 0
+abbrev pub HaveRows : List (Bytes × (Bytes × (List Bytes → ReadCommand))) → List CommandRow → Type 0
 HaveRows [] [] = Unit {0}
 HaveRows [] (row ∷ rows) = ⊥
 HaveRows (command ∷ more) [] = ⊥
-HaveRows (command ∷ more) (row ∷ rows) = (command.0 ≡ row.name) × ((words : List Bytes) → ReadsAsListed row (command.1 words)) × HaveRows more rows
+HaveRows (command ∷ more) (row ∷ rows) = (command.0 ≡ row.name) × ((words : List Bytes) → ReadsAsListed row (command.1.1 words)) × HaveRows more rows
 
 -- The commands by which texts are read are those of the table.
 abbrev pub CommandsAreListed : Type 0
