@@ -138,7 +138,6 @@ held_Node d n = (
 )
 
 module _ (d : ℕ) (nodes : Reader Node) (exact : IsExact Node node_body (IsHeldNode d) nodes) where
-
   choice_sound : (s : List ℕ) (x : Part) (rest : List ℕ) → choice nodes s ≡ Some (x, rest) → IsHeld d x × (s ≡ part_text x ++ rest)
   unfolding choice
   choice_sound s x rest e = elim (either_some (after_mark (codes "leaf ") s) (λ r. leaf_at r >>= leaf_read) (after_mark (codes "node ") s >>= λ r. nodes r >>= node_read) (x, rest) e) [
