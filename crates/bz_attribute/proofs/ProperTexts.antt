@@ -16,7 +16,7 @@ use Rattle.bz_label.specs.Shorter.{before_colon, after_colon, is_repeated, unrep
 use Rattle.bz_items.specs.Characters.{Bytes, apostrophe, full_stop, quotation_mark}
 use Rattle.bz_command_syntax.specs.Identifiers.{is_identifier}
 use Rattle.bz_command_syntax.specs.Proper.{AreUtf8, IsAttribute, IsKind}
-use Rattle.bz_command_syntax.proofs.Pieces.{joined, joined-onto_first}
+use Rattle.bz_command_syntax.proofs.Pieces.{after_word, after_word-onto_first}
 use Rattle.bz_rule.specs.Rules.{inner, is_plain_in, body}
 use Rattle.bz_rule.proofs.ProperChanges.{by_test, by_case}
 
@@ -84,21 +84,21 @@ shortened_utf8 current text u =
 abbrev pieces : Bytes → List Bytes
 pieces = slice_split (λ byte. nat_eq byte full_stop)
 
-nothing_before : (all : List Bytes) → AreUtf8 (joined [] all) → AreUtf8 all
+nothing_before : (all : List Bytes) → AreUtf8 (after_word [] all) → AreUtf8 all
 nothing_before [] u = tt
 nothing_before (piece ∷ all) u = u
 
-split_utf8 : (front text : Bytes) → IsUtf8 (front ++ text) → AreUtf8 (joined front (pieces text))
+split_utf8 : (front text : Bytes) → IsUtf8 (front ++ text) → AreUtf8 (after_word front (pieces text))
 split_utf8 front [] u = (u, tt)
 split_utf8 front (byte ∷ rest) u =
-    let cut : Bool → Type 0 = λ t. AreUtf8 (joined front (if t then [] ∷ pieces rest else onto_first byte (pieces rest))) in
+    let cut : Bool → Type 0 = λ t. AreUtf8 (after_word front (if t then [] ∷ pieces rest else onto_first byte (pieces rest))) in
     elim (cases_Bool (nat_eq byte full_stop)) [
       | inl e ↦
           let same : byte ≡ full_stop = eqb-true byte full_stop e in
           let w = beside_ascii front byte rest (omega arith) u in
           subst cut (sym e) (subst IsUtf8 (sym (append-nil front)) w.0, nothing_before (pieces rest) (split_utf8 [] rest w.1))
       | inr e ↦
-          subst cut (sym e) (subst AreUtf8 (sym (joined-onto_first front byte (pieces rest)))
+          subst cut (sym e) (subst AreUtf8 (sym (after_word-onto_first front byte (pieces rest)))
           (split_utf8 (front ++ byte ∷ []) rest (subst IsUtf8 (sym (append_assoc front (byte ∷ []) rest)) u)))
     ]
 
