@@ -86,7 +86,7 @@ bench: $(PROGRAMS) bin/cases
 	@bench/commands.py
 	@bench/journals.py
 	@bench/packages.py
-	@bench/reading.sh $(if $(FOLDER),"$(FOLDER)")
+	@bench/reading.py $(if $(FOLDER),"$(FOLDER)")
 
 largest: $(PROGRAMS)
 	@bench/largest.py

@@ -1,15 +1,15 @@
 //! Does one piece of work on a text, for the scripts of bench/. `copy` copies the bytes, `lex` cuts the text into its
 //! tokens, `tree` makes its tree and `parse` also spells it: each prints how many bytes or tokens that gives; `view` makes its
-//! file value, `set` the layout of that, and `format` the layout of it tidied. `time` prints the nanoseconds of the fastest of
-//! several rounds of `copy`, `lex`, `parse`, `view`, `set` and `format`; `peak WORK` does a work once and prints how many KiB of
+//! file value, `set` the layout of that, and `format` the formatted text. `time` prints the nanoseconds of the fastest of
+//! several rounds of `copy`, `lex`, `tree`, `parse`, `view`, `set` and `format`; `peak WORK` does a work once and prints how many KiB of
 //! memory the process took at most. `spell` writes what the tree spells to standard output, and `layout` what it is laid out
 //! as, or the fault of a text that has none to standard error. `copies` prints of each of several texts whether all that it says is copied.
 use crate::copying::answer_copies;
+use bz_build_format::format;
 use bz_grammar::{ReadFault, Tree};
 use bz_hosts::view;
 use bz_layout::set;
 use bz_lex::lex;
-use bz_passes::tidy;
 use bz_tree::parse;
 use std::alloc::Global;
 use std::fs;
@@ -70,13 +70,7 @@ impl Work {
                     .ok()?;
                 Some(out.len())
             }
-            Work::Format => {
-                out.clear();
-                formatted(alloc, &parse(alloc, bytes).ok()?)?
-                    .spell_into(out)
-                    .ok()?;
-                Some(out.len())
-            }
+            Work::Format => Some(format(alloc, bytes).ok()?.len()),
         }
     }
 }
@@ -84,12 +78,6 @@ impl Work {
 /// The tree of the layout of a tree.
 fn laid_out(alloc: Global, tree: &Tree) -> Option<Tree> {
     set(alloc, &view(alloc, tree).ok()?).ok()
-}
-
-/// The tree of the layout of a tree's value, tidied.
-fn formatted(alloc: Global, tree: &Tree) -> Option<Tree> {
-    let file = view(alloc, tree).ok()?;
-    set(alloc, &tidy(alloc, file).ok()?).ok()
 }
 
 /// The nanoseconds of the fastest round.
@@ -108,6 +96,7 @@ fn timed(rt: &HostRuntime, bytes: &[u8]) -> Option<()> {
     for (name, work) in [
         ("copy", Work::Copy),
         ("lex", Work::Lex),
+        ("tree", Work::Tree),
         ("parse", Work::Parse),
         ("view", Work::View),
         ("set", Work::Set),
