@@ -3,7 +3,8 @@ ghost use Rattle.std.specs.Prelude.{◌≤◌, ◌<◌, length};
 
 use bz_grammar::ReadFault;
 
-/// This many bytes a chunk has at least. Its tree and value take some 34 bytes a byte.
+/// This many bytes a chunk has at least: most are one statement. So few nodes and values are there at a time that the allocator has at hand
+/// what the chunk before gave back; with 32 KB it searches for nearly each, which takes a tenth of the whole time.
 pub const CHUNK: usize = 128;
 
 /// How often a chunk that ends within a statement is tried again, at twice the length.
