@@ -3,11 +3,12 @@ ghost use Rattle.std.specs.Prelude.{◌≤◌, ◌<◌, length};
 
 use bz_grammar::ReadFault;
 
-/// This many bytes a chunk has at least. Its tree and value take some 34 bytes a byte.
-pub const CHUNK: usize = 32_768;
+/// This many bytes a chunk has at least: most are one statement. So few nodes and values are there at a time that the allocator has at hand
+/// what the chunk before gave back; with 32 KB it searches for nearly each, which takes a tenth of the whole time.
+pub const CHUNK: usize = 128;
 
 /// How often a chunk that ends within a statement is tried again, at twice the length.
-pub const TRIES: usize = 12;
+pub const TRIES: usize = 20;
 
 /// Why a chunk is not seen.
 pub enum Unseen {
@@ -38,6 +39,25 @@ fn begins_statement(text: &[u8]) -> bool {
     }
 }
 
+/// The place after the line that goes on at this place of a text.
+fn line_end(text: &[u8], from: usize) -> usize
+    requires { from < length text.now }
+    ensures bound { result ≤ length text.now }
+    ensures further { from < result }
+{
+    match text[from..].iter().position(|byte| *byte == b'\n') {
+        Some(count) => from + count + 1,
+        None => text.len(),
+    }
+}
+
+/// The first byte of a line that is no blank.
+fn first_byte(line: &[u8]) -> Option<u8> {
+    line.iter()
+        .copied()
+        .find(|byte| !matches!(*byte, b' ' | b'\t' | b'\r' | b'\n'))
+}
+
 /// A place after which a chunk may begin that has `from` bytes before it at least: right after a line that is neither blank nor a
 /// comment, where the next such line begins as a statement does (`bare`: with no comment between them); or else the end of the text. It is a
 /// guess: brackets and strings that are open there are not looked for.
@@ -45,26 +65,24 @@ pub fn chunk_end(text: &[u8], from: usize, bare: bool) -> usize
     ensures bound { result ≤ length text.now }
     ensures some { 0 < length text.now → 0 < result }
 {
-    // After the last line of code; and the first byte of this line that is no blank, of which nothing is known where the walk begins.
+    if from >= text.len() {
+        return text.len();
+    }
+    // Of the line that goes on where the walk begins nothing is known.
+    let mut at = line_end(text, from);
+    // After the last line of code.
     let mut end = 0;
-    let mut first = b'#';
-    for at in from..text.len() {
-        let byte = text[at];
-        if byte == b'\n' {
-            if first == b'#' {
-                if bare {
-                    end = 0;
-                }
-            } else if first != b'\n' {
-                end = at + 1;
-            }
-            first = b'\n';
-            if end > 0 && begins_statement(&text[at + 1..]) {
-                return end;
-            }
-        } else if first == b'\n' && byte != b' ' && byte != b'\t' && byte != b'\r' {
-            first = byte;
+    while at < text.len() {
+        if end > 0 && begins_statement(&text[at..]) {
+            return end;
         }
+        let next = line_end(text, at);
+        match first_byte(&text[at..next]) {
+            Some(b'#') if bare => end = 0,
+            Some(b'#') | None => {}
+            Some(_) => end = next,
+        }
+        at = next;
     }
     text.len()
 }

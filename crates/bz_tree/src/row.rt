@@ -19,6 +19,9 @@ use std::alloc::Global;
 use std::marker::Model;
 use std::mem;
 
+/// How many parts there is room for from the beginning on.
+const ROOM: usize = 64;
+
 /// The parts that were read and are in no node yet, in the order of the text: those of the outermost open node first.
 /// One list serves all open nodes; a node takes its own off the end, in a list of just their number.
 #[derive(Drop)]
@@ -46,12 +49,16 @@ impl Model for Stack {
 }
 
 impl Stack {
-    /// No parts.
+    /// No parts, and room for those of most statements; where that is refused, no room yet.
     pub fn new(alloc: Global) -> Stack
         ensures { result ≡ [] }
     {
+        let parts = match Vec::with_capacity(alloc, ROOM) {
+            Ok(parts) => parts,
+            Err(_) => Vec::new(alloc),
+        };
         Stack {
-            parts: Vec::new(alloc),
+            parts,
             newer: false,
         }
     }
