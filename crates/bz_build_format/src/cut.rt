@@ -2,6 +2,7 @@
 ghost use Rattle.std.specs.Prelude.{◌≤◌, ◌<◌, length};
 
 use bz_grammar::ReadFault;
+use memchr::{memchr, memrchr};
 
 /// This many bytes a chunk has at least: most are one statement. So few nodes and values are there at a time that the allocator has at hand
 /// what the chunk before gave back; with 32 KB it searches for nearly each, which takes a tenth of the whole time.
@@ -30,6 +31,11 @@ pub fn why_unseen(fault: &ReadFault, text: &[u8]) -> Unseen {
     }
 }
 
+/// Whether a byte is a blank, or ends a line.
+fn is_blank(byte: u8) -> bool {
+    matches!(byte, b' ' | b'\t' | b'\r' | b'\n')
+}
+
 /// Whether a statement begins with these bytes, at the begin of a line, that is neither a load nor goes on with an `if`.
 fn begins_statement(text: &[u8]) -> bool {
     match text {
@@ -45,44 +51,44 @@ fn line_end(text: &[u8], from: usize) -> usize
     ensures bound { result ≤ length text.now }
     ensures further { from < result }
 {
-    match text[from..].iter().position(|byte| *byte == b'\n') {
+    match memchr(b'\n', &text[from..]) {
         Some(count) => from + count + 1,
         None => text.len(),
     }
 }
 
-/// The first byte of a line that is no blank.
-fn first_byte(line: &[u8]) -> Option<u8> {
-    line.iter()
-        .copied()
-        .find(|byte| !matches!(*byte, b' ' | b'\t' | b'\r' | b'\n'))
+/// The place after the last line of code of these lines, 0 where they have none; `bare`: where a comment is after it.
+fn code_end(text: &[u8], bare: bool) -> usize
+    ensures { result ≤ length text.now }
+{
+    let mut left = text;
+    while let [before @ .., _newline] = left {
+        let (_, line) = left.split_at(memrchr(b'\n', before).map_or(0, |at| at + 1));
+        match line.iter().find(|byte| !is_blank(**byte)) {
+            Some(b'#') if bare => return 0,
+            Some(b'#') | None => left = &left[..left.len() - line.len()],
+            Some(_) => return left.len(),
+        }
+    }
+    0
 }
 
-/// A place after which a chunk may begin that has `from` bytes before it at least: right after a line that is neither blank nor a
+/// A place after which a chunk may begin that has some `from` bytes before it: right after a line that is neither blank nor a
 /// comment, where the next such line begins as a statement does (`bare`: with no comment between them); or else the end of the text. It is a
 /// guess: brackets and strings that are open there are not looked for.
 pub fn chunk_end(text: &[u8], from: usize, bare: bool) -> usize
     ensures bound { result ≤ length text.now }
     ensures some { 0 < length text.now → 0 < result }
 {
-    if from >= text.len() {
-        return text.len();
-    }
-    // Of the line that goes on where the walk begins nothing is known.
-    let mut at = line_end(text, from);
-    // After the last line of code.
-    let mut end = 0;
+    let mut at = from;
     while at < text.len() {
-        if end > 0 && begins_statement(&text[at..]) {
-            return end;
+        at = line_end(text, at);
+        if begins_statement(&text[at..]) {
+            let end = code_end(&text[..at], bare);
+            if end > 0 {
+                return end;
+            }
         }
-        let next = line_end(text, at);
-        match first_byte(&text[at..next]) {
-            Some(b'#') if bare => end = 0,
-            Some(b'#') | None => {}
-            Some(_) => end = next,
-        }
-        at = next;
     }
     text.len()
 }
