@@ -221,6 +221,7 @@ fn begin(
 }
 
 /// A node that begins with the last part of the stack, which is at `from` and is so deep.
+#[inline(always)]
 #[cycle(parser)]
 fn go_on(
     from: usize,
@@ -241,6 +242,9 @@ fn go_on(
             mark_deep_part(part, depth, leaves);
         }
         return Err(ParseHalt::Unexpected);
+    }
+    if let NodeState::Rest(kind, Tail::TokenPart(token, nonterminal)) = state {
+        return token_and_part(from, deep, kind, token, nonterminal, depth, stack, leaves);
     }
     follow(from, deep, state, depth, stack, leaves)
 }
