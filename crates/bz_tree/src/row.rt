@@ -19,6 +19,9 @@ use std::alloc::Global;
 use std::marker::Model;
 use std::mem;
 
+/// How deep what was read is.
+pub(crate) type Deep = Result<u32, ParseHalt>;
+
 /// The parts that were read and are in no node yet, in the order of the text: those of the outermost open node first.
 /// One list serves all open nodes; a node takes its own off the end, in a list of just their number.
 #[derive(Drop)]
@@ -124,7 +127,7 @@ impl Stack {
     }
 
     /// The next leaf, where it is this token. Returns how deep it is: not at all.
-    pub fn take(&mut self, token: TokenSet, leaves: &mut Leaves) -> Result<u32, ParseHalt>
+    pub fn take(&mut self, token: TokenSet, leaves: &mut Leaves) -> Deep
         ensures ok { IfOk result (λ deep. Pushes (token_at (terminals_of token) leaves.old) self.old self.new leaves.new deep) }
         ensures err { Fails result (token_at (terminals_of token) leaves.old) }
     {
