@@ -5,6 +5,7 @@
 
 mod gap;
 mod items;
+mod short;
 mod text;
 
 pub use gap::Gap;

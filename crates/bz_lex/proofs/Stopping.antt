@@ -162,16 +162,18 @@ no_backslash_string s o = by_prefix o.marked
         let same : c ≡ 92 = cc in
         both_ways (is_prefix (92 ∷ p)) refl (subst (λ (x : ℕ). is_prefix (x ∷ p) ≡ true) same y)
 
+no_backslash_gap : (c : ℕ) → c ≡ 92 → IsGap true true (c ∷ []) → ⊥
+no_backslash_gap c same k =
+    let w = gap_after true true (92 ∷ []) (subst (λ (x : ℕ). IsGap true true (x ∷ [])) same k) in
+    let q : Escape ≡ w.0 = same_Some Escape (w.0) w.1 in
+    both_ways (is_end true Escape) refl (rw (← q) at w.2)
+
 escape_stops : (s : List ℕ) → Stops true Escape s → NothingBegins (92 ∷ s)
 escape_stops s h = record { more = λ e. cc; no_token = no_backslash_token s; no_gap = only }
   where
     only : (g t : List ℕ) → g ++ t ≡ 92 ∷ s → IsGap true true g → g ≡ []
     only [] t e k = refl
-    only (c ∷ []) t e k =
-        let same : c ≡ 92 = cc in
-        let w = gap_after true true (92 ∷ []) (subst (λ (x : ℕ). IsGap true true (x ∷ [])) same k) in
-        let q : Escape ≡ w.0 = same_Some Escape (w.0) w.1 in
-        absurd (both_ways (is_end true Escape) refl (rw (← q) at w.2))
+    only (c ∷ []) t e k = let same : c ≡ 92 = cc in absurd (no_backslash_gap c same k)
     only (c ∷ d ∷ g) t e k =
         let same : c ≡ 92 = cc in
         let rest : d ∷ (g ++ t) ≡ s = cc in
@@ -185,11 +187,7 @@ return_stops s h = record { more = λ e. cc; no_token = no_backslash_token (13 �
   where
     only : (g t : List ℕ) → g ++ t ≡ 92 ∷ 13 ∷ s → IsGap true true g → g ≡ []
     only [] t e k = refl
-    only (c ∷ []) t e k =
-        let same : c ≡ 92 = cc in
-        let w = gap_after true true (92 ∷ []) (subst (λ (x : ℕ). IsGap true true (x ∷ [])) same k) in
-        let q : Escape ≡ w.0 = same_Some Escape (w.0) w.1 in
-        absurd (both_ways (is_end true Escape) refl (rw (← q) at w.2))
+    only (c ∷ []) t e k = let same : c ≡ 92 = cc in absurd (no_backslash_gap c same k)
     only (c ∷ d ∷ []) t e k =
         let same : c ≡ 92 = cc in
         let next : d ≡ 13 = cc in

@@ -1,16 +1,14 @@
-ghost use Rattle.std.specs.Prelude.{◌≡◌, ◌↔◌, ◌∷◌, ℕ, List, IsTrue, ◌≤◌, ◌+◌, IfOk, length, drop, MatchOption, MatchResult, IfErr, true, false};
+ghost use Rattle.std.specs.Prelude.{◌≡◌, ◌↔◌, ◌∷◌, ℕ, List, IsTrue, ◌≤◌, ◌+◌, length, drop, MatchOption, MatchResult, IfErr, true, false};
 ghost use Rattle.bz_token.specs.Tokens.{NoToken, OpensString, TokenAt};
 ghost use Rattle.bz_token.specs.Bytes.{is_quote};
-ghost use Rattle.bz_lex.specs.Fronts.{IsGapFront, IsLexemeFront, IsLexemeStop, NoTokenFor, AnswersFront, front_leaf, front_token, after_front};
+ghost use Rattle.bz_lex.specs.Fronts.{IsGapFront, IsLexemeFront, IsLexemeStop, NoTokenFor, AnswersFront, front_token, after_front};
 ghost use Rattle.bz_lex.specs.Gaps.{IsGap};
 ghost use Rattle.bz_lex.specs.Lexing.{NoLexemes};
 
 use crate::gap::{GapFront, gap_front};
-use crate::leaf::Leaf;
 use crate::place::Place;
-use bz_items::{Gap, Text, at};
+use bz_items::at;
 use bz_token::{Class, opens_string, token};
-use std::alloc::{AllocError, Global};
 
 /// The leaf at the front of a text: its class, and how long its gap and its token are.
 #[derive(Clone, Copy)]
@@ -27,22 +25,8 @@ impl Front {
         Front { class, gap, token }
     }
 
-    /// The leaf, cut off the text. The error: a growth was refused.
-    #[inline(always)]
-    pub fn leaf(self, alloc: Global, text: &[u8]) -> Result<Leaf, AllocError>
-        requires { self.gap + self.token ≤ length text.now }
-        ensures { IfOk result (λ leaf. leaf ≡ front_leaf self text.now) }
-    {
-        let (gap, after_gap) = text.split_at(self.gap);
-        let (token, _) = after_gap.split_at(self.token);
-        Ok(Leaf {
-            class: self.class,
-            gap: Gap::from_slice(alloc, gap)?,
-            token: Text::from_slice(alloc, token)?,
-        })
-    }
-
     /// The token of the leaf.
+    #[inline(always)]
     pub fn token_of(self, text: &[u8]) -> &[u8]
         requires { self.gap + self.token ≤ length text.now }
         ensures { result.now ≡ front_token self text.now }
@@ -51,6 +35,7 @@ impl Front {
     }
 
     /// What is after the leaf.
+    #[inline(always)]
     pub fn rest_of(self, text: &[u8]) -> &[u8]
         requires { self.gap + self.token ≤ length text.now }
         ensures { result.now ≡ after_front self text.now }

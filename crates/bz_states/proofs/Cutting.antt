@@ -1,5 +1,5 @@
 -- The leaves that come, as they are cut off the text.
-use Rattle.std.proofs.Common.{◌≡◌, ℕ, Bool, true, false, IsTrue, ◌↔◌, List, [], ◌∷◌, Option, Some, None, ◌||◌, ◌&&◌, bytes_eq, drop, refl, sym, ap, ◌∙◌}
+use Rattle.std.proofs.Common.{◌≡◌, ℕ, Bool, true, false, IsTrue, ◌↔◌, List, [], ◌∷◌, Option, Some, None, ◌||◌, ◌&&◌, ◌≤◌, ◌+◌, bytes_eq, length, drop, refl, sym, ap, ◌∙◌}
 use Rattle.std.proofs.lemmas.Bool.{both_ways}
 use Rattle.bz_lex.specs.declared.leaf.Leaf.{Leaf}
 use Rattle.bz_lex.specs.declared.front.Front.{Front}
@@ -30,6 +30,9 @@ module _ (p : Place) (s : List ℕ) (now : List Leaf) (view : to_come p s ≡ no
 
   pub first_comes : (f : Front) → after ≡ Some f → now ≡ front_leaf f s ∷ to_come (next p (front_leaf f s)) (after_front f s)
   first_comes f e = let w : IsFront p f s = rw e at answered in sym view ∙ come_first p s f w
+
+  pub first_within : (f : Front) → after ≡ Some f → f.gap + f.token ≤ length s
+  first_within f e = let w : IsFront p f s = rw e at answered in w.within
 
   pub none_empty : after ≡ None → IsTrue true ↔ (now ≡ [])
   none_empty e = (λ h. none_comes e, λ h. refl)

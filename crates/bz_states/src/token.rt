@@ -1,5 +1,5 @@
 //! The tokens that the grammar requires, and the leaves of a text, of which the next one is known.
-ghost use Rattle.std.specs.Prelude.{◌≡◌, ◌↔◌, ◌≤◌, ◌<◌, ◌&&◌, ◌∷◌, [], ℕ, nat_le, false, Some, None, length, drop, MatchOption, IfOk, IsTrue};
+ghost use Rattle.std.specs.Prelude.{◌≡◌, ◌↔◌, ◌≤◌, ◌<◌, ◌+◌, ◌&&◌, ◌∷◌, [], ℕ, nat_le, false, Some, None, length, drop, MatchOption, IfSome, IsTrue};
 ghost use Rattle.bz_grammar.specs.Shapes.{is_one_of};
 ghost use Rattle.bz_grammar.specs.Reading.{starts_with};
 ghost use Rattle.bz_grammar.specs.Indents.{first_indent};
@@ -9,15 +9,15 @@ ghost use Rattle.bz_states.specs.declared.token.TokenSet.TheVariants as t;
 ghost use Rattle.bz_grammar.specs.declared.tree.Part.TheVariants as p;
 ghost use Rattle.bz_grammar.specs.Spell.{limit};
 ghost use Rattle.bz_lex.proofs.Coming.{to_come};
-ghost use Rattle.bz_lex.specs.Fronts.{AnswersFront};
+ghost use Rattle.bz_lex.specs.Fronts.{AnswersFront, front_leaf};
 ghost use Rattle.bz_states.specs.Symbols.{example, DecidesFirst, next_of};
-ghost use Rattle.bz_states.specs.Tokens.{terminals_of, token_at, Fails};
+ghost use Rattle.bz_states.specs.Tokens.{terminals_of, token_at};
 ghost use Rattle.bz_states.specs.States.{binds_at};
 
 use crate::line::indent_of;
 use crate::state::LAMBDA;
 use crate::symbol::Symbol;
-use bz_lex::{Class, Front, Leaf, Place, leaf_front};
+use bz_lex::{Class, Front, Place, leaf_front};
 use std::alloc::{AllocError, AllocFailed, Global};
 use std::marker::Model;
 
@@ -453,35 +453,29 @@ impl<'a> Leaves<'a> {
         }
     }
 
-    /// The next leaf, cut off the text, if there is one. The error: a growth was refused.
+    /// The front of the next leaf, and the text that it is of, if there is one.
     #[inline(always)]
-    fn cut(&self) -> Result<Option<Leaf>, AllocError>
-        ensures { IfOk result (λ leaf. MatchOption leaf (self.now ≡ []) (λ leaf. self.now ≡ leaf ∷ drop 1 self.now)) }
+    fn next_front(&self) -> Option<(Front, &'a [u8])>
+        ensures { MatchOption result (self.now ≡ []) (λ next. (next.0.gap + next.0.token ≤ length next.1.now) × (self.now ≡ front_leaf next.0 next.1.now ∷ drop 1 self.now)) }
     {
-        let front = match next_of(self.is_there, self.front) {
-            Some(front) => front,
-            None => return Ok(None),
-        };
-        let leaf = front.leaf(self.alloc, self.rest)?;
-        Ok(Some(leaf))
+        match next_of(self.is_there, self.front) {
+            Some(front) => Some((front, self.rest)),
+            None => None,
+        }
     }
 
-    /// The next leaf, where it is one of these tokens. It is still the next one: `skip` passes over it, so that where its leaf goes is
-    /// done with before the one after it is found.
-    ///
-    /// Errors: `Unexpected` where no leaf comes or it is another token; `Memory` where a growth was refused.
+    /// The next leaf, where it is one of these tokens, as its front and the text that it is of. It is still the next one: `skip`
+    /// passes over it, so that where its leaf goes is done with before the one after it is found.
     #[inline(always)]
     #[tactic(auto, unfolding(crate::specs::Tokens::token_at))]
-    pub fn next_leaf(&self, token: TokenSet) -> Result<Leaf, ParseHalt>
-        ensures ok { IfOk result (λ leaf. token_at (terminals_of token) self.now ≡ Some (p.Leaf leaf, drop 1 self.now)) }
-        ensures err { Fails result (token_at (terminals_of token) self.now) }
+    pub fn next_leaf(&self, token: TokenSet) -> Option<(Front, &'a [u8])>
+        ensures within { IfSome result (λ next. next.0.gap + next.0.token ≤ length next.1.now) }
+        ensures answered { MatchOption result (token_at (terminals_of token) self.now ≡ None) (λ next. token_at (terminals_of token) self.now ≡ Some (p.Leaf (front_leaf next.0 next.1.now), drop 1 self.now)) }
     {
-        if !self.next_is(token) {
-            return Err(ParseHalt::Unexpected);
-        }
-        match self.cut()? {
-            Some(leaf) => Ok(leaf),
-            None => Err(ParseHalt::Unexpected),
+        if self.next_is(token) {
+            self.next_front()
+        } else {
+            None
         }
     }
 }

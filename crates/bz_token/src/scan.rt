@@ -175,6 +175,7 @@ fn longest_front(text: &[u8]) -> Option<(State, usize)>
 }
 
 /// The first byte from this one on with which the state does not simply stay as it is, as in a name or a string, or the end.
+#[inline(always)]
 fn run(state: State, text: &[u8], from: usize) -> usize
     requires { from ≤ length text.now }
     ensures above { from ≤ result }

@@ -8,7 +8,7 @@ ghost use Rattle.bz_states.specs.States.{nonterminal_of};
 ghost use Rattle.bz_tree.specs.private.Ranks.{fitted_at, bound_at, level_at, RisesFrom, atom_at, argument_at, param_at};
 ghost use Rattle.bz_grammar.specs.declared.tree.Part.{Part};
 
-use crate::row::{Stack, deeper};
+use crate::row::{Deep, Stack, deeper};
 use bz_grammar::Kind;
 use bz_states::{
     ClausesAt, ItemsAt, LAMBDA, LambdaAt, Leaves, ListedItems, Move, NOT, NodeState, PRIMARY,
@@ -34,7 +34,7 @@ fn follow(
     depth: u32,
     stack: &mut Stack,
     leaves: &mut Leaves,
-) -> Result<u32, ParseHalt>
+) -> Deep
     requires from { from ≤ length stack.old }
     requires deep { deep ≡ deepest (drop from stack.old) }
     requires within { deep ≤ depth }
@@ -83,7 +83,7 @@ fn items_of_row(
     depth: u32,
     stack: &mut Stack,
     leaves: &mut Leaves,
-) -> Result<u32, ParseHalt>
+) -> Deep
     requires from { from ≤ length stack.old }
     requires deep { deep ≡ deepest (drop from stack.old) }
     requires within { deep ≤ depth }
@@ -113,7 +113,7 @@ fn more_of_row(
     depth: u32,
     stack: &mut Stack,
     leaves: &mut Leaves,
-) -> Result<u32, ParseHalt>
+) -> Deep
     requires from { from ≤ length stack.old }
     requires deep { deep ≡ deepest (drop from stack.old) }
     requires within { deep ≤ depth }
@@ -131,7 +131,7 @@ fn more_of_row(
 
 /// A list or a comprehension in square brackets. Lists are in most texts, and are read without the loop over moves.
 #[cycle(parser)]
-fn square(depth: u32, stack: &mut Stack, leaves: &mut Leaves) -> Result<u32, ParseHalt>
+fn square(depth: u32, stack: &mut Stack, leaves: &mut Leaves) -> Deep
     requires small { depth ≤ 2 * depth_limit }
     ensures ok { IfOk result (λ deep. Pushes (found_from depth [] NodeState.Square leaves.old) stack.old stack.new leaves.new deep) }
     ensures err { Fails result (found_from depth [] NodeState.Square leaves.old) }
@@ -166,7 +166,7 @@ fn closing_token(
     depth: u32,
     stack: &mut Stack,
     leaves: &mut Leaves,
-) -> Result<u32, ParseHalt>
+) -> Deep
     requires from { from ≤ length stack.old }
     requires deep { deep ≡ deepest (drop from stack.old) }
     requires within { deep ≤ depth }
@@ -190,7 +190,7 @@ fn token_and_part(
     depth: u32,
     stack: &mut Stack,
     leaves: &mut Leaves,
-) -> Result<u32, ParseHalt>
+) -> Deep
     requires from { from ≤ length stack.old }
     requires deep { deep ≡ deepest (drop from stack.old) }
     requires within { deep ≤ depth }
@@ -206,12 +206,7 @@ fn token_and_part(
 
 /// A node from its first part on.
 #[cycle(parser)]
-fn begin(
-    state: NodeState,
-    depth: u32,
-    stack: &mut Stack,
-    leaves: &mut Leaves,
-) -> Result<u32, ParseHalt>
+fn begin(state: NodeState, depth: u32, stack: &mut Stack, leaves: &mut Leaves) -> Deep
     requires small { depth ≤ 2 * depth_limit }
     ensures ok { IfOk result (λ deep. Pushes (found_from depth [] state leaves.old) stack.old stack.new leaves.new deep) }
     ensures err { Fails result (found_from depth [] state leaves.old) }
@@ -221,6 +216,7 @@ fn begin(
 }
 
 /// A node that begins with the last part of the stack, which is at `from` and is so deep.
+#[inline(always)]
 #[cycle(parser)]
 fn go_on(
     from: usize,
@@ -229,7 +225,7 @@ fn go_on(
     depth: u32,
     stack: &mut Stack,
     leaves: &mut Leaves,
-) -> Result<u32, ParseHalt>
+) -> Deep
     requires from { from ≤ length stack.old }
     requires deep { deep ≡ deepest (drop from stack.old) }
     requires small { depth ≤ 2 * depth_limit }
@@ -242,6 +238,9 @@ fn go_on(
         }
         return Err(ParseHalt::Unexpected);
     }
+    if let NodeState::Rest(kind, Tail::TokenPart(token, nonterminal)) = state {
+        return token_and_part(from, deep, kind, token, nonterminal, depth, stack, leaves);
+    }
     follow(from, deep, state, depth, stack, leaves)
 }
 
@@ -252,7 +251,7 @@ pub(crate) fn part(
     depth: u32,
     stack: &mut Stack,
     leaves: &mut Leaves,
-) -> Result<u32, ParseHalt>
+) -> Deep
     requires small { depth ≤ 2 * depth_limit }
     ensures ok { IfOk result (λ deep. Pushes (part_at depth (nonterminal_of nonterminal) leaves.old) stack.old stack.new leaves.new deep) }
     ensures err { Fails result (part_at depth (nonterminal_of nonterminal) leaves.old) }
@@ -317,11 +316,7 @@ fn suffix_state(leaves: &Leaves) -> NodeState
 
 /// A leaf of this sort.
 #[tactic(auto, unfolding(bz_states::specs::Tokens::token_at, crate::specs::private::Words::part_at))]
-fn leaf_of(
-    nonterminal: PartNonterminal,
-    stack: &mut Stack,
-    leaves: &mut Leaves,
-) -> Result<u32, ParseHalt>
+fn leaf_of(nonterminal: PartNonterminal, stack: &mut Stack, leaves: &mut Leaves) -> Deep
     ensures ok { IfOk result (λ deep. Pushes (part_at 0 (nonterminal_of nonterminal) leaves.old) stack.old stack.new leaves.new deep) }
     ensures err { Fails result (part_at 0 (nonterminal_of nonterminal) leaves.old) }
 {
@@ -347,7 +342,7 @@ fn leaf_of(
 /// An expression of this rank or a lower one, of which the parts are at most so deep: what it begins with, and then the
 /// operators after it, from those that bind tightest on.
 #[cycle(parser)]
-fn expression(n: u8, depth: u32, stack: &mut Stack, leaves: &mut Leaves) -> Result<u32, ParseHalt>
+fn expression(n: u8, depth: u32, stack: &mut Stack, leaves: &mut Leaves) -> Deep
     requires small { depth ≤ 2 * depth_limit }
     ensures ok { IfOk result (λ deep. Pushes (level_at depth n leaves.old) stack.old stack.new leaves.new deep) }
     ensures err { Fails result (level_at depth n leaves.old) }
@@ -413,7 +408,7 @@ fn raised(
     depth: u32,
     stack: &mut Stack,
     leaves: &mut Leaves,
-) -> Result<u32, ParseHalt>
+) -> Deep
     requires from { from ≤ length stack.old }
     requires deep { deep ≡ deepest (drop from stack.old) }
     requires small { depth ≤ 2 * depth_limit }
@@ -435,7 +430,7 @@ fn raised(
 
 /// A name, a number, a string or what is in brackets, and what is after it.
 #[cycle(parser)]
-fn primary(depth: u32, stack: &mut Stack, leaves: &mut Leaves) -> Result<u32, ParseHalt>
+fn primary(depth: u32, stack: &mut Stack, leaves: &mut Leaves) -> Deep
     requires small { depth ≤ 2 * depth_limit }
     ensures ok { IfOk result (λ deep. Pushes (level_at depth 0 leaves.old) stack.old stack.new leaves.new deep) }
     ensures err { Fails result (level_at depth 0 leaves.old) }
@@ -450,7 +445,7 @@ fn primary(depth: u32, stack: &mut Stack, leaves: &mut Leaves) -> Result<u32, Pa
 
 /// A name, a number, a string or what is in brackets.
 #[cycle(parser)]
-fn atom(depth: u32, stack: &mut Stack, leaves: &mut Leaves) -> Result<u32, ParseHalt>
+fn atom(depth: u32, stack: &mut Stack, leaves: &mut Leaves) -> Deep
     requires small { depth ≤ 2 * depth_limit }
     ensures ok { IfOk result (λ deep. Pushes (atom_at depth leaves.old) stack.old stack.new leaves.new deep) }
     ensures err { Fails result (atom_at depth leaves.old) }
@@ -468,7 +463,7 @@ fn atom(depth: u32, stack: &mut Stack, leaves: &mut Leaves) -> Result<u32, Parse
 
 /// An argument of a call.
 #[cycle(parser)]
-fn argument(depth: u32, stack: &mut Stack, leaves: &mut Leaves) -> Result<u32, ParseHalt>
+fn argument(depth: u32, stack: &mut Stack, leaves: &mut Leaves) -> Deep
     requires small { depth ≤ 2 * depth_limit }
     ensures ok { IfOk result (λ deep. Pushes (argument_at depth leaves.old) stack.old stack.new leaves.new deep) }
     ensures err { Fails result (argument_at depth leaves.old) }
@@ -491,7 +486,7 @@ fn argument(depth: u32, stack: &mut Stack, leaves: &mut Leaves) -> Result<u32, P
 
 /// A parameter.
 #[cycle(parser)]
-fn param(depth: u32, stack: &mut Stack, leaves: &mut Leaves) -> Result<u32, ParseHalt>
+fn param(depth: u32, stack: &mut Stack, leaves: &mut Leaves) -> Deep
     requires small { depth ≤ 2 * depth_limit }
     ensures ok { IfOk result (λ deep. Pushes (param_at depth leaves.old) stack.old stack.new leaves.new deep) }
     ensures err { Fails result (param_at depth leaves.old) }

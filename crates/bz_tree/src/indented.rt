@@ -21,6 +21,9 @@ use bz_lex::DEPTH_LIMIT;
 use bz_states::{HeaderAt, Leaves, Move, NodeState, ParseHalt, PartNonterminal, TokenSet};
 use std::alloc::Global;
 
+/// Whether parts were read.
+type Done = Result<(), ParseHalt>;
+
 /// The parts of the file within the limit of depth that the leaves are.
 ///
 /// Errors: `Unexpected` where no such file has these leaves; `Memory` where a growth was refused.
@@ -83,7 +86,7 @@ impl Header {
 }
 
 /// What is before a suite.
-fn head(which: Header, depth: u32, stack: &mut Stack, leaves: &mut Leaves) -> Result<(), ParseHalt>
+fn head(which: Header, depth: u32, stack: &mut Stack, leaves: &mut Leaves) -> Done
     requires small { depth ≤ 2 * depth_limit }
     ensures ok { OnOk result (PutsAll (header_at depth which leaves.old) stack.old stack.new leaves.new) }
     ensures err { Fails result (header_at depth which leaves.old) }
@@ -109,7 +112,7 @@ fn head(which: Header, depth: u32, stack: &mut Stack, leaves: &mut Leaves) -> Re
 }
 
 /// A line that is at most so deep.
-fn one_line(depth: u32, stack: &mut Stack, leaves: &mut Leaves) -> Result<(), ParseHalt>
+fn one_line(depth: u32, stack: &mut Stack, leaves: &mut Leaves) -> Done
     requires small { depth ≤ 2 * depth_limit }
     ensures ok { OnOk result (PutsOne (part_at depth line leaves.old) stack.old stack.new leaves.new) }
     ensures err { Fails result (part_at depth line leaves.old) }
@@ -119,7 +122,7 @@ fn one_line(depth: u32, stack: &mut Stack, leaves: &mut Leaves) -> Result<(), Pa
 }
 
 /// Puts the parts from a place on into a node of this kind. The error, `Memory` alone: a growth was refused.
-fn close(kind: Kind, from: usize, stack: &mut Stack) -> Result<(), ParseHalt>
+fn close(kind: Kind, from: usize, stack: &mut Stack) -> Done
     requires { from ≤ length stack.old }
     ensures ok { OnOk result (stack.new ≡ take from stack.old ++ node_part kind (drop from stack.old) ∷ []) }
     ensures err { IfErr result (λ halt. halt ≡ h.Memory) }
@@ -130,13 +133,7 @@ fn close(kind: Kind, from: usize, stack: &mut Stack) -> Result<(), ParseHalt>
 
 /// A header and its suite, of a statement at this indent.
 #[cycle(statements)]
-fn owner(
-    which: Header,
-    indent: &[u8],
-    depth: u32,
-    stack: &mut Stack,
-    leaves: &mut Leaves,
-) -> Result<(), ParseHalt>
+fn owner(which: Header, indent: &[u8], depth: u32, stack: &mut Stack, leaves: &mut Leaves) -> Done
     requires small { depth ≤ 2 * depth_limit }
     ensures ok { OnOk result (PutsAll (owner_at depth which indent.now leaves.old) stack.old stack.new leaves.new) }
     ensures err { Fails result (owner_at depth which indent.now leaves.old) }
@@ -147,12 +144,7 @@ fn owner(
 
 /// What is in an IfStmt at this indent.
 #[cycle(statements)]
-fn branches(
-    indent: &[u8],
-    depth: u32,
-    stack: &mut Stack,
-    leaves: &mut Leaves,
-) -> Result<(), ParseHalt>
+fn branches(indent: &[u8], depth: u32, stack: &mut Stack, leaves: &mut Leaves) -> Done
     requires small { depth ≤ 2 * depth_limit }
     ensures ok { OnOk result (PutsAll (if_at depth indent.now leaves.old) stack.old stack.new leaves.new) }
     ensures err { Fails result (if_at depth indent.now leaves.old) }
@@ -169,12 +161,7 @@ fn branches(
 
 /// A statement at this indent that is at most so deep.
 #[cycle(statements)]
-fn statement(
-    indent: &[u8],
-    depth: u32,
-    stack: &mut Stack,
-    leaves: &mut Leaves,
-) -> Result<(), ParseHalt>
+fn statement(indent: &[u8], depth: u32, stack: &mut Stack, leaves: &mut Leaves) -> Done
     requires small { depth ≤ 2 * depth_limit }
     ensures ok { OnOk result (PutsOne (statement_at depth indent.now leaves.old) stack.old stack.new leaves.new) }
     ensures err { Fails result (statement_at depth indent.now leaves.old) }
@@ -201,7 +188,7 @@ fn statement(
 
 /// The suite of a statement at this indent, at most so deep.
 #[cycle(statements)]
-fn suite(indent: &[u8], depth: u32, stack: &mut Stack, leaves: &mut Leaves) -> Result<(), ParseHalt>
+fn suite(indent: &[u8], depth: u32, stack: &mut Stack, leaves: &mut Leaves) -> Done
     requires small { depth ≤ 2 * depth_limit }
     ensures ok { OnOk result (PutsOne (suite_at depth indent.now leaves.old) stack.old stack.new leaves.new) }
     ensures err { Fails result (suite_at depth indent.now leaves.old) }
@@ -229,12 +216,7 @@ fn suite(indent: &[u8], depth: u32, stack: &mut Stack, leaves: &mut Leaves) -> R
 
 /// The statements at this indent, each at most so deep.
 #[cycle(statements)]
-fn statements(
-    indent: &[u8],
-    depth: u32,
-    stack: &mut Stack,
-    leaves: &mut Leaves,
-) -> Result<(), ParseHalt>
+fn statements(indent: &[u8], depth: u32, stack: &mut Stack, leaves: &mut Leaves) -> Done
     requires small { depth ≤ 2 * depth_limit }
     ensures ok { OnOk result (PutsAll (statements_at depth indent.now leaves.old) stack.old stack.new leaves.new) }
     ensures err { Fails result (statements_at depth indent.now leaves.old) }

@@ -12,7 +12,7 @@ ghost use Rattle.bz_states.specs.Tokens.{terminals_of, token_at, Fails};
 ghost use Rattle.bz_tree.specs.private.Words.{Pushes};
 
 use bz_grammar::{Kind, Node, Part, have_newer};
-use bz_items::{Items, Memory};
+use bz_items::{Gap, Items, Memory, Text};
 use bz_lex::{Class, Leaf};
 use bz_states::{Leaves, ParseHalt, TokenSet};
 use std::alloc::Global;
@@ -21,6 +21,9 @@ use std::mem;
 
 /// How many parts there is room for from the beginning on.
 const ROOM: usize = 64;
+
+/// How deep what was read is.
+pub(crate) type Deep = Result<u32, ParseHalt>;
 
 /// The parts that were read and are in no node yet, in the order of the text: those of the outermost open node first.
 /// One list serves all open nodes; a node takes its own off the end, in a list of just their number.
@@ -102,14 +105,6 @@ impl Stack {
         self.newer && have_newer(self.parts.as_slice())
     }
 
-    /// One more leaf. The error: a growth was refused.
-    fn push(&mut self, leaf: Leaf) -> Result<(), Memory>
-        ensures { OnOk result (self.new ≡ self.old ++ p.Leaf leaf ∷ []) }
-    {
-        self.parts.push(Part::Leaf(leaf))?;
-        Ok(())
-    }
-
     /// All parts in a node of this kind, in a list of just their number: the room that their own parts took is given back.
     pub fn into_node(self, kind: Kind) -> Node
         ensures { result ≡ record { kind = kind; parts = self } }
@@ -139,12 +134,23 @@ impl Stack {
     }
 
     /// The next leaf, where it is this token. Returns how deep it is: not at all.
-    pub fn take(&mut self, token: TokenSet, leaves: &mut Leaves) -> Result<u32, ParseHalt>
+    pub fn take(&mut self, token: TokenSet, leaves: &mut Leaves) -> Deep
         ensures ok { IfOk result (λ deep. Pushes (token_at (terminals_of token) leaves.old) self.old self.new leaves.new deep) }
         ensures err { Fails result (token_at (terminals_of token) leaves.old) }
     {
-        let leaf = leaves.next_leaf(token)?;
-        self.push(leaf)?;
+        let Some((front, text)) = leaves.next_leaf(token) else {
+            return Err(ParseHalt::Unexpected);
+        };
+        let alloc = *self.parts.allocator();
+        // A leaf is made where it goes: handed on in an answer, it would be copied from one to the next.
+        self.parts.reserve(1)?;
+        let (gap_bytes, after_gap) = text.split_at(front.gap);
+        let (token_bytes, _) = after_gap.split_at(front.token);
+        let gap = Gap::from_slice(alloc, gap_bytes)?;
+        let token = Text::from_slice(alloc, token_bytes)?;
+        let class = front.class;
+        self.parts
+            .push_reserved(Part::Leaf(Leaf { class, gap, token }));
         leaves.skip();
         Ok(0)
     }
