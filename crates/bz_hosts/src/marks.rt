@@ -16,6 +16,7 @@ use std::alloc::Global;
 /// Appends the comments of the gap before the part of a row with this index. What is before its first part is
 /// outside.
 #[tactic(auto, using(crate::proofs::RowSteps::gap_pushed, crate::proofs::RowSteps::gap_outside, crate::proofs::UnsignedGaps::gap_quiet))]
+#[inline(always)]
 pub fn push_gap(
     alloc: Global,
     part: &Part,
@@ -106,6 +107,7 @@ pub fn above_next(alloc: Global, parts: &[Part], at: usize) -> Result<Items<Text
 
 /// After an item of a sequence, where this index is that of its comma or of the closing bracket: whether it is seen at a glance that
 /// no comment is before that and before what follows it.
+#[inline(always)]
 pub fn is_quiet_after(parts: &[Part], at: usize) -> bool
     requires { at < length parts.now }
     ensures { result ≡ (is_unsigned (first_seen_gap (map seen (drop at parts.now))) && is_unsigned (first_seen_gap (map seen (drop (at + 1) parts.now)))) }

@@ -54,18 +54,17 @@ pub(crate) fn is_followed(parts: &[Part], at: usize) -> bool
     at < parts.len() && parts.len() - at > 1
 }
 
-/// The expression of a token, which is moved. The error: memory was refused.
+/// The expression of a token, which is moved; `none`, the empty text, is left in its place.
 #[inline(always)]
-fn token_moved(alloc: Global, leaf: &mut Leaf, line_break: bool) -> Result<Expr, Memory>
-    ensures { IfOk result (λ expr. expr ≡ Expr.Token (record { class = leaf.old.class; text = leaf.old.token; line_break = line_break; comments = no_comments })) }
+fn token_moved(leaf: &mut Leaf, none: Text, line_break: bool) -> Expr
+    ensures { result ≡ Expr.Token (record { class = leaf.old.class; text = leaf.old.token; line_break = line_break; comments = no_comments }) }
 {
-    let none = Text::from_slice(alloc, &[])?;
-    Ok(Expr::Token(Token {
+    Expr::Token(Token {
         class: leaf.class,
         text: mem::replace(&mut leaf.token, none),
         line_break,
         comments: Comments::none(),
-    }))
+    })
 }
 
 /// The expression of a statement that is given up, without comments of its own. What is loose in it is appended to `loose`. The error:
@@ -79,7 +78,10 @@ pub(crate) fn statement_moved(
     ensures loose { OnOk result (loose.new ≡ loose.old ++ (seen part.old).loose) }
 {
     match part {
-        Part::Leaf(leaf) => token_moved(alloc, leaf, false),
+        Part::Leaf(leaf) => {
+            let none = Text::from_slice(alloc, &[])?;
+            Ok(token_moved(leaf, none, false))
+        }
         Part::Node(node) => Ok(Expr::Form(form_moved(alloc, node, DEPTH, loose)?)),
     }
 }
@@ -101,8 +103,8 @@ fn push_moved(
     match part {
         Part::Leaf(leaf) => {
             exprs.reserve(1)?;
-            let token = token_moved(alloc, leaf, line_break)?;
-            exprs.push_reserved(token);
+            let none = Text::from_slice(alloc, &[])?;
+            exprs.push_reserved(token_moved(leaf, none, line_break));
             Ok(())
         }
         Part::Node(node) => {
