@@ -46,6 +46,18 @@ pub(crate) fn give_back(at: usize, parts: &mut Vec<Part>) -> usize
     1
 }
 
+/// Drops what is left of a row that was walked over. One by one, since hardly a token has anything to give back, which costs a third of
+/// what it costs to drop the row as a whole.
+pub(crate) fn drop_row(row: Vec<Part>) {
+    let mut left = row;
+    while let Some(part) = left.pop() {
+        match part {
+            Part::Leaf(_leaf) => {}
+            Part::Node(_node) => {}
+        }
+    }
+}
+
 /// Whether a part follows the one with this index.
 pub(crate) fn is_followed(parts: &[Part], at: usize) -> bool
     ensures yes { IsTrue result → at + 1 < length parts.now }
@@ -63,7 +75,7 @@ fn token_moved(leaf: &mut Leaf, none: Text, line_break: bool) -> Expr
         class: leaf.class,
         text: mem::replace(&mut leaf.token, none),
         line_break,
-        comments: Comments::none(),
+        comments: Comments::empty(),
     })
 }
 
@@ -158,7 +170,7 @@ fn form_moved(
                 split: false,
             },
             open_break,
-            comments: Comments::none(),
+            comments: Comments::empty(),
         });
     }
     let lead = lead_of(kind);
@@ -167,7 +179,7 @@ fn form_moved(
         parts: head_of(alloc, parts.as_slice(), lead, loose)?,
         seq: seq_moved(alloc, parts, depth, lead + 1)?,
         open_break: false,
-        comments: Comments::none(),
+        comments: Comments::empty(),
     })
 }
 
@@ -198,6 +210,7 @@ fn row_moved(
         push_moved(alloc, &mut left[at], depth, line_break, loose, &mut exprs)?;
         at = give_back(at + 1, &mut left);
     }
+    drop_row(left);
     Ok(Items::from_vec(exprs))
 }
 
@@ -249,6 +262,7 @@ fn seq_moved(alloc: Global, parts: Items<Part>, depth: usize, from: usize) -> Re
         )?;
         at = give_back(at + 2, &mut left);
     }
+    drop_row(left);
     Ok(Seq {
         items: Items::from_vec(items),
         end: above,
