@@ -47,7 +47,7 @@ pub fn token(class: Class, text: Text) -> Expr
         class,
         text,
         line_break: false,
-        comments: Comments::none(),
+        comments: Comments::empty(),
     })
 }
 
@@ -64,7 +64,7 @@ pub fn sequence(alloc: Global, kind: Kind, parts: Items<Expr>, items: Items<Expr
             split: false,
         },
         open_break: false,
-        comments: Comments::none(),
+        comments: Comments::empty(),
     })
 }
 

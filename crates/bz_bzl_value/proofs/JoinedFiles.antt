@@ -13,6 +13,7 @@ use Rattle.bz_grammar.proofs.Spells.{leaves_Node}
 use Rattle.bz_grammar.specs.Joined.{last_token, AreWholeLines, file_with, BzlLinesJoin}
 use Rattle.bz_value.specs.Gaps.{before_groups, comments_in, all_in, groups_of, all_but_last, last_group, lines_of}
 use Rattle.bz_hosts.specs.View.{blocks, seen, first_seen_gap}
+use Rattle.bz_hosts.proofs.JoinedLines.{last_after, whole_both}
 use Rattle.bz_bzl_value.specs.declared.value.BzlItem.{BzlItem}
 use Rattle.bz_bzl_value.specs.declared.value.BzlItem.TheVariants as b
 use Rattle.bz_bzl_value.specs.declared.value.Statement.{Statement}
@@ -126,20 +127,6 @@ ends_joined (x ∷ xs) e [] (z ∷ zs) last i n left h g = absurd cc
 ends_joined (x ∷ xs) e (y ∷ ys) zs last i n left h g = left_both (before (x ∷ xs)) x xs e y ys n left h g
 
 -- ---- the last token
-
-last_both : (ls ms : List Leaf) → last_token ls ≡ 10 ∷ [] → last_token ms ≡ 10 ∷ [] → last_token (ls ++ ms) ≡ 10 ∷ []
-last_both [] ms h g = g
-last_both (l ∷ []) [] h g = h
-last_both (l ∷ []) (m ∷ ms) h g = g
-last_both (l ∷ m ∷ ls) ms h g = last_both (m ∷ ls) ms h g
-
-last_after : (ls : List Leaf) (l : Leaf) → last_token (ls ++ l ∷ []) ≡ l.token
-last_after [] l = refl
-last_after (m ∷ []) l = refl
-last_after (m ∷ n ∷ ls) l = last_after (n ∷ ls) l
-
-whole_both : (xs ys : List Part) → AreWholeLines xs → AreWholeLines ys → AreWholeLines (xs ++ ys)
-whole_both xs ys h g = subst (λ ls. last_token ls ≡ 10 ∷ []) (sym (flat_map-append leaves_part xs ys)) (last_both (flat_map leaves_part xs) (flat_map leaves_part ys) h g)
 
 pub leaf_newline : (x : Part) (l : Leaf) → x ≡ p.Leaf l → l.token ≡ 10 ∷ [] → EndsInNewline x
 leaf_newline x l i e = ([], l, ap leaves_part i, e)

@@ -85,7 +85,7 @@ fn comments_made(alloc: Global, change: Change<'_>, comments: &Comments) -> Resu
 {
     match change {
         Change::Add(text) => with_more(alloc, text, comments),
-        Change::Remove => Ok(Comments::none()),
+        Change::Remove => Ok(Comments::empty()),
     }
 }
 

@@ -1,17 +1,17 @@
 -- The hosts and sequences in an expression, stated for lists.
 use Rattle.std.proofs.Common.{◌≡◌, Bool, not, ◌&&◌, ◌||◌, List, [], ◌∷◌, ◌++◌, refl, ap, ◌∙◌, map, if◌then◌else◌}
 use Rattle.std.specs.List.{flat_map}
-use mathlib.Core.Former.{Count}
 use Rattle.bz_grammar.specs.declared.kind.Kind.{Kind}
 use Rattle.bz_grammar.specs.declared.tree.Part.{Part, Node'}
 use Rattle.bz_grammar.specs.declared.tree.Part.TheVariants as p
 use Rattle.bz_value.specs.declared.value.Form.{Form}
-use Rattle.bz_value.specs.declared.value.Expr.{Expr, Token, Form', Row_of-Expr, end_of-Expr, more_of-Expr, items-the_row-Expr, items_hidden-the_row-Expr-0}
+use Rattle.bz_value.specs.declared.value.Expr.{Expr, Row_of-Expr, end_of-Expr, more_of-Expr, items-the_row-Expr, items_hidden-the_row-Expr-0}
 use Rattle.bz_value.specs.declared.value.Expr.TheVariants as e
 use Rattle.bz_value.specs.Comments.{HostComments, no_comments}
 use Rattle.bz_value.specs.Frames.{Frame, row, sequence, frame}
 use Rattle.bz_value.specs.Gaps.{has_newline}
 use Rattle.bz_value.specs.Proper.{comments_of, is_operator}
+use Rattle.bz_value.proofs.FormParts.{parts_in, items_in}
 use Rattle.bz_hosts.specs.View.{Seen, seen, seen_row, plain, seen_node, first_seen_gap, begins_seen_operator, row_exprs}
 use Rattle.bz_hosts.specs.Hosts.{Hosted, ended, hosted_by, by_frame, inside_expr, inside_row, inside_items}
 
@@ -27,14 +27,6 @@ inside_rows m (more_of-Expr x rest) = ap (λ (t : List Hosted). inside_expr x ++
 items_rows : (m : _) (r : Row_of-Expr m) → inside_items r ≡ inside_list (items-the_row-Expr m r)
 items_rows m end_of-Expr = refl
 items_rows m (more_of-Expr x rest) = ap (λ (t : List Hosted). hosted_by (comments_of x) ∷ (inside_expr x ++ t)) (items_rows _ rest)
-
-abbrev parts_in : Expr → (m : Count) × Row_of-Expr m
-parts_in (Form' kind s parts s' items end split open_break comments) = (_, parts)
-parts_in (Token t) = (_, end_of-Expr)
-
-abbrev items_in : Expr → (m : Count) × Row_of-Expr m
-items_in (Form' kind s parts s' items end split open_break comments) = (_, items)
-items_in (Token t) = (_, end_of-Expr)
 
 pub form_inside : (f : Form) → inside_expr (e.Form f) ≡ by_frame (frame f.kind) (flat_map inside_expr f.parts) (inside_list f.seq.items) (ended f.seq.end)
 form_inside f =

@@ -45,12 +45,12 @@ last_both (l ∷ []) [] h g = h
 last_both (l ∷ []) (m ∷ ms) h g = g
 last_both (l ∷ m ∷ ls) ms h g = last_both (m ∷ ls) ms h g
 
-last_after : (ls : List Leaf) (l : Leaf) → last_token (ls ++ l ∷ []) ≡ l.token
+pub last_after : (ls : List Leaf) (l : Leaf) → last_token (ls ++ l ∷ []) ≡ l.token
 last_after [] l = refl
 last_after (m ∷ []) l = refl
 last_after (m ∷ n ∷ ls) l = last_after (n ∷ ls) l
 
-whole_both : (xs ys : List Part) → AreWholeLines xs → AreWholeLines ys → AreWholeLines (xs ++ ys)
+pub whole_both : (xs ys : List Part) → AreWholeLines xs → AreWholeLines ys → AreWholeLines (xs ++ ys)
 whole_both xs ys h g = subst (λ ls. last_token ls ≡ 10 ∷ []) (sym (flat_map-append leaves_part xs ys)) (last_both (flat_map leaves_part xs) (flat_map leaves_part ys) h g)
 
 -- ---- files

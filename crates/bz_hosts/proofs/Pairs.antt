@@ -6,7 +6,7 @@ use Rattle.bz_grammar.specs.declared.kind.Kind.TheVariants as k
 use Rattle.bz_grammar.specs.declared.tree.Part.{Part, Node'}
 use Rattle.bz_grammar.specs.declared.tree.Part.TheVariants as p
 use Rattle.bz_grammar.specs.Shapes as s
-use Rattle.bz_grammar.specs.Shapes.{Nonterminal, Terminal, Fits, Listed, shape, items, tok, done, has_token}
+use Rattle.bz_grammar.specs.Shapes.{Nonterminal, Terminal, Shape, Fits, Listed, shape, items, tok, done, has_token}
 use Rattle.bz_grammar.specs.Legal.{IsNonterminal}
 use Rattle.bz_grammar.proofs.Balance.{no_such}
 use Rattle.bz_value.specs.Frames.{Frame, row, sequence, frame, lead}
@@ -97,15 +97,24 @@ dict_bracketed : (xs : List Part) → Fits IsNonterminal (shape k.Dict) xs → B
 dict_bracketed [] h = absurd h
 dict_bracketed (y ∷ xs) h = record { opener = token s.open_curly y h.0; body = items_paired s.close_curly s.entry xs h.1 }
 
-abbrev pub BracketedIn : Frame → Kind → List Part → Type 0
-BracketedIn row kind xs = Unit {0}
-BracketedIn (sequence opener closer) kind xs = Bracketed kind xs
+-- ---- of a node that has the shape of its kind, what is so by the kinds that have brackets
 
--- of a node that has the shape of its kind
+abbrev pub InBrackets : (Kind → List Part → Type 0) → Frame → Kind → List Part → Type 0
+InBrackets P row kind xs = Unit {0}
+InBrackets P (sequence opener closer) kind xs = P kind xs
+
+pub in_brackets : (grammar : Kind → Shape) (P : Kind → List Part → Type 0) → ((xs : List Part) → Fits IsNonterminal (grammar k.Call) xs → P k.Call xs) → ((xs : List Part) → Fits IsNonterminal (grammar k.Load) xs → P k.Load xs) →
+    ((xs : List Part) → Fits IsNonterminal (grammar k.Tuple) xs → P k.Tuple xs) → ((xs : List Part) → Fits IsNonterminal (grammar k.List) xs → P k.List xs) → ((xs : List Part) → Fits IsNonterminal (grammar k.Dict) xs → P k.Dict xs) →
+    (kind : Kind) (xs : List Part) → Fits IsNonterminal (grammar kind) xs → InBrackets P (frame kind) kind xs
+in_brackets grammar P call load tuple list dict k.Call xs h = call xs h
+in_brackets grammar P call load tuple list dict k.Load xs h = load xs h
+in_brackets grammar P call load tuple list dict k.Tuple xs h = tuple xs h
+in_brackets grammar P call load tuple list dict k.List xs h = list xs h
+in_brackets grammar P call load tuple list dict k.Dict xs h = dict xs h
+in_brackets grammar P call load tuple list dict _ xs h = tt
+
+abbrev pub BracketedIn : Frame → Kind → List Part → Type 0
+BracketedIn f kind xs = InBrackets Bracketed f kind xs
+
 pub node_bracketed : (kind : Kind) (xs : List Part) → Fits IsNonterminal (shape kind) xs → BracketedIn (frame kind) kind xs
-node_bracketed k.Call xs h = call_bracketed xs h
-node_bracketed k.Load xs h = load_bracketed xs h
-node_bracketed k.Tuple xs h = tuple_bracketed xs h
-node_bracketed k.List xs h = list_bracketed xs h
-node_bracketed k.Dict xs h = dict_bracketed xs h
-node_bracketed _ xs h = tt
+node_bracketed kind xs h = in_brackets shape Bracketed call_bracketed load_bracketed tuple_bracketed list_bracketed dict_bracketed kind xs h

@@ -1,14 +1,38 @@
 -- A gap without a number sign has no comment.
-use Rattle.std.proofs.Common.{◌≡◌, ℕ, suc, zero, Bool, true, false, not, ◌&&◌, if◌then◌else◌, nat_eq, List, [], ◌∷◌, ◌++◌, ◌+◌, inl, inr, None, refl, sym, ap, ◌∙◌, subst, map, drop, append-nil, add-one}
+use Rattle.std.proofs.Common.{◌≡◌, ◌⊎◌, ℕ, suc, zero, Bool, true, false, not, ◌&&◌, if◌then◌else◌, nat_eq, List, [], ◌∷◌, ◌++◌, ◌+◌, inl, inr, None, refl, sym, ap, ◌∙◌, subst, map, drop, get_or, replicate, append-nil, add-one}
 use Rattle.std.specs.List.{AllByRecursion}
 use Rattle.std.proofs.lemmas.Bool.{cases_Bool, false≢true, not-true}
 use Rattle.bz_grammar.specs.declared.tree.Part.{Part}
 use Rattle.bz_lex.specs.Gaps.{is_indent}
-use Rattle.bz_items.specs.Characters.{Bytes, backslash, line_feed, number_sign}
-use Rattle.bz_value.specs.Gaps.{GapLine, lines_from, rest_of_line, lines_of, as_list, comments_in, first_comment, after_first_line, suffix_in, others_in, all_in}
+use Rattle.bz_items.specs.Characters.{Bytes, backslash, line_feed, number_sign, space}
+use Rattle.bz_value.specs.Gaps.{GapLine, lines_from, rest_of_line, lines_of, as_list, comments_in, first_comment, after_first_line, suffix_in, others_in, all_in, some_newline, has_newline}
 use Rattle.bz_hosts.specs.View.{Seen, seen, first_seen_gap, loose_after}
 use Rattle.bz_hosts.specs.Walks.{above_after, is_unsigned, loose_from, suffix_after}
 use Rattle.bz_hosts.proofs.RowSteps.{gap_pushed}
+
+-- ---- what is known of a gap
+
+abbrev Spacing : Bytes → Type 0
+Spacing gap = (count : ℕ) × ((gap ≡ replicate count space) ⊎ (gap ≡ line_feed ∷ replicate count space))
+
+spaces_quiet : (count : ℕ) → true ≡ is_unsigned (replicate count space)
+spaces_quiet zero = refl
+spaces_quiet (suc count) = spaces_quiet count
+
+pub spacing_quiet : (gap : Bytes) → Spacing gap → true ≡ is_unsigned gap
+spacing_quiet gap (count, inl spaces) = spaces_quiet count ∙ ap is_unsigned (sym spaces)
+spacing_quiet gap (count, inr line) = spaces_quiet count ∙ ap is_unsigned (sym line)
+
+spaces_still : (count indent : ℕ) → false ≡ some_newline (lines_from indent (replicate count space))
+spaces_still zero indent = refl
+spaces_still (suc count) indent = spaces_still count (suc indent)
+
+pub spacing_breaks : (gap bytes : Bytes) (begins : Bool) → Spacing gap → bytes ≡ gap → begins ≡ nat_eq (get_or bytes 0 0) line_feed → begins ≡ has_newline gap
+spacing_breaks gap bytes begins (zero, inl spaces) i b = b ∙ (ap (λ g. nat_eq (get_or g 0 0) line_feed) (i ∙ spaces) ∙ ap has_newline (sym spaces))
+spacing_breaks gap bytes begins (suc count, inl spaces) i b = b ∙ (ap (λ g. nat_eq (get_or g 0 0) line_feed) (i ∙ spaces) ∙ (spaces_still (suc count) 0 ∙ ap has_newline (sym spaces)))
+spacing_breaks gap bytes begins (count, inr line) i b = b ∙ (ap (λ g. nat_eq (get_or g 0 0) line_feed) (i ∙ line) ∙ ap has_newline (sym line))
+
+-- ---- no number sign
 
 abbrev Bare : List GapLine → Type 0
 Bare lines = AllByRecursion (λ line. line.comment ≡ None) lines

@@ -1,22 +1,92 @@
 //! What is before a part of a tree.
-ghost use Rattle.std.specs.Prelude.{◌≡◌, ◌&&◌, map, drop};
+ghost use Rattle.std.specs.Prelude.{◌≡◌, ◌&&◌, [], map, drop, get_or, nat_eq, MatchOption};
+ghost use Rattle.bz_items.specs.Characters.{line_feed};
 ghost use Rattle.bz_value.specs.Gaps.{has_newline};
 ghost use Rattle.bz_value.specs.Proper.{is_operator};
 ghost use Rattle.bz_hosts.specs.View.{begins_seen_operator, first_seen_gap, is_split, last_gap, plain, seen};
+ghost use Rattle.bz_hosts.specs.Walks.{is_unsigned};
 
 use bz_grammar::Part;
+use bz_items::Gap;
 use bz_value::{has_newline, is_operator_class};
+
+/// Whether the gap has no number sign, with which each comment begins.
+#[inline(always)]
+#[tactic(auto, using(crate::proofs::UnsignedGaps::spacing_quiet))]
+fn is_quiet(gap: &Gap) -> bool
+    ensures { result ≡ is_unsigned gap.now }
+{
+    if gap.is_spacing() {
+        return true;
+    }
+    gap.as_slice().iter().all(|byte| *byte != b'#')
+}
+
+/// Whether the first byte is a newline.
+#[inline(always)]
+fn begins_line(bytes: &[u8]) -> bool
+    ensures { result ≡ nat_eq (get_or bytes.now 0 0) line_feed }
+{
+    match bytes {
+        [] => false,
+        [first, ..] => *first == b'\n',
+    }
+}
+
+/// Whether an unescaped newline is in the gap.
+#[inline(always)]
+#[tactic(auto, using(crate::proofs::UnsignedGaps::spacing_breaks))]
+fn breaks(gap: &Gap) -> bool
+    ensures { result ≡ has_newline gap.now }
+{
+    let bytes = gap.as_slice();
+    if gap.is_spacing() {
+        return begins_line(bytes);
+    }
+    has_newline(bytes)
+}
+
+/// The gap before the first token of a part, if it has one.
+#[cycle(first)]
+#[inline(always)]
+fn first_gap(part: &Part) -> Option<&Gap>
+    ensures { MatchOption result ([] ≡ (seen part.now).gap) (λ gap. gap.now ≡ (seen part.now).gap) }
+{
+    match part {
+        Part::Leaf(leaf) => Some(&leaf.gap),
+        Part::Node(node) => first_gap_in(node.parts.as_slice()),
+    }
+}
+
+/// The gap before the first token of these parts, if the first of them has one.
+#[cycle(first)]
+fn first_gap_in(parts: &[Part]) -> Option<&Gap>
+    ensures { MatchOption result ([] ≡ first_seen_gap (map seen parts.now)) (λ gap. gap.now ≡ first_seen_gap (map seen parts.now)) }
+{
+    match parts {
+        [] => None,
+        [first, ..] => first_gap(first),
+    }
+}
+
+/// The gap before the part with this index, if there is one.
+#[inline(always)]
+fn first_gap_at(parts: &[Part], at: usize) -> Option<&Gap>
+    ensures { MatchOption result ([] ≡ first_seen_gap (map seen (drop at parts.now))) (λ gap. gap.now ≡ first_seen_gap (map seen (drop at parts.now))) }
+{
+    match parts.get(at) {
+        None => None,
+        Some(part) => first_gap(part),
+    }
+}
 
 /// The gap before the first token of a part.
 pub fn gap_before(part: &Part) -> &[u8]
     ensures { result.now ≡ (seen part.now).gap }
 {
-    match part {
-        Part::Leaf(leaf) => leaf.gap.as_slice(),
-        Part::Node(node) => match node.parts.as_slice() {
-            [] => &[],
-            [first, ..] => gap_before(first),
-        },
+    match first_gap(part) {
+        None => &[],
+        Some(gap) => gap.as_slice(),
     }
 }
 
@@ -24,9 +94,31 @@ pub fn gap_before(part: &Part) -> &[u8]
 pub fn gap_at(parts: &[Part], at: usize) -> &[u8]
     ensures { result.now ≡ first_seen_gap (map seen (drop at parts.now)) }
 {
-    match parts.get(at) {
+    match first_gap_at(parts, at) {
         None => &[],
-        Some(part) => gap_before(part),
+        Some(gap) => gap.as_slice(),
+    }
+}
+
+/// Whether it is seen at a glance that no comment is before the part.
+#[inline(always)]
+pub fn is_quiet_before(part: &Part) -> bool
+    ensures { result ≡ is_unsigned (seen part.now).gap }
+{
+    match first_gap(part) {
+        None => true,
+        Some(gap) => is_quiet(gap),
+    }
+}
+
+/// The same of the part with this index.
+#[inline(always)]
+pub fn is_quiet_at(parts: &[Part], at: usize) -> bool
+    ensures { result ≡ is_unsigned (first_seen_gap (map seen (drop at parts.now))) }
+{
+    match first_gap_at(parts, at) {
+        None => true,
+        Some(gap) => is_quiet(gap),
     }
 }
 
@@ -44,7 +136,10 @@ pub fn gap_of_last(parts: &[Part]) -> &[u8]
 pub fn breaks_before(parts: &[Part], at: usize) -> bool
     ensures { result ≡ has_newline (first_seen_gap (map seen (drop at parts.now))) }
 {
-    has_newline(gap_at(parts, at))
+    match first_gap_at(parts, at) {
+        None => false,
+        Some(gap) => breaks(gap),
+    }
 }
 
 /// Whether an unescaped newline is before a part from this index on.

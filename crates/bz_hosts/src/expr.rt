@@ -31,7 +31,7 @@ pub fn expr_of(
             class: leaf.class,
             text: leaf.token.copy()?,
             line_break,
-            comments: Comments::none(),
+            comments: Comments::empty(),
         })),
         Part::Node(node) => Ok(Expr::Form(form_of(alloc, node, loose)?)),
     }
@@ -58,7 +58,7 @@ fn push_expr(
                 class: leaf.class,
                 text,
                 line_break,
-                comments: Comments::none(),
+                comments: Comments::empty(),
             }));
             Ok(())
         }
@@ -104,7 +104,7 @@ fn form_of(alloc: Global, node: &Node, loose: &mut Items<Text>) -> Result<Form, 
                 split: false,
             },
             open_break: opens(kind, parts),
-            comments: Comments::none(),
+            comments: Comments::empty(),
         });
     }
     let lead = lead_of(kind);
@@ -113,7 +113,7 @@ fn form_of(alloc: Global, node: &Node, loose: &mut Items<Text>) -> Result<Form, 
         parts: head_of(alloc, parts, lead, loose)?,
         seq: seq_of(alloc, parts, lead + 1)?,
         open_break: false,
-        comments: Comments::none(),
+        comments: Comments::empty(),
     })
 }
 

@@ -5,22 +5,18 @@ ghost use Rattle.bz_value.specs.Gaps.{all_in, has_newline, suffix_in};
 ghost use Rattle.bz_hosts.specs.View.{Seen, begins_seen_operator, first_seen_gap, is_open, loose_after, seen};
 ghost use Rattle.bz_hosts.specs.Walks.{above_after, is_unsigned, loose_from, suffix_after};
 
-use crate::before::{breaks_before, gap_at, gap_before, is_operator_at};
+use crate::before::{
+    breaks_before, gap_at, gap_before, is_operator_at, is_quiet_at, is_quiet_before,
+};
 use bz_grammar::{Kind, Part};
 use bz_items::{Items, Memory, Text};
 use bz_value::{is_comprehension, push_all, push_others};
 use std::alloc::Global;
 
-/// Whether the gap has no number sign, with which each comment begins.
-fn is_quiet(gap: &[u8]) -> bool
-    ensures { result ≡ is_unsigned gap.now }
-{
-    gap.iter().all(|byte| *byte != b'#')
-}
-
 /// Appends the comments of the gap before the part of a row with this index. What is before its first part is
 /// outside.
 #[tactic(auto, using(crate::proofs::RowSteps::gap_pushed, crate::proofs::RowSteps::gap_outside, crate::proofs::UnsignedGaps::gap_quiet))]
+#[inline(always)]
 pub fn push_gap(
     alloc: Global,
     part: &Part,
@@ -32,11 +28,10 @@ pub fn push_gap(
     if at == 0 {
         return Ok(());
     }
-    let gap = gap_before(part);
-    if is_quiet(gap) {
+    if is_quiet_before(part) {
         return Ok(());
     }
-    push_all(alloc, gap, loose)
+    push_all(alloc, gap_before(part), loose)
 }
 
 /// Whether an unescaped newline is before the operator that the part with this index is: `newline`, where the part
@@ -86,11 +81,10 @@ pub fn comments_above_first(alloc: Global, parts: &[Part], at: usize) -> Result<
     ensures { IfOk result (λ above. above ≡ all_in (first_seen_gap (map seen (drop at parts.now)))) }
 {
     let mut above = Items::new(alloc);
-    let gap = gap_at(parts, at);
-    if is_quiet(gap) {
+    if is_quiet_at(parts, at) {
         return Ok(above);
     }
-    push_all(alloc, gap, &mut above)?;
+    push_all(alloc, gap_at(parts, at), &mut above)?;
     Ok(above)
 }
 
@@ -113,9 +107,10 @@ pub fn above_next(alloc: Global, parts: &[Part], at: usize) -> Result<Items<Text
 
 /// After an item of a sequence, where this index is that of its comma or of the closing bracket: whether it is seen at a glance that
 /// no comment is before that and before what follows it.
+#[inline(always)]
 pub fn is_quiet_after(parts: &[Part], at: usize) -> bool
     requires { at < length parts.now }
     ensures { result ≡ (is_unsigned (first_seen_gap (map seen (drop at parts.now))) && is_unsigned (first_seen_gap (map seen (drop (at + 1) parts.now)))) }
 {
-    is_quiet(gap_at(parts, at)) && is_quiet(gap_at(parts, at + 1))
+    is_quiet_at(parts, at) && is_quiet_at(parts, at + 1)
 }

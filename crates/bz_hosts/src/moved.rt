@@ -46,6 +46,18 @@ pub(crate) fn give_back(at: usize, parts: &mut Vec<Part>) -> usize
     1
 }
 
+/// Drops what is left of a row that was walked over. One by one, since hardly a token has anything to give back, which costs a third of
+/// what it costs to drop the row as a whole.
+pub(crate) fn drop_row(row: Vec<Part>) {
+    let mut left = row;
+    while let Some(part) = left.pop() {
+        match part {
+            Part::Leaf(_leaf) => {}
+            Part::Node(_node) => {}
+        }
+    }
+}
+
 /// Whether a part follows the one with this index.
 pub(crate) fn is_followed(parts: &[Part], at: usize) -> bool
     ensures yes { IsTrue result → at + 1 < length parts.now }
@@ -54,18 +66,17 @@ pub(crate) fn is_followed(parts: &[Part], at: usize) -> bool
     at < parts.len() && parts.len() - at > 1
 }
 
-/// The expression of a token, which is moved. The error: memory was refused.
+/// The expression of a token, which is moved; `none`, the empty text, is left in its place.
 #[inline(always)]
-fn token_moved(alloc: Global, leaf: &mut Leaf, line_break: bool) -> Result<Expr, Memory>
-    ensures { IfOk result (λ expr. expr ≡ Expr.Token (record { class = leaf.old.class; text = leaf.old.token; line_break = line_break; comments = no_comments })) }
+fn token_moved(leaf: &mut Leaf, none: Text, line_break: bool) -> Expr
+    ensures { result ≡ Expr.Token (record { class = leaf.old.class; text = leaf.old.token; line_break = line_break; comments = no_comments }) }
 {
-    let none = Text::from_slice(alloc, &[])?;
-    Ok(Expr::Token(Token {
+    Expr::Token(Token {
         class: leaf.class,
         text: mem::replace(&mut leaf.token, none),
         line_break,
-        comments: Comments::none(),
-    }))
+        comments: Comments::empty(),
+    })
 }
 
 /// The expression of a statement that is given up, without comments of its own. What is loose in it is appended to `loose`. The error:
@@ -79,7 +90,10 @@ pub(crate) fn statement_moved(
     ensures loose { OnOk result (loose.new ≡ loose.old ++ (seen part.old).loose) }
 {
     match part {
-        Part::Leaf(leaf) => token_moved(alloc, leaf, false),
+        Part::Leaf(leaf) => {
+            let none = Text::from_slice(alloc, &[])?;
+            Ok(token_moved(leaf, none, false))
+        }
         Part::Node(node) => Ok(Expr::Form(form_moved(alloc, node, DEPTH, loose)?)),
     }
 }
@@ -101,8 +115,8 @@ fn push_moved(
     match part {
         Part::Leaf(leaf) => {
             exprs.reserve(1)?;
-            let token = token_moved(alloc, leaf, line_break)?;
-            exprs.push_reserved(token);
+            let none = Text::from_slice(alloc, &[])?;
+            exprs.push_reserved(token_moved(leaf, none, line_break));
             Ok(())
         }
         Part::Node(node) => {
@@ -156,7 +170,7 @@ fn form_moved(
                 split: false,
             },
             open_break,
-            comments: Comments::none(),
+            comments: Comments::empty(),
         });
     }
     let lead = lead_of(kind);
@@ -165,7 +179,7 @@ fn form_moved(
         parts: head_of(alloc, parts.as_slice(), lead, loose)?,
         seq: seq_moved(alloc, parts, depth, lead + 1)?,
         open_break: false,
-        comments: Comments::none(),
+        comments: Comments::empty(),
     })
 }
 
@@ -196,6 +210,7 @@ fn row_moved(
         push_moved(alloc, &mut left[at], depth, line_break, loose, &mut exprs)?;
         at = give_back(at + 1, &mut left);
     }
+    drop_row(left);
     Ok(Items::from_vec(exprs))
 }
 
@@ -247,6 +262,7 @@ fn seq_moved(alloc: Global, parts: Items<Part>, depth: usize, from: usize) -> Re
         )?;
         at = give_back(at + 2, &mut left);
     }
+    drop_row(left);
     Ok(Seq {
         items: Items::from_vec(items),
         end: above,

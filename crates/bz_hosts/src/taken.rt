@@ -10,7 +10,7 @@ ghost use Rattle.bz_hosts.specs.View.{file_items, seen, statements_in, view_of};
 use crate::before::{gap_at, gap_of_last};
 use crate::commented::commented;
 use crate::groups::{push_all_groups, push_groups};
-use crate::moved::{give_back, is_followed, statement_moved};
+use crate::moved::{drop_row, give_back, is_followed, statement_moved};
 use crate::viewing::suffix_gap;
 use bz_grammar::{Part, Tree};
 use bz_items::{Items, Memory, Text};
@@ -118,5 +118,6 @@ fn push_moved_statements(
         above = Items::new(alloc);
         at = give_back(at + 2, &mut left);
     }
+    drop_row(left);
     Ok(())
 }

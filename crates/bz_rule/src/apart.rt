@@ -3,7 +3,30 @@
 ghost use Rattle.std.specs.Prelude.{◌≡◌, ◌<◌, IfSome};
 ghost use Rattle.bz_rule.specs.private.Named.{fronts, fronts_among};
 
-use bz_value::{Expr, File, Item};
+use bz_value::{Expr, File, Form, Item};
+
+/// What is nested deeper than this in an argument is dropped as a whole.
+const DEPTH: usize = 64;
+
+/// Drops expressions one by one: hardly a token has anything to give back, so that this costs a part of what it costs to drop them as wholes.
+#[cycle(apart)]
+fn drop_all(exprs: Vec<Expr>, depth: usize) {
+    let mut left = exprs;
+    while let Some(x) = left.pop() {
+        match x {
+            Expr::Token(_token) => {}
+            Expr::Form(form) => drop_form(form, depth),
+        }
+    }
+}
+
+#[cycle(apart)]
+fn drop_form(form: Form, depth: usize) {
+    if depth > 0 {
+        drop_all(form.parts.into_vec(), depth - 1);
+        drop_all(form.seq.items.into_vec(), depth - 1);
+    }
+}
 
 /// The first of some parts; the others are dropped.
 fn first_of(parts: Vec<Expr>) -> Option<Expr>
@@ -19,7 +42,11 @@ fn first_part(x: Expr) -> Option<Expr>
 {
     match x {
         Expr::Token(_token) => None,
-        Expr::Form(form) => first_of(form.parts.into_vec()),
+        Expr::Form(form) => {
+            let parts = form.parts.into_vec();
+            drop_all(form.seq.items.into_vec(), DEPTH);
+            first_of(parts)
+        }
     }
 }
 

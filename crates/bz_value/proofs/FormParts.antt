@@ -38,11 +38,11 @@ roots_of m (more_of-Expr x rest) = ap (λ t. root x ∷ t) (roots_of _ rest)
 
 -- ---- the rows of a form
 
-abbrev parts_in : Expr → (m : Count) × Row_of-Expr m
+abbrev pub parts_in : Expr → (m : Count) × Row_of-Expr m
 parts_in (Form' kind s parts s' items end split open_break comments) = (_, parts)
 parts_in (Token t) = (_, end_of-Expr)
 
-abbrev items_in : Expr → (m : Count) × Row_of-Expr m
+abbrev pub items_in : Expr → (m : Count) × Row_of-Expr m
 items_in (Form' kind s parts s' items end split open_break comments) = (_, items)
 items_in (Token t) = (_, end_of-Expr)
 

@@ -1,11 +1,11 @@
 -- Sums of a number of each comment: of lists, and of a form by its lists.
 use Rattle.std.proofs.Common.{◌≡◌, ℕ, ◌+◌, List, [], ◌∷◌, ◌++◌, refl, ap, ◌∙◌, arith}
-use mathlib.Core.Former.{Count}
 use Rattle.bz_value.specs.declared.value.Form.{Form}
-use Rattle.bz_value.specs.declared.value.Expr.{Expr, Token, Form', Row_of-Expr, end_of-Expr, more_of-Expr, items-the_row-Expr, items_hidden-the_row-Expr-0}
+use Rattle.bz_value.specs.declared.value.Expr.{Expr, Row_of-Expr, end_of-Expr, more_of-Expr, items-the_row-Expr, items_hidden-the_row-Expr-0}
 use Rattle.bz_value.specs.declared.value.Expr.TheVariants as e
 use Rattle.bz_value.specs.Counted.{total, host_amount, amount, row_amount}
 use Rattle.bz_items.specs.Characters.{Bytes}
+use Rattle.bz_value.proofs.FormParts.{parts_in, items_in}
 
 -- ---- lists
 
@@ -20,14 +20,6 @@ module _ (number : Bytes → ℕ) where
   row_total : (m : _) (r : Row_of-Expr m) → row_amount number r ≡ total (amount number) (items-the_row-Expr m r)
   row_total m end_of-Expr = refl
   row_total m (more_of-Expr x rest) = ap (λ a. amount number x + a) (row_total _ rest)
-
-  abbrev parts_in : Expr → (m : Count) × Row_of-Expr m
-  parts_in (Form' kind s parts s' items end split open_break comments) = (_, parts)
-  parts_in (Token t) = (_, end_of-Expr)
-
-  abbrev items_in : Expr → (m : Count) × Row_of-Expr m
-  items_in (Form' kind s parts s' items end split open_break comments) = (_, items)
-  items_in (Token t) = (_, end_of-Expr)
 
   -- what is in a form
   abbrev pub inner_amount : Form → ℕ

@@ -31,7 +31,7 @@ impl Model for Comments {
 
 impl Comments {
     /// No comments, which take no memory.
-    pub fn none() -> Comments
+    pub fn empty() -> Comments
         ensures { result ≡ no_comments }
     {
         Comments { held: None }
@@ -42,7 +42,7 @@ impl Comments {
         ensures { IfOk result (λ comments. comments ≡ record { before = before; suffix = suffix }) }
     {
         if before.is_empty() && suffix.is_none() {
-            return Ok(Comments::none());
+            return Ok(Comments::empty());
         }
         let held = Box::new(alloc, Held { before, suffix })?;
         Ok(Comments { held: Some(held) })
@@ -80,7 +80,7 @@ impl Comments {
         ensures { IfOk result (λ comments. comments ≡ self.now) }
     {
         match &self.held {
-            None => Ok(Comments::none()),
+            None => Ok(Comments::empty()),
             Some(held) => {
                 let alloc = held.before.alloc();
                 let before = copy_texts(alloc, held.before.as_slice())?;

@@ -51,7 +51,7 @@ fn is_blank_byte(byte: u8) -> bool
 }
 
 /// The text without spaces, tabs and carriage returns at its end.
-fn trim_end(text: &[u8]) -> &[u8]
+pub fn trim_end(text: &[u8]) -> &[u8]
     ensures { result.now ≡ trimmed text.now }
 {
     let mut end = text.len();

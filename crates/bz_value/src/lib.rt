@@ -15,7 +15,9 @@ pub use comments::Comments;
 pub use frame::{
     is_binary, is_comprehension, is_operator_class, is_sequence, is_statement, lead_of,
 };
-pub use gap::{Line, first_line, has_newline, past_first_line, push_all, push_others, suffix_in};
+pub use gap::{
+    Line, first_line, has_newline, past_first_line, push_all, push_others, suffix_in, trim_end,
+};
 pub use laws::worked_gaps;
 pub use refusal::Refusal;
 pub use value::{Expr, File, Form, Item, Seq, Token};

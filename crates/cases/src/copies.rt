@@ -83,7 +83,7 @@ fn is_copied(form: &Form) -> Result<bool, Memory> {
     let copy = form.copy()?;
     let is_form_copied = copy.equals(form);
     drop(copy);
-    let has_comments = !Comments::none().equals(&form.comments);
+    let has_comments = !Comments::empty().equals(&form.comments);
     drop(form.seq.copy()?);
     Ok(is_form_copied && has_comments)
 }

@@ -38,7 +38,7 @@ push_host-returns-clause-end t c =
 pub form_of-returns-clause-form : goal.form_of-returns-clause-form
 form_of-returns-clause-form t c =
     sequence_made (frame c.args.node.now.kind) c.args.node.now.kind c.args.node.now.parts _ _ _ _ _ (sym c.is_sequence.ensures ∙ c.if-not-is_sequence.false) c.as_slice-parts.ensures c.lead_of-lead.ensures.value
-    c.in_ok-head_of.ensures.exprs c.in_ok-seq_of.ensures c.none-2.ensures
+    c.in_ok-head_of.ensures.exprs c.in_ok-seq_of.ensures c.empty-2.ensures
 
 pub row_of-loop-at-preserved : goal.row_of-loop-at-preserved
 row_of-loop-at-preserved t c =

@@ -11,7 +11,7 @@ use Rattle.bz_hosts.proofs.moved.+moved.Goals as goal
 pub form_moved-returns-clause-form : goal.form_moved-returns-clause-form
 form_moved-returns-clause-form t c =
     sequence_made (frame c.args.node.now.kind) c.args.node.now.kind c.args.node.now.parts c.replace-parts.result _ _ _ _ (sym c.is_sequence.ensures ∙ c.if-not-is_sequence.false) c.replace-parts.ensures.value c.lead_of-lead.ensures.value
-    (c.in_ok-head_of.ensures.exprs ∙ ap (λ (rs : List Part). map plain (take c.lead_of-lead.result (map seen rs))) c.as_slice-2.ensures) c.in_ok-seq_moved.ensures c.none-2.ensures
+    (c.in_ok-head_of.ensures.exprs ∙ ap (λ (rs : List Part). map plain (take c.lead_of-lead.result (map seen rs))) c.as_slice-2.ensures) c.in_ok-seq_moved.ensures c.empty-2.ensures
 
 pub push_host_moved-returns-then-is_quiet_after-clause-items : goal.push_host_moved-returns-then-is_quiet_after-clause-items
 push_host_moved-returns-then-is_quiet_after-clause-items t c =
