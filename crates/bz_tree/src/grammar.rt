@@ -3,7 +3,7 @@ ghost use Rattle.std.specs.Prelude.{◌≡◌, ◌∷◌, ◌≤◌, ◌*◌, []
 ghost use Rattle.bz_grammar.specs.Reading.{starts_with};
 ghost use Rattle.bz_grammar.specs.Spell.{deepest, depth_limit};
 ghost use Rattle.bz_states.specs.Tokens.{terminals_of, Fails};
-ghost use Rattle.bz_tree.specs.private.Words.{part_at, Pushes, found_from};
+ghost use Rattle.bz_tree.specs.private.Words.{IsOpen, part_at, Pushes, found_from};
 ghost use Rattle.bz_states.specs.States.{nonterminal_of};
 ghost use Rattle.bz_tree.specs.private.Ranks.{fitted_at, bound_at, level_at, RisesFrom, atom_at, argument_at, param_at};
 ghost use Rattle.bz_grammar.specs.declared.tree.Part.{Part};
@@ -35,10 +35,7 @@ fn follow(
     stack: &mut Stack,
     leaves: &mut Leaves,
 ) -> Deep
-    requires from { from ≤ length stack.old }
-    requires deep { deep ≡ deepest (drop from stack.old) }
-    requires within { deep ≤ depth }
-    requires small { depth ≤ 2 * depth_limit }
+    requires { IsOpen from deep depth stack.old }
     ensures ok { IfOk result (λ deep. Pushes (found_from depth (drop from stack.old) state leaves.old) (take from stack.old) stack.new leaves.new deep) }
     ensures err { Fails result (found_from depth (drop from stack.old) state leaves.old) }
 {
@@ -84,10 +81,7 @@ fn items_of_row(
     stack: &mut Stack,
     leaves: &mut Leaves,
 ) -> Deep
-    requires from { from ≤ length stack.old }
-    requires deep { deep ≡ deepest (drop from stack.old) }
-    requires within { deep ≤ depth }
-    requires small { depth ≤ 2 * depth_limit }
+    requires { IsOpen from deep depth stack.old }
     ensures ok { IfOk result (λ deep. Pushes (found_from depth (drop from stack.old) (NodeState.Items listed ItemsAt.Begin) leaves.old) (take from stack.old) stack.new leaves.new deep) }
     ensures err { Fails result (found_from depth (drop from stack.old) (NodeState.Items listed ItemsAt.Begin) leaves.old) }
 {
@@ -114,10 +108,7 @@ fn more_of_row(
     stack: &mut Stack,
     leaves: &mut Leaves,
 ) -> Deep
-    requires from { from ≤ length stack.old }
-    requires deep { deep ≡ deepest (drop from stack.old) }
-    requires within { deep ≤ depth }
-    requires small { depth ≤ 2 * depth_limit }
+    requires { IsOpen from deep depth stack.old }
     ensures ok { IfOk result (λ deep. Pushes (found_from depth (drop from stack.old) (NodeState.Items listed ItemsAt.More) leaves.old) (take from stack.old) stack.new leaves.new deep) }
     ensures err { Fails result (found_from depth (drop from stack.old) (NodeState.Items listed ItemsAt.More) leaves.old) }
 {
@@ -167,10 +158,7 @@ fn closing_token(
     stack: &mut Stack,
     leaves: &mut Leaves,
 ) -> Deep
-    requires from { from ≤ length stack.old }
-    requires deep { deep ≡ deepest (drop from stack.old) }
-    requires within { deep ≤ depth }
-    requires small { depth ≤ 2 * depth_limit }
+    requires { IsOpen from deep depth stack.old }
     ensures ok { IfOk result (λ deep. Pushes (found_from depth (drop from stack.old) (NodeState.Rest kind (Tail.Token close)) leaves.old) (take from stack.old) stack.new leaves.new deep) }
     ensures err { Fails result (found_from depth (drop from stack.old) (NodeState.Rest kind (Tail.Token close)) leaves.old) }
 {
@@ -191,10 +179,7 @@ fn token_and_part(
     stack: &mut Stack,
     leaves: &mut Leaves,
 ) -> Deep
-    requires from { from ≤ length stack.old }
-    requires deep { deep ≡ deepest (drop from stack.old) }
-    requires within { deep ≤ depth }
-    requires small { depth ≤ 2 * depth_limit }
+    requires { IsOpen from deep depth stack.old }
     ensures ok { IfOk result (λ deep. Pushes (found_from depth (drop from stack.old) (NodeState.Rest kind (Tail.TokenPart token nonterminal)) leaves.old) (take from stack.old) stack.new leaves.new deep) }
     ensures err { Fails result (found_from depth (drop from stack.old) (NodeState.Rest kind (Tail.TokenPart token nonterminal)) leaves.old) }
 {

@@ -1,11 +1,11 @@
 -- Reading as words that do not unfold by themselves: a part, and a node by what is left of its plan.
-use Rattle.std.specs.Prelude.{◌≡◌, ℕ, List, [], ◌∷◌, ◌++◌, Option, Some, None, if◌then◌else◌}
+use Rattle.std.specs.Prelude.{◌≡◌, ◌≤◌, ◌*◌, ℕ, List, [], ◌∷◌, ◌++◌, Option, Some, None, drop, length, if◌then◌else◌}
 use Rattle.bz_lex.specs.declared.leaf.Leaf.{Leaf}
 use Rattle.bz_grammar.specs.declared.tree.Part.{Part}
 use Rattle.bz_states.specs.declared.state.NodeState.{NodeState}
 use Rattle.bz_states.specs.declared.state.Move.{Move}
 use Rattle.bz_states.specs.declared.state.Move.TheVariants as m
-use Rattle.bz_grammar.specs.Spell.{depth_part}
+use Rattle.bz_grammar.specs.Spell.{deepest, depth_limit, depth_part}
 use Rattle.bz_grammar.specs.Shapes.{Nonterminal}
 use Rattle.bz_grammar.specs.Reading.{◌>>=◌, Read, starts_with, reading, Plan, FoundLevel, follow, wrap_found, node_part}
 use Rattle.bz_states.specs.Tokens.{terminals_of, token_at}
@@ -27,6 +27,13 @@ found_by d front plan ts = wrap_found (with_found front (follow (reading d) plan
 -- What was read is put after other parts, and how deep it is.
 abbrev pub Pushes : Option (Part × List Leaf) → List Part → List Part → List Leaf → ℕ → Type 0
 Pushes read front all new deep = (x : Part) × (read ≡ Some (x, new)) × (all ≡ front ++ (x ∷ [])) × (deep ≡ depth_part x)
+
+-- the parts of a node that is not read to its end are on the stack from a place on, and as deep as is said, within the depth that is left
+pub record IsOpen (at deep depth : ℕ) (parts : List Part) : Type 0 where
+  pub from : at ≤ length parts
+  pub deep : deep ≡ deepest (drop at parts)
+  pub within : deep ≤ depth
+  pub small : depth ≤ 2 * depth_limit
 
 -- a node of which front was read before
 unfoldable pub found_from : ℕ → List Part → NodeState → Read Part
