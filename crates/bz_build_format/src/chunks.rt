@@ -30,7 +30,7 @@ fn seen(alloc: Global, text: &[u8], is_last: bool) -> Result<(File, bool), Unsee
 {
     let tree = match parse(alloc, text) {
         Ok(tree) => tree,
-        Err(fault) => return Err(why_unseen(&fault, text)),
+        Err(fault) => return Err(why_unseen(&fault, text, is_last)),
     };
     let ends = ends_with_line(&tree);
     if !ends && !is_last {
@@ -48,18 +48,13 @@ fn first_chunk(alloc: Global, text: &[u8]) -> Option<Chunk>
     ensures reads { IfSome result (λ chunk. ReadsAs (take chunk.len text.now) chunk.file chunk.ends) }
     ensures len { IfSome result (λ chunk. (0 < chunk.len) × (chunk.len ≤ length text.now)) }
 {
-    let mut size = CHUNK;
-    for _ in 0..TRIES {
-        let len = chunk_end(text, size, false);
+    for doublings in 0..TRIES {
+        let len = chunk_end(text, CHUNK << doublings, false);
         match seen(alloc, &text[..len], len == text.len()) {
             Ok((file, ends)) => return Some(Chunk { file, len, ends }),
             Err(Unseen::Never) => return None,
             Err(Unseen::Short) => {}
         }
-        if len == text.len() {
-            return None;
-        }
-        size = size.saturating_mul(2);
     }
     None
 }

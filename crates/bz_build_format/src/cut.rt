@@ -19,9 +19,11 @@ pub enum Unseen {
     Never,
 }
 
-/// Why a text is not seen that is not read: with more after it, it may be, where a string is open, or the end is not expected.
-pub fn why_unseen(fault: &ReadFault, text: &[u8]) -> Unseen {
+/// Why a text is not seen that is not read: with more after it, if it is not the last, it may be, where a string is open, or the end is
+/// not expected.
+pub fn why_unseen(fault: &ReadFault, text: &[u8], is_last: bool) -> Unseen {
     match fault {
+        _ if is_last => Unseen::Never,
         ReadFault::OpenString { .. } => Unseen::Short,
         ReadFault::Unexpected { line, .. }
             if *line as usize > text.iter().filter(|byte| **byte == b'\n').count() => {

@@ -34,7 +34,7 @@ fn seen(alloc: Global, text: &[u8], is_last: bool) -> Result<(BzlFile, bool, boo
 {
     let tree = match parse_bzl(alloc, text) {
         Ok(tree) => tree,
-        Err(fault) => return Err(why_unseen(&fault, text)),
+        Err(fault) => return Err(why_unseen(&fault, text, is_last)),
     };
     let bare = begins_bare(&tree);
     let Ok((file, ends)) = view_bzl_front(alloc, &tree) else {
@@ -52,9 +52,8 @@ fn first_chunk(alloc: Global, text: &[u8]) -> Option<Chunk>
     ensures reads { IfSome result (λ chunk. ReadsAsBzl (take chunk.len text.now) chunk.file.items chunk.bare chunk.ends) }
     ensures len { IfSome result (λ chunk. (0 < chunk.len) × (chunk.len ≤ length text.now)) }
 {
-    let mut size = CHUNK;
-    for _ in 0..TRIES {
-        let len = chunk_end(text, size, true);
+    for doublings in 0..TRIES {
+        let len = chunk_end(text, CHUNK << doublings, true);
         match seen(alloc, &text[..len], len == text.len()) {
             Ok((file, bare, ends)) => {
                 return Some(Chunk {
@@ -67,10 +66,6 @@ fn first_chunk(alloc: Global, text: &[u8]) -> Option<Chunk>
             Err(Unseen::Never) => return None,
             Err(Unseen::Short) => {}
         }
-        if len == text.len() {
-            return None;
-        }
-        size = size.saturating_mul(2);
     }
     None
 }

@@ -16,7 +16,7 @@ use Rattle.bz_bzl_layout.specs.Layout.{indented_line, indented_lines, is_def, te
 
 -- ---- lines
 
-line_length : (m : ℕ) (text : Bytes) → length (indented_line m text) ≡ m + (length text + 1)
+pub line_length : (m : ℕ) (text : Bytes) → length (indented_line m text) ≡ m + (length text + 1)
 line_length m text =
     let margin = length-replicate m space in
     let all : length (indented_line m text) ≡ _ = length-append _ (text ++ line_feed ∷ []) in
@@ -61,19 +61,21 @@ row_length f m is =
     head_size (is_def f) (row_text f.kind f.open_break m m f.parts) (body_text f m 41)
     ∙ ap (λ (b : Bool). length (row_text f.kind f.open_break m m f.parts) + params_size b (body_text f m 41)) is
 
-pub header_length : (f : Form) (m : ℕ) → length (header_text m f) ≡ length (indented_lines m f.comments.before) + (m + (length (text_of_head m f) + (1 + (length (suffix_text f.comments.suffix) + 1))))
+pub header_length : (f : Form) (m : ℕ) → length (header_text m f) ≡ length (indented_lines m f.comments.before) + length (indented_line m (suffix_text f.comments.suffix)) + (length (text_of_head m f) + 1)
 header_length f m =
     let all : length (header_text m f) ≡ _ = length-append (indented_lines m f.comments.before) (indented_line m (text_of_head m f ++ (codes ":" ++ suffix_text f.comments.suffix))) in
     let line = line_length m (text_of_head m f ++ (codes ":" ++ suffix_text f.comments.suffix)) in
     let inner = length-append (text_of_head m f) (codes ":" ++ suffix_text f.comments.suffix) in
-    omega (arith, all, line, inner)
+    let own = line_length m (suffix_text f.comments.suffix) in
+    omega (arith, all, line, inner, own)
 
-pub simple_length : (x : Expr) (m : ℕ) → length (simple_text m x) ≡ length (indented_lines m (comments_of x).before) + (m + (length (text_of x m) + (length (suffix_text (comments_of x).suffix) + 1)))
+pub simple_length : (x : Expr) (m : ℕ) → length (simple_text m x) ≡ length (indented_lines m (comments_of x).before) + length (indented_line m (suffix_text (comments_of x).suffix)) + length (text_of x m)
 simple_length x m =
     let all : length (simple_text m x) ≡ _ = length-append (indented_lines m (comments_of x).before) (indented_line m (text_of x m ++ suffix_text (comments_of x).suffix)) in
     let line = line_length m (text_of x m ++ suffix_text (comments_of x).suffix) in
     let inner = length-append (text_of x m) (suffix_text (comments_of x).suffix) in
-    omega (arith, all, line, inner)
+    let own = line_length m (suffix_text (comments_of x).suffix) in
+    omega (arith, all, line, inner, own)
 
 -- ---- suites
 

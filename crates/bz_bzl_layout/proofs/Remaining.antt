@@ -1,22 +1,17 @@
 -- What is left of a room after the first of several parts, and that the room is too small: `whole + left ≡ room + rest`, where `rest` is what the other parts take.
 use Rattle.std.proofs.Common.{ℕ, ◌≡◌, ◌<◌, ◌+◌, ◌-◌, List, length, get_or, take, drop, Result, Err, IfOk, sym, ap, ◌∙◌, arith, length-append, length-drop, take_all}
-use Rattle.std.specs.Prelude.{Option, IsErrAnd, codes, if◌then◌else◌, [], ◌++◌}
+use Rattle.std.specs.Prelude.{IsErrAnd, codes, if◌then◌else◌, [], ◌++◌}
 use Rattle.std.proofs.lemmas.Result.{IfOk-weaker, err_from_is_err_and}
 use Rattle.bz_items.specs.Characters.{Bytes}
-use Rattle.bz_value.specs.declared.value.Expr.{Expr}
 use Rattle.bz_value.specs.declared.value.Form.{Form}
-use Rattle.bz_value.specs.declared.comments.Comments.{Comments}
-use Rattle.bz_value.specs.Proper.{comments_of}
 use Rattle.bz_layout.specs.declared.room.NoRoom.{NoRoom}
-use Rattle.bz_layout.specs.Layout.{suffix_text}
-use Rattle.bz_layout.specs.Written.{text_of}
 use Rattle.bz_layout.specs.Writings.{row_text, body_text}
 use Rattle.bz_layout.proofs.Made.{two}
 use Rattle.bz_bzl_value.specs.declared.value.Statement.{Statement}
 use Rattle.bz_bzl_value.specs.declared.value.Branch.{Branch}
 use Rattle.bz_bzl_value.specs.declared.value.BzlItem.{BzlItem}
-use Rattle.bz_bzl_layout.specs.Layout.{indented_lines, is_def, text_of_head, header_text, simple_text, statement_text, branch_text, all_branches, all_statements, bzl_item_text, before_others, bzl_layout}
-use Rattle.bz_bzl_layout.proofs.Lengths.{lines_next, header_length, simple_length, branch_length, branches_next, statements_next, layout_next}
+use Rattle.bz_bzl_layout.specs.Layout.{indented_lines, is_def, text_of_head, header_text, statement_text, branch_text, all_branches, all_statements, bzl_item_text, before_others, bzl_layout}
+use Rattle.bz_bzl_layout.proofs.Lengths.{lines_next, branch_length, branches_next, statements_next, layout_next}
 
 -- ---- part by part
 
@@ -46,17 +41,6 @@ pub same_fault : (r : Result ℕ NoRoom) (fault other : NoRoom) → IsErrAnd r (
 same_fault r fault other h e = let p = err_from_is_err_and r h in sym (p.1 ∙ ap (λ y. Err y) p.2) ∙ e
 
 -- ---- the parts
-
-pub header_parts : (f : Form) (m : ℕ) (before : List Bytes) (suffix : Option Bytes) → before ≡ f.comments.before → suffix ≡ f.comments.suffix →
-    length (header_text m f) ≡ length (indented_lines m before) + (m + (length (text_of_head m f) + (1 + (length (suffix_text suffix) + 1))))
-header_parts f m before suffix is is_suffix =
-    header_length f m ∙ two (λ a z. length (indented_lines m a) + (m + (length (text_of_head m f) + (1 + (length (suffix_text z) + 1))))) (sym is) (sym is_suffix)
-
-pub simple_parts : (x : Expr) (m : ℕ) (comments : Comments) (before : List Bytes) (suffix : Option Bytes) → comments ≡ comments_of x → before ≡ comments.before → suffix ≡ comments.suffix →
-    length (simple_text m x) ≡ length (indented_lines m before) + (m + (length (text_of x m) + (length (suffix_text suffix) + 1)))
-simple_parts x m comments before suffix own is is_suffix =
-    simple_length x m
-    ∙ two (λ a z. length (indented_lines m a) + (m + (length (text_of x m) + (length (suffix_text z) + 1)))) (ap (λ c. c.before) (sym own) ∙ sym is) (ap (λ c. c.suffix) (sym own) ∙ sym is_suffix)
 
 pub branch_parts : (x : Branch) (m inner : ℕ) (statements : List Statement) (end : List Bytes) → inner ≡ m + 4 → statements ≡ x.statements → end ≡ x.end →
     length (branch_text m x) ≡ length (header_text m x.head) + (length (all_statements inner statements) + length (indented_lines inner end))

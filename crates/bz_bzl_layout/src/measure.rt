@@ -3,6 +3,7 @@ ghost use Rattle.std.specs.Prelude.{◌≡◌, ◌+◌, ◌<◌, ◌≤◌, ◌�
 ghost use Rattle.bz_items.specs.Characters.{line_feed};
 ghost use Rattle.bz_bzl_layout.specs.Layout as layout;
 ghost use Rattle.bz_bzl_layout.specs.Layout.{bzl_layout};
+ghost use Rattle.bz_layout.specs.Layout.{suffix_text};
 
 use crate::leveling::is_def;
 use bz_bzl_value::{Branch, BzlFile, BzlItem, Statement};
@@ -10,7 +11,7 @@ use bz_items::{Memory, Text};
 use bz_layout::{
     NoRoom, deeper_margin, is_close, left_after, left_after_body, left_after_row, less, less_after,
 };
-use bz_value::{Expr, Form};
+use bz_value::{Comments, Expr, Form};
 use std::alloc::{AllocError, Global};
 
 /// What is left of the room after comment lines at a margin.
@@ -43,17 +44,26 @@ fn less_head(alloc: Global, head: &Form, margin: usize, room: usize) -> Result<u
     Ok(left)
 }
 
+/// What is left of the room after what is around a header or a simple statement: its comments, its margin, a newline.
+#[tactic(auto, using(crate::proofs::Lengths::line_length))]
+fn less_around(room: usize, comments: &Comments, margin: usize) -> Result<usize, NoRoom>
+    ensures ok { IfOk result (λ left. length (layout.indented_lines margin comments.now.before) + length (layout.indented_line margin (suffix_text comments.now.suffix)) + left ≡ room) }
+    ensures longer { result ≡ Err NoRoom.Longer → room < length (layout.indented_lines margin comments.now.before) + length (layout.indented_line margin (suffix_text comments.now.suffix)) }
+{
+    let left = less_lines(room, comments.before(), margin)?;
+    let left = less(left, margin)?;
+    let left = less_after(left, comments.suffix())?;
+    less(left, 1)
+}
+
 /// What is left of the room after a header with its comments.
 #[tactic(auto, using(crate::proofs::Lengths::header_length))]
 fn less_header(alloc: Global, head: &Form, margin: usize, room: usize) -> Result<usize, NoRoom>
     ensures ok { IfOk result (λ left. length (layout.header_text margin head.now) + left ≡ room) }
     ensures longer { result ≡ Err NoRoom.Longer → room < length (layout.header_text margin head.now) }
 {
-    let left = less_lines(room, head.comments.before(), margin)?;
-    let left = less(left, margin)?;
+    let left = less_around(room, &head.comments, margin)?;
     let left = less_head(alloc, head, margin, left)?;
-    let left = less(left, 1)?;
-    let left = less_after(left, head.comments.suffix())?;
     less(left, 1)
 }
 
@@ -63,12 +73,8 @@ fn less_simple(alloc: Global, x: &Expr, margin: usize, room: usize) -> Result<us
     ensures ok { IfOk result (λ left. length (layout.simple_text margin x.now) + left ≡ room) }
     ensures longer { result ≡ Err NoRoom.Longer → room < length (layout.simple_text margin x.now) }
 {
-    let comments = x.comments();
-    let left = less_lines(room, comments.before(), margin)?;
-    let left = less(left, margin)?;
-    let left = left_after(alloc, x, margin, left)?;
-    let left = less_after(left, comments.suffix())?;
-    less(left, 1)
+    let left = less_around(room, x.comments(), margin)?;
+    left_after(alloc, x, margin, left)
 }
 
 /// What is left of the room after a statement.

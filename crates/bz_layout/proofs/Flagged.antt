@@ -42,7 +42,7 @@ same_root (Form' kind s parts s' items end split open_break comments) = refl
 same_margin : (open_break : Bool) (m : ℕ) (x : Expr) → margin_after open_break m (with_flags x) ≡ margin_after open_break m x
 same_margin open_break m x = ap (λ z. if open_break || z then m + 4 else m) (same_break x)
 
-same_named : (x : Expr) → is_named_argument (with_flags x) ≡ is_named_argument x
+pub same_named : (x : Expr) → is_named_argument (with_flags x) ≡ is_named_argument x
 same_named (Token t) = refl
 same_named (Form' kind s parts s' items end split open_break comments) = refl
 
@@ -57,7 +57,7 @@ same_assign (Form' kind s parts s' items end split open_break comments) = refl
 -- ---- pieces of expressions with settled flags and without
 
 -- broken as before, also where the flag says whether it was
-settled : (a b c s n : Bool) → (a || (b || (c || ((a || (b || (c || (s && n)))) && n)))) ≡ (a || (b || (c || (s && n))))
+pub settled : (a b c s n : Bool) → (a || (b || (c || ((a || (b || (c || (s && n)))) && n)))) ≡ (a || (b || (c || (s && n))))
 settled true b c s n = refl
 settled false true c s n = refl
 settled false false true s n = refl

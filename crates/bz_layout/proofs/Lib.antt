@@ -1,4 +1,5 @@
 pub mod Appending
+pub mod Assignments
 pub mod Deep
 pub mod Elements
 pub mod ExchangedDepths

@@ -1,8 +1,8 @@
 -- The steps of the loops that write rows and sequences as text, and the text of a form by its frame.
-use Rattle.std.proofs.Common.{ℕ, zero, suc, Bool, true, false, ◌&&◌, ◌≡◌, ◌<◌, ◌≤◌, List, [], ◌∷◌, ◌++◌, ◌+◌, if◌then◌else◌, length, get_or, drop, refl, sym, ap, ◌∙◌, append_assoc, arith}
+use Rattle.std.proofs.Common.{ℕ, Bool, true, false, ◌&&◌, ◌≡◌, ◌<◌, ◌≤◌, List, [], ◌∷◌, ◌++◌, ◌+◌, if◌then◌else◌, length, get_or, drop, refl, sym, ap, ◌∙◌, append_assoc, arith}
 use Rattle.std.specs.Prelude.{Option, None, Some, nat_eq}
 use Rattle.std.specs.List.{flat_map}
-use Rattle.std.proofs.lemmas.List.{drop_more}
+use Rattle.std.proofs.lemmas.List.{drop_all, drop_more}
 use Rattle.std.proofs.lemmas.Option.{same_Some}
 use Rattle.bz_grammar.specs.declared.kind.Kind.{Kind}
 use Rattle.bz_value.specs.declared.value.Form.{Form}
@@ -140,22 +140,15 @@ sequence_written out out1 out2 body m opener xs ys is head_ opener_ =
     ap (λ t. t ++ body) (opener_ ∙ ap (λ t. t ++ opener ∷ []) (head_ ∙ ap (λ zs. out ++ head_text m zs) is)) ∙
     (append_assoc (out ++ head_text m ys) (opener ∷ []) body ∙ append_assoc out (head_text m ys) (opener ∷ body))
 
--- after the last item
-none_left : (xs : List Expr) (k : ℕ) → length xs ≤ k → drop k xs ≡ []
-none_left [] zero l = refl
-none_left [] (suc k) l = refl
-none_left (x ∷ xs) zero l = absurd (omega arith)
-none_left (x ∷ xs) (suc k) l = none_left xs k (omega arith)
-
 pub joined_end : (out new : Bytes) (m closer : ℕ) (one : Bool) (xs : List Expr) (k : ℕ) (all : Bytes) → length xs ≤ k → new ≡ out ++ closer ∷ [] → out ++ joined_text m closer one (drop k xs) ≡ all → new ≡ all
-joined_end out new m closer one xs k all l closer_ before = closer_ ∙ (ap (λ ys. out ++ joined_text m closer one ys) (sym (none_left xs k l)) ∙ before)
+joined_end out new m closer one xs k all l closer_ before = closer_ ∙ (ap (λ ys. out ++ joined_text m closer one ys) (sym (drop_all k xs l)) ∙ before)
 
 pub stacked_end : (out out1 new : Bytes) (m closer : ℕ) (end : List Bytes) (xs : List Expr) (k : ℕ) (all : Bytes) → length xs ≤ k → out1 ≡ out ++ ended m end → new ≡ out1 ++ closer ∷ [] →
     out ++ stacked_text m closer end (drop k xs) ≡ all → new ≡ all
 stacked_end out out1 new m closer end xs k all l ended_ closer_ before =
     closer_ ∙ (ap (λ t. t ++ closer ∷ []) ended_ ∙
     (append_assoc out (ended m end) (closer ∷ []) ∙
-    (ap (λ t. out ++ t) (sym (append_assoc (ended m end) (closer ∷ []) [])) ∙ (ap (λ ys. out ++ stacked_text m closer end ys) (sym (none_left xs k l)) ∙ before))))
+    (ap (λ t. out ++ t) (sym (append_assoc (ended m end) (closer ∷ []) [])) ∙ (ap (λ ys. out ++ stacked_text m closer end ys) (sym (drop_all k xs l)) ∙ before))))
 
 -- ---- forms by their frames
 

@@ -42,24 +42,6 @@ pub fn pass_over(item: &Item, gap: Vec<u8>) -> Result<Vec<u8>, Memory>
     Ok(gap)
 }
 
-/// Appends the line of an item and its place, and gives the gap that it leaves to what follows.
-fn relayout_item(
-    alloc: Global,
-    item: &Item,
-    place: usize,
-    gap: Vec<u8>,
-    relaid: &mut Relaid,
-) -> Result<Vec<u8>, Memory>
-    ensures gap { IfOk result (λ left. left.items ≡ left_gap gap.items item.now) }
-    ensures places { OnOk result (relaid.new.places ≡ relaid.old.places ++ marks.own_places place item.now) }
-    ensures lines { OnOk result (relaid.new.lines ≡ relaid.old.lines ++ own_lines gap.items item.now) }
-{
-    if let Item::Stmt(_) = item {
-        relaid.places.push(place)?;
-    }
-    lay_out_item(alloc, item, gap, &mut relaid.lines)
-}
-
 /// Appends the line of an item and its place, if it is marked, and gives the gap that it leaves to what follows.
 fn relayout_marked(
     alloc: Global,
@@ -73,10 +55,13 @@ fn relayout_marked(
     ensures places { OnOk result (relaid.new.places ≡ relaid.old.places ++ (if is_marked then marks.own_places place item.now else [])) }
     ensures lines { OnOk result (relaid.new.lines ≡ relaid.old.lines ++ (if is_marked then own_lines gap.items item.now else [])) }
 {
-    if is_marked {
-        return relayout_item(alloc, item, place, gap, relaid);
+    if !is_marked {
+        return pass_over(item, gap);
     }
-    pass_over(item, gap)
+    if let Item::Stmt(_) = item {
+        relaid.places.push(place)?;
+    }
+    lay_out_item(alloc, item, gap, &mut relaid.lines)
 }
 
 /// The lines of the statements that are marked, as the layout of all items has them, and the places of these lines among the

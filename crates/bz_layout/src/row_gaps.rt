@@ -1,11 +1,19 @@
 //! What is between two parts of a row.
-ghost use Rattle.std.specs.Prelude.{◌≡◌, ◌<◌, ◌+◌, ◌++◌, drop, length, IfOk, OnOk};
+ghost use Rattle.std.specs.Prelude.{◌≡◌, ◌<◌, ◌+◌, ◌++◌, ◌∷◌, [], ℕ, codes, drop, false, length, IfOk, IsTrue, OnOk};
+ghost use Rattle.bz_grammar.specs.Shapes.{equals, has_token};
+ghost use Rattle.bz_items.specs.Characters.{Bytes};
 ghost use Rattle.bz_value.specs.Proper.{has_break};
 ghost use Rattle.bz_layout.specs.Layout as layout;
+ghost use Rattle.bz_layout.specs.Spaces.{is_prefix_mark};
+ghost use Rattle.bz_layout.specs.Written.{text_of};
+ghost use Rattle.bz_layout.specs.Writings.{row_text};
 ghost use Rattle.bz_layout.specs.private.RowGaps.{written_gap};
+ghost use Rattle.bz_value.specs.Roots.{root};
 
 use crate::gaps::{NO_LIMIT, deeper_margin, gap_from, push_new_line};
 use crate::is_spaced;
+use crate::spaces::is_lone;
+use bz_grammar::{Class, Kind};
 use bz_items::{Gap, Memory};
 use bz_value::{Expr, Form};
 use std::alloc::Global;
@@ -57,6 +65,38 @@ pub fn gap_after(form: &Form, margin: usize, part: &Expr, others: &[Expr]) -> Re
         return Ok(RowGap::Space);
     }
     Ok(RowGap::Nothing)
+}
+
+/// Whether a row of the kind is of a name, a sign and a value.
+fn is_assigning(kind: Kind) -> bool
+    ensures { IsTrue result → (mark : Bytes) → is_prefix_mark kind mark ≡ false }
+{
+    matches!(kind, Kind::Named | Kind::Assign)
+}
+
+fn is_equals(expr: &Expr) -> bool
+    ensures { result ≡ has_token equals (root expr.now) }
+{
+    match expr {
+        Expr::Token(token) => matches!(token.class, Class::Mark)
+            && matches!(token.text.as_slice(), b"="),
+        Expr::Form(_) => false,
+    }
+}
+
+/// Whether these parts are a name, the sign `=` and a value on its line, as those of most rows are.
+#[tactic(auto, using(crate::proofs::Assignments::assignment_text))]
+pub fn is_assignment(form: &Form, name: &Expr, sign: &Expr, value: &Expr) -> bool
+    ensures { IsTrue result → (margin : ℕ) → row_text form.now.kind form.now.open_break margin margin (name.now ∷ sign.now ∷ value.now ∷ [])
+        ≡ text_of name.now margin ++ (codes " = " ++ text_of value.now margin) }
+{
+    if form.open_break || has_break(name) || has_break(sign) {
+        return false;
+    }
+    if !is_assigning(form.kind) || !is_equals(sign) {
+        return false;
+    }
+    !is_lone(value)
 }
 
 /// The margin of what is after a part of a row. The error: no text is that wide.

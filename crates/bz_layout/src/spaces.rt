@@ -86,7 +86,7 @@ fn has_space_before(kind: Kind, expr: &Expr) -> bool
 }
 
 /// Whether the expression is a bracket, a comma or a colon.
-fn is_lone(expr: &Expr) -> bool
+pub fn is_lone(expr: &Expr) -> bool
     ensures { result ≡ spaces.is_lone (root expr.now) }
 {
     match expr {

@@ -11,7 +11,7 @@ use crate::gaps::{
     NO_LIMIT, deeper_margin, push_above, push_after, push_comments, push_ended, push_new_line,
 };
 use crate::lines::push_between;
-use crate::row_gaps::{margin_after, others, push_row_gap};
+use crate::row_gaps::{is_assignment, margin_after, others, push_row_gap};
 use bz_grammar::Kind;
 use bz_items::{Memory, Text};
 use bz_value::{Expr, Form, Item};
@@ -64,6 +64,13 @@ pub fn push_row(out: &mut Vec<u8>, form: &Form, margin: usize, limit: usize) -> 
     ensures { OnOk result (out.new.items ≡ out.old.items ++ row_text form.now.kind form.now.open_break margin margin form.now.parts) }
 {
     let row = form.parts.as_slice();
+    if let [name, sign, value] = row
+        && is_assignment(form, name, sign, value)
+    {
+        push_expr(out, name, margin, limit)?;
+        out.extend_from_slice(b" = ")?;
+        return push_expr(out, value, margin, limit);
+    }
     let mut inner = margin;
     for (i, part) in row.iter().enumerate() {
         push_expr(out, part, inner, limit)?;

@@ -1,5 +1,5 @@
 -- The passes on single expressions: double quote marks everywhere, a shorter label, settled flags.
-use Rattle.std.proofs.Common.{suc, Bool, true, false, not, ◌&&◌, ◌||◌, List, [], ◌∷◌, ◌≡◌, refl, sym, ap, ◌∙◌, map, inl, inr}
+use Rattle.std.proofs.Common.{suc, Bool, not, ◌&&◌, ◌||◌, List, [], ◌∷◌, ◌≡◌, refl, sym, ap, ◌∙◌, map, inl, inr}
 use Rattle.std.specs.Prelude.{length, nat_le}
 use Rattle.std.proofs.lemmas.Bool.{cases_Bool}
 use Rattle.bz_token.specs.declared.class.Class.TheVariants as c
@@ -11,9 +11,10 @@ use Rattle.bz_value.specs.declared.value.Item.TheVariants as i
 use Rattle.bz_value.specs.Comments.{HostComments}
 use Rattle.bz_value.specs.Frames.{Frame, row, sequence, frame}
 use Rattle.bz_items.specs.Characters.{Bytes}
-use Rattle.bz_layout.specs.Layout.{has_comments, has_named, is_named_argument, is_listed, is_call}
+use Rattle.bz_layout.specs.Layout.{has_comments, has_named, is_listed, is_call}
 use Rattle.bz_value.specs.Empty.{is_empty, is_none}
 use Rattle.bz_layout.specs.Flags.{settled_split, with_flags, each_with_flags, item_with_flags, flags}
+use Rattle.bz_layout.proofs.Flagged.{same_named, settled}
 use Rattle.bz_rule.specs.Values.{text_of, parts_of, items_of, with_above}
 use Rattle.bz_passes.specs.Strings.{with_double}
 use Rattle.bz_passes.specs.Passes.{quoted, each_quoted, labelled}
@@ -68,10 +69,6 @@ mutual
 
 -- ---- flags
 
-same_named : (x : Expr) → is_named_argument (with_flags x) ≡ is_named_argument x
-same_named (Token t) = refl
-same_named (Form' kind s parts s' items end split open_break comments) = refl
-
 same_length : (xs : List Expr) → length (map with_flags xs) ≡ length xs
 same_length [] = refl
 same_length (x ∷ xs) = ap suc (same_length xs)
@@ -87,15 +84,6 @@ same_comments (x ∷ xs) = both (λ a b. a || b) (ap (λ (them : HostComments). 
 same_has_named : (xs : List Expr) → has_named (map with_flags xs) ≡ has_named xs
 same_has_named [] = refl
 same_has_named (x ∷ xs) = both (λ a b. a || b) (same_named x) (same_has_named xs)
-
--- broken as before, also where the flag says whether it was
-settled : (a b c s n : Bool) → (a || (b || (c || ((a || (b || (c || (s && n)))) && n)))) ≡ (a || (b || (c || (s && n))))
-settled true b c s n = refl
-settled false true c s n = refl
-settled false false true s n = refl
-settled false false false true true = refl
-settled false false false true false = refl
-settled false false false false n = refl
 
 pub same_split : (f : Frame) (kind : Kind) (split : Bool) (xs : List Expr) (end : List Bytes) → settled_split f kind (settled_split f kind split xs end) (map with_flags xs) end ≡ settled_split f kind split xs end
 same_split row kind split xs end = refl

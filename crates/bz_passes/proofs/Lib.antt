@@ -4,6 +4,7 @@ pub mod WalkSteps
 pub mod EachChanged
 pub mod Keeping
 pub mod Sorting
+pub mod Following
 pub mod Parts
 pub mod Passing
 pub mod Levels

@@ -224,6 +224,12 @@ rising_settled outside b xs h = elim (cases_Bool (is_taken outside b xs)) [
   | inr f ↦ rw f refl
 ]
 
+-- a list that neither the table names nor a comment may mark stays
+pub untaken_stays : (outside : List Bytes) (b : Bool) (xs : List Expr) → b ≡ false → outside ≡ [] → above_first xs ≡ [] → settled_list outside b xs ≡ xs
+untaken_stays outside b xs unnamed none bare =
+    let untaken : is_taken outside b xs ≡ false = rw (unnamed, none, bare) (and_right (list_all (has_class c.String) xs) false refl) in
+    rw untaken refl
+
 -- ---- where no comment moves
 
 own_above : (x : Expr) → with_above (above x) x ≡ x

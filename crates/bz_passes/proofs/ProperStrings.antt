@@ -119,7 +119,7 @@ three_marks s f u =
     let good : Good (quotation_mark ∷ quotation_mark ∷ quotation_mark ∷ (s ++ quotation_mark ∷ quotation_mark ∷ quotation_mark ∷ [])) = (triple quotation_mark s refl (long_free s f), within_marks (quotation_mark ∷ quotation_mark ∷ quotation_mark ∷ []) s (IsUtf8-append (quotation_mark ∷ []) (quotation_mark ∷ quotation_mark ∷ []) (ascii_text quotation_mark (omega arith)) (IsUtf8-append (quotation_mark ∷ []) (quotation_mark ∷ []) (ascii_text quotation_mark (omega arith)) (ascii_text quotation_mark (omega arith)))) u) in
     subst (λ n. Good (in_double n (apostrophe ∷ apostrophe ∷ apostrophe ∷ (s ++ apostrophe ∷ apostrophe ∷ apostrophe ∷ [])))) (sym three) (subst (λ z. Good (quotation_mark ∷ quotation_mark ∷ quotation_mark ∷ (z ++ quotation_mark ∷ quotation_mark ∷ quotation_mark ∷ []))) (sym (inside_of 3 apostrophe s refl refl)) good)
 
-pub no_prefix : (p q t : Bytes) → t ≡ p ++ q → is_prefix p ≡ true → begins_single t ≡ true → p ≡ []
+no_prefix : (p q t : Bytes) → t ≡ p ++ q → is_prefix p ≡ true → begins_single t ≡ true → p ≡ []
 no_prefix [] q t e h s = refl
 no_prefix (c ∷ p) q t e h s =
     let m : c ≡ apostrophe = same_byte c apostrophe (sym (ap begins_single e) ∙ s) in
@@ -135,22 +135,27 @@ free_quoted q (triple m s a h) b f u =
     subst (λ z. Good (in_double (marks_of (z ∷ z ∷ z ∷ (s ++ z ∷ z ∷ z ∷ []))) (z ∷ z ∷ z ∷ (s ++ z ∷ z ∷ z ∷ [])))) (sym e)
     (three_marks s (free_front s (m ∷ m ∷ m ∷ []) (free_rest m _ (free_rest m _ (free_rest m _ f)))) (core_thrice m s (omega arith) u))
 
-pub not_false : (b : Bool) → not b ≡ true → b ≡ false
+not_false : (b : Bool) → not b ≡ true → b ≡ false
 not_false true h = sym h
 not_false false h = refl
 
-pub double_string : (t : Bytes) → Strung t → Strung (with_double t)
-double_string t ((p, q, e, h, i), u) = elim (cases_Bool (begins_single t && not (has_character quotation_mark t || has_character backslash t))) [
+-- what is so of a string, and of one that takes double marks with these, is so of what it becomes
+pub when_double : (P : Bytes → Type 0) (t p q : Bytes) → t ≡ p ++ q → is_prefix p ≡ true → P t → (t ≡ q → begins_single q ≡ true → Free q → P (in_double (marks_of q) q)) → P (with_double t)
+when_double P t p q e h stays turns = elim (cases_Bool (begins_single t && not (has_character quotation_mark t || has_character backslash t))) [
   | inl w ↦
       let first : begins_single t ≡ true = (and_parts (begins_single t) _ w).0 in
       let none : p ≡ [] = no_prefix p q t e h first in
       let same : t ≡ q = e ∙ ap (λ z. z ++ q) none in
       let bare : (has_character quotation_mark t || has_character backslash t) ≡ false = not_false _ (and_parts (begins_single t) _ w).1 in
       let parts : (has_character quotation_mark t ≡ false) × (has_character backslash t ≡ false) = or_parts (has_character quotation_mark t) (has_character backslash t) bare in
-      let good : Good (in_double (marks_of t) t) = subst (λ z. Good (in_double (marks_of z) z)) (sym same) (free_quoted q i (sym (ap begins_single same) ∙ first) (subst Free same (record { mark = parts.0; slash = parts.1 })) (subst IsUtf8 same u)) in
-      rw w (([], in_double (marks_of t) t, refl, refl, good.0), good.1)
-  | inr w ↦ rw w ((p, q, e, h, i), u)
+      rw w (subst (λ z. P (in_double (marks_of z) z)) (sym same) (turns same (sym (ap begins_single same) ∙ first) (subst Free same (record { mark = parts.0; slash = parts.1 }))))
+  | inr w ↦ rw w stays
 ]
+
+pub double_string : (t : Bytes) → Strung t → Strung (with_double t)
+double_string t ((p, q, e, h, i), u) = when_double Strung t p q e h ((p, q, e, h, i), u) (λ same first free.
+    let good : Good (in_double (marks_of q) q) = free_quoted q i first free (subst IsUtf8 same u) in
+    (([], in_double (marks_of q) q, refl, refl, good.0), good.1))
 
 -- ---- shorter labels
 

@@ -1,18 +1,18 @@
 -- A string with double quote marks is the same string, and one with a shorter label means the same label.
-use Rattle.std.proofs.Common.{suc, ◌+◌, true, false, not, ◌&&◌, ◌||◌, [], ◌∷◌, ◌++◌, ◌≡◌, refl, sym, ap, ◌∙◌, subst, if◌then◌else◌, inl, inr, length, take, arith, length-append}
+use Rattle.std.proofs.Common.{suc, ◌+◌, true, ◌&&◌, [], ◌∷◌, ◌++◌, ◌≡◌, refl, sym, ap, ◌∙◌, subst, if◌then◌else◌, inl, inr, length, take, arith, length-append}
 use Rattle.std.specs.Prelude.{ℕ, nat_le, bytes_eq}
-use Rattle.std.proofs.lemmas.Bool.{cases_Bool, or_parts, and_parts}
+use Rattle.std.proofs.lemmas.Bool.{cases_Bool, and_parts}
 use Rattle.std.proofs.lemmas.Slice.Eq.{bytes_eq-Decides}
 use Rattle.bz_token.specs.Lexemes.{IsShort, IsLong, IsQuoted, single, triple, IsString}
 use Rattle.bz_label.specs.Shorter.{unrepeated}
 use Rattle.bz_label.proofs.Repeats.{is_unrepeated}
 use Rattle.bz_label.proofs.Shorter.{unrepeated_same}
-use Rattle.bz_items.specs.Characters.{Bytes, apostrophe, backslash, quotation_mark}
+use Rattle.bz_items.specs.Characters.{Bytes, apostrophe, quotation_mark}
 use Rattle.bz_rule.specs.QuoteMarks.{is_quote_mark, marks_of}
 use Rattle.bz_rule.specs.Rules.{inner, is_plain_in}
 use Rattle.bz_passes.specs.Programs.{IsSameString, itself, turned, turned_thrice, IsSameLabel, unchanged, renamed}
-use Rattle.bz_passes.specs.Strings.{has_character, begins_single, in_double, with_double, shorter_string}
-use Rattle.bz_passes.proofs.ProperStrings.{Free, free_rest, free_front, same_byte, inside_of, long_enough, once, no_prefix, not_false}
+use Rattle.bz_passes.specs.Strings.{begins_single, in_double, with_double, shorter_string}
+use Rattle.bz_passes.proofs.ProperStrings.{Free, free_rest, free_front, same_byte, inside_of, long_enough, once, when_double}
 
 -- ---- double quote marks
 
@@ -42,16 +42,7 @@ quoted_same q (triple m s a h) b f =
     (three_marks s (free_front s (m ∷ m ∷ m ∷ []) (free_rest m _ (free_rest m _ (free_rest m _ f)))) (subst (λ z. IsLong z s) e h))
 
 pub double_same : (t : Bytes) → IsString t → IsSameString t (with_double t)
-double_same t (p, q, e, h, i) = elim (cases_Bool (begins_single t && not (has_character quotation_mark t || has_character backslash t))) [
-  | inl w ↦
-      let first : begins_single t ≡ true = (and_parts (begins_single t) _ w).0 in
-      let none : p ≡ [] = no_prefix p q t e h first in
-      let same : t ≡ q = e ∙ ap (λ z. z ++ q) none in
-      let bare : (has_character quotation_mark t || has_character backslash t) ≡ false = not_false _ (and_parts (begins_single t) _ w).1 in
-      let parts : (has_character quotation_mark t ≡ false) × (has_character backslash t ≡ false) = or_parts (has_character quotation_mark t) (has_character backslash t) bare in
-      rw w (subst (λ z. IsSameString z (in_double (marks_of z) z)) (sym same) (quoted_same q i (sym (ap begins_single same) ∙ first) (subst Free same (record { mark = parts.0; slash = parts.1 }))))
-  | inr w ↦ rw w (itself refl)
-]
+double_same t (p, q, e, h, i) = when_double (IsSameString t) t p q e h (itself refl) (λ same first free. subst (λ z. IsSameString z (in_double (marks_of q) q)) (sym same) (quoted_same q i first free))
 
 -- ---- shorter labels
 

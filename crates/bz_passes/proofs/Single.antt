@@ -1,7 +1,7 @@
 -- One item that came in a tidy file, tidied by itself and moved to its place among the loads, makes the whole tidy.
-use Rattle.std.proofs.Common.{ℕ, zero, suc, ◌+◌, ◌-◌, ◌≤◌, ◌<◌, ◌⊎◌, inl, inr, true, false, List, [], ◌∷◌, ◌++◌, ◌≡◌, length, map, take, drop, refl, sym, ap, ◌∙◌, subst, arith}
+use Rattle.std.proofs.Common.{ℕ, zero, suc, ◌+◌, ◌-◌, ◌≤◌, ◌<◌, ◌⊎◌, inl, inr, true, false, List, [], ◌∷◌, ◌++◌, ◌≡◌, length, take, drop, refl, sym, ap, ◌∙◌, subst, arith}
 use Rattle.std.proofs.Common.{append_assoc, append-nil, drop-drop, drop_at, length-append, length-drop, length-take-le, take-append-drop, take-take, take_at}
-use Rattle.std.proofs.lemmas.List.{drop-map, map-append, take-map, drop-append-le, take-append-le}
+use Rattle.std.proofs.lemmas.List.{drop-map, map-append, take-map, drop-append-le}
 use Rattle.std.specs.List.{AllByRecursion}
 use Rattle.bz_value.specs.declared.value.Item.{Item}
 use Rattle.bz_value.specs.Exchanged.{IsSpliced}

@@ -222,6 +222,14 @@ fn are_rising(items: &[Expr]) -> bool
     items.is_sorted_by(|x, y| item_order(x, y).is_lt())
 }
 
+/// Whether the table, or a comment above, may say that the list is sorted. Most lists of other attributes have none.
+#[tactic(auto, using(crate::proofs::Listed::untaken_stays))]
+fn may_be_taken(outside: &[Text], by_table: bool, items: &[Expr]) -> bool
+    ensures { result ≡ false → settled_list outside.now by_table items.now ≡ items.now }
+{
+    by_table || !outside.is_empty() || !comments_above(items).is_empty()
+}
+
 /// Sorts the items of a list, where it is taken; else it stays as it is. `outside`: the comments above the attribute or the
 /// assignment; `by_table`: whether the table has the attribute. The error: a growth was refused; the items are then lost.
 #[tactic(auto, using(crate::proofs::Listed::rising_settled))]
@@ -233,6 +241,9 @@ pub(crate) fn sort_list(
 ) -> Result<(), Memory>
     ensures { OnOk result (items.new ≡ settled_list outside.now by_table items.old) }
 {
+    if !may_be_taken(outside, by_table, items.as_slice()) {
+        return Ok(());
+    }
     if !are_rising(items.as_slice()) && is_taken(outside, by_table, items.as_slice()) {
         let all = mem::replace(items, Items::new(alloc)).into_vec();
         *items = Items::from_vec(sort_taken(alloc, all)?);

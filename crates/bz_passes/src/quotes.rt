@@ -13,6 +13,7 @@ use std::alloc::Global;
 /// the expression is then changed.
 #[cycle(quote)]
 #[tactic(auto, using(crate::proofs::FormSteps::quoted_Form))]
+#[inline(always)]
 pub(crate) fn quote(alloc: Global, x: &mut Expr) -> Result<(), Memory>
     ensures { OnOk result (x.new ≡ quoted x.old) }
 {

@@ -14,7 +14,7 @@ push_form-returns-in-Some t c =
 
 pub push_row-loop-i-preserved : goal.push_row-loop-i-preserved
 push_row-loop-i-preserved t c =
-    row_turn _ _ _ _ _ _ _ _ _ _ c.index-row-i.result _ _ c.loop-i-test.true c.index-row-i.is c.in_ok-push_expr.ensures c.others.ensures c.in_ok-push_row_gap.ensures c.in_ok-inner.ensures c.loop-i.invariant
+    row_turn _ _ _ _ _ _ _ _ _ _ c.index-row-i.result _ _ c.loop-i-test.true c.index-row-i.is c.in_ok-push_expr-2.ensures c.others.ensures c.in_ok-push_row_gap.ensures c.in_ok-inner.ensures c.loop-i.invariant
 
 pub push_head-loop-expr-preserved : goal.push_head-loop-expr-preserved
 push_head-loop-expr-preserved t c = head_turn _ _ _ _ _ c.expr-item.result _ c.loop-expr-test.true c.expr-item.is c.in_ok-push_expr.ensures c.loop-expr.invariant
