@@ -28,12 +28,12 @@ found_by d front plan ts = wrap_found (with_found front (follow (reading d) plan
 abbrev pub Pushes : Option (Part × List Leaf) → List Part → List Part → List Leaf → ℕ → Type 0
 Pushes read front all new deep = (x : Part) × (read ≡ Some (x, new)) × (all ≡ front ++ (x ∷ [])) × (deep ≡ depth_part x)
 
--- the parts of a node that is not read to its end are on the stack from a place on, and as deep as is said, within the depth that is left
-pub record IsOpen (at deep depth : ℕ) (parts : List Part) : Type 0 where
+-- the parts of a node that is not read to its end are on the stack from a place on, as deep as was found, within the depth that is left
+pub record IsOpen (at found left : ℕ) (parts : List Part) : Type 0 where
   pub from : at ≤ length parts
-  pub deep : deep ≡ deepest (drop at parts)
-  pub within : deep ≤ depth
-  pub small : depth ≤ 2 * depth_limit
+  pub deep : found ≡ deepest (drop at parts)
+  pub within : found ≤ left
+  pub small : left ≤ 2 * depth_limit
 
 -- a node of which front was read before
 unfoldable pub found_from : ℕ → List Part → NodeState → Read Part
