@@ -24,7 +24,6 @@ fn settled_split(form: &Form) -> bool
 /// Settles the flags of an expression: each of its sequences is split exactly where the layout breaks it. It takes no memory.
 #[cycle(settle)]
 #[tactic(auto, using(crate::proofs::FormSteps::flags_Form))]
-#[inline(always)]
 pub fn settle(x: &mut Expr)
     ensures { x.new ≡ with_flags x.old }
 {
