@@ -1,6 +1,6 @@
 -- What a command on the value beside a session does is what the history says.
-use Rattle.std.proofs.Common.{◌≡◌, ◌≢◌, ◌⊎◌, ◌<◌, ◌∙◌, inl, inr, suc, Bool, List, [], ◌∷◌, length, Result, Ok, Err, Option, refl, sym, subst, ap}
-use Rattle.std.specs.Prelude.{OnErr}
+use Rattle.std.proofs.Common.{◌≡◌, ◌≢◌, ◌⊎◌, ◌<◌, ◌∙◌, inl, inr, suc, Bool, List, [], ◌∷◌, length, Result, Ok, Err, Option, None, Some, refl, sym, subst, ap}
+use Rattle.std.specs.Prelude.{IfSome, OnErr}
 use Rattle.bz_grammar.specs.declared.tree.Node.{Node}
 use Rattle.bz_grammar.specs.Legal.{Reads}
 use Rattle.bz_grammar.specs.Spell.{spell_node}
@@ -89,6 +89,11 @@ value_taken laid_out items answer note h after reply tree proper tidy within (in
 value_taken laid_out items answer note h after reply tree proper tidy within (inl led) reads is =
     let laid : IsLayoutOf items tree = laid_out items answer note h after reply tree proper within led (subst (λ (t : Bytes). Reads t tree) is reads) in
     (sym tidy ∙ sym laid.1, subst (λ (xs : List Item). IsWritten xs tree) (sym laid.1) laid.0, laid.2 ∙ ap layout tidy)
+
+-- a value that is kept, if any, is what the tree is seen as
+pub kept_seen : (kept : Option (List Item)) (items seen : List Item) → IfSome kept (λ own. own ≡ items) → items ≡ seen → IfSome kept (λ own. own ≡ seen)
+kept_seen None items seen is same = tt
+kept_seen (Some own) items seen is same = is ∙ same
 
 -- a session that nothing was done to
 pub stays_put : (answer : Answer) (s : SessionState) → OnErr answer (s ≡ s)

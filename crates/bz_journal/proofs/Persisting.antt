@@ -7,6 +7,7 @@ use Rattle.bz_files.specs.Faults.{Rises}
 use Rattle.bz_files.specs.Folder.{Elapses, Folder}
 use Rattle.bz_files.specs.declared.files.Files.{Ghosts as FilesOf}
 use Rattle.bz_files.proofs.Elapsing.{each_since, stays}
+use Rattle.bz_history.specs.Trails.{IsSmall}
 use Rattle.bz_items.specs.Characters.{Bytes}
 use Rattle.bz_value.specs.declared.refusal.Refusal.{Refusal}
 use Rattle.bz_resume.specs.Pair.{journal_name}
@@ -19,10 +20,10 @@ use Rattle.bz_journal.specs.declared.keeping.KeepFault.{KeepFault}
 use Rattle.bz_journal.specs.declared.keeping.KeepFault.TheVariants.{Pair, Refused}
 use Rattle.bz_journal.specs.History.{Answer, History, present}
 use Rattle.bz_journal.specs.declared.keeping.Written.{Written}
-use Rattle.bz_journal.specs.Keeping.{HasActed, IsWrittenOf, IsWrittenSince, KeepsPair}
+use Rattle.bz_journal.specs.Keeping.{HasActed, IsRefused, IsWriteOrOpen, IsWrittenOf, IsWrittenSince, Keeps, KeepsPair}
 use Rattle.bz_journal.specs.Lasting.{IsSavedSession, saved}
 use Rattle.bz_journal.specs.Shown.{session_history}
-use Rattle.bz_journal.specs.State.{SessionState}
+use Rattle.bz_journal.specs.State.{SessionState, session_trail}
 use Rattle.bz_journal.proofs.Following.{follows}
 use Rattle.bz_journal.proofs.Resuming.{may_resume}
 
@@ -78,25 +79,31 @@ module _ {F : Type 0} (files : FilesOf F) (action : Action) (note file : Bytes) 
   as_before : (now : Folder) → now ≡ Old → get now (journal_name file) ≡ get Old (journal_name file)
   as_before now is = ap (λ (f : Folder). get f (journal_name file)) is
 
-  -- the action is refused
-  pub kept_refused : (refusal : Refusal) → HasActed action note s (Err refusal) t → KeepsPair files action note file s (Err (Refused refusal)) t held held
-  kept_refused refusal acted = record {
-    keeps = acted.acts;
-    refused = λ _. (acted.unmoved, refl);
-    small = acted.small;
+  -- an action that is refused, or not kept, where nothing was touched
+  kept_fault : (fault : KeepFault) → Keeps action note (session_history s) (Err fault) (session_history t) → (IsRefused fault → (t ≡ s) × (held ≡ held))
+      → (IsSmall (session_trail s) → IsSmall (session_trail t)) → (IsErrOf {T = Reply} {E = KeepFault} (Err fault) (Pair p.Changed) → ⊥) → (IsWriteOrOpen (Err fault) → ⊥)
+      → KeepsPair files action note file s (Err fault) t held held
+  kept_fault fault keeps refused small not_changed not_caused = record {
+    keeps = keeps;
+    refused = refused;
+    small = small;
     each = λ honest resumes now stood. inl (only now stood);
     time = λ honest resumes. stays (files.moment held) (files.since held) Stands;
     kept = λ honest resumes. tt;
     stored = λ honest now stood. inl (as_before now (only now stood));
     journal = λ honest. tt;
-    changed = λ honest is. absurd (not_changed refusal is);
+    changed = λ honest is. absurd (not_changed is);
     still = tt;
     untouched = λ honest other now stood. only now stood;
-    cause = λ is. absurd is;
+    cause = λ is. absurd (not_caused is);
     rest = λ _. refl;
     count = omega arith;
     honest = refl;
   }
+
+  -- the action is refused
+  pub kept_refused : (refusal : Refusal) → HasActed action note s (Err refusal) t → KeepsPair files action note file s (Err (Refused refusal)) t held held
+  kept_refused refusal acted = kept_fault (Refused refusal) acted.acts (λ _. (acted.unmoved, refl)) acted.small (not_changed refusal) (λ is. is)
 
   -- the present text stays
   pub kept_still : (reply : Reply) → HasActed action note s (Ok reply) t → t.cursor ≡ s.cursor → KeepsPair files action note file s (Ok reply) t held held
@@ -120,23 +127,8 @@ module _ {F : Type 0} (files : FilesOf F) (action : Action) (note file : Bytes) 
 
   -- memory was refused where the pair is made
   pub kept_unmade : (reply : Reply) → HasActed action note s (Ok reply) t → t.cursor ≢ s.cursor → KeepsPair files action note file s (Err (Pair p.Memory)) t held held
-  kept_unmade reply acted other = record {
-    keeps = (reply, acted.acts, other);
-    refused = λ is. absurd is;
-    small = acted.small;
-    each = λ honest resumes now stood. inl (only now stood);
-    time = λ honest resumes. stays (files.moment held) (files.since held) Stands;
-    kept = λ honest resumes. tt;
-    stored = λ honest now stood. inl (as_before now (only now stood));
-    journal = λ honest. tt;
-    changed = λ honest is. absurd (not_memory (only_changed p.Memory is));
-    still = tt;
-    untouched = λ honest fault now stood. only now stood;
-    cause = λ is. absurd (neither is);
-    rest = λ _. refl;
-    count = omega arith;
-    honest = refl;
-  }
+  kept_unmade reply acted other =
+      kept_fault (Pair p.Memory) (reply, acted.acts, other) (λ is. absurd is) acted.small (λ is. not_memory (only_changed p.Memory is)) neither
 
   -- the pair was replaced, or not both: what `keep` says of these bytes, which are the text before, the journal and the text
   module _ (new : F) (standing stored text : Bytes) (begun : standing ≡ present (session_history s)) (journal : stored ≡ saved t) (written : text ≡ present (session_history t))

@@ -1,7 +1,7 @@
 //! What is kept beside a course from one command to the next: the value of the present text, so that a command need not make it anew.
 //! Where that text is the layout of a tidy value only what changes is tidied and laid out.
-ghost use Rattle.std.specs.Prelude.{◌≡◌, ◌≤◌, true, Err, IfOk, IfSome, None, Ok, OnOk, length};
-ghost use Rattle.bz_journal.specs.Clauses.{AreLinesOf, EndsAt, HasActed, HasMade, IsBeside, IsOfExtent, IsReady, IsWritten, Node, Refusal, action_in, after_meaning, layout, limit, note_limit, present, session_history, spell_node, tidied, view_of, written};
+ghost use Rattle.std.specs.Prelude.{◌≡◌, ◌≢◌, ◌≤◌, true, Bool, List, IfOk, IfSome, OnOk, length};
+ghost use Rattle.bz_journal.specs.Clauses.{AreLinesOf, EndsAt, EndsKeeping, HasActed, HasMade, IsBeside, IsOfExtent, IsReady, IsWritten, Item, Node, Refusal, action_in, after_meaning, layout, limit, note_limit, present, session_history, spell_node, tidied, view_of, written};
 ghost use Rattle.bz_journal.specs.Actions as a;
 
 use crate::action::{Action, Reply};
@@ -10,7 +10,7 @@ use crate::course::{Course, MOST_NOTE, unchanged};
 use crate::laws::written_is_laid_out;
 use crate::lines::Lines;
 use crate::meaning::{printed_answer, run_on_tree, value_of};
-use bz_build_format::{comments_fill, laid_out_of, reads_back};
+use bz_build_format::{comments_fill, reads_back, written};
 use bz_command::{Extent, Spliced};
 use bz_command_syntax::Command;
 use bz_grammar::{LENGTH_LIMIT, Tree};
@@ -64,8 +64,8 @@ fn tidy_in(
     bound: usize,
 ) -> Result<(Option<Lines>, usize), Memory>
     requires extent { IsOfExtent extent marks.now (view_of tree.now) file.old }
-    requires written { IsWritten (view_of tree.now) tree.now }
-    requires bound { length (spell_node tree.now) ≤ bound }
+    requires written { extent ≢ Extent.Whole → IsWritten (view_of tree.now) tree.now }
+    requires bound { extent ≢ Extent.Whole → length (spell_node tree.now) ≤ bound }
     ensures tidy { OnOk result (file.new ≡ tidied file.old) }
     ensures lines { IfOk result (λ made. IfSome made.0 (λ lines. AreLinesOf lines tree.now file.new)) }
     ensures most { IfOk result (λ made. length (layout file.new) ≤ limit → length (layout file.new) ≤ made.1) }
@@ -88,38 +88,56 @@ fn tidy_in(
     }
 }
 
-/// Takes up the layout of a tidy value, with a note: by its lines that are other ones than in the present tree where these and the
-/// step are known, else whole. Errors: `TooLarge`, `TooDeep`, `Full`; `Memory`: a growth was refused.
+/// Takes up the layout of a value, with a note. The value is given up, so that its parts go as those of the tree come. Errors: `TooLarge`,
+/// `TooDeep`, `Full`; `Memory`: a growth was refused.
+fn take_up_whole(
+    course: &mut Course,
+    file: File,
+    printed: Option<Text>,
+    note: &str,
+) -> Result<(Reply, Option<File>), Refusal>
+    requires short { length note.now ≤ note_limit }
+    ensures { EndsKeeping (after_meaning note.now (session_history course.old) (written file printed)) file course.old result course.new }
+{
+    let tree = written(course.alloc(), file)?;
+    match course.take_up(tree, printed, note) {
+        Ok(reply) => Ok((reply, None)),
+        Err(refusal) => Err(refusal),
+    }
+}
+
+/// The same of a tidy value, which is given back where its lines that are other ones than in the present tree, and the step, are known.
 fn take_up_tidied(
     course: &mut Course,
-    file: &File,
+    file: File,
     lines: Option<Lines>,
     printed: Option<Text>,
     note: &str,
-) -> Result<Reply, Refusal>
+) -> Result<(Reply, Option<File>), Refusal>
     requires short { length note.now ≤ note_limit }
-    requires tidy { tidied file.now ≡ file.now }
-    requires lines { IfSome lines (λ lines. AreLinesOf lines course.old.tree file.now) }
-    ensures { EndsAt (after_meaning note.now (session_history course.old) (written file.now printed)) course.old result course.new }
+    requires tidy { tidied file ≡ file }
+    requires lines { IfSome lines (λ lines. AreLinesOf lines course.old.tree file) }
+    ensures { EndsKeeping (after_meaning note.now (session_history course.old) (written file printed)) file course.old result course.new }
 {
     let Some(lines) = lines else {
-        let tree = laid_out_of(course.alloc(), file)?;
-        return course.take_up(tree, printed, note);
+        return take_up_whole(course, file, printed, note);
     };
     layout_is_accepted();
     reads_back(course.present());
     let _items = &file.items;
     let mut printed = printed;
-    match course.take_up_lines(lines, &mut printed, note)? {
-        Some(reply) => Ok(reply),
-        None => {
-            let tree = laid_out_of(course.alloc(), file)?;
-            course.take_up(tree, printed, note)
+    match course.take_up_lines(lines, &mut printed, note) {
+        Ok(Some(reply)) => Ok((reply, Some(file))),
+        Ok(None) => take_up_whole(course, file, printed, note),
+        Err(refusal) => {
+            take_apart(file);
+            Err(refusal)
         }
     }
 }
 
-/// Takes up the layout of a tidy value and keeps this as the value of the present text. The errors are those of taking it up.
+/// Takes up the layout of a tidy value, and keeps this as the value of the present text where it was not given up. The errors are those of
+/// taking it up.
 fn take_up_value(
     course: &mut Course,
     beside: &mut Beside,
@@ -139,22 +157,27 @@ fn take_up_value(
     written_is_laid_out();
     let _before = course.present();
     let _items = &file.items;
-    match take_up_tidied(course, &file, lines, printed, note) {
-        Ok(reply) => {
+    match take_up_tidied(course, file, lines, printed, note) {
+        Ok((reply, kept)) => {
             reads_back(course.present());
             beside.written = true;
             beside.length_bound = most;
-            beside.value = Some(file);
+            beside.value = kept;
             Ok(reply)
         }
-        Err(refusal) => {
-            take_apart(file);
-            Err(refusal)
-        }
+        Err(refusal) => Err(refusal),
     }
 }
 
-/// Tidies and takes up what a command made of the value of the present text: another value.
+/// In which items a new value may differ from the layout that the present text is; in any where it isn't known to be one.
+fn extent_in(extent: Extent, written: bool) -> Extent
+    ensures extent { (marks : List Bool) (before after : List Item) → IsOfExtent extent marks before after → IsOfExtent result marks before after }
+    ensures written { result ≢ Extent.Whole → written ≡ true }
+{
+    if written { extent } else { Extent::Whole }
+}
+
+/// Tidies and takes up what a command made of the value of the present text: another value. The errors are those of taking it up.
 fn take_up_made(
     course: &mut Course,
     beside: &mut Beside,
@@ -166,7 +189,7 @@ fn take_up_made(
 ) -> Result<Reply, Refusal>
     requires ready { IsReady note.now course.old.tree beside.old }
     requires extent { IsOfExtent extent marks.now (view_of course.old.tree) file }
-    requires written { beside.old.written ≡ true }
+    requires written { extent ≢ Extent.Whole → beside.old.written ≡ true }
     ensures end { EndsAt (after_meaning note.now (session_history course.old) (written file printed)) course.old result course.new }
     ensures beside { IsBeside course.new.tree beside.new }
 {
@@ -176,33 +199,6 @@ fn take_up_made(
     let bound = beside.length_bound;
     match tidy_in(alloc, extent, marks, &mut file, course.present(), bound) {
         Ok((lines, most)) => take_up_value(course, beside, file, lines, most, printed, note),
-        Err(_) => {
-            take_apart(file);
-            Err(Refusal::Memory)
-        }
-    }
-}
-
-/// Tidies and takes up a new value, whatever the present text is. The errors are those of taking it up.
-fn take_up_new(
-    course: &mut Course,
-    beside: &mut Beside,
-    file: File,
-    printed: Option<Text>,
-    note: &str,
-) -> Result<Reply, Refusal>
-    requires ready { IsReady note.now course.old.tree beside.old }
-    ensures end { EndsAt (after_meaning note.now (session_history course.old) (written file printed)) course.old result course.new }
-    ensures beside { IsBeside course.new.tree beside.new }
-{
-    tidy_stays();
-    let mut file = file;
-    match renew_whole(course.alloc(), &mut file, course.present()) {
-        Ok(Some(made)) => {
-            let lines = Lines::Spliced(made.respliced);
-            take_up_value(course, beside, file, Some(lines), made.most, printed, note)
-        }
-        Ok(None) => take_up_value(course, beside, file, None, LENGTH_LIMIT, printed, note),
         Err(_) => {
             take_apart(file);
             Err(Refusal::Memory)
@@ -239,11 +235,9 @@ fn edit(
                 beside.value = beside.written.then_some(file);
                 return Ok(unchanged(printed));
             }
-            if beside.written {
-                let marks = ran.marks.as_slice();
-                return take_up_made(course, beside, ran.extent, marks, file, printed, note);
-            }
-            take_up_new(course, beside, file, printed, note)
+            let extent = extent_in(ran.extent, beside.written);
+            let marks = ran.marks.as_slice();
+            take_up_made(course, beside, extent, marks, file, printed, note)
         }
         Err(refusal) => {
             take_apart(file);

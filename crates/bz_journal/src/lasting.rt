@@ -72,9 +72,21 @@ impl Session {
         ensures small { IsSmall (session_trail self.now) → AreSmall (session_history self.now) self.now.steps }
     {
         self.saves();
+        texts_kept();
         let text = text_of(self.present())?;
-        let journal = self.journal(text.as_slice())?;
-        out.extend_from_slice(journal.as_slice())?;
+        let saved = Saved {
+            tree: &self.tree,
+            content: Content {
+                package: self.package.as_bytes(),
+                text: text.as_slice(),
+                cursor: self.cursor,
+                before: self.before,
+                digests: self.digests.as_slice(),
+                notes: self.notes.as_slice(),
+                steps: self.steps.as_slice(),
+            },
+        };
+        save_into(&saved, out)?;
         Ok(())
     }
 
@@ -86,31 +98,6 @@ impl Session {
         one_reading();
         texts_kept();
         let _tree = &self.tree;
-    }
-
-    /// The journal of the session with this present text, in version 2. The error: a growth was refused.
-    pub(crate) fn journal(&self, text: &[u8]) -> Result<Vec<u8>, Memory>
-        requires { text.now ≡ present (session_history self.now) }
-        ensures stored { IfOk result (λ stored. stored.items ≡ saved self.now) }
-        ensures journal { IsSavedSession self.now }
-    {
-        texts_kept();
-        let _here = self.present();
-        let saved = Saved {
-            tree: &self.tree,
-            content: Content {
-                package: self.package.as_bytes(),
-                text,
-                cursor: self.cursor,
-                before: self.before,
-                digests: self.digests.as_slice(),
-                notes: self.notes.as_slice(),
-                steps: self.steps.as_slice(),
-            },
-        };
-        let mut stored = Vec::new(*self.steps.allocator());
-        save_into(&saved, &mut stored)?;
-        Ok(stored)
     }
 
     /// The session that a journal says, at the text that the file has now: at the cursor where that is the text there, else at

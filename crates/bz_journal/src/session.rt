@@ -245,7 +245,8 @@ impl Session {
             return Ok(None);
         }
         let text = text_of(self.present())?;
-        let journal = self.journal(text.as_slice())?;
+        let mut journal = Vec::new(*self.steps.allocator());
+        self.save_into(&mut journal)?;
         Ok(Some(Written { journal, text }))
     }
 

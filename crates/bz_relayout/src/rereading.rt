@@ -115,7 +115,19 @@ fn same_front<'a>(parts: &[Part], text: &'a [u8]) -> (usize, &'a [u8])
     (parts.len(), rest)
 }
 
-/// From which of the parts on a text ends with them, and what is left of it before them.
+/// What is left of a text before what a part spells; none where it ends with something else, or nothing is left.
+fn some_before_part<'a>(part: &Part, text: &'a [u8]) -> Option<&'a [u8]>
+    ensures { IfSome result (λ rest. text.now ≡ rest.now ++ spell_part part.now) }
+{
+    let rest = rest_before_part(part, text)?;
+    if rest.is_empty() {
+        return None;
+    }
+    Some(rest)
+}
+
+/// From which of the parts on a text ends with them, and what is left of it before them: the first part, and some text, since the step to
+/// lines that only come, or only go, isn't known without one that stays.
 fn same_back<'a>(parts: &[Part], text: &'a [u8]) -> (usize, &'a [u8])
     ensures within { result.0 ≤ length parts.now }
     ensures text { text.now ≡ result.1.now ++ flat_map spell_part (drop result.0 parts.now) }
@@ -123,7 +135,10 @@ fn same_back<'a>(parts: &[Part], text: &'a [u8]) -> (usize, &'a [u8])
     let mut rest = text;
     for passed in 0..parts.len() {
         let left = parts.len() - passed;
-        let Some(next) = rest_before_part(&parts[left - 1], rest) else {
+        if left == 1 {
+            return (left, rest);
+        }
+        let Some(next) = some_before_part(&parts[left - 1], rest) else {
             return (left, rest);
         };
         rest = next;
@@ -193,7 +208,7 @@ fn lines_read(alloc: Global, text: &[u8]) -> Result<Option<Items<Part>>, Memory>
 }
 
 /// The lines of a text that are other ones than in a tree, and their place in it: with them the tree is that which the text reads as. None
-/// where that isn't known. The error: a growth was refused.
+/// where that isn't known, or they are most of the text. The error: a growth was refused.
 pub(crate) fn reread(alloc: Global, tree: &Tree, text: &[u8]) -> Result<Option<Respliced>, Memory>
     requires { length text.now ≤ limit }
     ensures { IfOk result (λ found. IfSome found (λ new. (new.at + new.gone ≤ length tree.now.parts)
@@ -209,6 +224,9 @@ pub(crate) fn reread(alloc: Global, tree: &Tree, text: &[u8]) -> Result<Option<R
     let (passed, others) = parts.split_at(at);
     let (gone, middle) = same_back(others, rest);
     if gone == others.len() || !are_whole_lines(passed) {
+        return Ok(None);
+    }
+    if middle.len() > text.len() / 2 {
         return Ok(None);
     }
     match lines_read(alloc, middle)? {

@@ -18,7 +18,7 @@ use Rattle.bz_streams.specs.declared.sink.Sink.{Ghosts as SinkOf}
 use Rattle.bz_workspace.specs.Found.{IsNameOf}
 use Rattle.bz_workspace.specs.Journals.{Adds, IsOpenedIn, JournalFault, JournalGives, Puts, TakesBeside, fault_lines, file_of_journal, journal_beside, lines_of_journal}
 use Rattle.bz_workspace.specs.Keeps.{KeepsFolder, ReadsFiles}
-use Rattle.bz_workspace.specs.Opens.{Fills}
+use Rattle.bz_workspace.specs.Opens.{Extends, Fills}
 use Rattle.bz_workspace.specs.Packages.{Opened, Used, file_at, opened_with, with_opened}
 use Rattle.bz_workspace.proofs.FileSteps.{before_stay, none_stays, opened_there, put_last}
 use Rattle.bz_workspace.proofs.JournalSteps.{front_beside}
@@ -134,6 +134,20 @@ added place current Is number used mid new last is (file, put, at, kind) =
       kind,
     )
 
+-- what fills the place of a package that was added makes it the last one
+pub fills_last : {E : Type 0} (sink : SinkOf E) (place : ℕ) (current added : Bytes) (Is : Option Opened → List Bytes → Type 0) (number : Option ℕ) (used mid after : List Used)
+    (old new : E) → place ≡ length used → mid ≡ used ++ record { «package» = added; file = None } ∷ [] → added ≡ current
+    → Fills sink Is place number mid after old new → Extends sink Is current number used after old new
+fills_last sink place current added Is number used mid after old new last is own (file, lines, takes, put, at, reported) = (
+  file,
+  lines,
+  takes,
+  put_last place used mid after (record { «package» = current; file = None }) file last
+      (is ∙ ap (λ (text : Bytes). used ++ record { «package» = text; file = None } ∷ []) own) put,
+  at ∙ ap (λ (n : ℕ). option_map (λ (_ : Opened). n) file) last,
+  reported,
+)
+
 length_last : (used : List Used) (one : Used) → length (used ++ one ∷ []) ≡ suc (length used)
 length_last [] one = refl
 length_last (first ∷ more) one = ap suc (length_last more one)
@@ -143,6 +157,18 @@ pub last_within : (place : ℕ) (used mid : List Used) (one : Used) → place �
 last_within place used mid one at is = let long = ap length is ∙ length_last used one in omega (arith, at, long)
 
 -- ---- files that are read
+
+-- what is put of a file of which these first bytes were read
+pub read_put : {F : Type 0} (files : FilesOf F) (journals : Bool) (current name front : Bytes) (place : ℕ) (number : Option ℕ) (before after : List Used) (old mid : F)
+    → IsNameOf current name → (files.honest old ≡ true → (text : Bytes) × (get (files.folder old) name ≡ Some text) × (front ≡ take (limit + 1) text))
+    → (files.honest old ≡ true → files.folder mid ≡ files.folder old) → files.honest mid ≡ files.honest old
+    → Puts place (λ file. files.honest mid ≡ true → TakesBeside (journal_beside journals (files.folder mid) name) current name front (Some file) []) number before after
+    → Puts place (λ file. files.honest old ≡ true → IsOpenedIn journals (files.folder old) current file) number before after
+read_put files journals current name front place number before after old mid named found same honest put =
+    puts_more place _ _ number before after (λ file is trusted.
+    let held = found trusted in
+    is_opened journals (files.folder old) current name front held.0 file named held.1 held.2
+    (subst (λ (f : Folder). TakesBeside (journal_beside journals f name) current name front (Some file) []) (same trusted) (is (honest ∙ trusted)))) put
 
 -- two reads, one after the other, of which the first did not fail
 pub reads_on : {F : Type 0} (files : FilesOf F) (why : Cut) (old mid new : F) → (files.honest old ≡ true → files.folder mid ≡ files.folder old)

@@ -1,5 +1,5 @@
 -- How a package is opened, and what an action does in one.
-use Rattle.std.specs.Prelude.{◌≡◌, ◌⊎◌, ◌↔◌, ◌+◌, ◌++◌, ℕ, List, [], ◌∷◌, length, take, codes, Option, Some, None}
+use Rattle.std.specs.Prelude.{◌≡◌, ◌⊎◌, ◌↔◌, ◌≤◌, ◌<◌, ◌+◌, ◌++◌, ℕ, List, [], ◌∷◌, length, take, codes, Option, Some, None}
 use Rattle.std.specs.Option.{option_map}
 use Rattle.bz_lex.specs.declared.fault.ReadFault.{ReadFault}
 use Rattle.bz_grammar.specs.Legal.{Accepted}
@@ -13,6 +13,12 @@ use Rattle.bz_streams.specs.Reported.{named_line, fault_line}
 use Rattle.bz_streams.specs.declared.sink.Sink.{Ghosts as SinkOf}
 use Rattle.bz_workspace.specs.Packages.{Opened, Used, file_at, opened_with, with_opened}
 use Rattle.bz_workspace.specs.Found.{PackagesFound, second_name}
+
+-- a package of this path has this number, and its file isn't open
+pub record IsUnopened (place : ℕ) (current : Bytes) (used : List Used) : Type 0 where
+  pub short : length current ≤ 65536
+  pub within : place < length used
+  pub closed : file_at place used ≡ None
 
 -- a text of this name, as it was read, with the history that begins with it
 abbrev pub opened_fresh : Bytes → Bytes → Bytes → Opened

@@ -10,7 +10,7 @@ ghost use Rattle.bz_journal.specs.Actions.{action_in};
 ghost use Rattle.bz_journal.specs.Keeping.{IsWriteOrOpen};
 ghost use Rattle.bz_workspace.specs.Journals.{Adds, IsOpenedIn, OpensBeside, Puts, TakesBeside, journal_beside};
 ghost use Rattle.bz_workspace.specs.Keeps.{KeepsAt, ReadsFiles};
-ghost use Rattle.bz_workspace.specs.Opens.{ActsAt, Extends, Fills, Opens, Takes};
+ghost use Rattle.bz_workspace.specs.Opens.{ActsAt, Extends, Fills, IsUnopened, Opens, Takes};
 ghost use Rattle.bz_workspace.specs.Packages as p;
 ghost use Rattle.bz_workspace.specs.Packages.{file_at, package_number, with_opened};
 ghost use Rattle.bz_workspace.specs.Shown.{opened_in, used_in};
@@ -203,9 +203,7 @@ impl Workspace {
         files: &mut F,
         err: &mut E,
     ) -> Opening
-        requires short { length «package».now ≤ 65536 }
-        requires within { place < length self.old }
-        requires closed { file_at place self.old ≡ None }
+        requires { IsUnopened place «package».now self.old }
         ensures whole { F.honest files.old ≡ true → result.cut ≡ Cut.Whole
             → Fills E.Sink (TakesBeside (journal_beside journals (F.folder files.old) name.now) «package».now name.now text.items) place result.place
             self.old self.new err.old err.new }
@@ -247,9 +245,7 @@ impl Workspace {
         files: &mut F,
         err: &mut E,
     ) -> Opening
-        requires short { length «package».now ≤ 65536 }
-        requires within { place < length self.old }
-        requires closed { file_at place self.old ≡ None }
+        requires { IsUnopened place «package».now self.old }
         ensures second { F.honest files.old ≡ true → result.cut ≡ Cut.Whole
             → Fills E.Sink (OpensBeside journals (F.folder files.old) «package».now (found_second (F.folder files.old) «package».now)) place result.place
             self.old self.new err.old err.new }
@@ -278,9 +274,7 @@ impl Workspace {
         files: &mut F,
         err: &mut E,
     ) -> Opening
-        requires short { length «package».now ≤ 65536 }
-        requires within { place < length self.old }
-        requires closed { file_at place self.old ≡ None }
+        requires { IsUnopened place «package».now self.old }
         ensures first { F.honest files.old ≡ true → result.cut ≡ Cut.Whole
             → Fills E.Sink (OpensBeside journals (F.folder files.old) «package».now (found_in (F.folder files.old) «package».now)) place result.place
             self.old self.new err.old err.new }

@@ -1,6 +1,7 @@
 -- What is done to a session: what is answered, and the session after it.
-use Rattle.std.specs.Prelude.{◌≡◌, ◌⊎◌, ◌≤◌, length, Option, None, Some, Result, Ok, Err, OnErr}
+use Rattle.std.specs.Prelude.{◌≡◌, ◌⊎◌, ◌≤◌, length, List, Option, None, Some, Result, Ok, Err, OnErr, IfSome}
 use Rattle.bz_grammar.specs.declared.tree.Node.{Node}
+use Rattle.bz_value.specs.declared.value.Item.{Item}
 use Rattle.bz_value.specs.declared.refusal.Refusal.{Refusal}
 use Rattle.bz_value.specs.declared.refusal.Refusal.TheVariants.{Memory}
 use Rattle.bz_items.specs.Characters.{Bytes}
@@ -25,6 +26,11 @@ abbrev pub EndsOrNone : Answer × History → SessionState → Result (Option Re
 EndsOrNone end s (Ok None) t = t ≡ s
 EndsOrNone end s (Ok (Some reply)) t = EndsAt end s (Ok reply) t
 EndsOrNone end s (Err refusal) t = EndsAt end s (Err refusal) t
+
+-- the same, and these items are given back, or none are
+abbrev pub EndsKeeping : Answer × History → List Item → SessionState → Result (Reply × Option (List Item)) Refusal → SessionState → Type 0
+EndsKeeping end items s (Ok (reply, kept)) t = EndsAt end s (Ok reply) t × IfSome kept (λ own. own ≡ items)
+EndsKeeping end items s (Err refusal) t = EndsAt end s (Err refusal) t
 
 -- the same, of what an action makes
 pub record HasMade (action : Action) (note : Bytes) (s : SessionState) (answer : Answer) (t : SessionState) : Type 0 where

@@ -3,45 +3,32 @@ use Rattle.std.specs.Option.{option_map}
 use Rattle.bz_items.specs.Characters.{Bytes}
 use Rattle.bz_workspace.specs.Found.{found_in}
 use Rattle.bz_workspace.specs.Packages as p
-use Rattle.bz_workspace.proofs.FileSteps.{before_added, closed_last, put_last}
+use Rattle.bz_workspace.proofs.FileSteps.{before_added, closed_last}
 use Rattle.bz_workspace.proofs.FoundSteps.{plain_opens}
-use Rattle.bz_workspace.proofs.OpenedSteps.{added, last_within, puts_after, puts_there}
+use Rattle.bz_workspace.proofs.OpenedSteps.{added, fills_last, fills_more, last_within, puts_after, puts_there}
 use Rattle.bz_workspace.proofs.workspace.Workspace.open.Goals as goal
 
-pub open_first-requires-clause-closed : goal.open_first-requires-clause-closed
-open_first-requires-clause-closed g c =
-    closed_last c.in-Ok.place c.args.self.now c.add.new.self (record { «package» = c.as_bytes-2.result.now; file = None }) c.in-Ok.ensures.place c.in-Ok.ensures.ok refl
+pub open_first-requires : goal.open_first-requires
+open_first-requires g c =
+    let one : p.Used = record { «package» = c.as_bytes-2.result.now; file = None } in record {
+      short = c.requires;
+      within = last_within c.in-Ok.place c.args.self.now c.add.new.self one c.in-Ok.ensures.place c.in-Ok.ensures.ok;
+      closed = closed_last c.in-Ok.place c.args.self.now c.add.new.self one c.in-Ok.ensures.place c.in-Ok.ensures.ok refl;
+    }
 
 pub returns-in-Ok-clause-opens : goal.returns-in-Ok-clause-opens
 returns-in-Ok-clause-opens g c = λ honest cut none.
-    let done = c.open_first.ensures.first honest cut in
-    let old = c.args.self.now in
-    let added : c.add.new.self ≡ old ++ record { «package» = c.args.package.now; file = None } ∷ [] =
-    c.in-Ok.ensures.ok ∙ ap (λ (text : Bytes). old ++ record { «package» = text; file = None } ∷ []) c.as_bytes-2.ensures.value in (
-      done.0,
-      done.1,
-      done.2,
-      put_last c.in-Ok.place old c.add.new.self c.open_first.new.self (record { «package» = c.args.package.now; file = None }) done.0 c.in-Ok.ensures.place
-          added done.3,
-      done.4 ∙ ap (λ (n : ℕ). option_map (λ (_ : p.Opened). n) done.0) c.in-Ok.ensures.place,
-      done.5,
-    )
+    fills_last g.E.Sink c.in-Ok.place c.args.package.now c.as_bytes-2.result.now _ _ c.args.self.now c.add.new.self c.open_first.new.self c.args.err.now c.open_first.new.err
+    c.in-Ok.ensures.place c.in-Ok.ensures.ok c.as_bytes-2.ensures.value (c.open_first.ensures.first honest cut)
 
 pub returns-in-Ok-clause-first : goal.returns-in-Ok-clause-first
 returns-in-Ok-clause-first g c = λ plain honest cut none.
-    let done = c.open_first.ensures.first honest cut in
-    let old = c.args.self.now in
-    let added : c.add.new.self ≡ old ++ record { «package» = c.args.package.now; file = None } ∷ [] =
-    c.in-Ok.ensures.ok ∙ ap (λ (text : Bytes). old ++ record { «package» = text; file = None } ∷ []) c.as_bytes-2.ensures.value in (
-      done.0,
-      done.1,
-      plain_opens c.args.journals c.args.package.now (g.F.Files.folder c.args.files.now) (found_in (g.F.Files.folder c.args.files.now) c.args.package.now) done.0 done.1
-          plain done.2,
-      put_last c.in-Ok.place old c.add.new.self c.open_first.new.self (record { «package» = c.args.package.now; file = None }) done.0 c.in-Ok.ensures.place
-          added done.3,
-      done.4 ∙ ap (λ (n : ℕ). option_map (λ (_ : p.Opened). n) done.0) c.in-Ok.ensures.place,
-      done.5,
-    )
+    let folder = g.F.Files.folder c.args.files.now in
+    fills_last g.E.Sink c.in-Ok.place c.args.package.now c.as_bytes-2.result.now _ _ c.args.self.now c.add.new.self c.open_first.new.self c.args.err.now c.open_first.new.err
+    c.in-Ok.ensures.place c.in-Ok.ensures.ok c.as_bytes-2.ensures.value
+    (fills_more g.E.Sink c.in-Ok.place _ _ _ c.add.new.self c.open_first.new.self c.args.err.now c.open_first.new.err
+    (λ file lines. plain_opens c.args.journals c.args.package.now folder (found_in folder c.args.package.now) file lines plain)
+    (c.open_first.ensures.first honest cut))
 
 pub returns-in-Ok-clause-kept : goal.returns-in-Ok-clause-kept
 returns-in-Ok-clause-kept g c =

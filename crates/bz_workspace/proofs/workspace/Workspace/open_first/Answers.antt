@@ -1,9 +1,9 @@
-use Rattle.std.proofs.Common.{◌∙◌, ap, refl, Err, sym, subst, Some, inl, []}
+use Rattle.std.proofs.Common.{◌∙◌, ap, refl, Err, sym, subst, inl}
 use Rattle.bz_workspace.specs.declared.opening.Opening.{Opening}
 use Rattle.bz_workspace.proofs.FoundSteps.{first_opens, first_absent}
 use Rattle.bz_files.specs.Folder.{Folder}
-use Rattle.bz_workspace.specs.Journals.{IsOpenedIn, TakesBeside, journal_beside}
-use Rattle.bz_workspace.proofs.OpenedSteps.{fills_more, is_opened, nothing_put, puts_more, reads_on}
+use Rattle.bz_workspace.specs.Journals.{IsOpenedIn}
+use Rattle.bz_workspace.proofs.OpenedSteps.{fills_more, nothing_put, puts_more, read_put, reads_on}
 use Rattle.bz_workspace.proofs.workspace.Workspace.open_first.Goals as goal
 
 pub returns-in-Ok-bytes_of-clause-first : goal.returns-in-Ok-bytes_of-clause-first
@@ -26,13 +26,8 @@ returns-in-Err-Absent-clause-first g c = λ honest cut.
 pub returns-in-Ok-bytes_of-clause-puts : goal.returns-in-Ok-bytes_of-clause-puts
 returns-in-Ok-bytes_of-clause-puts g c =
     let read = c.in-Ok-bytes_of.ensures in
-    let folder = g.F.Files.folder in
-    let name = c.as_str-name.result.now in
-    puts_more c.args.place _ _ _ c.args.self.now c.open_found.new.self (λ file is honest.
-    let held = read.found honest in
-    is_opened c.args.journals (folder c.args.files.now) c.args.package.now name c.in-Ok-bytes_of.text.items held.0 file (inl (c.as_str-name.ensures.value ∙ c.in-Ok.ensures))
-    held.1 held.2 (subst (λ (f : Folder). TakesBeside (journal_beside c.args.journals f name) c.args.package.now name c.in-Ok-bytes_of.text.items (Some file) [])
-    (read.folder honest) (is (read.honest ∙ honest)))) c.open_found.ensures.puts
+    read_put g.F.Files c.args.journals c.args.package.now c.as_str-name.result.now c.in-Ok-bytes_of.text.items c.args.place _ c.args.self.now c.open_found.new.self
+    c.args.files.now c.bytes_of.new.files (inl (c.as_str-name.ensures.value ∙ c.in-Ok.ensures)) read.found read.folder read.honest c.open_found.ensures.puts
 
 pub returns-in-Ok-bytes_of-clause-files : goal.returns-in-Ok-bytes_of-clause-files
 returns-in-Ok-bytes_of-clause-files g c =
