@@ -124,8 +124,9 @@ fn longer_gap(text: &[u8], newlines: bool) -> GapFront
     }
 }
 
-/// The first byte from this one on that does not simply go on with spaces or with a comment, or the end.
-fn run(state: GapState, text: &[u8], from: usize) -> usize
+/// The first byte from this one on with which the state does not surely stay, or the end.
+#[inline(always)]
+fn stay(state: GapState, text: &[u8], from: usize) -> usize
     requires { from ≤ length text.now }
     ensures above { from ≤ result }
     ensures within { result ≤ length text.now }
@@ -139,4 +140,18 @@ fn run(state: GapState, text: &[u8], from: usize) -> usize
         at += 1;
     }
     at
+}
+
+/// The first byte from this one on that does not simply go on with spaces or with a comment, or the end. Each has a loop of its own.
+fn run(state: GapState, text: &[u8], from: usize) -> usize
+    requires { from ≤ length text.now }
+    ensures above { from ≤ result }
+    ensures within { result ≤ length text.now }
+    ensures stays { (newlines : Bool) (k : ℕ) → from ≤ k → k < result → gap_move newlines state (get_or text.now k 0) ≡ Some state }
+{
+    match state {
+        GapState::Open => stay(GapState::Open, text, from),
+        GapState::Comment => stay(GapState::Comment, text, from),
+        GapState::Escape | GapState::EscapeReturn => from,
+    }
 }

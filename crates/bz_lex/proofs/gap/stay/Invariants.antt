@@ -1,6 +1,6 @@
 use Rattle.std.proofs.Common.{◌≡◌, ◌≤◌, ◌<◌, ◌-◌, ℕ, Bool, Some, get_or, length}
 use Rattle.bz_lex.specs.private.GapStates.{gap_move}
-use Rattle.bz_lex.proofs.gap.run.Given as goal
+use Rattle.bz_lex.proofs.gap.stay.Given as goal
 
 abbrev pub invariant-bytes : goal.invariant-bytes
 invariant-bytes l = record {

@@ -1,7 +1,7 @@
 use Rattle.std.proofs.Common.{◌≡◌, Some, get_or, arith}
 use Rattle.bz_lex.specs.private.GapStates.{gap_move}
 use Rattle.bz_token.proofs.Longest.{one_further}
-use Rattle.bz_lex.proofs.gap.run.Goals as goal
+use Rattle.bz_lex.proofs.gap.stay.Goals as goal
 
 pub bytes-preserved : goal.bytes-preserved
 bytes-preserved c = record {
