@@ -5,6 +5,7 @@ ghost use Rattle.bz_token.specs.Bytes.{is_blank};
 ghost use Rattle.bz_value.specs.Gaps.{all_in, after_first_line, has_newline, lines_of, others_in, rest_of_line, suffix_in, trimmed};
 
 use bz_items::{Items, Memory, Text};
+use memchr::memchr;
 use std::alloc::Global;
 
 /// A line of a gap: how many spaces and tabs are right before its comment, 0 without one; its comment, kept from its `#` on
@@ -24,12 +25,10 @@ fn line_len(text: &[u8]) -> usize
     ensures newline { (rest_of_line text.now).newline ≡ nat_lt result (length text.now) }
     ensures lines { (rest_of_line text.now).lines ≡ lines_of (drop (result + 1) text.now) }
 {
-    for (at, byte) in text.iter().enumerate() {
-        if *byte == b'\n' {
-            return at;
-        }
+    match memchr(b'\n', text) {
+        Some(at) => at,
+        None => text.len(),
     }
-    text.len()
 }
 
 /// What is after the newline that ends the first line, which has this many bytes.

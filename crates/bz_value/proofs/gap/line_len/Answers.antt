@@ -1,27 +1,33 @@
-use Rattle.std.proofs.Common.{length, sym, ap, ◌∙◌, add-one, drop, arith}
+use Rattle.std.proofs.Common.{◌≡◌, ◌<◌, ℕ, length, get_or, take, sym, ap, ◌∙◌, add-one, drop, arith}
 use Rattle.std.proofs.Math.Seq.{take-length}
-use Rattle.std.proofs.lemmas.Bool.{lt-ltb, le-ltb}
+use Rattle.std.proofs.lemmas.Bool.{lt-ltb, le-ltb, eqb-true, eq-eqb}
 use Rattle.bz_value.specs.Gaps.{lines_of}
-use Rattle.bz_value.proofs.Lines.{line_breaks, line_stops, none_left}
+use Rattle.bz_value.proofs.Lines.{NoneBefore, line_breaks, line_stops, none_left}
 use Rattle.bz_value.proofs.gap.line_len.Goals as goal
 
-pub returns-then-byte-eq10-clause-words : goal.returns-then-byte-eq10-clause-words
-returns-then-byte-eq10-clause-words c = ap (λ r. r.words) (line_breaks c.args.text.now c.loop-at.at c.loop-at.invariant (omega arith) c.if-byte-eq10.true)
+none_before : (c : goal.In-Some) → NoneBefore c.in-Some.at c.args.text.now
+none_before c k lt e = c.in-Some.ensures.0.before k (omega arith) lt (eq-eqb (get_or c.args.text.now k 0) 10 e)
 
-pub returns-then-byte-eq10-clause-newline : goal.returns-then-byte-eq10-clause-newline
-returns-then-byte-eq10-clause-newline c =
-    ap (λ r. r.newline) (line_breaks c.args.text.now c.loop-at.at c.loop-at.invariant (omega arith) c.if-byte-eq10.true) ∙ sym (lt-ltb c.loop-at.at (length c.args.text.now) (omega arith))
+none_at_all : (c : goal.In-None) → NoneBefore (length c.args.text.now) c.args.text.now
+none_at_all c k lt e = c.in-None.ensures k (omega arith) lt (eq-eqb (get_or c.args.text.now k 0) 10 e)
 
-pub returns-then-byte-eq10-clause-lines : goal.returns-then-byte-eq10-clause-lines
-returns-then-byte-eq10-clause-lines c =
-    ap (λ r. r.lines) (line_breaks c.args.text.now c.loop-at.at c.loop-at.invariant (omega arith) c.if-byte-eq10.true) ∙ ap (λ n. lines_of (drop n c.args.text.now)) (sym (add-one c.loop-at.at))
+pub returns-in-Some-clause-words : goal.returns-in-Some-clause-words
+returns-in-Some-clause-words c = let found = c.in-Some.ensures in ap (λ r. r.words) (line_breaks c.args.text.now c.in-Some.at (none_before c) found.0.high (eqb-true _ _ found.1))
 
-pub returns-clause-words : goal.returns-clause-words
-returns-clause-words c = ap (λ r. r.words) (line_stops c.args.text.now (λ k lt. c.loop-at.invariant k (omega arith))) ∙ sym (take-length c.args.text.now)
+pub returns-in-Some-clause-newline : goal.returns-in-Some-clause-newline
+returns-in-Some-clause-newline c = let found = c.in-Some.ensures in
+    ap (λ r. r.newline) (line_breaks c.args.text.now c.in-Some.at (none_before c) found.0.high (eqb-true _ _ found.1)) ∙ sym (lt-ltb c.in-Some.at (length c.args.text.now) found.0.high)
 
-pub returns-clause-newline : goal.returns-clause-newline
-returns-clause-newline c =
-    ap (λ r. r.newline) (line_stops c.args.text.now (λ k lt. c.loop-at.invariant k (omega arith))) ∙ sym (le-ltb (length c.args.text.now) (length c.args.text.now) (omega arith))
+pub returns-in-Some-clause-lines : goal.returns-in-Some-clause-lines
+returns-in-Some-clause-lines c = let found = c.in-Some.ensures in
+    ap (λ r. r.lines) (line_breaks c.args.text.now c.in-Some.at (none_before c) found.0.high (eqb-true _ _ found.1)) ∙ ap (λ n. lines_of (drop n c.args.text.now)) (sym (add-one c.in-Some.at))
 
-pub returns-clause-lines : goal.returns-clause-lines
-returns-clause-lines c = ap (λ r. r.lines) (line_stops c.args.text.now (λ k lt. c.loop-at.invariant k (omega arith))) ∙ none_left c.args.text.now
+pub returns-in-None-clause-words : goal.returns-in-None-clause-words
+returns-in-None-clause-words c = ap (λ r. r.words) (line_stops c.args.text.now (none_at_all c)) ∙ sym (take-length c.args.text.now)
+
+pub returns-in-None-clause-newline : goal.returns-in-None-clause-newline
+returns-in-None-clause-newline c =
+    ap (λ r. r.newline) (line_stops c.args.text.now (none_at_all c)) ∙ sym (le-ltb (length c.args.text.now) (length c.args.text.now) (omega arith))
+
+pub returns-in-None-clause-lines : goal.returns-in-None-clause-lines
+returns-in-None-clause-lines c = ap (λ r. r.lines) (line_stops c.args.text.now (none_at_all c)) ∙ none_left c.args.text.now
