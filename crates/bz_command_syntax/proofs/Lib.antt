@@ -1,6 +1,5 @@
 pub mod Alike
 pub mod CommentWords
-pub mod EachForms
 pub mod NameTests
 pub mod Named
 pub mod Pieces
