@@ -52,10 +52,7 @@ unslashed (c ∷ s) h = let p : (is_slash c ≡ false) × (has_slash s ≡ false
 
 -- a path holds no two slashes in a row
 path_unslashed : (s : Bytes) → is_path s ≡ true → has_slashes s ≡ false
-path_unslashed s h = elim (cases_Bool (has_slashes s)) [
-  | inl w ↦ absurd (((joined_exact s).0 (and_parts _ _ h).0).single (before_slashes s) (after_slashes s) (parted s w))
-  | inr w ↦ w
-]
+path_unslashed s h = false_from_ne_true _ (λ w. ((joined_exact s).0 (and_parts _ _ h).0).single (before_slashes s) (after_slashes s) (parted s w))
 
 -- ---- a text of each form is read as its label
 

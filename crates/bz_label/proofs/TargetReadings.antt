@@ -1,6 +1,6 @@
 -- The target of a text, as a function, is the one that the condition describes.
 use Rattle.std.proofs.Common.{ℕ, Bool, true, false, ◌&&◌, [], ◌∷◌, ◌++◌, ◌≡◌, ◌≤◌, refl, sym, ap, ◌∙◌, inl, inr, codes, length, nat_le, Option, Some, None, subst, append_assoc}
-use Rattle.std.proofs.lemmas.Bool.{cases_Bool, true≢false, and_parts, eqb-true, le-leb, leb-true, not-true}
+use Rattle.std.proofs.lemmas.Bool.{cases_Bool, true≢false, and_parts, eqb-true, le-leb, leb-true, not-true, false_from_ne_true}
 use Rattle.bz_items.specs.Characters.{Bytes}
 use Rattle.bz_label.specs.Pieces.{is_slash, is_present, is_joined, has_colon, last_piece}
 use Rattle.bz_label.specs.Shorter.{before_colon, after_colon}
@@ -67,10 +67,7 @@ slashed : (c : ℕ) (path : Bytes) → is_slash c ≡ true → is_joined (c ∷ 
 slashed c path w = rw w refl
 
 unslashed : (c : ℕ) (path : Bytes) → is_package (c ∷ path) ≡ true → is_slash c ≡ false
-unslashed c path good = elim (cases_Bool (is_slash c)) [
-  | inl w ↦ absurd (true≢false (sym (and_parts _ _ good).0 ∙ slashed c path w))
-  | inr w ↦ w
-]
+unslashed c path good = false_from_ne_true _ (λ w. true≢false (sym (and_parts _ _ good).0 ∙ slashed c path w))
 
 relative : (path word : Bytes) → is_package path ≡ true → target_in (path ++ 58 ∷ word) ≡ relative_target (path ++ 58 ∷ word)
 relative [] [] good = refl
