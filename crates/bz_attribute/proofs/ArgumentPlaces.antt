@@ -2,7 +2,7 @@
 use Rattle.std.proofs.Common.{◌≡◌, ℕ, ◌<◌, ◌≤◌, Bool, true, false, List, [], ◌∷◌, ◌++◌, length, get_or, set, refl, ap, sym, arith, zero, suc, ◌∙◌, true≢false}
 use Rattle.std.specs.Prelude.{Option, Some, None, cond, not, is_some, slice_get, slice_set}
 use Rattle.std.specs.List.{position, position_or_len, insert, remove}
-use Rattle.std.specs.Option.{option_or}
+use Rattle.std.specs.Option.{option_or, unwrap_or}
 use Rattle.std.proofs.lemmas.List.Quantifiers.{position-Some}
 use Rattle.std.proofs.lemmas.List.Sums.{prefix_len_passes}
 use Rattle.std.proofs.lemmas.Bool.{ltb-false, not-true}
@@ -62,13 +62,13 @@ pub unchanged : {X : Type 0} (test : X → Bool) (change : X → X) (xs : List X
 unchanged test change [] h = refl
 unchanged test change (x ∷ xs) h = rw (h.all 0 x (omega arith)) (ap (λ ys. x ∷ ys) (unchanged test change xs (none_later test x xs h)))
 
-pub unremoved : {X : Type 0} (test : X → Bool) (xs : List X) → NonePasses test xs → without_first test xs ≡ xs
+unremoved : {X : Type 0} (test : X → Bool) (xs : List X) → NonePasses test xs → without_first test xs ≡ xs
 unremoved test [] h = refl
 unremoved test (x ∷ xs) h = rw (h.all 0 x (omega arith)) (ap (λ ys. x ∷ ys) (unremoved test xs (none_later test x xs h)))
 
 -- ---- an argument before the first starred one
 
-pub inserted_at : (argument : Expr) (xs : List Expr) (i : ℕ) → IsFirst (has_kind k.Star) xs i → inserted argument xs ≡ insert xs i argument
+inserted_at : (argument : Expr) (xs : List Expr) (i : ℕ) → IsFirst (has_kind k.Star) xs i → inserted argument xs ≡ insert xs i argument
 inserted_at argument [] i h = absurd (omega (arith, h.within))
 inserted_at argument (x ∷ xs) zero h = rw (h.passes x) refl
 inserted_at argument (x ∷ xs) (suc i) h = rw (h.others 0 x (omega arith)) (ap (λ ys. x ∷ ys) (inserted_at argument xs i (later (has_kind k.Star) x xs i h)))
@@ -77,8 +77,12 @@ inserted_last : (argument : Expr) (xs : List Expr) → NonePasses (has_kind k.St
 inserted_last argument [] h = refl
 inserted_last argument (x ∷ xs) h = rw (h.all 0 x (omega arith)) (ap (λ ys. x ∷ ys) (inserted_last argument xs (none_later (has_kind k.Star) x xs h)))
 
-pub inserted_after : (argument : Expr) (xs : List Expr) (i : ℕ) → NonePasses (has_kind k.Star) xs → i ≡ length xs → inserted argument xs ≡ insert xs i argument
-inserted_after argument xs i h e = inserted_last argument xs h ∙ (sym (insert_end xs argument) ∙ ap (λ n. insert xs n argument) (sym e))
+pub inserted_where : (argument : Expr) (xs : List Expr) → insert xs (unwrap_or (position (has_kind k.Star) xs) (length xs)) argument ≡ inserted argument xs
+inserted_where argument xs = by (position (has_kind k.Star) xs) refl
+  where
+    by : (found : Option ℕ) → position (has_kind k.Star) xs ≡ found → insert xs (unwrap_or found (length xs)) argument ≡ inserted argument xs
+    by None e = insert_end xs argument ∙ sym (inserted_last argument xs (none_passes (has_kind k.Star) xs (sym e)))
+    by (Some at) e = sym (inserted_at argument xs at (is_first (has_kind k.Star) xs at argument (sym e)))
 
 -- ---- the first attribute
 
@@ -107,3 +111,10 @@ changed_there test f xs i x new at there made =
 
 pub changed_nowhere : {X : Type 0} (test : X → Bool) (f : X → X) (xs : List X) → None ≡ position test xs → xs ≡ on_first_that test f xs
 changed_nowhere test f xs none = sym (unchanged test f xs (none_passes test xs none))
+
+pub removed_there : {X : Type 0} (test : X → Bool) (xs : List X) (i : ℕ) → Some i ≡ position test xs → remove xs i ≡ without_first test xs
+removed_there test [] i at = absurd cc
+removed_there test (x ∷ xs) i at = sym (removed_at test (x ∷ xs) i (is_first test (x ∷ xs) i x at))
+
+pub removed_nowhere : {X : Type 0} (test : X → Bool) (xs : List X) → None ≡ position test xs → xs ≡ without_first test xs
+removed_nowhere test xs none = sym (unremoved test xs (none_passes test xs none))

@@ -1,40 +1,23 @@
 -- Texts of characters, cut beside ASCII bytes: bodies of strings, shorter labels, and names joined by dots.
-use Rattle.std.proofs.Common.{◌≡◌, ◌<◌, ◌+◌, ℕ, Bool, true, List, [], ◌∷◌, ◌++◌, ◌||◌, length, drop, get_or, refl, sym, ap, ◌∙◌, subst, inl, inr, arith, length-append, append_assoc, IsUtf8}
+use Rattle.std.proofs.Common.{◌≡◌, ◌<◌, ℕ, Bool, true, false, List, [], ◌∷◌, ◌++◌, ◌||◌, refl, sym, ap, subst, inl, inr, arith, append_assoc, IsUtf8}
 use Rattle.std.specs.Prelude.{IfSome, Option, Some, None, bytes_eq, nat_eq, if◌then◌else◌}
 use Rattle.std.specs.List.{AllByRecursion, list_all, onto_first, slice_split}
-use Rattle.std.proofs.lemmas.Bool.{cases_Bool, and_parts, or_cases, eqb-true}
-use Rattle.std.proofs.lemmas.Bool.Decides.{nat_tests}
-use Rattle.std.proofs.lemmas.List.{take_at, drop_at, append-nil}
+use Rattle.std.proofs.lemmas.Bool.{cases_Bool, and_parts, or_cases, or_parts, eqb-true}
+use Rattle.std.proofs.lemmas.List.{append-nil}
 use Rattle.std.proofs.lemmas.Slice.Eq.{bytes_eq-Decides}
-use Rattle.std.proofs.lemmas.Str.{IsUtf8-take, IsUtf8-drop, IsUtf8-append, IsUtf8-from_ascii, IsCharBoundary-before_ascii, IsCharBoundary-after_ascii}
-use Rattle.std.proofs.lemmas.Str.Ascii.{IsAscii-from_all}
-use Rattle.std.proofs.lemmas.List.Elements.{All-cons}
-use Rattle.std.proofs.Math.Seq.{get_or-append_seam}
-use Rattle.bz_label.specs.Pieces.{is_colon}
+use Rattle.std.proofs.lemmas.Str.{IsUtf8-nil, IsUtf8-append}
+use Rattle.bz_label.proofs.Colons.{halves, no_colon}
+use Rattle.bz_label.specs.Pieces.{is_colon, has_colon}
 use Rattle.bz_label.specs.Read.{is_own, shortened}
 use Rattle.bz_label.specs.Shorter.{before_colon, after_colon, is_repeated, unrepeated}
 use Rattle.bz_items.specs.Characters.{Bytes, apostrophe, full_stop, quotation_mark}
 use Rattle.bz_command_syntax.specs.Identifiers.{is_identifier}
 use Rattle.bz_command_syntax.specs.Proper.{AreUtf8, IsAttribute, IsKind}
 use Rattle.bz_command_syntax.proofs.Pieces.{after_word, after_word-onto_first}
+pub use Rattle.bz_command_syntax.proofs.Utf8Texts.{one_ascii}
+use Rattle.bz_command_syntax.proofs.Utf8Texts.{beside_ascii, nothing_before}
 use Rattle.bz_rule.specs.Rules.{inner, is_plain_in, body}
 use Rattle.bz_rule.proofs.ProperChanges.{by_test, by_case}
-
--- a text on both sides of an ASCII byte
-beside_ascii : (front : Bytes) (byte : ℕ) (rest : Bytes) → byte < 128 → IsUtf8 (front ++ byte ∷ rest) → IsUtf8 front × IsUtf8 rest
-beside_ascii front byte rest h u =
-    let all : Bytes = front ++ byte ∷ rest in
-    let long : length all ≡ length front + length (byte ∷ rest) = length-append front (byte ∷ rest) in
-    let here : get_or all (length front) 0 ≡ byte = get_or-append_seam front byte rest 0 in
-    let more : front ++ byte ∷ rest ≡ (front ++ byte ∷ []) ++ rest = sym (append_assoc front (byte ∷ []) rest) in
-    let past : drop (length front + 1) all ≡ rest =
-    ap (drop (length front + 1)) more ∙ drop_at (front ++ byte ∷ []) rest (length front + 1) (length-append front (byte ∷ [])) in (
-      subst IsUtf8 (take_at front (byte ∷ rest) (length front) refl) (IsUtf8-take all (length front) u (IsCharBoundary-before_ascii all (length front) (omega arith) (omega arith))),
-      subst IsUtf8 past (IsUtf8-drop all (length front + 1) u (IsCharBoundary-after_ascii all (length front) u (omega arith) (omega arith))),
-    )
-
-pub one_ascii : (byte : ℕ) → byte < 128 → IsUtf8 (byte ∷ [])
-one_ascii byte h = IsUtf8-from_ascii (byte ∷ []) (IsAscii-from_all (byte ∷ []) (All-cons (λ b. b < 128) byte [] h (λ k d l. absurd (omega arith))))
 
 -- ---- the body of a string
 
@@ -54,39 +37,28 @@ body_utf8 text u =
 
 -- ---- shorter labels
 
-low_colon : (byte : ℕ) → is_colon byte ≡ true → byte < 128
-low_colon byte h = grind (arith, nat_tests)
+all_before : (text : Bytes) → has_colon text ≡ false → before_colon text ≡ text
+all_before [] h = refl
+all_before (byte ∷ rest) h = let p = or_parts (is_colon byte) (has_colon rest) h in rw p.0 (ap (λ more. byte ∷ more) (all_before rest p.1))
 
-before_utf8 : (front text : Bytes) → IsUtf8 (front ++ text) → IsUtf8 (front ++ before_colon text)
-before_utf8 front [] u = u
-before_utf8 front (byte ∷ rest) u = elim (cases_Bool (is_colon byte)) [
-  | inl w ↦ rw w (subst IsUtf8 (sym (append-nil front)) (beside_ascii front byte rest (low_colon byte w) u).0)
-  | inr w ↦ rw w (subst IsUtf8 (append_assoc front (byte ∷ []) (before_colon rest)) (before_utf8 (front ++ byte ∷ []) rest (subst IsUtf8 (sym (append_assoc front (byte ∷ []) rest)) u)))
-]
-
-after_utf8 : (front text : Bytes) → IsUtf8 (front ++ text) → IsUtf8 (after_colon text)
-after_utf8 front [] u = ([], (refl, refl))
-after_utf8 front (byte ∷ rest) u = elim (cases_Bool (is_colon byte)) [
-  | inl w ↦ rw w (beside_ascii front byte rest (low_colon byte w) u).1
-  | inr w ↦ rw w (after_utf8 (front ++ byte ∷ []) rest (subst IsUtf8 (sym (append_assoc front (byte ∷ []) rest)) u))
+around_colon : (text : Bytes) → IsUtf8 text → IsUtf8 (before_colon text) × IsUtf8 (after_colon text)
+around_colon text u = elim (cases_Bool (has_colon text)) [
+  | inl w ↦ beside_ascii (before_colon text) 58 (after_colon text) (omega arith) (subst IsUtf8 (halves text w) u)
+  | inr w ↦ (subst IsUtf8 (sym (all_before text w)) u, subst IsUtf8 (sym (no_colon text w)) IsUtf8-nil)
 ]
 
 unrepeated_utf8 : (text : Bytes) → IsUtf8 text → IsUtf8 (unrepeated text)
-unrepeated_utf8 text u = by_test IsUtf8 (is_repeated (before_colon text) (after_colon text)) (before_colon text) text (before_utf8 [] text u) u
+unrepeated_utf8 text u = by_test IsUtf8 (is_repeated (before_colon text) (after_colon text)) (before_colon text) text (around_colon text u).0 u
 
 pub shortened_utf8 : (current text : Bytes) → IsUtf8 text → IsUtf8 (shortened current text)
 shortened_utf8 current text u =
     by_test IsUtf8 (is_own current text) (58 ∷ after_colon text) (unrepeated text)
-    (IsUtf8-append (58 ∷ []) (after_colon text) (one_ascii 58 (omega arith)) (after_utf8 [] text u)) (unrepeated_utf8 text u)
+    (IsUtf8-append (58 ∷ []) (after_colon text) (one_ascii 58 (omega arith)) (around_colon text u).1) (unrepeated_utf8 text u)
 
 -- ---- names joined by dots
 
 abbrev pieces : Bytes → List Bytes
 pieces = slice_split (λ byte. nat_eq byte full_stop)
-
-nothing_before : (all : List Bytes) → AreUtf8 (after_word [] all) → AreUtf8 all
-nothing_before [] u = tt
-nothing_before (piece ∷ all) u = u
 
 split_utf8 : (front text : Bytes) → IsUtf8 (front ++ text) → AreUtf8 (after_word front (pieces text))
 split_utf8 front [] u = (u, tt)

@@ -102,6 +102,7 @@ fn swap_first(name: &[u8], other: &mut Expr, arguments: &mut Items<Expr>)
 
 /// Takes the value of the attribute out. What is in its place until `set_value` puts a value there, or `remove_first`
 /// takes the attribute away, is of no matter.
+#[tactic(auto, using(crate::proofs::ArgumentForms::with_value_twice, crate::proofs::ArgumentForms::without_value))]
 pub fn take_value(alloc: Global, name: &[u8], arguments: &mut Items<Expr>) -> Option<Expr>
     ensures value { result ≡ attribute name.now arguments.old }
     ensures place { (other : Expr) → with_value name.now other arguments.new ≡ with_value name.now other arguments.old }
@@ -125,13 +126,11 @@ pub fn set_value(name: &[u8], value: Expr, arguments: &mut Items<Expr>)
 }
 
 /// Puts an argument before the first starred one, else last.
+#[tactic(auto, using(crate::proofs::ArgumentPlaces::inserted_where))]
 fn insert_argument(argument: Expr, arguments: &mut Vec<Expr>) -> Result<(), Memory>
     ensures { OnOk result (arguments.new.items ≡ inserted argument arguments.old.items) }
 {
-    let at = match first_starred(arguments.as_slice()) {
-        Some(at) => at,
-        None => arguments.len(),
-    };
+    let at = first_starred(arguments.as_slice()).unwrap_or(arguments.len());
     arguments.insert(at, argument)?;
     Ok(())
 }
@@ -153,6 +152,7 @@ pub fn add_attribute(
 }
 
 /// Takes the first attribute of the name out of a list.
+#[tactic(auto, using(crate::proofs::ArgumentPlaces::removed_there, crate::proofs::ArgumentPlaces::removed_nowhere))]
 fn remove_in(name: &[u8], arguments: &mut Vec<Expr>)
     ensures { arguments.new.items ≡ without name.now arguments.old.items }
 {

@@ -12,8 +12,8 @@ pub use arguments::{
     remove_first, set_value, swap_value, take_value,
 };
 pub use making::{
-    Slot, append, append_to, argument_of, function_of, list_of, new_token, node, plus, rule_made,
-    sequence, set_text, string_of, string_text, token,
+    Slot, append_to, function_of, list_of, new_token, node, plus, rule_made, sequence, set_text,
+    string_of, string_text, token,
 };
 pub use readings::{
     body_of, first_text, has_lists, is_empty_list, is_item, is_no_list, items_of, operands_of,

@@ -137,7 +137,7 @@ pub fn set_text(text: Text, x: &mut Expr)
 }
 
 /// Puts all of `more` after the items.
-pub fn append(more: &mut Vec<Expr>, items: &mut Items<Expr>) -> Result<(), Memory>
+fn append(more: &mut Vec<Expr>, items: &mut Items<Expr>) -> Result<(), Memory>
     ensures { OnOk result (items.new ≡ items.old ++ more.old.items) }
 {
     let alloc = items.alloc();
@@ -345,7 +345,7 @@ pub fn function_of(alloc: Global, kind: &[u8]) -> Result<Expr, Memory>
 }
 
 /// `attribute = value`.
-pub fn argument_of(alloc: Global, attribute: &[u8], value: Expr) -> Result<Expr, Memory>
+pub(crate) fn argument_of(alloc: Global, attribute: &[u8], value: Expr) -> Result<Expr, Memory>
     ensures { IfOk result (λ x. x ≡ argument_of attribute.now value) }
 {
     let Ok((name, equals)) = both(alloc, attribute, b"=") else {

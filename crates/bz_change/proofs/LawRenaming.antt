@@ -15,7 +15,7 @@ use Rattle.bz_rule.specs.Values.{parts_of, with_parts, with_text, on_row, on_fir
 use Rattle.bz_attribute.specs.Attributes.{is_attribute, has_attribute, on_first_that}
 use Rattle.bz_attribute.specs.Attributes.{Arguments}
 use Rattle.bz_attribute.proofs.FormsAgain.{some_if, own_parts, row_twice, attribute_parts, value_changed, attribute_any}
-use Rattle.bz_change.specs.Laws.{RenamedBack}
+use Rattle.bz_change.specs.Changes.{RenamedBack}
 use Rattle.bz_value.specs.declared.refusal.Refusal.TheVariants.{NoAttribute, AttributeExists}
 
 -- ---- the name of an argument

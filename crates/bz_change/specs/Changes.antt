@@ -1,5 +1,5 @@
 -- What the commands on whole attributes make of the arguments of a rule.
-use Rattle.std.specs.Prelude.{Bool, true, false, not, ◌&&◌, ◌||◌, List, [], ◌∷◌, Option, None, Ok, Err, codes, map, if◌then◌else◌, bytes_eq, length, nat_lt}
+use Rattle.std.specs.Prelude.{Bool, true, false, not, ◌&&◌, ◌||◌, List, [], ◌∷◌, Option, None, Ok, Err, codes, map, if◌then◌else◌, bytes_eq, length, nat_lt, ◌≡◌}
 use Rattle.std.specs.List.{filter}
 use Rattle.std.specs.Str.{all_ascii_digits}
 use Rattle.bz_token.specs.declared.class.Class.TheVariants as c
@@ -91,3 +91,12 @@ attributes_changed (wa.Remove attributes) current found arguments = remove attri
 attributes_changed (wa.Rename from to) current found arguments = rename from to arguments
 attributes_changed (wa.Copy name rule) current found arguments = copy name found arguments
 attributes_changed (wa.CopyNoOverwrite name rule) current found arguments = copy_no_overwrite name found arguments
+
+-- ---- a law of the commands on whole attributes
+
+-- Renaming there and back gives the arguments before, unless a second attribute has the first name.
+abbrev pub RenamedBack : Type 0
+RenamedBack =
+    (from to : Bytes) (arguments new : List Expr)
+    → rename from to arguments ≡ Ok new → has_attribute from new ≡ false
+    → rename to from new ≡ Ok arguments

@@ -31,7 +31,7 @@ fn has_setting(made: &Setting, name: &[u8], arguments: &[Expr]) -> bool
 }
 
 /// The attribute's value becomes these words.
-#[tactic(auto, using(crate::proofs::WholeSettings::set_by_put))]
+#[tactic(auto, using(crate::proofs::SettingsTexts::set_by_put))]
 pub(crate) fn set(
     slot: Slot<'_>,
     words: &[Text],
@@ -104,6 +104,7 @@ fn set_name(alloc: Global, name: &[u8], argument: &mut Expr) -> Result<(), Memor
 }
 
 /// The first attribute of a name gets another one.
+#[tactic(auto, using(crate::proofs::SettingsTexts::changed_there, crate::proofs::SettingsTexts::changed_nowhere))]
 fn rename_in(
     alloc: Global,
     from: &[u8],

@@ -1,12 +1,10 @@
 -- What each command reads in its words is as the table says.
-use Rattle.std.proofs.Common.{◌≡◌, ℕ, Bool, true, false, List, [], ◌∷◌, get_or, Option, Some, None, refl}
-use Rattle.std.specs.Prelude.{if◌then◌else◌}
+use Rattle.std.proofs.Common.{◌≡◌, ℕ, false, List, [], ◌∷◌, get_or, Option, Some, None, refl}
 use Rattle.std.specs.Option.{option_and_then}
 use Rattle.bz_items.specs.Characters.{Bytes}
 use Rattle.bz_command_syntax.specs.Words.{is_nonempty}
 use Rattle.bz_command_syntax.specs.Identifiers.{is_identifier}
 use Rattle.bz_command_syntax.specs.Commands as c
-use Rattle.bz_command_syntax.specs.Commands.{ReadCommand}
 use Rattle.bz_command_syntax.specs.declared.command.Operation.{Operation}
 use Rattle.bz_command_syntax.specs.declared.command.Operation.TheVariants as w
 use Rattle.bz_command_syntax.specs.declared.command.RuleOperation.TheVariants as wr
@@ -15,6 +13,7 @@ use Rattle.bz_command_syntax.specs.declared.command.ValueOperation.TheVariants a
 use Rattle.bz_command_syntax.specs.declared.command.DictOperation.TheVariants as wd
 use Rattle.bz_command_syntax.specs.declared.command.LoadOperation.TheVariants as wl
 use Rattle.bz_command_syntax.specs.declared.command.CommentOperation.TheVariants as wc
+use Rattle.bz_rule.proofs.ProperChanges.{by_test}
 use Rattle.bz_command.specs.Table.{CommandRow, command_rows, IsAsListed, ReadsAsListed, CommandsAreListed}
 
 -- a row of the table by its place
@@ -33,10 +32,6 @@ form_listed : {X : Type 0} (row : CommandRow) (make : X → Operation) (form : L
     → (words : List Bytes) → ReadsAsListed row (c.operation_of make (form words))
 form_listed row make form h words = made_listed row make (form words) h
 
-if_listed : (row : CommandRow) (t : Bool) (one other : ReadCommand) → ReadsAsListed row one → ReadsAsListed row other → ReadsAsListed row (if t then one else other)
-if_listed row true one other h k = h
-if_listed row false one other h k = k
-
 -- ---- the commands whose words have one of several forms, or say nothing
 
 delete_listed : (words : List Bytes) → ReadsAsListed (row_at 1) (c.delete_of words)
@@ -45,18 +40,18 @@ delete_listed (word ∷ words) = tt
 
 set_listed : (words : List Bytes) → ReadsAsListed (row_at 2) (c.set_of words)
 set_listed words =
-    if_listed (row_at 2) (c.begins_with_kind words) _ _ (made_listed (row_at 2) (λ kind. w.Rule (wr.SetKind kind)) (c.new_kind words) (λ _. (refl, refl, refl, refl)))
+    by_test (ReadsAsListed (row_at 2)) (c.begins_with_kind words) _ _ (made_listed (row_at 2) (λ kind. w.Rule (wr.SetKind kind)) (c.new_kind words) (λ _. (refl, refl, refl, refl)))
     (made_listed (row_at 2) (λ parts. w.Attribute (wa.Set parts.0 parts.1)) (c.attribute_values words) (λ _. (refl, refl, refl, refl)))
 
 set_if_absent_listed : (words : List Bytes) → ReadsAsListed (row_at 3) (c.set_if_absent_of words)
 set_if_absent_listed words =
-    if_listed (row_at 3) (c.begins_with_kind words) _ _ tt
+    by_test (ReadsAsListed (row_at 3)) (c.begins_with_kind words) _ _ tt
     (made_listed (row_at 3) (λ parts. w.Attribute (wa.SetIfAbsent parts.0 parts.1)) (c.attribute_values words) (λ _. (refl, refl, refl, refl)))
 
 remove_listed : (words : List Bytes) → ReadsAsListed (row_at 5) (c.remove_of words)
 remove_listed [] = tt
 remove_listed (attribute ∷ values) =
-    if_listed (row_at 5) (is_nonempty values) _ _
+    by_test (ReadsAsListed (row_at 5)) (is_nonempty values) _ _
     (made_listed (row_at 5) (λ name. w.Value (wv.Remove name values)) (c.given (is_identifier attribute) attribute) (λ _. (refl, refl, refl, refl)))
     (made_listed (row_at 5) (λ attributes. w.Attribute (wa.Remove attributes)) (c.attributes_of attribute) (λ _. (refl, refl, refl, refl)))
 

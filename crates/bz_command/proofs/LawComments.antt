@@ -35,25 +35,22 @@ use Rattle.bz_attribute.specs.Attributes.{is_attribute, has_attribute, is_other_
 use Rattle.bz_attribute.specs.Attributes.{Arguments}
 use Rattle.bz_change.specs.Changes.{value_of, setting, is_set, set, set_if_absent, rename, copy, copy_no_overwrite}
 use Rattle.bz_list.specs.Changes.{with_items_added, add, in_value, in_attributes, replaced_item, replace, with_body, substituted_item, substitute}
-use Rattle.bz_command.specs.Effect.{NewItem, with_arguments, made_of, on_rule, on_arguments, with_item_first, on_meant, before_first, after_rule, placed, has_rule_place, with_rule, source, on_rules, lacks_rules, kept, on_statement, effect}
-use Rattle.bz_command_syntax.specs.declared.command.Host.{Host}
+use Rattle.bz_command.specs.Effect.{NewItem, with_arguments, made_of, on_rule, on_arguments, with_item_first, on_meant, before_first, after_rule, placed, has_rule_place, with_rule, source, on_rules, lacks_rules, kept, on_statement, effect, printed_rules, meant, may_mean_none}
 use Rattle.bz_command_syntax.specs.declared.command.Host.TheVariants.{Rule, Attribute, Item as ItemHost}
 use Rattle.bz_command_syntax.specs.Printing.{prints}
 use Rattle.bz_dict.specs.Dicts.{dict_add}
-use Rattle.bz_dict.proofs.GrownDicts.{dict_add_grows}
+use Rattle.bz_dict.proofs.ProperDicts.{dict_add_grows}
 use Rattle.bz_load.proofs.LawComments.{new_load_same}
 use Rattle.bz_comment.specs.Hosts.{with_comment, comment}
-use Rattle.bz_comment.proofs.LawKeeping.{own_grows, comment_grows}
-use Rattle.bz_command.specs.Printing.{printed_rules}
+use Rattle.bz_comment.proofs.LawBack.{own_grows, comment_grows}
 use Rattle.bz_command.specs.Laws.{keeps_comments, CommentsStay}
 use Rattle.bz_attribute.specs.Lists.{has_lists, items_in, is_no_list, with_more, body_of, is_item}
 use Rattle.bz_attribute.specs.Made.{list_of, string_text, plus, argument_of, rule_made}
-use Rattle.bz_command.specs.Targets.{meant, may_mean_none}
 use Rattle.bz_attribute.proofs.AttributesAgain.{by_absent, of_found}
 use Rattle.bz_attribute.proofs.FormsAgain.{if_true, if_false, then_if, made}
 use Rattle.bz_attribute.proofs.Grown.{itself, in_turn, both_at_most, last_at_most, Grows, EachGrows, map_grows, first_grows, append_grows, first_that_grows}
 use Rattle.bz_attribute.proofs.GrownArguments.{parts_grow, items_grow, text_grows, on_row_grows, on_lists_grows, on_value_grows, more_grows, plus_grows, with_value_grows, inserted_grows, Grown}
-use Rattle.bz_list.proofs.LawAdding.{grown, strings_for}
+use Rattle.bz_list.proofs.LawAdded.{grown, strings_for}
 
 -- ---- the arguments of a rule that is read
 
@@ -268,10 +265,8 @@ module _ (number : Bytes → ℕ) where
       by_test (MadeItems items) (not (has_rule_place place items)) (Err NoTarget) (if list_any (has_name name) items then Err NameTaken else Ok new) tt
       (by_test (MadeItems items) (list_any (has_name name) items) (Err NameTaken) (Ok new) tt (placed_grows place (rule_made kind name) items))
 
-  commented_keeps : (current : Bytes) (host : Host) (text : Bytes) (marks : List Bool) (items : List Item) → MadeItems items (on_meant (on_arguments (comment current host text)) marks items)
-  commented_keeps current host text marks items =
-      meant_keeps (on_arguments (comment current host text))
-      (arguments_keep (comment current host text) (comment_grows number current host text)) marks items
+  by_arguments : (change : List Expr → Arguments) → Keeps change → (marks : List Bool) (items : List Item) → MadeItems items (on_meant (on_arguments change) marks items)
+  by_arguments change g = meant_keeps (on_arguments change) (arguments_keep change g)
 
   statement_keeps : (text : Bytes) (item : Item) → MadeItem item (Ok (on_statement (with_comment text) item))
   statement_keeps text (i.Block lines) = itself (size (i.Block lines))
@@ -279,26 +274,20 @@ module _ (number : Bytes → ℕ) where
 
   rules_keep : (operation : Operation) (current : Bytes) (marks : List Bool) (items : List Item) → keeps_comments operation ≡ true → MadeItems items (on_rules operation current marks items)
   rules_keep (w.Rule (wr.New kind name place)) current marks items h = new_keeps kind name place items
-  rules_keep (w.Attribute (wa.SetIfAbsent name words)) current marks items h =
-      meant_keeps (on_arguments (set_if_absent current name words)) (arguments_keep (set_if_absent current name words) (set_if_absent_keeps current name words)) marks items
-  rules_keep (w.Attribute (wa.Rename from to)) current marks items h =
-      meant_keeps (on_arguments (rename from to)) (arguments_keep (rename from to) (rename_keeps from to)) marks items
+  rules_keep (w.Attribute (wa.SetIfAbsent name words)) current marks items h = by_arguments (set_if_absent current name words) (set_if_absent_keeps current name words) marks items
+  rules_keep (w.Attribute (wa.Rename from to)) current marks items h = by_arguments (rename from to) (rename_keeps from to) marks items
   rules_keep (w.Attribute (wa.CopyNoOverwrite name rule)) current marks items h =
-      let found : Option Expr = source name rule items in
-      meant_keeps (on_arguments (copy_no_overwrite name found)) (arguments_keep (copy_no_overwrite name found) (copy_keeps name found)) marks items
-  rules_keep (w.Value (wv.Add name words)) current marks items h =
-      meant_keeps (on_arguments (add current name words)) (arguments_keep (add current name words) (added_keeps name (strings_for current name words))) marks items
-  rules_keep (w.Value (wv.Replace attributes old new)) current marks items h =
-      meant_keeps (on_arguments (replace current attributes old new)) (arguments_keep (replace current attributes old new) (replace_keeps current attributes old new)) marks items
+      by_arguments (copy_no_overwrite name (source name rule items)) (copy_keeps name (source name rule items)) marks items
+  rules_keep (w.Value (wv.Add name words)) current marks items h = by_arguments (add current name words) (added_keeps name (strings_for current name words)) marks items
+  rules_keep (w.Value (wv.Replace attributes old new)) current marks items h = by_arguments (replace current attributes old new) (replace_keeps current attributes old new) marks items
   rules_keep (w.Value (wv.Substitute attributes pattern template)) current marks items h =
-      meant_keeps (on_arguments (substitute current attributes pattern template)) (arguments_keep (substitute current attributes pattern template) (substitute_keeps current attributes pattern template)) marks items
-  rules_keep (w.Dict (wd.Add name entries)) current marks items h =
-      meant_keeps (on_arguments (dict_add current name entries)) (arguments_keep (dict_add current name entries) (dict_add_grows number current name entries)) marks items
+      by_arguments (substitute current attributes pattern template) (substitute_keeps current attributes pattern template) marks items
+  rules_keep (w.Dict (wd.Add name entries)) current marks items h = by_arguments (dict_add current name entries) (dict_add_grows number current name entries) marks items
   rules_keep (w.Load (wl.New path symbols)) current marks items h =
       subst (λ n. total size items ≤ n) (sym (new_load_same number path symbols items)) (itself (total size items))
   rules_keep (w.Comment (wc.Add Rule text)) current marks items h = meant_keeps (λ item. Ok (on_statement (with_comment text) item)) (statement_keeps text) marks items
-  rules_keep (w.Comment (wc.Add (Attribute name) text)) current marks items h = commented_keeps current (Attribute name) text marks items
-  rules_keep (w.Comment (wc.Add (ItemHost name word) text)) current marks items h = commented_keeps current (ItemHost name word) text marks items
+  rules_keep (w.Comment (wc.Add (Attribute name) text)) current marks items h = by_arguments (comment current (Attribute name) text) (comment_grows number current (Attribute name) text) marks items
+  rules_keep (w.Comment (wc.Add (ItemHost name word) text)) current marks items h = by_arguments (comment current (ItemHost name word) text) (comment_grows number current (ItemHost name word) text) marks items
   rules_keep (w.Comment (wc.Print host)) current marks items h = meant_keeps (λ item. Ok item) (λ item. itself (size item)) marks items
   rules_keep (w.Print fields) current marks items h = itself (total size items)
   rules_keep _ current marks items h = absurd (true≢false (sym h))

@@ -3,9 +3,7 @@ pub mod LawComments
 pub mod LinesMatter
 pub mod Overfull
 pub mod ProperEffects
-pub mod RenewedItems
 pub mod RunningItems
-pub mod SplicedItems
 pub mod StatementRules
 pub mod Substituting
 pub mod TargetMarks

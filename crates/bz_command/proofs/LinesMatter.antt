@@ -1,6 +1,7 @@
 -- Commands that print no lines and have no target by its line depend on no lines.
-use Rattle.std.proofs.Common.{◌≡◌, ◌∙◌, ℕ, Bool, true, false, ◌||◌, List, [], ◌∷◌, ◌++◌, Option, Some, None, refl, ap, ap₂, if◌then◌else◌, true≢false, Result, Ok, Err}
+use Rattle.std.proofs.Common.{◌≡◌, ◌∙◌, ℕ, Bool, false, List, [], ◌∷◌, ◌++◌, Option, Some, None, refl, ap, ap₂, if◌then◌else◌, true≢false, Result, Ok, Err}
 use Rattle.std.specs.Prelude.{decimal, option_map}
+use Rattle.std.proofs.lemmas.Bool.{or_parts}
 use Rattle.std.specs.List.{list_any}
 use Rattle.std.specs.Option.{option_map_or}
 use Rattle.bz_label.specs.declared.target.Target.{Target}
@@ -18,14 +19,8 @@ use Rattle.bz_rule.specs.Rules.{Rule, rule_of}
 use Rattle.bz_fields.specs.Prints.{printed_field, printed_fields, printed_rule, spaced}
 use Rattle.bz_value.specs.declared.refusal.Refusal.{Refusal}
 use Rattle.bz_value.specs.declared.refusal.Refusal.TheVariants.{NoTarget}
-use Rattle.bz_command.specs.Effect.{kept, lacks_rules, on_rules}
-use Rattle.bz_command.specs.LinesMatter.{is_by_line, prints_line, prints_lines, LinesMatter}
-use Rattle.bz_command.specs.Printing.{before_rest, if_marked, item_line, lines_after_item, printed_one, printed_rules}
-use Rattle.bz_command.specs.Targets.{meant, may_mean_none}
-
-neither : (a b : Bool) → (a || b) ≡ false → (a ≡ false) × (b ≡ false)
-neither true b h = absurd (true≢false h)
-neither false b h = (refl, h)
+use Rattle.bz_command.specs.Effect.{kept, lacks_rules, on_rules, before_rest, if_marked, item_line, lines_after_item, printed_one, printed_rules, meant, may_mean_none}
+use Rattle.bz_command.specs.Laws.{is_by_line, prints_line, prints_lines, LinesMatter}
 
 meant_same : (which : Which) (lines others : List ℕ) (items : List Item) → is_by_line which ≡ false → meant which lines items ≡ meant which others items
 meant_same (Line line) lines others items h = absurd (true≢false h)
@@ -41,7 +36,7 @@ fields_same : (line other : Option Bytes) (item : Item) (rule : Rule) (fields : 
     → printed_fields line item rule fields ≡ printed_fields other item rule fields
 fields_same line other item rule [] h = refl
 fields_same line other item rule (field ∷ fields) h =
-    let quiet = neither (prints_line field) (list_any prints_line fields) h in
+    let quiet = or_parts (prints_line field) (list_any prints_line fields) h in
     ap₂ ◌∷◌ (field_same line other item rule field quiet.0) (fields_same line other item rule fields quiet.1)
 
 found_same : (line other : Option Bytes) (item : Item) (found : Option Rule) (fields : List Field) → list_any prints_line fields ≡ false
@@ -78,7 +73,7 @@ printed_by command marks texts = if lacks_rules command marks then Ok [] else (i
 
 pub lines_matter : LinesMatter
 lines_matter command target current lines others items h =
-    let quiet = neither (prints_lines command) (is_by_line target.which) h in
+    let quiet = or_parts (prints_lines command) (is_by_line target.which) h in
     let marks : meant target.which lines items ≡ meant target.which others items = meant_same target.which lines others items quiet.1 in
     let texts : printed_rules command current lines (meant target.which lines items) items ≡ printed_rules command current others (meant target.which others items) items =
     rules_same command current lines others (meant target.which lines items) items quiet.0 ∙ ap (λ all. printed_rules command current others all items) marks in

@@ -23,11 +23,10 @@ use Rattle.bz_value.specs.declared.refusal.Refusal.{Refusal}
 use Rattle.bz_value.specs.declared.refusal.Refusal.TheVariants.{Memory}
 use Rattle.bz_attribute.specs.Attributes.{Arguments}
 use Rattle.bz_comment.specs.Hosts.{comment_made, with_comment, comment}
-use Rattle.bz_comment.proofs.Coming.{copies, own_comes, Comes, comment_comes}
-use Rattle.bz_command.specs.Effect.{NewItem, effect, with_arguments, made_of, on_rule, with_item_first, on_statement}
+use Rattle.bz_comment.proofs.LawBack.{copies, own_comes, Comes, comment_comes}
+use Rattle.bz_command.specs.Effect.{NewItem, effect, with_arguments, made_of, on_rule, with_item_first, on_statement, is_rule, meant}
 use Rattle.bz_command.specs.Laws.{EffectsStayProper}
 use Rattle.bz_command.specs.Overfull.{IsOverfilling, IsRefusing, Overfills, all_commented, commented, marked_rules}
-use Rattle.bz_command.specs.Targets.{is_rule, meant}
 use Rattle.bz_command.proofs.LawComments.{rule_holds}
 
 -- ---- one rule

@@ -31,7 +31,7 @@ use Rattle.bz_rule.proofs.ProperArguments.{attribute_value}
 use Rattle.bz_rule.proofs.ProperItems.{IsValue, all_joined}
 use Rattle.bz_rule.proofs.ProperRules.{RuleItem, rule_item, on_statement}
 use Rattle.bz_attribute.specs.Made.{function_of, rule_made}
-use Rattle.bz_command.specs.Targets.{is_rule, on_line, first_mark, meant, may_mean_none}
+use Rattle.bz_command.specs.Effect.{is_rule, on_line, first_mark, meant, may_mean_none, printed_rules, kept, lacks_rules, on_statement as statement_with, NewItem, with_arguments, with_function, made_of, on_rule, on_arguments, with_item_first, on_meant, unmarked, before_first, after_rule, placed, has_rule_place, with_rule, on_rules, effect, value_in, source}
 use Rattle.bz_attribute.specs.Attributes.{Arguments}
 use Rattle.bz_change.specs.Changes.{set, set_if_absent, remove, rename, copy, copy_no_overwrite}
 use Rattle.bz_list.specs.Changes.{add, remove_values, replace, substitute, move}
@@ -42,8 +42,6 @@ use Rattle.bz_dict.proofs.ProperDicts.{dict_add_keeps, dict_set_keeps, dict_remo
 use Rattle.bz_load.proofs.ProperLoads.{new_load_keeps, fix_keeps}
 use Rattle.bz_comment.specs.Hosts.{with_comment, without_comments, comment, remove_comment}
 use Rattle.bz_comment.proofs.ProperComments.{comment_keeps, remove_comment_keeps, statement_keeps, remove_statement_keeps}
-use Rattle.bz_command.specs.Printing.{printed_rules}
-use Rattle.bz_command.specs.Effect.{kept, lacks_rules, on_statement as statement_with, NewItem, with_arguments, with_function, made_of, on_rule, on_arguments, with_item_first, on_meant, unmarked, before_first, after_rule, placed, has_rule_place, with_rule, on_rules, effect, value_in, source}
 use Rattle.bz_value.specs.declared.refusal.Refusal.{Refusal}
 use Rattle.bz_value.specs.declared.refusal.Refusal.TheVariants.{NoTarget, NameTaken}
 use Rattle.bz_command.specs.Laws.{EffectsStayProper}

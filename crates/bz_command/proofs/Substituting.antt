@@ -6,7 +6,7 @@ use Rattle.bz_items.specs.Characters.{Bytes}
 use Rattle.bz_rule.specs.Values.{on_lists}
 use Rattle.bz_list.specs.Changes.{substituted_item, with_body}
 use Rattle.bz_command.specs.SmallValues.{Made, leaves, literal, string_expr}
-use Rattle.bz_command.specs.WorkedSubstitutes.{WorkedSubstitutes, deps, other_values, size, small}
+use Rattle.bz_command.specs.Worked.{WorkedSubstitutes, deps, other_values, size, small}
 
 -- what is left of a size on its own, by what the pattern makes of its body
 abbrev left : Bytes → Bytes → Bytes → Expr → Bytes → Made

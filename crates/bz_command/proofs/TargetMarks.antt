@@ -8,7 +8,7 @@ use Rattle.bz_value.specs.declared.value.Item.{Item}
 use Rattle.bz_value.specs.declared.value.Item.TheVariants as i
 use Rattle.bz_items.specs.Characters.{Bytes}
 use Rattle.bz_rule.specs.Rules.{Call, Rule, dotted_name, named, is_rule_of_kind, has_name}
-use Rattle.bz_command.specs.Targets.{is_rule, on_line, first_mark, meant}
+use Rattle.bz_command.specs.Effect.{is_rule, on_line, first_mark, meant}
 
 abbrev made : List Expr → Bytes → Rule
 made arguments kind = record { kind = kind; arguments = arguments }

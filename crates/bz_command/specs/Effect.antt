@@ -1,26 +1,32 @@
--- What a command makes of a file value.
-use Rattle.std.specs.Prelude.{ℕ, Bool, true, false, not, ◌&&◌, List, [], ◌∷◌, ◌++◌, Option, Some, None, Result, Ok, Err, if◌then◌else◌}
+-- Which rules a target means, and what a command prints of them and makes of a file value.
+use Rattle.std.specs.Prelude.{ℕ, Bool, true, false, ◌&&◌, List, [], ◌∷◌, codes, map, is_some, nat_eq, ◌++◌, Option, Some, None, Result, Ok, Err, decimal, option_map, if◌then◌else◌, not}
+use Rattle.bz_label.specs.declared.target.Which.{Which}
+use Rattle.bz_label.specs.declared.target.Which.TheVariants.{All, Kind, Line, Package, Name}
+use Rattle.bz_value.specs.declared.value.Item.{Item}
+use Rattle.bz_value.specs.declared.value.Item.TheVariants as i
+use Rattle.bz_rule.specs.Rules.{rule_of, is_rule_of_kind, has_name, Rule as RuleRead, attribute}
+use Rattle.std.specs.Option.{option_map_or}
+use Rattle.bz_items.specs.Characters.{Bytes}
+use Rattle.bz_value.specs.Proper.{comments_of}
+use Rattle.bz_command_syntax.specs.declared.command.Operation.{Operation}
+use Rattle.bz_command_syntax.specs.declared.command.Operation.TheVariants as w
+use Rattle.bz_command_syntax.specs.declared.command.CommentOperation.TheVariants as wc
+use Rattle.bz_command_syntax.specs.declared.command.Host.{Host}
+use Rattle.bz_value.specs.declared.refusal.Refusal.{Refusal}
+use Rattle.bz_comment.specs.Hosts.{print_comment, with_comment, without_comments, comment, remove_comment}
+use Rattle.bz_fields.specs.Prints.{printed_item}
 use Rattle.std.specs.List.{list_any}
 use Rattle.bz_grammar.specs.declared.kind.Kind.TheVariants as k
 use Rattle.bz_label.specs.declared.target.Target.{Target}
 use Rattle.bz_value.specs.declared.value.Expr.{Expr}
-use Rattle.bz_value.specs.declared.value.Item.{Item}
-use Rattle.bz_value.specs.declared.value.Item.TheVariants as i
-use Rattle.bz_items.specs.Characters.{Bytes}
-use Rattle.bz_command_syntax.specs.declared.command.Operation.{Operation}
-use Rattle.bz_command_syntax.specs.declared.command.Operation.TheVariants as w
 use Rattle.bz_command_syntax.specs.declared.command.RuleOperation.TheVariants as wr
 use Rattle.bz_command_syntax.specs.declared.command.AttributeOperation.TheVariants as wa
 use Rattle.bz_command_syntax.specs.declared.command.LoadOperation.TheVariants as wl
-use Rattle.bz_command_syntax.specs.declared.command.CommentOperation.TheVariants as wc
 use Rattle.bz_command_syntax.specs.declared.command.LoadOperation.{LoadOperation}
 use Rattle.bz_command_syntax.specs.declared.command.RulePlace.{RulePlace}
 use Rattle.bz_command_syntax.specs.declared.command.RulePlace.TheVariants.{End, Before, After}
-use Rattle.bz_rule.specs.Rules.{Rule as RuleRead, rule_of, attribute, has_name}
 use Rattle.bz_rule.specs.Values.{with_items, with_parts, on_row, on_first}
-use Rattle.bz_value.specs.declared.refusal.Refusal.{Refusal}
 use Rattle.bz_value.specs.declared.refusal.Refusal.TheVariants.{NoTarget, NameTaken}
-use Rattle.bz_command.specs.Targets.{meant, may_mean_none}
 use Rattle.bz_attribute.specs.Made.{function_of, rule_made}
 use Rattle.bz_attribute.specs.Attributes.{Arguments}
 use Rattle.bz_change.specs.Changes.{attributes_changed}
@@ -28,11 +34,86 @@ use Rattle.bz_list.specs.Changes.{values_changed}
 use Rattle.bz_dict.specs.Dicts.{dicts_changed}
 use Rattle.bz_load.specs.Fixes.{fix}
 use Rattle.bz_load.specs.NewLoad.{new_load}
-use Rattle.bz_comment.specs.Hosts.{with_comment, without_comments, comment, remove_comment}
 use Rattle.bz_command_syntax.specs.Printing.{prints}
-use Rattle.bz_command.specs.Printing.{printed_rules}
-use Rattle.bz_command_syntax.specs.declared.command.Host.{Host}
 use Rattle.bz_command_syntax.specs.declared.command.Host.TheVariants.{Rule}
+
+-- ---- the rules that a target means, as a mark for each item of the file
+
+abbrev pub is_rule : Item → Bool
+is_rule item = is_some (rule_of item)
+
+-- The rules on a line, by the lines on which the statements begin, in their order. A Block is on no line, and a statement
+-- past the list's end on none.
+abbrev pub on_line : ℕ → List ℕ → List Item → List Bool
+on_line line lines [] = []
+on_line line lines (i.Block comments ∷ items) = false ∷ on_line line lines items
+on_line line [] (i.Stmt x ∷ items) = false ∷ on_line line [] items
+on_line line (first ∷ lines) (i.Stmt x ∷ items) = (nat_eq first line && is_rule (i.Stmt x)) ∷ on_line line lines items
+
+abbrev pub first_mark : List Bool → List Bool
+first_mark [] = []
+first_mark (true ∷ marks) = true ∷ map (λ _. false) marks
+first_mark (false ∷ marks) = false ∷ first_mark marks
+
+-- `all` means all rules, `%kind` those of a kind, `%N` those on a line, a name all of that name, `__pkg__` the first rule
+-- of kind `package`.
+abbrev pub meant : Which → List ℕ → List Item → List Bool
+meant All lines items = map is_rule items
+meant (Kind kind) lines items = map (is_rule_of_kind kind) items
+meant (Line line) lines items = on_line line lines items
+meant Package lines items = first_mark (map (is_rule_of_kind (codes "package")) items)
+meant (Name name) lines items = map (has_name name) items
+
+-- Where none is meant, `all` and `%kind` leave the file unchanged; any other target is refused.
+abbrev pub may_mean_none : Which → Bool
+may_mean_none All = true
+may_mean_none (Kind kind) = true
+may_mean_none _ = false
+
+-- ---- what commands print of the rules that they are meant for
+
+-- the comments of a host in a rule
+abbrev pub printed_comments_of : Bytes → Host → Item → Result Bytes Refusal
+printed_comments_of current host (i.Block lines) = Ok []
+printed_comments_of current host (i.Stmt x) = print_comment current host (comments_of x) (option_map_or (λ rule. rule.arguments) (rule_of (i.Stmt x)) [])
+
+-- what is printed of one rule; `line` is the line on which it begins, in decimal digits
+abbrev pub printed_one : Operation → Bytes → Option Bytes → Item → Result Bytes Refusal
+printed_one (w.Comment (wc.Print host)) current line item = printed_comments_of current host item
+printed_one (w.Print fields) current line item = Ok (printed_item line item fields)
+printed_one _ current line item = Ok []
+
+-- of a rule that isn't marked nothing is printed
+abbrev pub if_marked : Bool → Result Bytes Refusal → Result Bytes Refusal
+if_marked mark text = if mark then text else Ok []
+
+-- The first rule that refuses decides.
+abbrev pub before_rest : Result Bytes Refusal → Result Bytes Refusal → Result Bytes Refusal
+before_rest (Err refusal) rest = Err refusal
+before_rest (Ok text) (Err refusal) = Err refusal
+before_rest (Ok text) (Ok rest) = Ok (text ++ rest)
+
+-- the line on which an item begins, by the lines of the statements from it on: a Block is on no line, and a statement past the
+-- list's end on none
+abbrev pub item_line : List ℕ → Item → Option ℕ
+item_line lines (i.Block comments) = None
+item_line [] (i.Stmt x) = None
+item_line (line ∷ lines) (i.Stmt x) = Some line
+
+-- the lines of the statements after it
+abbrev pub lines_after_item : List ℕ → Item → List ℕ
+lines_after_item lines (i.Block comments) = lines
+lines_after_item [] (i.Stmt x) = []
+lines_after_item (line ∷ lines) (i.Stmt x) = lines
+
+-- What is printed of the rules that are marked, in the order of the file.
+abbrev pub printed_rules : Operation → Bytes → List ℕ → List Bool → List Item → Result Bytes Refusal
+printed_rules operation current lines (mark ∷ marks) (item ∷ items) =
+    before_rest (if_marked mark (printed_one operation current (option_map decimal (item_line lines item)) item))
+    (printed_rules operation current (lines_after_item lines item) marks items)
+printed_rules operation current lines _ _ = Ok []
+
+-- ---- what a command makes of a file value
 
 -- ---- the meant rules, one after the other
 

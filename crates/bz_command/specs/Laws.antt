@@ -1,5 +1,5 @@
 -- Laws of the effects of commands.
-use Rattle.std.specs.Prelude.{◌≡◌, ◌≤◌, ℕ, Bool, true, false, List, Ok}
+use Rattle.std.specs.Prelude.{◌≡◌, ◌≤◌, ℕ, Bool, true, false, List, Ok, ◌||◌}
 use Rattle.bz_label.specs.declared.target.Target.{Target}
 use Rattle.bz_value.specs.declared.value.Item.{Item}
 use Rattle.bz_items.specs.Characters.{Bytes}
@@ -14,7 +14,12 @@ use Rattle.bz_command_syntax.specs.declared.command.DictOperation.TheVariants as
 use Rattle.bz_command_syntax.specs.declared.command.LoadOperation.TheVariants as wl
 use Rattle.bz_command_syntax.specs.declared.command.CommentOperation.TheVariants as wc
 use Rattle.bz_command_syntax.specs.Proper.{IsProperCommand}
-use Rattle.bz_command.specs.Effect.{effect}
+use Rattle.bz_command.specs.Effect.{effect, printed}
+use Rattle.std.specs.List.{list_any}
+use Rattle.bz_label.specs.declared.target.Which.{Which}
+use Rattle.bz_label.specs.declared.target.Which.TheVariants.{Line}
+use Rattle.bz_command_syntax.specs.declared.command.Field.{Field}
+use Rattle.bz_command_syntax.specs.declared.command.Field.TheVariants as f
 
 -- What a command that was read makes of a proper file value is proper. The target, the current package and the lines may be
 -- any.
@@ -47,3 +52,30 @@ CommentsStay =
     (operation : Operation) (target : Target) (current : Bytes) (lines : List ℕ) (items new : List Item)
     → keeps_comments operation ≡ true → effect operation target current lines items ≡ Ok new
     → (text : Bytes) → times text items ≤ times text new
+
+-- ---- which commands depend on the lines on which statements begin
+
+abbrev pub is_by_line : Which → Bool
+is_by_line (Line line) = true
+is_by_line _ = false
+
+-- of the fields that are printed one is the line on which the rule begins
+abbrev pub prints_line : Field → Bool
+prints_line f.StartLine = true
+prints_line _ = false
+
+-- comments are printed without lines
+abbrev pub prints_lines : Operation → Bool
+prints_lines (w.Print fields) = list_any prints_line fields
+prints_lines _ = false
+
+-- a command may print lines, and a target may name one
+abbrev pub looks_at_lines : Operation → Target → Bool
+looks_at_lines command target = prints_lines command || is_by_line target.which
+
+-- To every other command they may be any.
+abbrev pub LinesMatter : Type 0
+LinesMatter =
+    (command : Operation) (target : Target) (current : Bytes) (lines others : List ℕ) (items : List Item) → looks_at_lines command target ≡ false
+    → (effect command target current lines items ≡ effect command target current others items)
+    × (printed command target current lines items ≡ printed command target current others items)

@@ -10,8 +10,7 @@ use Rattle.bz_value.specs.declared.refusal.Refusal.{Refusal}
 use Rattle.bz_command_syntax.specs.declared.command.Host.{Host}
 use Rattle.bz_comment.specs.Hosts.{comment, comment_made, with_comment}
 use Rattle.bz_label.specs.declared.target.Target.{Target}
-use Rattle.bz_command.specs.Effect.{NewItem, on_arguments, on_host_of_item, on_meant}
-use Rattle.bz_command.specs.Targets.{is_rule, meant}
+use Rattle.bz_command.specs.Effect.{NewItem, on_arguments, on_host_of_item, on_meant, is_rule, meant}
 
 -- the copies of one comment are past the limit
 abbrev pub IsOverfull : List Item → Type 0

@@ -4,9 +4,8 @@ ghost use Rattle.std.specs.List.{list_any};
 ghost use Rattle.bz_grammar.specs.Spell.{limit};
 ghost use Rattle.bz_items.specs.Characters.{Bytes};
 ghost use Rattle.bz_comment.specs.Hosts.{comment_made};
-ghost use Rattle.bz_command.specs.Effect.{effect, on_meant};
+ghost use Rattle.bz_command.specs.Effect.{effect, on_meant, meant};
 ghost use Rattle.bz_command.specs.Overfull.{IsOverfilling, IsRefusing, Overfills, commented, marked_rules};
-ghost use Rattle.bz_command.specs.Targets.{meant};
 
 use crate::printing::arguments_of;
 use crate::proper_laws::effects_stay_proper;
@@ -85,8 +84,7 @@ fn find_in_all(current: &[u8], host: &Host, marks: &[bool], items: &[Item]) -> R
     Ok(())
 }
 
-/// Whether a comment on the rules that a target means is past the limit by its copies. Errors: that of the first rule that refuses
-/// it, where the copies are past the limit; `Memory`: a growth was refused.
+/// Whether a comment on the rules that a target means is past the limit by its copies; the error is that of the first that refuses it.
 fn comment_overfills(
     alloc: Global,
     host: &Host,

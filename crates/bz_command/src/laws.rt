@@ -1,15 +1,7 @@
 //! Facts about the definitions, for readers: the functions do nothing.
 ghost use Rattle.bz_command.specs.Laws.{CommentsStay};
 ghost use Rattle.bz_command.specs.Table.{CommandsAreListed};
-ghost use Rattle.bz_command.specs.Worked.{WorkedEffects};
-ghost use Rattle.bz_command.specs.WorkedAttributes.{WorkedAttributes};
-ghost use Rattle.bz_command.specs.WorkedComments.{WorkedCommentCommands};
-ghost use Rattle.bz_command.specs.WorkedDicts.{WorkedDicts};
-ghost use Rattle.bz_command.specs.WorkedLoads.{WorkedLoadCommands};
-ghost use Rattle.bz_command.specs.WorkedPrints.{WorkedPrintCommands};
-ghost use Rattle.bz_command.specs.WorkedRules.{WorkedRules};
-ghost use Rattle.bz_command.specs.WorkedSubstitutes.{WorkedSubstitutes};
-ghost use Rattle.bz_command.specs.WorkedValues.{WorkedValues};
+ghost use Rattle.bz_command.specs.Worked.{WorkedAttributes, WorkedCommentCommands, WorkedDicts, WorkedEffects, WorkedLoadCommands, WorkedPrintCommands, WorkedRules, WorkedSubstitutes, WorkedValues};
 
 /// Worked rows: what commands make of small file values.
 pub fn worked_effects()
@@ -35,6 +27,7 @@ pub fn comments_stay()
 
 /// Each command that a text is read as is as one table says: what it works on, whether it prints, whether it looks at the rules
 /// that its target means, and whether it loses no comment.
+#[tactic(auto, using(crate::proofs::CommandRows::commands_are_listed))]
 pub fn commands_are_listed()
     ensures { CommandsAreListed }
 {}

@@ -1,7 +1,7 @@
 //! Which commands depend on the lines on which statements begin.
 ghost use Rattle.std.specs.Prelude.{◌≡◌};
 ghost use Rattle.std.specs.List.{list_any};
-ghost use Rattle.bz_command.specs.LinesMatter.{LinesMatter, is_by_line, looks_at_lines, prints_line, prints_lines};
+ghost use Rattle.bz_command.specs.Laws.{LinesMatter, is_by_line, looks_at_lines, prints_line, prints_lines};
 
 use bz_command_syntax::{Command, Field, Operation};
 use bz_label::{Target, Which};

@@ -2,7 +2,7 @@
 ghost use Rattle.std.specs.Prelude.{◌≡◌, ◌⊎◌, [], Ok, Err, OnOk, IfOk, IfErr, decimal, length, option_map};
 ghost use Rattle.std.specs.Option.{option_map_or};
 ghost use Rattle.bz_rule.specs.Rules.{rule_of};
-ghost use Rattle.bz_command.specs.Printing.{before_rest, item_line, lines_after_item, printed_comments_of, printed_one, printed_rules};
+ghost use Rattle.bz_command.specs.Effect.{before_rest, item_line, lines_after_item, printed_comments_of, printed_one, printed_rules};
 
 use crate::targets::is_rule;
 use bz_command_syntax::{CommentOperation, Host, Operation};

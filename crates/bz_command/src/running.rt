@@ -3,9 +3,8 @@ ghost use Rattle.std.specs.Prelude.{length, ◌≡◌, ◌⊎◌, ◌↔◌, [],
 ghost use Rattle.std.specs.List.{list_any};
 ghost use Rattle.std.specs.Option.{unwrap_or};
 ghost use Rattle.bz_rule.specs.Index.{IsIndexOf};
-ghost use Rattle.bz_command.specs.Targets.{may_mean_none, meant};
-ghost use Rattle.bz_command.specs.Effect.{effect, lacks_rules, looks_at_rules, printed};
-ghost use Rattle.bz_command.specs.private.Looks.{IsLook, IsMarked};
+ghost use Rattle.bz_command.specs.Effect.{may_mean_none, meant, effect, lacks_rules, looks_at_rules, printed};
+ghost use Rattle.bz_command.specs.private.Looks.{IsLook, IsMarked, effect_by, printed_by};
 ghost use Rattle.bz_command.specs.Renewed.{IsOfExtent};
 
 use crate::outcome::{Changed, Extent, Outcome, Ran};
@@ -62,6 +61,18 @@ fn on_none(which: &Which) -> Result<(), Refusal>
     }
 }
 
+/// A command that is run on a file.
+#[derive(Clone, Copy)]
+struct Asked<'a> {
+    alloc: Global,
+    command: &'a Command,
+    target: &'a Target,
+    /// The path of the file's package.
+    current: &'a [u8],
+    /// The lines on which its statements begin.
+    lines: &'a [u32],
+}
+
 /// What is known of a command before anything changes.
 #[derive(Drop)]
 enum Look {
@@ -72,65 +83,64 @@ enum Look {
 }
 
 /// Looks at the items of a file, of which those that a command is meant for are marked, and prints what it prints of them.
-fn look_at(
-    alloc: Global,
-    command: &Command,
-    target: &Target,
-    current: &[u8],
-    lines: &[u32],
-    marks: Vec<bool>,
-    items: &[Item],
-) -> Result<Look, Refusal>
-    requires value { marks.items ≡ meant target.now.which lines.now items.now }
+fn look_at(asked: Asked<'_>, marks: Vec<bool>, items: &[Item]) -> Result<Look, Refusal>
+    requires value { marks.items ≡ meant asked.target.now.which asked.lines.now items.now }
     requires count { length marks.items ≡ length items.now }
-    ensures ok { IfOk result (IsLook command.now target.now current.now lines.now items.now) }
-    ensures err { IfErr result (λ refusal. (effect command.now target.now current.now lines.now items.now ≡ Err refusal) ⊎ (refusal ≡ Refusal.Memory)) }
+    ensures ok { IfOk result (IsLook asked.entry items.now) }
+    ensures err { IfErr result (λ refusal. (effect_by asked.entry items.now ≡ Err refusal) ⊎ (refusal ≡ Refusal.Memory)) }
 {
+    let command = asked.command;
     let operation = &command.operation;
     let marked = marks.as_slice();
     if lacks_rules(operation, marked) {
-        on_none(&target.which)?;
-        return Ok(Look::Stays(Text::from_vec(Vec::new(alloc))));
+        on_none(&asked.target.which)?;
+        return Ok(Look::Stays(Text::from_vec(Vec::new(asked.alloc))));
     }
     if command.prints() {
-        let printed = print_rules(alloc, operation, current, lines, marked, items)?;
+        let printed = print_rules(
+            asked.alloc,
+            operation,
+            asked.current,
+            asked.lines,
+            marked,
+            items,
+        )?;
         return Ok(Look::Stays(printed));
     }
     Ok(Look::Changes(marks))
 }
 
 /// What a command that prints nothing makes of a file of which the items that it is meant for are marked.
-fn change(
-    alloc: Global,
-    command: &Command,
-    target: &Target,
-    current: &[u8],
-    lines: &[u32],
-    marks: Vec<bool>,
-    file: &mut File,
-) -> Result<Ran, Refusal>
-    requires { IsLook command.now target.now current.now lines.now file.old (Look.Changes marks) }
-    ensures ok { OnOk result (effect command.now target.now current.now lines.now file.old ≡ Ok file.new) }
+fn change(asked: Asked<'_>, marks: Vec<bool>, file: &mut File) -> Result<Ran, Refusal>
+    requires { IsLook asked file.old (Look.Changes marks) }
+    ensures ok { OnOk result (effect_by asked.entry file.old ≡ Ok file.new) }
     ensures same { IfOk result (λ ran. IsTrue ran.same ↔ (file.new ≡ file.old)) }
-    ensures printed { IfOk result (λ ran. printed command.now target.now current.now lines.now file.old ≡ Ok ran.printed) }
+    ensures printed { IfOk result (λ ran. printed_by asked.entry file.old ≡ Ok ran.printed) }
     ensures extent { IfOk result (λ ran. IsOfExtent ran.extent ran.marks.items file.old file.new) }
-    ensures err { IfErr result (λ refusal. (effect command.now target.now current.now lines.now file.old ≡ Err refusal) ⊎ (refusal ≡ Refusal.Memory)) }
+    ensures err { IfErr result (λ refusal. (effect_by asked.entry file.old ≡ Err refusal) ⊎ (refusal ≡ Refusal.Memory)) }
 {
     effects_stay_proper();
     // What is read of the command, so that its words are known to be proper.
+    let command = asked.command;
     let operation = &command.operation;
-    let before = mem::replace(&mut file.items, Items::new(alloc));
+    let before = mem::replace(&mut file.items, Items::new(asked.alloc));
     let Changed {
         items,
         same,
         extent,
-    } = on_rules(alloc, operation, current, marks.as_slice(), before)?;
+    } = on_rules(
+        asked.alloc,
+        operation,
+        asked.current,
+        marks.as_slice(),
+        before,
+    )?;
     file.items = items;
     Ok(Ran {
         same,
         extent,
         marks,
-        printed: Text::from_vec(Vec::new(alloc)),
+        printed: Text::from_vec(Vec::new(asked.alloc)),
     })
 }
 
@@ -151,16 +161,23 @@ pub fn run_in(
     ensures extent { IfOk result (λ ran. IsOfExtent ran.extent ran.marks.items file.old file.new) }
     ensures err { IfErr result (λ refusal. (effect command.now target.now current.now lines.now file.old ≡ Err refusal) ⊎ (refusal ≡ Refusal.Memory)) }
 {
+    let asked = Asked {
+        alloc,
+        command,
+        target,
+        current,
+        lines,
+    };
     let items = file.items.as_slice();
     let marks = meant(alloc, &target.which, lines, items)?;
-    match look_at(alloc, command, target, current, lines, marks, items)? {
+    match look_at(asked, marks, items)? {
         Look::Stays(printed) => Ok(Ran {
             same: true,
             extent: Extent::Whole,
             marks: Vec::new(alloc),
             printed,
         }),
-        Look::Changes(marks) => change(alloc, command, target, current, lines, marks, file),
+        Look::Changes(marks) => change(asked, marks, file),
     }
 }
 
@@ -176,23 +193,15 @@ fn if_other(same: bool, file: File) -> Option<File>
 }
 
 /// What a command that prints nothing makes of a file of which the items that it is meant for are marked, on a copy of it.
-fn change_copy(
-    alloc: Global,
-    command: &Command,
-    target: &Target,
-    current: &[u8],
-    lines: &[u32],
-    marks: Vec<bool>,
-    copy: File,
-) -> Result<Outcome, Refusal>
-    requires { IsLook command.now target.now current.now lines.now copy (Look.Changes marks) }
-    ensures ok { IfOk result (λ outcome. effect command.now target.now current.now lines.now copy ≡ Ok (unwrap_or outcome.file copy)) }
-    ensures unchanged { IfOk result (λ outcome. (outcome.file ≡ None) ↔ (effect command.now target.now current.now lines.now copy ≡ Ok copy)) }
-    ensures printed { IfOk result (λ outcome. printed command.now target.now current.now lines.now copy ≡ Ok outcome.printed) }
-    ensures err { IfErr result (λ refusal. (effect command.now target.now current.now lines.now copy ≡ Err refusal) ⊎ (refusal ≡ Refusal.Memory)) }
+fn change_copy(asked: Asked<'_>, marks: Vec<bool>, copy: File) -> Result<Outcome, Refusal>
+    requires { IsLook asked copy (Look.Changes marks) }
+    ensures ok { IfOk result (λ outcome. effect_by asked.entry copy ≡ Ok (unwrap_or outcome.file copy)) }
+    ensures unchanged { IfOk result (λ outcome. (outcome.file ≡ None) ↔ (effect_by asked.entry copy ≡ Ok copy)) }
+    ensures printed { IfOk result (λ outcome. printed_by asked.entry copy ≡ Ok outcome.printed) }
+    ensures err { IfErr result (λ refusal. (effect_by asked.entry copy ≡ Err refusal) ⊎ (refusal ≡ Refusal.Memory)) }
 {
     let mut file = copy;
-    match change(alloc, command, target, current, lines, marks, &mut file) {
+    match change(asked, marks, &mut file) {
         Ok(ran) => Ok(Outcome {
             file: if_other(ran.same, file),
             printed: ran.printed,
@@ -241,16 +250,23 @@ pub fn run_named(
     ensures printed { IfOk result (λ outcome. printed command.now target.now current.now lines.now file.now ≡ Ok outcome.printed) }
     ensures err { IfErr result (λ refusal. (effect command.now target.now current.now lines.now file.now ≡ Err refusal) ⊎ (refusal ≡ Refusal.Memory)) }
 {
+    let asked = Asked {
+        alloc,
+        command,
+        target,
+        current,
+        lines,
+    };
     let items = file.items.as_slice();
     let marks = meant_by(alloc, &target.which, lines, names, items)?;
-    match look_at(alloc, command, target, current, lines, marks, items)? {
+    match look_at(asked, marks, items)? {
         Look::Stays(printed) => Ok(Outcome {
             file: None,
             printed,
         }),
         Look::Changes(marks) => {
             let copy = file.copy()?;
-            change_copy(alloc, command, target, current, lines, marks, copy)
+            change_copy(asked, marks, copy)
         }
     }
 }

@@ -5,10 +5,9 @@ ghost use Rattle.bz_rule.specs.Rules.{rule_of};
 ghost use Rattle.bz_grammar.specs.declared.kind.Kind.TheVariants as k;
 ghost use Rattle.bz_rule.specs.Values.{on_first, on_row};
 ghost use Rattle.bz_comment.specs.Changes.{changed_by};
-ghost use Rattle.bz_command.specs.private.CallParts.{with_list, with_list_in, before_in_call, before_in_row, before_in_statement, before_in};
+ghost use Rattle.bz_command.specs.private.Looks.{with_list, with_list_in, before_in_call, before_in_row, before_in_statement, before_in, arguments_by, made_by};
 ghost use Rattle.bz_attribute.specs.Made.{function_of};
 ghost use Rattle.bz_command.specs.Effect.{on_arguments, on_host_of_item, on_one, on_statement, source, value_in, with_function};
-ghost use Rattle.bz_command.specs.private.Looks.{arguments_by, made_by};
 
 use crate::targets::is_rule;
 use bz_attribute::function_of;

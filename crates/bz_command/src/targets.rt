@@ -3,7 +3,7 @@ ghost use Rattle.std.specs.Prelude.{◌≡◌, ◌∷◌, List, IfOk, IfSome, le
 ghost use Rattle.bz_value.specs.declared.value.Item.{Item};
 ghost use Rattle.bz_rule.specs.Rules.{is_rule_of_kind, has_name};
 ghost use Rattle.bz_rule.specs.Index.{IsIndexOf};
-ghost use Rattle.bz_command.specs.Targets.{is_rule, on_line, first_mark, meant, may_mean_none};
+ghost use Rattle.bz_command.specs.Effect.{is_rule, on_line, first_mark, meant, may_mean_none};
 
 use bz_items::Memory;
 use bz_label::Which;

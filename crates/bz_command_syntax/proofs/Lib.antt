@@ -1,7 +1,5 @@
 pub mod Alike
 pub mod CommentWords
-pub mod CutTexts
-pub mod EachForms
 pub mod NameTests
 pub mod Named
 pub mod Pieces

@@ -3,7 +3,7 @@ use Rattle.std.proofs.Common.{◌≡◌, Bool, true, false, List, [], ◌∷◌,
 use Rattle.std.specs.Prelude.{if◌then◌else◌}
 use Rattle.std.specs.Option.{option_map_or}
 use Rattle.std.specs.List.{list_any}
-use Rattle.std.proofs.lemmas.Bool.{cases_Bool}
+use Rattle.std.proofs.lemmas.Bool.{cases_Bool, false_from_ne_true}
 use Rattle.std.proofs.lemmas.Slice.Eq.{bytes_eq-Decides}
 use Rattle.bz_items.specs.Characters.{Bytes}
 use Rattle.bz_command_syntax.specs.Commands.{ReadCommand, commands, command_names, command_in, row_named}
@@ -28,10 +28,7 @@ IsNone name [] = Unit {0}
 IsNone name (known ∷ more) = (name ≡ known → ⊥) × IsNone name more
 
 differs : (name text : Bytes) → (name ≡ text → ⊥) → bytes_eq name text ≡ false
-differs name text other = elim (cases_Bool (bytes_eq name text)) [
-  | inl e ↦ absurd (other ((bytes_eq-Decides name text).0 e))
-  | inr e ↦ e
-]
+differs name text other = false_from_ne_true _ (λ e. other ((bytes_eq-Decides name text).0 e))
 
 none_in : (table : Table) (name : Bytes) → IsNone name (map (λ command. command.0) table) → row_named table name ≡ None
 none_in [] name other = refl

@@ -156,7 +156,7 @@ abbrev AreTexts : Bytes × Bytes → Type 0
 AreTexts parts = IsUtf8 parts.0 × IsUtf8 parts.1
 
 entry_proper : (word : Bytes) → IsUtf8 word → IfSome (c.entry_of word) IsEntry
-entry_proper word u = mapped AreTexts IsEntry _ (c.cut_at colon word) (cut_utf8 colon [] word (omega arith) u) (λ parts p. p)
+entry_proper word u = mapped AreTexts IsEntry _ (c.cut_at colon word) (cut_utf8 colon word (omega arith) u) (λ parts p. p)
 
 abbrev HasEntries : Bytes × List Entry → Type 0
 HasEntries parts = IsAttribute parts.0 × AreSome IsEntry parts.1
@@ -173,7 +173,7 @@ names_proper : (to from : Bytes) → IsUtf8 to → IsUtf8 from → IfSome (c.sym
 names_proper to from u v = given_is IsSymbol (is_identifier to && is_identifier from) _ (λ h. let i = and_parts (is_identifier to) (is_identifier from) h in ((i.0, u), (i.1, v)))
 
 symbol_proper : (word : Bytes) → IsUtf8 word → IfSome (c.symbol_of word) IsSymbol
-symbol_proper word u = by (c.cut_at equals_sign word) (cut_utf8 equals_sign [] word (omega arith) u)
+symbol_proper word u = by (c.cut_at equals_sign word) (cut_utf8 equals_sign word (omega arith) u)
   where
     by : (parts : Option (Bytes × Bytes)) → IfSome parts AreTexts → IfSome (option_map_or (λ both. c.symbol_of_names both.0 both.1) parts (c.symbol_of_names word word)) IsSymbol
     by None h = names_proper word word u u

@@ -1,12 +1,12 @@
 -- What is UTF-8 and cut beside ASCII stays UTF-8.
-use Rattle.std.proofs.Common.{◌≡◌, ◌==◌, ◌<◌, ◌+◌, ℕ, Bool, true, false, List, [], ◌∷◌, ◌++◌, ◌&&◌, ◌||◌, not, map, filter, length, drop, get_or, refl, sym, ap, ◌∙◌, subst, inl, inr, arith, length-append, append_assoc, IsUtf8, IfSome, Option, Some, None, option_map}
-use Rattle.std.specs.Prelude.{if◌then◌else◌}
+use Rattle.std.proofs.Common.{◌≡◌, ◌==◌, ◌<◌, ◌+◌, ℕ, Bool, true, false, List, [], ◌∷◌, ◌++◌, ◌&&◌, ◌||◌, not, filter, length, position, take, drop, get_or, refl, sym, ap, ◌∙◌, subst, inl, inr, arith, length-append, append_assoc, IsUtf8, IfSome, Option, Some, None, option_map}
 use Rattle.std.specs.List.{flat_map}
 use Rattle.std.proofs.lemmas.Bool.{cases_Bool, eqb-true, or_cases, and_parts}
 use Rattle.std.proofs.lemmas.List.{take_at, drop_at, append-nil}
 use Rattle.std.proofs.lemmas.Str.{IsUtf8-take, IsUtf8-drop, IsUtf8-append, IsUtf8-from_ascii, IsCharBoundary-before_ascii, IsCharBoundary-after_ascii}
 use Rattle.std.proofs.lemmas.Str.Ascii.{IsAscii-from_all}
 use Rattle.std.proofs.lemmas.List.Elements.{All-cons}
+use Rattle.std.proofs.lemmas.List.Quantifiers.{position-Some}
 use Rattle.std.proofs.Math.Seq.{get_or-append_seam}
 use Rattle.bz_items.specs.Characters.{Bytes, backslash, letter_n, line_feed, quotation_mark, space}
 use Rattle.bz_command_syntax.specs.Commands.{cut_at}
@@ -28,27 +28,17 @@ beside_ascii front byte rest h u =
       subst IsUtf8 past (IsUtf8-drop all (length front + 1) u (IsCharBoundary-after_ascii all (length front) u (omega arith) (omega arith))),
     )
 
--- two texts, the first of which goes after a front
-abbrev pub AreAfter : Bytes → Bytes × Bytes → Type 0
-AreAfter front parts = IsUtf8 (front ++ parts.0) × IsUtf8 parts.1
-
-byte_after : (front : Bytes) (byte : ℕ) (parts : Option (Bytes × Bytes)) → IfSome parts (AreAfter (front ++ byte ∷ []))
-    → IfSome (option_map (λ both. (byte ∷ both.0, both.1)) parts) (AreAfter front)
-byte_after front byte None h = tt
-byte_after front byte (Some both) h = (subst IsUtf8 (append_assoc front (byte ∷ []) both.0) h.0, h.1)
-
 -- both sides of a cut
-pub cut_utf8 : (byte : ℕ) (front text : Bytes) → byte < 128 → IsUtf8 (front ++ text) → IfSome (cut_at byte text) (AreAfter front)
-cut_utf8 byte front [] l u = tt
-cut_utf8 byte front (first ∷ rest) l u =
-    elim (cases_Bool (first == byte)) [
-      | inl e ↦
-          let same : first ≡ byte = eqb-true first byte e in
-          let w = beside_ascii front first rest (omega arith) u in
-          rw e (subst IsUtf8 (sym (append-nil front)) w.0, w.1)
-      | inr e ↦
-          rw e (byte_after front first (cut_at byte rest) (cut_utf8 byte (front ++ first ∷ []) rest l (subst IsUtf8 (sym (append_assoc front (first ∷ []) rest)) u)))
-    ]
+pub cut_utf8 : (byte : ℕ) (text : Bytes) → byte < 128 → IsUtf8 text → IfSome (cut_at byte text) (λ parts. IsUtf8 parts.0 × IsUtf8 parts.1)
+cut_utf8 byte text l u = by (position (λ each. each == byte) text) refl
+  where
+    by : (found : Option ℕ) → position (λ each. each == byte) text ≡ found → IfSome {T = Bytes × Bytes} (option_map (λ at. (take at text, drop (at + 1) text)) found) (λ parts. IsUtf8 parts.0 × IsUtf8 parts.1)
+    by None e = tt
+    by (Some at) e =
+        let found = position-Some (λ each. each == byte) text at 0 e in
+        let here : get_or text at 0 ≡ byte = eqb-true (get_or text at 0) byte found.1 in
+        let low : get_or text at 0 < 128 = omega (arith, here) in
+        (IsUtf8-take text at u (IsCharBoundary-before_ascii text at found.0 low), IsUtf8-drop text (at + 1) u (IsCharBoundary-after_ascii text at u found.0 low))
 
 pub one_ascii : (byte : ℕ) → byte < 128 → IsUtf8 (byte ∷ [])
 one_ascii byte h = IsUtf8-from_ascii (byte ∷ []) (IsAscii-from_all (byte ∷ []) (All-cons (λ b. b < 128) byte [] h (λ k d l. absurd (omega arith))))
@@ -100,7 +90,7 @@ quoted_utf8 word u =
 
 -- ---- the words of a text
 
-nothing_before : (all : List Bytes) → AreUtf8 (after_word [] all) → AreUtf8 all
+pub nothing_before : (all : List Bytes) → AreUtf8 (after_word [] all) → AreUtf8 all
 nothing_before [] u = tt
 nothing_before (piece ∷ all) u = u
 

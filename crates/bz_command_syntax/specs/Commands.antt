@@ -1,5 +1,5 @@
 -- The commands, by their words.
-use Rattle.std.specs.Prelude.{ℕ, ◌==◌, Bool, true, false, ◌&&◌, ◌||◌, not, if◌then◌else◌, List, [], ◌∷◌, length, Option, Some, None, Result, Ok, Err, codes, bytes_eq, nat_le, map, option_map}
+use Rattle.std.specs.Prelude.{ℕ, ◌==◌, ◌+◌, take, drop, position, Bool, true, false, ◌&&◌, ◌||◌, not, if◌then◌else◌, List, [], ◌∷◌, length, Option, Some, None, Result, Ok, Err, codes, bytes_eq, nat_le, map, option_map}
 use Rattle.std.specs.List.{list_any}
 use Rattle.std.specs.Option.{option_and_then, option_map_or, ok_or}
 use Rattle.bz_items.specs.Characters.{Bytes, asterisk, colon, equals_sign, line_feed}
@@ -163,8 +163,7 @@ copy_no_overwrite_of words = operation_of (λ parts. w.Attribute (wa.CopyNoOverw
 
 -- what is before the first such byte, and what is after it
 abbrev pub cut_at : ℕ → Bytes → Option (Bytes × Bytes)
-cut_at byte [] = None
-cut_at byte (first ∷ rest) = if first == byte then Some ([], rest) else option_map (λ parts. (first ∷ parts.0, parts.1)) (cut_at byte rest)
+cut_at byte text = option_map (λ at. (take at text, drop (at + 1) text)) (position (λ each. each == byte) text)
 
 -- KEY:VALUE; the key ends at the first colon
 abbrev pub entry_of : Bytes → Option Entry

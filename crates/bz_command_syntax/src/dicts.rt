@@ -42,7 +42,6 @@ fn entries_of(mut words: Vec<Text>) -> Result<(Text, Items<Entry>), CommandFault
     Ok((attribute, entries))
 }
 
-/// `dict_add ATTRIBUTE KEY:VALUE..`. The errors: `Arguments`: the words have another form; `Memory`: a growth was refused.
 pub(crate) fn dict_add_of(words: Vec<Text>) -> Read
     ensures { IsReadAs (c.dict_add_of words.items) result }
 {
@@ -50,7 +49,6 @@ pub(crate) fn dict_add_of(words: Vec<Text>) -> Read
     Ok(Operation::Dict(DictOperation::Add { attribute, entries }))
 }
 
-/// `dict_set ATTRIBUTE KEY:VALUE..`. The errors: `Arguments`: the words have another form; `Memory`: a growth was refused.
 pub(crate) fn dict_set_of(words: Vec<Text>) -> Read
     ensures { IsReadAs (c.dict_set_of words.items) result }
 {
@@ -58,7 +56,6 @@ pub(crate) fn dict_set_of(words: Vec<Text>) -> Read
     Ok(Operation::Dict(DictOperation::Set { attribute, entries }))
 }
 
-/// `dict_remove ATTRIBUTE KEY..`. The error: `Arguments`: the words have another form.
 pub(crate) fn dict_remove_of(words: Vec<Text>) -> Read
     ensures { result ≡ c.dict_remove_of words.items }
 {

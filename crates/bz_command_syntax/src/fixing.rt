@@ -56,7 +56,6 @@ fn fixes_of(words: &[Text]) -> Option<Fixes>
     }
 }
 
-/// `fix [unusedLoads] [movePackageToTop]`. The error: `Arguments`: the words have another form.
 pub(crate) fn fix_of(words: Vec<Text>) -> Read
     ensures { result ≡ c.fix_of words.items }
 {

@@ -37,7 +37,6 @@ fn is_one_line(text: &Text) -> bool
     !text.as_slice().contains(&b'\n')
 }
 
-/// `comment [ATTRIBUTE [VALUE]] TEXT`. The error: `Arguments`: the words have another form, or there is a newline in the text.
 #[tactic(auto, using(crate::proofs::CommentWords::comment_cut))]
 pub(crate) fn comment_of(mut words: Vec<Text>) -> Read
     ensures { result ≡ c.comment_of words.items }
@@ -52,7 +51,6 @@ pub(crate) fn comment_of(mut words: Vec<Text>) -> Read
     Ok(Operation::Comment(CommentOperation::Add { host, text }))
 }
 
-/// `print_comment [ATTRIBUTE [VALUE]]`. The error: `Arguments`: the words have another form.
 pub(crate) fn print_comment_of(words: Vec<Text>) -> Read
     ensures { result ≡ c.print_comment_of words.items }
 {
@@ -60,7 +58,6 @@ pub(crate) fn print_comment_of(words: Vec<Text>) -> Read
     Ok(Operation::Comment(CommentOperation::Print { host }))
 }
 
-/// `remove_comment [ATTRIBUTE [VALUE]]`. The error: `Arguments`: the words have another form.
 pub(crate) fn remove_comment_of(words: Vec<Text>) -> Read
     ensures { result ≡ c.remove_comment_of words.items }
 {

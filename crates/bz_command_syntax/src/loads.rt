@@ -37,7 +37,6 @@ impl FromWord for Symbol {
     }
 }
 
-/// `new_load PATH [TO=]FROM..`. The errors: `Arguments`: the words have another form; `Memory`: a growth was refused.
 pub(crate) fn new_load_of(mut words: Vec<Text>) -> Read
     ensures { IsReadAs (c.new_load_of words.items) result }
 {

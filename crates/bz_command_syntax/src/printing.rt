@@ -60,7 +60,6 @@ fn fields_of(words: Vec<Text>) -> Result<Items<Field>, CommandFault>
     each(alloc, &words)
 }
 
-/// `print [FIELD..]`. The errors: `Arguments`: the words have another form; `Memory`: a growth was refused.
 pub(crate) fn print_of(words: Vec<Text>) -> Read
     ensures { IsReadAs (c.print_of words.items) result }
 {

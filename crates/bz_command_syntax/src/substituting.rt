@@ -8,9 +8,7 @@ use crate::forms::{Read, as_text, attributes_and_words};
 use crate::pattern::Pattern;
 use bz_items::Text;
 
-/// `substitute ATTRIBUTE PATTERN TEMPLATE` or `substitute * PATTERN TEMPLATE`. The errors: `Arguments`: the words have another
-/// form; `BadPattern`: `regex` refuses the pattern; `Memory`: a growth was refused. The pattern is compiled last, so that what is
-/// wrong with the words is reported first.
+/// The pattern is compiled last, so that what is wrong with the words is reported first.
 pub(crate) fn substitute_of(words: Vec<Text>) -> Read
     requires { AreUtf8 words.items }
     ensures { IsReadAs (c.substitute_of words.items) result }

@@ -1,9 +1,3 @@
-pub mod ChangeForms
-pub mod Coming
-pub mod FirstChanged
 pub mod HostForms
 pub mod LawBack
-pub mod LawKeeping
-pub mod OwnForms
 pub mod ProperComments
-pub mod SoughtItems

@@ -1,12 +1,12 @@
 -- Laws of the commands on comments.
-use Rattle.std.specs.Prelude.{◌≡◌, ◌≤◌, List, [], Ok}
+use Rattle.std.specs.Prelude.{◌≡◌, ◌≤◌, List, [], Ok, codes}
 use Rattle.bz_value.specs.declared.value.Expr.{Expr}
 use Rattle.bz_value.specs.Comments.{HostComments, no_comments}
 use Rattle.bz_value.specs.Counted.{total, amount, one_if}
 use Rattle.bz_items.specs.Characters.{Bytes}
 use Rattle.bz_value.specs.Proper.{comments_of}
 use Rattle.bz_command_syntax.specs.declared.command.Host.{Host}
-use Rattle.bz_comment.specs.Hosts.{with_comment, without_comments, comment, remove_comment, print_comment}
+use Rattle.bz_comment.specs.Hosts.{with_comment, without_comments, comment, remove_comment, print_comment, comment_made, comment_line}
 
 -- A comment that was put where nothing is printed, and is taken away again, leaves the arguments as they were.
 abbrev pub CommentTakenAway : Type 0
@@ -28,3 +28,16 @@ CommentLosesNone =
 
 abbrev pub OwnCommentLosesNone : Type 0
 OwnCommentLosesNone = (text : Bytes) (x : Expr) (each : Bytes) → amount (one_if each) x ≤ amount (one_if each) (with_comment text x)
+
+-- ---- worked rows: comments that are made of texts, and comments as they are printed
+
+abbrev pub WorkedComments : Type 0
+WorkedComments =
+    (comment_made (codes "why not") ≡ codes "# why not")
+    -- blanks at the end go
+    × (comment_made (codes "a  ") ≡ codes "# a")
+    × (comment_made (codes " ") ≡ codes "#")
+    -- one space after the mark goes
+    × (comment_line (codes "#x") ≡ codes "x\n")
+    × (comment_line (codes "# x") ≡ codes "x\n")
+    × (comment_line (codes "#  x") ≡ codes " x\n")

@@ -1,4 +1,3 @@
 pub mod Changes
 pub mod Hosts
 pub mod Laws
-pub mod Worked

@@ -101,7 +101,7 @@ fn set_comments(comments: Comments, x: &mut Expr)
 
 /// Changes the comments of an expression: of a rule's statement, of a named argument or of an item. The error: memory was
 /// refused, and the expression is as before.
-#[tactic(auto, using(crate::proofs::ChangeForms::by_comments))]
+#[tactic(auto, using(crate::proofs::HostForms::by_comments))]
 pub fn change_own(alloc: Global, change: Change<'_>, x: &mut Expr) -> Result<(), Memory>
     ensures ok { OnOk result (x.new ≡ changed_by change.entry x.old) }
     ensures err { IsErr result → x.new ≡ x.old }

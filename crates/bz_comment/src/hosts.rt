@@ -20,6 +20,7 @@ use std::alloc::Global;
 
 impl Change<'_> {
     /// Changes the comments of the first argument of this name.
+    #[tactic(auto, using(crate::proofs::HostForms::changed_there, crate::proofs::HostForms::changed_nowhere))]
     fn on_named(self, name: &[u8], arguments: &mut Items<Expr>) -> Result<(), Memory>
         ensures { OnOk result (arguments.new ≡ on_first_that (is_attribute name.now) (changed_by self.entry) arguments.old) }
     {
@@ -43,6 +44,7 @@ impl Change<'_> {
     }
 
     /// Changes the comments of the first item that is the value.
+    #[tactic(auto, using(crate::proofs::HostForms::changed_there, crate::proofs::HostForms::changed_nowhere))]
     fn on_first(self, sought: Sought<'_>, items: &mut Items<Expr>) -> Result<(), Memory>
         ensures { OnOk result (items.new ≡ on_first_that (is_sought sought.entry) (changed_by self.entry) items.old) }
     {
@@ -66,6 +68,7 @@ impl Change<'_> {
     }
 
     /// The same of the first operand that is a list with the value.
+    #[tactic(auto, using(crate::proofs::HostForms::changed_there))]
     fn on_first_list(self, sought: Sought<'_>, operands: &mut Items<Expr>) -> Result<(), Memory>
         ensures { OnOk result (operands.new ≡ on_first_that (has_item (is_sought sought.entry)) (on_items kinds.List (on_first_that (is_sought sought.entry) (changed_by self.entry))) operands.old) }
     {

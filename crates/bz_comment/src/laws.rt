@@ -1,6 +1,5 @@
 //! Facts about the definitions, for readers: the functions do nothing.
-ghost use Rattle.bz_comment.specs.Laws.{CommentLosesNone, CommentTakenAway, OwnCommentLosesNone, OwnCommentTakenAway};
-ghost use Rattle.bz_comment.specs.Worked.{WorkedComments};
+ghost use Rattle.bz_comment.specs.Laws.{CommentLosesNone, CommentTakenAway, OwnCommentLosesNone, OwnCommentTakenAway, WorkedComments};
 
 /// Worked rows: comments that are made of texts, and comments as they are printed.
 pub fn worked_comments()
@@ -20,13 +19,13 @@ pub fn own_comment_taken_away()
 {}
 
 /// A comment that is put takes no comment from the arguments.
-#[tactic(auto, using(crate::proofs::LawKeeping::comment_loses_none))]
+#[tactic(auto, using(crate::proofs::LawBack::comment_loses_none))]
 pub fn comment_loses_none()
     ensures { CommentLosesNone }
 {}
 
 /// The same of a rule's own statement.
-#[tactic(auto, using(crate::proofs::LawKeeping::own_comment_loses_none))]
+#[tactic(auto, using(crate::proofs::LawBack::own_comment_loses_none))]
 pub fn own_comment_loses_none()
     ensures { OwnCommentLosesNone }
 {}

@@ -76,7 +76,7 @@ fn first_in_list<'a>(sought: Sought<'_>, x: &'a Expr) -> Option<&'a Expr>
 }
 
 /// The first item of the lists among the operands of a sum that is the value.
-#[tactic(auto, using(crate::proofs::SoughtItems::found_here, crate::proofs::SoughtItems::found_later))]
+#[tactic(auto, using(crate::proofs::HostForms::sought_here, crate::proofs::HostForms::sought_later))]
 fn first_in_operands<'a>(sought: Sought<'_>, operands: &'a [Expr]) -> Option<&'a Expr>
     ensures { option_copied result ≡ find (sought_item sought.entry) (flat_map listed operands.now) }
 {

@@ -1,27 +1,107 @@
--- The places of the keys of entries: after one entry more, and after another value of an entry.
-use Rattle.std.proofs.Common.{◌≡◌, ◌<◌, ◌≤◌, ◌+◌, ℕ, zero, suc, Bool, true, false, List, [], ◌∷◌, ◌++◌, length, get_or, set, drop, refl, sym, ap, ◌∙◌, cond, arith, true≢false}
-use Rattle.std.specs.Prelude.{Vec, Option, Some, None, is_some, bytes_eq, if◌then◌else◌}
-use Rattle.std.specs.List.{list_any, position_from}
-use Rattle.std.specs.Option.{option_or}
-use Rattle.std.specs.BTreeMap.{BTreeMap}
-use Rattle.std.specs.declared.alloc.Global.{Global}
-use Rattle.std.proofs.lemmas.Iterator.Adapters.{position_from-zero}
-use Rattle.std.proofs.lemmas.List.{drop_more, drop_all}
-use Rattle.std.proofs.lemmas.List.Folds.{list_any_at, list_any_none}
+-- An entry with another value has its key.
+use Rattle.std.proofs.Common.{◌≡◌, true, List, [], ◌∷◌, refl, sym, ap, ◌∙◌, ℕ, false, subst, inl, inr, ◌<◌, ◌≤◌, ◌+◌, zero, suc, Bool, ◌++◌, length, get_or, set, drop, cond, arith, true≢false, not}
+use Rattle.std.specs.Prelude.{None, Vec, Option, Some, bytes_eq, if◌then◌else◌, is_some, Ok, Err}
+use Rattle.bz_grammar.specs.declared.kind.Kind.{Kind}
+use Rattle.bz_grammar.specs.declared.kind.Kind.TheVariants as k
 use Rattle.bz_value.specs.declared.value.Expr.{Expr}
 use Rattle.bz_items.specs.Characters.{Bytes}
 use Rattle.bz_command_syntax.specs.declared.command.Entry.{Entry}
-use Rattle.bz_rule.specs.Rules.{is_text}
-use Rattle.bz_attribute.specs.Attributes.{on_first_that}
-use Rattle.bz_attribute.specs.Made.{mark}
+use Rattle.bz_rule.specs.Values.{has_kind, parts_of, items_of, with_parts, with_items, on_row, on_items, on_third}
+use Rattle.bz_rule.proofs.ProperChanges.{by_case}
+use Rattle.bz_attribute.specs.Made.{string_of, mark}
+use Rattle.bz_attribute.proofs.FormsAgain.{if_true, parts_kind, parts_filled, items_filled, if_false}
+use Rattle.bz_dict.specs.Dicts.{key_in, key_of, with_entry_value, has_some_key, has_key, entry_made, without_entries, cleared_dict, without_keys, dict_remove}
+use Rattle.std.specs.List.{list_any, position_from, filter}
+use Rattle.std.specs.Map.{KeepsOthers}
+use Rattle.std.specs.Option.{option_map_or, option_or}
+use Rattle.std.specs.declared.alloc.Global.{Global}
+use Rattle.std.specs.Ordering.{nat_cmp}
+use Rattle.std.specs.Cmp.{eq_by_cmp_equiv}
+use Rattle.std.specs.Cmp.Lexicographic.{slice_cmp, nat_list_cmp_total}
+use Rattle.std.specs.BTreeMap.{BTreeMap, Updates, is_at}
+use Rattle.std.specs.BTreeSet.{BTreeSet}
+use Rattle.std.proofs.Math.Path.{fun_ext}
+use Rattle.std.proofs.lemmas.Bool.{cases_Bool}
+use Rattle.std.proofs.lemmas.Cmp.{nat_list_eq_equiv}
+use Rattle.std.proofs.lemmas.List.Folds.{list_any_none, list_any_at}
+use Rattle.std.proofs.lemmas.Map.Text.{is_eq-slice_cmp}
+use Rattle.bz_attribute.proofs.KeySets.{equal_texts, text_cmp}
+use Rattle.bz_attribute.specs.Sets.{texts_of}
+use Rattle.bz_dict.specs.private.Keys.{place_at, is_chosen, first_place, AreIndexed, entry_put, entries_put}
+use Rattle.std.proofs.lemmas.Iterator.Adapters.{position_from-zero}
+use Rattle.std.proofs.lemmas.List.{drop_more, drop_all}
+use Rattle.bz_rule.specs.Rules.{is_text, attribute}
+use Rattle.bz_attribute.specs.Attributes.{on_first_that, with_value, without, Arguments, by_value}
 use Rattle.bz_attribute.proofs.ArgumentPlaces.{IsFirst, is_first, none_passes, changed_at}
-use Rattle.bz_dict.specs.Dicts.{key_of, has_key, entry_made, with_entry_value}
-use Rattle.bz_dict.specs.private.Keys.{place_at, first_place, AreIndexed, entry_put, entries_put}
 use Rattle.bz_dict.specs.declared.entries.Change.{Change}
 use Rattle.bz_dict.specs.declared.entries.Change.TheVariants.{Add, Set}
-use Rattle.bz_attribute.proofs.FormsAgain.{if_true, if_false}
-use Rattle.bz_attribute.proofs.KeySets.{equal_texts}
-use Rattle.bz_dict.proofs.EntryForms.{key_kept}
+use Rattle.bz_value.specs.Empty.{is_empty}
+use Rattle.bz_value.specs.declared.refusal.Refusal.TheVariants.{NotADict}
+
+-- the key of the parts with another value
+third_key : (change : Expr → Expr) (ps : List Expr) → key_in (on_third change ps) ≡ key_in ps
+third_key change [] = refl
+third_key change (x ∷ []) = refl
+third_key change (x ∷ y ∷ []) = refl
+third_key change (x ∷ y ∷ z ∷ rest) = refl
+
+-- the key of a form of these parts
+key_with : (ps : List Expr) (x : Expr) → has_kind k.Entry x ≡ true → key_of (with_parts ps x) ≡ key_in ps
+key_with ps x is =
+    if_true (has_kind k.Entry (with_parts ps x)) (key_in (parts_of (with_parts ps x))) None (parts_kind k.Entry ps x ∙ is)
+    ∙ ap key_in (parts_filled k.Entry ps x is)
+
+key_by : (change : Expr → Expr) (x : Expr) → key_of (on_row k.Entry (on_third change) x) ≡ key_of x
+key_by change x =
+    by_case (λ (y : Expr). key_of y ≡ key_of x) (has_kind k.Entry x) (with_parts (on_third change (parts_of x)) x) x
+    (λ is. key_with (on_third change (parts_of x)) x is ∙ (third_key change (parts_of x) ∙ sym (if_true (has_kind k.Entry x) (key_in (parts_of x)) None is)))
+    (λ is. refl)
+
+pub key_kept : (current name : Bytes) (entry : Entry) (x : Expr) → key_of (with_entry_value current name entry x) ≡ key_of x
+key_kept current name entry x = key_by (λ old. string_of current name entry.value) x
+
+-- the items of a dict, changed
+pub items_changed : (kind : Kind) (change : List Expr → List Expr) (x : Expr) → has_kind kind x ≡ true → items_of (on_items kind change x) ≡ change (items_of x)
+items_changed kind change x is =
+    ap items_of (if_true (has_kind kind x) (with_items (change (items_of x)) x) x is) ∙ items_filled kind (change (items_of x)) x is
+
+-- ---- the entries of chosen keys, and a map of keys to places with one key more
+
+-- ---- the entries of chosen keys
+
+by_key : (keys : List Bytes) (found : Option Bytes) → option_map_or (λ key. list_any (bytes_eq key) keys) found false ≡ list_any (λ key. option_map_or (λ other. bytes_eq other key) found false) keys
+by_key keys None = sym (list_any_none (λ (word : Bytes). false) keys (λ k d l. refl))
+by_key keys (Some key) = refl
+
+by_texts : (one other : List Bytes) (found : Option Bytes) → ((key : Bytes) → list_any (bytes_eq key) one ≡ list_any (bytes_eq key) other)
+    → option_map_or (λ key. list_any (bytes_eq key) one) found false ≡ option_map_or (λ key. list_any (bytes_eq key) other) found false
+by_texts one other None e = refl
+by_texts one other (Some key) e = e key
+
+pub chosen_keys : (set : BTreeSet (Vec ℕ Global)) (keys : List Bytes) → ((key : Bytes) → list_any (bytes_eq key) (texts_of set) ≡ list_any (bytes_eq key) keys) → is_chosen set ≡ has_some_key keys
+chosen_keys set keys e = fun_ext (λ x. by_texts (texts_of set) keys (key_of x) e ∙ by_key keys (key_of x))
+
+-- ---- a map with one key more
+
+-- no key is another word's
+apart : (text key : Vec ℕ Global) (word : Bytes) → bytes_eq text.items word ≡ false → is_at (text_cmp text) key ≡ true → is_at (λ (other : Vec ℕ Global). slice_cmp nat_cmp word other.items) key ≡ false
+apart text key word n y =
+    let same : text.items ≡ key.items = equal_texts text.items key.items (sym (is_eq-slice_cmp text.items key.items) ∙ y) in
+    is_eq-slice_cmp word key.items ∙ (nat_list_eq_equiv.symm word key.items ∙ (ap (λ (z : Bytes). bytes_eq z word) (sym same) ∙ n))
+
+pub key_placed : (old new : BTreeMap (Vec ℕ Global) ℕ) (text : Vec ℕ Global) (bytes word : Bytes) (at : ℕ) → text.items ≡ bytes → Updates text_cmp old new text (Some at)
+    → place_at new word ≡ (if bytes_eq bytes word then Some at else place_at old word)
+unfolding KeepsOthers
+key_placed old new text bytes word at same h = elim (cases_Bool (bytes_eq bytes word)) [
+  | inl y ↦
+      subst (λ (z : Bytes). place_at new z ≡ Some at) (same ∙ equal_texts bytes word y) h.1
+      ∙ sym (if_true (bytes_eq bytes word) (Some at) (place_at old word) y)
+  | inr n ↦
+      h.3 _ (λ x y. (eq_by_cmp_equiv nat_list_cmp_total).congr word x.items y.items) (λ key. apart text key word (ap (λ (z : Bytes). bytes_eq z word) same ∙ n))
+      ∙ sym (if_false (bytes_eq bytes word) (Some at) (place_at old word) n)
+]
+
+-- ---- the places of the keys of entries: after one entry more, and after another value of an entry
 
 -- ---- the first place
 
@@ -159,3 +239,39 @@ pub put_end : (change : Change) (current name : Bytes) (entries : List Entry) (a
     → length entries ≤ at → entries_put change current name (drop at entries) items ≡ all → items ≡ all
 put_end change current name entries at items all following so_far =
     sym (put_done change current name items) ∙ (ap (λ left. entries_put change current name left items) (sym (drop_all at entries following)) ∙ so_far)
+
+-- ---- what is left of an attribute whose dict loses entries
+
+-- no entry is left
+pub emptied : (test : Expr → Bool) (name : Bytes) (value new : Expr) (arguments after : List Expr) → has_kind k.Dict value ≡ true → new ≡ on_items k.Dict (filter test) value
+    → is_empty (items_of new) ≡ true → without name after ≡ without name arguments → without name after ≡ cleared_dict name (filter test (items_of value)) value arguments
+emptied test name value new arguments after is same none gone =
+    gone
+    ∙ sym (if_true (is_empty (filter test (items_of value))) (without name arguments) (with_value name (on_items k.Dict (λ old. filter test (items_of value)) value) arguments)
+    (sym (ap (λ (x : Expr). is_empty (items_of x)) same ∙ ap is_empty (items_changed k.Dict (filter test) value is)) ∙ none))
+
+-- some are left
+pub remaining : (test : Expr → Bool) (name : Bytes) (value new : Expr) (arguments after : List Expr) → has_kind k.Dict value ≡ true → new ≡ on_items k.Dict (filter test) value
+    → is_empty (items_of new) ≡ false → ((other : Expr) → with_value name other after ≡ with_value name other arguments)
+    → with_value name new after ≡ cleared_dict name (filter test (items_of value)) value arguments
+remaining test name value new arguments after is same some place =
+    place new
+    ∙ (ap (λ (x : Expr). with_value name x arguments) same
+    ∙ sym (if_false (is_empty (filter test (items_of value))) (without name arguments) (with_value name (on_items k.Dict (λ old. filter test (items_of value)) value) arguments)
+    (sym (ap (λ (x : Expr). is_empty (items_of x)) same ∙ ap is_empty (items_changed k.Dict (filter test) value is)) ∙ some)))
+
+-- entries of the keys are there
+pub removed : (name : Bytes) (keys : List Bytes) (chosen : Expr → Bool) (value : Expr) (arguments new : List Expr) → attribute name arguments ≡ Some value → has_kind k.Dict value ≡ true
+    → chosen ≡ has_some_key keys → list_any chosen (items_of value) ≡ true → new ≡ cleared_dict name (filter (λ x. not (chosen x)) (items_of value)) value arguments
+    → dict_remove name keys arguments ≡ Ok new
+removed name keys chosen value arguments new own is same any e =
+    ap (λ (o : Option Expr). by_value o (Ok arguments) (λ (x : Expr). if has_kind k.Dict x then Ok (without_keys name keys x arguments) else Err NotADict)) own
+    ∙ (if_true {X = Arguments} (has_kind k.Dict value) (Ok (without_keys name keys value arguments)) (Err NotADict) is
+    ∙ ap (λ (xs : List Expr). Ok xs)
+    (if_true (list_any (has_some_key keys) (items_of value)) (cleared_dict name (without_entries keys (items_of value)) value arguments) arguments
+    (ap (λ (test : Expr → Bool). list_any test (items_of value)) (sym same) ∙ any)
+    ∙ sym (e ∙ ap (λ (test : Expr → Bool). cleared_dict name (filter (λ x. not (test x)) (items_of value)) value arguments) same)))
+
+-- one value
+pub same_value : (one other : Expr) (found : Option Expr) → Some one ≡ found → found ≡ Some other → one ≡ other
+same_value one other found e h = let both : Some one ≡ Some other = e ∙ h in cc

@@ -25,7 +25,7 @@ use Rattle.bz_attribute.proofs.AttributesAgain.{by_there, by_absent, same_made, 
 use Rattle.bz_attribute.proofs.FormsAgain.{if_true, if_false, items_kind, items_same}
 use Rattle.bz_attribute.proofs.KeySets.{any_on}
 use Rattle.bz_attribute.proofs.PlainWords.{IsPlain, equal_self, body_quoted}
-use Rattle.bz_dict.proofs.EntryForms.{key_kept, items_changed}
+use Rattle.bz_dict.proofs.KeyPlaces.{key_kept, items_changed}
 
 -- ---- by the value of the attribute
 

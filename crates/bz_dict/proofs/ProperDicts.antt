@@ -1,40 +1,69 @@
--- What each command on dicts makes of the arguments of a rule is arguments.
-use Rattle.std.proofs.Common.{◌≡◌, Bool, true, false, not, List, [], ◌∷◌, ◌++◌, Ok, Err, refl, sym, map, arith, codes, true≢false}
+-- Entries that are added take no comment away.
+use Rattle.std.proofs.Common.{ℕ, ◌≤◌, List, [], ◌∷◌, ◌++◌, Ok, Err, ◌≡◌, Bool, true, false, not, refl, sym, map, arith, codes, true≢false}
 use Rattle.std.specs.Prelude.{if◌then◌else◌}
 use Rattle.std.specs.List.{list_any}
+use Rattle.bz_grammar.specs.declared.kind.Kind.TheVariants as k
+use Rattle.bz_value.specs.declared.value.Expr.{Expr, Token, Form', items-the_row-Expr}
+use Rattle.bz_value.specs.Counted.{total}
+use Rattle.bz_items.specs.Characters.{Bytes}
+use Rattle.bz_command_syntax.specs.declared.command.Entry.{Entry}
+use Rattle.bz_rule.specs.Rules.{attribute}
+use Rattle.bz_rule.specs.Values.{has_kind, on_items, items_of, with_items, on_row, on_third}
+use Rattle.bz_rule.proofs.ProperChanges.{by_test}
+use Rattle.bz_value.specs.declared.refusal.Refusal.TheVariants.{NotADict}
+use Rattle.bz_attribute.specs.Attributes.{with_value, with_new, on_first_that, without}
+use Rattle.bz_attribute.specs.Made.{argument_of, token, mark, string_text, string_of}
+use Rattle.bz_attribute.proofs.AttributesAgain.{of_found}
+use Rattle.bz_attribute.proofs.Grown.{itself as grown_itself, in_turn, EachGrows, append_grows}
+use Rattle.bz_attribute.proofs.GrownArguments.{whole, on_items_grows, with_value_grows, inserted_grows, Grown}
+use Rattle.bz_dict.specs.Dicts.{has_key, entry_made, with_entry, with_entries, dict_of, dict_add, has_some_key, with_entry_value, with_entry_set, with_entries_set, without_entries, on_dict, dict_set, cleared_dict, without_keys, dict_remove}
 use Rattle.std.proofs.lemmas.List.Elements.{All-nil}
 use Rattle.bz_token.specs.declared.class.Class.TheVariants as c
 use Rattle.bz_grammar.specs.declared.kind.Kind.{Kind}
-use Rattle.bz_grammar.specs.declared.kind.Kind.TheVariants as k
 use Rattle.bz_grammar.specs.Shapes as s
 use Rattle.bz_grammar.specs.Shapes.{is_kind}
 use Rattle.bz_grammar.specs.Legal.{IsNonterminal}
 use Rattle.bz_grammar.specs.Spots.{Spot, Within}
-use Rattle.bz_value.specs.declared.value.Expr.{Expr, Token, Form', items-the_row-Expr}
 use Rattle.bz_value.specs.Comments.{no_comments}
-use Rattle.bz_items.specs.Characters.{Bytes}
 use Rattle.bz_value.specs.Proper.{IsComment, after_expr}
 use Rattle.bz_value.specs.Roots.{root}
 use Rattle.bz_value.specs.Roots as r
 use Rattle.bz_value.proofs.FormParts.{AreParts, form_proper}
-use Rattle.bz_command_syntax.specs.declared.command.Entry.{Entry}
 use Rattle.bz_command_syntax.specs.Proper.{IsAttribute, IsEntry, EachIs, AreSome}
 use Rattle.bz_command_syntax.specs.Quoted.{quoted_of}
 use Rattle.bz_value.specs.Empty.{is_empty}
-use Rattle.bz_rule.specs.Values.{has_kind, items_of, with_items, on_row, on_items, on_third}
 use Rattle.bz_value.proofs.LeadParts.{lead_before}
-use Rattle.bz_rule.proofs.ProperChanges.{by_test}
 use Rattle.bz_rule.proofs.ProperForms.{AsForm, InPlace, itself, form_in_place}
 use Rattle.bz_rule.proofs.ProperItems.{IsValue, KeepsRow, row_within, item_within, value_in_place, all_joined, all_kept}
 use Rattle.bz_rule.proofs.ProperSequences.{IsItem, AreOf, items_apart, each_item, items_again, where_true}
 use Rattle.bz_rule.proofs.ProperSequences as sequences
-use Rattle.bz_value.specs.declared.refusal.Refusal.TheVariants.{NotADict}
-use Rattle.bz_attribute.specs.Attributes.{on_first_that, with_value, with_new, without}
-use Rattle.bz_attribute.specs.Made.{token, mark, string_text, string_of}
 use Rattle.bz_attribute.proofs.ProperAttributes.{AreArguments, Made, Keeps, of_attribute, first_that_kept, with_value_kept, without_kept, with_new_kept}
 use Rattle.bz_attribute.proofs.ProperMade.{IsNew, new_part, new_value, none_there, row_proper, token_new, quoted_string, string_strung}
 use Rattle.bz_attribute.proofs.ProperTexts.{one_ascii}
-use Rattle.bz_dict.specs.Dicts.{has_key, has_some_key, entry_made, with_entry, with_entries, with_entry_value, with_entry_set, with_entries_set, without_entries, dict_of, on_dict, dict_add, dict_set, cleared_dict, without_keys, dict_remove}
+
+module _ (number : Bytes → ℕ) where
+  entry_grows : (current name : Bytes) (entry : Entry) → EachGrows (whole number) (with_entry current name entry)
+  entry_grows current name entry items =
+      let more : List Expr = entry_made current name entry ∷ [] in
+      by_test (λ (ys : List Expr). total (whole number) items ≤ total (whole number) ys) (list_any (has_key entry.key) items) items (items ++ more)
+      (grown_itself (total (whole number) items)) (append_grows (whole number) more items)
+
+  entries_grow : (current name : Bytes) (entries : List Entry) → EachGrows (whole number) (with_entries current name entries)
+  entries_grow current name [] items = grown_itself (total (whole number) items)
+  entries_grow current name (entry ∷ entries) items =
+      let more : List Expr = with_entry current name entry items in
+      in_turn (total (whole number) items) (total (whole number) more) (total (whole number) (with_entries current name entries more))
+      (entry_grows current name entry items) (entries_grow current name entries more)
+
+  pub dict_add_grows : (current name : Bytes) (entries : List Entry) (xs : List Expr) → Grown number xs (dict_add current name entries xs)
+  dict_add_grows current name entries xs =
+      let change : List Expr → List Expr = with_entries current name entries in
+      of_found (Grown number xs) (attribute name xs) (Ok (with_new name (dict_of (change [])) xs)) (λ value. if has_kind k.Dict value then Ok (with_value name (on_items k.Dict change value) xs) else Err NotADict)
+      (inserted_grows number (argument_of name (dict_of (change []))) xs)
+      (λ value e. by_test (Grown number xs) (has_kind k.Dict value) (Ok (with_value name (on_items k.Dict change value) xs)) (Err NotADict)
+      (with_value_grows number name value (on_items k.Dict change value) xs e (on_items_grows number k.Dict change (entries_grow current name entries) value)) tt)
+
+-- ---- what each command on dicts makes of the arguments of a rule is arguments
 
 -- ---- new entries and new dicts
 

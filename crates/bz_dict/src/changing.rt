@@ -129,10 +129,8 @@ fn value_with(
     Ok(value)
 }
 
-/// Puts entries, as strings, into the dict of an attribute; where that is absent, it gets a dict of them. A key is there where an
-/// entry's key is a plain string of that body: the first such entry stays or gets the new value, as the change says. An entry whose
-/// key isn't there goes to the end. `current` is the path of the file's package. Errors: `NotADict`: the attribute's value is no
-/// dict; `Memory`: a growth was refused. Part of the arguments is then lost.
+/// Puts entries, as strings, into the dict of an attribute; where that is absent, it gets a dict of them. The first entry of a key that
+/// is there stays or gets the new value, as the change says; an entry whose key isn't there goes to the end.
 pub(crate) fn change_dict(
     slot: Slot<'_>,
     change: Change,

@@ -80,9 +80,7 @@ fn remove_chosen(
     set_value(name, value, arguments);
 }
 
-/// Takes all entries of these keys from the attribute's dict; the attribute goes where its dict is then empty. Nothing
-/// changes where no entry has one of the keys, or the attribute is absent. Errors: `NotADict`: the attribute's value is no
-/// dict; `Memory`: a growth was refused.
+/// Takes all entries of these keys from the attribute's dict; the attribute goes where its dict is then empty.
 pub(crate) fn dict_remove(
     alloc: Global,
     name: &[u8],

@@ -1,5 +1,5 @@
 -- The test for an empty text, as the length says it.
-use Rattle.std.proofs.Common.{◌≡◌, ℕ, List, [], ◌∷◌, length, true, refl, arith, ◌==◌, not, ap, sym, ◌∙◌}
+use Rattle.std.proofs.Common.{◌≡◌, ℕ, List, [], ◌∷◌, length, refl, arith, ◌==◌, not, ap}
 use Rattle.std.proofs.lemmas.Bool.Decides.{nat_tests}
 use Rattle.bz_label.specs.Pieces.{is_empty, is_present}
 
@@ -9,10 +9,3 @@ empty_by_length (x ∷ xs) = grind (arith, nat_tests)
 
 pub present_by_length : (text : List ℕ) → not (length text == 0) ≡ is_present text
 present_by_length text = ap not (empty_by_length text)
-
-empty_is : (text : List ℕ) → is_empty text ≡ true → text ≡ []
-empty_is [] e = refl
-empty_is (x ∷ xs) e = cc
-
-pub empty_text : (text : List ℕ) → (length text == 0) ≡ true → text ≡ []
-empty_text text e = empty_is text (sym (empty_by_length text) ∙ e)

@@ -1,30 +1,28 @@
 -- Labels as functions are what the conditions say.
 use Rattle.std.proofs.Common.{ℕ, ◌+◌, Bool, true, false, not, ◌&&◌, ◌||◌, Option, Some, None, [], ◌∷◌, ◌++◌, ◌≡◌, ◌↔◌, IsTrue, refl, sym, ap, ◌∙◌, subst, inl, inr, codes, length, drop}
-use Rattle.std.specs.Prelude.{if◌then◌else◌, MatchOption}
 use Rattle.std.specs.Str.{bytes_eq}
-use Rattle.std.specs.Option.{option_map, option_map_or}
-use Rattle.std.proofs.lemmas.Bool.{cases_Bool, true≢false, and_parts, and_from, or_parts, eqb-true, both_ways, not-true}
+use Rattle.std.specs.Option.{option_map_or}
+use Rattle.std.proofs.lemmas.Bool.{cases_Bool, true≢false, and_parts, and_from, or_parts, eqb-true, both_ways, not-true, false_from_ne_true}
+use Rattle.std.proofs.lemmas.List.{drop_at}
 use Rattle.std.proofs.lemmas.Slice.Eq.{bytes_eq-Decides}
 use Rattle.bz_items.specs.Characters.{Bytes}
 use Rattle.bz_label.specs.Pieces.{is_empty, last_piece, has_colon, has_slash, is_colon, is_slash, is_at, begins_with_at}
-use Rattle.bz_label.specs.Labels.{is_path, is_repository_name, IsWhole, IsPackageAlone, IsRepositoryAlone, IsColonName, IsBareName, IsLabel, whole, package_alone, repository_alone, colon_name, bare_name, IsSame, IsOwn, IsShortened, own, other}
-use Rattle.bz_label.specs.Forms.{label_of, are_whole, are_alone}
+use Rattle.bz_label.specs.Labels.{is_path, is_repository_name, IsWhole, IsPackageAlone, IsRepositoryAlone, IsColonName, IsBareName, IsLabel, whole, package_alone, repository_alone, colon_name, bare_name, IsSame, IsOwn, IsUnrepeated, IsShortened, own, other}
+use Rattle.bz_label.specs.Forms.{is_repository, are_whole, are_alone}
 use Rattle.bz_label.specs.Shorter.{before_colon, after_colon, before_slashes, before_slashes_from, after_slashes}
 use Rattle.bz_label.specs.Read.{kept_if, absolute_label, has_slashes, other_label, label_in, is_equal, are_equal, is_same, is_own, shortened}
-use Rattle.bz_label.specs.declared.form.Parts.{Parts}
 use Rattle.bz_label.specs.declared.label.Label.{Label}
+use Rattle.bz_label.proofs.Colons.{IsCutIn, cut_in, halves}
 use Rattle.bz_label.proofs.Equal.{equal_texts}
 use Rattle.bz_label.proofs.Paths.{joined_exact}
-use Rattle.bz_label.proofs.Readings.{label_with, same_label}
-use Rattle.bz_label.proofs.Repeats.{both_same, halves, path_present, front_colon, rest_colon, front_slashes, two_more, dropped, is_unrepeated}
-use Rattle.bz_label.proofs.Shapes.{or_none, or_right, any_at, path_colonless, package_colonless, repository_slashless, repository_holds, whole_after, whole_from, alone_from}
-use Rattle.bz_label.proofs.Shorter.{shortened_once}
+use Rattle.bz_label.proofs.Repeats.{front_slashes, two_more, dropped, and_true, the_unrepeated, is_unrepeated}
+use Rattle.bz_label.proofs.Shapes.{if_true, if_false, both_same, or_none, or_right, any_at, path_colonless, package_colonless, name_slashless, repository_slashless, repository_holds, repository_from, whole_after, whole_from, alone_from}
 
-if_true : {A : Type 0} (b : Bool) (x y : A) → b ≡ true → (if b then x else y) ≡ x
-if_true b x y h = rw h refl
+abbrev label_with : Bytes → Bytes → Bytes → Label
+label_with repository path name = record { repository = repository; «package» = path; name = name }
 
-if_false : {A : Type 0} (b : Bool) (x y : A) → b ≡ false → (if b then x else y) ≡ y
-if_false b x y h = rw h refl
+same_label : (one two : Label) → one.repository ≡ two.repository → one.package ≡ two.package → one.name ≡ two.name → one ≡ two
+same_label one two r p n = ap (λ x. label_with x one.package one.name) r ∙ ap (λ x. label_with two.repository x one.name) p ∙ ap (λ x. label_with two.repository two.package x) n
 
 -- ---- a text around its first two slashes
 
@@ -54,10 +52,7 @@ unslashed (c ∷ s) h = let p : (is_slash c ≡ false) × (has_slash s ≡ false
 
 -- a path holds no two slashes in a row
 path_unslashed : (s : Bytes) → is_path s ≡ true → has_slashes s ≡ false
-path_unslashed s h = elim (cases_Bool (has_slashes s)) [
-  | inl w ↦ absurd (((joined_exact s).0 (and_parts _ _ h).0).single (before_slashes s) (after_slashes s) (parted s w))
-  | inr w ↦ w
-]
+path_unslashed s h = false_from_ne_true _ (λ w. ((joined_exact s).0 (and_parts _ _ h).0).single (before_slashes s) (after_slashes s) (parted s w))
 
 -- ---- a text of each form is read as its label
 
@@ -72,11 +67,10 @@ whole_found current text label h =
     let front = label.repository in
     let path = label.package in
     let name = label.name in
-    let rest = path ++ 58 ∷ name in
-    let colonless : has_colon path ≡ false = package_colonless path h.package in
-    ap (label_in current) (whole_after label text h) ∙ absolute current front rest (repository_slashless front h.repository)
-    ∙ if_true (has_colon rest) _ _ (any_at is_colon path 58 name refl)
-    ∙ both_same (λ x y. kept_if (are_whole front x y) front x y) (front_colon path name colonless) (rest_colon path name colonless)
+    let cut = cut_in path name (package_colonless path h.package) in
+    ap (label_in current) (whole_after label text h) ∙ absolute current front (path ++ 58 ∷ name) (repository_slashless front h.repository)
+    ∙ if_true _ _ _ cut.0
+    ∙ both_same (λ x y. kept_if (are_whole front x y) front x y) cut.1 cut.2
     ∙ if_true (are_whole front path name) _ _ (and_from _ _ (and_from _ _ (repository_holds front h.repository) h.package) h.name)
 
 alone_found : (current text : Bytes) (label : Label) → IsPackageAlone text label → label_in current text ≡ Some label
@@ -134,8 +128,7 @@ absolute_holds current text front rest label e h = elim (cases_Bool (has_colon r
       let path = before_colon rest in
       let name = after_colon rest in
       let k : (are_whole front path name ≡ true) × (label_with front path name ≡ label) = kept_parts _ front path name label (sym (if_true (has_colon rest) _ _ w) ∙ h) in
-      let named : is_path name ≡ true = (and_parts _ _ k.0).1 in
-      whole (subst (IsWhole text) k.1 (whole_from text front rest path name e (halves rest (path_present name named)) k.0))
+      whole (subst (IsWhole text) k.1 (whole_from text front rest path name e (halves rest w) k.0))
   | inr w ↦
       let k : (are_alone front rest ≡ true) × (label_with front rest (last_piece rest) ≡ label) = kept_parts _ front rest (last_piece rest) label (sym (if_false (has_colon rest) _ _ w) ∙ h) in
       package_alone (subst (IsPackageAlone text) k.1 (alone_from text front rest (last_piece rest) e refl k.0))
@@ -171,18 +164,49 @@ label_holds current text label h = elim (cases_Bool (has_slashes text)) [
 pub label_exact : (current text : Bytes) (label : Label) → IsLabel current text label ↔ (label_in current text ≡ Some label)
 label_exact current text label = (label_found current text label, label_holds current text label)
 
--- a text that is no label is read as none
-no_label : (current text : Bytes) → ((label : Label) → IsLabel current text label → ⊥) → None ≡ label_in current text
-no_label current text none = unread (label_in current text) refl
-  where
-    unread : (read : Option Label) → label_in current text ≡ read → None ≡ label_in current text
-    unread None e = sym e
-    unread (Some label) e = absurd (none label (label_holds current text label e))
+-- a text is one label at most
+pub label_once : (current text : Bytes) (one two : Label) → IsLabel current text one → IsLabel current text two → one ≡ two
+label_once current text one two h k = let both : Some one ≡ Some two = sym (label_found current text one h) ∙ label_found current text two k in cc
 
--- the parts of the label that a text is, where it is one
-pub parts_read : (current text : Bytes) (found : Option Parts) → MatchOption found ((label : Label) → IsLabel current text label → ⊥) (λ parts. IsLabel current text (label_of parts)) → option_map label_of found ≡ label_in current text
-parts_read current text None none = no_label current text none
-parts_read current text (Some parts) one = sym (label_found current text (label_of parts) one)
+pub read_label : (current text : Bytes) (label : Label) → Some label ≡ label_in current text → IsLabel current text label
+read_label current text label e = label_holds current text label (sym e)
+
+pub no_label : (current text : Bytes) → None ≡ label_in current text → (label : Label) → IsLabel current text label → ⊥
+no_label current text e label h = let both : ◌≡◌ {A = Option Label} None (Some label) = e ∙ label_found current text label h in absurd cc
+
+-- ---- cut at the first slash, where another one follows it
+
+pub slashes_cut : (current text front rest : Bytes) → has_slash front ≡ false → text ≡ front ++ codes "//" ++ rest → absolute_label front rest ≡ label_in current text
+slashes_cut current text front rest h e = sym (ap (label_in current) e ∙ absolute current front rest h)
+
+-- a text that can't be cut so may hold two slashes further on, and is no label then
+kept_none : (good : Bool) (repository path name : Bytes) → (good ≡ true → ⊥) → kept_if good repository path name ≡ None
+kept_none good repository path name bad = if_false good _ _ (false_from_ne_true good bad)
+
+other_none : (current text : Bytes) → has_slashes text ≡ true → other_label current text ≡ None
+other_none current [] w = refl
+other_none current (first ∷ rest) w = elim (cases_Bool (is_at first)) [
+  | inl a ↦ if_true (is_at first) _ _ a ∙ kept_none _ _ _ _ (λ h. true≢false (sym w ∙ past first rest (ap is_slash (eqb-true first 64 a)) (unslashed rest (name_slashless rest h))))
+  | inr a ↦ if_false (is_at first) _ _ a ∙ elim (cases_Bool (is_colon first)) [
+    | inl c ↦ if_true (is_colon first) _ _ c ∙ kept_none _ _ _ _ (λ h. true≢false (sym w ∙ past first rest (ap is_slash (eqb-true first 58 c)) (path_unslashed rest h)))
+    | inr c ↦ if_false (is_colon first) _ _ c ∙ kept_none _ _ _ _ (λ h. true≢false (sym w ∙ path_unslashed (first ∷ rest) h))
+  ]
+]
+
+absolute_none : (front rest : Bytes) → is_repository front ≡ false → absolute_label front rest ≡ None
+absolute_none front rest h = elim (cases_Bool (has_colon rest)) [
+  | inl w ↦ if_true (has_colon rest) _ _ w ∙ if_false _ _ _ (and_none _ _ (and_none _ _ h))
+  | inr w ↦ if_false (has_colon rest) _ _ w ∙ if_false _ _ _ (and_none _ _ h)
+]
+
+pub slashes_uncut : (current text : Bytes) → ((front rest : Bytes) → has_slash front ≡ false → text ≡ front ++ codes "//" ++ rest → ⊥) → other_label current text ≡ label_in current text
+slashes_uncut current text none = elim (cases_Bool (has_slashes text)) [
+  | inl w ↦
+      let front = before_slashes text in
+      other_none current text w
+      ∙ sym (if_true (has_slashes text) _ _ w ∙ absolute_none front (after_slashes text) (false_from_ne_true _ (λ good. none front _ (repository_slashless front (repository_from front good)) (parted text w))))
+  | inr w ↦ sym (if_false (has_slashes text) _ _ w)
+]
 
 -- ---- whether two texts mean the same
 
@@ -219,14 +243,18 @@ same_found current one two (inr l) = or_right _ _ (both_same are_equal (label_fo
 pub same_exactly : (current one two : Bytes) → IsTrue (is_same current one two) ↔ IsSame current one two
 same_exactly current one two = (same_holds current one two, same_found current one two)
 
-same_truth : (x y : Bool) → (x ≡ true → y ≡ true) → (y ≡ true → x ≡ true) → x ≡ y
-same_truth true y f g = sym (f refl)
-same_truth false true f g = g refl
-same_truth false false f g = refl
+pub same_means : (current one two : Bytes) (answer : Bool) → answer ≡ is_same current one two → IsTrue answer ↔ IsSame current one two
+same_means current one two answer e = subst (λ b. IsTrue b ↔ IsSame current one two) (sym e) (same_exactly current one two)
 
--- what is true just where both mean the same is what the function gives
-pub the_same : (current one two : Bytes) (answer : Bool) → IsTrue answer ↔ IsSame current one two → answer ≡ is_same current one two
-the_same current one two answer e = same_truth answer (is_same current one two) (λ h. same_found current one two (e.0 h)) (λ h. e.1 (same_holds current one two h))
+-- by the labels that were read
+pub no_first : (current one two : Bytes) → false ≡ bytes_eq one two → None ≡ label_in current one → false ≡ is_same current one two
+no_first current one two d e = sym (or_none (bytes_eq one two) _ (sym d) (ap (λ read. are_equal read (label_in current two)) (sym e)))
+
+pub no_second : (current one two : Bytes) (label : Label) → false ≡ bytes_eq one two → Some label ≡ label_in current one → None ≡ label_in current two → false ≡ is_same current one two
+no_second current one two label d e f = sym (or_none (bytes_eq one two) _ (sym d) (both_same are_equal (sym e) (sym f)))
+
+pub both_there : (current one two : Bytes) (label another : Label) → false ≡ bytes_eq one two → Some label ≡ label_in current one → Some another ≡ label_in current two → is_equal label another ≡ is_same current one two
+both_there current one two label another d e f = both_same are_equal e f ∙ sym (ap (λ b. b || are_equal (label_in current one) (label_in current two)) (sym d))
 
 -- ---- the shorter form
 
@@ -243,28 +271,52 @@ nothing : (s : Bytes) → is_empty s ≡ true → s ≡ []
 nothing [] h = refl
 nothing (c ∷ s) h = absurd (true≢false (sym h))
 
-read_in : (current : Bytes) (read : Option Label) → option_map_or (λ (label : Label). bytes_eq label.package current) read false ≡ true → (label : Label) × (read ≡ Some label) × (label.package ≡ current)
-read_in current (Some label) h = (label, refl, equal_texts label.package current h)
-read_in current None h = absurd (true≢false (sym h))
+own_text : (current text : Bytes) → is_own current text ≡ true → text ≡ codes "//" ++ after_slashes text
+own_text current text h =
+    let rest = after_slashes text in
+    let p = and_parts (is_empty (before_slashes text) && has_colon rest) _ h in
+    let q = and_parts (is_empty (before_slashes text)) (has_colon rest) p.0 in
+    parted text (slashes_first text q.0 q.1) ∙ ap (λ z. z ++ codes "//" ++ rest) (nothing (before_slashes text) q.0)
 
-own_holds : (current text : Bytes) → is_own current text ≡ true → IsShortened current text (codes ":" ++ after_colon text)
-own_holds current text h =
-    let front = before_slashes text in
+of_kept : (good : Bool) (current path name : Bytes) → option_map_or (λ (label : Label). bytes_eq label.package current) (kept_if good [] path name) false ≡ (bytes_eq path current && good)
+of_kept true current path name = sym (and_true _ _ refl)
+of_kept false current path name = sym (both_none (bytes_eq path current))
+  where
+    both_none : (x : Bool) → (x && false) ≡ false
+    both_none true = refl
+    both_none false = refl
+
+own_read : (current rest : Bytes) → is_own current (codes "//" ++ rest) ≡ (has_colon rest && (bytes_eq (before_colon rest) current && are_whole [] (before_colon rest) (after_colon rest)))
+own_read current rest = elim (cases_Bool (has_colon rest)) [
+  | inl w ↦ rw w (of_kept (are_whole [] (before_colon rest) (after_colon rest)) current (before_colon rest) (after_colon rest))
+  | inr w ↦ rw w refl
+]
+
+pub own_unslashed : (current text : Bytes) → ((rest : Bytes) → text ≡ codes "//" ++ rest → ⊥) → is_own current text ≡ false
+own_unslashed current text none = false_from_ne_true _ (λ h. none (after_slashes text) (own_text current text h))
+
+pub own_colonless : (current text rest : Bytes) → text ≡ codes "//" ++ rest → has_colon rest ≡ false → is_own current text ≡ false
+own_colonless current text rest e h = ap (is_own current) e ∙ own_read current rest ∙ and_none (has_colon rest) _ h
+
+pub own_cut : (current text rest path name : Bytes) → text ≡ codes "//" ++ rest → IsCutIn rest path name → is_own current text ≡ (bytes_eq path current && are_whole [] path name)
+own_cut current text rest path name e cut =
+    ap (is_own current) e ∙ own_read current rest ∙ ap (λ b. b && (bytes_eq (before_colon rest) current && are_whole [] (before_colon rest) (after_colon rest))) cut.0
+    ∙ both_same (λ x y. bytes_eq x current && are_whole [] x y) cut.1 cut.2
+
+-- the colon and the name are at the end
+pub own_end : (text rest path name : Bytes) → text ≡ codes "//" ++ rest → rest ≡ path ++ 58 ∷ name → after_colon rest ≡ name → drop (length path) rest ≡ codes ":" ++ after_colon text
+own_end text rest path name e r a =
+    ap (drop (length path)) r ∙ drop_at path (58 ∷ name) (length path) refl ∙ ap (λ z. codes ":" ++ z) (sym a ∙ sym (ap after_colon e))
+
+own_label : (current text : Bytes) → is_own current text ≡ true → (label : Label) × IsOwn current text label × (after_colon text ≡ label.name)
+own_label current text h =
     let rest = after_slashes text in
     let path = before_colon rest in
     let name = after_colon rest in
-    let p = and_parts (is_empty front && has_colon rest) (option_map_or (λ (label : Label). bytes_eq label.package current) (label_in current text) false) h in
-    let q = and_parts (is_empty front) (has_colon rest) p.0 in
-    let slashes : has_slashes text ≡ true = slashes_first text q.0 q.1 in
-    let none : front ≡ [] = nothing front q.0 in
-    let r : (label : Label) × (label_in current text ≡ Some label) × (label.package ≡ current) = read_in current (label_in current text) p.1 in
-    let k : (are_whole front path name ≡ true) × (label_with front path name ≡ r.0) =
-    kept_parts _ front path name r.0 (sym (if_true (has_slashes text) _ _ slashes ∙ if_true (has_colon rest) _ _ q.1) ∙ r.1) in
-    let named : is_path name ≡ true = (and_parts _ _ k.0).1 in
-    let e : text ≡ front ++ codes "//" ++ rest = parted text slashes in
-    own (label_with front path name)
-    (record { written = whole_from text front rest path name e (halves rest (path_present name named)) k.0; repository = none; «package» = ap (λ (l : Label). l.package) k.1 ∙ r.2 })
-    (ap (λ z. codes ":" ++ z) (ap after_colon (e ∙ ap (λ z. z ++ codes "//" ++ rest) none)))
+    let e : text ≡ codes "//" ++ rest = own_text current text h in
+    let p = and_parts (has_colon rest) (bytes_eq path current && are_whole [] path name) (sym (own_read current rest) ∙ sym (ap (is_own current) e) ∙ h) in
+    let q = and_parts (bytes_eq path current) (are_whole [] path name) p.1 in
+    (label_with [] path name, record { written = whole_from text [] rest path name e (halves rest p.0) q.1; repository = refl; «package» = equal_texts path current q.0 }, ap after_colon e)
 
 own_found : (current text : Bytes) (label : Label) → IsOwn current text label → is_own current text ≡ true
 own_found current text label o =
@@ -277,10 +329,26 @@ own_found current text label o =
 
 pub is_shortened : (current text : Bytes) → IsShortened current text (shortened current text)
 is_shortened current text = elim (cases_Bool (is_own current text)) [
-  | inl w ↦ subst (IsShortened current text) (sym (if_true (is_own current text) _ _ w)) (own_holds current text w)
+  | inl w ↦ let o = own_label current text w in own o.0 o.1 (if_true _ _ _ w ∙ ap (λ z. codes ":" ++ z) o.2)
   | inr w ↦ subst (IsShortened current text) (sym (if_false (is_own current text) _ _ w)) (other (λ label o. both_ways _ w (own_found current text label o)) (is_unrepeated text))
 ]
 
 -- what is the shorter form is what the function gives
-pub the_shortened : (current text short : Bytes) → IsShortened current text short → short ≡ shortened current text
-the_shortened current text short h = shortened_once current text short (shortened current text) h (is_shortened current text)
+the_shortened : (current text short : Bytes) → IsShortened current text short → short ≡ shortened current text
+the_shortened current text short (own label o e) =
+    let rest = label.package ++ 58 ∷ label.name in
+    let text_is : text ≡ 47 ∷ 47 ∷ rest = whole_after label text o.written ∙ ap (λ z. z ++ codes "//" ++ rest) o.repository in
+    e ∙ sym (if_true _ _ _ (own_found current text label o) ∙ ap (λ z. codes ":" ++ z) (ap after_colon text_is ∙ (cut_in label.package label.name (package_colonless label.package o.written.package)).2))
+the_shortened current text short (other none h) =
+    the_unrepeated text short h ∙ sym (if_false _ _ _ (false_from_ne_true _ (λ w. let o = own_label current text w in none o.0 o.1)))
+
+pub shortened_means : (current text short : Bytes) → short ≡ shortened current text → IsShortened current text short
+shortened_means current text short e = subst (IsShortened current text) (sym e) (is_shortened current text)
+
+-- ---- a text has one shorter form
+
+pub unrepeated_once : (text one another : Bytes) → IsUnrepeated text one → IsUnrepeated text another → one ≡ another
+unrepeated_once text one another h k = the_unrepeated text one h ∙ sym (the_unrepeated text another k)
+
+pub shortened_once : (current text one another : Bytes) → IsShortened current text one → IsShortened current text another → one ≡ another
+shortened_once current text one another h k = the_shortened current text one h ∙ sym (the_shortened current text another k)

@@ -47,41 +47,25 @@ label_rows = (
   refl,
 )
 
--- labels as functions: each form, texts that are none, what means the same, and shorter forms
-pub function_rows : (label_in (codes "p") (codes "@//b/x/b:c") ≡ Some (record { repository = codes "@"; «package» = codes "b/x/b"; name = codes "c" }))
+-- labels as functions: each form, and texts that are none
+pub read_rows : (label_in (codes "p") (codes "@//b/x/b:c") ≡ Some (record { repository = codes "@"; «package» = codes "b/x/b"; name = codes "c" }))
     × (label_in (codes "p") (codes "@@r//a-b") ≡ Some (record { repository = codes "@@r"; «package» = codes "a-b"; name = codes "a-b" }))
     × (label_in (codes "p") (codes "@r") ≡ Some (record { repository = codes "@r"; «package» = []; name = codes "r" }))
     × (label_in (codes "p/q") (codes ":q") ≡ Some (record { repository = []; «package» = codes "p/q"; name = codes "q" }))
     × (label_in (codes "p/q") (codes "a.c/a") ≡ Some (record { repository = []; «package» = codes "p/q"; name = codes "a.c/a" }))
     × (label_in (codes "p") (codes "@:r:x:") ≡ None) × (label_in (codes "p") (codes "@@//:") ≡ None) × (label_in (codes "p") (codes "a//b") ≡ None)
     × (label_in (codes "p") [] ≡ None) × (label_in (codes "p") (codes "@") ≡ None) × (label_in (codes "p") (codes "///a") ≡ None)
-    × (is_same (codes "p/q") (codes "//p/q:q") (codes ":q") ≡ true) × (is_same (codes "p/q") (codes "//p/p:p") (codes "//p/p") ≡ true)
+read_rows = (refl, refl, refl, refl, refl, refl, refl, refl, refl, refl, refl)
+
+-- what means the same
+pub same_rows : (is_same (codes "p/q") (codes "//p/q:q") (codes ":q") ≡ true) × (is_same (codes "p/q") (codes "//p/p:p") (codes "//p/p") ≡ true)
     × (is_same (codes "a") (codes "@//a/p:p") (codes "//a/p") ≡ false) × (is_same [] (codes "@@//:") (codes "@@//:") ≡ true)
-    × (shortened (codes "p/q") (codes "//p/q:q") ≡ codes ":q") × (shortened (codes "p") (codes "//p:p") ≡ codes ":p") × (shortened (codes "p") (codes "@//p:p") ≡ codes "@//p")
+same_rows = (refl, refl, refl, refl)
+
+-- shorter forms
+pub short_rows : (shortened (codes "p/q") (codes "//p/q:q") ≡ codes ":q") × (shortened (codes "p") (codes "//p:p") ≡ codes ":p") × (shortened (codes "p") (codes "@//p:p") ≡ codes "@//p")
     × (shortened (codes "p") (codes "//a.c:a.c") ≡ codes "//a.c") × (shortened [] (codes "//:x") ≡ codes ":x") × (shortened (codes "p") (codes "@r:r") ≡ codes "@r:r")
-function_rows = (
-  refl,
-  refl,
-  refl,
-  refl,
-  refl,
-  refl,
-  refl,
-  refl,
-  refl,
-  refl,
-  refl,
-  refl,
-  refl,
-  refl,
-  refl,
-  refl,
-  refl,
-  refl,
-  refl,
-  refl,
-  refl,
-)
+short_rows = (refl, refl, refl, refl, refl, refl)
 
 -- what follows a target's colon
 pub word_rows : (which_of (codes "all") ≡ All) × (which_of (codes "*") ≡ All) × (which_of (codes "__pkg__") ≡ Package) × (which_of (codes "%cc_library") ≡ Kind (codes "cc_library"))

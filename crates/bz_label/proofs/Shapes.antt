@@ -1,7 +1,8 @@
 -- What the parts of labels hold, and how a text falls into them.
 use Rattle.std.proofs.Common.{◌≡◌, ℕ, Bool, true, false, [], ◌∷◌, ◌++◌, refl, sym, ◌∙◌, ap, not, ◌&&◌, ◌||◌, append_assoc, arith, codes}
 use Rattle.std.specs.List.{list_any}
-use Rattle.std.proofs.lemmas.Bool.{and_parts, and_from, not-true, eqb-true, both_ways}
+use Rattle.std.proofs.lemmas.Bool.{and_parts, and_from, not-true, eqb-true}
+use Rattle.std.specs.Prelude.{if◌then◌else◌}
 use Rattle.std.proofs.lemmas.Bool.Decides.{nat_tests}
 use Rattle.bz_items.specs.Characters.{Bytes}
 use Rattle.bz_label.specs.Pieces.{is_empty, is_slash, is_colon, has_slash, has_colon, last_piece}
@@ -9,6 +10,15 @@ use Rattle.bz_label.specs.Labels.{is_barred, is_plain, is_path, is_repository_na
 use Rattle.bz_label.specs.declared.label.Label.{Label}
 use Rattle.bz_label.specs.Forms.{is_repository, are_whole, are_alone}
 use Rattle.bz_label.proofs.Cuts.{cut_once}
+
+pub if_true : {A : Type 0} (b : Bool) (x y : A) → b ≡ true → (if b then x else y) ≡ x
+if_true b x y h = rw h refl
+
+pub if_false : {A : Type 0} (b : Bool) (x y : A) → b ≡ false → (if b then x else y) ≡ y
+if_false b x y h = rw h refl
+
+pub both_same : {X Y Z : Type 0} (f : X → Y → Z) {h h' : X} {i i' : Y} → h ≡ h' → i ≡ i' → f h i ≡ f h' i'
+both_same f {h} {h'} {i} {i'} d e = ap (λ z. f z i) d ∙ ap (λ z. f h' z) e
 
 -- a plain text holds no colon
 unbarred : (byte : ℕ) → not (is_barred byte) ≡ true → is_colon byte ≡ false
@@ -30,7 +40,7 @@ pub package_colonless : (text : Bytes) → (is_empty text || is_path text) ≡ t
 package_colonless [] path = refl
 package_colonless (x ∷ xs) path = path_colonless (x ∷ xs) path
 
-name_slashless : (name : Bytes) → is_repository_name name ≡ true → has_slash name ≡ false
+pub name_slashless : (name : Bytes) → is_repository_name name ≡ true → has_slash name ≡ false
 name_slashless name good = not-true _ (and_parts _ _ (and_parts _ _ good).0).1
 
 pub repository_slashless : (text : Bytes) → IsRepository text → has_slash text ≡ false
@@ -70,43 +80,17 @@ repository_from (first ∷ name) good =
 pub slashes_once : (front rest before following : Bytes) → has_slash front ≡ false → has_slash before ≡ false → front ++ 47 ∷ rest ≡ before ++ codes "//" ++ following → (front ≡ before) × (rest ≡ 47 ∷ following)
 slashes_once front rest before following hf hb e = cut_once is_slash 47 47 front rest before (47 ∷ following) refl refl hf hb (e ∙ append_assoc before (codes "//") following)
 
--- what is before and after two slashes, read off the text in two ways
-both_slashes : (front rest before following : Bytes) → has_slash front ≡ false → has_slash before ≡ false → front ++ codes "//" ++ rest ≡ before ++ codes "//" ++ following → (front ≡ before) × (rest ≡ following)
-both_slashes front rest before following hf hb e =
-    let cut : (front ≡ before) × (47 ∷ rest ≡ 47 ∷ following) = slashes_once front (47 ∷ rest) before following hf hb (sym (append_assoc front (codes "//") rest) ∙ e) in
-    (cut.0, cc)
-
 -- the text of a whole label, cut at its two slashes
 pub whole_after : (label : Label) (text : Bytes) → IsWhole text label → text ≡ label.repository ++ codes "//" ++ (label.package ++ 58 ∷ label.name)
 whole_after label text whole = whole.spelled ∙ append_assoc (label.repository ++ codes "//" ++ label.package) (codes ":") label.name ∙ append_assoc (label.repository ++ codes "//") label.package (codes ":" ++ label.name)
 
-whole_cut : (text front rest : Bytes) (label : Label) → has_slash front ≡ false → text ≡ front ++ codes "//" ++ rest → IsWhole text label → (front ≡ label.repository) × (rest ≡ label.package ++ 58 ∷ label.name)
-whole_cut text front rest label hf e whole = both_slashes front rest label.repository (label.package ++ 58 ∷ label.name) hf (repository_slashless _ whole.repository) (sym e ∙ whole_after label text whole)
-
-pub alone_cut : (text front rest : Bytes) (label : Label) → has_slash front ≡ false → text ≡ front ++ codes "//" ++ rest → IsPackageAlone text label → (front ≡ label.repository) × (rest ≡ label.package)
-alone_cut text front rest label hf e alone = both_slashes front rest label.repository label.package hf (repository_slashless _ alone.repository) (sym e ∙ alone.spelled)
+-- and before its name
+pub whole_kept : (text : Bytes) (label : Label) → IsWhole text label → text ≡ (label.repository ++ codes "//" ++ label.package) ++ 58 ∷ label.name
+whole_kept text label h = h.spelled ∙ append_assoc (label.repository ++ codes "//" ++ label.package) (codes ":") label.name
 
 pub any_at : (p : ℕ → Bool) (xs : Bytes) (x : ℕ) (ys : Bytes) → p x ≡ true → list_any p (xs ++ x ∷ ys) ≡ true
 any_at p [] x ys h = ap (λ b. b || list_any p ys) h
 any_at p (a ∷ xs) x ys h = or_right _ _ (any_at p xs x ys h)
-
--- a text with no colon after its slashes is no whole label
-pub whole_colon : (text front rest : Bytes) (label : Label) → has_slash front ≡ false → text ≡ front ++ codes "//" ++ rest → has_colon rest ≡ false → IsWhole text label → ⊥
-whole_colon text front rest label hf e none whole =
-    let following : rest ≡ label.package ++ 58 ∷ label.name = (whole_cut text front rest label hf e whole).1 in
-    both_ways (has_colon rest) none (ap has_colon following ∙ any_at is_colon label.package 58 label.name refl)
-
--- the parts of a whole label
-pub whole_parts : (text front rest path name : Bytes) (label : Label) → has_slash front ≡ false → text ≡ front ++ codes "//" ++ rest → has_colon path ≡ false → rest ≡ path ++ 58 ∷ name → IsWhole text label → (front ≡ label.repository) × (path ≡ label.package) × (name ≡ label.name)
-whole_parts text front rest path name label hf e hp r whole =
-    let cut : (front ≡ label.repository) × (rest ≡ label.package ++ 58 ∷ label.name) = whole_cut text front rest label hf e whole in
-    let colon : (path ≡ label.package) × (name ≡ label.name) = cut_once is_colon 58 58 path name label.package label.name refl refl hp (package_colonless label.package whole.package) (sym r ∙ cut.1) in
-    (cut.0, colon.0, colon.1)
-
-pub whole_fits : (text front rest path name : Bytes) (label : Label) → has_slash front ≡ false → text ≡ front ++ codes "//" ++ rest → has_colon path ≡ false → rest ≡ path ++ 58 ∷ name → IsWhole text label → are_whole front path name ≡ true
-whole_fits text front rest path name label hf e hp r whole =
-    let parts : (front ≡ label.repository) × (path ≡ label.package) × (name ≡ label.name) = whole_parts text front rest path name label hf e hp r whole in
-    rw (parts.0, parts.1, parts.2) (and_from _ _ (and_from _ _ (repository_holds _ whole.repository) whole.package) whole.name)
 
 pub whole_from : (text front rest path name : Bytes) → text ≡ front ++ codes "//" ++ rest → rest ≡ path ++ 58 ∷ name → are_whole front path name ≡ true → IsWhole text (record { repository = front; «package» = path; name = name })
 whole_from text front rest path name e r fit =
@@ -117,11 +101,6 @@ whole_from text front rest path name e r fit =
       name = (and_parts _ _ fit).1;
       spelled = e ∙ ap (λ tail. front ++ codes "//" ++ tail) r ∙ sym (append_assoc (front ++ codes "//") path (58 ∷ name)) ∙ sym (append_assoc (front ++ codes "//" ++ path) (codes ":") name);
     }
-
-pub alone_fits : (text front rest : Bytes) (label : Label) → has_slash front ≡ false → text ≡ front ++ codes "//" ++ rest → IsPackageAlone text label → are_alone front rest ≡ true
-alone_fits text front rest label hf e alone =
-    let cut : (front ≡ label.repository) × (rest ≡ label.package) = alone_cut text front rest label hf e alone in
-    rw (cut.0, cut.1) (and_from _ _ (repository_holds _ alone.repository) alone.package)
 
 pub alone_from : (text front path name : Bytes) → text ≡ front ++ codes "//" ++ path → name ≡ last_piece path → are_alone front path ≡ true → IsPackageAlone text (record { repository = front; «package» = path; name = name })
 alone_from text front path name e n fit = record { repository = repository_from front (and_parts _ _ fit).0; «package» = (and_parts _ _ fit).1; name = n; spelled = e }

@@ -1,41 +1,13 @@
--- Shorter forms of labels: what they are, that they mean the same, and that they are shortened no further.
-use Rattle.std.proofs.Common.{◌≡◌, ℕ, ◌+◌, ◌-◌, true, [], ◌∷◌, ◌++◌, length, take, drop, refl, sym, ◌∙◌, ap, ◌||◌, append_assoc, arith, codes, inl, inr, length-append, ◌<◌}
-use Rattle.std.proofs.Math.Seq.{take-append_seam, drop-append_seam}
-use Rattle.std.proofs.lemmas.Bool.{both_ways}
+-- Shorter forms of a text: that they mean the same, and that they are shortened no further.
+use Rattle.std.proofs.Common.{◌≡◌, Bool, true, false, [], ◌∷◌, ◌++◌, refl, sym, ◌∙◌, ap, ◌||◌, codes, inl, inr}
+use Rattle.std.proofs.lemmas.Bool.{both_ways, and_parts, eqb-true}
 use Rattle.bz_items.specs.Characters.{Bytes}
-use Rattle.bz_label.specs.Pieces.{is_empty, last_piece}
-use Rattle.bz_label.specs.Labels.{is_path, IsWhole, IsPackageAlone, IsColonName, IsSame, IsOwn, IsRepeat, IsUnrepeated, IsShortened, repeat, stays, own, other, whole, package_alone, colon_name}
+use Rattle.bz_label.specs.Pieces.{is_empty, is_at, is_colon, has_colon, last_piece}
+use Rattle.bz_label.specs.Labels.{is_path, is_repository_name, IsWhole, IsPackageAlone, IsColonName, IsSame, IsOwn, IsRepeat, IsUnrepeated, IsShortened, repeat, stays, own, other, whole, package_alone, colon_name}
+use Rattle.bz_label.specs.Forms.{is_repository}
 use Rattle.bz_label.specs.declared.label.Label.{Label}
-use Rattle.bz_label.proofs.Readings.{form_of, whole_once, whole_form, alone_form, colon_form}
-
--- all but the last part and the byte before it
-pub front_of : (text kept name : Bytes) (byte : ℕ) → text ≡ kept ++ byte ∷ name → take (length text - length name - 1) text ≡ kept
-front_of text kept name byte e =
-    let size : length text ≡ length kept + (length name + 1) = ap length e ∙ length-append kept (byte ∷ name) ∙ omega arith in
-    let at : length text - length name - 1 ≡ length kept = omega arith in
-    rw (at, e) (take-append_seam kept (byte ∷ name))
-
--- the last part and the byte before it
-pub back_of : (text kept name : Bytes) (byte : ℕ) → text ≡ kept ++ byte ∷ name → drop (length text - length name - 1) text ≡ byte ∷ name
-back_of text kept name byte e =
-    let size : length text ≡ length kept + (length name + 1) = ap length e ∙ length-append kept (byte ∷ name) ∙ omega arith in
-    let at : length text - length name - 1 ≡ length kept = omega arith in
-    rw (at, e) (drop-append_seam kept (byte ∷ name))
-
--- a whole label, cut before its name
-pub whole_kept : (text : Bytes) (label : Label) → IsWhole text label → text ≡ (label.repository ++ codes "//" ++ label.package) ++ 58 ∷ label.name
-whole_kept text label h = h.spelled ∙ append_assoc (label.repository ++ codes "//" ++ label.package) (codes ":") label.name
-
--- only the whole label that the text is can be a repeat, or be in the current package
-pub no_repeat : (text : Bytes) (label : Label) → IsWhole text label → (last_piece label.package ≡ label.name → ⊥) → (another : Label) → IsRepeat text another → ⊥
-no_repeat text label h differs another r =
-    let one : another ≡ label = whole_once text another label r.written h in
-    differs (sym (ap (λ (l : Label). last_piece l.package) one) ∙ r.name ∙ ap (λ (l : Label). l.name) one)
-
-pub no_own : (current text : Bytes) (label : Label) → IsWhole text label → ((label.repository ≡ []) × (label.package ≡ current) → ⊥) → (another : Label) → IsOwn current text another → ⊥
-no_own current text label h differs another o =
-    let one : another ≡ label = whole_once text another label o.written h in
-    differs (sym (ap (λ (l : Label). l.repository) one) ∙ o.repository, sym (ap (λ (l : Label). l.package) one) ∙ o.package)
+use Rattle.bz_label.proofs.Repeats.{front_colonless}
+use Rattle.bz_label.proofs.Shapes.{any_at, path_colonless, repository_holds, whole_after, whole_kept}
 
 -- ---- a shorter form means the same
 repeat_package : (path name : Bytes) → (is_empty path || is_path path) ≡ true → is_path name ≡ true → last_piece path ≡ name → is_path path ≡ true
@@ -61,9 +33,24 @@ pub shortened_same : (current text short : Bytes) → IsShortened current text s
 shortened_same current text short (own label o e) = inr (label, whole o.written, colon_name (own_colon current text short label o e))
 shortened_same current text short (other none h) = unrepeated_same current text short h
 
--- ---- a shorter form is shortened no further
-no_whole : (text : Bytes) (form : ℕ) → form_of text ≡ form → 0 < form → (label : Label) → IsWhole text label → ⊥
-no_whole text form e some label h = let first : form_of text ≡ 0 = whole_form text label h in omega arith
+-- ---- a shorter form is shortened no further, for it is no whole label: its colon is nowhere, or before everything
+
+alone_unwhole : (text : Bytes) (label : Label) → IsPackageAlone text label → (another : Label) → IsWhole text another → ⊥
+alone_unwhole text label a another w = both_ways (has_colon text)
+    (ap has_colon a.spelled ∙ front_colonless label.repository label.package a.repository (path_colonless label.package a.package))
+    (ap has_colon (whole_kept text another w) ∙ any_at is_colon (another.repository ++ codes "//" ++ another.package) 58 another.name refl)
+
+abbrev begins_with_colon : Bytes → Bool
+begins_with_colon [] = false
+begins_with_colon (first ∷ _) = is_colon first
+
+slashes_first : (front rest : Bytes) → is_repository front ≡ true → begins_with_colon (front ++ codes "//" ++ rest) ≡ false
+slashes_first [] rest h = refl
+slashes_first (first ∷ name) rest h = ap is_colon (eqb-true first 64 (and_parts (is_at first) (is_empty name || is_repository_name name) h).0)
+
+colon_unwhole : (current text : Bytes) (label : Label) → IsColonName current text label → (another : Label) → IsWhole text another → ⊥
+colon_unwhole current text label c another w = both_ways (begins_with_colon text)
+    (ap begins_with_colon (whole_after another text w) ∙ slashes_first another.repository _ (repository_holds another.repository w.repository)) (ap begins_with_colon c.spelled)
 
 keeps : (text : Bytes) → ((label : Label) → IsWhole text label → ⊥) → IsUnrepeated text text
 keeps text none = stays (λ label r. none label r.written) refl
@@ -72,23 +59,10 @@ stays_short : (current text : Bytes) → ((label : Label) → IsWhole text label
 stays_short current text none = other (λ label o. none label o.written) (keeps text none)
 
 pub unrepeated_stays : (text short : Bytes) → IsUnrepeated text short → IsUnrepeated short short
-unrepeated_stays text short (repeat label r e) = keeps short (no_whole short 1 (alone_form short label (repeat_alone text short label r e)) (omega arith))
+unrepeated_stays text short (repeat label r e) = keeps short (alone_unwhole short label (repeat_alone text short label r e))
 unrepeated_stays text short (stays none e) = stays (λ label r. none label (rw (← e) r)) refl
 
 pub shortened_stays : (current text short : Bytes) → IsShortened current text short → IsShortened current short short
-shortened_stays current text short (own label o e) = stays_short current short (no_whole short 3 (colon_form current short label (own_colon current text short label o e)) (omega arith))
-shortened_stays current text short (other none (repeat label r e)) = stays_short current short (no_whole short 1 (alone_form short label (repeat_alone text short label r e)) (omega arith))
+shortened_stays current text short (own label o e) = stays_short current short (colon_unwhole current short label (own_colon current text short label o e))
+shortened_stays current text short (other none (repeat label r e)) = stays_short current short (alone_unwhole short label (repeat_alone text short label r e))
 shortened_stays current text short (other none (stays nothing e)) = other (λ label o. none label (rw (← e) o)) (stays (λ label r. nothing label (rw (← e) r)) refl)
-
--- ---- a text has one shorter form
-pub unrepeated_once : (text one another : Bytes) → IsUnrepeated text one → IsUnrepeated text another → one ≡ another
-unrepeated_once text one another (repeat l r e) (repeat m s f) = e ∙ ap (λ (k : Label). k.repository ++ codes "//" ++ k.package) (whole_once text l m r.written s.written) ∙ sym f
-unrepeated_once text one another (repeat l r e) (stays none f) = absurd (none l r)
-unrepeated_once text one another (stays none e) (repeat m s f) = absurd (none m s)
-unrepeated_once text one another (stays none e) (stays nothing f) = e ∙ sym f
-
-pub shortened_once : (current text one another : Bytes) → IsShortened current text one → IsShortened current text another → one ≡ another
-shortened_once current text one another (own l o e) (own m p f) = e ∙ ap (λ (k : Label). codes ":" ++ k.name) (whole_once text l m o.written p.written) ∙ sym f
-shortened_once current text one another (own l o e) (other none h) = absurd (none l o)
-shortened_once current text one another (other none h) (own m p f) = absurd (none m p)
-shortened_once current text one another (other none h) (other nothing k) = unrepeated_once text one another h k

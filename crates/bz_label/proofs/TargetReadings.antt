@@ -1,48 +1,48 @@
 -- The target of a text, as a function, is the one that the condition describes.
-use Rattle.std.proofs.Common.{ℕ, Bool, true, false, not, ◌&&◌, ◌||◌, [], ◌∷◌, ◌++◌, ◌≡◌, ◌≤◌, refl, sym, ap, ◌∙◌, inl, inr, codes, length, nat_le, Option, Some, None, IsTrue, subst, append_assoc, if◌then◌else◌}
-use Rattle.std.proofs.lemmas.Bool.{cases_Bool, true≢false, and_parts, and_from, or_parts, eqb-true, le-leb, leb-true}
+use Rattle.std.proofs.Common.{ℕ, Bool, true, false, ◌&&◌, [], ◌∷◌, ◌++◌, ◌≡◌, ◌≤◌, refl, sym, ap, ◌∙◌, inl, inr, codes, length, nat_le, Option, Some, None, subst, append_assoc}
+use Rattle.std.proofs.lemmas.Bool.{cases_Bool, true≢false, and_parts, eqb-true, le-leb, leb-true, not-true, false_from_ne_true}
 use Rattle.bz_items.specs.Characters.{Bytes}
-use Rattle.bz_label.specs.Pieces.{is_slash, is_colon, is_present, is_joined, has_colon, last_piece}
+use Rattle.bz_label.specs.Pieces.{is_slash, is_present, is_joined, has_colon, last_piece}
 use Rattle.bz_label.specs.Shorter.{before_colon, after_colon}
-use Rattle.bz_label.specs.Targets.{is_package, target_of, which_of, IsSpelled, IsTarget}
+use Rattle.bz_label.specs.Targets.{is_package, target_of, IsSpelled, IsTarget}
 use Rattle.bz_label.specs.TargetRead.{target_if, relative_target, absolute_target, target_in}
 use Rattle.bz_label.specs.declared.target.Target.{Target}
-use Rattle.bz_label.specs.declared.target.TargetFault.{TargetFault}
+use Rattle.bz_label.proofs.Colons.{IsCutIn, cut_in, halves}
+use Rattle.bz_label.proofs.Shapes.{if_true, if_false, both_same}
 
--- ---- cut at the first colon
+-- ---- by what a text begins with, and where its colon is
 
-cut_back : (s : Bytes) → has_colon s ≡ true → s ≡ before_colon s ++ 58 ∷ after_colon s
-cut_back [] h = absurd (true≢false (sym h))
-cut_back (c ∷ s) h = elim (cases_Bool (is_colon c)) [
-  | inl w ↦ rw w (ap (λ z. z ∷ s) (eqb-true c 58 w))
-  | inr w ↦ let h' : has_colon s ≡ true = rw w at h in rw w (ap (λ z. c ∷ z) (cut_back s h'))
+unslashed_target : (text : Bytes) → ((rest : Bytes) → text ≡ codes "//" ++ rest → ⊥) → target_in text ≡ relative_target text
+unslashed_target [] none = refl
+unslashed_target (c ∷ []) none = refl
+unslashed_target (c ∷ d ∷ rest) none = elim (cases_Bool (is_slash c && is_slash d)) [
+  | inl w ↦ let p = and_parts (is_slash c) (is_slash d) w in absurd (none rest (both_same (λ x y. x ∷ y ∷ rest) (eqb-true c 47 p.0) (eqb-true d 47 p.1)))
+  | inr w ↦ if_false _ _ _ w
 ]
 
-front_colon : (a b : Bytes) → has_colon a ≡ false → before_colon (a ++ 58 ∷ b) ≡ a
-front_colon [] b h = refl
-front_colon (c ∷ a) b h = let p : (is_colon c ≡ false) × (has_colon a ≡ false) = or_parts (is_colon c) (has_colon a) h in rw p.0 (ap (λ z. c ∷ z) (front_colon a b p.1))
+relative_cut : (text path word : Bytes) → IsCutIn text path word → relative_target text ≡ target_if path word
+relative_cut text path word cut = if_true _ _ _ cut.0 ∙ both_same target_if cut.1 cut.2
 
-rest_colon : (a b : Bytes) → has_colon a ≡ false → after_colon (a ++ 58 ∷ b) ≡ b
-rest_colon [] b h = refl
-rest_colon (c ∷ a) b h = let p : (is_colon c ≡ false) × (has_colon a ≡ false) = or_parts (is_colon c) (has_colon a) h in rw p.0 (rest_colon a b p.1)
+absolute_cut : (rest path word : Bytes) → IsCutIn rest path word → absolute_target rest ≡ target_if path word
+absolute_cut rest path word cut = if_true _ _ _ cut.0 ∙ both_same target_if cut.1 cut.2
 
-some_colon : (a b : Bytes) → has_colon a ≡ false → has_colon (a ++ 58 ∷ b) ≡ true
-some_colon [] b h = refl
-some_colon (c ∷ a) b h = let p : (is_colon c ≡ false) × (has_colon a ≡ false) = or_parts (is_colon c) (has_colon a) h in rw p.0 (some_colon a b p.1)
+pub plain_cut : (text path word : Bytes) → ((rest : Bytes) → text ≡ codes "//" ++ rest → ⊥) → IsCutIn text path word → target_if path word ≡ target_in text
+plain_cut text path word none cut = sym (unslashed_target text none ∙ relative_cut text path word cut)
 
-not_true : (b : Bool) → not b ≡ true → b ≡ false
-not_true true h = absurd (true≢false (sym h))
-not_true false h = refl
+pub plain_uncut : (text : Bytes) → ((rest : Bytes) → text ≡ codes "//" ++ rest → ⊥) → has_colon text ≡ false → None ≡ target_in text
+plain_uncut text none h = sym (unslashed_target text none ∙ if_false _ _ _ h)
+
+pub slashed_cut : (text rest path word : Bytes) → text ≡ codes "//" ++ rest → IsCutIn rest path word → target_if path word ≡ target_in text
+slashed_cut text rest path word e cut = sym (ap target_in e ∙ absolute_cut rest path word cut)
+
+pub slashed_uncut : (text rest : Bytes) → text ≡ codes "//" ++ rest → has_colon rest ≡ false → target_if rest (last_piece rest) ≡ target_in text
+slashed_uncut text rest e h = sym (ap target_in e ∙ if_false _ _ _ h)
 
 all_three : (a b c : Bool) → (a && b && c) ≡ true → (a ≡ true) × (b ≡ true) × (c ≡ true)
 all_three true true true h = (refl, refl, refl)
 all_three true true false h = absurd (true≢false (sym h))
 all_three true false c h = absurd (true≢false (sym h))
 all_three false b c h = absurd (true≢false (sym h))
-
-other_one : {X : Type 0} (b : Bool) (x y : X) → b ≡ false → (if b then x else y) ≡ y
-other_one true x y h = absurd (true≢false h)
-other_one false x y h = refl
 
 -- ---- from the condition to the function
 
@@ -51,26 +51,23 @@ module _ (path word : Bytes) (good : is_package path ≡ true) (room : length pa
   made = rw (good, le-leb (length path) 65536 room, present) refl
 
   no_colon : has_colon path ≡ false
-  no_colon = not_true (has_colon path) (and_parts _ _ good).1
+  no_colon = not-true (has_colon path) (and_parts _ _ good).1
 
   by_colon : relative_target (path ++ 58 ∷ word) ≡ Some (target_of path word)
-  by_colon = rw (some_colon path word no_colon, front_colon path word no_colon, rest_colon path word no_colon) made
+  by_colon = relative_cut (path ++ 58 ∷ word) path word (cut_in path word no_colon) ∙ made
 
   absolute_by_colon : absolute_target (path ++ 58 ∷ word) ≡ Some (target_of path word)
-  absolute_by_colon = rw (some_colon path word no_colon, front_colon path word no_colon, rest_colon path word no_colon) made
+  absolute_by_colon = absolute_cut (path ++ 58 ∷ word) path word (cut_in path word no_colon) ∙ made
 
   absolute_alone : word ≡ last_piece path → absolute_target path ≡ Some (target_of path word)
-  absolute_alone last = other_one (has_colon path) _ _ no_colon ∙ ap (target_if path) (sym last) ∙ made
+  absolute_alone last = if_false (has_colon path) _ _ no_colon ∙ ap (target_if path) (sym last) ∙ made
 
 -- a package doesn't begin with a slash
 slashed : (c : ℕ) (path : Bytes) → is_slash c ≡ true → is_joined (c ∷ path) ≡ false
 slashed c path w = rw w refl
 
 unslashed : (c : ℕ) (path : Bytes) → is_package (c ∷ path) ≡ true → is_slash c ≡ false
-unslashed c path good = elim (cases_Bool (is_slash c)) [
-  | inl w ↦ absurd (true≢false (sym (and_parts _ _ good).0 ∙ slashed c path w))
-  | inr w ↦ w
-]
+unslashed c path good = false_from_ne_true _ (λ w. true≢false (sym (and_parts _ _ good).0 ∙ slashed c path w))
 
 relative : (path word : Bytes) → is_package path ≡ true → target_in (path ++ 58 ∷ word) ≡ relative_target (path ++ 58 ∷ word)
 relative [] [] good = refl
@@ -83,7 +80,7 @@ read_spelled text path word good room present (inl is) = ap target_in (is ∙ ap
 read_spelled text path word good room present (inr (inl is)) = ap target_in (is ∙ append_assoc (codes "//" ++ path) (codes ":") word ∙ append_assoc (codes "//") path (58 ∷ word)) ∙ absolute_by_colon path word good room present
 read_spelled text path word good room present (inr (inr is)) = ap target_in is.0 ∙ absolute_alone path word good room present is.1
 
-pub target_read : (text : Bytes) (target : Target) → IsTarget text target → target_in text ≡ Some target
+target_read : (text : Bytes) (target : Target) → IsTarget text target → target_in text ≡ Some target
 target_read text target is =
     read_spelled text target.package is.word is.package is.room is.present is.spelled
     ∙ ap (λ which. Some (record { «package» = target.package; which = which })) (sym is.which)
@@ -111,20 +108,20 @@ answered text path word target k spelled = subst (IsTarget text) (sym k.is)
 relative_answered : (text : Bytes) (target : Target) → relative_target text ≡ Some target → IsTarget text target
 relative_answered text target h = elim (cases_Bool (has_colon text)) [
   | inl w ↦ let h' : target_if (before_colon text) (after_colon text) ≡ Some target = rw w at h in
-      answered text (before_colon text) (after_colon text) target (kept _ _ target h') (inl (cut_back text w ∙ sym (append_assoc (before_colon text) (codes ":") (after_colon text))))
+      answered text (before_colon text) (after_colon text) target (kept _ _ target h') (inl (halves text w ∙ sym (append_assoc (before_colon text) (codes ":") (after_colon text))))
   | inr w ↦ let h' : ◌≡◌ {A = Option Target} None (Some target) = rw w at h in absurd (cc)
 ]
 
 absolute_answered : (text rest : Bytes) (target : Target) → text ≡ codes "//" ++ rest → absolute_target rest ≡ Some target → IsTarget text target
 absolute_answered text rest target is h = elim (cases_Bool (has_colon rest)) [
   | inl w ↦ let h' : target_if (before_colon rest) (after_colon rest) ≡ Some target = rw w at h in
-      answered text (before_colon rest) (after_colon rest) target (kept _ _ target h') (inr (inl (is ∙ ap (λ z. codes "//" ++ z) (cut_back rest w)
+      answered text (before_colon rest) (after_colon rest) target (kept _ _ target h') (inr (inl (is ∙ ap (λ z. codes "//" ++ z) (halves rest w)
       ∙ sym (append_assoc (codes "//" ++ before_colon rest) (codes ":") (after_colon rest) ∙ append_assoc (codes "//") (before_colon rest) (58 ∷ after_colon rest)))))
-  | inr w ↦ let h' : target_if rest (last_piece rest) ≡ Some target = sym (other_one (has_colon rest) _ _ w) ∙ h in
+  | inr w ↦ let h' : target_if rest (last_piece rest) ≡ Some target = sym (if_false (has_colon rest) _ _ w) ∙ h in
       answered text rest (last_piece rest) target (kept _ _ target h') (inr (inr (is, refl)))
 ]
 
-target_answered : (text : Bytes) (target : Target) → target_in text ≡ Some target → IsTarget text target
+pub target_answered : (text : Bytes) (target : Target) → target_in text ≡ Some target → IsTarget text target
 target_answered [] target h = relative_answered [] target h
 target_answered (c ∷ []) target h = relative_answered (c ∷ []) target h
 target_answered (c ∷ d ∷ rest) target h = elim (cases_Bool (is_slash c && is_slash d)) [
@@ -133,9 +130,9 @@ target_answered (c ∷ d ∷ rest) target h = elim (cases_Bool (is_slash c && is
   | inr w ↦ let h' : relative_target (c ∷ d ∷ rest) ≡ Some target = rw w at h in relative_answered (c ∷ d ∷ rest) target h'
 ]
 
-pub target_none : (text : Bytes) → ((target : Target) → IsTarget text target → ⊥) → target_in text ≡ None
-target_none text none = by (target_in text) refl
-  where
-    by : (found : Option Target) → target_in text ≡ found → target_in text ≡ None
-    by None is = is
-    by (Some target) is = absurd (none target (target_answered text target is))
+pub no_target : (text : Bytes) → None ≡ target_in text → (target : Target) → IsTarget text target → ⊥
+no_target text e target h = let both : ◌≡◌ {A = Option Target} None (Some target) = e ∙ target_read text target h in absurd cc
+
+-- a text is one target at most
+pub target_once : (text : Bytes) (one other : Target) → IsTarget text one → IsTarget text other → one ≡ other
+target_once text one other h k = let both : Some one ≡ Some other = sym (target_read text one h) ∙ target_read text other k in cc

@@ -1,5 +1,5 @@
 -- The target that a text is, as a function. `IsTarget` says what it is to be.
-use Rattle.std.specs.Prelude.{Bool, ◌&&◌, [], ◌∷◌, Option, Some, None, length, nat_le, if◌then◌else◌}
+use Rattle.std.specs.Prelude.{◌&&◌, ◌∷◌, Option, Some, None, length, nat_le, if◌then◌else◌}
 use Rattle.bz_label.specs.declared.target.Target.{Target}
 use Rattle.bz_items.specs.Characters.{Bytes}
 use Rattle.bz_label.specs.Pieces.{is_slash, is_present, has_colon, last_piece}

@@ -1,33 +1,42 @@
 //! The calls that take no memory, over the bytes of texts.
-ghost use Rattle.std.specs.Prelude.{◌≡◌, ◌↔◌, [], ◌∷◌, false, get_or, if◌then◌else◌, IsTrue};
+ghost use Rattle.std.specs.Prelude.{◌≡◌, ◌↔◌, [], ◌∷◌, ◌++◌, codes, ◌&&◌, false, true, get_or, if◌then◌else◌, IsTrue, MatchOption};
 ghost use Rattle.std.specs.Str.{bytes_eq};
 ghost use Rattle.std.specs.List.{list_any};
-ghost use Rattle.std.specs.Option.{option_map};
 ghost use Rattle.std.specs.Ordering.{ordering_then};
 ghost use Rattle.std.specs.Cmp.Lexicographic.{slice_cmp};
-ghost use Rattle.bz_label.specs.Forms.{label_of};
+ghost use Rattle.bz_label.specs.Forms.{label_of, are_whole};
 ghost use Rattle.bz_label.specs.Keys.{group_of, is_cut, key_pieces, bytes_order, key_order};
 ghost use Rattle.bz_label.specs.Labels.{IsSame, IsShortened, IsUnrepeated};
-ghost use Rattle.bz_label.specs.Read.{label_in, is_same, shortened};
-ghost use Rattle.bz_label.specs.Shorter.{unrepeated};
+ghost use Rattle.bz_label.specs.Pieces.{last_piece};
+ghost use Rattle.bz_label.specs.Read.{is_equal, is_same, is_own, shortened};
+ghost use Rattle.bz_label.specs.Shorter.{after_colon, is_repeated, unrepeated};
 ghost use Rattle.bz_label.specs.Tables.{is_in, sorted_attributes, further_lists, first_arguments, last_arguments, is_sorted as is_sorted_in, is_label_attribute as is_label, is_list_attribute as is_list, priority_of};
 
-pub use crate::form::Parts;
-use crate::form::{parts_of, whole};
-use crate::piece::{cut, last};
+use crate::form::{cut_slashes, fits};
+pub use crate::form::{Parts, label_parts};
+use crate::piece::{after_slashes, cut_colon, last};
 use std::cmp::Ordering;
 
-/// The three parts of the label that a text is in the current package, as slices of both; none where it is no label.
-pub fn label_parts<'a>(current: &'a [u8], text: &'a [u8]) -> Option<Parts<'a>>
-    ensures { option_map label_of result ≡ label_in current.now text.now }
-{
-    parts_of(current, text)
-}
-
 fn equal_parts(one: Parts, other: Parts) -> bool
-    ensures { IsTrue result ↔ (label_of one.entry ≡ label_of other.entry) }
+    ensures { result ≡ is_equal (label_of one.entry) (label_of other.entry) }
 {
     one.repository == other.repository && one.package == other.package && one.name == other.name
+}
+
+#[tactic(auto, using(crate::proofs::LabelFunctions::no_first, crate::proofs::LabelFunctions::no_second, crate::proofs::LabelFunctions::both_there))]
+fn are_same(current: &[u8], first: &[u8], second: &[u8]) -> bool
+    ensures { result ≡ is_same current.now first.now second.now }
+{
+    if first == second {
+        return true;
+    }
+    let Some(one) = label_parts(current, first) else {
+        return false;
+    };
+    let Some(other) = label_parts(current, second) else {
+        return false;
+    };
+    equal_parts(one, other)
 }
 
 /// Whether two texts mean the same in the current package: both are labels with equal three parts, or the texts are
@@ -36,26 +45,41 @@ pub fn same(current: &[u8], first: &[u8], second: &[u8]) -> bool
     ensures meaning { IsTrue result ↔ IsSame current.now first.now second.now }
     ensures function { result ≡ is_same current.now first.now second.now }
 {
-    if first == second {
-        return true;
-    }
-    let Some(one) = parts_of(current, first) else {
-        return false;
-    };
-    let Some(other) = parts_of(current, second) else {
-        return false;
-    };
-    equal_parts(one, other)
+    are_same(current, first, second)
 }
 
-/// Whether what is before the first colon ends with what is after it, as it does where a name is repeated.
-#[tactic(auto, using(crate::proofs::Repeats::colonless_stays, crate::proofs::Repeats::other_end_stays))]
-fn may_repeat(text: &[u8]) -> bool
-    ensures { result ≡ false → unrepeated text.now ≡ text.now }
+/// Whether the name is the last piece of the package, in a label of both.
+fn is_last(repository: &[u8], package: &[u8], name: &[u8]) -> bool
+    ensures { result ≡ (are_whole repository.now «package».now name.now && bytes_eq (last_piece «package».now) name.now) }
 {
-    match cut(text, b':') {
-        Some((front, name)) => front.ends_with(name),
+    fits(repository, package, name) && last(package) == name
+}
+
+/// Whether a name repeats the last piece of the package before it, which then ends with the name.
+#[tactic(auto, using(crate::proofs::Repeats::other_end, crate::proofs::Repeats::repeated_cut, crate::proofs::Repeats::repeated_uncut))]
+fn is_repeated(front: &[u8], name: &[u8]) -> bool
+    ensures { result ≡ is_repeated front.now name.now }
+{
+    if !front.ends_with(name) {
+        return false;
+    }
+    match cut_slashes(front) {
+        Some((repository, package)) => is_last(repository, package, name),
         None => false,
+    }
+}
+
+#[tactic(auto, using(crate::proofs::Repeats::colonless_stays, crate::proofs::Repeats::other_stays, crate::proofs::Repeats::repeat_goes))]
+fn without_repeat(text: &[u8]) -> &[u8]
+    ensures { result.now ≡ unrepeated text.now }
+{
+    let Some((front, name)) = cut_colon(text) else {
+        return text;
+    };
+    if is_repeated(front, name) {
+        front
+    } else {
+        text
     }
 }
 
@@ -65,22 +89,40 @@ pub fn unrepeated(text: &[u8]) -> &[u8]
     ensures meaning { IsUnrepeated text.now result.now }
     ensures function { result.now ≡ unrepeated text.now }
 {
-    if !may_repeat(text) {
-        return text;
-    }
-    let Some(parts) = whole(text) else {
-        return text;
-    };
-    if last(parts.package) != parts.name {
-        return text;
-    }
-    &text[..text.len() - parts.name.len() - 1]
+    without_repeat(text)
 }
 
-fn stands_in(parts: Parts, current: &[u8]) -> bool
-    ensures { IsTrue result ↔ ((parts.entry.repository.now ≡ []) × (parts.entry.package.now ≡ current.now)) }
+/// Whether `//PACKAGE:NAME` is a label in the current package.
+fn is_current(current: &[u8], package: &[u8], name: &[u8]) -> bool
+    ensures { result ≡ (bytes_eq «package».now current.now && are_whole [] «package».now name.now) }
 {
-    parts.repository.is_empty() && parts.package == current
+    package == current && fits(&[], package, name)
+}
+
+/// `:NAME` at the end of `//PACKAGE:NAME`, where the package is the current one.
+#[tactic(auto, using(crate::proofs::LabelFunctions::own_unslashed, crate::proofs::LabelFunctions::own_colonless, crate::proofs::LabelFunctions::own_cut))]
+fn own_name<'a>(current: &[u8], text: &'a [u8]) -> Option<&'a [u8]>
+    ensures { MatchOption result (is_own current.now text.now ≡ false) (λ name. (is_own current.now text.now ≡ true) × (name.now ≡ codes ":" ++ after_colon text.now)) }
+{
+    let Some(rest) = after_slashes(text) else {
+        return None;
+    };
+    let Some((package, name)) = cut_colon(rest) else {
+        return None;
+    };
+    if !is_current(current, package, name) {
+        return None;
+    }
+    Some(&rest[package.len()..])
+}
+
+fn shorter<'a>(current: &[u8], text: &'a [u8]) -> &'a [u8]
+    ensures { result.now ≡ shortened current.now text.now }
+{
+    match own_name(current, text) {
+        Some(name) => name,
+        None => without_repeat(text),
+    }
 }
 
 /// The text as a label is written in the current package `p`: `//p:x` becomes `:x`; any other text is `unrepeated`.
@@ -88,13 +130,7 @@ pub fn shortened<'a>(current: &[u8], text: &'a [u8]) -> &'a [u8]
     ensures meaning { IsShortened current.now text.now result.now }
     ensures function { result.now ≡ shortened current.now text.now }
 {
-    let Some(parts) = whole(text) else {
-        return unrepeated(text);
-    };
-    if !stands_in(parts, current) {
-        return unrepeated(text);
-    }
-    &text[text.len() - parts.name.len() - 1..]
+    shorter(current, text)
 }
 
 /// The group of a key, by what it begins with: `:` is 1, `//` 2, `@` 3, and anything else 0.

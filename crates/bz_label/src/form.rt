@@ -1,11 +1,12 @@
 //! The forms of labels, read without memory.
-ghost use Rattle.std.specs.Prelude.{◌≡◌, ◌++◌, ℕ, List, codes, not, false, MatchOption, IsTrue};
+ghost use Rattle.std.specs.Prelude.{◌≡◌, ◌++◌, ℕ, List, codes, not, false, MatchOption};
+ghost use Rattle.std.specs.Option.{option_map};
 ghost use Rattle.bz_label.specs.Pieces.{has_slash};
-ghost use Rattle.bz_label.specs.Labels.{is_barred, is_plain, is_path, is_repository_name, IsWhole, IsPackageAlone, IsRepositoryAlone, IsColonName, IsBareName, IsLabel};
-ghost use Rattle.bz_label.specs.declared.label.Label.{Label};
+ghost use Rattle.bz_label.specs.Labels.{is_barred, is_plain, is_path, is_repository_name};
 ghost use Rattle.bz_label.specs.Forms.{label_of, is_repository, are_whole, are_alone};
+ghost use Rattle.bz_label.specs.Read.{kept_if, absolute_label, other_label, label_in};
 
-use crate::piece::{after, cut, holds, joined, last};
+use crate::piece::{after, cut, cut_colon, holds, joined, last};
 
 /// The three parts of a label, as slices of the texts that they are in.
 #[derive(Clone, Copy)]
@@ -52,7 +53,7 @@ fn repository(text: &[u8]) -> bool
 }
 
 /// What is before and after `//`, where these are the first two slashes.
-fn cut_slashes(text: &[u8]) -> Option<(&[u8], &[u8])>
+pub(crate) fn cut_slashes(text: &[u8]) -> Option<(&[u8], &[u8])>
     ensures { MatchOption result
         ((front rest : List ℕ) → has_slash front ≡ false → text.now ≡ front ++ codes "//" ++ rest → ⊥)
         (λ parts. (has_slash parts.0.now ≡ false) × (text.now ≡ parts.0.now ++ codes "//" ++ parts.1.now)) }
@@ -62,27 +63,10 @@ fn cut_slashes(text: &[u8]) -> Option<(&[u8], &[u8])>
 }
 
 #[tactic(auto, using(crate::proofs::Empty::empty_by_length))]
-fn fits(front: &[u8], package: &[u8], name: &[u8]) -> bool
+pub(crate) fn fits(front: &[u8], package: &[u8], name: &[u8]) -> bool
     ensures { result ≡ are_whole front.now «package».now name.now }
 {
     repository(front) && (package.is_empty() || path(package)) && path(name)
-}
-
-/// `[REPOSITORY]//PACKAGE:NAME`.
-pub(crate) fn whole(text: &[u8]) -> Option<Parts<'_>>
-    ensures { MatchOption result ((label : Label) → IsWhole text.now label → ⊥)
-        (λ parts. IsWhole text.now (label_of parts)) }
-{
-    let (front, rest) = cut_slashes(text)?;
-    let (package, name) = cut(rest, b':')?;
-    if !fits(front, package, name) {
-        return None;
-    }
-    Some(Parts {
-        repository: front,
-        package,
-        name,
-    })
 }
 
 fn fits_alone(front: &[u8], package: &[u8]) -> bool
@@ -91,87 +75,54 @@ fn fits_alone(front: &[u8], package: &[u8]) -> bool
     repository(front) && path(package)
 }
 
-/// `[REPOSITORY]//PACKAGE`.
-fn package_alone(text: &[u8]) -> Option<Parts<'_>>
-    ensures { MatchOption result ((label : Label) → IsPackageAlone text.now label → ⊥)
-        (λ parts. IsPackageAlone text.now (label_of parts)) }
+/// The parts, where they may be those of a label.
+fn parts_if<'a>(
+    good: bool,
+    repository: &'a [u8],
+    package: &'a [u8],
+    name: &'a [u8],
+) -> Option<Parts<'a>>
+    ensures { option_map label_of result ≡ kept_if good repository.entry.now «package».entry.now name.entry.now }
 {
-    let (front, package) = cut_slashes(text)?;
-    if !fits_alone(front, package) {
+    if !good {
         return None;
     }
     Some(Parts {
-        repository: front,
+        repository,
         package,
-        name: last(package),
+        name,
     })
 }
 
-/// `@REPO`.
-fn repository_alone(text: &[u8]) -> Option<Parts<'_>>
-    ensures { MatchOption result ((label : Label) → IsRepositoryAlone text.now label → ⊥)
-        (λ parts. IsRepositoryAlone text.now (label_of parts)) }
+/// `[REPOSITORY]//PACKAGE:NAME` or `[REPOSITORY]//PACKAGE`, from what is before and after the slashes.
+fn absolute<'a>(front: &'a [u8], rest: &'a [u8]) -> Option<Parts<'a>>
+    ensures { option_map label_of result ≡ absolute_label front.now rest.now }
 {
-    match text {
-        [b'@', name @ ..] if repository_name(name) => Some(Parts {
-            repository: text,
-            package: &[],
-            name,
-        }),
-        _ => None,
+    match cut_colon(rest) {
+        Some((package, name)) => parts_if(fits(front, package, name), front, package, name),
+        None => parts_if(fits_alone(front, rest), front, rest, last(rest)),
     }
 }
 
-/// `:NAME`.
-fn colon_name<'a>(current: &'a [u8], text: &'a [u8]) -> Option<Parts<'a>>
-    ensures { MatchOption result ((label : Label) → IsColonName current.now text.now label → ⊥)
-        (λ parts. IsColonName current.now text.now (label_of parts)) }
+/// `@REPO`, `:NAME` or `NAME`.
+fn other<'a>(current: &'a [u8], text: &'a [u8]) -> Option<Parts<'a>>
+    ensures { option_map label_of result ≡ other_label current.now text.now }
 {
     match text {
-        [b':', name @ ..] if path(name) => Some(Parts {
-            repository: &[],
-            package: current,
-            name,
-        }),
-        _ => None,
+        [] => None,
+        [b'@', name @ ..] => parts_if(repository_name(name), text, &[], name),
+        [b':', name @ ..] => parts_if(path(name), &[], current, name),
+        _ => parts_if(path(text), &[], current, text),
     }
 }
 
-/// `NAME`.
-fn bare_name<'a>(current: &'a [u8], text: &'a [u8]) -> Option<Parts<'a>>
-    ensures { MatchOption result ((label : Label) → IsBareName current.now text.now label → ⊥)
-        (λ parts. IsBareName current.now text.now (label_of parts)) }
+/// The three parts of the label that a text is in the current package, as slices of both; none where it is no label.
+#[tactic(auto, using(crate::proofs::LabelFunctions::slashes_cut, crate::proofs::LabelFunctions::slashes_uncut))]
+pub fn label_parts<'a>(current: &'a [u8], text: &'a [u8]) -> Option<Parts<'a>>
+    ensures { option_map label_of result ≡ label_in current.now text.now }
 {
-    match text {
-        [b'@', ..] => None,
-        name if path(name) => Some(Parts {
-            repository: &[],
-            package: current,
-            name,
-        }),
-        _ => None,
+    match cut_slashes(text) {
+        Some((front, rest)) => absolute(front, rest),
+        None => other(current, text),
     }
-}
-
-/// The parts of the label that the text is, read in the current package.
-pub(crate) fn parts_of<'a>(current: &'a [u8], text: &'a [u8]) -> Option<Parts<'a>>
-    ensures { MatchOption result ((label : Label) → IsLabel current.now text.now label → ⊥)
-        (λ parts. IsLabel current.now text.now (label_of parts)) }
-{
-    if let Some(parts) = whole(text) {
-        return Some(parts);
-    }
-    if let Some(parts) = package_alone(text) {
-        return Some(parts);
-    }
-    if let Some(parts) = repository_alone(text) {
-        return Some(parts);
-    }
-    if let Some(parts) = colon_name(current, text) {
-        return Some(parts);
-    }
-    if let Some(parts) = bare_name(current, text) {
-        return Some(parts);
-    }
-    None
 }

@@ -5,7 +5,7 @@ ghost use Rattle.bz_label.specs.Forms.{label_of};
 ghost use Rattle.bz_label.specs.Faults.{label_fault_number};
 ghost use Rattle.bz_label.specs.declared.label.Label.{Label};
 
-use crate::form::{Parts, parts_of};
+use crate::form::{Parts, label_parts};
 use bz_items::{Memory, Text};
 use std::alloc::Global;
 use thiserror::Error;
@@ -72,7 +72,7 @@ impl Label {
         ensures bad { (result ≡ Err LabelFault.BadLabel)
             ↔ ((label : Label) → IsLabel current.now text.now label → ⊥) }
     {
-        let Some(parts) = parts_of(current.as_bytes(), text.as_bytes()) else {
+        let Some(parts) = label_parts(current.as_bytes(), text.as_bytes()) else {
             return Err(LabelFault::BadLabel);
         };
         Ok(copied(alloc, parts)?)

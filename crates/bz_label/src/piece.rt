@@ -1,7 +1,8 @@
 //! What labels and targets are cut into.
-ghost use Rattle.std.specs.Prelude.{◌≡◌, ◌++◌, ◌∷◌, ◌==◌, false, MatchOption, position, Bool, List, ℕ};
+ghost use Rattle.std.specs.Prelude.{◌≡◌, codes, ◌++◌, ◌∷◌, ◌==◌, false, true, MatchOption, position, Bool, List, ℕ};
 ghost use Rattle.std.specs.List.{list_any};
-ghost use Rattle.bz_label.specs.Pieces.{is_joined, last_piece};
+ghost use Rattle.bz_label.specs.Pieces.{has_colon, is_joined, last_piece};
+ghost use Rattle.bz_label.specs.Shorter.{before_colon, after_colon};
 
 /// Whether such a byte is in the text.
 pub(crate) fn holds(text: &[u8], byte: u8) -> bool
@@ -21,6 +22,14 @@ pub(crate) fn after(text: &[u8], byte: u8) -> Option<&[u8]>
     }
 }
 
+/// What follows `//`.
+pub(crate) fn after_slashes(text: &[u8]) -> Option<&[u8]>
+    ensures { MatchOption result ((rest : List ℕ) → text.now ≡ codes "//" ++ rest → ⊥)
+        (λ rest. text.now ≡ codes "//" ++ rest.now) }
+{
+    after(after(text, b'/')?, b'/')
+}
+
 fn place(text: &[u8], byte: u8) -> Option<usize>
     ensures { result ≡ position (λ each. each == byte) text.now }
 {
@@ -34,6 +43,18 @@ pub(crate) fn cut(text: &[u8], byte: u8) -> Option<(&[u8], &[u8])>
 {
     let at = place(text, byte)?;
     Some((&text[..at], &text[at + 1..]))
+}
+
+/// The same of a colon, by the definitions.
+#[tactic(auto, using(crate::proofs::Colons::cut_at_colon))]
+pub(crate) fn cut_colon(text: &[u8]) -> Option<(&[u8], &[u8])>
+    ensures { MatchOption result (has_colon text.now ≡ false)
+        (λ parts. (text.now ≡ parts.0.now ++ 58 ∷ parts.1.now) × (has_colon text.now ≡ true) × (before_colon text.now ≡ parts.0.now) × (after_colon text.now ≡ parts.1.now)) }
+{
+    match cut(text, b':') {
+        Some(halves) => Some(halves),
+        None => None,
+    }
 }
 
 /// Whether the text is non-empty pieces joined by slashes.

@@ -1,14 +1,15 @@
 //! Targets.
-ghost use Rattle.std.specs.Prelude.{◌≡◌, ◌↔◌, ◌++◌, ◌&&◌, codes, ℕ, List, Err, None, Some, IfOk, IfSome, IsSomeAnd, MatchOption, IsTrue, true, ◌^◌, ◌-◌, min, nat_le, length};
+ghost use Rattle.std.specs.Prelude.{◌≡◌, ◌↔◌, ◌&&◌, Err, None, Some, IfOk, true, ◌^◌, ◌-◌, min, nat_le, length};
 ghost use Rattle.std.specs.List.{list_all};
+ghost use Rattle.std.specs.Option.{option_and_then, option_map};
 ghost use Rattle.std.specs.Char.{is_ascii_digit};
 ghost use Rattle.bz_label.specs.Pieces.{is_present};
-ghost use Rattle.bz_label.specs.Targets.{decimal, which_of, target_of, after_percent, is_package, IsSpelled, IsTarget};
+ghost use Rattle.bz_label.specs.Targets.{decimal, which_of, target_of, after_percent, is_package, IsTarget};
 ghost use Rattle.bz_label.specs.Faults.{target_fault_number};
-ghost use Rattle.bz_label.specs.TargetRead.{target_in};
+ghost use Rattle.bz_label.specs.TargetRead.{target_if, target_in};
 ghost use Rattle.bz_label.specs.declared.target.Target.{Target};
 
-use crate::piece::{after, cut, holds, joined, last};
+use crate::piece::{after_slashes, cut_colon, holds, joined, last};
 use bz_items::{Memory, Text};
 use std::alloc::Global;
 use thiserror::Error;
@@ -125,24 +126,15 @@ fn fits(path: &[u8], word: &[u8]) -> bool
         && !word.is_empty()
 }
 
-/// What follows `//`.
-fn after_slashes(text: &[u8]) -> Option<&[u8]>
-    ensures { MatchOption result ((rest : List ℕ) → text.now ≡ codes "//" ++ rest → ⊥)
-        (λ rest. text.now ≡ codes "//" ++ rest.now) }
-{
-    after(after(text, b'/')?, b'/')
-}
-
 /// The package and what follows it, before either is tested.
+#[tactic(auto, using(crate::proofs::TargetReadings::plain_cut, crate::proofs::TargetReadings::plain_uncut, crate::proofs::TargetReadings::slashed_cut, crate::proofs::TargetReadings::slashed_uncut))]
 fn halves(text: &[u8]) -> Option<(&[u8], &[u8])>
-    ensures spelled { IfSome result (λ halves. IsSpelled text.now halves.0.now halves.1.now) }
-    ensures only { (path word : List ℕ) → IsTrue (is_package path) → IsSpelled text.now path word
-        → IsSomeAnd result (λ halves. (halves.0.now ≡ path) × (halves.1.now ≡ word)) }
+    ensures { option_and_then (λ halves. target_if halves.0.now halves.1.now) result ≡ target_in text.now }
 {
     let Some(rest) = after_slashes(text) else {
-        return cut(text, b':');
+        return cut_colon(text);
     };
-    match cut(rest, b':') {
+    match cut_colon(rest) {
         Some((path, word)) => Some((path, word)),
         None => Some((rest, last(rest))),
     }
@@ -150,10 +142,11 @@ fn halves(text: &[u8]) -> Option<(&[u8], &[u8])>
 
 /// The package and what follows it, of a text that is a target.
 fn target_halves(text: &[u8]) -> Option<(&[u8], &[u8])>
-    ensures { MatchOption result ((target : Target) → IsTarget text.now target → ⊥)
-        (λ halves. IsTarget text.now (target_of halves.0.now halves.1.now)) }
+    ensures { option_map (λ halves. target_of halves.0.now halves.1.now) result ≡ target_in text.now }
 {
-    let (path, word) = halves(text)?;
+    let Some((path, word)) = halves(text) else {
+        return None;
+    };
     if !fits(path, word) {
         return None;
     }
@@ -172,7 +165,7 @@ fn copied(alloc: Global, path: &[u8], word: &[u8]) -> Result<Target, Memory>
 impl Target {
     /// The target that the text is. `BadTarget` exactly where it is none, or where its package's name is longer than
     /// 65,536 bytes; `Memory` where room for the package or the word was refused.
-    #[tactic(auto, using(crate::proofs::TargetReadings::target_read, crate::proofs::TargetReadings::target_none))]
+    #[tactic(auto, using(crate::proofs::TargetReadings::target_answered, crate::proofs::TargetReadings::no_target))]
     pub fn read(alloc: Global, text: &str) -> Result<Target, TargetFault>
         ensures ok { IfOk result (IsTarget text.now) }
         ensures read { IfOk result (λ target. target_in text.now ≡ Some target) }

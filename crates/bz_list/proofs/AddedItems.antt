@@ -19,7 +19,7 @@ use Rattle.bz_attribute.specs.Lists.{body_of, are_one, is_item, fresh, travelled
 use Rattle.bz_attribute.specs.Made.{string_of, list_of, plus}
 use Rattle.bz_list.specs.Changes.{with_items_added}
 use Rattle.bz_list.specs.private.KnownValues.{Membership, none_known, with_word, is_known_item, with_item, with_known_items, new_words, new_items}
-use Rattle.bz_list.specs.private.Adding.{added_by, added_to, with_added}
+use Rattle.bz_list.specs.private.Listing.{added_by, added_to, with_added}
 
 -- ---- what is known of items that are there
 

@@ -1,30 +1,213 @@
--- What was added is there afterwards.
-use Rattle.std.proofs.Common.{◌≡◌, Bool, true, false, ◌&&◌, ◌||◌, List, [], ◌∷◌, ◌++◌, Option, Some, None, Ok, Err, inl, inr, refl, sym, ap, ◌∙◌, codes, true≢false}
-use Rattle.std.specs.Prelude.{◌⊎◌, if◌then◌else◌, is_some}
-use Rattle.std.specs.List.{AllByRecursion, flat_map, list_any}
-use Rattle.std.specs.Option.{option_map_or}
-use Rattle.std.proofs.Math.Bool.{or_assoc, or-false}
-use Rattle.std.proofs.lemmas.Bool.{cases_Bool, or_parts, or_right}
-use Rattle.std.proofs.lemmas.Grind.{flat_map-append}
+-- Adding what is there.
+use Rattle.std.proofs.Common.{◌≡◌, Bool, true, false, ◌||◌, List, [], ◌∷◌, ◌++◌, Some, Ok, Err, refl, ap, ◌∙◌, map, Option, None, codes, not, inl, inr, sym, subst, true≢false, ◌&&◌}
+use Rattle.std.specs.Prelude.{if◌then◌else◌, bytes_eq, ◌⊎◌, is_some}
+use Rattle.std.specs.List.{list_any, list_all, AllByRecursion, flat_map, filter}
+use Rattle.std.proofs.lemmas.Bool.{and_parts, or_parts, cases_Bool, and_from, or_cases, not-true, or_left, or_right}
 use Rattle.std.proofs.lemmas.List.{append-nil}
-use Rattle.std.proofs.lemmas.List.Folds.{list_any-append}
 use Rattle.bz_grammar.specs.declared.kind.Kind.TheVariants as k
-use Rattle.bz_value.specs.declared.value.Expr.{Expr}
+use Rattle.bz_value.specs.declared.value.Expr.{Expr, items_hidden-the_row-Expr-0}
 use Rattle.bz_items.specs.Characters.{Bytes}
 use Rattle.bz_rule.specs.Rules.{attribute}
-use Rattle.bz_rule.specs.Values.{has_kind, parts_of, items_of, with_parts, with_items, on_row, on_items}
-use Rattle.bz_rule.proofs.ProperChanges.{by_case}
-use Rattle.bz_attribute.specs.Attributes.{Arguments, by_value, on_first_that, with_value, with_new}
-use Rattle.bz_attribute.proofs.AttributesAgain.{node_parts, attribute_new, attribute_changed}
-use Rattle.bz_attribute.proofs.FormsAgain.{if_true, if_false, both, parts_kind, items_kind, parts_filled, items_filled, row_changed, items_changed}
-use Rattle.bz_attribute.proofs.ListsThere.{any_alone, any_in_sum, in_sum, lists_there, sum_no_list}
-use Rattle.bz_attribute.proofs.PlainWords.{IsPlain}
-use Rattle.bz_list.specs.Laws.{are_there, AddedIsThere}
-use Rattle.bz_attribute.specs.Lists.{has_lists, items_in, is_no_list, listed, with_more, is_item}
-use Rattle.bz_attribute.specs.Made.{mark, node, list_of, binds_looser, operand, plus}
+use Rattle.bz_rule.specs.Values.{has_kind, parts_of, items_of, on_row, on_items, with_parts, with_items, on_lists}
+use Rattle.bz_attribute.specs.Attributes.{has_attribute, on_first_that, with_value, with_new, Arguments, by_value, without}
+use Rattle.bz_attribute.proofs.AttributesAgain.{by_there, by_absent, with_value_same, node_parts, attribute_new, attribute_changed, without_new, same_made}
+use Rattle.bz_attribute.proofs.FormsAgain.{if_true, if_either, row_same, items_same, both, if_false, parts_kind, items_kind, parts_filled, items_filled, row_changed, items_changed}
+use Rattle.bz_list.specs.Changes.{with_items_added, cleared, without_items, remove_values}
+use Rattle.bz_list.specs.Laws.{AddedAgain, become_plain, are_there, AddedIsThere, RemovedAgain}
+use Rattle.bz_attribute.specs.Lists.{has_lists, items_in, is_no_list, with_more, are_one, is_item, fresh, body_of, listed, is_empty_list, is_some_item}
+use Rattle.bz_attribute.specs.Made.{string_of, list_of, plus, shortened_in, mark, node, binds_looser, operand}
 use Rattle.bz_value.specs.declared.refusal.Refusal.TheVariants.{NotAList}
-use Rattle.bz_list.proofs.LawAdding.{grown, strings_for}
-use Rattle.bz_list.proofs.LawItems.{list_items, items_list, each_plain, added_words}
+use Rattle.std.specs.Option.{option_map_or}
+use Rattle.bz_label.specs.Pieces.{is_colon}
+use Rattle.bz_label.specs.Read.{is_same, is_own, shortened}
+use Rattle.bz_label.specs.Shorter.{before_colon, after_colon, is_repeated, unrepeated}
+use Rattle.bz_label.specs.Tables.{is_label_attribute}
+use Rattle.bz_label.proofs.LabelFunctions.{same_exactly, is_shortened}
+use Rattle.bz_label.proofs.Shorter.{shortened_same}
+use Rattle.bz_command_syntax.specs.Quoted.{is_escaped}
+use Rattle.bz_rule.proofs.ProperChanges.{by_test, by_case}
+use Rattle.bz_attribute.proofs.PlainWords.{IsPlain, equal_self, body_quoted}
+use Rattle.bz_list.proofs.KnownSteps.{meant_alike}
+use Rattle.bz_attribute.proofs.KeySets.{any_on}
+use Rattle.std.proofs.Math.Bool.{or_assoc, or-false}
+use Rattle.std.proofs.lemmas.Grind.{flat_map-append}
+use Rattle.std.proofs.lemmas.List.Folds.{list_any-append}
+use Rattle.bz_attribute.proofs.ListsThere.{any_alone, any_in_sum, in_sum, lists_there, sum_no_list}
+use Rattle.bz_value.specs.Empty.{is_empty}
+use Rattle.bz_command_syntax.specs.Words.{is_nonempty}
+
+-- what further items make of an attribute that is there
+abbrev pub grown : Bytes → (List Expr → List Expr) → List Expr → Expr → Arguments
+grown name added arguments value =
+    if has_lists value then Ok (with_value name (with_more (added (items_in value)) value) arguments)
+    else (if is_no_list value then Err NotAList else Ok (with_value name (plus value (list_of (added []))) arguments))
+
+pub added_there : (name : Bytes) (added : List Expr → List Expr) (xs : List Expr) (value : Expr) → attribute name xs ≡ Some value → with_items_added name added xs ≡ grown name added xs value
+added_there name added xs value e = by_there (attribute name xs) value (Ok (with_new name (list_of (added [])) xs)) (grown name added xs) e
+
+pub added_absent : (name : Bytes) (added : List Expr → List Expr) (xs : List Expr) → has_attribute name xs ≡ false → with_items_added name added xs ≡ Ok (with_new name (list_of (added [])) xs)
+added_absent name added xs h = by_absent (attribute name xs) (Ok (with_new name (list_of (added [])) xs)) (grown name added xs) h
+
+-- the strings that the words become that are none of these items
+abbrev pub strings_for : Bytes → Bytes → List Bytes → List Expr → List Expr
+strings_for current name words items = map (string_of current name) (fresh current name items [] words)
+
+-- ---- no further items
+
+none_fresh : (current name : Bytes) (items : List Expr) (words : List Bytes) → list_all (λ word. list_any (is_item current name word) items) words ≡ true → fresh current name items [] words ≡ []
+none_fresh current name items [] h = refl
+none_fresh current name items (word ∷ words) h =
+    let p = and_parts (list_any (is_item current name word) items) (list_all (λ other. list_any (is_item current name other) items) words) h in
+    if_true (list_any (are_one current name word) [] || list_any (is_item current name word) items) (fresh current name items [] words) (word ∷ fresh current name items (word ∷ []) words) p.0
+    ∙ none_fresh current name items words p.1
+
+first_that_same : (test : Expr → Bool) (change : Expr → Expr) → ((x : Expr) → change x ≡ x) → (xs : List Expr) → on_first_that test change xs ≡ xs
+first_that_same test change f [] = refl
+first_that_same test change f (x ∷ xs) =
+    if_either (test x) (change x ∷ xs) (x ∷ on_first_that test change xs) (x ∷ xs) (ap (λ z. z ∷ xs) (f x)) (ap (λ zs. x ∷ zs) (first_that_same test change f xs))
+
+list_more_none : (x : Expr) → on_items k.List (λ items. items ++ []) x ≡ x
+list_more_none x = items_same k.List (λ items. items ++ []) x (append-nil (items_of x))
+
+more_none : (value : Expr) → with_more [] value ≡ value
+more_none value =
+    let change : Expr → Expr = on_items k.List (λ items. items ++ []) in
+    if_either (has_kind k.Sum value) (on_row k.Sum (on_first_that (has_kind k.List) change) value) (change value) value
+    (row_same k.Sum (on_first_that (has_kind k.List) change) value (first_that_same (has_kind k.List) change list_more_none (parts_of value))) (list_more_none value)
+
+pub adding_again : AddedAgain
+adding_again current name words xs value e l t =
+    let added : List Expr → List Expr = strings_for current name words in
+    let none : added (items_in value) ≡ [] = ap (map (string_of current name)) (none_fresh current name (items_in value) words t) in
+    let same : with_more (added (items_in value)) value ≡ value = ap (λ more. with_more more value) none ∙ more_none value in
+    added_there name added xs value e
+    ∙ (if_true (has_lists value) (Ok (with_value name (with_more (added (items_in value)) value) xs)) (if is_no_list value then Err NotAList else Ok (with_value name (plus value (list_of (added []))) xs)) l
+    ∙ ap Ok (ap (λ v. with_value name v xs) same ∙ with_value_same name value xs e))
+
+-- ---- a word put into an attribute and what it means there: its string means the same, and meaning the same carries on
+
+-- ---- a shorter label of a plain word
+
+before_plain : (text : Bytes) → IsPlain text → IsPlain (before_colon text)
+before_plain [] h = refl
+before_plain (byte ∷ text) h =
+    let p = or_parts (is_escaped byte) (list_any is_escaped text) h in
+    by_test IsPlain (is_colon byte) [] (byte ∷ before_colon text) refl (both (λ x y. x || y) p.0 (before_plain text p.1))
+
+after_plain : (text : Bytes) → IsPlain text → IsPlain (after_colon text)
+after_plain [] h = refl
+after_plain (byte ∷ text) h =
+    let p = or_parts (is_escaped byte) (list_any is_escaped text) h in
+    by_test IsPlain (is_colon byte) text (after_colon text) p.1 (after_plain text p.1)
+
+unrepeated_plain : (text : Bytes) → IsPlain text → IsPlain (unrepeated text)
+unrepeated_plain text h = by_test IsPlain (is_repeated (before_colon text) (after_colon text)) (before_colon text) text (before_plain text h) h
+
+shortened_plain : (current text : Bytes) → IsPlain text → IsPlain (shortened current text)
+shortened_plain current text h =
+    by_test IsPlain (is_own current text) (codes ":" ++ after_colon text) (unrepeated text) (after_plain text h) (unrepeated_plain text h)
+
+word_plain : (current attribute word : Bytes) → IsPlain word → IsPlain (shortened_in current attribute word)
+word_plain current attribute word h = by_test IsPlain (is_label_attribute attribute) (shortened current word) word (shortened_plain current word h) h
+
+-- ---- what a word means
+
+shorter_is_one : (label : Bool) (current word : Bytes)
+    → (if label then is_same current word (if label then shortened current word else word) else bytes_eq word (if label then shortened current word else word)) ≡ true
+shorter_is_one true current word = (same_exactly current word (shortened current word)).1 (shortened_same current word (shortened current word) (is_shortened current word))
+shorter_is_one false current word = equal_self word
+
+-- the string that a plain word becomes is the item that the word means
+pub word_is_item : (current attribute word : Bytes) → IsPlain word → is_item current attribute word (string_of current attribute word) ≡ true
+word_is_item current attribute word h =
+    let short : Bytes = shortened_in current attribute word in
+    ap (λ (found : Option Bytes). option_map_or (are_one current attribute word) found false) (body_quoted short (word_plain current attribute word h))
+    ∙ shorter_is_one (is_label_attribute attribute) current word
+
+body_on : (current attribute word other : Bytes) → are_one current attribute word other ≡ true → (found : Option Bytes) → option_map_or (are_one current attribute other) found false ≡ true
+    → option_map_or (are_one current attribute word) found false ≡ true
+body_on current attribute word other h None i = i
+body_on current attribute word other h (Some text) i = meant_alike (is_label_attribute attribute) current word other text h ∙ i
+
+-- what a word that means the same as another means is what the other means
+pub item_on : (current attribute word other : Bytes) → are_one current attribute word other ≡ true → (x : Expr) → is_item current attribute other x ≡ true → is_item current attribute word x ≡ true
+item_on current attribute word other h x i = body_on current attribute word other h (body_of x) i
+
+-- ---- words that are put into an attribute: which are fresh, and where their strings are
+
+-- ---- a new list
+
+pub list_items : (xs : List Expr) → items_of (list_of xs) ≡ xs
+list_items xs = items_hidden-the_row-Expr-0 xs
+
+-- the items of a value that is a new list
+pub items_list : (xs : List Expr) → items_in (list_of xs) ≡ xs
+items_list xs = append-nil (items_of (list_of xs)) ∙ list_items xs
+
+-- ---- words
+
+pub each_plain : (words : List Bytes) → become_plain words ≡ true → AllByRecursion IsPlain words
+each_plain [] h = tt
+each_plain (word ∷ words) h =
+    let p = and_parts (not (list_any is_escaped word)) (become_plain words) h in
+    (not-true (list_any is_escaped word) p.0, each_plain words p.1)
+
+pub fresh_all : (P : Bytes → Type 0) (current name : Bytes) (items : List Expr) (earlier words : List Bytes) → AllByRecursion P words → AllByRecursion P (fresh current name items earlier words)
+fresh_all P current name items earlier [] a = tt
+fresh_all P current name items earlier (word ∷ words) a =
+    by_test (AllByRecursion P) (list_any (are_one current name word) earlier || list_any (is_item current name word) items)
+    (fresh current name items earlier words) (word ∷ fresh current name items (word ∷ earlier) words)
+    (fresh_all P current name items earlier words a.1) (a.0, fresh_all P current name items (word ∷ earlier) words a.1)
+
+-- the word is one of these items
+abbrev pub IsThere : Bytes → Bytes → List Expr → Bytes → Type 0
+IsThere current name all word = list_any (is_item current name word) all ≡ true
+
+-- where the strings of some words are, the words are
+strings_there : (current name : Bytes) (all : List Expr) (words : List Bytes) → AllByRecursion IsPlain words
+    → ((word : Bytes) → IsThere current name (map (string_of current name) words) word → IsThere current name all word) → AllByRecursion (IsThere current name all) words
+strings_there current name all [] p f = tt
+strings_there current name all (word ∷ words) p f =
+    let rest : List Expr = map (string_of current name) words in (
+      f word (or_left (is_item current name word (string_of current name word)) (list_any (is_item current name word) rest) (word_is_item current name word p.0)),
+      strings_there current name all words p.1 (λ other h. f other (or_right (is_item current name other (string_of current name word)) (list_any (is_item current name other) rest) h)),
+    )
+
+earlier_there : (current name : Bytes) (all : List Expr) (word : Bytes) (earlier : List Bytes) → list_any (are_one current name word) earlier ≡ true → AllByRecursion (IsThere current name all) earlier → IsThere current name all word
+earlier_there current name all word [] h a = absurd (true≢false (sym h))
+earlier_there current name all word (other ∷ earlier) h a = elim (or_cases (are_one current name word other) (list_any (are_one current name word) earlier) h) [
+  | inl e ↦ any_on (is_item current name other) (is_item current name word) (item_on current name word other e) all a.0
+  | inr e ↦ earlier_there current name all word earlier e a.1
+]
+
+words_there : (current name : Bytes) (items all : List Expr) → ((word : Bytes) → IsThere current name items word → IsThere current name all word) → (earlier words : List Bytes)
+    → AllByRecursion (IsThere current name all) earlier → AllByRecursion (IsThere current name all) (fresh current name items earlier words)
+    → list_all (λ word. list_any (is_item current name word) all) words ≡ true
+words_there current name items all f earlier [] a g = refl
+words_there current name items all f earlier (word ∷ words) a g =
+    let known : Bool = list_any (are_one current name word) earlier || list_any (is_item current name word) items in
+    let less : List Bytes = fresh current name items earlier words in
+    let more : List Bytes = word ∷ fresh current name items (word ∷ earlier) words in
+    let there : Bytes → Bool = λ other. list_any (is_item current name other) all in
+    elim (cases_Bool known) [
+      | inl t ↦
+          let this : IsThere current name all word = elim (or_cases (list_any (are_one current name word) earlier) (list_any (is_item current name word) items) t) [
+            | inl e ↦ earlier_there current name all word earlier e a
+            | inr i ↦ f word i
+          ] in
+          and_from (there word) (list_all there words) this (words_there current name items all f earlier words a (subst (AllByRecursion (IsThere current name all)) (if_true known less more t) g))
+      | inr n ↦
+          let rest : AllByRecursion (IsThere current name all) more = subst (AllByRecursion (IsThere current name all)) (if_false known less more n) g in
+          and_from (there word) (list_all there words) rest.0 (words_there current name items all f (word ∷ earlier) words (rest.0, a) rest.1)
+    ]
+
+-- where some items are, and the strings of the words that are fresh beside them, all words are
+pub added_words : (current name : Bytes) (items all : List Expr) (words : List Bytes) → AllByRecursion IsPlain words → ((word : Bytes) → IsThere current name items word → IsThere current name all word)
+    → ((word : Bytes) → IsThere current name (strings_for current name words items) word → IsThere current name all word) → list_all (λ word. list_any (is_item current name word) all) words ≡ true
+added_words current name items all words p f g =
+    words_there current name items all f [] words tt (strings_there current name all (fresh current name items [] words) (fresh_all IsPlain current name items [] words p) g)
+
+-- ---- what was added is there afterwards
 
 -- ---- further items at the end of the first list
 
@@ -166,3 +349,51 @@ found_or_new current name words xs new p (Some value) d e =
 
 pub added_is_there : AddedIsThere
 added_is_there current name words xs new plain e = found_or_new current name words xs new (each_plain words plain) (attribute name xs) refl e
+
+-- ---- removing what was added to an absent attribute
+
+-- the string of the word is one of the items that these words mean
+abbrev IsMeant : Bytes → Bytes → List Bytes → Bytes → Type 0
+IsMeant current name all word = is_some_item current name all (string_of current name word) ≡ true
+
+words_meant : (current name : Bytes) (all words : List Bytes) → AllByRecursion IsPlain words → ((x : Expr) → is_some_item current name words x ≡ true → is_some_item current name all x ≡ true)
+    → AllByRecursion (IsMeant current name all) words
+words_meant current name all [] p f = tt
+words_meant current name all (word ∷ words) p f =
+    let string : Expr = string_of current name word in (
+      f string (ap (λ b. b || is_some_item current name words string) (word_is_item current name word p.0)),
+      words_meant current name all words p.1 (λ x h. f x (or_right (is_item current name word x) (is_some_item current name words x) h)),
+    )
+
+none_left : (current name : Bytes) (all words : List Bytes) → AllByRecursion (IsMeant current name all) words → filter (λ x. not (is_some_item current name all x)) (map (string_of current name) words) ≡ []
+none_left current name all [] a = refl
+none_left current name all (word ∷ words) a =
+    let left : List Expr = filter (λ x. not (is_some_item current name all x)) (map (string_of current name) words) in
+    if_false (not (is_some_item current name all (string_of current name word))) (string_of current name word ∷ left) left (ap not a.0) ∙ none_left current name all words a.1
+
+-- the first word is fresh where nothing is there
+some_made : (current name : Bytes) (all words : List Bytes) → is_nonempty words ≡ true → AllByRecursion (IsMeant current name all) words → list_any (is_some_item current name all) (strings_for current name words []) ≡ true
+some_made current name all [] h a = absurd (true≢false (sym h))
+some_made current name all (word ∷ words) h a =
+    ap (λ b. b || list_any (is_some_item current name all) (map (string_of current name) (fresh current name [] (word ∷ []) words))) a.0
+
+emptied : (name : Bytes) (xs items : List Expr) → cleared name (with_items [] (list_of items)) xs ≡ without name xs
+emptied name xs items =
+    let value : Expr = with_items [] (list_of items) in
+    if_true (is_empty_list value) (without name xs) (with_value name value xs) (ap (λ (ys : List Expr). is_empty ys) (items_filled k.List [] (list_of items) refl))
+
+pub removing_again : RemovedAgain
+removing_again current name words xs new absent full plain e =
+    let items : List Expr = strings_for current name words [] in
+    let value : Expr = list_of items in
+    let ys : List Expr = with_new name value xs in
+    let test : Expr → Bool = is_some_item current name words in
+    let left : Expr → Bool = λ x. not (test x) in
+    let same : ys ≡ new = same_made ys new _ (added_absent name (strings_for current name words) xs absent) e in
+    let meant : AllByRecursion (IsMeant current name words) words = words_meant current name words words (each_plain words plain) (λ x h. h) in
+    let some : list_any test (items_in value) ≡ true = ap (list_any test) (items_list items) ∙ some_made current name words words full meant in
+    let none : filter left (items_of value) ≡ [] = ap (filter left) (list_items items) ∙ none_left current name words (fresh current name [] [] words) (fresh_all (IsMeant current name words) current name [] [] words meant) in
+    ap (remove_values current name words) (sym same)
+    ∙ (by_there (attribute name ys) value (Ok ys) (λ v. if is_no_list v then Err NotAList else Ok (without_items name test v ys)) (attribute_new name value xs absent)
+    ∙ ap Ok (if_true (list_any test (items_in value)) (cleared name (on_lists (filter left) value) ys) ys some
+    ∙ (ap (λ zs. cleared name (with_items zs value) ys) none ∙ (emptied name ys items ∙ without_new name value xs absent))))

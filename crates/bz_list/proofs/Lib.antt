@@ -1,13 +1,5 @@
 pub mod AddedItems
-pub mod KnownKeys
 pub mod KnownSteps
 pub mod LawAdded
-pub mod LawAdding
-pub mod LawItems
-pub mod LawRemoving
-pub mod LawWords
 pub mod ListedForms
-pub mod ListedMoves
-pub mod ListedTests
 pub mod ProperCommands
-pub mod ProperLists

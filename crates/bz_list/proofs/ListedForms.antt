@@ -1,22 +1,44 @@
--- Values whose lists are changed: what stays as it is, and the attribute without items.
-use Rattle.std.proofs.Common.{◌≡◌, Bool, true, false, not, List, [], ◌∷◌, refl, sym, ap, ◌∙◌, map, true≢false}
-use Rattle.std.specs.Prelude.{Some, if◌then◌else◌}
-use Rattle.std.specs.List.{list_any, filter, flat_map}
+-- The lists of a value and their items.
+use Rattle.std.proofs.Common.{◌≡◌, false, List, [], ◌∷◌, refl, sym, ap, ◌∙◌, Bool, true, not, map, true≢false, ℕ}
+use Rattle.std.specs.Prelude.{IsTrue, ◌↔◌, if◌then◌else◌, Some, Option, Ok, Err, None, slice_get, slice_set}
+use Rattle.std.specs.List.{flat_map, list_any, filter, position}
+use Rattle.bz_grammar.specs.declared.kind.Kind.TheVariants as k
+use Rattle.bz_grammar.specs.Shapes.{is_kind}
+use Rattle.bz_value.specs.declared.value.Form.{Form}
+use Rattle.bz_value.specs.declared.value.Expr.TheVariants as e
+use Rattle.bz_attribute.proofs.ArgumentForms.{parts_Form}
+use Rattle.bz_value.specs.declared.value.Expr.{Expr}
+use Rattle.bz_value.specs.Empty.{is_empty}
+use Rattle.bz_attribute.specs.Lists.{items_in, listed, is_empty_list, has_lists}
+use Rattle.bz_attribute.proofs.ListsThere.{items_there, some_filtered}
+use Rattle.bz_attribute.proofs.MakingForms as forms
 use Rattle.std.proofs.lemmas.Bool.{or_parts}
 use Rattle.std.proofs.lemmas.List.Folds.{list_any-append}
-use Rattle.bz_grammar.specs.declared.kind.Kind.TheVariants as k
-use Rattle.bz_value.specs.declared.value.Expr.{Expr}
 use Rattle.bz_items.specs.Characters.{Bytes}
 use Rattle.bz_rule.specs.Rules.{attribute}
 use Rattle.bz_rule.specs.Values.{has_kind, parts_of, items_of, with_parts, with_items, on_row, on_items, on_lists}
-use Rattle.bz_value.specs.Empty.{is_empty}
-use Rattle.bz_attribute.specs.Attributes.{with_value, without}
-use Rattle.bz_attribute.specs.Lists.{items_in, is_empty_list, listed}
+use Rattle.bz_attribute.specs.Attributes.{with_value, without, Arguments, by_value, on_first_that}
 use Rattle.bz_attribute.proofs.AttributesAgain.{with_value_same}
-use Rattle.bz_attribute.proofs.FormsAgain.{both, own_parts, own_items}
-use Rattle.bz_list.specs.Changes.{cleared}
-use Rattle.bz_list.specs.private.Listing.{put_back, without_chosen}
-use Rattle.bz_attribute.proofs.ListsThere.{some_filtered, items_there}
+use Rattle.bz_attribute.proofs.FormsAgain.{both, own_parts, own_items, if_true, if_false}
+use Rattle.bz_list.specs.Changes.{cleared, without_items, is_moved, items_moved, with_items_added, move}
+use Rattle.bz_list.specs.private.Listing.{put_back, without_chosen, chosen_in, added_by}
+use Rattle.bz_command_syntax.specs.declared.command.Values.{Values}
+use Rattle.bz_list.specs.declared.adding.Added.TheVariants as a
+use Rattle.bz_value.specs.declared.refusal.Refusal.TheVariants.{NoAttribute, NotAList}
+use Rattle.bz_attribute.proofs.ArgumentPlaces as places
+
+-- the items of a form
+pub items_Form : (f : Form) → items_in (e.Form f) ≡ (if is_kind f.kind k.Sum then flat_map listed f.parts else (if is_kind f.kind k.List then f.seq.items else []))
+items_Form f =
+    items_there (e.Form f)
+    ∙ (ap (λ xs. if is_kind f.kind k.Sum then flat_map listed xs else listed (e.Form f)) (parts_Form f)
+    ∙ ap (λ xs. if is_kind f.kind k.Sum then flat_map listed f.parts else (if is_kind f.kind k.List then xs else [])) (forms.items_Form f))
+
+pub not_emptied : (xs : List Expr) → IsTrue false ↔ (xs ≡ []) → is_empty xs ≡ false
+not_emptied [] h = sym (h.1 refl)
+not_emptied (x ∷ xs) h = refl
+
+-- ---- values whose lists are changed: what stays as it is, and the attribute without items
 
 -- ---- lists of which no item passes a test
 
@@ -72,3 +94,56 @@ left_there name test before after value own place gone =
     ap (λ b. put_back name b left after) (some_filtered test (items_in value))
     ∙ (both (put_by (list_any test (items_in value)) (is_empty_list left) left) gone (place left)
     ∙ (left_by name test (list_any test (items_in value)) before value own refl ∙ ap (λ found. without_chosen name test found before) (sym own)))
+
+-- ---- what `move` makes, by the items that it takes
+
+module _ (current from to : Bytes) (values : Values) (arguments : List Expr) where
+  abbrev test : Expr → Bool
+  test = is_moved current from values
+
+  abbrev from_value : Option Expr → Arguments
+  from_value found =
+      by_value found (Err NoAttribute)
+      (λ value.
+      if not (has_lists value) then Err NotAList
+      else (if list_any test (items_in value) then items_moved current from to (filter test (items_in value)) (without_items from test value arguments) else Ok arguments))
+
+  none_by : (b : Bool) (x : Arguments) (value : Expr) → b ≡ false
+      → (if b then x else Ok arguments) ≡ Ok (if b then cleared from (on_lists (filter (λ y. not (test y))) value) arguments else arguments)
+  none_by true x value h = absurd (true≢false h)
+  none_by false x value h = refl
+
+  any_taken : (value : Expr) (taken : List Expr) → taken ≡ filter test (items_in value) → list_any test (items_in value) ≡ not (is_empty taken)
+  any_taken value taken e = sym (some_filtered test (items_in value)) ∙ ap (λ xs. not (is_empty xs)) (sym e)
+
+  from_there : (value : Expr) → attribute from arguments ≡ Some value → has_lists value ≡ true
+      → move current from to values arguments ≡ (if list_any test (items_in value) then items_moved current from to (filter test (items_in value)) (without_items from test value arguments) else Ok arguments)
+  from_there value own lists = ap from_value own ∙ if_false (not (has_lists value)) (Err NotAList) _ (ap not lists)
+
+  pub nothing_moved : (value : Expr) (taken left : List Expr) → attribute from arguments ≡ Some value → has_lists value ≡ true
+      → taken ≡ chosen_in test (attribute from arguments) → left ≡ without_chosen from test (attribute from arguments) arguments → taken ≡ []
+      → move current from to values arguments ≡ Ok left
+  nothing_moved value taken left own lists took is none =
+      let took' : taken ≡ filter test (items_in value) = took ∙ ap (chosen_in test) own in
+      from_there value own lists
+      ∙ (none_by (list_any test (items_in value)) _ value (any_taken value taken took' ∙ ap (λ xs. not (is_empty xs)) none)
+      ∙ ap Ok (sym (is ∙ ap (λ found. without_chosen from test found arguments) own)))
+
+  pub something_moved : (value : Expr) (taken left : List Expr) → attribute from arguments ≡ Some value → has_lists value ≡ true
+      → taken ≡ chosen_in test (attribute from arguments) → left ≡ without_chosen from test (attribute from arguments) arguments → is_empty taken ≡ false
+      → move current from to values arguments ≡ with_items_added to (added_by current to (a.Moved taken)) left
+  something_moved value taken left own lists took is some =
+      let took' : taken ≡ filter test (items_in value) = took ∙ ap (chosen_in test) own in
+      from_there value own lists
+      ∙ (if_true (list_any test (items_in value)) _ _ (any_taken value taken took' ∙ ap not some)
+      ∙ (ap (λ xs. items_moved current from to xs (without_items from test value arguments)) (sym took')
+      ∙ ap (λ xs. items_moved current from to taken xs) (sym (is ∙ ap (λ found. without_chosen from test found arguments) own))))
+
+-- ---- the first element that passes, changed in its place; and where none passes
+
+pub changed_there : {X : Type 0} (test : X → Bool) (f : X → X) (xs read : List X) (i : ℕ) (x new : X) → Some i ≡ position test read → read ≡ xs → slice_get xs i ≡ Some x → new ≡ f x
+    → slice_set xs i new ≡ on_first_that test f xs
+changed_there test f xs read i x new at same = places.changed_there test f xs i x new (at ∙ ap (position test) same)
+
+pub changed_nowhere : {X : Type 0} (test : X → Bool) (f : X → X) (xs read : List X) → None ≡ position test read → read ≡ xs → xs ≡ on_first_that test f xs
+changed_nowhere test f xs read none same = places.changed_nowhere test f xs (none ∙ ap (position test) same)

@@ -1,26 +1,189 @@
--- What each command on values makes of the arguments of a rule is arguments.
-use Rattle.std.proofs.Common.{Bool, not, List, [], map}
-use Rattle.std.specs.Prelude.{IsUtf8, Ok, Err, if◌then◌else◌}
-use Rattle.std.specs.List.{filter, list_any}
+-- Lists of values with further items, with fewer and with other ones.
+use Rattle.std.proofs.Common.{◌≡◌, Bool, true, false, not, ◌&&◌, ◌||◌, List, [], ◌∷◌, ◌++◌, refl, sym, subst, map, true≢false}
+use Rattle.std.specs.Prelude.{IsUtf8, IfSome, Option, Some, None, if◌then◌else◌, bytes_eq, Ok, Err}
+use Rattle.std.specs.List.{AllByRecursion, filter, flat_map, list_any}
+use Rattle.std.specs.Option.{option_and_then, option_map_or}
+use Rattle.bz_token.specs.declared.class.Class.{Class}
+use Rattle.bz_token.specs.declared.class.Class.TheVariants as c
+use Rattle.bz_grammar.specs.declared.kind.Kind.{Kind}
+use Rattle.bz_grammar.specs.declared.kind.Kind.TheVariants as k
 use Rattle.bz_grammar.specs.Shapes as s
-use Rattle.bz_value.specs.declared.value.Expr.{Expr}
+use Rattle.bz_grammar.specs.Shapes.{is_class, is_kind}
+use Rattle.bz_grammar.specs.Spots.{Spot, Within}
+use Rattle.bz_label.specs.Tables.{is_label_attribute}
+use Rattle.bz_label.specs.Read.{shortened}
+use Rattle.bz_value.specs.declared.value.Expr.{Expr, Token, Form', items-the_row-Expr}
+use Rattle.bz_value.specs.declared.value.Expr.TheVariants as e
+use Rattle.bz_value.specs.Comments.{HostComments}
 use Rattle.bz_items.specs.Characters.{Bytes}
+use Rattle.bz_value.specs.Proper.{ProperExpr, after_expr}
+use Rattle.bz_value.proofs.FormParts.{AreParts}
+use Rattle.bz_command_syntax.specs.Patterns.{substituted}
 use Rattle.bz_command_syntax.specs.Proper.{AreUtf8, IsAttribute}
+use Rattle.bz_command_syntax.specs.Quoted.{quoted_of}
+use Rattle.bz_rule.specs.Rules.{body}
+use Rattle.bz_rule.specs.Values.{has_kind, has_class, text_of, parts_of, items_of, with_text, on_row, on_items, on_lists, first_text}
+use Rattle.bz_rule.proofs.ProperChanges.{by_test, by_case, Stays, row_stays, items_stay, lists_stay, string_in_place}
+use Rattle.bz_rule.proofs.ProperForms.{InPlace, AsForm, itself, each_mapped, opened}
+use Rattle.bz_rule.proofs.ProperItems.{IsValue, value_in_place, all_joined, all_kept, all_changed}
+use Rattle.bz_rule.proofs.ProperSequences.{IsItem, AreOf, list_apart, list_in_place, where_true}
+use Rattle.bz_attribute.specs.Made.{string_text, list_of, string_of, plus}
+use Rattle.bz_attribute.specs.Attributes.{on_first_that, is_attribute, is_other_attribute, on_value, with_value, with_new, without}
+use Rattle.bz_attribute.specs.Lists.{items_in, with_more, body_of, are_one, is_item, fresh, travelled, is_there, arriving, has_lists, is_no_list, is_empty_list, is_some_item}
+use Rattle.bz_attribute.proofs.ProperAttributes.{first_that_stays, AreArguments, Made, Keeps, of_attribute, first_that_kept, value_stays, with_value_kept, without_kept, with_new_kept}
+use Rattle.bz_list.specs.Changes.{in_value, replaced_item, with_body, substituted_item, with_items_added, add, cleared, without_items, remove_values, in_attributes, replace, substitute, is_moved, items_moved, move}
+use Rattle.bz_attribute.proofs.ProperMade.{string_strung, quoted_string, list_value, plus_value, words_are_items}
+use Rattle.bz_attribute.proofs.ProperTexts.{body_utf8, shortened_utf8}
 use Rattle.bz_command_syntax.specs.declared.command.Attributes.{Attributes}
 use Rattle.bz_command_syntax.specs.declared.command.Attributes.TheVariants as t
 use Rattle.bz_command_syntax.specs.declared.command.Values.{Values}
-use Rattle.bz_rule.specs.Values.{parts_of, first_text, on_lists}
-use Rattle.bz_rule.proofs.ProperChanges.{by_test, Stays}
-use Rattle.bz_rule.proofs.ProperItems.{IsValue, all_kept, all_changed}
-use Rattle.bz_rule.proofs.ProperSequences.{IsItem, AreOf}
-use Rattle.bz_attribute.specs.Made.{list_of, string_of, plus}
-use Rattle.bz_attribute.specs.Attributes.{is_attribute, is_other_attribute, on_value, with_value, with_new, without}
-use Rattle.bz_attribute.specs.Lists.{has_lists, items_in, is_no_list, is_empty_list, with_more, is_some_item, fresh, arriving}
-use Rattle.bz_list.specs.Changes.{with_items_added, add, cleared, without_items, remove_values, in_value, in_attributes, replaced_item, replace, substituted_item, substitute, is_moved, items_moved, move}
 use Rattle.bz_value.specs.declared.refusal.Refusal.TheVariants.{NoAttribute, NotAList}
-use Rattle.bz_attribute.proofs.ProperAttributes.{AreArguments, Made, Keeps, of_attribute, first_that_kept, value_stays, with_value_kept, without_kept, with_new_kept}
-use Rattle.bz_list.proofs.ProperLists.{value_items, more_value, fewer_value, changed_value, KeepsText, replaced_item_stays, substituted_item_stays, fresh_utf8, arriving_items}
-use Rattle.bz_attribute.proofs.ProperMade.{list_value, plus_value, words_are_items}
+
+-- ---- the items of a value
+
+-- proper somewhere
+abbrev Stands : Expr → Type 0
+Stands x = (here : Spot) × ProperExpr here x
+
+list_items : (kind : Kind) (here : Spot) (end : List Bytes) (split open_break : Bool) (ps xs : List Expr) → is_kind kind k.List ≡ true → AsForm here kind ps xs end split open_break → AreOf s.test xs
+list_items k.List here end split open_break ps xs is h = list_apart here end split open_break ps xs h
+list_items _ here end split open_break ps xs is h = absurd (true≢false (sym is))
+
+items_there : (x : Expr) → has_kind k.List x ≡ true → Stands x → AreOf s.test (items_of x)
+items_there (Token t) is h = tt
+items_there (Form' kind s parts s' items end split open_break comments) is h =
+    list_items kind h.0 end split open_break (items-the_row-Expr _ parts) (items-the_row-Expr _ items) is (opened h.0 (Form' kind s parts s' items end split open_break comments) h.1)
+
+-- the items of the lists among some expressions
+lists_items : (xs : List Expr) → AllByRecursion Stands xs → AreOf s.test (flat_map items_of (filter (has_kind k.List) xs))
+lists_items [] h = tt
+lists_items (x ∷ xs) h =
+    by_case (λ (ys : List Expr). AreOf s.test (flat_map items_of ys)) (has_kind k.List x) (x ∷ filter (has_kind k.List) xs) (filter (has_kind k.List) xs)
+    (λ is. all_joined (IsItem s.test) (items_of x) (flat_map items_of (filter (has_kind k.List) xs)) (items_there x is h.0) (lists_items xs h.1))
+    (λ is. lists_items xs h.1)
+
+each_stands : (binary : Bool) (outer here : Spot) (xs : List Expr) → AreParts binary outer here xs → AllByRecursion Stands xs
+each_stands binary outer here [] h = tt
+each_stands binary outer here (x ∷ xs) h = ((here, h.0), each_stands binary outer (after_expr outer here x) xs h.3)
+
+sum_parts : (kind : Kind) (here : Spot) (end : List Bytes) (split open_break : Bool) (ps xs : List Expr) → is_kind kind k.Sum ≡ true → AsForm here kind ps xs end split open_break → AllByRecursion Stands ps
+sum_parts k.Sum here end split open_break ps xs is h = each_stands true here here ps h.1.0
+sum_parts _ here end split open_break ps xs is h = absurd (true≢false (sym is))
+
+parts_there : (x : Expr) → has_kind k.Sum x ≡ true → Stands x → AllByRecursion Stands (parts_of x)
+parts_there (Token t) is h = tt
+parts_there (Form' kind s parts s' items end split open_break comments) is h =
+    sum_parts kind h.0 end split open_break (items-the_row-Expr _ parts) (items-the_row-Expr _ items) is (opened h.0 (Form' kind s parts s' items end split open_break comments) h.1)
+
+pub value_items : (x : Expr) → IsValue x → AreOf s.test (items_in x)
+value_items x v =
+    let h : Stands x = (Within, v.0.0.0) in
+    let of : List Expr → Type 0 = λ ys. AreOf s.test (flat_map items_of ys) in
+    by_case of (has_kind k.List x) (x ∷ []) (if has_kind k.Sum x then filter (has_kind k.List) (parts_of x) else [])
+    (λ is. all_joined (IsItem s.test) (items_of x) [] (items_there x is h) tt)
+    (λ n. by_case of (has_kind k.Sum x) (filter (has_kind k.List) (parts_of x)) [] (λ is. lists_items (parts_of x) (parts_there x is h)) (λ m. tt))
+
+-- ---- further items
+
+pub more_value : (more : List Expr) (x : Expr) → AreOf s.test more → IsValue x → IsValue (with_more more x)
+more_value more x h v =
+    let grown : List Expr → List Expr = λ items. items ++ more in
+    let stays : Stays (on_items k.List grown) = list_in_place grown (λ xs a. all_joined (IsItem s.test) xs more a h) in
+    value_in_place x (with_more more x)
+    (by_test (InPlace x) (has_kind k.Sum x) (on_row k.Sum (on_first_that (has_kind k.List) (on_items k.List grown)) x) (on_items k.List grown x)
+    (row_stays k.Sum (on_first_that (has_kind k.List) (on_items k.List grown)) (first_that_stays (has_kind k.List) (on_items k.List grown) stays) x) (stays x)) v
+
+-- ---- fewer items
+
+pub fewer_value : (test : Expr → Bool) (x : Expr) → IsValue x → IsValue (on_lists (filter test) x)
+fewer_value test x v = value_in_place x (on_lists (filter test) x) (lists_stay (filter test) (list_in_place (filter test) (λ xs a. all_kept (IsItem s.test) test xs a)) x) v
+
+-- ---- other items
+
+is_string : (class : Class) (text : Bytes) (said : Bytes → Bool) → option_map_or said (option_and_then body (if is_class class c.String then Some text else None)) false ≡ true → is_class class c.String ≡ true
+is_string c.String text said h = refl
+is_string _ text said h = absurd (true≢false (sym h))
+
+item_is_string : (current attribute word : Bytes) (x : Expr) → is_item current attribute word x ≡ true → has_class c.String x ≡ true
+item_is_string current attribute word (Token t) h = is_string t.class t.text (are_one current attribute word) h
+item_is_string current attribute word (Form' kind s parts s' items end split open_break comments) h = absurd (true≢false (sym h))
+
+pub replaced_item_stays : (current name old new : Bytes) → IsUtf8 new → Stays (replaced_item current name old new)
+replaced_item_stays current name old new u x =
+    where_true (is_item current name old x) x (with_text (string_text current name new) x)
+    (λ is. string_in_place (string_text current name new) x (item_is_string current name old x is) (λ _. string_strung current name new u))
+
+-- what is in the value itself and in the items of its lists
+pub changed_value : (change : Expr → Expr) → Stays change → (x : Expr) → IsValue x → IsValue (in_value change x)
+changed_value change stays x v =
+    value_in_place (change x) (on_lists (map change) (change x)) (lists_stay (map change) (items_stay k.List (map change) (each_mapped change stays)) (change x))
+    (value_in_place x (change x) (stays x) v)
+
+-- a plain string is a string, and its body is a text of characters where it is one
+string_body : (class : Class) (text inside : Bytes) → option_and_then body (if is_class class c.String then Some text else None) ≡ Some inside
+    → (is_class class c.String ≡ true) × (IsUtf8 text → IsUtf8 inside)
+string_body c.String text inside e = (refl, λ u. subst (λ (o : Option Bytes). IfSome o IsUtf8) e (body_utf8 text u))
+string_body _ text inside e = absurd cc
+
+body_there : (x : Expr) (inside : Bytes) → body_of x ≡ Some inside → (has_class c.String x ≡ true) × (IsUtf8 (text_of x) → IsUtf8 inside)
+body_there (Token t) inside e = string_body t.class t.text inside e
+body_there (Form' kind s parts s' items end split open_break comments) inside e = absurd cc
+
+-- what a substitution makes of a text of characters is one
+abbrev pub KeepsText : Bytes → Bytes → Type 0
+KeepsText pattern template = (text : Bytes) → IsUtf8 text → IsUtf8 (substituted pattern template text)
+
+substituted_string : (current name pattern template : Bytes) → KeepsText pattern template → (x : Expr) (found : Option Bytes) → body_of x ≡ found
+    → InPlace x (option_map_or (λ inside. with_body current name inside (substituted pattern template inside) x) found x)
+substituted_string current name pattern template keeps x None e = itself x
+substituted_string current name pattern template keeps x (Some inside) e =
+    let new : Bytes = substituted pattern template inside in
+    let w = body_there x inside e in
+    by_test (InPlace x) (bytes_eq new inside) x (with_text (string_text current name new) x) (itself x)
+    (string_in_place (string_text current name new) x w.0 (λ h. string_strung current name new (keeps inside (w.1 h.1))))
+
+pub substituted_item_stays : (current name pattern template : Bytes) → KeepsText pattern template → Stays (substituted_item current name pattern template)
+substituted_item_stays current name pattern template keeps x = substituted_string current name pattern template keeps x (body_of x) refl
+
+-- ---- words and items that are not there
+
+pub fresh_utf8 : (current attribute : Bytes) (items : List Expr) (earlier words : List Bytes) → AreUtf8 words → AreUtf8 (fresh current attribute items earlier words)
+fresh_utf8 current attribute items earlier [] u = tt
+fresh_utf8 current attribute items earlier (word ∷ words) u =
+    by_test AreUtf8 (list_any (are_one current attribute word) earlier || list_any (is_item current attribute word) items)
+    (fresh current attribute items earlier words) (word ∷ fresh current attribute items (word ∷ earlier) words)
+    (fresh_utf8 current attribute items earlier words u.1) (u.0, fresh_utf8 current attribute items (word ∷ earlier) words u.1)
+
+-- a plain string with a shorter label
+shorter_item : (current attribute text : Bytes) (line_break : Bool) (comments : HostComments) (found : Option Bytes) → IfSome found IsUtf8
+    → IsItem s.test (e.Token (record { class = c.String; text = text; line_break = line_break; comments = comments }))
+    → IsItem s.test (option_map_or (λ inside. if is_label_attribute attribute && not (bytes_eq (shortened current inside) inside)
+    then with_text (quoted_of (shortened current inside)) (e.Token (record { class = c.String; text = text; line_break = line_break; comments = comments }))
+    else e.Token (record { class = c.String; text = text; line_break = line_break; comments = comments })) found (e.Token (record { class = c.String; text = text; line_break = line_break; comments = comments })))
+shorter_item current attribute text line_break comments None u h = h
+shorter_item current attribute text line_break comments (Some inside) u h =
+    by_test (IsItem s.test) (is_label_attribute attribute && not (bytes_eq (shortened current inside) inside))
+    (e.Token (record { class = c.String; text = quoted_of (shortened current inside); line_break = line_break; comments = comments }))
+    (e.Token (record { class = c.String; text = text; line_break = line_break; comments = comments }))
+    ((quoted_string (shortened current inside) (shortened_utf8 current inside u), h.0.1, h.0.2), refl) h
+
+travelled_token : (current attribute : Bytes) (class : Class) (text : Bytes) (line_break : Bool) (comments : HostComments)
+    → IsItem s.test (e.Token (record { class = class; text = text; line_break = line_break; comments = comments }))
+    → IsItem s.test (travelled current attribute (e.Token (record { class = class; text = text; line_break = line_break; comments = comments })))
+travelled_token current attribute c.String text line_break comments h = shorter_item current attribute text line_break comments (body text) (body_utf8 text h.0.0.1) h
+travelled_token current attribute _ text line_break comments h = h
+
+travelled_item : (current attribute : Bytes) (x : Expr) → IsItem s.test x → IsItem s.test (travelled current attribute x)
+travelled_item current attribute (Token t) h = travelled_token current attribute t.class t.text t.line_break t.comments h
+travelled_item current attribute (Form' kind s parts s' items end split open_break comments) h = h
+
+pub arriving_items : (current attribute : Bytes) (there xs : List Expr) → AreOf s.test xs → AreOf s.test (arriving current attribute there xs)
+arriving_items current attribute there [] h = tt
+arriving_items current attribute there (x ∷ xs) h =
+    by_test (AreOf s.test) (is_there current attribute there x) (arriving current attribute there xs) (travelled current attribute x ∷ arriving current attribute (x ∷ there) xs)
+    (arriving_items current attribute there xs h.1) (travelled_item current attribute x h.0, arriving_items current attribute (x ∷ there) xs h.1)
+
+-- ---- what each command on values makes of the arguments of a rule is arguments
 
 -- ---- add
 

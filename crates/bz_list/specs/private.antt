@@ -1,6 +1,3 @@
 -- What the contracts of private functions cite, and no contract of a public call reaches: nobody has to trust it.
-pub mod Adding
-pub mod KnownKeys
 pub mod KnownValues
 pub mod Listing
-pub mod Replacing

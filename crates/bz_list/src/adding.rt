@@ -12,7 +12,7 @@ ghost use Rattle.bz_attribute.specs.Lists.{fresh, is_item as is_item_of, items_i
 ghost use Rattle.bz_attribute.specs.Made.{list_of as list_made, plus as sum_made, string_of as string_made};
 ghost use Rattle.bz_list.specs.Changes.{with_items_added};
 ghost use Rattle.bz_list.specs.private.KnownValues.{Membership, membership, new_words, new_items as items_new};
-ghost use Rattle.bz_list.specs.private.Adding.{added_by, added_to, with_added};
+ghost use Rattle.bz_list.specs.private.Listing.{added_by, added_to, with_added};
 
 use crate::known::Known;
 use bz_attribute::{
@@ -222,6 +222,7 @@ fn first_list(operands: &[Expr]) -> Option<usize>
 }
 
 /// Puts all of `more` after the items of the first list among the operands of a sum.
+#[tactic(auto, using(crate::proofs::ListedForms::changed_there, crate::proofs::ListedForms::changed_nowhere))]
 fn append_to_first(more: &mut Vec<Expr>, operands: &mut Items<Expr>) -> Result<(), Memory>
     ensures { OnOk result (operands.new ≡ on_first_that (is_of kinds.List) (on_items kinds.List (λ items. items ++ more.old.items)) operands.old) }
 {

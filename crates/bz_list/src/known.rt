@@ -11,8 +11,7 @@ ghost use Rattle.bz_grammar.specs.declared.kind.Kind.TheVariants as kinds;
 ghost use Rattle.bz_rule.specs.Values.{has_kind as is_of, items_of as items};
 ghost use Rattle.bz_attribute.specs.Lists.{items_in, is_some_item, listed};
 ghost use Rattle.bz_list.specs.Changes.{is_moved};
-ghost use Rattle.bz_list.specs.private.KnownKeys.{label_of_key, labels_of};
-ghost use Rattle.bz_list.specs.private.KnownValues.{label_meant, membership, none_known, with_word, with_words, is_known_item, with_item, with_known_items};
+ghost use Rattle.bz_list.specs.private.KnownValues.{label_of_key, labels_of, label_meant, membership, none_known, with_word, with_words, is_known_item, with_item, with_known_items};
 ghost use Rattle.bz_list.specs.private.Listing.{chooses};
 
 use bz_attribute::{Slot, body_of, has_kind, has_text, insert_text, items_of, operands_of};
@@ -47,7 +46,7 @@ impl Key {
 }
 
 /// Whether one of the labels has these parts.
-#[tactic(auto, using(crate::proofs::KnownKeys::label_found))]
+#[tactic(auto, using(crate::proofs::KnownSteps::label_found))]
 fn has_label(labels: &BTreeSet<Key>, key: &Key) -> bool
     ensures { result ≡ list_any (is_equal (label_of_key key.now)) (labels_of labels.now) }
 {
@@ -55,7 +54,7 @@ fn has_label(labels: &BTreeSet<Key>, key: &Key) -> bool
 }
 
 /// The label is one of them from now on.
-#[tactic(auto, using(crate::proofs::KnownKeys::label_inserted))]
+#[tactic(auto, using(crate::proofs::KnownSteps::label_inserted))]
 fn insert_label(labels: &mut BTreeSet<Key>, key: Key) -> Result<(), Memory>
     ensures { (label : Label) → OnOk result (list_any (is_equal label) (labels_of labels.new) ≡ (is_equal label (label_of_key key) || list_any (is_equal label) (labels_of labels.old))) }
 {
@@ -75,9 +74,8 @@ pub(crate) struct Known {
 }
 
 impl Model for Known {
-    ghost use Rattle.bz_list.specs.private.KnownValues.{KnownValues};
+    ghost use Rattle.bz_list.specs.private.KnownValues.{KnownValues, labels_of};
     ghost use Rattle.bz_attribute.specs.Sets.{texts_of};
-    ghost use Rattle.bz_list.specs.private.KnownKeys.{labels_of};
 
     ghost Value = { KnownValues };
 

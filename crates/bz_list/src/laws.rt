@@ -2,7 +2,7 @@
 ghost use Rattle.bz_list.specs.Laws.{AddedAgain, AddedIsThere, RemovedAgain};
 
 /// Adding what is there changes nothing.
-#[tactic(auto, using(crate::proofs::LawAdding::adding_again))]
+#[tactic(auto, using(crate::proofs::LawAdded::adding_again))]
 pub fn adding_again()
     ensures { AddedAgain }
 {}
@@ -14,7 +14,7 @@ pub fn added_is_there()
 {}
 
 /// Removing what was added to an absent attribute gives the arguments before.
-#[tactic(auto, using(crate::proofs::LawRemoving::removing_again))]
+#[tactic(auto, using(crate::proofs::LawAdded::removing_again))]
 pub fn removing_again()
     ensures { RemovedAgain }
 {}

@@ -92,7 +92,7 @@ fn take_from_operands(
 }
 
 /// The same of the lists of a value.
-#[tactic(auto, using(crate::proofs::ListedTests::items_Form))]
+#[tactic(auto, using(crate::proofs::ListedForms::items_Form))]
 fn take_from_lists(chosen: &Chosen, value: &mut Expr, taken: &mut Vec<Expr>) -> Result<(), Memory>
     ensures left { OnOk result (value.new ≡ on_lists (filter (is_left chosen.now)) value.old) }
     ensures taken { OnOk result (taken.new.items ≡ taken.old.items ++ filter (chooses chosen.now) (items_in value.old)) }
@@ -110,8 +110,7 @@ fn take_from_lists(chosen: &Chosen, value: &mut Expr, taken: &mut Vec<Expr>) -> 
     }
 }
 
-/// Puts what is left of the attribute's value back. Where items were taken and the whole value is an empty list, the
-/// attribute goes.
+/// Puts what is left of a value back; where items were taken and it is an empty list, the attribute goes.
 fn put_back(name: &[u8], taken: &[Expr], value: Expr, arguments: &mut Items<Expr>)
     ensures { arguments.new ≡ put_back name.now (not (is_empty taken.now)) value arguments.old }
 {
@@ -123,8 +122,7 @@ fn put_back(name: &[u8], taken: &[Expr], value: Expr, arguments: &mut Items<Expr
     set_value(name, value, arguments);
 }
 
-/// Takes the items that the command is meant for from the attribute's lists; the attribute goes where its whole value is
-/// then an empty list.
+/// Takes the items that the command is meant for from the attribute's lists, and the attribute where its value is empty then.
 fn take_items(
     slot: Slot<'_>,
     chosen: &Chosen,

@@ -5,7 +5,7 @@ ghost use Rattle.bz_grammar.specs.declared.kind.Kind.TheVariants as kinds;
 ghost use Rattle.bz_rule.specs.Values.{on_items, on_lists, on_third, with_text};
 ghost use Rattle.bz_attribute.specs.Attributes.{is_attribute, on_first_that, on_value};
 ghost use Rattle.bz_list.specs.Changes.{in_attributes, replaced_item, substituted_item};
-ghost use Rattle.bz_list.specs.private.Replacing.{item_changed_by, value_changed_by, other_changed_by};
+ghost use Rattle.bz_list.specs.private.Listing.{item_changed_by, value_changed_by, other_changed_by};
 
 use bz_attribute::{
     Slot, body_of, first_text, is_item, is_other_attribute, parts_of, place_of, set_text,
@@ -187,6 +187,7 @@ impl Change<'_> {
     }
 
     /// Changes the first attribute of the name.
+    #[tactic(auto, using(crate::proofs::ListedForms::changed_there, crate::proofs::ListedForms::changed_nowhere))]
     fn on_named(self, slot: Slot<'_>, arguments: &mut Items<Expr>) -> Result<(), Memory>
         ensures { OnOk result (arguments.new ≡ on_first_that (is_attribute slot.entry.attribute.now) (on_value (value_changed_by self.entry slot.entry.current.now slot.entry.attribute.now)) arguments.old) }
     {

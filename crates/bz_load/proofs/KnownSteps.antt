@@ -1,24 +1,86 @@
--- Symbols that are loaded already, collected, and those that are none of them.
-use Rattle.std.proofs.Common.{◌≡◌, Bool, true, false, ◌||◌, ◌&&◌, List, [], ◌∷◌, ◌++◌, map, refl, sym, ap, ◌∙◌, true≢false, append_assoc}
+-- The sets of the code: what is found in them, and what they have after one key more.
+use Rattle.std.proofs.Common.{◌≡◌, Bool, true, false, ◌||◌, List, [], ◌∷◌, ◌++◌, refl, sym, ap, ◌∙◌, map, true≢false, ◌&&◌, append_assoc, arith}
 use Rattle.std.specs.Prelude.{bytes_eq, if◌then◌else◌, not, Option, Some, None, option_map}
-use Rattle.std.specs.List.{list_any}
-use Rattle.std.specs.Option.{option_map_or}
+use Rattle.std.specs.List.{list_any, position}
+use Rattle.std.proofs.lemmas.Bool.{and_parts, not-false, not-true}
 use Rattle.std.proofs.Math.Path.{fun_ext}
+use Rattle.indexmap.specs.IndexSet.{insert_key}
+use Rattle.bz_items.specs.Characters.{Bytes}
+use Rattle.bz_command_syntax.specs.declared.command.Symbol.{Symbol}
+use Rattle.bz_attribute.proofs.KeySets.{any_map, or_twice, or_turn, equal_texts, or_group, or_none}
+use Rattle.bz_load.specs.declared.readings.Loaded.{Loaded}
+use Rattle.bz_load.specs.contracts.readings.LoadedPartialEq.TheImpl as loaded_eq
+use Rattle.bz_load.specs.NewLoad.{is_symbol, and_symbol, new_symbols, symbol_made}
+use Rattle.bz_load.specs.private.Known.{knows, symbol, alias_in, symbol_in, and_loaded, and_each, and_load, and_loads}
+use Rattle.bz_load.specs.private.KnownKeys.{symbol_of_key, symbols_of_keys}
+use Rattle.std.specs.Option.{option_map_or}
+use Rattle.std.proofs.Math.Bool.{and-false}
 use Rattle.std.proofs.lemmas.Cmp.{nat_list_eq_equiv}
 use Rattle.std.proofs.lemmas.Slice.Eq.{bytes_eq-Decides}
 use Rattle.bz_grammar.specs.declared.kind.Kind.TheVariants as k
 use Rattle.bz_value.specs.declared.value.Expr.{Expr}
 use Rattle.bz_value.specs.declared.value.Item.{Item}
-use Rattle.bz_items.specs.Characters.{Bytes}
-use Rattle.bz_command_syntax.specs.declared.command.Symbol.{Symbol}
+use Rattle.bz_rule.proofs.ProperChanges.{by_case}
 use Rattle.bz_rule.specs.Rules.{is_text}
 use Rattle.bz_rule.specs.Values.{has_kind, parts_of, text_of}
 use Rattle.bz_attribute.specs.Lists.{body_of}
-use Rattle.bz_attribute.proofs.KeySets.{or_group, or_none}
+use Rattle.bz_attribute.proofs.ArgumentPlaces.{NonePasses, none_later, none_passes}
 use Rattle.bz_load.specs.Loads.{is_alias_of, loads_symbol, is_load_from, symbols_of, is_loaded}
-use Rattle.bz_load.specs.NewLoad.{is_symbol, and_symbol, new_symbols, symbol_made}
-use Rattle.bz_load.specs.private.Known.{symbol, alias_in, symbol_in, knows, and_loaded, and_each, and_load, and_loads}
-use Rattle.bz_load.proofs.KeySets.{known_again}
+
+-- ---- one key more
+
+module _ {K : Type 0} (eq : K → K → Bool) (test : K → Bool) (alike : (x y : K) → eq x y ≡ true → test x ≡ test y) where
+  there_first : (x : K) (xs : List K) (key : K) (b : Bool) → eq key x ≡ b → (b || list_any (eq key) xs) ≡ true
+      → (list_any (eq key) xs ≡ true → list_any test xs ≡ (test key || list_any test xs))
+      → (test x || list_any test xs) ≡ (test key || (test x || list_any test xs))
+  there_first x xs key true e h rest =
+      ap (λ z. z || list_any test xs) (sym (alike key x e))
+      ∙ (or_twice (test key) (list_any test xs) ∙ ap (λ z. test key || (z || list_any test xs)) (alike key x e))
+  there_first x xs key false e h rest = ap (λ z. test x || z) (rest h) ∙ or_turn (test x) (test key) (list_any test xs)
+
+  there : (keys : List K) (key : K) → list_any (eq key) keys ≡ true → list_any test keys ≡ (test key || list_any test keys)
+  there [] key h = absurd (true≢false (sym h))
+  there (x ∷ xs) key h = there_first x xs key (eq key x) refl h (there xs key)
+
+  following : (keys : List K) (key : K) → list_any test (keys ++ key ∷ []) ≡ (test key || list_any test keys)
+  following [] key = refl
+  following (x ∷ xs) key = ap (λ z. test x || z) (following xs key) ∙ or_turn (test x) (test key) (list_any test xs)
+
+  any_inserted : (keys : List K) (key : K) → list_any test (insert_key eq keys key) ≡ (test key || list_any test keys)
+  any_inserted keys key =
+      by_case (λ found. list_any test found ≡ (test key || list_any test keys)) (list_any (eq key) keys) keys (keys ++ key ∷ []) (there keys key) (λ e. following keys key)
+
+-- ---- symbols
+
+pub same_symbol : (one other : Symbol) → is_symbol one other ≡ true → one ≡ other
+same_symbol one other h =
+    let p = and_parts (bytes_eq one.to other.to) (bytes_eq one.from other.from) h in
+    ap (λ (to : Bytes). record { to = to; from = one.from }) (equal_texts _ _ p.0)
+    ∙ ap (λ (from : Bytes). record { to = other.to; from = from }) (equal_texts _ _ p.1)
+
+abbrev eq : Loaded → Loaded → Bool
+eq = (loaded_eq.ghosts).eq
+
+pub symbol_found : (keys : List Loaded) (key : Loaded) → not (list_any (eq key) keys) ≡ not (knows (symbols_of_keys keys) (symbol_of_key key))
+symbol_found keys key = ap not (sym (any_map (is_symbol (symbol_of_key key)) symbol_of_key keys))
+
+pub symbol_inserted : (old new : List Loaded) (key : Loaded) → new ≡ insert_key eq old key
+    → knows (symbols_of_keys new) ≡ and_symbol (symbol_of_key key) (knows (symbols_of_keys old))
+symbol_inserted old new key e = fun_ext (λ other.
+    ap (λ keys. list_any (is_symbol other) (map symbol_of_key keys)) e
+    ∙ (any_map (is_symbol other) symbol_of_key (insert_key eq old key)
+    ∙ (any_inserted eq (λ k. is_symbol other (symbol_of_key k)) (λ x y h. ap (is_symbol other) (same_symbol (symbol_of_key x) (symbol_of_key y) h)) old key
+    ∙ ap (λ z. is_symbol other (symbol_of_key key) || z) (sym (any_map (is_symbol other) symbol_of_key old)))))
+
+-- a symbol that is known already
+pub known_again : (xs : List Symbol) (symbol : Symbol) → knows xs symbol ≡ true → and_symbol symbol (knows xs) ≡ knows xs
+known_again xs symbol h = fun_ext (λ other. by other (is_symbol other symbol) refl)
+  where
+    by : (other : Symbol) (b : Bool) → is_symbol other symbol ≡ b → (b || knows xs other) ≡ knows xs other
+    by other true e = sym (ap (knows xs) (same_symbol other symbol e) ∙ h)
+    by other false e = refl
+
+-- ---- symbols that are loaded already, collected, and those that are none of them
 
 abbrev Test : Type 0
 Test = Symbol → Bool
@@ -32,11 +94,7 @@ abbrev is_found : Symbol → Option Symbol → Bool
 is_found other found = option_map_or (is_symbol other) found false
 
 alias_found : (other : Symbol) (to : Bytes) (found : Option Bytes) → (bytes_eq to other.to && is_text other.from found) ≡ is_found other (option_map (symbol to) found)
-alias_found other to None = never (bytes_eq to other.to)
-  where
-    never : (b : Bool) → (b && false) ≡ false
-    never true = refl
-    never false = refl
+alias_found other to None = and-false (bytes_eq to other.to)
 alias_found other to (Some from) = ap (λ z. z && bytes_eq from other.from) (alike to other.to) ∙ ap (λ z. bytes_eq other.to to && z) (alike from other.from)
 
 alias_answered : (other : Symbol) (ps : List Expr) → is_alias_of other ps ≡ is_found other (alias_in ps)
@@ -96,26 +154,31 @@ known_answered path items = fun_ext (λ other. loads_answered other path items (
 pub unknown_symbols : (path : Bytes) (items : List Item) (symbols : List Symbol) → new_symbols (is_loaded path items) symbols ≡ new_symbols (and_loads path items (knows [])) symbols
 unknown_symbols path items symbols = ap (λ (test : Test). new_symbols test symbols) (sym (known_answered path items))
 
+-- where there is no load from the path none is known
+none_loads : (path : Bytes) (items : List Item) (test : Test) → NonePasses (is_load_from path) items → and_loads path items test ≡ test
+none_loads path [] test h = refl
+none_loads path (item ∷ items) test h =
+    none_loads path items (and_load path item test) (none_later (is_load_from path) item items h)
+    ∙ ap (λ b. if b then and_each (symbols_of item) test else test) (h.all 0 item (omega arith))
+
+pub all_unknown : (path : Bytes) (items : List Item) (symbols : List Symbol) → None ≡ position (is_load_from path) items
+    → new_symbols (is_loaded path items) symbols ≡ new_symbols (knows []) symbols
+all_unknown path items symbols none =
+    unknown_symbols path items symbols
+    ∙ ap (λ (test : Test). new_symbols test symbols) (none_loads path items (knows []) (none_passes (is_load_from path) items none))
+
 -- ---- one symbol more
-
-not_not : (b : Bool) → false ≡ not b → b ≡ true
-not_not true e = refl
-not_not false e = absurd (true≢false (sym e))
-
-not_false : (b : Bool) → true ≡ not b → b ≡ false
-not_false true e = absurd (true≢false e)
-not_false false e = refl
 
 not_new : (xs ys rest : List Symbol) (first : Symbol) → false ≡ not (knows xs first) → knows ys ≡ and_symbol first (knows xs)
     → new_symbols (knows ys) rest ≡ new_symbols (knows xs) (first ∷ rest)
 not_new xs ys rest first h e =
-    let there : knows xs first ≡ true = not_not (knows xs first) h in
+    let there : knows xs first ≡ true = not-false (knows xs first) (sym h) in
     ap (λ (test : Test). new_symbols test rest) (e ∙ known_again xs first there) ∙ sym (ap (λ b. if b then new_symbols (knows xs) rest else first ∷ new_symbols (and_symbol first (knows xs)) rest) there)
 
 is_new : (xs ys rest : List Symbol) (first : Symbol) → true ≡ not (knows xs first) → knows ys ≡ and_symbol first (knows xs)
     → first ∷ new_symbols (knows ys) rest ≡ new_symbols (knows xs) (first ∷ rest)
 is_new xs ys rest first h e =
-    let apart : knows xs first ≡ false = not_false (knows xs first) h in
+    let apart : knows xs first ≡ false = not-true (knows xs first) (sym h) in
     ap (λ (test : Test). first ∷ new_symbols test rest) e ∙ sym (ap (λ b. if b then new_symbols (knows xs) rest else first ∷ new_symbols (and_symbol first (knows xs)) rest) apart)
 
 -- what is made of a symbol, by whether it was new

@@ -3,7 +3,7 @@ use Rattle.std.proofs.Common.{◌≡◌, ℕ, zero, suc, ◌+◌, Bool, true, fa
 use Rattle.std.specs.Prelude.{IfSome, bytes_eq, if◌then◌else◌}
 use Rattle.std.specs.List.{AllByRecursion, list_any, filter, insert}
 use Rattle.std.specs.Option.{option_map_or}
-use Rattle.std.proofs.lemmas.Bool.{and_parts, or_parts, not-true}
+use Rattle.std.proofs.lemmas.Bool.{and_parts, or_parts, not-true, not-false}
 use Rattle.std.proofs.lemmas.List.Elements.{recursion_from_All}
 use Rattle.bz_token.specs.declared.class.Class.TheVariants as c
 use Rattle.bz_grammar.specs.declared.kind.Kind.TheVariants as k
@@ -23,16 +23,15 @@ use Rattle.bz_value.specs.Empty.{is_empty, is_none}
 use Rattle.bz_command_syntax.specs.Quoted.{quoted_of}
 use Rattle.bz_command_syntax.specs.declared.command.Symbol.{Symbol}
 use Rattle.bz_rule.specs.Values.{has_kind, parts_of, items_of, with_items, on_items, on_rest}
+use Rattle.bz_rule.proofs.ProperChanges.{by_test, by_case}
 use Rattle.bz_rule.proofs.ProperSequences.{IsItem, AreOf}
 use Rattle.bz_attribute.specs.Made.{token, node, mark, name}
 use Rattle.bz_attribute.specs.Attributes.{on_first_that, without_first}
 use Rattle.bz_attribute.proofs.FormsAgain.{if_false, made}
 use Rattle.bz_attribute.proofs.GrownArguments.{whole, row_total}
-use Rattle.bz_load.specs.Loads.{is_load_from, is_loaded, after_path}
-use Rattle.bz_load.specs.Places.{leading_blocks, loads_end, after_loads}
+use Rattle.bz_load.specs.Loads.{is_load_from, is_loaded, after_path, leading_blocks, loads_end, after_loads}
 use Rattle.bz_load.specs.NewLoad.{new_symbols, symbol_made, load_made, with_symbols, new_load}
-use Rattle.bz_load.specs.Uses.{is_used}
-use Rattle.bz_load.specs.Fixes.{is_commented, path_comments, end_of, has_own_comments, symbol_stays, is_emptied, used_alone, is_package_call, first_that, package_moved, move_package_to_top, fix}
+use Rattle.bz_load.specs.Fixes.{is_used, is_commented, path_comments, end_of, has_own_comments, symbol_stays, is_emptied, used_alone, is_package_call, first_that, package_moved, move_package_to_top, fix}
 use Rattle.bz_load.specs.Laws.{LoadsKeepComments}
 use Rattle.bz_load.proofs.ProperLoads.{fix_keeps}
 use Rattle.bz_load.proofs.LoadParts.{alias_parts, load_parts}
@@ -42,11 +41,9 @@ use Rattle.bz_load.proofs.LoadParts.{alias_parts, load_parts}
 module _ {X : Type 0} (number : X → ℕ) where
   first_same : (test : X → Bool) (change : X → X) → ((x : X) → number (change x) ≡ number x) → (xs : List X) → total number (on_first_that test change xs) ≡ total number xs
   first_same test change f [] = refl
-  first_same test change f (x ∷ xs) = by (test x) (first_same test change f xs)
-    where
-      by : (b : Bool) → total number (on_first_that test change xs) ≡ total number xs → total number (if b then change x ∷ xs else x ∷ on_first_that test change xs) ≡ number x + total number xs
-      by true rest = ap (λ n. n + total number xs) (f x)
-      by false rest = ap (λ n. number x + n) rest
+  first_same test change f (x ∷ xs) =
+      by_test (λ ys. total number ys ≡ number x + total number xs) (test x) (change x ∷ xs) (x ∷ on_first_that test change xs)
+      (ap (λ n. n + total number xs) (f x)) (ap (λ n. number x + n) (first_same test change f xs))
 
 -- ---- expressions
 
@@ -70,11 +67,10 @@ module _ (number : Bytes → ℕ) where
   -- ---- new symbols, and a new load
 
   symbol_none : (symbol : Symbol) → whole number (symbol_made symbol) ≡ 0
-  symbol_none symbol = by (bytes_eq symbol.to symbol.from)
-    where
-      by : (b : Bool) → whole number (if b then token c.String (quoted_of symbol.from) else node k.Alias (name symbol.to ∷ mark (codes "=") ∷ token c.String (quoted_of symbol.from) ∷ [])) ≡ 0
-      by true = refl
-      by false = form_amount number (made k.Alias (name symbol.to ∷ mark (codes "=") ∷ token c.String (quoted_of symbol.from) ∷ []) [] [] false false no_comments)
+  symbol_none symbol =
+      let parts : List Expr = name symbol.to ∷ mark (codes "=") ∷ token c.String (quoted_of symbol.from) ∷ [] in
+      by_test (λ (x : Expr). whole number x ≡ 0) (bytes_eq symbol.to symbol.from) (token c.String (quoted_of symbol.from)) (node k.Alias parts) refl
+      (form_amount number (made k.Alias parts [] [] false false no_comments))
 
   symbols_none : (symbols : List Symbol) → total (whole number) (map symbol_made symbols) ≡ 0
   symbols_none [] = refl
@@ -91,11 +87,9 @@ module _ (number : Bytes → ℕ) where
 
     more_same : (item : Item) → item_amount number (with_symbols more item) ≡ item_amount number item
     more_same (i.Block lines) = refl
-    more_same (i.Stmt x) = by (has_kind k.Load x)
-      where
-        by : (b : Bool) → whole number (if b then with_items (items_of x ++ more) x else x) ≡ whole number x
-        by true = let a = append_total (whole number) (items_of x) more in items_same (items_of x ++ more) x (omega arith)
-        by false = refl
+    more_same (i.Stmt x) =
+        let a = append_total (whole number) (items_of x) more in
+        by_test (λ (y : Expr). whole number y ≡ whole number x) (has_kind k.Load x) (with_items (items_of x ++ more) x) x (items_same (items_of x ++ more) x (omega arith)) refl
 
   -- ---- places
 
@@ -108,17 +102,13 @@ module _ (number : Bytes → ℕ) where
   put_total (suc n) new (x ∷ xs) = let rest = put_total n new xs in omega arith
 
   pub new_load_same : (path : Bytes) (symbols : List Symbol) (items : List Item) → file (new_load path symbols items) ≡ file items
-  new_load_same path symbols items = by (list_any (is_load_from path) items)
-    where
-      chosen : List Symbol
-      chosen = new_symbols (is_loaded path items) symbols
-
-      by : (b : Bool) → file (if b then on_first_that (is_load_from path) (with_symbols (map symbol_made chosen)) items else after_loads (load_made path (map symbol_made chosen)) items) ≡ file items
-      by true = first_same (item_amount number) (is_load_from path) (with_symbols (map symbol_made chosen)) (more_same (map symbol_made chosen) (symbols_none chosen)) items
-      by false =
-          let a = put_total (loads_end (leading_blocks items) 0 items) (load_made path (map symbol_made chosen)) items in
-          let z = load_none (map symbol_made chosen) (symbols_none chosen) path in
-          omega arith
+  new_load_same path symbols items =
+      let chosen : List Symbol = new_symbols (is_loaded path items) symbols in
+      let more : List Expr = map symbol_made chosen in
+      let a = put_total (loads_end (leading_blocks items) 0 items) (load_made path more) items in
+      let z = load_none more (symbols_none chosen) path in
+      by_test (λ ys. file ys ≡ file items) (list_any (is_load_from path) items) (on_first_that (is_load_from path) (with_symbols more) items) (after_loads (load_made path more) items)
+      (first_same (item_amount number) (is_load_from path) (with_symbols more) (more_same more (symbols_none chosen)) items) (omega arith)
 
   -- ---- what is dropped has no comments
 
@@ -153,31 +143,23 @@ module _ (number : Bytes → ℕ) where
 
   kept_amount : (used : Bytes → Bool) (xs : List Expr) → AreOf s.loaded xs → total (whole number) (filter (symbol_stays used) xs) ≡ total (whole number) xs
   kept_amount used [] h = refl
-  kept_amount used (x ∷ xs) h = by (symbol_stays used x) refl (kept_amount used xs h.1)
-    where
-      by : (b : Bool) → symbol_stays used x ≡ b → total (whole number) (filter (symbol_stays used) xs) ≡ total (whole number) xs → total (whole number) (if b then x ∷ filter (symbol_stays used) xs else filter (symbol_stays used) xs) ≡ whole number x + total (whole number) xs
-      by true e rest = ap (λ n. whole number x + n) rest
-      by false e rest =
-          let z = loaded_amount x h.0 (or_parts (is_commented (comments_of x)) _ e).0 in
-          omega arith
+  kept_amount used (x ∷ xs) h =
+      let rest = kept_amount used xs h.1 in
+      by_case (λ ys. total (whole number) ys ≡ whole number x + total (whole number) xs) (symbol_stays used x) (x ∷ filter (symbol_stays used) xs) (filter (symbol_stays used) xs)
+      (λ e. ap (λ n. whole number x + n) rest) (λ e. let z = loaded_amount x h.0 (or_parts (is_commented (comments_of x)) _ e).0 in omega arith)
 
   abbrev kept : (Bytes → Bool) → List Expr → List Expr
   kept used = on_rest (filter (symbol_stays used))
 
   used_amount : (used : Bytes → Bool) (item : Item) → IsProperItem item → item_amount number (used_alone used item) ≡ item_amount number item
   used_amount used (i.Block lines) h = refl
-  used_amount used (i.Stmt x) h = by (has_own_comments x)
-    where
-      other : (b : Bool) → has_kind k.Load x ≡ b → whole number (if b then with_items (kept used (items_of x)) x else x) ≡ whole number x
-      other true is =
-          let a = load_parts Begins x is h.1 in
-          items_same (kept used (items_of x)) x
-          (ap (λ xs. total (whole number) (kept used xs)) a.items ∙ (ap (λ n. whole number a.path + n) (kept_amount used a.symbols a.loaded) ∙ ap (total (whole number)) (sym a.items)))
-      other false is = refl
-
-      by : (b : Bool) → whole number (if b then x else on_items k.Load (kept used) x) ≡ whole number x
-      by true = refl
-      by false = other (has_kind k.Load x) refl
+  used_amount used (i.Stmt x) h =
+      by_test (λ (y : Expr). whole number y ≡ whole number x) (has_own_comments x) x (on_items k.Load (kept used) x) refl
+      (by_case (λ (y : Expr). whole number y ≡ whole number x) (has_kind k.Load x) (with_items (kept used (items_of x)) x) x
+      (λ is. let a = load_parts Begins x is h.1 in
+      items_same (kept used (items_of x)) x
+      (ap (λ xs. total (whole number) (kept used xs)) a.items ∙ (ap (λ n. whole number a.path + n) (kept_amount used a.symbols a.loaded) ∙ ap (total (whole number)) (sym a.items))))
+      (λ is. refl))
 
   none_kept : (test : Expr → Bool) (xs : List Expr) → list_any test xs ≡ false → filter test xs ≡ []
   none_kept test [] h = refl
@@ -208,15 +190,11 @@ module _ (number : Bytes → ℕ) where
 
   unused_amount : (used : Bytes → Bool) (items : List Item) → AllByRecursion IsProperItem items → file (map (used_alone used) (filter (λ item. not (is_emptied used item)) items)) ≡ file items
   unused_amount used [] h = refl
-  unused_amount used (item ∷ items) h = by (is_emptied used item) refl (unused_amount used items h.1)
-    where
-      rest_of : List Item
-      rest_of = filter (λ x. not (is_emptied used x)) items
-
-      by : (b : Bool) → is_emptied used item ≡ b → file (map (used_alone used) rest_of) ≡ file items
-          → file (map (used_alone used) (if not b then item ∷ rest_of else rest_of)) ≡ item_amount number item + file items
-      by true e rest = let z = emptied_amount used item h.0 e in omega arith
-      by false e rest = let z = used_amount used item h.0 in omega arith
+  unused_amount used (item ∷ items) h =
+      let rest : List Item = filter (λ x. not (is_emptied used x)) items in
+      let all = unused_amount used items h.1 in
+      by_case (λ ys. file (map (used_alone used) ys) ≡ item_amount number item + file items) (not (is_emptied used item)) (item ∷ rest) rest
+      (λ e. let z = used_amount used item h.0 in omega arith) (λ e. let z = emptied_amount used item h.0 (not-false (is_emptied used item) e) in omega arith)
 
   -- ---- the package
 

@@ -15,16 +15,16 @@ use Rattle.bz_command_syntax.specs.Quoted.{is_escaped, quoted_of}
 use Rattle.bz_command_syntax.specs.declared.command.Symbol.{Symbol}
 use Rattle.bz_rule.specs.Rules.{is_text}
 use Rattle.bz_rule.specs.Values.{has_kind, items_of, with_items, on_items}
+use Rattle.bz_rule.proofs.ProperChanges.{by_case}
 use Rattle.bz_attribute.specs.Made.{token, node, mark, name}
 use Rattle.bz_attribute.specs.Attributes.{on_first_that}
 use Rattle.bz_attribute.specs.Lists.{body_of}
 use Rattle.bz_attribute.proofs.FormsAgain.{if_true, items_kind, items_filled}
 use Rattle.bz_attribute.proofs.PlainWords.{IsPlain, equal_self, body_quoted}
-use Rattle.bz_load.specs.Loads.{path_in, is_load_from, is_alias_of, loads_symbol, after_path, symbols_of, is_loaded}
-use Rattle.bz_load.specs.Places.{leading_blocks, loads_end, after_loads}
+use Rattle.bz_load.specs.Loads.{path_in, is_load_from, is_alias_of, loads_symbol, after_path, symbols_of, is_loaded, leading_blocks, loads_end, after_loads}
 use Rattle.bz_load.specs.NewLoad.{is_symbol, and_symbol, new_symbols, symbol_made, load_made, with_symbols, new_load}
 use Rattle.bz_load.specs.Laws.{becomes_plain, LoadedAgain}
-use Rattle.bz_load.proofs.KeySets.{same_symbol}
+use Rattle.bz_load.proofs.KnownSteps.{same_symbol}
 use Rattle.bz_load.proofs.PlaceSteps.{any_put}
 use Rattle.bz_load.proofs.PutSteps.{with_none}
 
@@ -45,12 +45,9 @@ made_alias symbol h =
     ∙ and_from (bytes_eq symbol.to symbol.to) (is_text symbol.from (body_of (token c.String (quoted_of symbol.from)))) (equal_self symbol.to) (text_quoted symbol.from h)
 
 made_loads : (symbol : Symbol) → IsPlain symbol.from → loads_symbol symbol (symbol_made symbol) ≡ true
-made_loads symbol h = by (bytes_eq symbol.to symbol.from) refl
-  where
-    by : (b : Bool) → bytes_eq symbol.to symbol.from ≡ b
-        → loads_symbol symbol (if b then token c.String (quoted_of symbol.from) else node k.Alias (name symbol.to ∷ mark (codes "=") ∷ token c.String (quoted_of symbol.from) ∷ [])) ≡ true
-    by true e = made_string symbol h e
-    by false e = made_alias symbol h
+made_loads symbol h =
+    by_case (λ x. loads_symbol symbol x ≡ true) (bytes_eq symbol.to symbol.from) (token c.String (quoted_of symbol.from))
+    (node k.Alias (name symbol.to ∷ mark (codes "=") ∷ token c.String (quoted_of symbol.from) ∷ [])) (made_string symbol h) (λ e. made_alias symbol h)
 
 abbrev Plain : Symbol → Type 0
 Plain symbol = IsPlain symbol.from

@@ -1,14 +1,9 @@
-pub mod KeySets
 pub mod KnownSteps
 pub mod LawComments
 pub mod LawFixed
 pub mod LawLoaded
-pub mod LawPackage
-pub mod LawUnused
 pub mod LoadParts
 pub mod PlaceSteps
 pub mod ProperLoads
 pub mod PutSteps
-pub mod Splices
-pub mod UsesForms
 pub mod UsesSteps

@@ -12,8 +12,7 @@ use Rattle.bz_value.specs.declared.value.Item.TheVariants as i
 use Rattle.bz_attribute.specs.Attributes.{without_first}
 use Rattle.bz_attribute.proofs.ArgumentPlaces.{IsFirst, NonePasses, removed_at, later, none_later}
 use Rattle.bz_attribute.proofs.KeySets.{or_turn}
-use Rattle.bz_load.specs.Loads.{is_load_item}
-use Rattle.bz_load.specs.Places.{is_block, leading_blocks, loads_end}
+use Rattle.bz_load.specs.Loads.{is_load_item, is_block, leading_blocks, loads_end}
 use Rattle.bz_load.specs.Fixes.{is_package_call, first_that, package_moved, move_package_to_top}
 
 -- ---- an item that is put in

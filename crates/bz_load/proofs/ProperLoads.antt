@@ -8,13 +8,13 @@ use Rattle.std.proofs.lemmas.List.Elements.{All-nil, All-from_recursion, recursi
 use Rattle.bz_token.specs.declared.class.Class.TheVariants as c
 use Rattle.bz_grammar.specs.declared.kind.Kind.TheVariants as k
 use Rattle.bz_grammar.specs.Shapes as s
-use Rattle.bz_grammar.specs.Spots.{Spot, Begins, Within}
+use Rattle.bz_grammar.specs.Spots.{Begins, Within}
 use Rattle.bz_value.specs.declared.value.Expr.{Expr}
 use Rattle.bz_value.specs.declared.value.Item.{Item}
 use Rattle.bz_value.specs.declared.value.Item.TheVariants as i
 use Rattle.bz_value.specs.Comments.{no_comments}
 use Rattle.bz_items.specs.Characters.{Bytes}
-use Rattle.bz_value.specs.Proper.{IsComment, AreComments, after_expr, IsProperItem}
+use Rattle.bz_value.specs.Proper.{IsComment, AreComments, IsProperItem}
 use Rattle.bz_value.specs.Roots as r
 use Rattle.bz_value.proofs.FormParts.{AreParts, form_proper}
 use Rattle.bz_command_syntax.specs.Proper.{IsSymbol, IsAttribute, EachIs, AreSome}
@@ -26,18 +26,16 @@ use Rattle.bz_rule.specs.Rules.{is_text}
 use Rattle.bz_rule.specs.Values.{has_kind, items_of, with_items, on_items, on_rest}
 use Rattle.bz_rule.proofs.ProperChanges.{by_test, by_case}
 use Rattle.bz_rule.proofs.ProperForms.{InPlace, itself}
-use Rattle.bz_rule.proofs.ProperItems.{all_joined}
+use Rattle.bz_rule.proofs.ProperItems.{all_joined, all_kept}
 use Rattle.bz_rule.proofs.ProperSequences.{IsItem, AreOf, Keeps, items_again, each_item, load_in_place}
 use Rattle.bz_attribute.specs.Made.{token, node, mark, name}
 use Rattle.bz_attribute.specs.Attributes.{on_first_that, without_first}
 use Rattle.bz_attribute.proofs.ProperTexts.{one_ascii}
-use Rattle.bz_attribute.proofs.ProperMade.{IsNew, token_new, quoted_string}
-use Rattle.bz_load.specs.Loads.{path_in, is_load_from, is_loaded}
-use Rattle.bz_load.specs.Places.{leading_blocks, loads_end, after_loads}
+use Rattle.bz_attribute.proofs.ProperMade.{IsNew, none_there, new_part, row_proper, token_new, quoted_string}
+use Rattle.bz_load.specs.Loads.{path_in, is_load_from, is_loaded, leading_blocks, loads_end, after_loads}
 use Rattle.bz_load.specs.NewLoad.{and_symbol, new_symbols, symbol_made, load_made, with_symbols, new_load}
-use Rattle.bz_load.specs.Uses.{is_used}
+use Rattle.bz_load.specs.Fixes.{is_used, has_own_comments, symbol_stays, with_used, is_emptied, used_alone, unused_loads, is_package_call, first_that, package_moved, move_package_to_top, fix}
 use Rattle.bz_load.specs.Laws.{LoadsStayProper}
-use Rattle.bz_load.specs.Fixes.{has_own_comments, symbol_stays, with_used, is_emptied, used_alone, unused_loads, is_package_call, first_that, package_moved, move_package_to_top, fix}
 use Rattle.bz_load.proofs.PlaceSteps.{all_put}
 
 abbrev AreFine : List Item → Type 0
@@ -45,34 +43,18 @@ AreFine items = AllByRecursion IsProperItem items
 
 -- ---- a new symbol
 
-none_there : AreComments no_comments
-none_there = (All-nil IsComment, tt)
-
 string_new : (word : Bytes) → IsUtf8 word → IsNew (token c.String (quoted_of word))
 string_new word u = let h = quoted_string word u in token_new c.String (quoted_of word) h.0 h.1
 
--- a new part of a row before others
-new_part : (outer here : Spot) (x : Expr) (xs : List Expr) → IsNew x → AreParts false outer (after_expr outer here x) xs → AreParts false outer here (x ∷ xs)
-new_part outer here x xs n h = (n.proper here, n.comments, λ b. absurd (true≢false (sym b ∙ n.breaks)), h)
-
 alias_item : (to from : Bytes) → IsAttribute to → IsUtf8 from → IsItem s.loaded (node k.Alias (name to ∷ mark (codes "=") ∷ token c.String (quoted_of from) ∷ []))
-alias_item to from a u = (
-  (
-    form_proper Within (record { kind = k.Alias; parts = name to ∷ mark (codes "=") ∷ token c.String (quoted_of from) ∷ []; seq = record { items = []; end = []; split = false }; open_break = false; comments = no_comments })
-        (refl, (refl, (refl, tt))) (
-          new_part Within Within (name to) (mark (codes "=") ∷ token c.String (quoted_of from) ∷ []) (token_new c.Name to ((identifiers_are_names to).0 a.0) a.1)
-              (new_part Within Within (mark (codes "=")) (token c.String (quoted_of from) ∷ []) (token_new c.Mark (codes "=") refl (one_ascii 61 (omega arith)))
-              (new_part Within Within (token c.String (quoted_of from)) [] (string_new from u) tt)),
-          tt,
-          refl,
-          refl,
-          λ e. absurd (true≢false (sym e)),
-        ),
-    none_there,
-    refl,
-  ),
-  refl,
-)
+alias_item to from a u =
+    let sign : Expr = mark (codes "=") in
+    let right : Expr = token c.String (quoted_of from) in
+    let parts : AreParts false Within Within (name to ∷ sign ∷ right ∷ []) =
+    new_part false Within Within (name to) (sign ∷ right ∷ []) (token_new c.Name to ((identifiers_are_names to).0 a.0) a.1)
+    (new_part false Within Within sign (right ∷ []) (token_new c.Mark (codes "=") refl (one_ascii 61 (omega arith)))
+    (new_part false Within Within right [] (string_new from u) tt)) in
+    ((row_proper Within k.Alias (name to ∷ sign ∷ right ∷ []) refl (refl, (refl, (refl, tt))) parts, none_there, refl), refl)
 
 string_item : (from : Bytes) → IsUtf8 from → IsItem s.loaded (token c.String (quoted_of from))
 string_item from u = (((string_new from u).proper Within, none_there, refl), refl)
@@ -146,16 +128,12 @@ new_load_keeps path symbols items u some h =
 
 -- ---- unused symbols
 
-filtered : {X : Type 0} (P : X → Type 0) (test : X → Bool) (xs : List X) → AllByRecursion P xs → AllByRecursion P (filter test xs)
-filtered P test [] h = tt
-filtered P test (x ∷ xs) h = by_test (AllByRecursion P) (test x) (x ∷ filter test xs) (filter test xs) (h.0, filtered P test xs h.1) (filtered P test xs h.1)
-
 pub used_statement : (used : Bytes → Bool) (item : Item) → IsProperItem item → IsProperItem (used_alone used item)
 used_statement used (i.Block lines) h = h
 used_statement used (i.Stmt x) h =
     let change : List Expr → List Expr = filter (symbol_stays used) in
     stays_statement x (with_used used x)
-    (by_test (InPlace x) (has_own_comments x) x (on_items k.Load (on_rest change) x) (itself x) (load_in_place change (λ xs m. filtered (IsItem s.loaded) (symbol_stays used) xs m) x)) h
+    (by_test (InPlace x) (has_own_comments x) x (on_items k.Load (on_rest change) x) (itself x) (load_in_place change (λ xs m. all_kept (IsItem s.loaded) (symbol_stays used) xs m) x)) h
 
 used_each : (used : Bytes → Bool) (items : List Item) → AreFine items → AreFine (map (used_alone used) items)
 used_each used [] h = tt
@@ -164,7 +142,7 @@ used_each used (item ∷ items) h = (used_statement used item h.0, used_each use
 unused_keeps : (items : List Item) → AreFine items → AreFine (unused_loads items)
 unused_keeps items h =
     let used : Bytes → Bool = is_used items in
-    used_each used (filter (λ item. not (is_emptied used item)) items) (filtered IsProperItem (λ item. not (is_emptied used item)) items h)
+    used_each used (filter (λ item. not (is_emptied used item)) items) (all_kept IsProperItem (λ item. not (is_emptied used item)) items h)
 
 -- ---- the package
 

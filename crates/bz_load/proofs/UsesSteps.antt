@@ -1,20 +1,31 @@
--- The names of values, collected.
-use Rattle.std.proofs.Common.{◌≡◌, Bool, true, false, ◌||◌, List, [], ◌∷◌, ◌++◌, map, refl, sym, ap, ◌∙◌}
+-- The operands of a form, by its lists.
+use Rattle.std.proofs.Common.{◌≡◌, List, ◌∷◌, ◌++◌, map, ap, ◌∙◌, refl, Bool, true, false, ◌||◌, [], sym}
+use Rattle.bz_value.specs.declared.value.Form.{Form}
+use Rattle.bz_value.specs.declared.value.Expr.{Row_of-Expr, end_of-Expr, more_of-Expr, items-the_row-Expr, Expr}
+use Rattle.bz_value.specs.declared.value.Expr.TheVariants as e
+use Rattle.bz_items.specs.Characters.{Bytes}
+use Rattle.bz_attribute.proofs.MakingForms.{part_row, part_list, item_row, item_list}
+use Rattle.bz_load.specs.Fixes.{all_of, with_operands, operands, each_operands, after_head, first_item, operand_names_in, is_used}
 use Rattle.std.specs.Prelude.{bytes_eq, if◌then◌else◌}
 use Rattle.std.specs.List.{list_any}
 use Rattle.std.proofs.Math.Path.{fun_ext}
 use Rattle.bz_grammar.specs.declared.kind.Kind.{Kind}
 use Rattle.bz_grammar.specs.declared.kind.Kind.TheVariants as k
 use Rattle.bz_grammar.specs.Shapes.{is_kind}
-use Rattle.bz_value.specs.declared.value.Form.{Form}
-use Rattle.bz_value.specs.declared.value.Expr.{Expr}
-use Rattle.bz_value.specs.declared.value.Expr.TheVariants as e
 use Rattle.bz_value.specs.declared.value.Item.{Item}
-use Rattle.bz_items.specs.Characters.{Bytes}
 use Rattle.bz_attribute.proofs.KeySets.{or_group, or_none}
-use Rattle.bz_load.specs.Uses.{all_of, after_head, first_item, with_operands, operands, operand_names_in, is_used}
 use Rattle.bz_load.specs.private.Known.{knows_name, and_name, and_names, and_operands, and_uses}
-use Rattle.bz_load.proofs.UsesForms.{operands_Form}
+
+pub operands_row : (n : _) (r : Row_of-Expr n) → each_operands r ≡ map operands (items-the_row-Expr n r)
+operands_row n end_of-Expr = refl
+operands_row n (more_of-Expr x rest) = ap (λ xs. operands x ∷ xs) (operands_row _ rest)
+
+pub operands_Form : (f : Form) → operands (e.Form f) ≡ all_of (with_operands f.kind (map operands f.parts)) ++ all_of (map operands f.seq.items)
+operands_Form f =
+    ap (λ (parts : List (List Bytes)). all_of (with_operands f.kind parts) ++ all_of (each_operands (item_row (e.Form f)).1)) (operands_row _ (part_row (e.Form f)).1 ∙ ap (map operands) (part_list f))
+    ∙ ap (λ (items : List (List Bytes)). all_of (with_operands f.kind (map operands f.parts)) ++ all_of items) (operands_row _ (item_row (e.Form f)).1 ∙ ap (map operands) (item_list f))
+
+-- ---- the names of values, collected
 
 abbrev Test : Type 0
 Test = Bytes → Bool

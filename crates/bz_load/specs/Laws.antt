@@ -11,8 +11,7 @@ use Rattle.bz_command_syntax.specs.declared.command.Symbol.{Symbol}
 use Rattle.bz_command_syntax.specs.declared.command.Fixes.{Fixes}
 use Rattle.bz_attribute.specs.Attributes.{without_first}
 use Rattle.bz_load.specs.NewLoad.{new_load}
-use Rattle.bz_load.specs.Uses.{is_used}
-use Rattle.bz_load.specs.Fixes.{is_emptied, unused_loads, is_package_call, move_package_to_top, fix}
+use Rattle.bz_load.specs.Fixes.{is_used, is_emptied, unused_loads, is_package_call, move_package_to_top, fix}
 
 -- What new_load makes of proper items by words that were read is proper, and what fix makes of them too.
 abbrev pub LoadsStayProper : Type 0

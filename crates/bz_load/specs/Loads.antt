@@ -1,6 +1,6 @@
 -- The loads of a file, and what they load.
-use Rattle.std.specs.Prelude.{Bool, false, ◌&&◌, List, [], ◌∷◌, Option, None, bytes_eq, if◌then◌else◌}
-use Rattle.std.specs.List.{list_any}
+use Rattle.std.specs.Prelude.{Bool, false, ◌&&◌, List, [], ◌∷◌, Option, None, bytes_eq, if◌then◌else◌, ℕ, suc, ◌+◌, true}
+use Rattle.std.specs.List.{list_any, insert}
 use Rattle.bz_grammar.specs.declared.kind.Kind.TheVariants as k
 use Rattle.bz_value.specs.declared.value.Expr.{Expr}
 use Rattle.bz_value.specs.declared.value.Item.{Item}
@@ -46,3 +46,23 @@ symbols_of (i.Stmt x) = after_path (items_of x)
 -- one of the loads from the path loads it so
 abbrev pub is_loaded : Bytes → List Item → Symbol → Bool
 is_loaded path items symbol = list_any (λ item. is_load_from path item && list_any (loads_symbol symbol) (symbols_of item)) items
+
+-- ---- places among the items of a file, each as the number of the items before it
+
+abbrev pub is_block : Item → Bool
+is_block (i.Block lines) = true
+is_block (i.Stmt x) = false
+
+-- after the comment blocks that a list begins with
+abbrev pub leading_blocks : List Item → ℕ
+leading_blocks [] = 0
+leading_blocks (item ∷ items) = if is_block item then suc (leading_blocks items) else 0
+
+-- After the last load; without one the other place. The items are those after this many that are passed.
+abbrev pub loads_end : ℕ → ℕ → List Item → ℕ
+loads_end other passed [] = other
+loads_end other passed (item ∷ items) = loads_end (if is_load_item item then passed + 1 else other) (passed + 1) items
+
+-- after the last load; where there is none, after the leading comment blocks
+abbrev pub after_loads : Item → List Item → List Item
+after_loads new items = insert items (loads_end (leading_blocks items) 0 items) new

@@ -12,8 +12,7 @@ use Rattle.bz_command_syntax.specs.Quoted.{quoted_of}
 use Rattle.bz_rule.specs.Values.{on_items}
 use Rattle.bz_attribute.specs.Made.{token, node, mark, sequence, name}
 use Rattle.bz_attribute.specs.Attributes.{on_first_that}
-use Rattle.bz_load.specs.Loads.{is_load_from, is_loaded}
-use Rattle.bz_load.specs.Places.{after_loads}
+use Rattle.bz_load.specs.Loads.{is_load_from, is_loaded, after_loads}
 
 abbrev pub is_symbol : Symbol → Symbol → Bool
 is_symbol symbol other = bytes_eq symbol.to other.to && bytes_eq symbol.from other.from

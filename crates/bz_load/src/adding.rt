@@ -29,18 +29,24 @@ pub struct WithLoad {
     pub gone: usize,
 }
 
-/// The items for the symbols that are not loaded so yet, each once.
-#[tactic(auto, using(crate::proofs::KnownSteps::unknown_symbols))]
+/// The items for the symbols that are not loaded so yet, each once. Without a load from the path no symbol is.
+#[tactic(auto, using(crate::proofs::KnownSteps::unknown_symbols, crate::proofs::KnownSteps::all_unknown))]
 fn new_symbols(
     alloc: Global,
     path: &[u8],
     symbols: &[Symbol],
+    place: Option<usize>,
     items: &[Item],
 ) -> Result<Vec<Expr>, Memory>
+    requires { place ≡ position (is_from path.now) items.now }
     ensures { IfOk result (λ made. made.items ≡ map symbol_made (new_symbols (is_loaded path.now items.now) symbols.now)) }
 {
     let mut known = IndexSet::new(alloc);
-    insert_loads(path, items, &mut known)?;
+    if let Some(_) = place {
+        insert_loads(path, items, &mut known)?;
+        let made = unknown(alloc, symbols, &mut known)?;
+        return Ok(made);
+    }
     let made = unknown(alloc, symbols, &mut known)?;
     Ok(made)
 }
@@ -69,18 +75,21 @@ fn are_none(exprs: &[Expr]) -> bool
 }
 
 /// Puts the items of new symbols to the end of the first load from the path, or into a new load.
+#[tactic(auto, using(crate::proofs::PutSteps::there_within, crate::proofs::PutSteps::over_there, crate::proofs::PutSteps::put_new, crate::proofs::PutSteps::other_new))]
 fn put(
     alloc: Global,
     path: &[u8],
     more: &mut Vec<Expr>,
+    place: Option<usize>,
     items: Items<Item>,
 ) -> Result<WithLoad, Memory>
+    requires { place ≡ position (is_from path.now) items }
     ensures items { IfOk result (λ made. made.items ≡ with_load path.now more.old.items items) }
     ensures same { IfOk result (λ made. IsTrue made.same ↔ (made.items ≡ items)) }
     ensures spliced { IfOk result (λ made. IsSpliced made.at made.gone 1 items made.items) }
 {
     let mut all = items.into_vec();
-    match place_of_load(path, all.as_slice()) {
+    match place {
         Some(at) => {
             let same = are_none(more.as_slice());
             append_to_item(more, &mut all[at])?;
@@ -117,7 +126,8 @@ pub fn new_load(
     ensures same { IfOk result (λ made. IsTrue made.same ↔ (made.items ≡ items)) }
     ensures spliced { IfOk result (λ made. IsSpliced made.at made.gone 1 items made.items) }
 {
-    let mut more = new_symbols(alloc, path, symbols, items.as_slice())?;
-    let made = put(alloc, path, &mut more, items)?;
+    let place = place_of_load(path, items.as_slice());
+    let mut more = new_symbols(alloc, path, symbols, place, items.as_slice())?;
+    let made = put(alloc, path, &mut more, place, items)?;
     Ok(made)
 }

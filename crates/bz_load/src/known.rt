@@ -1,7 +1,7 @@
 //! The symbols that are loaded from a path, to check whether a symbol is one of them.
 ghost use Rattle.std.specs.Prelude.{◌≡◌, List, ◌∷◌, ◌++◌, not, map, IfOk, OnOk};
 ghost use Rattle.bz_command_syntax.specs.declared.command.Symbol.{Symbol};
-ghost use Rattle.bz_load.specs.private.Known.{and_each, and_load, and_loaded, and_loads, knows};
+ghost use Rattle.bz_load.specs.private.Known.{and_each, and_loaded, and_loads, knows};
 ghost use Rattle.bz_load.specs.private.KnownKeys.{symbol_of_key, symbols_of_keys};
 ghost use Rattle.bz_load.specs.NewLoad.{and_symbol, new_symbols, symbol_made as made_of};
 
@@ -53,16 +53,6 @@ fn insert_each<'a>(exprs: &'a [Expr], known: &mut Known<'a>) -> Result<(), Memor
     Ok(())
 }
 
-/// The symbols of a load from the path.
-fn insert_load<'a>(path: &[u8], item: &'a Item, known: &mut Known<'a>) -> Result<(), Memory>
-    ensures { OnOk result (knows (symbols_of_keys known.new.keys) ≡ and_load path.now item.now (knows (symbols_of_keys known.old.keys))) }
-{
-    if is_load_from(path, item) {
-        return insert_each(symbols_of(item), known);
-    }
-    Ok(())
-}
-
 /// The symbols that the items load from the path. The error: memory was refused.
 pub(crate) fn insert_loads<'a>(
     path: &[u8],
@@ -72,7 +62,9 @@ pub(crate) fn insert_loads<'a>(
     ensures { OnOk result (knows (symbols_of_keys known.new.keys) ≡ and_loads path.now items.now (knows (symbols_of_keys known.old.keys))) }
 {
     for item in items {
-        insert_load(path, item, known)?;
+        if is_load_from(path, item) {
+            insert_each(symbols_of(item), known)?;
+        }
     }
     Ok(())
 }
@@ -93,8 +85,7 @@ fn push_new<'a>(
     Ok(())
 }
 
-/// New items of a load for the symbols that are none of them, each once; they are some of them from then on. The error: memory was
-/// refused.
+/// New items of a load for the symbols that are none of them, each once; they are some of them from then on.
 pub(crate) fn unknown<'a>(
     alloc: Global,
     symbols: &'a [Symbol],

@@ -8,31 +8,37 @@ pub fn worked_loads()
 {}
 
 /// What new_load and fix make of proper items is proper.
+#[tactic(auto, using(crate::proofs::ProperLoads::loads_stay_proper))]
 pub fn loads_stay_proper()
     ensures { LoadsStayProper }
 {}
 
 /// Loading the same symbols once more changes nothing.
+#[tactic(auto, using(crate::proofs::LawLoaded::loaded_again))]
 pub fn loading_again()
     ensures { LoadedAgain }
 {}
 
 /// Dropping unused symbols twice is dropping them once.
+#[tactic(auto, using(crate::proofs::LawFixed::unused_again))]
 pub fn dropping_again()
     ensures { UnusedAgain }
 {}
 
 /// Moving the only package twice is moving it once.
+#[tactic(auto, using(crate::proofs::LawFixed::moved_again))]
 pub fn moving_again()
     ensures { MovedAgain }
 {}
 
 /// Mending twice is mending once, where there is no second package and no load goes.
+#[tactic(auto, using(crate::proofs::LawFixed::fixed_again))]
 pub fn fixing_again()
     ensures { FixedAgain }
 {}
 
 /// new_load and fix lose no comment, and make none.
+#[tactic(auto, using(crate::proofs::LawComments::comments_stay))]
 pub fn comments_stay()
     ensures { LoadsKeepComments }
 {}

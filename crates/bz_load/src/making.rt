@@ -35,8 +35,7 @@ fn alias(alloc: Global, to: &[u8], from: &[u8]) -> Result<Expr, Memory>
     Ok(node(alloc, Kind::Alias, Items::from_vec(parts)))
 }
 
-/// The item of a load that loads the symbol: an alias, or where both names are one the string alone. The error: memory was
-/// refused.
+/// The item of a load that loads the symbol: an alias, or where both names are one the string alone.
 pub(crate) fn symbol_made(alloc: Global, symbol: &Symbol) -> Result<Expr, Memory>
     ensures { IfOk result (λ x. x ≡ symbol_made symbol.now) }
 {

@@ -20,8 +20,7 @@ fn place_of_package(items: &[Item]) -> Option<usize>
     items.iter().position(is_package)
 }
 
-/// The first rule of kind `package` goes right after the last load; without a load after the comment blocks that the items
-/// begin with. The error: memory was refused; the items are then lost.
+/// The first rule of kind `package` goes right after the last load, else after the comment blocks that the items begin with.
 pub(crate) fn move_package(items: &mut Vec<Item>) -> Result<(), Memory>
     ensures { OnOk result (items.new.items ≡ move_package_to_top items.old.items) }
 {

@@ -1,8 +1,7 @@
 //! Places among the items of a file.
 ghost use Rattle.std.specs.Prelude.{◌≡◌, ◌≤◌, length, IfOk, OnOk};
 ghost use Rattle.std.specs.List.{insert};
-ghost use Rattle.bz_load.specs.Loads.{is_load_item as is_any_load};
-ghost use Rattle.bz_load.specs.Places.{after_loads, is_block as is_any_block, leading_blocks, loads_end};
+ghost use Rattle.bz_load.specs.Loads.{is_load_item as is_any_load, after_loads, is_block as is_any_block, leading_blocks, loads_end};
 
 use crate::readings::is_load;
 use bz_items::Memory;
@@ -45,11 +44,11 @@ pub(crate) fn place_after_loads(items: &[Item], other: usize) -> usize
     place
 }
 
-/// Puts an item after the last load; without a load after the comment blocks that the items begin with. After how many items
-/// it is then. The error: memory was refused; the item is then lost.
+/// Puts an item after the last load, else after the leading comment blocks. After how many items it is then.
 pub(crate) fn insert_after_loads(new: Item, items: &mut Vec<Item>) -> Result<usize, Memory>
     ensures items { OnOk result (items.new.items ≡ after_loads new items.old.items) }
-    ensures place { IfOk result (λ at. (at ≤ length items.old.items) × (items.new.items ≡ insert items.old.items at new)) }
+    ensures within { IfOk result (λ at. at ≤ length items.old.items) }
+    ensures place { IfOk result (λ at. items.new.items ≡ insert items.old.items at new) }
 {
     let blocks = count_of_blocks(items.as_slice());
     let at = place_after_loads(items.as_slice(), blocks);

@@ -1,13 +1,15 @@
 //! Loads, and what they load, read off values.
-ghost use Rattle.std.specs.Prelude.{◌≡◌};
-ghost use Rattle.std.specs.Option.{option_copied, option_map};
+ghost use Rattle.std.specs.Prelude.{◌≡◌, bytes_eq};
+ghost use Rattle.std.specs.Option.{option_map};
+ghost use Rattle.bz_rule.specs.Rules.{inner, is_text};
+ghost use Rattle.bz_attribute.specs.Lists.{body_of};
 ghost use Rattle.bz_load.specs.private.Known.{alias_in, symbol_in};
 ghost use Rattle.bz_load.specs.private.KnownKeys.{symbol_of_key};
 ghost use Rattle.bz_load.specs.Loads.{after_path as following, is_load_item as is_any_load, is_load_from as is_from, path_in as path_of, symbols_of as symbols};
 
 use bz_attribute::{body_of, first_text, has_kind, items_of, parts_of};
-use bz_grammar::Kind;
-use bz_rule::is_text;
+use bz_grammar::{Class, Kind};
+use bz_rule::{body, is_text, text_in};
 use bz_value::{Expr, Item};
 
 /// A symbol that is loaded: its name in the file that loads it, and its name in the file that is loaded.
@@ -27,13 +29,35 @@ pub(crate) fn is_load(item: &Item) -> bool
     }
 }
 
-/// The body of the first item of a load, where that is a plain string.
-fn path_in(items: &[Expr]) -> Option<&[u8]>
-    ensures { option_copied result ≡ path_of items.now }
+/// Whether this text is what a token has between its ends.
+fn is_inside(text: &[u8], token: &[u8]) -> bool
+    ensures { result ≡ bytes_eq (inner token.now) text.now }
+{
+    match token {
+        [_, inside @ .., _] => inside == text,
+        _ => text.is_empty(),
+    }
+}
+
+/// Whether the expression is a plain string of this body. Most strings are another text: only what is that text is looked
+/// through for quote marks and backslashes.
+#[tactic(auto, using(crate::proofs::PutSteps::glanced_at))]
+fn is_string_of(text: &[u8], x: &Expr) -> bool
+    ensures { result ≡ is_text text.now (body_of x.now) }
+{
+    match text_in(Class::String, x) {
+        Some(token) => is_inside(text, token) && is_text(text, body(token)),
+        None => false,
+    }
+}
+
+/// Whether the first item of a load is the path.
+fn is_first(path: &[u8], items: &[Expr]) -> bool
+    ensures { result ≡ is_text path.now (path_of items.now) }
 {
     match items {
-        [] => None,
-        [path, ..] => body_of(path),
+        [] => false,
+        [first, ..] => is_string_of(path, first),
     }
 }
 
@@ -43,7 +67,7 @@ pub(crate) fn is_load_from(path: &[u8], item: &Item) -> bool
 {
     match item {
         Item::Block(_) => false,
-        Item::Stmt(x) => has_kind(Kind::Load, x) && is_text(path, path_in(items_of(x))),
+        Item::Stmt(x) => has_kind(Kind::Load, x) && is_first(path, items_of(x)),
     }
 }
 

@@ -156,8 +156,7 @@ fn drop_emptied(names: &Names, items: &mut Vec<Item>)
     items.retain(|item| !is_emptied(names, item));
 }
 
-/// Symbols without a comment whose local name nothing uses are loaded no more, and a load that loses its last one goes; loads
-/// with comments of their own stay as they are. The error: memory was refused; the items are then lost.
+/// Symbols that nothing uses are loaded no more, and a load that loses its last one goes. After an error the items are lost.
 pub(crate) fn drop_unused(alloc: Global, items: &mut Vec<Item>) -> Result<(), Memory>
     ensures { OnOk result (items.new.items ≡ unused_loads items.old.items) }
 {

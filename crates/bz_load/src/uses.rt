@@ -2,7 +2,7 @@
 ghost use Rattle.std.specs.Prelude.{◌≡◌, IfOk, OnOk};
 ghost use Rattle.bz_attribute.specs.Sets.{texts_of};
 ghost use Rattle.bz_load.specs.private.Known.{and_name, and_names, and_operands, and_uses, knows_name};
-ghost use Rattle.bz_load.specs.Uses.{is_used, operands, operand_names_in, with_operands};
+ghost use Rattle.bz_load.specs.Fixes.{is_used, operands, with_operands};
 
 use bz_attribute::insert_text;
 use bz_grammar::{Class, Kind};
@@ -71,20 +71,13 @@ fn insert_each(alloc: Global, exprs: &[Expr], names: &mut Names) -> Result<(), M
     Ok(())
 }
 
-fn insert_item(alloc: Global, item: &Item, names: &mut Names) -> Result<(), Memory>
-    ensures { OnOk result (knows_name (texts_of names.new) ≡ and_names (operand_names_in item.now) (knows_name (texts_of names.old))) }
-{
-    match item {
-        Item::Block(_) => Ok(()),
-        Item::Stmt(x) => insert_operands(alloc, x, names),
-    }
-}
-
 fn insert_items(alloc: Global, items: &[Item], names: &mut Names) -> Result<(), Memory>
     ensures { OnOk result (knows_name (texts_of names.new) ≡ and_uses items.now (knows_name (texts_of names.old))) }
 {
     for item in items {
-        insert_item(alloc, item, names)?;
+        if let Item::Stmt(x) = item {
+            insert_operands(alloc, x, names)?;
+        }
     }
     Ok(())
 }

@@ -1,5 +1,4 @@
 pub mod Written
 pub mod Outputs
-pub mod Pieces
 pub mod Lines
 pub mod Least

@@ -1,5 +1,5 @@
 -- The lines on standard error that speak of files.
-use Rattle.std.specs.Prelude.{ℕ, List, ◌++◌, codes, decimal}
+use Rattle.std.specs.Prelude.{ℕ, ◌++◌, codes, decimal}
 use Rattle.bz_items.specs.Characters.{Bytes}
 use Rattle.bz_lex.specs.declared.fault.ReadFault.{ReadFault}
 use Rattle.bz_lex.specs.declared.fault.ReadFault.TheVariants as f

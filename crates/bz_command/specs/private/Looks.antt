@@ -1,16 +1,51 @@
--- What is known of a command before it changes anything.
-use Rattle.std.specs.Prelude.{◌≡◌, ℕ, Bool, List, [], Ok, Option, length}
-use Rattle.std.specs.Option.{option_copied}
-use Rattle.bz_label.specs.declared.target.Target.{Target}
+-- What the code does with a rule that a command is meant for: the lists of its call, exchanged for others; and what is known of a
+-- command before it changes anything.
+use Rattle.std.specs.Prelude.{List, [], ◌∷◌, if◌then◌else◌, ◌≡◌, Bool, Result, Ok, Option, length}
+use Rattle.bz_grammar.specs.declared.kind.Kind.TheVariants as k
+use Rattle.bz_value.specs.declared.value.Expr.{Expr, Token, Form', items-the_row-Expr}
 use Rattle.bz_value.specs.declared.value.Item.{Item}
+use Rattle.bz_value.specs.declared.value.Item.TheVariants as i
+use Rattle.bz_rule.specs.Values.{has_kind, parts_of, with_parts, with_items, on_row, on_first}
+use Rattle.bz_command.specs.declared.statements.CallPart.{CallPart}
+use Rattle.bz_command.specs.declared.statements.CallPart.TheVariants as p
+use Rattle.std.specs.Option.{option_copied}
+use Rattle.bz_value.specs.declared.refusal.Refusal.{Refusal}
 use Rattle.bz_items.specs.Characters.{Bytes}
 use Rattle.bz_command_syntax.specs.declared.command.Operation.{Operation}
+use Rattle.bz_command.specs.declared.running.Asked.{Asked}
 use Rattle.bz_command.specs.declared.running.Look.{Look}
 use Rattle.bz_command.specs.declared.running.Look.TheVariants as l
-use Rattle.bz_value.specs.declared.value.Expr.{Expr}
 use Rattle.bz_command.specs.declared.statements.Work.{Work}
 use Rattle.bz_attribute.specs.Attributes.{Arguments}
 use Rattle.bz_command.specs.Effect.{NewItem, arguments_of, effect, on_one, on_rules, printed}
+
+-- an expression with another list in this place, and a statement with another list in this place of its call
+abbrev pub with_list : CallPart → List Expr → Expr → Expr
+with_list p.Function list x = with_parts list x
+with_list p.Arguments list x = with_items list x
+
+abbrev pub with_list_in : CallPart → List Expr → Item → Item
+with_list_in part list (i.Block lines) = i.Block lines
+with_list_in part list (i.Stmt x) = i.Stmt (on_row k.Bare (on_first (with_list part list)) x)
+
+-- what was in the place before; where there is no such place, the new list itself
+abbrev pub before_in_call : CallPart → List Expr → Expr → List Expr
+before_in_call part list (Token t) = list
+before_in_call p.Function list (Form' own s parts s' items end split open_break comments) = items-the_row-Expr _ parts
+before_in_call p.Arguments list (Form' own s parts s' items end split open_break comments) = items-the_row-Expr _ items
+
+abbrev pub before_in_row : CallPart → List Expr → List Expr → List Expr
+before_in_row part list [] = list
+before_in_row part list (x ∷ xs) = before_in_call part list x
+
+abbrev pub before_in_statement : CallPart → List Expr → Expr → List Expr
+before_in_statement part list x = if has_kind k.Bare x then before_in_row part list (parts_of x) else list
+
+abbrev pub before_in : CallPart → List Expr → Item → List Expr
+before_in part list (i.Block lines) = list
+before_in part list (i.Stmt x) = before_in_statement part list x
+
+-- ---- what is known of a command before it changes anything
 
 -- what is made of the arguments of a rule, and of a rule
 abbrev pub arguments_by : Work → List Expr → Arguments
@@ -26,11 +61,18 @@ one_made operation current found item = on_one operation current found item
 abbrev pub one_made_by : Work → Item → NewItem
 one_made_by work = one_made work.operation.now work.current.now (option_copied work.found)
 
+-- what a command that is run makes of a file, and what it prints
+abbrev pub effect_by : Asked → List Item → Result (List Item) Refusal
+effect_by asked = effect asked.command.now asked.target.now asked.current.now asked.lines.now
+
+abbrev pub printed_by : Asked → List Item → Result Bytes Refusal
+printed_by asked = printed asked.command.now asked.target.now asked.current.now asked.lines.now
+
 -- The items that a command changes are marked: it makes of the items what it makes of those.
-abbrev pub IsMarked : Operation → Target → Bytes → List ℕ → List Item → List Bool → Type 0
-IsMarked command target current lines items marks = (length marks ≡ length items) × (effect command target current lines items ≡ on_rules command current marks items)
+abbrev pub IsMarked : Asked → List Item → List Bool → Type 0
+IsMarked asked items marks = (length marks ≡ length items) × (effect_by asked items ≡ on_rules asked.command.now asked.current.now marks items)
 
 -- Where the items stay it is known what is printed; where they may change nothing is, and they are marked.
-abbrev pub IsLook : Operation → Target → Bytes → List ℕ → List Item → Look → Type 0
-IsLook command target current lines items (l.Stays text) = (effect command target current lines items ≡ Ok items) × (printed command target current lines items ≡ Ok text)
-IsLook command target current lines items (l.Changes marks) = IsMarked command target current lines items marks.items × (printed command target current lines items ≡ Ok [])
+abbrev pub IsLook : Asked → List Item → Look → Type 0
+IsLook asked items (l.Stays text) = (effect_by asked items ≡ Ok items) × (printed_by asked items ≡ Ok text)
+IsLook asked items (l.Changes marks) = IsMarked asked items marks.items × (printed_by asked items ≡ Ok [])

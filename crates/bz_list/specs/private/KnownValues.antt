@@ -1,13 +1,24 @@
--- What the commands on lists know of the values of an attribute while they go through items and words.
-use Rattle.std.specs.Prelude.{Bool, false, not, ◌||◌, List, [], ◌∷◌, Option, Some, None, if◌then◌else◌, bytes_eq}
+-- The set in which labels that are values of an attribute are kept, seen as a list.
+use Rattle.std.specs.Prelude.{List, map, Bool, false, not, ◌||◌, [], ◌∷◌, Option, Some, None, if◌then◌else◌, bytes_eq}
+use Rattle.std.specs.BTreeSet.{BTreeSet}
+use Rattle.bz_label.specs.declared.label.Label.{Label}
+use Rattle.bz_list.specs.declared.known.Key.{Key}
 use Rattle.std.specs.List.{list_any}
 use Rattle.std.specs.Option.{option_map_or}
 use Rattle.bz_label.specs.Tables.{is_label_attribute}
 use Rattle.bz_label.specs.Read.{label_in, is_equal, is_same}
-use Rattle.bz_label.specs.declared.label.Label.{Label}
 use Rattle.bz_value.specs.declared.value.Expr.{Expr}
 use Rattle.bz_items.specs.Characters.{Bytes}
 use Rattle.bz_attribute.specs.Lists.{body_of, travelled}
+
+-- the label of three parts
+abbrev pub label_of_key : Key → Label
+label_of_key key = record { repository = key.repository.items; «package» = key.«package».items; name = key.name.items }
+
+abbrev pub labels_of : BTreeSet Key → List Label
+labels_of set = map label_of_key set.keys
+
+-- ---- what the commands on lists know of the values of an attribute while they go through items and words
 
 -- words that mean one value, where the attribute is a label attribute and where it is none
 abbrev pub mean_the_same : Bool → Bytes → Bytes → Bytes → Bool

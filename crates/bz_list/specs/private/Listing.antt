@@ -1,14 +1,22 @@
 -- What the commands on lists do, in the steps in which they do it.
-use Rattle.std.specs.Prelude.{Bool, true, not, List, [], Option, Some, None, if◌then◌else◌}
+use Rattle.std.specs.Prelude.{Bool, true, not, List, [], Option, Some, None, if◌then◌else◌, Result, Ok, Err, map}
 use Rattle.std.specs.List.{filter}
 use Rattle.bz_value.specs.declared.value.Expr.{Expr}
 use Rattle.bz_items.specs.Characters.{Bytes}
 use Rattle.bz_list.specs.declared.known.Chosen.{Chosen}
 use Rattle.bz_list.specs.declared.known.Chosen.TheVariants as h
-use Rattle.bz_attribute.specs.Attributes.{with_value}
-use Rattle.bz_attribute.specs.Lists.{items_in}
-use Rattle.bz_list.specs.Changes.{cleared, without_items}
-use Rattle.bz_list.specs.private.KnownValues.{membership, is_known_item}
+use Rattle.bz_attribute.specs.Attributes.{with_value, is_other_attribute, on_value}
+use Rattle.bz_attribute.specs.Lists.{items_in, fresh, arriving, has_lists, is_no_list, with_more}
+use Rattle.bz_list.specs.Changes.{cleared, without_items, in_value, replaced_item, substituted_item}
+use Rattle.bz_list.specs.private.KnownValues.{membership, is_known_item, Membership, new_words, new_items}
+use Rattle.bz_list.specs.declared.adding.Added.{Added}
+use Rattle.bz_list.specs.declared.adding.Added.TheVariants as a
+use Rattle.bz_value.specs.declared.refusal.Refusal.{Refusal}
+use Rattle.bz_value.specs.declared.refusal.Refusal.TheVariants.{NotAList}
+use Rattle.bz_attribute.specs.Made.{list_of, plus, string_of}
+use Rattle.bz_rule.specs.Values.{parts_of, first_text}
+use Rattle.bz_list.specs.declared.replacing.Change.{Change}
+use Rattle.bz_list.specs.declared.replacing.Change.TheVariants.{Replace, Substitute}
 
 -- whether a command is meant for an item
 abbrev pub chooses : Chosen → Expr → Bool
@@ -30,3 +38,34 @@ without_chosen name test (Some value) arguments = without_items name test value 
 abbrev pub chosen_in : (Expr → Bool) → Option Expr → List Expr
 chosen_in test None = []
 chosen_in test (Some value) = filter test (items_in value)
+
+-- ---- what is added to an attribute, in the steps in which it is
+
+-- the items that are added to the items that are there
+abbrev pub added_by : Bytes → Bytes → Added → List Expr → List Expr
+added_by current name (a.Words words) there = map (string_of current name) (fresh current name there [] words.now)
+added_by current name (a.Moved items) there = arriving current name there items
+
+-- and to those that are known
+abbrev pub added_to : Bytes → Bytes → Added → Membership → List Expr
+added_to current name (a.Words words) known = map (string_of current name) (new_words known words.now)
+added_to current name (a.Moved items) known = new_items current name known items
+
+-- a value with items added
+abbrev pub with_added : (List Expr → List Expr) → Expr → Result Expr Refusal
+with_added added value =
+    if has_lists value then Ok (with_more (added (items_in value)) value)
+    else (if is_no_list value then Err NotAList else Ok (plus value (list_of (added []))))
+
+-- ---- what `replace` and `substitute` do to an item, to a value and to an attribute, by the change that they are
+
+abbrev pub item_changed_by : Change → Bytes → Bytes → Expr → Expr
+item_changed_by (Replace old new) current name = replaced_item current name old.now new.now
+item_changed_by (Substitute pattern template) current name = substituted_item current name pattern.now template.now
+
+abbrev pub value_changed_by : Change → Bytes → Bytes → Expr → Expr
+value_changed_by change current name = in_value (item_changed_by change current name)
+
+-- in an attribute that `*` means
+abbrev pub other_changed_by : Change → Bytes → Expr → Expr
+other_changed_by change current x = if is_other_attribute x then on_value (value_changed_by change current (first_text (parts_of x))) x else x

@@ -11,7 +11,7 @@ use Rattle.bz_rule.specs.Values.{has_kind, parts_of, text_of}
 use Rattle.bz_attribute.specs.Lists.{body_of}
 use Rattle.bz_load.specs.Loads.{is_load_from, symbols_of}
 use Rattle.bz_load.specs.NewLoad.{is_symbol, and_symbol}
-use Rattle.bz_load.specs.Uses.{operands, operand_names_in}
+use Rattle.bz_load.specs.Fixes.{operands, operand_names_in}
 
 -- ---- symbols
 

@@ -3,7 +3,7 @@ use Rattle.std.specs.Option.{option_map_or}
 use Rattle.bz_value.specs.declared.value.Expr.{Expr}
 use Rattle.bz_rule.specs.Rules.{attribute}
 use Rattle.bz_change.specs.Changes.{is_set}
-use Rattle.bz_change.proofs.WholeSettings.{set_there, set_put}
+use Rattle.bz_change.proofs.SettingsTexts.{set_there, set_put}
 use Rattle.bz_change.proofs.whole.set.Goals as goal
 
 pub returns-clause-ok : goal.returns-clause-ok

@@ -1,4 +1,4 @@
-use Rattle.bz_command.proofs.SplicedItems.{one_kept, one_passed}
+use Rattle.bz_command.proofs.RunningItems.{one_kept, one_passed}
 use Rattle.bz_command.proofs.deleting.keep.Goals as goal
 
 pub returns-then-mark-clause-stay : goal.returns-then-mark-clause-stay

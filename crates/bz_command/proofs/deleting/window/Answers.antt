@@ -1,5 +1,5 @@
 use Rattle.std.proofs.Common.{arith}
-use Rattle.bz_command.proofs.SplicedItems.{windowed}
+use Rattle.bz_command.proofs.RunningItems.{windowed}
 use Rattle.bz_command.proofs.deleting.window.Goals as goal
 
 pub returns : goal.returns

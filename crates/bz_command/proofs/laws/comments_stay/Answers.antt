@@ -1,5 +1,5 @@
-use Rattle.bz_command.proofs.LawComments as comments
+use Rattle.bz_command.proofs.LawComments as law
 use Rattle.bz_command.proofs.laws.comments_stay.Goals as goal
 
 pub returns : goal.returns
-returns c = comments.comments_stay
+returns c = law.comments_stay

@@ -1,5 +1,5 @@
 use Rattle.std.proofs.Common.{◌≡◌, length, Ok}
-use Rattle.bz_command.specs.Printing.{before_rest, printed_rules}
+use Rattle.bz_command.specs.Effect.{before_rest, printed_rules}
 use Rattle.bz_command.proofs.printing.print_rules.Given as goal
 
 -- what is printed of all items, by what is printed so far and of those that are left; a mark is left for each

@@ -4,7 +4,7 @@ use Rattle.bz_value.specs.declared.value.Item.{Item}
 use Rattle.bz_command.specs.Effect.{on_meant}
 use Rattle.bz_command.specs.private.Looks.{one_made_by}
 use Rattle.bz_command.specs.Renewed.{IsOfExtent, are_bare}
-use Rattle.bz_command.proofs.RenewedItems.{exchanged_there}
+use Rattle.bz_command.proofs.RunningItems.{exchanged_there}
 use Rattle.bz_command.proofs.ruling.on_found.Goals as goal
 
 pub returns-clause-extent : goal.returns-clause-extent

@@ -1,7 +1,7 @@
 use Rattle.std.proofs.Common.{◌∙◌, List, ap}
 use Rattle.std.specs.List.{insert}
 use Rattle.bz_value.specs.declared.value.Item.{Item}
-use Rattle.bz_load.proofs.Splices.{put_in}
+use Rattle.bz_load.proofs.PutSteps.{put_in}
 use Rattle.bz_command.proofs.ruling.with_item.Goals as goal
 
 pub returns-clause-extent : goal.returns-clause-extent

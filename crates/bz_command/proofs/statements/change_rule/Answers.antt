@@ -1,7 +1,6 @@
 use Rattle.std.proofs.Common.{◌∙◌, sym, ap, List, Ok}
 use Rattle.bz_value.specs.declared.value.Expr.{Expr}
-use Rattle.bz_command.specs.private.Looks.{arguments_by}
-use Rattle.bz_command.specs.private.CallParts.{with_list_in}
+use Rattle.bz_command.specs.private.Looks.{arguments_by, with_list_in}
 use Rattle.bz_attribute.specs.Attributes.{Arguments}
 use Rattle.bz_command.specs.declared.statements.CallPart.TheVariants.{Arguments as InBrackets}
 use Rattle.bz_command.proofs.StatementRules.{rule_changed}

@@ -1,5 +1,5 @@
 use Rattle.std.proofs.Common.{◌≡◌, ◌++◌, drop}
-use Rattle.bz_command.specs.Targets.{on_line}
+use Rattle.bz_command.specs.Effect.{on_line}
 use Rattle.bz_command.proofs.targets.all_on_line.Given as goal
 
 -- the marks so far, and after them those of the items that are left, by the lines that are left

@@ -1,5 +1,5 @@
 use Rattle.std.proofs.Common.{◌≡◌, ◌++◌, drop, map}
-use Rattle.bz_command.specs.Targets.{is_rule}
+use Rattle.bz_command.specs.Effect.{is_rule}
 use Rattle.bz_command.proofs.targets.all_rules.Given as goal
 
 -- the marks so far, and after them those of the items that are left

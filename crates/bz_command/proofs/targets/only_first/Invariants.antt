@@ -1,5 +1,5 @@
 use Rattle.std.proofs.Common.{◌≡◌, ◌++◌, take, drop, map, false, if◌then◌else◌, Bool, List}
-use Rattle.bz_command.specs.Targets.{first_mark}
+use Rattle.bz_command.specs.Effect.{first_mark}
 use Rattle.bz_command.proofs.targets.only_first.Given as goal
 
 -- the marks so far, and after them what becomes of those that are left

@@ -1,4 +1,4 @@
-use Rattle.bz_dict.proofs.KeySets.{chosen_keys}
+use Rattle.bz_dict.proofs.KeyPlaces.{chosen_keys}
 use Rattle.bz_dict.proofs.keys.chosen_of.Goals as goal
 
 pub returns : goal.returns

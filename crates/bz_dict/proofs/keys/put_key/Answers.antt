@@ -1,4 +1,4 @@
-use Rattle.bz_dict.proofs.KeySets.{key_placed}
+use Rattle.bz_dict.proofs.KeyPlaces.{key_placed}
 use Rattle.bz_dict.proofs.keys.put_key.Goals as goal
 
 pub returns : goal.returns

@@ -1,5 +1,5 @@
 use Rattle.bz_label.proofs.Rows.{word_rows}
-use Rattle.bz_label.proofs.Spellings.{target_once}
+use Rattle.bz_label.proofs.TargetReadings.{target_once}
 use Rattle.bz_label.proofs.laws.one_target.Goals as goal
 
 pub returns : goal.returns

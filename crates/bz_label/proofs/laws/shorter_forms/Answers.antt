@@ -1,4 +1,5 @@
-use Rattle.bz_label.proofs.Shorter.{shortened_once, shortened_same, shortened_stays, unrepeated_once, unrepeated_same, unrepeated_stays}
+use Rattle.bz_label.proofs.LabelFunctions.{shortened_once, unrepeated_once}
+use Rattle.bz_label.proofs.Shorter.{shortened_same, shortened_stays, unrepeated_same, unrepeated_stays}
 use Rattle.bz_label.proofs.laws.shorter_forms.Goals as goal
 
 pub returns-clause-shortened : goal.returns-clause-shortened

@@ -1,5 +1,5 @@
 use Rattle.std.proofs.Common.{sym, ◌∙◌, inl, inr}
-use Rattle.bz_list.specs.private.Adding.{added_by}
+use Rattle.bz_list.specs.private.Listing.{added_by}
 use Rattle.bz_list.proofs.AddedItems.{added_refused}
 use Rattle.bz_list.proofs.adding.add_items.Goals as goal
 

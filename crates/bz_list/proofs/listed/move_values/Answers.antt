@@ -4,8 +4,7 @@ use Rattle.bz_rule.specs.Rules.{attribute}
 use Rattle.bz_value.specs.declared.refusal.Refusal.TheVariants.{Memory}
 use Rattle.bz_attribute.specs.Attributes.{Arguments}
 use Rattle.bz_attribute.specs.Lists.{has_lists}
-use Rattle.bz_list.proofs.ListedMoves.{nothing_moved, something_moved}
-use Rattle.bz_list.proofs.ListedTests.{not_emptied}
+use Rattle.bz_list.proofs.ListedForms.{nothing_moved, something_moved, not_emptied}
 use Rattle.bz_list.proofs.listed.move_values.Goals as goal
 
 pub returns-then-is_empty-clause-ok : goal.returns-then-is_empty-clause-ok

@@ -1,5 +1,5 @@
 use Rattle.std.proofs.Common.{◌∙◌}
-use Rattle.bz_load.proofs.KeySets.{symbol_found, symbol_inserted}
+use Rattle.bz_load.proofs.KnownSteps.{symbol_found, symbol_inserted}
 use Rattle.bz_load.proofs.known.insert_key.Goals as goal
 
 pub returns-clause-new : goal.returns-clause-new

@@ -3,7 +3,7 @@ use Rattle.std.specs.List.{position}
 use Rattle.bz_value.specs.declared.value.Item.{Item}
 use Rattle.bz_attribute.proofs.ArgumentPlaces.{is_first, none_passes}
 use Rattle.bz_load.specs.Fixes.{is_package_call}
-use Rattle.bz_load.specs.Places.{leading_blocks, loads_end}
+use Rattle.bz_load.specs.Loads.{leading_blocks, loads_end}
 use Rattle.bz_load.proofs.PlaceSteps.{no_package, blocks_fit, package_put}
 use Rattle.bz_load.proofs.package.move_package.Goals as goal
 

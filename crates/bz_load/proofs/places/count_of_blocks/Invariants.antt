@@ -1,5 +1,5 @@
 use Rattle.std.proofs.Common.{◌≡◌, ◌+◌, drop}
-use Rattle.bz_load.specs.Places.{leading_blocks}
+use Rattle.bz_load.specs.Loads.{leading_blocks}
 use Rattle.bz_load.proofs.places.count_of_blocks.Given as goal
 
 -- the items so far are blocks

@@ -1,5 +1,5 @@
 use Rattle.std.proofs.Common.{◌≡◌, ◌≤◌, drop, length}
-use Rattle.bz_load.specs.Places.{loads_end}
+use Rattle.bz_load.specs.Loads.{loads_end}
 use Rattle.bz_load.proofs.places.place_after_loads.Given as goal
 
 abbrev pub invariant-loop-at : goal.invariant-loop-at

@@ -1,5 +1,5 @@
 use Rattle.std.proofs.Common.{refl, rules}
-use Rattle.bz_streams.proofs.Written.{begins, goes_on, kept, cut_off}
+use Rattle.bz_streams.proofs.Written.{begins, goes_on}
 use Rattle.bz_streams.proofs.sink.write_whole.Goals as goal
 
 pub loop-rest-init : goal.loop-rest-init
@@ -16,10 +16,3 @@ loop-rest-preserved g c =
           c.args.bytes.now c.loop-rest.rest.now c.in-Ok.written c.loop-rest.invariant.so_far c.in-Ok.ensures.bound c.in-Ok.ensures.bytes);
       steady = search rules;
     }
-
-pub returns-in-Err-clause-part : goal.returns-in-Err-clause-part
-returns-in-Err-clause-part g c =
-    let contents = g.S.Sink.contents in
-    cut_off (contents c.args.sink.now) (contents c.write.new.self) c.args.bytes.now c.loop-rest.rest.now (search rules)
-    (kept (contents c.args.sink.now) (contents c.loop-rest.sink) (contents c.write.new.self) c.args.bytes.now c.loop-rest.rest.now
-    c.in-Err.ensures.bytes c.loop-rest.invariant.so_far)

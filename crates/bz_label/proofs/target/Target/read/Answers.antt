@@ -1,12 +1,16 @@
-use Rattle.std.proofs.Common.{refl, sym, ap, ◌∙◌, subst, List, ℕ, None}
+use Rattle.std.proofs.Common.{refl, sym, ap, ◌∙◌}
+use Rattle.std.proofs.lemmas.Result.{err_from_is_err_and}
 use Rattle.bz_label.specs.TargetRead.{target_in}
-use Rattle.bz_label.specs.Targets.{IsTarget}
-use Rattle.bz_label.specs.declared.target.Target.{Target}
-use Rattle.bz_label.proofs.TargetReadings.{target_none}
+use Rattle.bz_label.proofs.TargetReadings.{target_answered, no_target}
 use Rattle.bz_label.proofs.target.Target.read.Goals as goal
 
 pub returns-in_default-clause-bad : goal.returns-in_default-clause-bad
-returns-in_default-clause-bad c = (λ e. rw c.as_bytes.ensures.value at c.in_default.ensures, λ none. refl)
+returns-in_default-clause-bad c = (λ e. no_target _ (c.in_default.ensures ∙ ap target_in c.as_bytes.ensures.value), λ none. refl)
 
-pub returns-in_default-clause-none : goal.returns-in_default-clause-none
-returns-in_default-clause-none c = λ bad. target_none c.args.text.now (rw c.as_bytes.ensures.value at c.in_default.ensures)
+pub returns-in_err-copied-clause-bad : goal.returns-in_err-copied-clause-bad
+returns-in_err-copied-clause-bad c =
+    let refused = err_from_is_err_and c.from_residual.result c.from_residual.ensures.1 in
+    rw (refused.1, refused.2) (λ e. cc, λ none. absurd (none _ (target_answered _ _ (sym (c.in-Some.ensures ∙ ap target_in c.as_bytes.ensures.value)))))
+
+pub returns-clause-bad : goal.returns-clause-bad
+returns-clause-bad c = (λ e. cc, λ none. absurd (none _ (target_answered _ _ (sym (c.in-Some.ensures ∙ ap target_in c.as_bytes.ensures.value)))))

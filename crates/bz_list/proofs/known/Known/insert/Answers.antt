@@ -2,10 +2,8 @@ use Rattle.std.proofs.Common.{sym, ap, ◌∙◌}
 use Rattle.std.specs.Prelude.{Some, None}
 use Rattle.std.specs.Option.{option_map}
 use Rattle.bz_attribute.specs.Sets.{texts_of}
-use Rattle.bz_list.specs.private.KnownKeys.{label_of_key, labels_of}
-use Rattle.bz_list.specs.private.KnownValues.{label_meant}
-use Rattle.bz_list.proofs.KnownKeys.{more_kept, no_key}
-use Rattle.bz_list.proofs.KnownSteps.{label_more, text_more}
+use Rattle.bz_list.specs.private.KnownValues.{label_of_key, labels_of, label_meant}
+use Rattle.bz_list.proofs.KnownSteps.{more_kept, no_key, label_more, text_more}
 use Rattle.bz_list.proofs.known.Known.insert.Goals as goal
 
 pub returns-in_default : goal.returns-in_default

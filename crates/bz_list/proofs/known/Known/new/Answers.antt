@@ -1,4 +1,4 @@
-use Rattle.bz_list.proofs.KnownKeys.{none_kept}
+use Rattle.bz_list.proofs.KnownSteps.{none_kept}
 use Rattle.bz_list.proofs.known.Known.new.Goals as goal
 
 pub returns : goal.returns

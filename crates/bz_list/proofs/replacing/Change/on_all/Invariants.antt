@@ -1,5 +1,5 @@
 use Rattle.std.proofs.Common.{◌≡◌, ◌++◌, map, take, drop}
-use Rattle.bz_list.specs.private.Replacing.{other_changed_by}
+use Rattle.bz_list.specs.private.Listing.{other_changed_by}
 use Rattle.bz_list.proofs.replacing.Change.on_all.Given as goal
 
 abbrev pub invariant-loop-x : goal.invariant-loop-x

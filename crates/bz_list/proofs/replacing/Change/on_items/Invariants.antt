@@ -1,5 +1,5 @@
 use Rattle.std.proofs.Common.{◌≡◌, ◌++◌, map, take, drop}
-use Rattle.bz_list.specs.private.Replacing.{item_changed_by}
+use Rattle.bz_list.specs.private.Listing.{item_changed_by}
 use Rattle.bz_list.proofs.replacing.Change.on_items.Given as goal
 
 abbrev pub invariant-loop-x : goal.invariant-loop-x

@@ -1,7 +1,7 @@
 use Rattle.std.proofs.Common.{◌≡◌, ◌++◌, map, take, drop}
 use Rattle.bz_grammar.specs.declared.kind.Kind.TheVariants as k
 use Rattle.bz_rule.specs.Values.{on_items}
-use Rattle.bz_list.specs.private.Replacing.{item_changed_by}
+use Rattle.bz_list.specs.private.Listing.{item_changed_by}
 use Rattle.bz_list.proofs.replacing.Change.on_operands.Given as goal
 
 abbrev pub invariant-loop-x : goal.invariant-loop-x
