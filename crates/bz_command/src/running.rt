@@ -4,7 +4,7 @@ ghost use Rattle.std.specs.List.{list_any};
 ghost use Rattle.std.specs.Option.{unwrap_or};
 ghost use Rattle.bz_rule.specs.Index.{IsIndexOf};
 ghost use Rattle.bz_command.specs.Effect.{may_mean_none, meant, effect, lacks_rules, looks_at_rules, printed};
-ghost use Rattle.bz_command.specs.private.Looks.{IsLook, IsMarked, effect_by, printed_by};
+ghost use Rattle.bz_command.specs.private.Looks.{IsLook, IsMarked, effect_by, printed_for};
 ghost use Rattle.bz_command.specs.Renewed.{IsOfExtent};
 
 use crate::outcome::{Changed, Extent, Outcome, Ran};
@@ -115,7 +115,7 @@ fn change(asked: Asked<'_>, marks: Vec<bool>, file: &mut File) -> Result<Ran, Re
     requires { IsLook asked file.old (Look.Changes marks) }
     ensures ok { OnOk result (effect_by asked.entry file.old ≡ Ok file.new) }
     ensures same { IfOk result (λ ran. IsTrue ran.same ↔ (file.new ≡ file.old)) }
-    ensures printed { IfOk result (λ ran. printed_by asked.entry file.old ≡ Ok ran.printed) }
+    ensures printed { IfOk result (λ ran. printed_for asked.entry file.old ≡ Ok ran.printed) }
     ensures extent { IfOk result (λ ran. IsOfExtent ran.extent ran.marks.items file.old file.new) }
     ensures err { IfErr result (λ refusal. (effect_by asked.entry file.old ≡ Err refusal) ⊎ (refusal ≡ Refusal.Memory)) }
 {
@@ -197,7 +197,7 @@ fn change_copy(asked: Asked<'_>, marks: Vec<bool>, copy: File) -> Result<Outcome
     requires { IsLook asked copy (Look.Changes marks) }
     ensures ok { IfOk result (λ outcome. effect_by asked.entry copy ≡ Ok (unwrap_or outcome.file copy)) }
     ensures unchanged { IfOk result (λ outcome. (outcome.file ≡ None) ↔ (effect_by asked.entry copy ≡ Ok copy)) }
-    ensures printed { IfOk result (λ outcome. printed_by asked.entry copy ≡ Ok outcome.printed) }
+    ensures printed { IfOk result (λ outcome. printed_for asked.entry copy ≡ Ok outcome.printed) }
     ensures err { IfErr result (λ refusal. (effect_by asked.entry copy ≡ Err refusal) ⊎ (refusal ≡ Refusal.Memory)) }
 {
     let mut file = copy;

@@ -14,7 +14,7 @@ begins P (c ∷ rest) first letter e f l all = subst (λ (k : ℕ). P (k ∷ res
 differs : (first letter c : ℕ) → first ≡ c → (first ≡ letter → ⊥) → nat_eq c letter ≡ false
 differs first letter c e n = grind (arith, nat_tests)
 
--- what holds of either answer, and of two of which the second is asked after the first
+-- what holds of either answer, and of two of which the second is looked for after the first
 by_bool : (P : Bool → Type 0) → P true → P false → (a : Bool) → P a
 by_bool P h i true = h
 by_bool P h i false = i

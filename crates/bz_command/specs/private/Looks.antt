@@ -65,8 +65,8 @@ one_made_by work = one_made work.operation.now work.current.now (option_copied w
 abbrev pub effect_by : Asked → List Item → Result (List Item) Refusal
 effect_by asked = effect asked.command.now asked.target.now asked.current.now asked.lines.now
 
-abbrev pub printed_by : Asked → List Item → Result Bytes Refusal
-printed_by asked = printed asked.command.now asked.target.now asked.current.now asked.lines.now
+abbrev pub printed_for : Asked → List Item → Result Bytes Refusal
+printed_for asked = printed asked.command.now asked.target.now asked.current.now asked.lines.now
 
 -- The items that a command changes are marked: it makes of the items what it makes of those.
 abbrev pub IsMarked : Asked → List Item → List Bool → Type 0
@@ -74,5 +74,5 @@ IsMarked asked items marks = (length marks ≡ length items) × (effect_by asked
 
 -- Where the items stay it is known what is printed; where they may change nothing is, and they are marked.
 abbrev pub IsLook : Asked → List Item → Look → Type 0
-IsLook asked items (l.Stays text) = (effect_by asked items ≡ Ok items) × (printed_by asked items ≡ Ok text)
-IsLook asked items (l.Changes marks) = IsMarked asked items marks.items × (printed_by asked items ≡ Ok [])
+IsLook asked items (l.Stays text) = (effect_by asked items ≡ Ok items) × (printed_for asked items ≡ Ok text)
+IsLook asked items (l.Changes marks) = IsMarked asked items marks.items × (printed_for asked items ≡ Ok [])
