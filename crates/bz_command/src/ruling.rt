@@ -160,24 +160,11 @@ fn source_of<'a>(operation: &Operation, items: &'a [Item]) -> Option<&'a Expr>
     ensures { option_copied result ≡ source_of operation.now items.now }
 {
     match operation {
-        Operation::Attribute(AttributeOperation::Copy { attribute, rule }) => {
-            source(attribute.as_slice(), rule.as_slice(), items)
-        }
-        Operation::Attribute(AttributeOperation::CopyNoOverwrite { attribute, rule }) => {
-            source(attribute.as_slice(), rule.as_slice(), items)
-        }
         Operation::Attribute(
-            AttributeOperation::Set { .. }
-            | AttributeOperation::SetIfAbsent { .. }
-            | AttributeOperation::Remove { .. }
-            | AttributeOperation::Rename { .. },
-        )
-        | Operation::Rule(_)
-        | Operation::Value(_)
-        | Operation::Dict(_)
-        | Operation::Load(_)
-        | Operation::Comment(_)
-        | Operation::Print { .. } => None,
+            AttributeOperation::Copy { attribute, rule }
+            | AttributeOperation::CopyNoOverwrite { attribute, rule },
+        ) => source(attribute.as_slice(), rule.as_slice(), items),
+        _ => None,
     }
 }
 
