@@ -9,7 +9,7 @@ use std::alloc::Global;
 /// Writes a copy of a form that has the comments of the first text but for that of its first line above, and the second text
 /// after; then whether all copies are equal to what was copied, and to nothing else.
 pub(crate) fn answer(case: &Case, page: &mut Page) -> Result<(), CaseFault> {
-    let form = form_of(case.alloc, case.bytes_at(0)?, case.bytes_at(1)?)?;
+    let form = form_of(case.alloc, case.given_text(0)?, case.given_text(1)?)?;
     let item = Item::Stmt(Expr::Form(form));
     let answered = answer_of(case.alloc, &item, page);
     // By a call: by the end of its scope, each form of the item would be a path of this proof.

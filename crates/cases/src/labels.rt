@@ -39,11 +39,11 @@ impl LabelQuery {
     }
 
     pub(crate) fn answer(self, case: &Case, page: &mut Page) -> Result<(), CaseFault> {
-        let text = case.bytes_at(0)?;
+        let text = case.given_text(0)?;
         let argument = case.argument.as_slice();
         match self {
             LabelQuery::Label => label_of(case.alloc, case.argument()?, case.text(0)?, page)?,
-            LabelQuery::Same => page.answer(sameness(argument, text, case.bytes_at(1)?))?,
+            LabelQuery::Same => page.answer(sameness(argument, text, case.given_text(1)?))?,
             LabelQuery::Shorten => {
                 page.answer(shortened(argument, text))?;
                 page.answer(unrepeated(text))?;

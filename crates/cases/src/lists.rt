@@ -7,8 +7,8 @@ use std::alloc::Global;
 /// are exchanged for those of the second; then the bytes that were there, and the list from its last byte on.
 pub(crate) fn answer(case: &Case, page: &mut Page) -> Result<(), CaseFault> {
     let (place, count) = range_of(case.argument()?)?;
-    let mut list = list_of(case.alloc, case.bytes_at(0)?)?;
-    let mut other = list_of(case.alloc, case.bytes_at(1)?)?;
+    let mut list = list_of(case.alloc, case.given_text(0)?)?;
+    let mut other = list_of(case.alloc, case.given_text(1)?)?;
     if !spliced(&mut list, place, count, &mut other)? {
         return Err(CaseFault::Sheet("a place past the end"));
     }

@@ -32,7 +32,7 @@ fn is_settled(alloc: Global, text: &[u8]) -> Result<bool, Memory> {
 /// Writes the formatted text of a .bzl file; and, where that is formatted to another text in its turn, that it is.
 pub(crate) fn answer(case: &Case, page: &mut Page) -> Result<(), CaseFault> {
     let alloc = case.alloc;
-    let new = match formatted(alloc, case.bytes_at(0)?) {
+    let new = match formatted(alloc, case.given_text(0)?) {
         Ok(new) => new,
         Err(fault) => return Ok(page.answer(fault_text(alloc, &fault)?.as_bytes())?),
     };

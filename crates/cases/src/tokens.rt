@@ -28,7 +28,7 @@ impl TokenQuery {
 
     pub(crate) fn answer(self, case: &Case, page: &mut Page) -> Result<(), CaseFault> {
         let answer = match self {
-            TokenQuery::Token => token_of(case.alloc, case.bytes_at(0)?)?,
+            TokenQuery::Token => token_of(case.alloc, case.given_text(0)?)?,
             TokenQuery::Tokens => tokens_of(case.alloc, case.text(0)?)?,
             TokenQuery::Place => place_in(case)?,
             TokenQuery::Class => class_of(case.alloc, case.text(0)?)?,
@@ -73,7 +73,7 @@ fn tokens_of(alloc: Global, text: &str) -> Result<String, Memory> {
 
 /// The line and the column of a byte of a text.
 fn place_in(case: &Case) -> Result<String, CaseFault> {
-    let text = case.bytes_at(0)?;
+    let text = case.given_text(0)?;
     let Ok(offset) = case.argument()?.parse::<usize>() else {
         return Err(CaseFault::Sheet("no offset"));
     };

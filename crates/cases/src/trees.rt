@@ -36,7 +36,7 @@ impl TreeQuery {
     }
 
     pub(crate) fn answer(self, case: &Case, page: &mut Page) -> Result<(), CaseFault> {
-        let text = case.bytes_at(0)?;
+        let text = case.given_text(0)?;
         let answer = match self {
             TreeQuery::Tree => tree_of(case.alloc, text)?,
             TreeQuery::Bzl => bzl_tree_of(case.alloc, text)?,
@@ -55,7 +55,7 @@ impl TreeQuery {
                 };
                 String::from_str(case.alloc, word)?
             }
-            TreeQuery::Equal => equality(case.alloc, text, case.bytes_at(1)?)?,
+            TreeQuery::Equal => equality(case.alloc, text, case.given_text(1)?)?,
             TreeQuery::Lines => lines_of(case.alloc, text)?,
             TreeQuery::Kind => kind_of(case.alloc, case.text(0)?)?,
         };

@@ -46,7 +46,7 @@ fn value_of(alloc: Global, tree: &Tree) -> Result<Option<File>, Memory> {
 /// Writes the items of a value, each on a line.
 fn viewed(case: &Case, page: &mut Page) -> Result<(), CaseFault> {
     let alloc = case.alloc;
-    let tree = match read(alloc, case.bytes_at(0)?)? {
+    let tree = match read(alloc, case.given_text(0)?)? {
         Ok(tree) => tree,
         Err(fault) => return Ok(page.answer(read_fault_text(alloc, &fault)?.as_bytes())?),
     };
@@ -177,7 +177,7 @@ fn layout_of(alloc: Global, text: &[u8], is_tidied: bool) -> Result<LaidOut, Mem
 /// Writes the layout of a text; and, where the layout has another layout in its turn, that it has.
 fn laid_out(case: &Case, is_tidied: bool, page: &mut Page) -> Result<(), CaseFault> {
     let alloc = case.alloc;
-    let layout = match layout_of(alloc, case.bytes_at(0)?, is_tidied)? {
+    let layout = match layout_of(alloc, case.given_text(0)?, is_tidied)? {
         LaidOut::Text(layout) => layout,
         LaidOut::Refused(fault) => return Ok(page.answer(fault.as_bytes())?),
     };

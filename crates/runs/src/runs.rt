@@ -64,7 +64,7 @@ impl RunQuery {
             RunQuery::Words | RunQuery::Status => (case.text(0)?, 1),
         };
         let words = words_of(alloc, line)?;
-        let input = case.bytes_at(place)?;
+        let input = case.given_text(place)?;
         let given = files_of(case, place + 1)?;
         let task = Task {
             alloc,

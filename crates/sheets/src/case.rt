@@ -39,7 +39,7 @@ pub fn utf8_of(bytes: &[u8]) -> Result<&str, CaseFault> {
 
 impl Case {
     /// The text at this place, from 0.
-    pub fn bytes_at(&self, place: usize) -> Result<&[u8], CaseFault> {
+    pub fn given_text(&self, place: usize) -> Result<&[u8], CaseFault> {
         match at(self.texts.as_slice(), place) {
             Some(text) => Ok(text.as_slice()),
             None => Err(CaseFault::Sheet("a text is missing")),
@@ -48,7 +48,7 @@ impl Case {
 
     /// The same of a text that has to be UTF-8.
     pub fn text(&self, place: usize) -> Result<&str, CaseFault> {
-        utf8_of(self.bytes_at(place)?)
+        utf8_of(self.given_text(place)?)
     }
 
     /// The argument of the question, which has to be UTF-8.
