@@ -63,7 +63,7 @@ fn on_none(which: &Which) -> Result<(), Refusal>
 
 /// A command that is run on a file.
 #[derive(Clone, Copy)]
-struct Asked<'a> {
+struct Instruction<'a> {
     alloc: Global,
     command: &'a Command,
     target: &'a Target,
@@ -83,25 +83,25 @@ enum Look {
 }
 
 /// Looks at the items of a file, of which those that a command is meant for are marked, and prints what it prints of them.
-fn look_at(asked: Asked<'_>, marks: Vec<bool>, items: &[Item]) -> Result<Look, Refusal>
-    requires value { marks.items ≡ meant asked.target.now.which asked.lines.now items.now }
+fn look_at(instruction: Instruction<'_>, marks: Vec<bool>, items: &[Item]) -> Result<Look, Refusal>
+    requires value { marks.items ≡ meant instruction.target.now.which instruction.lines.now items.now }
     requires count { length marks.items ≡ length items.now }
-    ensures ok { IfOk result (IsLook asked.entry items.now) }
-    ensures err { IfErr result (λ refusal. (effect_by asked.entry items.now ≡ Err refusal) ⊎ (refusal ≡ Refusal.Memory)) }
+    ensures ok { IfOk result (IsLook instruction.entry items.now) }
+    ensures err { IfErr result (λ refusal. (effect_by instruction.entry items.now ≡ Err refusal) ⊎ (refusal ≡ Refusal.Memory)) }
 {
-    let command = asked.command;
+    let command = instruction.command;
     let operation = &command.operation;
     let marked = marks.as_slice();
     if lacks_rules(operation, marked) {
-        on_none(&asked.target.which)?;
-        return Ok(Look::Stays(Text::from_vec(Vec::new(asked.alloc))));
+        on_none(&instruction.target.which)?;
+        return Ok(Look::Stays(Text::from_vec(Vec::new(instruction.alloc))));
     }
     if command.prints() {
         let printed = print_rules(
-            asked.alloc,
+            instruction.alloc,
             operation,
-            asked.current,
-            asked.lines,
+            instruction.current,
+            instruction.lines,
             marked,
             items,
         )?;
@@ -111,27 +111,27 @@ fn look_at(asked: Asked<'_>, marks: Vec<bool>, items: &[Item]) -> Result<Look, R
 }
 
 /// What a command that prints nothing makes of a file of which the items that it is meant for are marked.
-fn change(asked: Asked<'_>, marks: Vec<bool>, file: &mut File) -> Result<Ran, Refusal>
-    requires { IsLook asked file.old (Look.Changes marks) }
-    ensures ok { OnOk result (effect_by asked.entry file.old ≡ Ok file.new) }
+fn change(instruction: Instruction<'_>, marks: Vec<bool>, file: &mut File) -> Result<Ran, Refusal>
+    requires { IsLook instruction file.old (Look.Changes marks) }
+    ensures ok { OnOk result (effect_by instruction.entry file.old ≡ Ok file.new) }
     ensures same { IfOk result (λ ran. IsTrue ran.same ↔ (file.new ≡ file.old)) }
-    ensures printed { IfOk result (λ ran. printed_for asked.entry file.old ≡ Ok ran.printed) }
+    ensures printed { IfOk result (λ ran. printed_for instruction.entry file.old ≡ Ok ran.printed) }
     ensures extent { IfOk result (λ ran. IsOfExtent ran.extent ran.marks.items file.old file.new) }
-    ensures err { IfErr result (λ refusal. (effect_by asked.entry file.old ≡ Err refusal) ⊎ (refusal ≡ Refusal.Memory)) }
+    ensures err { IfErr result (λ refusal. (effect_by instruction.entry file.old ≡ Err refusal) ⊎ (refusal ≡ Refusal.Memory)) }
 {
     effects_stay_proper();
     // What is read of the command, so that its words are known to be proper.
-    let command = asked.command;
+    let command = instruction.command;
     let operation = &command.operation;
-    let before = mem::replace(&mut file.items, Items::new(asked.alloc));
+    let before = mem::replace(&mut file.items, Items::new(instruction.alloc));
     let Changed {
         items,
         same,
         extent,
     } = on_rules(
-        asked.alloc,
+        instruction.alloc,
         operation,
-        asked.current,
+        instruction.current,
         marks.as_slice(),
         before,
     )?;
@@ -140,7 +140,7 @@ fn change(asked: Asked<'_>, marks: Vec<bool>, file: &mut File) -> Result<Ran, Re
         same,
         extent,
         marks,
-        printed: Text::from_vec(Vec::new(asked.alloc)),
+        printed: Text::from_vec(Vec::new(instruction.alloc)),
     })
 }
 
@@ -161,7 +161,7 @@ pub fn run_in(
     ensures extent { IfOk result (λ ran. IsOfExtent ran.extent ran.marks.items file.old file.new) }
     ensures err { IfErr result (λ refusal. (effect command.now target.now current.now lines.now file.old ≡ Err refusal) ⊎ (refusal ≡ Refusal.Memory)) }
 {
-    let asked = Asked {
+    let instruction = Instruction {
         alloc,
         command,
         target,
@@ -170,14 +170,14 @@ pub fn run_in(
     };
     let items = file.items.as_slice();
     let marks = meant(alloc, &target.which, lines, items)?;
-    match look_at(asked, marks, items)? {
+    match look_at(instruction, marks, items)? {
         Look::Stays(printed) => Ok(Ran {
             same: true,
             extent: Extent::Whole,
             marks: Vec::new(alloc),
             printed,
         }),
-        Look::Changes(marks) => change(asked, marks, file),
+        Look::Changes(marks) => change(instruction, marks, file),
     }
 }
 
@@ -193,15 +193,19 @@ fn if_other(same: bool, file: File) -> Option<File>
 }
 
 /// What a command that prints nothing makes of a file of which the items that it is meant for are marked, on a copy of it.
-fn change_copy(asked: Asked<'_>, marks: Vec<bool>, copy: File) -> Result<Outcome, Refusal>
-    requires { IsLook asked copy (Look.Changes marks) }
-    ensures ok { IfOk result (λ outcome. effect_by asked.entry copy ≡ Ok (unwrap_or outcome.file copy)) }
-    ensures unchanged { IfOk result (λ outcome. (outcome.file ≡ None) ↔ (effect_by asked.entry copy ≡ Ok copy)) }
-    ensures printed { IfOk result (λ outcome. printed_for asked.entry copy ≡ Ok outcome.printed) }
-    ensures err { IfErr result (λ refusal. (effect_by asked.entry copy ≡ Err refusal) ⊎ (refusal ≡ Refusal.Memory)) }
+fn change_copy(
+    instruction: Instruction<'_>,
+    marks: Vec<bool>,
+    copy: File,
+) -> Result<Outcome, Refusal>
+    requires { IsLook instruction copy (Look.Changes marks) }
+    ensures ok { IfOk result (λ outcome. effect_by instruction.entry copy ≡ Ok (unwrap_or outcome.file copy)) }
+    ensures unchanged { IfOk result (λ outcome. (outcome.file ≡ None) ↔ (effect_by instruction.entry copy ≡ Ok copy)) }
+    ensures printed { IfOk result (λ outcome. printed_for instruction.entry copy ≡ Ok outcome.printed) }
+    ensures err { IfErr result (λ refusal. (effect_by instruction.entry copy ≡ Err refusal) ⊎ (refusal ≡ Refusal.Memory)) }
 {
     let mut file = copy;
-    match change(asked, marks, &mut file) {
+    match change(instruction, marks, &mut file) {
         Ok(ran) => Ok(Outcome {
             file: if_other(ran.same, file),
             printed: ran.printed,
@@ -250,7 +254,7 @@ pub fn run_named(
     ensures printed { IfOk result (λ outcome. printed command.now target.now current.now lines.now file.now ≡ Ok outcome.printed) }
     ensures err { IfErr result (λ refusal. (effect command.now target.now current.now lines.now file.now ≡ Err refusal) ⊎ (refusal ≡ Refusal.Memory)) }
 {
-    let asked = Asked {
+    let instruction = Instruction {
         alloc,
         command,
         target,
@@ -259,14 +263,14 @@ pub fn run_named(
     };
     let items = file.items.as_slice();
     let marks = meant_by(alloc, &target.which, lines, names, items)?;
-    match look_at(asked, marks, items)? {
+    match look_at(instruction, marks, items)? {
         Look::Stays(printed) => Ok(Outcome {
             file: None,
             printed,
         }),
         Look::Changes(marks) => {
             let copy = file.copy()?;
-            change_copy(asked, marks, copy)
+            change_copy(instruction, marks, copy)
         }
     }
 }

@@ -12,7 +12,7 @@ use Rattle.std.specs.Option.{option_copied}
 use Rattle.bz_value.specs.declared.refusal.Refusal.{Refusal}
 use Rattle.bz_items.specs.Characters.{Bytes}
 use Rattle.bz_command_syntax.specs.declared.command.Operation.{Operation}
-use Rattle.bz_command.specs.declared.running.Asked.{Asked}
+use Rattle.bz_command.specs.declared.running.Instruction.{Instruction}
 use Rattle.bz_command.specs.declared.running.Look.{Look}
 use Rattle.bz_command.specs.declared.running.Look.TheVariants as l
 use Rattle.bz_command.specs.declared.statements.Work.{Work}
@@ -62,17 +62,17 @@ abbrev pub one_made_by : Work → Item → NewItem
 one_made_by work = one_made work.operation.now work.current.now (option_copied work.found)
 
 -- what a command that is run makes of a file, and what it prints
-abbrev pub effect_by : Asked → List Item → Result (List Item) Refusal
-effect_by asked = effect asked.command.now asked.target.now asked.current.now asked.lines.now
+abbrev pub effect_by : Instruction → List Item → Result (List Item) Refusal
+effect_by instruction = effect instruction.command.now instruction.target.now instruction.current.now instruction.lines.now
 
-abbrev pub printed_for : Asked → List Item → Result Bytes Refusal
-printed_for asked = printed asked.command.now asked.target.now asked.current.now asked.lines.now
+abbrev pub printed_for : Instruction → List Item → Result Bytes Refusal
+printed_for instruction = printed instruction.command.now instruction.target.now instruction.current.now instruction.lines.now
 
 -- The items that a command changes are marked: it makes of the items what it makes of those.
-abbrev pub IsMarked : Asked → List Item → List Bool → Type 0
-IsMarked asked items marks = (length marks ≡ length items) × (effect_by asked items ≡ on_rules asked.command.now asked.current.now marks items)
+abbrev pub IsMarked : Instruction → List Item → List Bool → Type 0
+IsMarked instruction items marks = (length marks ≡ length items) × (effect_by instruction items ≡ on_rules instruction.command.now instruction.current.now marks items)
 
 -- Where the items stay it is known what is printed; where they may change nothing is, and they are marked.
-abbrev pub IsLook : Asked → List Item → Look → Type 0
-IsLook asked items (l.Stays text) = (effect_by asked items ≡ Ok items) × (printed_for asked items ≡ Ok text)
-IsLook asked items (l.Changes marks) = IsMarked asked items marks.items × (printed_for asked items ≡ Ok [])
+abbrev pub IsLook : Instruction → List Item → Look → Type 0
+IsLook instruction items (l.Stays text) = (effect_by instruction items ≡ Ok items) × (printed_for instruction items ≡ Ok text)
+IsLook instruction items (l.Changes marks) = IsMarked instruction items marks.items × (printed_for instruction items ≡ Ok [])
