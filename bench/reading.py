@@ -5,8 +5,9 @@ takes, or made rules. The goal: twice the text takes at most 2.2 times the time.
 
     bench/reading.py [FOLDER]
 
-Where go.starlark.net's parser or Bazel's is there, each reads the first text in the same run, and how many times as fast our parser and our
-formatting are is printed for each; of the files below the folder only those are joined that all of them read. They are there where
+Where go.starlark.net's parser or Bazel's is there, each reads the first text in the same run, and how many times as fast our parser (its tree dropped too) and
+our formatting are is printed for each, by the processor's time: theirs is the mean of some seconds, with the collection of garbage, Bazel's after as many
+in which its code was compiled. Of the files below the folder only those are joined that all of them read. They are there where
 `go` is on the PATH and STARLARK (/usr/share/gocode, as Debian's golang-starlark-dev has it) is a GOPATH with that module, and where `javac` is
 on the PATH and BAZEL_JAR (/usr/share/bazel/A-server.jar, as Debian's bazel-bootstrap has it) is a jar with Bazel's parser.
 Build the program first (make bin/cases).
@@ -91,7 +92,7 @@ def main():
             print(f"{work:<6} twice the text: {times[1][work] / times[0][work]:.2f} times the time (goal: at most 2.2, on an idle machine)")
         for name, command in parsers.items():
             seconds = int(output([*command, "time", scratch / "text0"])) / 1e9
-            print(f"{name} parser takes {seconds:.4f} s: our parser is {seconds / times[0]['tree']:.2f}, our formatting {seconds / times[0]['format']:.2f} times as fast")
+            print(f"{name} parser takes {seconds:.4f} s of the processor: our parser is {seconds / times[0]['tree']:.2f}, our formatting {seconds / times[0]['format']:.2f} times as fast")
         copied, tree = (1024 * int(printed(path, "peak", work)) for work in ("copy", "tree"))
         print(f"tree   {size:8} bytes: peak {tree / 1e6:.1f} MB, and {copied / 1e6:.1f} MB where the text is only copied; "
               f"so parse alone takes {(tree - copied + size) / size:.1f} bytes a byte")

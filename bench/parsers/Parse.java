@@ -1,4 +1,6 @@
+import com.sun.management.OperatingSystemMXBean;
 import java.io.IOException;
+import java.lang.management.ManagementFactory;
 import java.nio.file.Files;
 import java.nio.file.Path;
 import net.starlark.java.syntax.ParserInput;
@@ -6,34 +8,35 @@ import net.starlark.java.syntax.StarlarkFile;
 
 /**
  * What Bazel's parser takes, for bench/reading.py: {@code accepts FILE..} prints the names of the files that it reads, {@code time FILE}
- * the nanoseconds of the fastest of many rounds, when its code has been compiled.
+ * the nanoseconds of the processor in which it reads a text, the mean of some seconds after as many in which its code was compiled, with the
+ * collection of garbage.
  */
 final class Parse {
-  private static final long SECONDS = 5;
+  private static final long SECONDS = 4;
+  private static final OperatingSystemMXBean SYSTEM =
+      (OperatingSystemMXBean) ManagementFactory.getOperatingSystemMXBean();
 
-  private static boolean accepts(byte[] text, String name) {
-    return StarlarkFile.parse(ParserInput.fromUTF8(text, name)).ok();
+  private static boolean accepts(String name) throws IOException {
+    return StarlarkFile.parse(ParserInput.fromUTF8(Files.readAllBytes(Path.of(name)), name)).ok();
   }
 
-  private static long fastest(byte[] text, String name) {
-    long best = Long.MAX_VALUE;
-    long end = System.nanoTime() + SECONDS * 1_000_000_000L;
-    while (System.nanoTime() < end) {
-      long start = System.nanoTime();
-      if (!accepts(text, name)) {
+  private static long mean(String name) throws IOException {
+    long rounds = 0;
+    long from = SYSTEM.getProcessCpuTime();
+    for (long end = System.nanoTime() + SECONDS * 1_000_000_000L; System.nanoTime() < end; rounds++) {
+      if (!accepts(name)) {
         System.exit(1);
       }
-      best = Math.min(best, System.nanoTime() - start);
     }
-    return best;
+    return (SYSTEM.getProcessCpuTime() - from) / rounds;
   }
 
   public static void main(String[] words) throws IOException {
     for (int at = 1; at < words.length; at++) {
-      byte[] text = Files.readAllBytes(Path.of(words[at]));
       if (words[0].equals("time")) {
-        System.out.println(fastest(text, words[at]));
-      } else if (accepts(text, words[at])) {
+        mean(words[at]);
+        System.out.println(mean(words[at]));
+      } else if (accepts(words[at])) {
         System.out.println(words[at]);
       }
     }

@@ -1,54 +1,51 @@
 // What go.starlark.net's parser takes, for bench/reading.py: `accepts FILE..` prints the names of the files that it reads, `time FILE` the
-// nanoseconds of the fastest of many rounds.
+// nanoseconds of the processor in which it reads a text, the mean of some seconds, with the collection of garbage.
 package main
 
 import (
 	"fmt"
 	"os"
+	"syscall"
 	"time"
 
 	"go.starlark.net/syntax"
 )
 
-const seconds = 3
+const seconds = 4
 
-func read(name string) ([]byte, bool) {
+func read(name string) bool {
 	text, err := os.ReadFile(name)
 	if err != nil {
-		return nil, false
+		return false
 	}
 	_, err = syntax.Parse(name, text, syntax.RetainComments)
-	return text, err == nil
+	return err == nil
 }
 
-func fastest(name string) (time.Duration, bool) {
-	text, accepted := read(name)
-	best := time.Duration(1<<63 - 1)
-	for begin := time.Now(); accepted && time.Since(begin) < seconds*time.Second; {
-		start := time.Now()
-		_, err := syntax.Parse(name, text, syntax.RetainComments)
-		best, accepted = min(best, time.Since(start)), err == nil
+func processorTime() int64 {
+	var used syscall.Rusage
+	if err := syscall.Getrusage(syscall.RUSAGE_SELF, &used); err != nil {
+		panic(err)
 	}
-	return best, accepted
+	return used.Utime.Nano() + used.Stime.Nano()
 }
 
-func min(one, other time.Duration) time.Duration {
-	if one < other {
-		return one
+func mean(name string) int64 {
+	rounds, from := int64(0), processorTime()
+	for begin := time.Now(); time.Since(begin) < seconds*time.Second; rounds++ {
+		if !read(name) {
+			os.Exit(1)
+		}
 	}
-	return other
+	return (processorTime() - from) / rounds
 }
 
 func main() {
-	if os.Args[1] == "accepts" {
-		for _, name := range os.Args[2:] {
-			if _, accepted := read(name); accepted {
-				fmt.Println(name)
-			}
+	for _, name := range os.Args[2:] {
+		if os.Args[1] == "time" {
+			fmt.Println(mean(name))
+		} else if read(name) {
+			fmt.Println(name)
 		}
-	} else if best, accepted := fastest(os.Args[2]); accepted {
-		fmt.Println(best.Nanoseconds())
-	} else {
-		os.Exit(1)
 	}
 }
