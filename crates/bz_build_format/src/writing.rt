@@ -4,13 +4,12 @@ ghost use Rattle.bz_items.specs.Characters.{Bytes};
 ghost use Rattle.bz_grammar.specs.Legal.{Reads};
 ghost use Rattle.bz_grammar.specs.Spell.{spell_node};
 ghost use Rattle.bz_hosts.specs.View.{view_of};
-ghost use Rattle.bz_passes.specs.Passes.{tidied};
 ghost use Rattle.bz_build_format.specs.Meaning.{gives, refuses, written, Formats};
 
 use bz_grammar::Tree;
 use bz_hosts::{into_view, view};
 use bz_items::{Memory, Text};
-use bz_layout::{SetFault, set, set_from, text_of_file};
+use bz_layout::{SetFault, set_from, text_of_file};
 use bz_passes::tidy;
 use bz_rule::take_apart;
 use bz_value::{File, Refusal};
@@ -59,24 +58,6 @@ pub(crate) fn written_text(alloc: Global, file: File) -> Result<Text, Refusal>
     take_apart(tidied);
     match text {
         Ok(text) => Ok(text),
-        Err(SetFault::Memory) => Err(Refusal::Memory),
-        Err(SetFault::TooLarge) => Err(Refusal::TooLarge),
-        Err(SetFault::TooDeep) => Err(Refusal::TooDeep),
-    }
-}
-
-/// The tree of the layout of a tidy value. Errors: `TooLarge` and `TooDeep` past a limit; `Memory`: a growth was refused.
-#[tactic(auto, using(crate::proofs::Writes::written_too_large, crate::proofs::Writes::written_too_deep, crate::proofs::Writes::written_spelled))]
-pub fn laid_out_of(alloc: Global, file: &File) -> Result<Tree, Refusal>
-    requires { tidied file.now ≡ file.now }
-    ensures ok { IfOk result (λ tree. (printed : Option Bytes) → written file.now printed ≡ gives (spell_node tree) printed) }
-    ensures err { IfErr result (λ refusal. ((printed : Option Bytes) → written file.now printed ≡ refuses refusal) ⊎ (refusal ≡ Refusal.Memory)) }
-{
-    match set(alloc, file) {
-        Ok(tree) => {
-            reads_back(&tree);
-            Ok(tree)
-        }
         Err(SetFault::Memory) => Err(Refusal::Memory),
         Err(SetFault::TooLarge) => Err(Refusal::TooLarge),
         Err(SetFault::TooDeep) => Err(Refusal::TooDeep),
