@@ -14,7 +14,7 @@ use crate::marks::{
 };
 use bz_grammar::{Leaf, Node, Part};
 use bz_items::{Items, Memory, Text};
-use bz_value::{Comments, Expr, Form, Seq, Token, is_binary, is_sequence, lead_of};
+use bz_value::{Comments, EndComments, Expr, Form, Seq, Token, is_binary, is_sequence, lead_of};
 use std::alloc::Global;
 use std::mem;
 
@@ -166,7 +166,7 @@ fn form_moved(
             parts: row_moved(alloc, parts, depth, is_binary(kind), loose)?,
             seq: Seq {
                 items: Items::new(alloc),
-                end: Items::new(alloc),
+                end: EndComments::empty(),
                 split: false,
             },
             open_break,
@@ -265,7 +265,7 @@ fn seq_moved(alloc: Global, parts: Items<Part>, depth: usize, from: usize) -> Re
     drop_row(left);
     Ok(Seq {
         items: Items::from_vec(items),
-        end: above,
+        end: EndComments::new(alloc, above)?,
         split,
     })
 }
