@@ -21,8 +21,9 @@ use std::mem;
 /// At least this many parts are given back at once.
 const MANY: usize = 4096;
 
-/// In what is nested deeper than this in a statement, nothing is given up before the whole is.
-const DEPTH: usize = 64;
+/// In what is nested deeper than this in a statement, nothing is given up before the whole is: hardly a file is as deep, and the walk that
+/// gives up takes half as much more of the stack for each level as the one that looks.
+const DEPTH: usize = 32;
 
 /// Gives back what was walked over of a row, where it is long and a quarter of what is there. Returned: the index that the part with
 /// this index has then, which is not the first.
