@@ -13,7 +13,7 @@ use bz_command_syntax::quoted;
 use bz_grammar::{Class, Kind};
 use bz_items::{Items, Memory, Text};
 use bz_label::bytes::{is_label_attribute, shortened};
-use bz_value::{Comments, Expr, Form, Item, Seq, Token};
+use bz_value::{Comments, EndComments, Expr, Form, Item, Seq, Token};
 use std::alloc::{AllocError, Global};
 use std::mem;
 
@@ -60,7 +60,7 @@ pub fn sequence(alloc: Global, kind: Kind, parts: Items<Expr>, items: Items<Expr
         parts,
         seq: Seq {
             items,
-            end: Items::new(alloc),
+            end: EndComments::empty(),
             split: false,
         },
         open_break: false,

@@ -59,7 +59,7 @@ pub fn format(alloc: Global, text: &[u8]) -> Result<Text, FormatFault>
     let Ok(value) = value_of(alloc, tree) else {
         return Err(FormatFault::Memory);
     };
-    match written_text(alloc, value) {
+    match written_text(alloc, value, text.len()) {
         Ok(formatted) => Ok(formatted),
         Err(Refusal::TooLarge) => Err(FormatFault::TooLarge),
         Err(Refusal::TooDeep) => Err(FormatFault::TooDeep),

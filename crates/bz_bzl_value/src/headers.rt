@@ -10,7 +10,7 @@ ghost use Rattle.bz_bzl_value.specs.View.{branches, with_suite, def_head, row_he
 use bz_grammar::{Class, Kind, Node, Part};
 use bz_hosts::{gap_at, head_of, row_of, seq_of};
 use bz_items::{Items, Memory, Text};
-use bz_value::{Comments, Form, Seq, first_line};
+use bz_value::{Comments, EndComments, Form, Seq, first_line};
 use std::alloc::Global;
 
 /// Whether a kind is another one.
@@ -137,7 +137,7 @@ fn row_head(
         parts: row,
         seq: Seq {
             items: Items::new(alloc),
-            end: Items::new(alloc),
+            end: EndComments::empty(),
             split: false,
         },
         open_break: false,

@@ -232,12 +232,12 @@ item_more ps at y before above next suffix cs x commented es new all l i b f n e
     )
 
 -- no item is left
-pub items_done : (ps qs : List Part) (at : ℕ) (above : List Bytes) (es items : List Expr) (split : Bool) → length ps ≤ at + 1 → items ≡ es →
+pub items_done : (ps qs : List Part) (at : ℕ) (above end : List Bytes) (es items : List Expr) (split : Bool) → length ps ≤ at + 1 → end ≡ above → items ≡ es →
     es ++ (items_in above (map seen (drop at ps))).0 ≡ (items_in (all_in (first_seen_gap (map seen qs))) (map seen qs)).0 → (items_in above (map seen (drop at ps))).1 ≡ (items_in (all_in (first_seen_gap (map seen qs))) (map seen qs)).1 →
-    split ≡ is_split (map seen qs) → seq_made items above split ≡ seq_in (map seen qs)
-items_done ps qs at above es items split l i j k b =
+    split ≡ is_split (map seen qs) → seq_made items end split ≡ seq_in (map seen qs)
+items_done ps qs at above end es items split l e i j k b =
     let none : items_in above (map seen (drop at ps)) ≡ ([], above) = no_item above (map seen (drop at ps)) (omega (arith, length-map (drop at ps) seen, length-drop at ps)) in
     let found : List Expr × List Bytes = items_in (all_in (first_seen_gap (map seen qs))) (map seen qs) in
     let all : items ≡ found.0 = i ∙ (sym (append-nil es) ∙ (ap (λ t. es ++ t.0) (sym none) ∙ j)) in
-    let last : above ≡ found.1 = ap (λ t. t.1) (sym none) ∙ k in
-    ap (λ t. seq_made t above split) all ∙ (ap (λ t. seq_made found.0 t split) last ∙ ap (λ t. seq_made found.0 found.1 t) b)
+    let last : end ≡ found.1 = e ∙ (ap (λ t. t.1) (sym none) ∙ k) in
+    ap (λ t. seq_made t end split) all ∙ (ap (λ t. seq_made found.0 t split) last ∙ ap (λ t. seq_made found.0 found.1 t) b)

@@ -12,7 +12,7 @@ use crate::marks::{
 };
 use bz_grammar::{Node, Part};
 use bz_items::{Items, Memory, Text};
-use bz_value::{Comments, Expr, Form, Seq, Token, is_binary, is_sequence, lead_of};
+use bz_value::{Comments, EndComments, Expr, Form, Seq, Token, is_binary, is_sequence, lead_of};
 use std::alloc::Global;
 
 /// The expression of a part without comments of its own; of a token with this break. What is loose in the part is appended
@@ -100,7 +100,7 @@ fn form_of(alloc: Global, node: &Node, loose: &mut Items<Text>) -> Result<Form, 
             parts: row_of(alloc, parts, is_binary(kind), loose)?,
             seq: Seq {
                 items: Items::new(alloc),
-                end: Items::new(alloc),
+                end: EndComments::empty(),
                 split: false,
             },
             open_break: opens(kind, parts),
@@ -224,7 +224,7 @@ pub fn seq_of(alloc: Global, parts: &[Part], from: usize) -> Result<Seq, Memory>
     }
     Ok(Seq {
         items: Items::from_vec(items),
-        end: above,
+        end: EndComments::new(alloc, above)?,
         split: breaks_from(parts, from),
     })
 }

@@ -14,15 +14,16 @@ use crate::marks::{
 };
 use bz_grammar::{Leaf, Node, Part};
 use bz_items::{Items, Memory, Text};
-use bz_value::{Comments, Expr, Form, Seq, Token, is_binary, is_sequence, lead_of};
+use bz_value::{Comments, EndComments, Expr, Form, Seq, Token, is_binary, is_sequence, lead_of};
 use std::alloc::Global;
 use std::mem;
 
 /// At least this many parts are given back at once.
 const MANY: usize = 4096;
 
-/// In what is nested deeper than this in a statement, nothing is given up before the whole is.
-const DEPTH: usize = 64;
+/// In what is nested deeper than this in a statement, nothing is given up before the whole is: hardly a file is as deep, and the walk that
+/// gives up takes half as much more of the stack for each level as the one that looks.
+const DEPTH: usize = 32;
 
 /// Gives back what was walked over of a row, where it is long and a quarter of what is there. Returned: the index that the part with
 /// this index has then, which is not the first.
@@ -166,7 +167,7 @@ fn form_moved(
             parts: row_moved(alloc, parts, depth, is_binary(kind), loose)?,
             seq: Seq {
                 items: Items::new(alloc),
-                end: Items::new(alloc),
+                end: EndComments::empty(),
                 split: false,
             },
             open_break,
@@ -265,7 +266,7 @@ fn seq_moved(alloc: Global, parts: Items<Part>, depth: usize, from: usize) -> Re
     drop_row(left);
     Ok(Seq {
         items: Items::from_vec(items),
-        end: above,
+        end: EndComments::new(alloc, above)?,
         split,
     })
 }

@@ -11,7 +11,7 @@ use crate::before::{gap_at, gap_of_last};
 use crate::commented::commented;
 use crate::groups::{push_all_groups, push_groups};
 use crate::moved::{drop_row, give_back, is_followed, statement_moved};
-use crate::viewing::suffix_gap;
+use crate::viewing::{room_for, suffix_gap, without_room};
 use bz_grammar::{Part, Tree};
 use bz_items::{Items, Memory, Text};
 use bz_value::{File, Item, past_first_line};
@@ -34,12 +34,12 @@ pub fn into_view(alloc: Global, tree: Tree) -> Result<File, Memory>
 fn into_items(alloc: Global, lines: Items<Part>) -> Result<Items<Item>, Memory>
     ensures { IfOk result (λ items. items ≡ file_items [] lines) }
 {
-    let mut items = Items::new(alloc);
+    let mut items = room_for(alloc, lines.len())?;
     let mut left = Text::from_vec(Vec::new(alloc));
     for line in lines.into_vec() {
         left = push_last(alloc, left.as_slice(), line, &mut items)?;
     }
-    Ok(items)
+    Ok(without_room(items))
 }
 
 /// Appends the items of a line, or of the end, which is dropped then, with the comment lines `left` before it. Returned: the gap

@@ -125,21 +125,25 @@ pub fn append_file(out: &mut Vec<u8>, above: &Option<Item>, file: &File) -> Opti
     append_within(out, items)
 }
 
-/// The layout of the items as text, where it and its tree are within the limits; none where one is not, or a growth was refused.
-fn text_within(alloc: Global, items: &[Item]) -> Option<Text>
+/// The layout of the items as text, where it and its tree are within the limits; none where one is not, or a growth was refused. From
+/// the beginning there is room for `about` bytes and some more, since a text that doubles holds as much again.
+fn text_within(alloc: Global, items: &[Item], about: usize) -> Option<Text>
     ensures text { IfSome result (λ text. text ≡ layout items.now) }
     ensures short { IfSome result (λ _. length (layout items.now) ≤ limit) }
     ensures shallow { IfSome result (λ _. depth_of (laid_out items.now) ≤ depth_limit) }
 {
-    let mut out = Vec::new(alloc);
+    let Ok(mut out) = Vec::with_capacity(alloc, about.saturating_add(about / 4)) else {
+        return None;
+    };
     append_within(&mut out, items)?;
     Some(Text::from_vec(out))
 }
 
-/// The layout of the file value, as text, with no tree made for it. It is measured only where no text came of it, to know the fault.
+/// The layout of the file value, as text, with no tree made for it: `about` how many bytes it has, by estimate, is the room that it
+/// begins with. It is measured only where no text came of it, to know the fault.
 /// Errors: `TooLarge` exactly where the layout is past the limit of a text, else `TooDeep` exactly where its tree would be past the
 /// limit of depth; `Memory`: a growth was refused.
-pub fn text_of_file(alloc: Global, file: &File) -> Result<Text, SetFault>
+pub fn text_of_file(alloc: Global, file: &File, about: usize) -> Result<Text, SetFault>
     ensures text { IfOk result (λ text. text ≡ layout file.now) }
     ensures short { IfOk result (λ _. length (layout file.now) ≤ limit) }
     ensures shallow { IfOk result (λ _. depth_of (laid_out file.now) ≤ depth_limit) }
@@ -147,7 +151,7 @@ pub fn text_of_file(alloc: Global, file: &File) -> Result<Text, SetFault>
     ensures too_deep { result ≡ Err SetFault.TooDeep → (length (layout file.now) ≤ limit) × (depth_limit < depth_of (laid_out file.now)) }
 {
     let items = file.items.as_slice();
-    if let Some(text) = text_within(alloc, items) {
+    if let Some(text) = text_within(alloc, items, about) {
         return Ok(text);
     }
     fits(alloc, items)?;

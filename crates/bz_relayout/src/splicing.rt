@@ -87,7 +87,8 @@ fn lines_by_text(alloc: Global, file: &File, tree: &Tree) -> Result<Option<Renew
     one_reading();
     layout_is_accepted();
     let _items = &file.items;
-    let text = match text_of_file(alloc, file) {
+    let about = tree.len();
+    let text = match text_of_file(alloc, file, about) {
         Ok(text) => text,
         Err(SetFault::Memory) => return Err(AllocError),
         Err(_) => return Ok(None),

@@ -11,6 +11,11 @@ pub record HostComments : Type 0 where
 abbrev pub no_comments : HostComments
 no_comments = record { before = []; suffix = None }
 
+-- no comments are not held
+abbrev pub lines_held : Option (Box (List (List ℕ)) Global) → List (List ℕ)
+lines_held None = []
+lines_held (Some held) = held.value
+
 -- a host without comments holds nothing
 abbrev pub held_by : Option (Box Held Global) → HostComments
 held_by None = no_comments

@@ -41,7 +41,7 @@ impl Seq {
     {
         Ok(Seq {
             items: copy_exprs(self.items.alloc(), self.items.as_slice())?,
-            end: copy_texts(self.end.alloc(), self.end.as_slice())?,
+            end: self.end.copy()?,
             split: self.split,
         })
     }

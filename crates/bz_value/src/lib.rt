@@ -3,6 +3,7 @@
 
 mod comments;
 mod copy;
+mod end_comments;
 mod frame;
 mod gap;
 mod laws;
@@ -12,6 +13,7 @@ mod texts;
 mod value;
 
 pub use comments::Comments;
+pub use end_comments::EndComments;
 pub use frame::{
     is_binary, is_comprehension, is_operator_class, is_sequence, is_statement, lead_of,
 };

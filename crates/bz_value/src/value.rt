@@ -2,6 +2,7 @@
 ghost use Rattle.std.specs.Prelude.{◌≡◌};
 
 use crate::comments::Comments;
+use crate::end_comments::EndComments;
 use bz_grammar::{Class, Kind};
 use bz_items::{Items, Text};
 use std::marker::Model;
@@ -60,7 +61,7 @@ impl Expr {
 #[derive(Drop)]
 pub struct Seq {
     pub items: Items<Expr>,
-    pub end: Items<Text>,
+    pub end: EndComments,
     pub split: bool,
 }
 

@@ -2,7 +2,7 @@
 use crate::values::show_form;
 use bz_grammar::{Class, Kind};
 use bz_items::{Items, Memory, Text};
-use bz_value::{Comments, Expr, Form, Item, Seq, Token, push_others};
+use bz_value::{Comments, EndComments, Expr, Form, Item, Seq, Token, push_others};
 use sheets::{Case, CaseFault, Page};
 use std::alloc::Global;
 
@@ -61,7 +61,7 @@ fn form_of(alloc: Global, gap: &[u8], following: &[u8]) -> Result<Form, Memory> 
         parts: Items::new(alloc),
         seq: Seq {
             items,
-            end,
+            end: EndComments::new(alloc, end)?,
             split: true,
         },
         open_break: true,

@@ -87,4 +87,4 @@ push_loose-returns-in_ok-_form-in-Node t c = c.in_ok-_form-in-Node.ensures.loose
 
 pub seq_of-returns : goal.seq_of-returns
 seq_of-returns t c =
-    items_done c.args.parts.now (drop c.args.from c.args.parts.now) c.loop-at.at c.loop-at.above c.loop-at.items.items _ _ (omega arith) c.from_vec.ensures c.loop-at.invariant.items c.loop-at.invariant.end c.breaks_from.ensures
+    items_done c.args.parts.now (drop c.args.from c.args.parts.now) c.loop-at.at c.loop-at.above _ c.loop-at.items.items _ _ (omega arith) c.in_ok-new.ensures c.from_vec.ensures c.loop-at.invariant.items c.loop-at.invariant.end c.breaks_from.ensures

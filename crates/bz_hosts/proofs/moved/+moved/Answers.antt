@@ -43,5 +43,5 @@ push_moved-returns-in_ok-push_form_moved-in-Node-clause-loose t c = c.in_ok-push
 pub seq_moved-returns : goal.seq_moved-returns
 seq_moved-returns t c =
     let last : length c.loop-alloc.left.items ≤ c.loop-alloc.at + 1 = subst (λ (ps : List Part). length ps ≤ c.loop-alloc.at + 1) c.as_slice-in-loop-alloc.ensures.value (c.is_followed.ensures.no c.loop-alloc-test.false) in
-    items_done c.loop-alloc.left.items (drop c.args.from c.args.parts) c.loop-alloc.at c.loop-alloc.above c.loop-alloc.items.items _ _ last c.from_vec.ensures c.loop-alloc.invariant.items c.loop-alloc.invariant.end
+    items_done c.loop-alloc.left.items (drop c.args.from c.args.parts) c.loop-alloc.at c.loop-alloc.above _ c.loop-alloc.items.items _ _ last c.in_ok-new.ensures c.from_vec.ensures c.loop-alloc.invariant.items c.loop-alloc.invariant.end
     (c.breaks_from-split.ensures ∙ ap (λ (ps : List Part). is_split (map seen (drop c.args.from ps))) c.as_slice.ensures)
