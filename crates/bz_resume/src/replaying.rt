@@ -8,7 +8,7 @@ ghost use Rattle.bz_edit.specs.Steps.{swap_node};
 ghost use Rattle.bz_history.specs.Trails.{IsTree};
 ghost use Rattle.bz_resume.specs.declared.fault.Halt.TheVariants as h;
 ghost use Rattle.bz_resume.specs.private.Outlines.{outline_node};
-ghost use Rattle.bz_resume.specs.private.Agreement.{StepAgrees, StepsAgree, place_of, taken};
+ghost use Rattle.bz_resume.specs.private.Agreement.{StepAgrees, StepsAgree, place_taken, as_taken};
 
 use crate::fault::Halt;
 use crate::outlining::outline_of;
@@ -128,10 +128,10 @@ fn goes_on(
     Ok(true)
 }
 
-/// Which step is taken as the one with this number of so many.
-fn place_of(way: Way, i: usize, count: usize) -> usize
+/// Which of this many steps is taken as the one with this number.
+fn place_taken(way: Way, i: usize, count: usize) -> usize
     requires { i < count }
-    ensures place { result ≡ place_of way i count }
+    ensures place { result ≡ place_taken way i count }
     ensures within { result < count }
 {
     match way {
@@ -143,7 +143,7 @@ fn place_of(way: Way, i: usize, count: usize) -> usize
 /// Whether the steps, taken this way, lead from a tree to texts with these digests. The error: a growth was refused.
 fn lead(way: Way, tree: Tree, steps: &[Step], digests: &[[u8; 32]]) -> Result<bool, Memory>
     requires { length steps.now ≡ length digests.now }
-    ensures { IfOk result (λ agrees. IsTrue agrees ↔ StepsAgree tree (taken way steps.now) (taken way digests.now)) }
+    ensures { IfOk result (λ agrees. IsTrue agrees ↔ StepsAgree tree (as_taken way steps.now) (as_taken way digests.now)) }
 {
     let count = steps.len();
     let alloc = tree.root.parts.alloc();
@@ -153,7 +153,7 @@ fn lead(way: Way, tree: Tree, steps: &[Step], digests: &[[u8; 32]]) -> Result<bo
     let Tree { root } = tree;
     let mut node = root;
     for i in 0..count {
-        let place = place_of(way, i, count);
+        let place = place_taken(way, i, count);
         if !goes_on(
             &mut node,
             &mut text,
@@ -177,7 +177,7 @@ pub(crate) fn agree(
     digests: &[[u8; 32]],
 ) -> Result<bool, Halt>
     requires { length steps.now ≡ length digests.now }
-    ensures agrees { IfOk result (λ agrees. (n : Node) → Reads text.now n → IsTrue agrees ↔ StepsAgree n (taken way steps.now) (taken way digests.now)) }
+    ensures agrees { IfOk result (λ agrees. (n : Node) → Reads text.now n → IsTrue agrees ↔ StepsAgree n (as_taken way steps.now) (as_taken way digests.now)) }
     ensures damaged { (result ≡ Err h.Damaged) → NoTree text.now }
 {
     if steps.is_empty() {

@@ -35,13 +35,13 @@ abbrev pub StepAgrees : List Edit → Node → Text → Type 0
 StepAgrees e n d = StepLeads e n × (sha256 (spell_node (swap_node e n)) ≡ d)
 
 -- the steps in the order in which they are taken this way, and the place of the one with this number
-abbrev pub taken : {A : Type 0} → Way → List A → List A
-taken w.On xs = xs
-taken w.Back xs = reverse xs
+abbrev pub as_taken : {A : Type 0} → Way → List A → List A
+as_taken w.On xs = xs
+as_taken w.Back xs = reverse xs
 
-abbrev pub place_of : Way → ℕ → ℕ → ℕ
-place_of w.On i count = i
-place_of w.Back i count = count - 1 - i
+abbrev pub place_taken : Way → ℕ → ℕ → ℕ
+place_taken w.On i count = i
+place_taken w.Back i count = count - 1 - i
 
 -- each step leads on from the tree that those before it lead to, to a text with its digest
 abbrev pub StepsAgree : Node → List (List Edit) → List Text → Type 0
