@@ -94,10 +94,11 @@ front_read : (bytes start items : List ℕ) → items ≡ start ++ take (limit +
 front_read bytes start items is empty = is ∙ ap (λ s. s ++ take (limit + 1) bytes) empty
 
 -- of a text that is formatted it is the file
-pub whole_file : (bzl : Bool) (folder : Folder) (name bytes start items new : List ℕ) → get folder name ≡ Some bytes → items ≡ start ++ take (limit + 1) bytes
-    → start ≡ [] → FormatsAs bzl items (Ok new) → get folder name ≡ Some items
-whole_file bzl folder name bytes start items new at is empty formats =
-    let all = ok_of_front bzl (Some bytes) items new (front_read bytes start items is empty) formats in at ∙ ap Some (sym all.1 ∙ all.2)
+pub formatted_file : (bzl : Bool) (folder : Folder) (name bytes start items text new : List ℕ) → get folder name ≡ Some bytes → items ≡ start ++ take (limit + 1) bytes
+    → start ≡ [] → text ≡ items → FormatsAs bzl text (Ok new) → (get folder name ≡ Some items) × FormatsAs bzl items (Ok new)
+formatted_file bzl folder name bytes start items text new at is empty same formats =
+    let own : FormatsAs bzl items (Ok new) = subst (λ (t : List ℕ). FormatsAs bzl t (Ok new)) same formats in
+    let all = ok_of_front bzl (Some bytes) items new (front_read bytes start items is empty) own in (at ∙ ap Some (sym all.1 ∙ all.2), own)
 
 -- and what is reported of it is reported of the file
 pub refused_file : (bzl : Bool) (bytes start items : List ℕ) (fault : FormatFault) → items ≡ start ++ take (limit + 1) bytes → start ≡ []

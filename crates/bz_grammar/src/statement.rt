@@ -6,7 +6,7 @@ ghost use Rattle.bz_grammar.specs.Spell.{spell_leaf, spell_part, leaves_part};
 ghost use Rattle.bz_grammar.specs.Statements.{is_node, node_parts, gap_of, newlines, fronts_in, fronts, line_following, line_of, lines_of};
 
 use crate::tree::{Part, Tree};
-use bz_items::Memory;
+use bz_items::{Gap, Memory};
 use bz_lex::Leaf;
 use std::alloc::Global;
 
@@ -156,7 +156,7 @@ impl Part {
         ensures { result ≡ newlines (gap_of self.now) }
     {
         match self.first_leaf() {
-            Some(leaf) => newlines_in(leaf.gap.as_slice()),
+            Some(leaf) => newlines_before(&leaf.gap),
             None => 0,
         }
     }
@@ -216,7 +216,22 @@ fn leaf_newlines(leaf: &Leaf) -> u32
     requires { length (spell_leaf leaf.now) < 2 ^ 32 }
     ensures { result ≡ newlines (spell_leaf leaf.now) }
 {
-    newlines_in(leaf.gap.as_slice()) + newlines_in(leaf.token.as_slice())
+    newlines_before(&leaf.gap) + newlines_in(leaf.token.as_slice())
+}
+
+/// How many newlines are in a gap. Of spaces, or a newline and spaces, the first byte says it.
+fn newlines_before(gap: &Gap) -> u32
+    requires { length gap.now < 2 ^ 32 }
+    ensures { result ≡ newlines gap.now }
+{
+    let bytes = gap.as_slice();
+    if !gap.is_spacing() {
+        return newlines_in(bytes);
+    }
+    match bytes {
+        [b'\n', ..] => 1,
+        _ => 0,
+    }
 }
 
 fn newlines_in(text: &[u8]) -> u32

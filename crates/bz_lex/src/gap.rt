@@ -132,14 +132,12 @@ fn stay(state: GapState, text: &[u8], from: usize) -> usize
     ensures within { result ≤ length text.now }
     ensures stays { (newlines : Bool) (k : ℕ) → from ≤ k → k < result → gap_move newlines state (get_or text.now k 0) ≡ Some state }
 {
-    let mut at = from;
-    'bytes: while at < text.len() {
+    for at in from..text.len() {
         if !state.stays(text[at]) {
             return at;
         }
-        at += 1;
     }
-    at
+    text.len()
 }
 
 /// The first byte from this one on that does not simply go on with spaces or with a comment, or the end. Each has a loop of its own.

@@ -11,7 +11,6 @@ use Rattle.bz_edit.specs.Steps.{swap_node}
 use Rattle.bz_history.specs.Trails.{Trail, IsTrail, IsTree, LeadOn, trail_at}
 use Rattle.bz_history.specs.Shown.{Text, texts_of}
 use Rattle.bz_history.proofs.Keeps.{present_text, texts_length}
-use Rattle.bz_journal_format.specs.declared.content.RecordedStep.{RecordedStep}
 use Rattle.bz_journal_format.specs.declared.content.Record.{Record}
 use Rattle.bz_journal_format.specs.declared.content.Version.TheVariants.{Two}
 use Rattle.bz_journal_format.specs.Spellings.{number_limit, IsDigest}

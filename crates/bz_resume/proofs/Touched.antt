@@ -1,8 +1,7 @@
 -- A tree is legal where a step led to it from a legal one, and what the step touched is legal by itself.
-use Rattle.std.proofs.Common.{◌≡◌, ◌⊎◌, ℕ, zero, suc, ◌+◌, ◌≤◌, Bool, true, false, nat_eq, cond, Some, List, [], ◌∷◌, ◌++◌, length, length-append, take, drop, inl, inr, refl, sym, ap, ◌∙◌, subst, arith}
-use Rattle.std.specs.Prelude.{slice_get}
+use Rattle.std.proofs.Common.{◌≡◌, ◌⊎◌, ℕ, zero, suc, ◌+◌, ◌≤◌, nat_eq, List, [], ◌∷◌, ◌++◌, length, length-append, take, drop, inl, inr, refl, sym, ap, ◌∙◌, subst, arith}
 use Rattle.std.specs.List.{AllByRecursion, flat_map}
-use Rattle.std.proofs.lemmas.Bool.{cases_Bool, eqb-true, cond-true, cond-false}
+use Rattle.std.proofs.lemmas.Bool.{cases_Bool, eqb-true, cond-false}
 use Rattle.std.proofs.lemmas.List.{append-nil}
 use Rattle.bz_lex.specs.declared.leaf.Leaf.{Leaf}
 use Rattle.bz_grammar.specs.declared.kind.Kind.TheVariants as k
@@ -10,8 +9,8 @@ use Rattle.bz_grammar.specs.declared.tree.Node.{Node}
 use Rattle.bz_grammar.specs.declared.tree.Part.{Part, Node'}
 use Rattle.bz_grammar.specs.declared.tree.Part.TheVariants as p
 use Rattle.bz_grammar.specs.Spell.{leaves_part, spell_node, spell_part, limit}
-use Rattle.bz_grammar.specs.Legal.{Legal, Reads, IsNonterminal}
-use Rattle.bz_grammar.specs.Shapes.{Several, line, end}
+use Rattle.bz_grammar.specs.Legal.{Legal, IsNonterminal}
+use Rattle.bz_grammar.specs.Shapes.{Several, line}
 use Rattle.bz_grammar.specs.Joined.{AreWholeLines, file_with, last_token}
 use Rattle.bz_grammar.specs.Split.{bare_end}
 use Rattle.bz_grammar.proofs.Balance.{no_such}
@@ -22,7 +21,7 @@ use Rattle.bz_edit.specs.declared.edit.Edit.{Edit}
 use Rattle.bz_edit.specs.Steps.{here, if_here, below, if_below, spliced, splice_all, swap_part, swap_list, swap_node}
 use Rattle.bz_edit.proofs.Swaps.{stays, swap_none}
 use Rattle.bz_history.specs.Trails.{IsTree}
-use Rattle.bz_resume.specs.private.Alone.{after_alone, IsAlone, AreAlone, EndsLine, IsLineFeed, AreLined, IsAloneAt, IsWithin, IsTouchedAlone, IsHeldAlone, AreTouchedAlone}
+use Rattle.bz_resume.specs.private.Alone.{IsAlone, AreAlone, EndsLine, IsLineFeed, AreLined, IsAloneAt, IsTouchedAlone, IsHeldAlone, AreTouchedAlone}
 
 -- ---- a legal file has parts that are legal by themselves
 

@@ -4,7 +4,6 @@ use Rattle.sha2.specs.Sha256.{sha256}
 use Rattle.bz_grammar.specs.Spell.{spell_node}
 use Rattle.bz_history.specs.Trails.{Trail, IsTrail, trail_at}
 use Rattle.bz_history.specs.Shown.{texts_of}
-use Rattle.bz_journal_format.specs.declared.content.Content.{Content}
 use Rattle.bz_resume.specs.declared.saving.Saved.{Saved}
 use Rattle.bz_resume.specs.Journals.{History, Journal, MaySave, journal_text}
 

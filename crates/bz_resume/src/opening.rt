@@ -7,7 +7,7 @@ ghost use Rattle.bz_resume.specs.private.Agreement.{StepsAgreeAround, IsCounted,
 
 use crate::fault::Halt;
 use crate::reading::read;
-use crate::replaying::{go_back, go_on, has_digest};
+use crate::replaying::{Way, agree, has_digest};
 use crate::resumed::Resumed;
 use crate::splitting::split;
 use bz_edit::Step;
@@ -31,10 +31,16 @@ fn steps_agree(
     if !has_digest(text, &digests[cursor]) {
         return Ok(false);
     }
-    if !go_back(alloc, text, &steps[..cursor], &digests[..cursor])? {
+    if !agree(alloc, text, Way::Back, &steps[..cursor], &digests[..cursor])? {
         return Ok(false);
     }
-    go_on(alloc, text, &steps[cursor..], &digests[cursor + 1..])
+    agree(
+        alloc,
+        text,
+        Way::On,
+        &steps[cursor..],
+        &digests[cursor + 1..],
+    )
 }
 
 /// What a record says, at its cursor.

@@ -14,6 +14,15 @@ use bz_files::{FileFault, Files};
 use bz_items::Memory;
 use std::alloc::Global;
 
+/// What a file that still holds the text `standing` and its journal are given: the journal the bytes `stored`, the file the bytes `text`.
+#[derive(Clone, Copy)]
+struct Change<'a> {
+    file: &'a str,
+    standing: &'a [u8],
+    stored: &'a [u8],
+    text: &'a [u8],
+}
+
 /// The name of the journal of the file with this name, which is that name with `.journal` at its end. The error: a growth was
 /// refused.
 pub fn journal_name(alloc: Global, file: &str) -> Result<String, Memory>
@@ -50,20 +59,13 @@ fn check_file<F: Files>(
     }
 }
 
-// Gives the journal of a file the bytes `stored`, and then the file the bytes `text`, if it holds the text `standing`. Errors: `Memory`:
-// a growth was refused, and nothing was replaced; `Write`: it holds another text, or one of them could not be replaced.
-fn write_pair<F: Files>(
-    alloc: Global,
-    files: &mut F,
-    file: &str,
-    standing: &[u8],
-    stored: &[u8],
-    text: &[u8],
-) -> Result<(), PairFault>
+// Gives the journal of a file its bytes, and then the file, if it holds the text that it is to hold. Errors: `Memory`: a growth was refused,
+// and nothing was replaced; `Write`: it holds another text, or one of them could not be replaced.
+fn write_pair<F: Files>(alloc: Global, files: &mut F, change: Change<'_>) -> Result<(), PairFault>
     ensures time { F.honest files.old ≡ true → Elapses (F.moment files.old) (F.moment files.new) (F.since files.old) (F.since files.new)
-        (IsChecking standing.now (journal_name file.now) stored.now file.now text.now (F.folder files.old)) }
-    ensures replaced { F.honest files.old ≡ true → OnOk result
-        (SameBut (IsNew (journal_name file.now) file.now) (with_both (journal_name file.now) stored.now file.now text.now (F.folder files.old)) (F.folder files.new)) }
+        (IsChecking change.entry.standing.now (journal_name change.entry.file.now) change.entry.stored.now change.entry.file.now change.entry.text.now (F.folder files.old)) }
+    ensures replaced { F.honest files.old ≡ true → OnOk result (SameBut (IsNew (journal_name change.entry.file.now) change.entry.file.now)
+        (with_both (journal_name change.entry.file.now) change.entry.stored.now change.entry.file.now change.entry.text.now (F.folder files.old)) (F.folder files.new)) }
     ensures kinds { IfErr result (λ fault. (fault ≡ PairFault.Memory) ⊎ (fault ≡ PairFault.Write)) }
     ensures memory { IsErrOf result PairFault.Memory → files.new ≡ files.old }
     ensures cause { IsErrOf result PairFault.Write → Rises (F.faults files.old) (F.faults files.new) }
@@ -71,6 +73,12 @@ fn write_pair<F: Files>(
     ensures count { F.faults files.old ≤ F.faults files.new }
     ensures honest { F.honest files.new ≡ F.honest files.old }
 {
+    let Change {
+        file,
+        standing,
+        stored,
+        text,
+    } = change;
     match journal_name(alloc, file) {
         Ok(journal) => match files.rewrite_pair(journal.as_str(), stored, file, standing, text) {
             Ok(()) => Ok(()),
@@ -81,18 +89,11 @@ fn write_pair<F: Files>(
 }
 
 // The same, after a read of the file, which shows whether it holds that text. Errors: those of `keep`.
-fn replace_pair<F: Files>(
-    alloc: Global,
-    files: &mut F,
-    file: &str,
-    standing: &[u8],
-    stored: &[u8],
-    text: &[u8],
-) -> Result<(), PairFault>
-    ensures { Replaces F.Files file.now standing.now stored.now text.now result files.old files.new }
+fn replace_pair<F: Files>(alloc: Global, files: &mut F, change: Change<'_>) -> Result<(), PairFault>
+    ensures { Replaces F.Files change.entry.file.now change.entry.standing.now change.entry.stored.now change.entry.text.now result files.old files.new }
 {
-    match check_file(alloc, files, file, standing) {
-        Ok(()) => write_pair(alloc, files, file, standing, stored, text),
+    match check_file(alloc, files, change.file, change.standing) {
+        Ok(()) => write_pair(alloc, files, change),
         Err(fault) => Err(fault),
     }
 }
@@ -141,5 +142,11 @@ pub fn keep<F: Files>(
     ensures count { F.faults files.old ≤ F.faults files.new }
     ensures honest { F.honest files.new ≡ F.honest files.old }
 {
-    replace_pair(alloc, files, file, standing, stored, text)
+    let change = Change {
+        file,
+        standing,
+        stored,
+        text,
+    };
+    replace_pair(alloc, files, change)
 }

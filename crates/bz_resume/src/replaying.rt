@@ -1,5 +1,5 @@
 //! Over the steps of a stranger, each of which is tested. No more than one tree is held at a time.
-ghost use Rattle.std.specs.Prelude.{◌≡◌, ◌↔◌, IsTrue, IfOk, Err, MatchOption, length, reverse};
+ghost use Rattle.std.specs.Prelude.{◌≡◌, ◌<◌, ◌↔◌, IsTrue, IfOk, Err, MatchOption, length};
 ghost use Rattle.sha2.specs.Sha256.{sha256};
 ghost use Rattle.bz_grammar.specs.declared.tree.Node.{Node};
 ghost use Rattle.bz_grammar.specs.Legal.{NoTree, Reads};
@@ -8,7 +8,7 @@ ghost use Rattle.bz_edit.specs.Steps.{swap_node};
 ghost use Rattle.bz_history.specs.Trails.{IsTree};
 ghost use Rattle.bz_resume.specs.declared.fault.Halt.TheVariants as h;
 ghost use Rattle.bz_resume.specs.private.Outlines.{outline_node};
-ghost use Rattle.bz_resume.specs.private.Agreement.{StepAgrees, StepsAgree};
+ghost use Rattle.bz_resume.specs.private.Agreement.{StepAgrees, StepsAgree, place_taken, as_taken};
 
 use crate::fault::Halt;
 use crate::outlining::outline_of;
@@ -21,6 +21,13 @@ use bz_items::{Items, Memory};
 use bz_tree::parse;
 use sha2::{Digest, Sha256};
 use std::alloc::{AllocError, Global};
+
+/// Which way steps are taken: on from the first one, or back from the last one.
+#[derive(Clone, Copy)]
+pub(crate) enum Way {
+    On,
+    Back,
+}
 
 /// The root of a tree, where it has this outline. The error: a growth was refused.
 fn root_with(tree: Tree, outline: &[u8]) -> Result<Option<Node>, Memory>
@@ -121,29 +128,22 @@ fn goes_on(
     Ok(true)
 }
 
-/// Whether the steps lead on from a tree, the first one first, to texts with these digests. The error: a growth was refused.
-fn lead_on(tree: Tree, steps: &[Step], digests: &[[u8; 32]]) -> Result<bool, Memory>
-    requires { length steps.now ≡ length digests.now }
-    ensures { IfOk result (λ agrees. IsTrue agrees ↔ StepsAgree tree steps.now digests.now) }
+/// Which of this many steps is taken as the one with this number.
+fn place_taken(way: Way, i: usize, count: usize) -> usize
+    requires { i < count }
+    ensures place { result ≡ place_taken way i count }
+    ensures within { result < count }
 {
-    let alloc = tree.root.parts.alloc();
-    let mut text = Vec::new(alloc);
-    tree.spell_into(&mut text)?;
-    let mut next = Vec::new(alloc);
-    let Tree { root } = tree;
-    let mut node = root;
-    for i in 0..steps.len() {
-        if !goes_on(&mut node, &mut text, &mut next, &steps[i], &digests[i])? {
-            return Ok(false);
-        }
+    match way {
+        Way::On => i,
+        Way::Back => count - 1 - i,
     }
-    Ok(true)
 }
 
-/// The same, the last one first.
-fn lead_back(tree: Tree, steps: &[Step], digests: &[[u8; 32]]) -> Result<bool, Memory>
+/// Whether the steps, taken this way, lead from a tree to texts with these digests. The error: a growth was refused.
+fn lead(way: Way, tree: Tree, steps: &[Step], digests: &[[u8; 32]]) -> Result<bool, Memory>
     requires { length steps.now ≡ length digests.now }
-    ensures { IfOk result (λ agrees. IsTrue agrees ↔ StepsAgree tree (reverse steps.now) (reverse digests.now)) }
+    ensures { IfOk result (λ agrees. IsTrue agrees ↔ StepsAgree tree (as_taken way steps.now) (as_taken way digests.now)) }
 {
     let count = steps.len();
     let alloc = tree.root.parts.alloc();
@@ -153,7 +153,7 @@ fn lead_back(tree: Tree, steps: &[Step], digests: &[[u8; 32]]) -> Result<bool, M
     let Tree { root } = tree;
     let mut node = root;
     for i in 0..count {
-        let place = count - 1 - i;
+        let place = place_taken(way, i, count);
         if !goes_on(
             &mut node,
             &mut text,
@@ -167,41 +167,23 @@ fn lead_back(tree: Tree, steps: &[Step], digests: &[[u8; 32]]) -> Result<bool, M
     Ok(true)
 }
 
-/// Whether the steps lead on from the tree of a text, the first one first, to texts with these digests. The tree is read here and
-/// used up, so that its owner need not hold it meanwhile.
-pub(crate) fn go_on(
+/// Whether the steps, taken this way, lead from the tree of a text to texts with these digests. The tree is read here and used up,
+/// so that its owner need not hold it meanwhile.
+pub(crate) fn agree(
     alloc: Global,
     text: &[u8],
+    way: Way,
     steps: &[Step],
     digests: &[[u8; 32]],
 ) -> Result<bool, Halt>
     requires { length steps.now ≡ length digests.now }
-    ensures agrees { IfOk result (λ agrees. (n : Node) → Reads text.now n → IsTrue agrees ↔ StepsAgree n steps.now digests.now) }
+    ensures agrees { IfOk result (λ agrees. (n : Node) → Reads text.now n → IsTrue agrees ↔ StepsAgree n (as_taken way steps.now) (as_taken way digests.now)) }
     ensures damaged { (result ≡ Err h.Damaged) → NoTree text.now }
 {
     if steps.is_empty() {
         return Ok(true);
     }
     let tree = read(alloc, text)?;
-    let agrees = lead_on(tree, steps, digests)?;
-    Ok(agrees)
-}
-
-/// The same, the last one first.
-pub(crate) fn go_back(
-    alloc: Global,
-    text: &[u8],
-    steps: &[Step],
-    digests: &[[u8; 32]],
-) -> Result<bool, Halt>
-    requires { length steps.now ≡ length digests.now }
-    ensures agrees { IfOk result (λ agrees. (n : Node) → Reads text.now n → IsTrue agrees ↔ StepsAgree n (reverse steps.now) (reverse digests.now)) }
-    ensures damaged { (result ≡ Err h.Damaged) → NoTree text.now }
-{
-    if steps.is_empty() {
-        return Ok(true);
-    }
-    let tree = read(alloc, text)?;
-    let agrees = lead_back(tree, steps, digests)?;
+    let agrees = lead(way, tree, steps, digests)?;
     Ok(agrees)
 }

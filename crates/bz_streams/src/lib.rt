@@ -1,5 +1,5 @@
-//! What both programs share: readers and writers that count their faults, the lines that are printed on them, what clap finds
-//! among the words of a line, and how runs end.
+//! What both programs share: readers and writers that count their faults, the lines that are printed on them, the words of
+//! the process, what clap finds among the words of a line, and how runs end.
 #![tactic(auto)]
 
 mod device;
@@ -7,6 +7,7 @@ mod exit;
 mod laws;
 mod memory;
 mod near;
+mod process;
 mod reported;
 mod sink;
 mod source;
@@ -17,6 +18,7 @@ pub use exit::{Cut, Exit, first_cut};
 pub use laws::{lines_are_whole, nearest_is_least};
 pub use memory::{MemorySink, MemorySource};
 pub use near::nearest;
+pub use process::process_words;
 pub use reported::{STDIN, report, report_clap, report_fault, report_named};
 pub use sink::{Sink, write_whole};
 pub use source::{InputFault, MOST, PortFault, Source, read_most};

@@ -7,8 +7,9 @@ use Rattle.bz_token.specs.declared.class.Class.{Class}
 use Rattle.bz_token.specs.declared.state.State.{State}
 use Rattle.bz_token.specs.declared.state.State.TheVariants.{Start, Opened, Empty, Ended}
 use Rattle.bz_token.specs.declared.state.Quote.TheVariants.{Single, Double}
-use Rattle.bz_token.specs.Bytes.{among, is_solid, separators, is_separator, brackets_and_comma, is_quote}
+use Rattle.bz_token.specs.Bytes.{among, is_solid, separators, brackets_and_comma, is_quote}
 use Rattle.bz_token.specs.Lexemes.{IsLexeme, is_mark}
+use Rattle.bz_token.specs.Tokens.{IsToken}
 use Rattle.bz_token.specs.Laws.{OneToken, Begins, Separated, Single as SingleLaw}
 use Rattle.bz_token.specs.private.Machine.{after}
 use Rattle.bz_token.specs.private.Scanner.{move, ends, keyword_or_name}
@@ -54,8 +55,15 @@ one_token c d t r u s h k e =
     let is : t ≡ u = same_front t r u s e (omega arith) in
     (one_class c d t h.lexeme (subst (λ (x : List ℕ). IsLexeme d x) (sym is) k.lexeme), is)
 
--- no state after a lexeme goes on with a separator
-fine_end : (q : State) → (is_none (ends q) || every (λ b. is_none (move q b)) separators) ≡ true
+-- a space, a newline, `,` `:` and brackets
+abbrev pub stop_bytes : List ℕ
+stop_bytes = 32 ∷ 10 ∷ 44 ∷ 58 ∷ 40 ∷ 41 ∷ 91 ∷ 93 ∷ 123 ∷ 125 ∷ []
+
+abbrev pub is_stop : ℕ → Bool
+is_stop b = among b stop_bytes
+
+-- no state after a lexeme goes on with one of these
+fine_end : (q : State) → (is_none (ends q) || every (λ b. is_none (move q b)) stop_bytes) ≡ true
 fine_end Start = refl
 fine_end (Opened Single) = refl
 fine_end (Opened Double) = refl
@@ -63,36 +71,38 @@ fine_end (Empty Single) = refl
 fine_end (Empty Double) = refl
 fine_end _ = refl
 
-stops_before : (q : State) (k : Class) (b : ℕ) (r : List ℕ) → ends q ≡ Some k → is_separator b ≡ true → Stops q (b ∷ r)
+stops_before : (q : State) (k : Class) (b : ℕ) (r : List ℕ) → ends q ≡ Some k → is_stop b ≡ true → Stops q (b ∷ r)
 stops_before q k b r e h =
-    elim (or_cases (is_none (ends q)) (every (λ c. is_none (move q c)) separators) (fine_end q)) [
+    elim (or_cases (is_none (ends q)) (every (λ c. is_none (move q c)) stop_bytes) (fine_end q)) [
       | inl n ↦ absurd (both_ways false refl (rw e at n))
-      | inr n ↦ is_none_at (move q b) (one_of (λ c. is_none (move q c)) separators n b h)
+      | inr n ↦ is_none_at (move q b) (one_of (λ c. is_none (move q c)) stop_bytes n b h)
     ]
 
-not_quote : (b m : ℕ) (r back : List ℕ) → is_separator b ≡ true → is_quote m ≡ true → b ∷ r ≡ m ∷ back → ⊥
-not_quote b m r back h y e =
-    let i : b ≡ m = cc in
-    both_ways (is_quote m) (not-true (is_quote m) (rw i at (one_of (λ c. not (is_quote c)) separators refl b h))) y
+pub not_quote : (b m : ℕ) (r back : List ℕ) → is_quote b ≡ false → is_quote m ≡ true → b ∷ r ≡ m ∷ back → ⊥
+not_quote b m r back h y e = let i : b ≡ m = cc in both_ways (is_quote m) (rw i at h) y
 
-pub separated : Separated
-separated c t r b h n =
+-- each lexeme is a token before such a byte
+pub stop_before : (c : Class) (t r : List ℕ) (b : ℕ) → IsLexeme c t → is_stop b ≡ true → IsToken c t (b ∷ r)
+stop_before c t r b h n =
     let w = state_of c t h in
     record {
       lexeme = h;
       longest = λ d u s is l. longest_at t (b ∷ r) w.0 w.2 (stops_before w.0 w.1 b r w.3 n) d u s is l;
-      no_third = λ p m s k y e i. not_quote b m r s n y i;
+      no_third = λ p m s k y e i. not_quote b m r s (not-true (is_quote b) (one_of (λ c. not (is_quote c)) stop_bytes refl b n)) y i;
     }
 
-abbrev is_ended : Option State → Bool
+pub separated : Separated
+separated c t r b h n = stop_before c t r b h (one_of is_stop separators refl b n)
+
+abbrev pub is_ended : Option State → Bool
 is_ended (Some Ended) = true
 is_ended _ = false
 
-ended_at : (o : Option State) → is_ended o ≡ true → o ≡ Some Ended
+pub ended_at : (o : Option State) → is_ended o ≡ true → o ≡ Some Ended
 ended_at (Some Ended) h = refl
 ended_at _ h = absurd (both_ways false refl h)
 
-nothing_stops : (r : List ℕ) → Stops Ended r
+pub nothing_stops : (r : List ℕ) → Stops Ended r
 nothing_stops [] = tt
 nothing_stops (b ∷ r) = refl
 

@@ -182,14 +182,12 @@ fn run(state: State, text: &[u8], from: usize) -> usize
     ensures within { result ≤ length text.now }
     ensures stays { (k : ℕ) → from ≤ k → k < result → move state (get_or text.now k 0) ≡ Some state }
 {
-    let mut at = from;
-    'bytes: while at < text.len() {
+    for at in from..text.len() {
         if !state.stays(text[at]) {
             return at;
         }
-        at += 1;
     }
-    at
+    text.len()
 }
 
 fn is_keyword(text: &[u8]) -> bool

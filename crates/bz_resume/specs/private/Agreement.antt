@@ -1,5 +1,5 @@
 -- What is tested of a record: step by step, and on the whole.
-use Rattle.std.specs.Prelude.{ℕ, ◌≡◌, ◌+◌, ◌≤◌, Bool, true, ◌&&◌, nat_lt, List, [], ◌∷◌, map, length, reverse, take, drop, slice_index_or, Option, Some, None, if◌then◌else◌}
+use Rattle.std.specs.Prelude.{ℕ, ◌≡◌, ◌+◌, ◌-◌, ◌≤◌, Bool, true, ◌&&◌, nat_lt, List, [], ◌∷◌, map, length, reverse, take, drop, slice_index_or, Option, Some, None, if◌then◌else◌}
 use Rattle.std.specs.Str.{bytes_eq}
 use Rattle.sha2.specs.Sha256.{sha256}
 use Rattle.bz_grammar.specs.declared.tree.Node.{Node}
@@ -11,6 +11,8 @@ use Rattle.bz_history.specs.Trails.{StepLeads, IsTrail, Trail, trail_at}
 use Rattle.bz_history.specs.Shown.{Moves, Text, texts_of}
 use Rattle.bz_journal_format.specs.declared.content.RecordedStep.{RecordedStep}
 use Rattle.bz_journal_format.specs.declared.content.Record.{Record}
+use Rattle.bz_resume.specs.declared.replaying.Way.{Way}
+use Rattle.bz_resume.specs.declared.replaying.Way.TheVariants as w
 use Rattle.bz_resume.specs.declared.resumed.Resumed.{Resumed}
 
 abbrev pub edits_of : List RecordedStep → List (List Edit)
@@ -31,6 +33,15 @@ MayLead es = IsStep es × (are_short es ≡ true)
 -- the step leads to a text with this digest
 abbrev pub StepAgrees : List Edit → Node → Text → Type 0
 StepAgrees e n d = StepLeads e n × (sha256 (spell_node (swap_node e n)) ≡ d)
+
+-- the steps in the order in which they are taken this way, and the place of the one with this number
+abbrev pub as_taken : {A : Type 0} → Way → List A → List A
+as_taken w.On xs = xs
+as_taken w.Back xs = reverse xs
+
+abbrev pub place_taken : Way → ℕ → ℕ → ℕ
+place_taken w.On i count = i
+place_taken w.Back i count = count - 1 - i
 
 -- each step leads on from the tree that those before it lead to, to a text with its digest
 abbrev pub StepsAgree : Node → List (List Edit) → List Text → Type 0

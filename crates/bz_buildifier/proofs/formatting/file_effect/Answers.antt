@@ -1,10 +1,9 @@
-use Rattle.std.proofs.Common.{◌≡◌, ◌∙◌, refl, sym, subst, ap, List, ℕ, true, false, Some, Ok, Err}
-use Rattle.std.specs.FinMap.{get}
+use Rattle.std.proofs.Common.{◌≡◌, ◌∙◌, refl, sym, subst, ap, List, ℕ, true, false, Ok, Err}
 use Rattle.bz_files.specs.Folder.{Folder}
 use Rattle.bz_buildifier.specs.FileKinds.{FormatsAs, is_bzl}
 use Rattle.bz_buildifier.specs.FormatRun as r
 use Rattle.bz_buildifier.specs.FormatRun.{unread, without_memory, unformatted, kept, rewritten, Rewrites, Prints, is_rewritten, file_out, text_status}
-use Rattle.bz_buildifier.proofs.FormatSteps.{quiet, unread_quiet, refused_quiet, rewrites_quiet, whole_file, refused_file}
+use Rattle.bz_buildifier.proofs.FormatSteps.{quiet, unread_quiet, refused_quiet, rewrites_quiet, formatted_file, refused_file}
 use Rattle.bz_buildifier.proofs.formatting.file_effect.Goals as goal
 
 pub returns-in-Err-clause-step : goal.returns-in-Err-clause-step
@@ -41,9 +40,7 @@ returns-then-is_rewritten-clause-step g c = λ honest.
     let new = c.in-Ok-format_named.new in
     let text = c.read_most.new.into.items in
     let found = c.in-Ok.ensures.found honest in
-    let formats : FormatsAs (is_bzl c.args.file_type c.args.name.now) text (Ok new) = subst (λ (t : List ℕ). FormatsAs (is_bzl c.args.file_type c.args.name.now) t (Ok new)) c.deref.ensures.value c.in-Ok-format_named.ensures in
-    let there : get before name ≡ Some text =
-    whole_file (is_bzl c.args.file_type name) before name found.0 c.new-text.result.items text new found.1 found.2 c.new-text.ensures.items formats in
+    let file = formatted_file (is_bzl c.args.file_type name) before name found.0 c.new-text.result.items text c.deref.result.now new found.1 found.2 c.new-text.ensures.items c.deref.ensures.value c.in-Ok-format_named.ensures in
     let differs : is_rewritten c.args.mode text new ≡ true =
     rw (c.deref-2.ensures.value, c.as_slice.ensures) at (sym c.is_rewritten.ensures ∙ c.if-is_rewritten.true) in
     let step = c.rewrite.ensures.step (c.in-Ok.ensures.honest ∙ honest) in
@@ -53,7 +50,7 @@ returns-then-is_rewritten-clause-step g c = λ honest.
     (subst (λ (slice : List ℕ). Rewrites name c.deref-then-is_rewritten.result.now slice (g.F.Files.folder c.read_most.new.self) step.0 after)
     c.as_slice-then-is_rewritten.ensures step.1)) in (
       step.0,
-      rewritten text new there formats differs rewrites,
+      rewritten text new file.0 file.1 differs rewrites,
       step.2,
       quiet c.args.closed step.0 (g.W.Sink.faults c.args.out.now) (g.W.Sink.contents c.args.out.now) (rewrites_quiet name text new before after step.0 rewrites),
       step.3,
@@ -67,9 +64,7 @@ returns-in-Ok-file_out-clause-step g c = λ honest.
     let new = c.in-Ok-format_named.new in
     let text = c.read_most.new.into.items in
     let found = c.in-Ok.ensures.found honest in
-    let formats : FormatsAs (is_bzl c.args.file_type c.args.name.now) text (Ok new) = subst (λ (t : List ℕ). FormatsAs (is_bzl c.args.file_type c.args.name.now) t (Ok new)) c.deref.ensures.value c.in-Ok-format_named.ensures in
-    let there : get before name ≡ Some text =
-    whole_file (is_bzl c.args.file_type name) before name found.0 c.new-text.result.items text new found.1 found.2 c.new-text.ensures.items formats in
+    let file = formatted_file (is_bzl c.args.file_type name) before name found.0 c.new-text.result.items text c.deref.result.now new found.1 found.2 c.new-text.ensures.items c.deref.ensures.value c.in-Ok-format_named.ensures in
     let stays : is_rewritten mode text new ≡ false =
     rw (c.deref-2.ensures.value, c.as_slice.ensures) at (sym c.is_rewritten.ensures ∙ c.if-is_rewritten.false) in
     let out : c.as_slice-in-Ok-file_out.result.now ≡ file_out mode name text new =
@@ -80,7 +75,7 @@ returns-in-Ok-file_out-clause-step g c = λ honest.
     let prints : Prints c.args.closed (file_out mode name text new) (text_status mode text new) step.0 =
     subst (λ (bytes : List ℕ). Prints c.args.closed bytes (text_status mode text new) step.0) out
     (subst (λ (n : ℕ). Prints c.args.closed c.as_slice-in-Ok-file_out.result.now n step.0) status step.1) in
-    (step.0, kept text new there formats stays prints (c.in-Ok.ensures.same honest), step.2, step.3, step.4)
+    (step.0, kept text new file.0 file.1 stays prints (c.in-Ok.ensures.same honest), step.2, step.3, step.4)
 
 pub returns-clause-step : goal.returns-clause-step
 returns-clause-step g c = λ honest.

@@ -1,43 +1,37 @@
-use Rattle.std.proofs.Common.{◌≡◌, ◌∙◌, subst}
+use Rattle.std.proofs.Common.{◌≡◌, ◌∙◌, subst, List, ℕ}
 use Rattle.bz_files.specs.Folder.{Elapses, SameBut, Text}
 use Rattle.bz_files.specs.Pair.{IsNew, IsChecking, with_both}
+use Rattle.bz_files.specs.declared.files.Files.{Ghosts as FilesOf}
 use Rattle.bz_files.proofs.Elapsing.{stays}
 use Rattle.bz_resume.specs.Pair.{journal_name}
 use Rattle.bz_resume.proofs.pair.write_pair.Goals as goal
 
+-- the time of a call that was given the journal's name
+elapsed : {F : Type 0} (f : FilesOf F) (old new : F) (standing : Text) (stored : List ℕ) (file : Text) (text : List ℕ) (name : Text) → name ≡ journal_name file
+    → Elapses (f.moment old) (f.moment new) (f.since old) (f.since new) (IsChecking standing name stored file text (f.folder old))
+    → Elapses (f.moment old) (f.moment new) (f.since old) (f.since new) (IsChecking standing (journal_name file) stored file text (f.folder old))
+elapsed f old new standing stored file text name =
+    subst (λ (j : Text). Elapses (f.moment old) (f.moment new) (f.since old) (f.since new) (IsChecking standing j stored file text (f.folder old)))
+
 pub returns-in-Ok-rewrite_pair-clause-time : goal.returns-in-Ok-rewrite_pair-clause-time
 returns-in-Ok-rewrite_pair-clause-time g c honest =
-    let f = g.F.Files in
-    let args = c.args in
-    let old = args.files.now in
-    let new = c.rewrite_pair.new.self in
-    let named : c.as_str.result.now ≡ journal_name args.file.now = c.as_str.ensures.value ∙ c.in-Ok.ensures in
-    subst (λ (j : Text). Elapses (f.moment old) (f.moment new) (f.since old) (f.since new) (IsChecking args.standing.now j args.stored.now args.file.now args.text.now (f.folder old))) named
-    (c.rewrite_pair.ensures.time honest)
+    elapsed g.F.Files c.args.files.now c.rewrite_pair.new.self c.args.change.standing.now c.args.change.stored.now c.args.change.file.now c.args.change.text.now
+    c.as_str.result.now (c.as_str.ensures.value ∙ c.in-Ok.ensures) (c.rewrite_pair.ensures.time honest)
 
 pub returns-in-Ok-rewrite_pair-clause-replaced : goal.returns-in-Ok-rewrite_pair-clause-replaced
 returns-in-Ok-rewrite_pair-clause-replaced g c honest =
-    let f = g.F.Files in
-    let args = c.args in
-    let old = args.files.now in
-    let new = c.rewrite_pair.new.self in
-    let named : c.as_str.result.now ≡ journal_name args.file.now = c.as_str.ensures.value ∙ c.in-Ok.ensures in
-    subst (λ (j : Text). SameBut (IsNew j args.file.now) (with_both j args.stored.now args.file.now args.text.now (f.folder old)) (f.folder new)) named
-    (c.in-Ok-rewrite_pair.ensures.replaced honest)
+    let change = c.args.change in
+    subst (λ (j : Text). SameBut (IsNew j change.file.now) (with_both j change.stored.now change.file.now change.text.now (g.F.Files.folder c.args.files.now)) (g.F.Files.folder c.rewrite_pair.new.self))
+    (c.as_str.ensures.value ∙ c.in-Ok.ensures) (c.in-Ok-rewrite_pair.ensures.replaced honest)
 
 pub returns-in-Ok-clause-time : goal.returns-in-Ok-clause-time
 returns-in-Ok-clause-time g c honest =
-    let f = g.F.Files in
-    let args = c.args in
-    let old = args.files.now in
-    let new = c.rewrite_pair.new.self in
-    let named : c.as_str.result.now ≡ journal_name args.file.now = c.as_str.ensures.value ∙ c.in-Ok.ensures in
-    subst (λ (j : Text). Elapses (f.moment old) (f.moment new) (f.since old) (f.since new) (IsChecking args.standing.now j args.stored.now args.file.now args.text.now (f.folder old))) named
-    (c.rewrite_pair.ensures.time honest)
+    elapsed g.F.Files c.args.files.now c.rewrite_pair.new.self c.args.change.standing.now c.args.change.stored.now c.args.change.file.now c.args.change.text.now
+    c.as_str.result.now (c.as_str.ensures.value ∙ c.in-Ok.ensures) (c.rewrite_pair.ensures.time honest)
 
 pub returns-clause-time : goal.returns-clause-time
 returns-clause-time g c honest =
     let f = g.F.Files in
-    let args = c.args in
-    let old = args.files.now in
-    stays (f.moment old) (f.since old) (IsChecking args.standing.now (journal_name args.file.now) args.stored.now args.file.now args.text.now (f.folder old))
+    let change = c.args.change in
+    let old = c.args.files.now in
+    stays (f.moment old) (f.since old) (IsChecking change.standing.now (journal_name change.file.now) change.stored.now change.file.now change.text.now (f.folder old))

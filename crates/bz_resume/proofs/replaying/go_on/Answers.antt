@@ -1,6 +1,0 @@
-use Rattle.bz_resume.specs.private.Agreement.{StepsAgree}
-use Rattle.bz_resume.proofs.Loops.{agrees_of}
-use Rattle.bz_resume.proofs.replaying.go_on.Goals as goal
-
-pub returns-clause-agrees : goal.returns-clause-agrees
-returns-clause-agrees c = agrees_of (λ z. StepsAgree z c.args.steps.now c.args.digests.now) c.args.text.now c.in_ok-tree.tree c.in_ok-agrees.agrees c.in_ok-tree.ensures.ok c.in_ok-agrees.ensures

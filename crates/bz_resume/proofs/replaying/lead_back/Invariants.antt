@@ -1,6 +1,0 @@
-use Rattle.std.proofs.Common.{reverse}
-use Rattle.bz_resume.proofs.Loops.{IsGoing}
-use Rattle.bz_resume.proofs.replaying.lead_back.Given as goal
-
-abbrev pub invariant-loop-i : goal.invariant-loop-i
-invariant-loop-i l = IsGoing l.fn.tree (reverse l.fn.steps) (reverse l.fn.digests) l.i l.node l.text.items
