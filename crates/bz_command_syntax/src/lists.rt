@@ -1,5 +1,5 @@
 //! What the commands read whose words are each something: entries of dicts, symbols, fields.
-ghost use Rattle.std.specs.Prelude.{◌≡◌, ◌⊎◌, [], Some, None, IfOk, IfErr, MatchOption, position, ◌==◌};
+ghost use Rattle.std.specs.Prelude.{◌≡◌, ◌⊎◌, ◌∷◌, [], codes, true, Some, None, IfOk, IfErr, MatchOption, position, ◌==◌};
 ghost use Rattle.bz_command_syntax.specs.Commands as c;
 ghost use Rattle.bz_command_syntax.specs.Refused.{IsReadAs};
 
@@ -90,21 +90,21 @@ fn entries_of(mut words: Vec<Text>) -> Result<(Text, Items<Entry>), CommandFault
 }
 
 pub(crate) fn dict_add_of(words: Vec<Text>) -> Read
-    ensures { IsReadAs (c.dict_add_of words.items) result }
+    ensures { IsReadAs (c.command_in true (codes "dict_add" ∷ words.items)) result }
 {
     let (attribute, entries) = entries_of(words)?;
     Ok(Operation::Dict(DictOperation::Add { attribute, entries }))
 }
 
 pub(crate) fn dict_set_of(words: Vec<Text>) -> Read
-    ensures { IsReadAs (c.dict_set_of words.items) result }
+    ensures { IsReadAs (c.command_in true (codes "dict_set" ∷ words.items)) result }
 {
     let (attribute, entries) = entries_of(words)?;
     Ok(Operation::Dict(DictOperation::Set { attribute, entries }))
 }
 
 pub(crate) fn dict_remove_of(words: Vec<Text>) -> Read
-    ensures { result ≡ c.dict_remove_of words.items }
+    ensures { result ≡ c.command_in true (codes "dict_remove" ∷ words.items) }
 {
     let (attribute, keys) = attribute_and_values(words)?;
     Ok(Operation::Dict(DictOperation::Remove { attribute, keys }))
@@ -138,7 +138,7 @@ impl FromWord for Symbol {
 }
 
 pub(crate) fn new_load_of(mut words: Vec<Text>) -> Read
-    ensures { IsReadAs (c.new_load_of words.items) result }
+    ensures { IsReadAs (c.command_in true (codes "new_load" ∷ words.items)) result }
 {
     let path = take_first(&mut words)?;
     if !has_values(&words) {
@@ -199,7 +199,7 @@ fn fields_of(words: Vec<Text>) -> Result<Items<Field>, CommandFault>
 }
 
 pub(crate) fn print_of(words: Vec<Text>) -> Read
-    ensures { IsReadAs (c.print_of words.items) result }
+    ensures { IsReadAs (c.command_in true (codes "print" ∷ words.items)) result }
 {
     let fields = fields_of(words)?;
     Ok(Operation::Print { fields })

@@ -1,5 +1,5 @@
 //! What the commands read whose words have a form of their own: those on rules, attributes, values and comments, and `fix`.
-ghost use Rattle.std.specs.Prelude.{◌≡◌, ◌∷◌, false, Some, None, MatchResult};
+ghost use Rattle.std.specs.Prelude.{◌≡◌, ◌∷◌, codes, true, false, Some, None, MatchResult};
 ghost use Rattle.std.specs.Option.{ok_or};
 ghost use Rattle.std.specs.List.{list_any};
 ghost use Rattle.bz_command_syntax.specs.Commands as c;
@@ -68,7 +68,7 @@ fn rule_place(words: Vec<Text>) -> Option<RulePlace>
 }
 
 pub(crate) fn new_of(mut words: Vec<Text>) -> Read
-    ensures { result ≡ c.new_of words.items }
+    ensures { result ≡ c.command_in true (codes "new" ∷ words.items) }
 {
     let kind = take_first(&mut words)?;
     let name = take_first(&mut words)?;
@@ -124,7 +124,7 @@ pub(crate) fn set_if_absent_of(words: Vec<Text>) -> Read
 }
 
 pub(crate) fn add_of(words: Vec<Text>) -> Read
-    ensures { result ≡ c.add_of words.items }
+    ensures { result ≡ c.command_in true (codes "add" ∷ words.items) }
 {
     let (attribute, values) = attribute_and_values(words)?;
     Ok(Operation::Value(ValueOperation::Add { attribute, values }))
@@ -146,7 +146,7 @@ pub(crate) fn remove_of(mut words: Vec<Text>) -> Read
 }
 
 pub(crate) fn replace_of(words: Vec<Text>) -> Read
-    ensures { result ≡ c.replace_of words.items }
+    ensures { result ≡ c.command_in true (codes "replace" ∷ words.items) }
 {
     let (attributes, old, new) = attributes_and_words(words)?;
     Ok(Operation::Value(ValueOperation::Replace {
@@ -157,7 +157,7 @@ pub(crate) fn replace_of(words: Vec<Text>) -> Read
 }
 
 pub(crate) fn move_of(mut words: Vec<Text>) -> Read
-    ensures { result ≡ c.move_of words.items }
+    ensures { result ≡ c.command_in true (codes "move" ∷ words.items) }
 {
     let from = take_first(&mut words)?;
     let to = take_first(&mut words)?;
@@ -181,21 +181,21 @@ fn two_attributes(mut words: Vec<Text>) -> Result<(Text, Text), CommandFault>
 }
 
 pub(crate) fn rename_of(words: Vec<Text>) -> Read
-    ensures { result ≡ c.rename_of words.items }
+    ensures { result ≡ c.command_in true (codes "rename" ∷ words.items) }
 {
     let (from, to) = two_attributes(words)?;
     Ok(Operation::Attribute(AttributeOperation::Rename { from, to }))
 }
 
 pub(crate) fn copy_of(words: Vec<Text>) -> Read
-    ensures { result ≡ c.copy_of words.items }
+    ensures { result ≡ c.command_in true (codes "copy" ∷ words.items) }
 {
     let (attribute, rule) = attribute_and_word(words)?;
     Ok(Operation::Attribute(AttributeOperation::Copy { attribute, rule }))
 }
 
 pub(crate) fn copy_no_overwrite_of(words: Vec<Text>) -> Read
-    ensures { result ≡ c.copy_no_overwrite_of words.items }
+    ensures { result ≡ c.command_in true (codes "copy_no_overwrite" ∷ words.items) }
 {
     let (attribute, rule) = attribute_and_word(words)?;
     Ok(Operation::Attribute(AttributeOperation::CopyNoOverwrite { attribute, rule }))
@@ -204,7 +204,7 @@ pub(crate) fn copy_no_overwrite_of(words: Vec<Text>) -> Read
 /// The pattern is compiled last, so that what is wrong with the words is reported first.
 pub(crate) fn substitute_of(words: Vec<Text>) -> Read
     requires { AreUtf8 words.items }
-    ensures { IsReadAs (c.substitute_of words.items) result }
+    ensures { IsReadAs (c.command_in true (codes "substitute" ∷ words.items)) result }
 {
     let alloc = *words.allocator();
     let (attributes, pattern, template) = attributes_and_words(words)?;
@@ -246,9 +246,9 @@ fn is_one_line(text: &Text) -> bool
     !text.as_slice().contains(&b'\n')
 }
 
-#[tactic(auto, using(crate::proofs::CommentWords::comment_cut))]
+#[tactic(auto, using(crate::proofs::CommentWords::comment_cut, crate::proofs::CommentWords::comment_refused))]
 pub(crate) fn comment_of(mut words: Vec<Text>) -> Read
-    ensures { result ≡ c.comment_of words.items }
+    ensures { result ≡ c.command_in true (codes "comment" ∷ words.items) }
 {
     let Some(text) = words.pop() else {
         return Err(CommandFault::Arguments);
@@ -261,14 +261,14 @@ pub(crate) fn comment_of(mut words: Vec<Text>) -> Read
 }
 
 pub(crate) fn print_comment_of(words: Vec<Text>) -> Read
-    ensures { result ≡ c.print_comment_of words.items }
+    ensures { result ≡ c.command_in true (codes "print_comment" ∷ words.items) }
 {
     let host = host_of(words).ok_or(CommandFault::Arguments)?;
     Ok(Operation::Comment(CommentOperation::Print { host }))
 }
 
 pub(crate) fn remove_comment_of(words: Vec<Text>) -> Read
-    ensures { result ≡ c.remove_comment_of words.items }
+    ensures { result ≡ c.command_in true (codes "remove_comment" ∷ words.items) }
 {
     let host = host_of(words).ok_or(CommandFault::Arguments)?;
     Ok(Operation::Comment(CommentOperation::Remove { host }))
@@ -324,7 +324,7 @@ fn fixes_of(words: &[Text]) -> Option<Fixes>
 }
 
 pub(crate) fn fix_of(words: Vec<Text>) -> Read
-    ensures { result ≡ c.fix_of words.items }
+    ensures { result ≡ c.command_in true (codes "fix" ∷ words.items) }
 {
     let fixes = fixes_of(&words).ok_or(CommandFault::Arguments)?;
     Ok(Operation::Load(LoadOperation::Fix { fixes }))

@@ -102,6 +102,7 @@ fn read_named(name: &str, words: Vec<Text>) -> Read
 }
 
 // What is reported of a text that is too long: an unknown name first. The further words are not read.
+#[tactic(auto, using(crate::proofs::Named::too_long))]
 fn too_long(name: &str) -> CommandFault
     ensures { (words : _) → c.command_in false (name.now ∷ words) ≡ Err result }
 {

@@ -37,7 +37,7 @@ fn is_dropped(byte: u8, rest: &[u8]) -> bool
 }
 
 /// Reads a byte: a space that separates ends the word, a backslash that is dropped is passed over, and any other byte goes to the word.
-#[tactic(auto, using(crate::proofs::Pieces::words_at_backslash, crate::proofs::Pieces::words_at_byte))]
+#[tactic(auto, using(crate::proofs::Pieces::word_ended, crate::proofs::Pieces::words_at_backslash, crate::proofs::Pieces::words_at_byte))]
 fn read_byte(
     alloc: Global,
     byte: u8,
