@@ -132,6 +132,7 @@ pub const TEXT_LIMIT: usize = 65_536;
 
 impl Command {
     /// The command of these words; `fits` says that their text is not too long. The errors are those of `read`.
+    #[tactic(auto, using(crate::proofs::ProperCommands::read_proper))]
     pub fn of_words(words: Vec<Text>, fits: bool) -> Result<Command, CommandFault>
         requires { AreUtf8 words.items }
         ensures ok { IfOk result (λ command. c.command_in fits words.items ≡ Ok command) }
