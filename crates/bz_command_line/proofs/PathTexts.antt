@@ -1,8 +1,5 @@
 -- The package of a target that is read in a text of characters.
-use Rattle.std.proofs.Common.{◌≡◌, ◌++◌, List, [], ◌∷◌, false, Result, Ok, Err, All, IsUtf8, codes, subst, sym, inl, inr, arith, append_assoc}
-use Rattle.std.specs.Prelude.{if◌then◌else◌}
-use Rattle.std.specs.Result.{is_ok, is_err}
-use Rattle.std.proofs.lemmas.Bool.{true≢false}
+use Rattle.std.proofs.Common.{◌≡◌, ◌++◌, List, [], ◌∷◌, All, IsUtf8, codes, subst, sym, inl, inr, arith, append_assoc}
 use Rattle.std.proofs.lemmas.List.Elements.{All-nil, All-cons, All-append}
 use Rattle.bz_items.specs.Characters.{Bytes}
 use Rattle.bz_label.specs.Targets.{IsSpelled, IsTarget}
@@ -28,9 +25,3 @@ has_path text target is u = (path_utf8 text target.«package» is.word is.spelle
 pub all_more : {X : Type 0} (P : X → Type 0) (old new : List X) (last : X) → new ≡ old ++ last ∷ [] → All P old → P last → All P new
 all_more P old new last split each one =
     subst (All P) (sym split) (All-append P old (last ∷ []) each (All-cons P last [] one (All-nil P)))
-
--- an element is pushed
-pub all_pushed : {X E : Type 0} (P : X → Type 0) (old new : List X) (last : X) (result : Result (Unit {0}) E)
-    → new ≡ (if is_ok result then old ++ last ∷ [] else old) → is_err result ≡ false → All P old → P last → All P new
-all_pushed P old new last (Ok done) split ok each one = all_more P old new last split each one
-all_pushed P old new last (Err fault) split ok each one = absurd (true≢false ok)

@@ -1,6 +1,6 @@
 -- The command line of buildozer, as clap's rules.
 use Rattle.std.specs.Prelude.{Some, [], codes, true}
-use Rattle.clap.specs.Words.{App, Rule, new_app, new_rule, with_rule}
+use Rattle.clap.specs.Words.{App, Rule, Text, new_app, new_rule, with_rule}
 use Rattle.clap.specs.declared.builder.action.ArgAction.TheVariants.{SetTrue, Append}
 use Rattle.bz_items.specs.Characters.{letter_f, letter_k}
 
@@ -12,17 +12,9 @@ keep_going_rule = record (new_rule (codes "keep_going")) { short = Some letter_k
 abbrev pub script_rule : Rule
 script_rule = record (new_rule (codes "file")) { short = Some letter_f; value_names = 1 }
 
--- `--stdout`: what a file becomes goes to standard output
-abbrev pub stdout_rule : Rule
-stdout_rule = record (new_rule (codes "stdout")) { long = Some (codes "stdout"); action = Some SetTrue }
-
--- `--quiet`: nothing is printed of what was done
-abbrev pub quiet_rule : Rule
-quiet_rule = record (new_rule (codes "quiet")) { long = Some (codes "quiet"); action = Some SetTrue }
-
--- `--journal`: a journal is kept beside each file
-abbrev pub journal_rule : Rule
-journal_rule = record (new_rule (codes "journal")) { long = Some (codes "journal"); action = Some SetTrue }
+-- an option of this name without a value
+abbrev pub flag_rule : Text → Rule
+flag_rule name = record (new_rule name) { long = Some name; action = Some SetTrue }
 
 abbrev pub operand_rule : Rule
 operand_rule = record (new_rule (codes "operand")) { action = Some Append; value_names = 1 }
@@ -35,9 +27,9 @@ nameless = let app = new_app (codes "buildozer") in record { top = record app.to
 abbrev pub lines_app : App
 lines_app = with_rule (with_rule nameless keep_going_rule) script_rule
 
--- and what becomes of files
+-- and what becomes of files: to standard output, without a report, with a journal beside each
 abbrev pub options_app : App
-options_app = with_rule (with_rule (with_rule lines_app stdout_rule) quiet_rule) journal_rule
+options_app = with_rule (with_rule (with_rule lines_app (flag_rule (codes "stdout"))) (flag_rule (codes "quiet"))) (flag_rule (codes "journal"))
 
 -- buildozer [-k] [-f FILE] [--stdout] [--quiet] [--journal] [OPERAND..]
 abbrev pub buildozer_app : App

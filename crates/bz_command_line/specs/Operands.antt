@@ -13,9 +13,8 @@ use Rattle.bz_command_syntax.specs.Words.{words_of}
 use Rattle.bz_command_syntax.specs.declared.command.Operation.{Operation}
 use Rattle.bz_command_syntax.specs.declared.fault.CommandFault.{CommandFault}
 use Rattle.bz_command_syntax.specs.declared.fault.CommandFault.TheVariants as c
-use Rattle.bz_command_line.specs.declared.verb.Verb.{Verb}
+use Rattle.bz_command_line.specs.declared.{verb.Verb.Verb, verb.OperandFault.OperandFault}
 use Rattle.bz_command_line.specs.declared.verb.Verb.TheVariants.{Do, Undo, Redo, Journal}
-use Rattle.bz_command_line.specs.declared.verb.OperandFault.{OperandFault}
 use Rattle.bz_command_line.specs.declared.verb.OperandFault.TheVariants.{Memory, BadTarget, Command}
 
 abbrev pub begins_with : Bytes → Bytes → Bool

@@ -3,8 +3,7 @@ use Rattle.std.specs.Prelude.{ℕ, List, [], ◌∷◌, ◌++◌, if◌then◌el
 use Rattle.bz_items.specs.Characters.{Bytes}
 use Rattle.bz_label.specs.declared.target.Target.{Target}
 use Rattle.bz_command_line.specs.Operands.{is_target, operand_target, verb_of}
-use Rattle.bz_command_line.specs.declared.verb.Verb.{Verb}
-use Rattle.bz_command_line.specs.declared.verb.OperandFault.{OperandFault}
+use Rattle.bz_command_line.specs.declared.{verb.Verb.Verb, verb.OperandFault.OperandFault}
 
 -- a command, and its text
 pub record Request : Type 0 where

@@ -3,18 +3,10 @@ use Rattle.std.specs.Prelude.{map, option_map, ◌++◌, Option, Some, None}
 use Rattle.bz_items.specs.Characters.{Bytes}
 use Rattle.bz_command_line.specs.Requested as a
 use Rattle.bz_command_line.specs.Line as l
-use Rattle.bz_command_line.specs.declared.requested.Requested.{Requested}
-use Rattle.bz_command_line.specs.declared.requested.Request.{Request}
-use Rattle.bz_command_line.specs.declared.requested.Refused.{Refused}
-use Rattle.bz_command_line.specs.declared.group.UsageFault.{UsageFault}
-use Rattle.bz_command_line.specs.declared.group.UsageFault.TheVariants as u
-use Rattle.bz_command_line.specs.declared.script.ScriptFault.{ScriptFault}
+use Rattle.bz_command_line.specs.declared.{requested.Requested.Requested, requested.Request.Request, requested.Refused.Refused, requested.UsageFault.UsageFault, script.ScriptFault.ScriptFault, hint.Hint.Hint, line.Given.Given, line.CommandLine.CommandLine, line.LineFault.LineFault}
+use Rattle.bz_command_line.specs.declared.requested.UsageFault.TheVariants as u
 use Rattle.bz_command_line.specs.declared.script.ScriptFault.TheVariants as s
-use Rattle.bz_command_line.specs.declared.hint.Hint.{Hint}
-use Rattle.bz_command_line.specs.declared.line.Given.{Given}
 use Rattle.bz_command_line.specs.declared.line.Given.TheVariants as g
-use Rattle.bz_command_line.specs.declared.line.CommandLine.{CommandLine}
-use Rattle.bz_command_line.specs.declared.line.LineFault.{LineFault}
 use Rattle.bz_command_line.specs.declared.line.LineFault.TheVariants as f
 
 abbrev pub given_in : Given → l.Given

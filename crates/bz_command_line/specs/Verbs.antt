@@ -3,9 +3,8 @@ use Rattle.std.specs.Prelude.{ℕ, codes, Bool, true, false}
 use Rattle.bz_items.specs.Characters.{Bytes}
 use Rattle.bz_command_syntax.specs.Faults as c
 use Rattle.bz_command_syntax.specs.Printing as p
-use Rattle.bz_command_line.specs.declared.verb.OperandFault.{OperandFault}
+use Rattle.bz_command_line.specs.declared.{verb.OperandFault.OperandFault, verb.Verb.Verb}
 use Rattle.bz_command_line.specs.declared.verb.OperandFault.TheVariants.{Memory, BadTarget, Command}
-use Rattle.bz_command_line.specs.declared.verb.Verb.{Verb}
 use Rattle.bz_command_line.specs.declared.verb.Verb.TheVariants.{Do, Undo, Redo, Journal}
 
 -- a command that prints

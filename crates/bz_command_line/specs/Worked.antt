@@ -12,10 +12,8 @@ use Rattle.bz_command_line.specs.Line.{CommandLine, Given, operands, script, of_
 use Rattle.bz_command_line.specs.Operands.{operand_target, verb_of}
 use Rattle.bz_command_line.specs.Script.{byte_order_mark, script_of}
 use Rattle.bz_command_line.specs.Verbs.{prints}
-use Rattle.bz_command_line.specs.declared.line.Options.{Options}
-use Rattle.bz_command_line.specs.declared.verb.OperandFault.{OperandFault}
+use Rattle.bz_command_line.specs.declared.{line.Options.Options, verb.OperandFault.OperandFault, verb.Verb.Verb}
 use Rattle.bz_command_line.specs.declared.verb.OperandFault.TheVariants.{BadTarget, Command}
-use Rattle.bz_command_line.specs.declared.verb.Verb.{Verb}
 use Rattle.bz_command_line.specs.declared.verb.Verb.TheVariants.{Do, Undo, Redo, Journal}
 
 abbrev plain : Options

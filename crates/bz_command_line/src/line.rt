@@ -1,8 +1,7 @@
 //! The words of a command line: options, and where commands and targets are.
-ghost use Rattle.std.specs.Prelude.{◌≡◌, [], false, Some, Ok, Err, IfOk, IfErr, IfSome, map};
-ghost use Rattle.clap.specs.Words.{app_of, new_rule, rule_of, found_of, fault_of, matches_of, rows_of};
-ghost use Rattle.clap.specs.declared.builder.action.ArgAction.TheVariants.{SetTrue};
-ghost use Rattle.bz_command_line.specs.App.{nameless, buildozer_app, lines_app, options_app, keep_going_rule, script_rule, operand_rule};
+ghost use Rattle.std.specs.Prelude.{◌≡◌, [], false, Ok, Err, IfOk, IfErr, IfSome, map};
+ghost use Rattle.clap.specs.Words.{app_of, rule_of, found_of, fault_of, matches_of, rows_of};
+ghost use Rattle.bz_command_line.specs.App.{nameless, buildozer_app, lines_app, options_app, flag_rule, keep_going_rule, script_rule, operand_rule};
 ghost use Rattle.bz_command_line.specs.Line.{is_flag_set, options_of, given_of, command_line_of};
 ghost use Rattle.bz_command_line.specs.Shown.{given_in, line_in, line_usage_in};
 
@@ -90,7 +89,7 @@ fn file<'a>(alloc: Global) -> Arg<'a>
 
 // An option of this name without a value.
 fn flag<'a>(alloc: Global, name: &'a str, help: &'a str) -> Arg<'a>
-    ensures rule { rule_of result ≡ record (new_rule name.entry.now) { long = Some name.entry.now; action = Some SetTrue } }
+    ensures rule { rule_of result ≡ flag_rule name.entry.now }
     ensures local { result.global ≡ false }
 {
     Arg::new(alloc, name)

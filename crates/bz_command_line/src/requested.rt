@@ -1,17 +1,16 @@
-//! What the operands of a line request.
-ghost use Rattle.std.specs.Prelude.{◌≡◌, ◌⊎◌, Ok, Err, IfOk, IfErr, OnOk, map};
+//! What the operands of one line request: its commands and its targets.
+ghost use Rattle.std.specs.Prelude.{◌≡◌, ◌≢◌, ◌⊎◌, Ok, Err, Some, None, IfOk, IfErr, IfSome, OnOk, map};
 ghost use Rattle.std.specs.List.{All};
 ghost use Rattle.bz_command_line.specs.Requested as a;
-ghost use Rattle.bz_command_line.specs.Operands.{operand_target, verb_of};
+ghost use Rattle.bz_command_line.specs.Operands.{is_target, operand_target, verb_of};
 ghost use Rattle.bz_command_line.specs.Paths.{HasPath};
-ghost use Rattle.bz_command_line.specs.Refused.{IsFirstRefused, IsOperandFault, IsPatternFault};
-ghost use Rattle.bz_command_line.specs.Shown.{requested_in, refused_in};
+ghost use Rattle.bz_command_line.specs.Refused.{IsFirstRefused, IsGroupFault, IsOperandFault, IsPatternFault};
+ghost use Rattle.bz_command_line.specs.Shown.{requested_in, refused_in, usage_in};
 ghost use Rattle.bz_command_line.specs.declared.verb.OperandFault.{OperandFault};
 
-use crate::target::{is_target, read_target};
 use crate::verb::{OperandFault, Verb, read_verb};
-use bz_label::Target;
-use std::alloc::Global;
+use bz_label::{Target, TargetFault};
+use std::alloc::{AllocError, Global};
 
 /// A command, and its text.
 #[derive(Debug, Drop)]
@@ -34,6 +33,52 @@ pub struct Refused<'a> {
     pub fault: OperandFault,
 }
 
+/// Why operands request nothing.
+#[derive(Debug, Drop)]
+pub enum UsageFault<'a> {
+    /// The first operand that is refused.
+    Operand(Refused<'a>),
+    /// There is no command.
+    NoCommand,
+    /// There is no target.
+    NoTarget,
+    /// A growth was refused.
+    Memory,
+}
+
+impl From<AllocError> for UsageFault<'_> {
+    ghost use Rattle.std.specs.Prelude.{◌≡◌};
+    ghost use Rattle.bz_command_line.specs.declared.requested.UsageFault.TheVariants as fault;
+
+    ghost from_gives = { λ _ made. made ≡ fault.Memory };
+
+    fn from(_refused: AllocError) -> Self {
+        UsageFault::Memory
+    }
+}
+
+// Whether an operand is a target: it has no space, and it holds a colon or begins with two slashes. Every other
+// operand is a command.
+fn is_target(operand: &[u8]) -> bool
+    ensures { result ≡ is_target operand.now }
+{
+    !operand.contains(&b' ')
+        && (operand.contains(&b':') || operand.strip_prefix(b"//".as_slice()).is_some())
+}
+
+// The target of this text. Errors: `BadTarget`: it is none; `Memory`: a growth was refused.
+#[tactic(auto, using(crate::proofs::PathTexts::has_path))]
+fn read_target(alloc: Global, text: &str) -> Result<Target, OperandFault>
+    ensures answered { (result ≡ operand_target text.now) ⊎ (result ≡ Err OperandFault.Memory) }
+    ensures paths { IfOk result HasPath }
+{
+    match Target::read(alloc, text) {
+        Ok(target) => Ok(target),
+        Err(TargetFault::BadTarget) => Err(OperandFault::BadTarget),
+        Err(TargetFault::Memory) => Err(OperandFault::Memory),
+    }
+}
+
 fn add_target(
     alloc: Global,
     requested: &mut Requested<'_>,
@@ -43,10 +88,12 @@ fn add_target(
     ensures err { IfErr result (λ fault. (operand_target operand.now ≡ Err fault) ⊎ (fault ≡ OperandFault.Memory)) }
     ensures paths { All HasPath requested.old.targets.items → OnOk result (All HasPath requested.new.targets.items) }
 {
-    let target = read_target(alloc, operand)?;
-    if requested.targets.push(target).is_err() {
+    // The room comes first: a push that fails gives the target back, and the proof that it is dropped is long.
+    if requested.targets.reserve(1).is_err() {
         return Err(OperandFault::Memory);
     }
+    let target = read_target(alloc, operand)?;
+    requested.targets.push_reserved(target);
     Ok(())
 }
 
@@ -60,7 +107,6 @@ fn add_command<'a>(
         ⊎ (fault ≡ OperandFault.Memory)) }
     ensures paths { All HasPath requested.old.targets.items → OnOk result (All HasPath requested.new.targets.items) }
 {
-    // The room comes first: a push that fails gives the command back, and the proof that it is dropped is long.
     if requested.commands.reserve(1).is_err() {
         return Err(OperandFault::Memory);
     }
@@ -88,11 +134,8 @@ fn add<'a>(
     }
 }
 
-/// What the operands request. The error is the first operand that is refused, in order, or memory.
-pub(crate) fn read_requested<'a>(
-    alloc: Global,
-    operands: &[&'a str],
-) -> Result<Requested<'a>, Refused<'a>>
+// What the operands request. The error is the first operand that is refused, in order, or memory.
+fn read_requested<'a>(alloc: Global, operands: &[&'a str]) -> Result<Requested<'a>, Refused<'a>>
     ensures ok { IfOk result (λ requested. a.requested_of (map (λ s. s.now) operands.now) ≡ Ok (requested_in requested)) }
     ensures err { IfErr result (λ refused. IsFirstRefused (map (λ s. s.now) operands.now) (refused_in refused)
         ⊎ (refused.fault ≡ OperandFault.Memory)) }
@@ -107,6 +150,37 @@ pub(crate) fn read_requested<'a>(
             Ok(()) => {}
             Err(fault) => return Err(Refused { operand, fault }),
         }
+    }
+    Ok(requested)
+}
+
+fn usage_fault(refused: Refused<'_>) -> UsageFault<'_>
+    ensures { (usage_in result ≡ Some (a.of_operand (refused_in refused.entry))) × (refused.entry.fault ≢ OperandFault.Memory)
+        ⊎ (usage_in result ≡ None) }
+{
+    match refused.fault {
+        OperandFault::Memory => UsageFault::Memory,
+        _ => UsageFault::Operand(refused),
+    }
+}
+
+/// What the operands of one line request: commands and targets, at least one of each, in order. The package of each target
+/// is text in UTF-8, of at most 65,536 bytes. Errors, in this order: `Operand` where one is refused, which is the first
+/// such; `NoCommand`; `NoTarget`; and `Memory` where a growth was refused.
+pub fn read_group<'a>(alloc: Global, operands: &[&'a str]) -> Result<Requested<'a>, UsageFault<'a>>
+    ensures ok { IfOk result (λ requested. a.operand_group (map (λ s. s.now) operands.now) ≡ Ok (requested_in requested)) }
+    ensures err { IfErr result (λ fault. IfSome (usage_in fault) (IsGroupFault (map (λ s. s.now) operands.now))) }
+    ensures paths { IfOk result (λ requested. All HasPath requested.targets.items) }
+{
+    let requested = match read_requested(alloc, operands) {
+        Ok(requested) => requested,
+        Err(refused) => return Err(usage_fault(refused)),
+    };
+    if requested.commands.is_empty() {
+        return Err(UsageFault::NoCommand);
+    }
+    if requested.targets.is_empty() {
+        return Err(UsageFault::NoTarget);
     }
     Ok(requested)
 }

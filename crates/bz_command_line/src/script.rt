@@ -8,8 +8,7 @@ ghost use Rattle.bz_command_line.specs.Refused.{IsFirstFault, IsGroupFault, IsLi
 ghost use Rattle.bz_command_line.specs.Script.{has_nul, in_front, is_read, line_group, line_with_nul, operands_in, operand_groups, script_of, without_mark};
 ghost use Rattle.bz_command_line.specs.Shown.{requested_in, script_usage_in, usage_in};
 
-use crate::group::{UsageFault, read_group};
-use crate::requested::Requested;
+use crate::requested::{Requested, UsageFault, read_group};
 use std::alloc::{AllocError, Global};
 
 /// Why the lines of a file request nothing.

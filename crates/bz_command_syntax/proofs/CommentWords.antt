@@ -1,11 +1,8 @@
 -- The words of a comment, by the last of them.
-use Rattle.std.proofs.Common.{◌≡◌, false, List, [], ◌∷◌, ◌++◌, Some, Err, refl, ap, ◌∙◌, option_map}
+use Rattle.std.proofs.Common.{◌≡◌, false, List, [], ◌∷◌, ◌++◌, Some, None, refl, ap, ◌∙◌, option_map}
 use Rattle.std.specs.Option.{option_and_then}
 use Rattle.bz_items.specs.Characters.{Bytes}
-use Rattle.bz_command_syntax.specs.Commands.{comment_of, host_text, is_one_line, operation_of, split_last}
-use Rattle.bz_command_syntax.specs.declared.command.Operation.TheVariants as w
-use Rattle.bz_command_syntax.specs.declared.command.CommentOperation.TheVariants as wc
-use Rattle.bz_command_syntax.specs.declared.fault.CommandFault.TheVariants.{Arguments}
+use Rattle.bz_command_syntax.specs.Commands.{host_text, is_one_line, split_last}
 
 last_split : (front : List Bytes) (last : Bytes) → split_last (front ++ last ∷ []) ≡ Some (front, last)
 last_split [] last = refl
@@ -15,5 +12,5 @@ last_split (word ∷ next ∷ front) last = ap (option_map (λ parts. (word ∷ 
 pub comment_cut : (words front : List Bytes) (text : Bytes) → words ≡ front ++ text ∷ [] → option_and_then host_text (split_last words) ≡ host_text (front, text)
 comment_cut words front text e = ap (λ all. option_and_then host_text (split_last all)) e ∙ ap (option_and_then host_text) (last_split front text)
 
-pub comment_refused : (words front : List Bytes) (text : Bytes) → words ≡ front ++ text ∷ [] → is_one_line text ≡ false → comment_of words ≡ Err Arguments
-comment_refused words front text e other = ap (operation_of (λ parts. w.Comment (wc.Add parts.0 parts.1))) (comment_cut words front text e) ∙ rw other refl
+pub comment_refused : (words front : List Bytes) (text : Bytes) → words ≡ front ++ text ∷ [] → is_one_line text ≡ false → option_and_then host_text (split_last words) ≡ None
+comment_refused words front text e other = comment_cut words front text e ∙ rw other refl

@@ -1,12 +1,11 @@
 -- The name that a command's words begin with: whether it is in the table, and what is read by it.
-use Rattle.std.proofs.Common.{◌≡◌, Bool, true, false, List, [], ◌∷◌, None, Err, refl, sym, ap, subst, ◌∙◌, inl, inr, bytes_eq, map}
+use Rattle.std.proofs.Common.{◌≡◌, true, false, List, [], ◌∷◌, Option, Some, None, Err, refl, sym, ap, subst, ◌∙◌, inl, inr, bytes_eq, map}
 use Rattle.std.specs.Prelude.{if◌then◌else◌}
 use Rattle.std.specs.Option.{option_map_or}
-use Rattle.std.specs.List.{list_any}
 use Rattle.std.proofs.lemmas.Bool.{cases_Bool, false_from_ne_true}
 use Rattle.std.proofs.lemmas.Slice.Eq.{bytes_eq-Decides}
 use Rattle.bz_items.specs.Characters.{Bytes}
-use Rattle.bz_command_syntax.specs.Commands.{ReadCommand, commands, command_names, command_in, row_named}
+use Rattle.bz_command_syntax.specs.Commands.{ReadCommand, commands, command_forms, command_names, command_in, row_named}
 use Rattle.bz_command_syntax.specs.declared.fault.CommandFault.TheVariants.{Unknown, Arguments}
 use Rattle.bz_command_syntax.specs.Refused.{IsReadAs}
 
@@ -39,18 +38,19 @@ unknown name words other = inl (inl (ap (λ found. option_map_or (λ (command : 
 
 -- ---- a text that is too long
 
--- what is answered by whether the name is in the table
-abbrev answered : Bool → ReadCommand
-answered true = Err Arguments
-answered false = Err Unknown
+-- what is answered by the forms of the command of this name
+abbrev pub answered : Option Bytes → ReadCommand
+answered None = Err Unknown
+answered (Some forms) = Err Arguments
 
 answered_by : (table : Table) (name : Bytes) (words : List Bytes)
-    → option_map_or (λ (command : Bytes × (List Bytes → ReadCommand)). if false then command.1 words else Err Arguments) (row_named table name) (Err Unknown) ≡ answered (list_any (bytes_eq name) (map (λ command. command.0) table))
+    → option_map_or (λ (command : Bytes × (List Bytes → ReadCommand)). if false then command.1 words else Err Arguments) (row_named table name) (Err Unknown)
+    ≡ answered (row_named (map (λ command. (command.0, command.1.0)) table) name)
 answered_by [] name words = refl
 answered_by (command ∷ table) name words = elim (cases_Bool (bytes_eq name command.0)) [
   | inl e ↦ rw e refl
   | inr e ↦ rw e (answered_by table name words)
 ]
 
-pub too_long : (name : Bytes) (words : List Bytes) (known : Bool) → known ≡ list_any (bytes_eq name) command_names → command_in false (name ∷ words) ≡ answered known
-too_long name words known is = answered_by commands name words ∙ ap answered (sym is)
+pub too_long : (name : Bytes) (words : List Bytes) (forms : Option Bytes) → forms ≡ row_named command_forms name → command_in false (name ∷ words) ≡ answered forms
+too_long name words forms is = answered_by commands name words ∙ ap answered (sym is)

@@ -13,15 +13,8 @@ use Rattle.bz_command_syntax.specs.Identifiers.{is_identifier, is_rule_kind}
 use Rattle.bz_command_syntax.specs.Commands as c
 use Rattle.bz_command_syntax.specs.Commands.{ReadCommand}
 use Rattle.bz_command_syntax.specs.Proper.{AreUtf8, EachIs, AreSome, IsAttribute, IsKind, IsPlace, AreAttributes, AreValues, AreMoved, IsEntry, IsSymbol, IsHost, IsField, IsProperCommand}
-use Rattle.bz_command_syntax.specs.declared.command.Attributes.{Attributes}
-use Rattle.bz_command_syntax.specs.declared.command.Entry.{Entry}
-use Rattle.bz_command_syntax.specs.declared.command.Fixes.{Fixes}
-use Rattle.bz_command_syntax.specs.declared.command.Host.{Host}
-use Rattle.bz_command_syntax.specs.declared.command.RulePlace.{RulePlace}
-use Rattle.bz_command_syntax.specs.declared.command.Symbol.{Symbol}
-use Rattle.bz_command_syntax.specs.declared.command.Values.{Values}
+use Rattle.bz_command_syntax.specs.declared.command.{Attributes.Attributes, Entry.Entry, Fixes.Fixes, Host.Host, RulePlace.RulePlace, Symbol.Symbol, Values.Values, Operation.Operation}
 use Rattle.bz_command_syntax.specs.declared.command.Values.TheVariants.{All, These}
-use Rattle.bz_command_syntax.specs.declared.command.Operation.{Operation}
 use Rattle.bz_command_syntax.specs.declared.command.Operation.TheVariants as w
 use Rattle.bz_command_syntax.specs.declared.command.RuleOperation.TheVariants as wr
 use Rattle.bz_command_syntax.specs.declared.command.AttributeOperation.TheVariants as wa

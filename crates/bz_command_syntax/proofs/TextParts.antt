@@ -7,7 +7,6 @@ use Rattle.std.proofs.lemmas.Str.{IsUtf8-encode, scalars-chars}
 use Rattle.std.proofs.Math.Utf8.{scalars}
 use Rattle.std.specs.Char.{IsScalar, is_ascii}
 use Rattle.std.specs.List.{list_all}
-use Rattle.regex_class.proofs.RangesLemmas.{in_ranges-nil}
 use Rattle.regex_hir.specs.Meaning.{cat_all, alt_all}
 use Rattle.regex_hir.specs.Re.{Re, byte_in, char_in, group}
 use Rattle.regex_hir.specs.Text.{is_some_and, is_scalar}
@@ -26,7 +25,7 @@ use Rattle.regex_syntax.specs.Sets.{Set, members, unicode, case_fold, negate, ne
 use Rattle.regex_syntax.specs.Views.{Fits}
 use Rattle.regex.specs.Patterns.{default_config}
 use Rattle.regex.specs.Writes.{HasTextParts}
-use Rattle.regex.proofs.WritesLemmas.{HasTextParts-repeat}
+use Rattle.regex.proofs.WritesLemmas.{HasTextParts-alt_all, HasTextParts-cat_all, HasTextParts-repeat}
 
 -- ---- characters that are still to read
 
@@ -97,13 +96,21 @@ record IsTextRe (re : Re) : Type 0 where
 abbrev RestIsChars : (A : Type 0) → A × Text → Type 0
 RestIsChars A p = AreChars p.1
 
+-- P holds of what was read, and characters are left
+record IsRead {A : Type 0} (P : A → Type 0) (p : A × Text) : Type 0 where
+  what : P p.0
+  left : AreChars p.1
+
+read_before : {A : Type 0} {P : A → Type 0} {x : A} {t : Text} → P x → AreChars t → IsRead P (x, t)
+read_before h k = record { what = h; left = k }
+
+left_after : {A : Type 0} {P : A → Type 0} (o : Option (A × Text)) → Always (IsRead P) o → Always (RestIsChars A) o
+left_after None h = never
+left_after (Some p) h = found h.holds.left
+
 after_rest : {A B : Type 0} {P : B → Type 0} (o : Option (A × Text)) (f : A × Text → Option B) → Always (RestIsChars A) o →
     ((x : A × Text) → RestIsChars A x → Always P (f x)) → Always P (o >>= f)
 after_rest o = after
-
-together : {A : Type 0} (P Q : A → Type 0) (o : Option A) → Always P o → Always Q o → Always (λ x. P x × Q x) o
-together P Q None h i = never
-together P Q (Some x) h i = found (h.holds, i.holds)
 
 record IsChar (c : ℕ) : Type 0 where
   scalar : IsScalar c
@@ -196,9 +203,6 @@ module _ (config : Config) (utf8 : config.utf8 ≡ true) where
   an_assertion : (l : Look) → PieceIsText (assertion l)
   an_assertion l = record { is = tt }
 
-  abbrev FrontIsText : Piece × Text → Type 0
-  FrontIsText p = PieceIsText p.0
-
   after_piece : {B : Type 0} {P : B → Type 0} (o : Option Piece) (f : Piece → Option B) → Always PieceIsText o → ((x : Piece) → PieceIsText x → Always P (f x)) → Always P (o >>= f)
   after_piece o = after
 
@@ -206,45 +210,32 @@ module _ (config : Config) (utf8 : config.utf8 ≡ true) where
   unfolding one_letter
   one_letter_text c h = search (walk, after_set, negated_text, a_class, a_character, an_assertion, low_char) depth 24
 
-  hex_text : (n : ℕ) (t : Text) → Always FrontIsText (hex config n t)
+  hex_text : (n : ℕ) (t : Text) → AreChars t → Always (IsRead PieceIsText) (hex config n t)
   unfolding hex
-  hex_text n t = search (walk, after_char, char_read, a_character) depth 12
+  hex_text n t h = search (walk, after_char, char_read, read_before, a_character, next_chars, after_run, after_taken) depth 20
 
   unicode_class_text : (negated : Bool) (o : Option (Set × Bool)) → Always PieceIsText (unicode_class config negated o)
   unfolding unicode_class
   unicode_class_text negated o = search (walk, after_set, negated_text, a_class) depth 20
 
-  named_class_text : (negated : Bool) (t : Text) → Always FrontIsText (named_class config negated t)
+  named_class_text : (negated : Bool) (t : Text) → AreChars t → Always (IsRead PieceIsText) (named_class config negated t)
   unfolding named_class
-  named_class_text negated t = search (walk, after_piece, unicode_class_text) depth 12
+  named_class_text negated t h = search (walk, after_piece, unicode_class_text, read_before, next_chars, dropped, after_run) depth 20
 
   boundary_name_text : (name : Text) → Always PieceIsText (boundary_name config name)
   unfolding boundary_name
   boundary_name_text name = search (walk, an_assertion) depth 12
 
-  boundary_text : (t : Text) → Always FrontIsText (boundary config t)
+  boundary_text : (t : Text) → AreChars t → Always (IsRead PieceIsText) (boundary config t)
   unfolding boundary
-  boundary_text t = search (walk, after_piece, boundary_name_text, an_assertion) depth 12
+  boundary_text t h = search (walk, after_piece, boundary_name_text, an_assertion, read_before, next_chars, dropped, after_run) depth 20
 
-  escape_text : (t : Text) → AreChars t → Always FrontIsText (escape config t)
+  escape_text : (t : Text) → AreChars t → Always (IsRead PieceIsText) (escape config t)
   unfolding escape
-  escape_text t h = search (walk, after_piece, after_char, first_char, char_read, a_character, hex_text, named_class_text, boundary_text, one_letter_text) depth 20
-
-  hex_rest : (n : ℕ) (t : Text) → AreChars t → Always (RestIsChars Piece) (hex config n t)
-  unfolding hex
-  hex_rest n t h = search (walk, next_chars, after_run, after_taken) depth 14
-
-  named_class_rest : (negated : Bool) (t : Text) → AreChars t → Always (RestIsChars Piece) (named_class config negated t)
-  unfolding named_class
-  named_class_rest negated t h = search (walk, next_chars, dropped, after_run) depth 14
-
-  boundary_rest : (t : Text) → AreChars t → Always (RestIsChars Piece) (boundary config t)
-  unfolding boundary
-  boundary_rest t h = search (walk, next_chars, dropped, after_run) depth 14
+  escape_text t h = search (walk, after_piece, after_char, first_char, char_read, read_before, a_character, hex_text, named_class_text, boundary_text, one_letter_text, next_chars, dropped, after_taken) depth 24
 
   escape_rest : (t : Text) → AreChars t → Always (RestIsChars Piece) (escape config t)
-  unfolding escape
-  escape_rest t h = search (walk, next_chars, dropped, after_taken, hex_rest, named_class_rest, boundary_rest) depth 20
+  escape_rest t h = left_after (escape config t) (escape_text t h)
 
   -- ---- brackets
 
@@ -283,7 +274,7 @@ module _ (config : Config) (utf8 : config.utf8 ≡ true) where
   record Steps (n : ℕ) : Type 0 where
     several : (t : Text) → AreChars t → Always (RestIsChars (List (Nested Set))) (set_items config n t)
     onward : (left : Nested Set) (t : Text) → AreChars t → Always (RestIsChars (Nested Set)) (operations config n left t)
-    whole : (t : Text) → AreChars t → Always (RestIsChars (Nested Set)) (bracket config n t)
+    whole : (t : Text) → AreChars t → Always (IsRead (λ set. IsTextSet set.value)) (bracket config n t)
 
   steps : (n : ℕ) → Steps n
   unfolding set_items operations bracket
@@ -294,7 +285,7 @@ module _ (config : Config) (utf8 : config.utf8 ≡ true) where
             let here = skip v t in
             let k : AreChars here = skipped v t h in
             either (is_at "]" here || is_some (operator here)) (found k)
-            (after_rest (item_or config (bracket config n) (posix here) here) _ (item_or_rest (bracket config n) (posix here) here k (posix_rest here k) (below.whole here k))
+            (after_rest (item_or config (bracket config n) (posix here) here) _ (item_or_rest (bracket config n) (posix here) here k (posix_rest here k) (left_after (bracket config n here) (below.whole here k)))
             (λ part r. after_rest (set_items config n part.1) _ (below.several part.1 r) (λ parts q. found q)));
         onward = λ left t h. either (is_at "]" t) (found (dropped 1 t h)) (after_any (operator t) _ (λ apply.
             after_rest (unite [] (set_items config n (drop 2 t))) _ (unite_rest [] _ (below.several (drop 2 t) (dropped 2 t h)))
@@ -303,18 +294,9 @@ module _ (config : Config) (utf8 : config.utf8 ≡ true) where
             let start = bracket_start config (next v t) in
             after_rest (unite (map (λ c. flat (λ d. d == c)) start.1) (set_items config n start.2)) _ (unite_rest _ _ (below.several start.2 (start_rest (next v t) (next_chars v t h))))
             (λ left r. after_rest (operations config n left.0 left.1) _ (below.onward left.0 left.1 r)
-            (λ inside q. after_any (negate_if config start.0 (case_fold config inside.0.value)) _ (λ set. found q)));
+            (λ inside q. after_set (negate_if config start.0 (case_fold config inside.0.value)) _ (negated_text start.0 (case_fold config inside.0.value))
+            (λ set k. found {x = (record { value = set; depth = inside.0.depth + 1 }, inside.1)} (record { what = k; left = q }))));
       }
-
-  bracket_text : (n : ℕ) (t : Text) → Always (λ (p : Nested Set × Text). IsTextSet p.0.value) (bracket config n t)
-  unfolding bracket
-  bracket_text zero t = never
-  bracket_text (suc n) t =
-      let start = bracket_start config (next v t) in
-      after_any (unite (map (λ c. flat (λ d. d == c)) start.1) (set_items config n start.2)) _ (λ left.
-      after_any (operations config n left.0 left.1) _ (λ inside.
-      after_set (negate_if config start.0 (case_fold config inside.0.value)) _ (negated_text start.0 (case_fold config inside.0.value))
-      (λ set k. found {x = (record { value = set; depth = inside.0.depth + 1 }, inside.1)} k)))
 
   -- ---- what can be repeated
 
@@ -339,21 +321,16 @@ module _ (config : Config) (utf8 : config.utf8 ≡ true) where
   unfolding char_meaning
   char_text c h = either (c ∈ ".") dot_text (either (c ∈ "^") (found (record { parts = tt })) (either (c ∈ "$") (found (record { parts = tt })) (verbatim_text c false h)))
 
-  atom_text : (t : Text) → AreChars t → Always (λ (p : Nested Re × Text). IsTextRe p.0.value) (atom config t)
+  abbrev NestedIsText : Nested Re → Type 0
+  NestedIsText part = IsTextRe part.value
+
+  atom_text : (t : Text) → AreChars t → Always (IsRead NestedIsText) (atom config t)
   unfolding atom
   atom_text t h =
       after_char (first t) _ (first_char t h) (λ c k. only_if (not (c ∈ "?*+{")) (λ _.
-      either (c ∈ "[") (after _ (bracket_text (2 * length t + 1) t) (λ p s. found s.whole))
-      (either (c ∈ "\\") (after _ (escape_text (drop 1 t) (dropped 1 t h)) (λ p s. after _ (piece_text p.0 s) (λ re r. found r)))
-      (after _ (char_text c k) (λ re r. found r)))))
-
-  atom_rest : (t : Text) → AreChars t → Always (RestIsChars (Nested Re)) (atom config t)
-  unfolding atom
-  atom_rest t h =
-      after_any (first t) _ (λ c. only_if (not (c ∈ "?*+{")) (λ _.
-      either (c ∈ "[") (after_rest _ _ ((steps (2 * length t + 1)).whole t h) (λ p r. found r))
-      (either (c ∈ "\\") (after_rest _ _ (escape_rest (drop 1 t) (dropped 1 t h)) (λ p r. after_any _ _ (λ re. found r)))
-      (after_any _ _ (λ re. found (dropped 1 t h))))))
+      either (c ∈ "[") (after _ ((steps (2 * length t + 1)).whole t h) (λ p r. found (record { what = r.what.whole; left = r.left })))
+      (either (c ∈ "\\") (after _ (escape_text (drop 1 t) (dropped 1 t h)) (λ p r. after _ (piece_text p.0 r.what) (λ re s. found (record { what = s; left = r.left }))))
+      (after _ (char_text c k) (λ re s. found (record { what = s; left = dropped 1 t h }))))))
 
   upper_rest : (least : ℕ) (t : Text) → AreChars t → Always (RestIsChars (Option ℕ)) (upper_bound config least t)
   unfolding upper_bound
@@ -363,18 +340,13 @@ module _ (config : Config) (utf8 : config.utf8 ≡ true) where
   unfolding bounds counted_bounds
   bounds_rest t h = search (walk, after_rest, next_chars, dropped, decimal_rest, upper_rest) depth 20
 
-  repetitions_text : (n : ℕ) (sub : Nested Re) (t : Text) → IsTextRe sub.value → Always (λ (p : Nested Re × Text). IsTextRe p.0.value) (repetitions config n sub t)
+  repetitions_text : (n : ℕ) (sub : Nested Re) (t : Text) → IsTextRe sub.value → AreChars t → Always (IsRead NestedIsText) (repetitions config n sub t)
   unfolding repetitions
-  repetitions_text zero sub t h = never
-  repetitions_text (suc n) sub t h =
-      either _ (found h) (after_any (bounds config (skip v t)) _ (λ b. repetitions_text n _ _ (record { parts = HasTextParts-repeat b.0 b.1 _ sub.value h.parts })))
-
-  repetitions_rest : (n : ℕ) (sub : Nested Re) (t : Text) → AreChars t → Always (RestIsChars (Nested Re)) (repetitions config n sub t)
-  unfolding repetitions
-  repetitions_rest zero sub t h = never
-  repetitions_rest (suc n) sub t h =
+  repetitions_text zero sub t s h = never
+  repetitions_text (suc n) sub t s h =
       let k : AreChars (skip v t) = skipped v t h in
-      either _ (found k) (after_after (bounds config (skip v t)) _ (bounds_rest (skip v t) k) (λ b r. repetitions_rest n _ _ (by_cases (is_at "?" b.2) _ _ (dropped 1 b.2 r) r)))
+      either _ (found (record { what = s; left = k })) (after_after (bounds config (skip v t)) _ (bounds_rest (skip v t) k) (λ b r.
+      repetitions_text n _ _ (record { parts = HasTextParts-repeat b.0 b.1 _ sub.value s.parts }) (by_cases (is_at "?" b.2) _ _ (dropped 1 b.2 r) r)))
 
 -- ---- places in the pattern
 
@@ -389,8 +361,7 @@ record ReadsText (r : Nested Re × Place) : Type 0 where
 with_repetitions_text : (sub : Nested Re) (p : Place) → IsTextRe sub.value → IsTextPlace p → Always ReadsText (with_repetitions sub p)
 unfolding with_repetitions
 with_repetitions_text sub p s h =
-    after _ (together _ _ _ (repetitions_text p.config h.utf8 (length p.text + 1) sub p.text s) (repetitions_rest p.config h.utf8 (length p.text + 1) sub p.text h.text))
-    (λ x k. found (record { re = k.0; place = record { utf8 = h.utf8; text = k.1 } }))
+    after _ (repetitions_text p.config h.utf8 (length p.text + 1) sub p.text s h.text) (λ x k. found (record { re = k.what; place = record { utf8 = h.utf8; text = k.left } }))
 
 abbrev Keeps : Opening → Type 0
 Keeps setting = Unit {0}
@@ -443,32 +414,24 @@ module _ (inner : Place → Option (Nested Re × Place)) (reads : (q : Place) �
   unfolding item
   item_text p h =
       either (is_at "(" p.text) (after _ (opening_text p h) (λ o k. group_text p.config o.0 o.1 h.utf8 k.how k.place))
-      (after _ (together _ _ _ (atom_text p.config h.utf8 p.text h.text) (atom_rest p.config h.utf8 p.text h.text))
-      (λ x k. with_repetitions_text x.0 _ k.0 (record { utf8 = h.utf8; text = k.1 })))
+      (after _ (atom_text p.config h.utf8 p.text h.text) (λ x k. with_repetitions_text x.0 _ k.what (record { utf8 = h.utf8; text = k.left })))
 
 -- ---- branches
 
 abbrev AreText : List (Nested Re) → Type 0
-AreText = All (λ part. IsTextRe part.value)
-
-cat_text : (parts : List (Nested Re)) → AreText parts → IsTextRe (cat_all (map (λ part. part.value) parts))
-cat_text [] h = record { parts = tt }
-cat_text (p ∷ parts) h =
-    record { parts = ((All-head (λ part. IsTextRe part.value) p parts h).parts, (cat_text parts (All-tail (λ part. IsTextRe part.value) p parts h)).parts) }
-
-alt_text : (parts : List (Nested Re)) → AreText parts → IsTextRe (alt_all (map (λ part. part.value) parts))
-alt_text [] h = record { parts = λ b e. absurd (both_ways _ (in_ranges-nil b) e) }
-alt_text (p ∷ parts) h =
-    record { parts = ((All-head (λ part. IsTextRe part.value) p parts h).parts, (alt_text parts (All-tail (λ part. IsTextRe part.value) p parts h)).parts) }
+AreText parts = All HasTextParts (map (λ part. part.value) parts)
 
 record AllReadText (r : List (Nested Re) × Place) : Type 0 where
   parts : AreText r.0
   place : IsTextPlace r.1
 
-joined_text : (f : List Re → Re) → ((parts : List (Nested Re)) → AreText parts → IsTextRe (f (map (λ part. part.value) parts))) → (o : Option (List (Nested Re) × Place))
+joined_text : (f : List Re → Re) → ((parts : List Re) → All HasTextParts parts → HasTextParts (f parts)) → (o : Option (List (Nested Re) × Place))
     → Always AllReadText o → Always ReadsText (join_parts f o)
 unfolding join_parts
-joined_text f made o h = after _ h (λ r k. found (record { re = made r.0 k.parts; place = k.place }))
+joined_text f made o h = after _ h (λ r k. found (record { re = record { parts = made _ k.parts }; place = k.place }))
+
+with_part : (part : Nested Re) (parts : List (Nested Re)) → IsTextRe part.value → AreText parts → AreText (part ∷ parts)
+with_part part parts h all = All-cons HasTextParts part.value (map (λ each. each.value) parts) h.parts all
 
 abbrev AllText : (Place → Option (List (Nested Re) × Place)) → Type 0
 AllText f = (p : Place) → IsTextPlace p → Always AllReadText (f p)
@@ -478,24 +441,24 @@ unfolding items branches
 levels zero = (λ p h. never, λ p h. never)
 levels (suc n) =
     let below = levels n in
-    let one = item_text (λ q. join_parts alt_all (branches n q)) (λ q h. joined_text alt_all alt_text (branches n q) (below.1 q h)) in (
+    let one = item_text (λ q. join_parts alt_all (branches n q)) (λ q h. joined_text alt_all HasTextParts-alt_all (branches n q) (below.1 q h)) in (
       λ p h.
           let here : Place = record p { text = skip (is_verbose p.config) p.text } in
           let k : IsTextPlace here = record { utf8 = h.utf8; text = skipped (is_verbose p.config) p.text h.text } in
-          either _ (found (record { parts = All-nil (λ part. IsTextRe part.value); place = k }))
+          either _ (found (record { parts = All-nil HasTextParts; place = k }))
           (after _ (one here k) (λ part s. after _ (below.0 part.1 s.place)
-          (λ more m. found (record { parts = All-cons (λ part. IsTextRe part.value) part.0 more.0 s.re m.parts; place = m.place })))),
+          (λ more m. found (record { parts = with_part part.0 more.0 s.re m.parts; place = m.place })))),
       λ p h.
-          after _ (joined_text cat_all cat_text (items n p) (below.0 p h)) (λ branch s.
-          either _ (found (record { parts = All-cons (λ part. IsTextRe part.value) branch.0 [] s.re (All-nil (λ part. IsTextRe part.value)); place = s.place }))
+          after _ (joined_text cat_all HasTextParts-cat_all (items n p) (below.0 p h)) (λ branch s.
+          either _ (found (record { parts = with_part branch.0 [] s.re (All-nil HasTextParts); place = s.place }))
           (after _ (below.1 _ (record { utf8 = s.place.utf8; text = dropped 1 branch.1.text s.place.text }))
-          (λ others m. found (record { parts = All-cons (λ part. IsTextRe part.value) branch.0 others.0 s.re m.parts; place = m.place })))),
+          (λ others m. found (record { parts = with_part branch.0 others.0 s.re m.parts; place = m.place })))),
     )
 
 whole_text : (config : Config) (t : Text) → config.utf8 ≡ true → AreChars t → Always (λ (r : Nested Re × Names). IsTextRe r.0.value) (read config t)
 unfolding read
 whole_text config t utf8 h =
-    after _ (joined_text alt_all alt_text _ ((levels (2 * length t + 2)).1 (record { config = config; names = None ∷ []; text = t }) (record { utf8 = utf8; text = h })))
+    after _ (joined_text alt_all HasTextParts-alt_all _ ((levels (2 * length t + 2)).1 (record { config = config; names = None ∷ []; text = t }) (record { utf8 = utf8; text = h })))
     (λ r k. only_if (is_empty r.1.text) (λ _. found k.re))
 
 -- A pattern that is read with the default options in a text of characters matches whole characters.

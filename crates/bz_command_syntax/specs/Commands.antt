@@ -5,7 +5,7 @@ use Rattle.std.specs.Option.{option_and_then, option_map_or, ok_or}
 use Rattle.bz_items.specs.Characters.{Bytes, asterisk, colon, equals_sign, line_feed}
 use Rattle.bz_command_syntax.specs.Words.{words_of, is_nonempty}
 use Rattle.bz_command_syntax.specs.Identifiers.{is_identifier, is_rule_kind}
-use Rattle.bz_command_syntax.specs.declared.command.Operation.{Operation}
+use Rattle.bz_command_syntax.specs.declared.command.{Operation.Operation, RulePlace.RulePlace, Attributes.Attributes, Values.Values, Entry.Entry, Symbol.Symbol, Host.Host, Fixes.Fixes, Field.Field}
 use Rattle.bz_command_syntax.specs.declared.command.Operation.TheVariants as w
 use Rattle.bz_command_syntax.specs.declared.command.RuleOperation.TheVariants as wr
 use Rattle.bz_command_syntax.specs.declared.command.AttributeOperation.TheVariants as wa
@@ -13,18 +13,10 @@ use Rattle.bz_command_syntax.specs.declared.command.ValueOperation.TheVariants a
 use Rattle.bz_command_syntax.specs.declared.command.DictOperation.TheVariants as wd
 use Rattle.bz_command_syntax.specs.declared.command.LoadOperation.TheVariants as wl
 use Rattle.bz_command_syntax.specs.declared.command.CommentOperation.TheVariants as wc
-use Rattle.bz_command_syntax.specs.declared.command.RulePlace.{RulePlace}
 use Rattle.bz_command_syntax.specs.declared.command.RulePlace.TheVariants.{End, Before, After}
-use Rattle.bz_command_syntax.specs.declared.command.Attributes.{Attributes}
 use Rattle.bz_command_syntax.specs.declared.command.Attributes.TheVariants.{All as AllAttributes, Named}
-use Rattle.bz_command_syntax.specs.declared.command.Values.{Values}
 use Rattle.bz_command_syntax.specs.declared.command.Values.TheVariants.{All as AllValues, These}
-use Rattle.bz_command_syntax.specs.declared.command.Entry.{Entry}
-use Rattle.bz_command_syntax.specs.declared.command.Symbol.{Symbol}
-use Rattle.bz_command_syntax.specs.declared.command.Host.{Host}
 use Rattle.bz_command_syntax.specs.declared.command.Host.TheVariants as h
-use Rattle.bz_command_syntax.specs.declared.command.Fixes.{Fixes}
-use Rattle.bz_command_syntax.specs.declared.command.Field.{Field}
 use Rattle.bz_command_syntax.specs.declared.command.Field.TheVariants as f
 use Rattle.bz_command_syntax.specs.declared.fault.CommandFault.{CommandFault}
 use Rattle.bz_command_syntax.specs.declared.fault.CommandFault.TheVariants.{Unknown, Arguments}
@@ -93,9 +85,6 @@ abbrev pub new_rule : List Bytes → Option (Bytes × Bytes × RulePlace)
 new_rule (kind ∷ name ∷ words) = if is_rule_kind kind then option_map (λ place. (kind, name, place)) (rule_place words) else None
 new_rule _ = None
 
-abbrev pub new_of : List Bytes → ReadCommand
-new_of words = operation_of (λ parts. w.Rule (wr.New parts.0 parts.1 parts.2)) (new_rule words)
-
 -- delete
 abbrev pub delete_of : List Bytes → ReadCommand
 delete_of [] = Ok (w.Rule wr.Delete)
@@ -122,10 +111,6 @@ abbrev pub set_if_absent_of : List Bytes → ReadCommand
 set_if_absent_of words =
     if begins_with_kind words then Err Arguments else operation_of (λ parts. w.Attribute (wa.SetIfAbsent parts.0 parts.1)) (attribute_values words)
 
--- add ATTRIBUTE VALUE..
-abbrev pub add_of : List Bytes → ReadCommand
-add_of words = operation_of (λ parts. w.Value (wv.Add parts.0 parts.1)) (attribute_values words)
-
 -- remove ATTRIBUTE, remove * or remove ATTRIBUTE VALUE..
 abbrev pub remove_of : List Bytes → ReadCommand
 remove_of [] = Err Arguments
@@ -133,33 +118,10 @@ remove_of (attribute ∷ values) =
     if is_nonempty values then operation_of (λ name. w.Value (wv.Remove name values)) (given (is_identifier attribute) attribute)
     else operation_of (λ attributes. w.Attribute (wa.Remove attributes)) (attributes_of attribute)
 
--- replace ATTRIBUTE OLD NEW or replace * OLD NEW
-abbrev pub replace_of : List Bytes → ReadCommand
-replace_of words = operation_of (λ parts. w.Value (wv.Replace parts.0 parts.1 parts.2)) (attributes_words words)
-
--- substitute ATTRIBUTE PATTERN TEMPLATE or substitute * PATTERN TEMPLATE, for each text that `regex` takes as a pattern
-abbrev pub substitute_of : List Bytes → ReadCommand
-substitute_of words = operation_of (λ parts. w.Value (wv.Substitute parts.0 parts.1 parts.2)) (attributes_words words)
-
 -- FROM TO VALUE..
 abbrev pub moved_values : List Bytes → Option (Bytes × Bytes × Values)
 moved_values (from ∷ to ∷ values) = given (is_identifier from && is_identifier to && is_nonempty values) (from, to, values_of values)
 moved_values _ = None
-
-abbrev pub move_of : List Bytes → ReadCommand
-move_of words = operation_of (λ parts. w.Value (wv.Move parts.0 parts.1 parts.2)) (moved_values words)
-
--- rename FROM TO
-abbrev pub rename_of : List Bytes → ReadCommand
-rename_of words = operation_of (λ parts. w.Attribute (wa.Rename parts.0 parts.1)) (two_attributes words)
-
--- copy ATTRIBUTE RULE
-abbrev pub copy_of : List Bytes → ReadCommand
-copy_of words = operation_of (λ parts. w.Attribute (wa.Copy parts.0 parts.1)) (attribute_word words)
-
--- copy_no_overwrite ATTRIBUTE RULE
-abbrev pub copy_no_overwrite_of : List Bytes → ReadCommand
-copy_no_overwrite_of words = operation_of (λ parts. w.Attribute (wa.CopyNoOverwrite parts.0 parts.1)) (attribute_word words)
 
 -- what is before the first such byte, and what is after it
 abbrev pub cut_at : ℕ → Bytes → Option (Bytes × Bytes)
@@ -180,18 +142,6 @@ dict_entries [] = None
 dict_entries (attribute ∷ words) =
     if is_identifier attribute && is_nonempty words then option_map (λ entries. (attribute, entries)) (each_of entry_of words) else None
 
--- dict_add ATTRIBUTE KEY:VALUE..
-abbrev pub dict_add_of : List Bytes → ReadCommand
-dict_add_of words = operation_of (λ parts. w.Dict (wd.Add parts.0 parts.1)) (dict_entries words)
-
--- dict_set ATTRIBUTE KEY:VALUE..
-abbrev pub dict_set_of : List Bytes → ReadCommand
-dict_set_of words = operation_of (λ parts. w.Dict (wd.Set parts.0 parts.1)) (dict_entries words)
-
--- dict_remove ATTRIBUTE KEY..
-abbrev pub dict_remove_of : List Bytes → ReadCommand
-dict_remove_of words = operation_of (λ parts. w.Dict (wd.Remove parts.0 parts.1)) (attribute_values words)
-
 -- two names of a symbol, which are identifiers
 abbrev pub symbol_of_names : Bytes → Bytes → Option Symbol
 symbol_of_names to from = given (is_identifier to && is_identifier from) (record { to = to; from = from })
@@ -204,9 +154,6 @@ symbol_of word = option_map_or (λ parts. symbol_of_names parts.0 parts.1) (cut_
 abbrev pub path_symbols : List Bytes → Option (Bytes × List Symbol)
 path_symbols [] = None
 path_symbols (path ∷ words) = if is_nonempty words then option_map (λ symbols. (path, symbols)) (each_of symbol_of words) else None
-
-abbrev pub new_load_of : List Bytes → ReadCommand
-new_load_of words = operation_of (λ parts. w.Load (wl.New parts.0 parts.1)) (path_symbols words)
 
 -- nothing, ATTRIBUTE, or ATTRIBUTE VALUE
 abbrev pub host_of : List Bytes → Option Host
@@ -228,17 +175,6 @@ is_one_line text = not (list_any (λ byte. byte == line_feed) text)
 abbrev pub host_text : List Bytes × Bytes → Option (Host × Bytes)
 host_text parts = if is_one_line parts.1 then option_map (λ host. (host, parts.1)) (host_of parts.0) else None
 
-abbrev pub comment_of : List Bytes → ReadCommand
-comment_of words = operation_of (λ parts. w.Comment (wc.Add parts.0 parts.1)) (option_and_then host_text (split_last words))
-
--- print_comment [ATTRIBUTE [VALUE]]
-abbrev pub print_comment_of : List Bytes → ReadCommand
-print_comment_of words = operation_of (λ host. w.Comment (wc.Print host)) (host_of words)
-
--- remove_comment [ATTRIBUTE [VALUE]]
-abbrev pub remove_comment_of : List Bytes → ReadCommand
-remove_comment_of words = operation_of (λ host. w.Comment (wc.Remove host)) (host_of words)
-
 -- one more fix, which isn't named yet
 abbrev pub with_fix : Bytes → Fixes → Option Fixes
 with_fix word fixes =
@@ -253,10 +189,6 @@ fixes_from fixes (word ∷ words) = option_and_then (λ more. fixes_from more wo
 abbrev pub fixes_of : List Bytes → Option Fixes
 fixes_of [] = Some (record { move_package_to_top = true; unused_loads = true })
 fixes_of words = fixes_from (record { move_package_to_top = false; unused_loads = false }) words
-
--- fix [unusedLoads] [movePackageToTop]
-abbrev pub fix_of : List Bytes → ReadCommand
-fix_of words = operation_of (λ fixes. w.Load (wl.Fix fixes)) (fixes_of words)
 
 -- these words name fields that are not known
 abbrev pub is_unknown_field : Bytes → Bool
@@ -275,36 +207,33 @@ abbrev pub fields_of : List Bytes → Option (List Field)
 fields_of [] = Some (f.Attribute (codes "name") ∷ f.Kind ∷ [])
 fields_of words = each_of field_of words
 
--- print [FIELD..]
-abbrev pub print_of : List Bytes → ReadCommand
-print_of words = operation_of w.Print (fields_of words)
-
 -- ---- all commands
 
--- the table of commands: the name of each, the forms of its words, as they are printed where words have another one, and what it reads
+-- The table of commands: the name of each, the forms of its words, as they are printed where words have another one, and what it reads.
+-- `substitute` reads each text that `regex` takes as a pattern.
 abbrev pub commands : List (Bytes × (Bytes × (List Bytes → ReadCommand)))
 commands =
-    (codes "new", (codes "'new KIND NAME [before RULE]' or 'new KIND NAME [after RULE]'", new_of))
+    (codes "new", (codes "'new KIND NAME [before RULE]' or 'new KIND NAME [after RULE]'", λ words. operation_of (λ parts. w.Rule (wr.New parts.0 parts.1 parts.2)) (new_rule words)))
     ∷ (codes "delete", (codes "'delete'", delete_of))
     ∷ (codes "set", (codes "'set ATTR VALUE..' or 'set kind KIND'", set_of))
     ∷ (codes "set_if_absent", (codes "'set_if_absent ATTR VALUE..'", set_if_absent_of))
-    ∷ (codes "add", (codes "'add ATTR VALUE..'", add_of))
+    ∷ (codes "add", (codes "'add ATTR VALUE..'", λ words. operation_of (λ parts. w.Value (wv.Add parts.0 parts.1)) (attribute_values words)))
     ∷ (codes "remove", (codes "'remove ATTR', 'remove *' or 'remove ATTR VALUE..'", remove_of))
-    ∷ (codes "replace", (codes "'replace ATTR OLD NEW' or 'replace * OLD NEW'", replace_of))
-    ∷ (codes "substitute", (codes "'substitute ATTR PATTERN TEMPLATE' or 'substitute * PATTERN TEMPLATE'", substitute_of))
-    ∷ (codes "move", (codes "'move FROM TO VALUE..' or 'move FROM TO *'", move_of))
-    ∷ (codes "rename", (codes "'rename OLD NEW'", rename_of))
-    ∷ (codes "copy", (codes "'copy ATTR RULE'", copy_of))
-    ∷ (codes "copy_no_overwrite", (codes "'copy_no_overwrite ATTR RULE'", copy_no_overwrite_of))
-    ∷ (codes "dict_add", (codes "'dict_add ATTR KEY:VALUE..'", dict_add_of))
-    ∷ (codes "dict_set", (codes "'dict_set ATTR KEY:VALUE..'", dict_set_of))
-    ∷ (codes "dict_remove", (codes "'dict_remove ATTR KEY..'", dict_remove_of))
-    ∷ (codes "new_load", (codes "'new_load PATH [TO=]FROM..'", new_load_of))
-    ∷ (codes "comment", (codes "'comment [ATTR [VALUE]] TEXT'", comment_of))
-    ∷ (codes "print_comment", (codes "'print_comment [ATTR [VALUE]]'", print_comment_of))
-    ∷ (codes "remove_comment", (codes "'remove_comment [ATTR [VALUE]]'", remove_comment_of))
-    ∷ (codes "fix", (codes "'fix [unusedLoads] [movePackageToTop]'", fix_of))
-    ∷ (codes "print", (codes "'print [FIELD..]'", print_of))
+    ∷ (codes "replace", (codes "'replace ATTR OLD NEW' or 'replace * OLD NEW'", λ words. operation_of (λ parts. w.Value (wv.Replace parts.0 parts.1 parts.2)) (attributes_words words)))
+    ∷ (codes "substitute", (codes "'substitute ATTR PATTERN TEMPLATE' or 'substitute * PATTERN TEMPLATE'", λ words. operation_of (λ parts. w.Value (wv.Substitute parts.0 parts.1 parts.2)) (attributes_words words)))
+    ∷ (codes "move", (codes "'move FROM TO VALUE..' or 'move FROM TO *'", λ words. operation_of (λ parts. w.Value (wv.Move parts.0 parts.1 parts.2)) (moved_values words)))
+    ∷ (codes "rename", (codes "'rename OLD NEW'", λ words. operation_of (λ parts. w.Attribute (wa.Rename parts.0 parts.1)) (two_attributes words)))
+    ∷ (codes "copy", (codes "'copy ATTR RULE'", λ words. operation_of (λ parts. w.Attribute (wa.Copy parts.0 parts.1)) (attribute_word words)))
+    ∷ (codes "copy_no_overwrite", (codes "'copy_no_overwrite ATTR RULE'", λ words. operation_of (λ parts. w.Attribute (wa.CopyNoOverwrite parts.0 parts.1)) (attribute_word words)))
+    ∷ (codes "dict_add", (codes "'dict_add ATTR KEY:VALUE..'", λ words. operation_of (λ parts. w.Dict (wd.Add parts.0 parts.1)) (dict_entries words)))
+    ∷ (codes "dict_set", (codes "'dict_set ATTR KEY:VALUE..'", λ words. operation_of (λ parts. w.Dict (wd.Set parts.0 parts.1)) (dict_entries words)))
+    ∷ (codes "dict_remove", (codes "'dict_remove ATTR KEY..'", λ words. operation_of (λ parts. w.Dict (wd.Remove parts.0 parts.1)) (attribute_values words)))
+    ∷ (codes "new_load", (codes "'new_load PATH [TO=]FROM..'", λ words. operation_of (λ parts. w.Load (wl.New parts.0 parts.1)) (path_symbols words)))
+    ∷ (codes "comment", (codes "'comment [ATTR [VALUE]] TEXT'", λ words. operation_of (λ parts. w.Comment (wc.Add parts.0 parts.1)) (option_and_then host_text (split_last words))))
+    ∷ (codes "print_comment", (codes "'print_comment [ATTR [VALUE]]'", λ words. operation_of (λ host. w.Comment (wc.Print host)) (host_of words)))
+    ∷ (codes "remove_comment", (codes "'remove_comment [ATTR [VALUE]]'", λ words. operation_of (λ host. w.Comment (wc.Remove host)) (host_of words)))
+    ∷ (codes "fix", (codes "'fix [unusedLoads] [movePackageToTop]'", λ words. operation_of (λ fixes. w.Load (wl.Fix fixes)) (fixes_of words)))
+    ∷ (codes "print", (codes "'print [FIELD..]'", λ words. operation_of w.Print (fields_of words)))
     ∷ []
 
 abbrev pub command_names : List Bytes

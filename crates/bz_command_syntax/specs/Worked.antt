@@ -15,10 +15,8 @@ use Rattle.bz_command_syntax.specs.declared.command.CommentOperation.TheVariants
 use Rattle.bz_command_syntax.specs.declared.command.RulePlace.TheVariants.{End, Before, After}
 use Rattle.bz_command_syntax.specs.declared.command.Attributes.TheVariants.{All as AllAttributes, Named}
 use Rattle.bz_command_syntax.specs.declared.command.Values.TheVariants.{All as AllValues, These}
-use Rattle.bz_command_syntax.specs.declared.command.Entry.{Entry}
-use Rattle.bz_command_syntax.specs.declared.command.Symbol.{Symbol}
+use Rattle.bz_command_syntax.specs.declared.command.{Entry.Entry, Symbol.Symbol, Fixes.Fixes}
 use Rattle.bz_command_syntax.specs.declared.command.Host.TheVariants as h
-use Rattle.bz_command_syntax.specs.declared.command.Fixes.{Fixes}
 use Rattle.bz_command_syntax.specs.declared.command.Field.TheVariants as f
 use Rattle.bz_command_syntax.specs.declared.fault.CommandFault.TheVariants.{Unknown, Arguments}
 

@@ -1,18 +1,40 @@
-//! Forms that the readers of several commands share.
-ghost use Rattle.std.specs.Prelude.{◌≡◌, ◌⊎◌, ◌∷◌, ◌==◌, [], Some, None, IfOk, IfErr, IsUtf8, bytes_eq, position, MatchOption, MatchResult};
+//! Identifiers and kinds, and the forms that the readers of several commands share.
+ghost use Rattle.std.specs.Prelude.{◌≡◌, ◌↔◌, ◌∷◌, [], Some, None, IsTrue, IsUtf8, bytes_eq, MatchResult};
 ghost use Rattle.bz_command_syntax.specs.Commands as c;
-ghost use Rattle.bz_command_syntax.specs.Identifiers.{is_identifier as is_identifier_in};
+ghost use Rattle.bz_command_syntax.specs.Identifiers.{is_identifier as is_identifier_in, is_rule_kind as is_kind_in};
 ghost use Rattle.bz_command_syntax.specs.Words.{is_nonempty};
 
 use crate::command::{Attributes, Operation};
 use crate::fault::CommandFault;
-use crate::identifier::is_identifier;
-use bz_items::{Items, Memory, Text};
-use std::alloc::Global;
+use bz_items::{Items, Text};
+use bz_token::{Class, token};
 use std::str;
 
 /// What a command reads.
 pub(crate) type Read = Result<Operation, CommandFault>;
+
+fn is_name(class: Class) -> bool
+    ensures { IsTrue result ↔ (class ≡ Class.Name) }
+{
+    matches!(class, Class::Name)
+}
+
+/// Whether the text is an identifier: a lexeme of class Name, so no keyword. It takes no memory.
+pub fn is_identifier(text: &[u8]) -> bool
+    ensures { result ≡ is_identifier_in text.now }
+{
+    match token(text) {
+        Some(found) => is_name(found.class) && found.len == text.len(),
+        None => false,
+    }
+}
+
+/// Whether the text is a kind of rules: identifiers joined by dots. It takes no memory.
+pub fn is_kind_name(text: &[u8]) -> bool
+    ensures { result ≡ is_kind_in text.now }
+{
+    text.split(|byte| *byte == b'.').all(is_identifier)
+}
 
 /// Takes the first word off. The error: `Arguments`: there is none.
 pub(crate) fn take_first(words: &mut Vec<Text>) -> Result<Text, CommandFault>
@@ -118,54 +140,4 @@ pub(crate) fn attributes_and_words(
     }
     let attributes = attributes_of(attribute).ok_or(CommandFault::Arguments)?;
     Ok((attributes, first, second))
-}
-
-/// What a word of a command may be.
-pub(crate) trait FromWord: Sized {
-    ghost use Rattle.std.specs.Prelude.{◌≡◌, List, Option, ℕ, IfOk};
-
-    /// What the word is, where it is something.
-    ghost form: { List ℕ → Option Self };
-
-    /// What the word is, where it is something. The error: a growth was refused.
-    fn from_word(alloc: Global, word: &[u8]) -> Result<Option<Self>, Memory>
-        ensures { IfOk result (λ x. x ≡ form word.now) };
-}
-
-/// What the words are, where all are something. The errors: `Arguments`: one is nothing; `Memory`: a growth was refused.
-pub(crate) fn each<X: FromWord + Drop>(
-    alloc: Global,
-    words: &[Text],
-) -> Result<Items<X>, CommandFault>
-    ensures ok { IfOk result (λ all. c.each_of X.form words.now ≡ Some all) }
-    ensures err { IfErr result (λ fault. ((c.each_of X.form words.now ≡ None) × (fault ≡ CommandFault.Arguments)) ⊎ (fault ≡ CommandFault.Memory)) }
-{
-    let mut all = Vec::with_capacity(alloc, words.len())?;
-    for word in words {
-        match X::from_word(alloc, word.as_slice())? {
-            Some(x) => {
-                all.reserve(1)?;
-                all.push_reserved(x);
-            }
-            None => return Err(CommandFault::Arguments),
-        }
-    }
-    Ok(Items::from_vec(all))
-}
-
-/// Where the first such byte is.
-fn place(word: &[u8], byte: u8) -> Option<usize>
-    ensures { result ≡ position (λ each. each == byte) word.now }
-{
-    word.iter().position(|each| *each == byte)
-}
-
-/// What is before the first such byte, and what is after it.
-pub(crate) fn cut(word: &[u8], byte: u8) -> Option<(&[u8], &[u8])>
-    ensures { MatchOption result (c.cut_at byte word.now ≡ None) (λ parts. c.cut_at byte word.now ≡ Some (parts.0.now, parts.1.now)) }
-{
-    match place(word, byte) {
-        Some(at) => Some((&word[..at], &word[at + 1..])),
-        None => None,
-    }
 }

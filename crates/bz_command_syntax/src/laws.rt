@@ -4,6 +4,7 @@ ghost use Rattle.bz_command_syntax.specs.Patterns.{TextStaysText};
 ghost use Rattle.bz_command_syntax.specs.Worked.{WorkedCommands, WorkedIdentifiers, WorkedStrings, WorkedWords};
 
 /// An identifier is a lexeme of class Name, and each such lexeme is one.
+#[tactic(auto, using(crate::proofs::NameTests::identifiers_are_names))]
 pub fn identifiers_are_names()
     ensures { IdentifiersAreNames }
 {}

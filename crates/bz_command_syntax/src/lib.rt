@@ -2,19 +2,12 @@
 #![tactic(auto)]
 
 mod command;
-mod dicts;
 mod fault;
-mod fixing;
 mod forms;
-mod hosts;
-mod identifier;
 mod laws;
-mod loads;
+mod lists;
 mod pattern;
-mod printing;
-mod quoting;
 mod reading;
-mod substituting;
 mod table;
 mod words;
 
@@ -23,13 +16,11 @@ pub use command::{
     Host, LoadOperation, Operation, RuleOperation, RulePlace, Symbol, ValueOperation, Values,
 };
 pub use fault::CommandFault;
-pub use forms::as_text;
-pub use identifier::{is_identifier, is_kind_name};
+pub use forms::{as_text, is_identifier, is_kind_name};
 pub use laws::{
     identifiers_are_names, text_stays_text, worked_commands, worked_identifiers, worked_strings,
     worked_words,
 };
 pub use pattern::Pattern;
-pub use quoting::quoted;
 pub use table::{COMMAND_NAMES, TEXT_LIMIT, command_form};
-pub use words::read_words;
+pub use words::{quoted, read_words};

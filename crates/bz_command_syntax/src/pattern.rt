@@ -67,6 +67,7 @@ impl Pattern {
     /// Compiles a pattern, with `regex`'s default options. Errors: `BadPattern` where `regex` refuses a text with a special
     /// character for another cause than memory: it is no pattern, is nested deeper than 250, or its tables would take more than 10 MiB;
     /// `Memory`: a growth was refused.
+    #[tactic(auto, unfolding(crate::specs::Patterns::IsRefusedPattern))]
     pub fn read(alloc: Global, source: &str) -> Result<Pattern, CommandFault>
         ensures ok { IfOk result (λ pattern. pattern ≡ source.now) }
         ensures err { IfErr result (λ fault. ((fault ≡ CommandFault.BadPattern) × IsRefusedPattern source.now) ⊎ (fault ≡ CommandFault.Memory)) }
@@ -79,6 +80,7 @@ impl Pattern {
 
     /// The body with each match replaced as `regex` replaces all by the template; bytes that are not UTF-8 have no match. The
     /// error: a growth was refused.
+    #[tactic(auto, using(crate::proofs::PlainTexts::without_template, crate::proofs::PlainTexts::without_body, crate::proofs::PlainTexts::with_texts))]
     pub fn substituted(&self, alloc: Global, template: &[u8], body: &[u8]) -> Result<Text, Memory>
         ensures { IfOk result (λ text. text ≡ substituted self.now template.now body.now) }
     {

@@ -1,23 +1,18 @@
 //! The table of commands, and what each reads in the words after its name.
-ghost use Rattle.std.specs.Prelude.{◌≡◌, ◌⊎◌, ◌∷◌, true, false, bytes_eq, Ok, Err, IfOk, IfErr, map, option_map};
-ghost use Rattle.std.specs.List.{list_any};
+ghost use Rattle.std.specs.Prelude.{◌≡◌, ◌⊎◌, ◌∷◌, true, false, Ok, Err, IfOk, IfErr, map, option_map};
 ghost use Rattle.bz_command_syntax.specs.Commands as c;
 ghost use Rattle.bz_command_syntax.specs.Proper.{AreUtf8};
 ghost use Rattle.bz_command_syntax.specs.Refused.{IsCommandFault, IsReadAs, IsReadFault};
 
 use crate::command::Command;
-use crate::dicts::{dict_add_of, dict_remove_of, dict_set_of};
 use crate::fault::CommandFault;
-use crate::fixing::fix_of;
 use crate::forms::{Read, as_text, take_first};
-use crate::hosts::{comment_of, print_comment_of, remove_comment_of};
-use crate::loads::new_load_of;
-use crate::printing::print_of;
+use crate::lists::{dict_add_of, dict_remove_of, dict_set_of, new_load_of, print_of};
 use crate::reading::{
-    add_of, copy_no_overwrite_of, copy_of, delete_of, move_of, new_of, remove_of, rename_of,
-    replace_of, set_if_absent_of, set_of,
+    add_of, comment_of, copy_no_overwrite_of, copy_of, delete_of, fix_of, move_of, new_of,
+    print_comment_of, remove_comment_of, remove_of, rename_of, replace_of, set_if_absent_of,
+    set_of, substitute_of,
 };
-use crate::substituting::substitute_of;
 use crate::words::read_words;
 use bz_items::Text;
 use std::alloc::Global;
@@ -97,18 +92,6 @@ pub fn command_form(name: &str) -> Option<&'static str>
     row_named(COMMAND_FORMS, name)
 }
 
-fn is_among(name: &str, names: &[&str]) -> bool
-    ensures { result ≡ list_any (λ known. bytes_eq name.now known.now) names.now }
-{
-    names.iter().any(|known| name == *known)
-}
-
-fn is_command(name: &str) -> bool
-    ensures { result ≡ list_any (bytes_eq name.now) c.command_names }
-{
-    is_among(name, COMMAND_NAMES)
-}
-
 // What the command of this name reads in the words after it.
 #[tactic(auto, using(crate::proofs::Named::by_name))]
 fn read_named(name: &str, words: Vec<Text>) -> Read
@@ -119,13 +102,13 @@ fn read_named(name: &str, words: Vec<Text>) -> Read
 }
 
 // What is reported of a text that is too long: an unknown name first. The further words are not read.
+#[tactic(auto, using(crate::proofs::Named::too_long))]
 fn too_long(name: &str) -> CommandFault
     ensures { (words : _) → c.command_in false (name.now ∷ words) ≡ Err result }
 {
-    if is_command(name) {
-        CommandFault::Arguments
-    } else {
-        CommandFault::Unknown
+    match command_form(name) {
+        Some(_) => CommandFault::Arguments,
+        None => CommandFault::Unknown,
     }
 }
 
@@ -149,6 +132,7 @@ pub const TEXT_LIMIT: usize = 65_536;
 
 impl Command {
     /// The command of these words; `fits` says that their text is not too long. The errors are those of `read`.
+    #[tactic(auto, using(crate::proofs::ProperCommands::read_proper))]
     pub fn of_words(words: Vec<Text>, fits: bool) -> Result<Command, CommandFault>
         requires { AreUtf8 words.items }
         ensures ok { IfOk result (λ command. c.command_in fits words.items ≡ Ok command) }

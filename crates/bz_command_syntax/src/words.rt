@@ -1,7 +1,11 @@
-//! The words of a command's text.
-ghost use Rattle.std.specs.Prelude.{◌≡◌, ◌==◌, [], ◌∷◌, ◌++◌, filter, not, OnOk, IfOk, IsUtf8, ◌&&◌};
-ghost use Rattle.bz_items.specs.Characters.{backslash, space};
+//! The words of a command's text, and words as strings.
+ghost use Rattle.std.specs.Prelude.{◌≡◌, ◌==◌, [], ◌∷◌, ◌++◌, filter, not, OnOk, IfOk, IsUtf8, ◌&&◌, false};
+ghost use Rattle.std.specs.List.{list_any};
+ghost use Rattle.bz_token.specs.declared.class.Class.TheVariants as class;
+ghost use Rattle.bz_token.specs.Lexemes.{IsLexeme};
+ghost use Rattle.bz_items.specs.Characters.{backslash, quotation_mark, space};
 ghost use Rattle.bz_command_syntax.specs.Proper.{AreUtf8};
+ghost use Rattle.bz_command_syntax.specs.Quoted.{is_escaped, escaped, quoted_of};
 ghost use Rattle.bz_command_syntax.specs.Words.{words_of, words_after, begins_with_space, is_nonempty};
 
 use bz_items::{Memory, Text};
@@ -33,7 +37,7 @@ fn is_dropped(byte: u8, rest: &[u8]) -> bool
 }
 
 /// Reads a byte: a space that separates ends the word, a backslash that is dropped is passed over, and any other byte goes to the word.
-#[tactic(auto, using(crate::proofs::Pieces::words_at_backslash, crate::proofs::Pieces::words_at_byte))]
+#[tactic(auto, using(crate::proofs::Pieces::word_ended, crate::proofs::Pieces::words_at_backslash, crate::proofs::Pieces::words_at_byte))]
 fn read_byte(
     alloc: Global,
     byte: u8,
@@ -73,4 +77,39 @@ pub fn read_words(alloc: Global, text: &[u8]) -> Result<Vec<Text>, Memory>
     }
     close(&mut words, word)?;
     Ok(words)
+}
+
+fn push_escaped(text: &mut Vec<u8>, byte: u8) -> Result<(), Memory>
+    ensures { OnOk result (text.new.items ≡ text.old.items ++ escaped byte) }
+{
+    match byte {
+        b'\n' => text.extend_from_slice(b"\\n")?,
+        b'"' | b'\\' => text.extend_from_slice(&[b'\\', byte])?,
+        _ => text.push(byte)?,
+    }
+    Ok(())
+}
+
+fn between_marks(alloc: Global, word: &[u8]) -> Result<Text, Memory>
+    ensures { IfOk result (λ text. text ≡ quoted_of word.now) }
+{
+    let mut text = Vec::new(alloc);
+    text.push(b'"')?;
+    for byte in word {
+        push_escaped(&mut text, *byte)?;
+    }
+    text.push(b'"')?;
+    Ok(Text::from_vec(text))
+}
+
+/// The word as a string, which is a lexeme: between quotation marks, with a backslash before each quotation mark and each
+/// backslash, and each newline as a backslash and `n`. The error: a growth was refused.
+pub fn quoted(alloc: Global, word: &[u8]) -> Result<Text, Memory>
+    ensures value { IfOk result (λ text. text ≡ quoted_of word.now) }
+    ensures lexeme { IfOk result (IsLexeme class.String) }
+    ensures utf8 { IsUtf8 word.now → IfOk result IsUtf8 }
+    ensures plain { list_any is_escaped word.now ≡ false → IfOk result (λ text. text ≡ quotation_mark ∷ word.now ++ quotation_mark ∷ []) }
+{
+    let text = between_marks(alloc, word)?;
+    Ok(text)
 }

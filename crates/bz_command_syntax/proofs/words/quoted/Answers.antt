@@ -3,7 +3,7 @@ use Rattle.bz_token.specs.declared.class.Class.TheVariants as class
 use Rattle.bz_token.specs.Lexemes.{IsLexeme}
 use Rattle.bz_command_syntax.proofs.Strings.{quoted_lexeme, quoted_plain}
 use Rattle.bz_command_syntax.proofs.Utf8Texts.{quoted_utf8}
-use Rattle.bz_command_syntax.proofs.quoting.quoted.Goals as goal
+use Rattle.bz_command_syntax.proofs.words.quoted.Goals as goal
 
 pub returns-clause-lexeme : goal.returns-clause-lexeme
 returns-clause-lexeme c = subst (IsLexeme class.String) (sym c.in_ok-text.ensures) (quoted_lexeme c.args.word.now)

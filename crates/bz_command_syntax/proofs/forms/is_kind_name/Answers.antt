@@ -4,7 +4,7 @@ use Rattle.std.proofs.lemmas.Iterator.Splits.{YieldsList-from_slice_split}
 use borrow.Author.Tests.{tests}
 use Rattle.bz_items.specs.Characters.{full_stop}
 use Rattle.bz_command_syntax.specs.Identifiers.{is_identifier}
-use Rattle.bz_command_syntax.proofs.identifier.is_kind_name.Goals as goal
+use Rattle.bz_command_syntax.proofs.forms.is_kind_name.Goals as goal
 
 pub returns : goal.returns
 returns c = all_from_yields_List is_identifier _ _ _ c.all.ensures.ran

@@ -1,7 +1,7 @@
 use Rattle.std.proofs.Common.{sym, ◌∙◌}
 use Rattle.std.proofs.lemmas.Bool.{both_ways}
 use Rattle.bz_command_syntax.proofs.NameTests.{name_found, other_found, no_identifier}
-use Rattle.bz_command_syntax.proofs.identifier.is_identifier.Goals as goal
+use Rattle.bz_command_syntax.proofs.forms.is_identifier.Goals as goal
 
 pub returns-then-is_name : goal.returns-then-is_name
 returns-then-is_name c = name_found c.in-Some.found.class c.in-Some.found.len c.args.text.now c.in-Some.ensures.exact (c.is_name.ensures.0 c.if-is_name.true)

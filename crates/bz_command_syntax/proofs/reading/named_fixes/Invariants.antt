@@ -1,6 +1,6 @@
 use Rattle.std.proofs.Common.{◌≡◌, drop, false}
 use Rattle.bz_command_syntax.specs.Commands.{fixes_from}
-use Rattle.bz_command_syntax.proofs.fixing.named_fixes.Given as goal
+use Rattle.bz_command_syntax.proofs.reading.named_fixes.Given as goal
 
 -- the fixes so far go on as those of no word do with all words
 abbrev pub invariant-loop-word : goal.invariant-loop-word
