@@ -3,10 +3,8 @@
 
 use bz_buildozer::buildozer;
 use bz_files::DiskFiles;
-use bz_streams::{Device, report};
+use bz_streams::{Device, process_words, report_named};
 use std::alloc::AllocError;
-use std::env;
-use std::io::ErrorKind;
 use std::process::ExitCode;
 
 // The status of words that are no text, and of memory that is refused before the run.
@@ -14,42 +12,26 @@ const USAGE: u8 = 1;
 
 const FAILED: u8 = 2;
 
-// Prints why nothing is done, and passes the status on.
-fn unused(rt: &HostRuntime, line: &str, status: u8) -> u8 {
-    let mut err = Device::new(rt.stderr());
-    report(&mut err, &[line]);
-    status
-}
-
 // The status of a run over the words, the input, the outputs and the files of the process. The error: memory was refused.
 fn run(rt: &HostRuntime) -> Result<u8, AllocError> {
     let alloc = rt.alloc();
-    let words = match env::args(rt) {
-        Ok(words) => words,
-        Err(fault) if fault.kind() == ErrorKind::OutOfMemory => return Err(AllocError),
-        Err(_) => return Ok(unused(rt, "buildozer: an argument is not UTF-8\n", USAGE)),
+    let mut err = Device::new(rt.stderr());
+    let words = match process_words(rt, "buildozer", &mut err)? {
+        Some(words) => words,
+        None => return Ok(USAGE),
     };
-    let words: Vec<String> = words.skip(1).collect(alloc)?;
     let mut input = Device::new(rt.stdin());
     let mut out = Device::new(rt.stdout());
-    let mut err = Device::new(rt.stderr());
     let mut files = DiskFiles::new(alloc, rt);
-    Ok(
-        buildozer(
-            alloc,
-            words.as_slice(),
-            &mut input,
-            &mut out,
-            &mut err,
-            &mut files,
-        )
-        .status,
-    )
+    Ok(buildozer(alloc, &words, &mut input, &mut out, &mut err, &mut files).status)
 }
 
 fn main(rt: HostRuntime) -> ExitCode {
     match run(&rt) {
         Ok(status) => ExitCode::from(status),
-        Err(_) => ExitCode::from(unused(&rt, "buildozer: Memory\n", FAILED)),
+        Err(_) => {
+            report_named(&mut Device::new(rt.stderr()), "buildozer", "Memory");
+            ExitCode::from(FAILED)
+        }
     }
 }
