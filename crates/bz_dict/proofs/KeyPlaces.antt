@@ -27,14 +27,13 @@ use Rattle.std.proofs.lemmas.List.Folds.{list_any_none, list_any_at}
 use Rattle.std.proofs.lemmas.Map.Text.{is_eq-slice_cmp}
 use Rattle.bz_attribute.proofs.KeySets.{equal_texts, text_cmp}
 use Rattle.bz_attribute.specs.Sets.{texts_of}
-use Rattle.bz_dict.specs.private.Keys.{place_at, is_chosen, first_place, AreIndexed, entry_put, entries_put}
+use Rattle.bz_dict.specs.private.Keys.{place_at, is_chosen, first_place, AreIndexed, entry_put}
 use Rattle.std.proofs.lemmas.Iterator.Adapters.{position_from-zero}
-use Rattle.std.proofs.lemmas.List.{drop_more, drop_all}
 use Rattle.bz_rule.specs.Rules.{is_text, attribute}
 use Rattle.bz_attribute.specs.Attributes.{on_first_that, with_value, without, Arguments, by_value}
 use Rattle.bz_attribute.proofs.ArgumentPlaces.{IsFirst, is_first, none_passes, changed_at}
-use Rattle.bz_dict.specs.declared.entries.Change.{Change}
-use Rattle.bz_dict.specs.declared.entries.Change.TheVariants.{Add, Set}
+use Rattle.bz_dict.specs.declared.changing.Change.{Change}
+use Rattle.bz_dict.specs.declared.changing.Change.TheVariants.{Add, Set}
 use Rattle.bz_value.specs.Empty.{is_empty}
 use Rattle.bz_value.specs.declared.refusal.Refusal.TheVariants.{NotADict}
 
@@ -210,35 +209,6 @@ pub set_indexed : (current name : Bytes) (entry : Entry) (places : BTreeMap (Vec
 set_indexed current name entry places items at x all = λ key.
     all key
     ∙ sym (place_set (has_key key) 0 items at (with_entry_value current name entry (get_or items at x)) x (ap (is_text key) (key_kept current name entry (get_or items at x))))
-
--- ---- one turn of the loop that puts entries
-
-put_next : (change : Change) (current name : Bytes) (entry : Entry) (entries : List Entry) (items : List Expr)
-    → entries_put change current name (entry ∷ entries) items ≡ entries_put change current name entries (entry_put change current name entry items)
-put_next Add current name entry entries items = refl
-put_next Set current name entry entries items = refl
-
--- what is left to be put after an entry gives what was to be given before it
-pub put_turn : (change : Change) (current name : Bytes) (entries : List Entry) (at : ℕ) (entry : Entry) (before after all : List Expr)
-    → at < length entries → entry ≡ get_or entries at entry
-    → entries_put change current name (drop at entries) before ≡ all → after ≡ entry_put change current name entry before
-    → entries_put change current name (drop (at + 1) entries) after ≡ all
-put_turn change current name entries at entry before after all within is so_far put =
-    let rest : List Entry = drop (at + 1) entries in
-    let cut : drop at entries ≡ entry ∷ rest = drop_more entries at entry within ∙ ap (λ first. first ∷ rest) (sym is) in
-    ap (entries_put change current name rest) put
-    ∙ (sym (put_next change current name entry rest before)
-    ∙ (ap (λ left. entries_put change current name left before) (sym cut) ∙ so_far))
-
-put_done : (change : Change) (current name : Bytes) (items : List Expr) → entries_put change current name [] items ≡ items
-put_done Add current name items = refl
-put_done Set current name items = refl
-
--- nothing is left to be put
-pub put_end : (change : Change) (current name : Bytes) (entries : List Entry) (at : ℕ) (items all : List Expr)
-    → length entries ≤ at → entries_put change current name (drop at entries) items ≡ all → items ≡ all
-put_end change current name entries at items all following so_far =
-    sym (put_done change current name items) ∙ (ap (λ left. entries_put change current name left items) (sym (drop_all at entries following)) ∙ so_far)
 
 -- ---- what is left of an attribute whose dict loses entries
 

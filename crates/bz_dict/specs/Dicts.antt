@@ -38,14 +38,15 @@ has_some_key keys x = list_any (λ key. has_key key x) keys
 abbrev pub entry_made : Bytes → Bytes → Entry → Expr
 entry_made current name entry = node k.Entry (token c.String (quoted_of entry.key) ∷ mark (codes ":") ∷ string_of current name entry.value ∷ [])
 
--- ---- the entries of a dict, changed; the keys of one command are taken one after the other
+-- ---- the entries of a dict, changed
+
+-- the entries of one command are taken one after the other
+abbrev pub each_put : (Entry → List Expr → List Expr) → List Entry → List Expr → List Expr
+each_put put [] items = items
+each_put put (entry ∷ entries) items = each_put put entries (put entry items)
 
 abbrev pub with_entry : Bytes → Bytes → Entry → List Expr → List Expr
 with_entry current name entry items = if list_any (has_key entry.key) items then items else items ++ entry_made current name entry ∷ []
-
-abbrev pub with_entries : Bytes → Bytes → List Entry → List Expr → List Expr
-with_entries current name [] items = items
-with_entries current name (entry ∷ entries) items = with_entries current name entries (with_entry current name entry items)
 
 -- the value of an entry becomes this string
 abbrev pub with_entry_value : Bytes → Bytes → Entry → Expr → Expr
@@ -56,10 +57,6 @@ abbrev pub with_entry_set : Bytes → Bytes → Entry → List Expr → List Exp
 with_entry_set current name entry items =
     if list_any (has_key entry.key) items then on_first_that (has_key entry.key) (with_entry_value current name entry) items
     else items ++ entry_made current name entry ∷ []
-
-abbrev pub with_entries_set : Bytes → Bytes → List Entry → List Expr → List Expr
-with_entries_set current name [] items = items
-with_entries_set current name (entry ∷ entries) items = with_entries_set current name entries (with_entry_set current name entry items)
 
 -- all entries of these keys are gone
 abbrev pub without_entries : List Bytes → List Expr → List Expr
@@ -77,10 +74,10 @@ on_dict name change arguments =
     (λ value. if has_kind k.Dict value then Ok (with_value name (on_items k.Dict change value) arguments) else Err NotADict)
 
 abbrev pub dict_add : Bytes → Bytes → List Entry → List Expr → Arguments
-dict_add current name entries arguments = on_dict name (with_entries current name entries) arguments
+dict_add current name entries arguments = on_dict name (each_put (with_entry current name) entries) arguments
 
 abbrev pub dict_set : Bytes → Bytes → List Entry → List Expr → Arguments
-dict_set current name entries arguments = on_dict name (with_entries_set current name entries) arguments
+dict_set current name entries arguments = on_dict name (each_put (with_entry_set current name) entries) arguments
 
 -- the attribute goes where its dict is then empty
 abbrev pub cleared_dict : Bytes → List Expr → Expr → List Expr → List Expr

@@ -7,7 +7,7 @@ use Rattle.bz_rule.specs.Values.{items_of, on_items}
 use Rattle.bz_value.specs.Empty.{is_empty}
 use Rattle.bz_dict.specs.private.Keys.{is_chosen}
 use Rattle.bz_dict.proofs.KeyPlaces.{emptied, remaining, same_value}
-use Rattle.bz_dict.proofs.removing.remove_chosen.Goals as goal
+use Rattle.bz_dict.proofs.changing.remove_chosen.Goals as goal
 
 pub returns-then-has_no_items : goal.returns-then-has_no_items
 returns-then-has_no_items c = λ value own is.

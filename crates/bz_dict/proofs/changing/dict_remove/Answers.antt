@@ -6,7 +6,7 @@ use Rattle.bz_rule.specs.Rules.{attribute}
 use Rattle.bz_rule.specs.Values.{has_kind, items_of}
 use Rattle.bz_dict.specs.private.Keys.{is_chosen}
 use Rattle.bz_dict.proofs.KeyPlaces.{removed}
-use Rattle.bz_dict.proofs.removing.dict_remove.Goals as goal
+use Rattle.bz_dict.proofs.changing.dict_remove.Goals as goal
 
 pub returns-clause-ok : goal.returns-clause-ok
 returns-clause-ok c =
