@@ -1,8 +1,8 @@
--- What the texts that mean one value end with: a glance at the end of an item tells most items from a word.
-use Rattle.std.proofs.Common.{◌≡◌, Bool, true, false, ◌||◌, ◌&&◌, [], ◌++◌, Option, Some, None, inl, inr, refl, sym, ap, ◌∙◌, true≢false, length, ◌-◌, take, drop, take-append-drop, append_assoc, codes, not}
+-- What the texts that mean one value end with, so that most items are seen at their end to be none that a word means.
+use Rattle.std.proofs.Common.{◌≡◌, Bool, true, false, ◌||◌, ◌&&◌, List, [], ◌++◌, Option, Some, None, inl, inr, refl, sym, ap, ◌∙◌, true≢false, length, ◌-◌, take, take-append-drop, append_assoc, codes, not}
 use Rattle.std.specs.Prelude.{nat_eq, if◌then◌else◌}
 use Rattle.std.specs.Cmp.{unsigned_Decides}
-use Rattle.std.specs.List.{ends_with, suffix_len}
+use Rattle.std.specs.List.{ends_with, flat_map, list_any, suffix_len}
 use Rattle.std.specs.Option.{option_and_then, option_map, option_map_or}
 use Rattle.std.proofs.lemmas.Slice.Eq.{ends_is}
 use Rattle.bz_token.specs.declared.class.Class.TheVariants as c
@@ -19,8 +19,10 @@ use Rattle.bz_value.specs.declared.value.Expr.{Expr, Token, Form'}
 use Rattle.bz_items.specs.Characters.{Bytes, apostrophe, quotation_mark}
 use Rattle.bz_rule.specs.Rules.{body, inner, is_plain_in}
 use Rattle.bz_rule.specs.Values.{text_of}
-use Rattle.bz_attribute.specs.Lists.{are_one, body_of, is_item}
+use Rattle.bz_attribute.specs.Lists.{are_one, body_of, is_item, listed}
 use Rattle.bz_attribute.proofs.FormsAgain.{found_if, if_true}
+use Rattle.bz_attribute.proofs.KeySets.{any_like}
+use Rattle.bz_attribute.proofs.ListsThere.{any_listed}
 use Rattle.bz_list.specs.private.Listing.{is_item_ending}
 
 -- ---- texts that mean one value end with one name
@@ -77,8 +79,14 @@ implied true c f = refl
 implied false true f = f refl
 implied false false f = refl
 
-pub item_ending : (current attribute word end : Bytes) → ((other : Bytes) → are_one current attribute word other ≡ true → ends_with nat_eq other end ≡ true) → (x : Expr)
+item_ending : (current attribute word end : Bytes) → ((other : Bytes) → are_one current attribute word other ≡ true → ends_with nat_eq other end ≡ true) → (x : Expr)
     → is_item_ending current attribute word end x ≡ is_item current attribute word x
 item_ending current attribute word end f x =
     implied (ends_with nat_eq (inner (text_of x)) end) (is_item current attribute word x)
     (λ h. let w = some_found (are_one current attribute word) (body_of x) h in ap (λ z. ends_with nat_eq z end) (item_inner x w.0 w.1) ∙ f w.0 w.2)
+
+pub in_lists : (current attribute word end : Bytes) (operands items : List Expr) → ((other : Bytes) → are_one current attribute word other ≡ true → ends_with nat_eq other end ≡ true)
+    → flat_map listed operands ≡ items → list_any (λ x. list_any (is_item_ending current attribute word end) (listed x)) operands ≡ list_any (is_item current attribute word) items
+in_lists current attribute word end operands items f are =
+    sym (any_listed (is_item_ending current attribute word end) operands) ∙ (ap (list_any (is_item_ending current attribute word end)) are
+    ∙ any_like (is_item_ending current attribute word end) (is_item current attribute word) (item_ending current attribute word end f) items)

@@ -4,7 +4,6 @@ use Rattle.std.specs.Prelude.{bytes_eq, Option, Some, None, if◌then◌else◌}
 use Rattle.std.specs.List.{list_any, flat_map}
 use Rattle.std.specs.Option.{option_map_or}
 use Rattle.std.specs.declared.cmp.Ordering.{Ordering}
-use Rattle.std.specs.declared.cmp.Ordering.TheVariants.{Equal}
 use Rattle.std.specs.Ordering.{is_eq, ordering_then, bool_cmp, nat_cmp}
 use Rattle.std.specs.Cmp.{tied_then}
 use Rattle.std.specs.Cmp.Lexicographic.{slice_cmp}
@@ -15,7 +14,6 @@ use Rattle.std.proofs.lemmas.List.{drop_more}
 use Rattle.std.proofs.lemmas.List.Folds.{list_any_none}
 use Rattle.std.proofs.lemmas.Map.Text.{is_eq-slice_cmp}
 use Rattle.std.proofs.Math.Path.{fun_ext}
-use Rattle.std.proofs.lemmas.Cmp.{nat_list_eq_equiv}
 use Rattle.bz_label.specs.declared.label.Label.{Label}
 use Rattle.bz_label.specs.Read.{label_in, is_equal, are_equal, is_same}
 use Rattle.bz_label.specs.Tables.{is_label_attribute}
@@ -29,7 +27,7 @@ use Rattle.bz_list.specs.declared.known.Chosen.TheVariants as h
 use Rattle.bz_list.specs.declared.known.Key.{Key}
 use Rattle.bz_list.specs.contracts.known.KeyOrd.TheImpl as key_ord
 use Rattle.bz_list.specs.private.Listing.{chooses}
-use Rattle.bz_list.specs.private.KnownValues.{mean_the_same, key_by, key_of, are_one_key, parts_of_key, keys_of, KnownValues, Membership, membership, none_known, with_word, with_words, is_known_item, with_item, with_known_items}
+use Rattle.bz_list.specs.private.KnownValues.{mean_the_same, key_by, word_key, are_one_key, parts_of_key, parts_of_keys, KnownValues, Membership, membership, none_known, with_word, with_words, is_known_item, with_item, with_known_items}
 
 -- ---- equal keys
 
@@ -78,28 +76,28 @@ keys_apart word other (Some one) None e = refl
 keys_apart word other None (Some two) e = refl
 keys_apart word other None None e = sym e
 
-same_keys : (current word other : Bytes) → is_same current word other ≡ are_one_key (key_of true current word) (key_of true current other)
+same_keys : (current word other : Bytes) → is_same current word other ≡ are_one_key (word_key true current word) (word_key true current other)
 same_keys current word other =
     let same : (b : Bool) → bytes_eq word other ≡ b → is_same current word other ≡ (b || are_equal (label_in current word) (label_in current other)) =
     λ b e. ap (λ z. z || are_equal (label_in current word) (label_in current other)) e in
     elim (cases_Bool (bytes_eq word other)) [
-      | inl w ↦ same true w ∙ (sym (own_key (key_of true current word)) ∙ ap (λ z. are_one_key (key_of true current word) (key_of true current z)) (equal_texts word other w))
+      | inl w ↦ same true w ∙ (sym (own_key (word_key true current word)) ∙ ap (λ z. are_one_key (word_key true current word) (word_key true current z)) (equal_texts word other w))
       | inr w ↦ same false w ∙ keys_apart word other (label_in current word) (label_in current other) w
     ]
 
-alike_keys : (is_label : Bool) (current word other : Bytes) → mean_the_same is_label current word other ≡ are_one_key (key_of is_label current word) (key_of is_label current other)
+alike_keys : (is_label : Bool) (current word other : Bytes) → mean_the_same is_label current word other ≡ are_one_key (word_key is_label current word) (word_key is_label current other)
 alike_keys true current word other = same_keys current word other
 alike_keys false current word other = refl
 
 alike_both : (is_label : Bool) (current one other : Bytes) → mean_the_same is_label current one other ≡ mean_the_same is_label current other one
 alike_both is_label current one other =
-    alike_keys is_label current one other ∙ (key_alike (key_of is_label current one) (key_of is_label current other) ∙ sym (alike_keys is_label current other one))
+    alike_keys is_label current one other ∙ (key_alike (word_key is_label current one) (word_key is_label current other) ∙ sym (alike_keys is_label current other one))
 
 -- what means the same as another word means the same as any third one just where the other does
 pub meant_alike : (is_label : Bool) (current word other third : Bytes) → mean_the_same is_label current word other ≡ true → mean_the_same is_label current word third ≡ mean_the_same is_label current other third
 meant_alike is_label current word other third h =
     alike_keys is_label current word third
-    ∙ (ap (λ key. are_one_key key (key_of is_label current third)) (equal_keys _ _ (sym (alike_keys is_label current word other) ∙ h)) ∙ sym (alike_keys is_label current other third))
+    ∙ (ap (λ key. are_one_key key (word_key is_label current third)) (equal_keys _ _ (sym (alike_keys is_label current word other) ∙ h)) ∙ sym (alike_keys is_label current other third))
 
 -- ---- items and words
 
@@ -170,13 +168,13 @@ key_ties one other =
     (texts_tie a b _ ∙ (ap (λ z. bytes_eq a b && z) (texts_tie c d _ ∙ ap (λ z. bytes_eq c d && z) (is_eq-slice_cmp one.name.items other.name.items))
     ∙ and_turn (bytes_eq a b) (bytes_eq c d) (bytes_eq one.name.items other.name.items)))
 
-pub key_found : (set : BTreeSet Key) (key : Key) → list_any (is_at (key_cmp key)) set.keys ≡ list_any (are_one_key (parts_of_key key)) (keys_of set)
+pub key_found : (set : BTreeSet Key) (key : Key) → list_any (is_at (key_cmp key)) set.keys ≡ list_any (are_one_key (parts_of_key key)) (parts_of_keys set)
 key_found set key =
     any_like (is_at (key_cmp key)) (λ other. are_one_key (parts_of_key key) (parts_of_key other)) (key_ties key) set.keys
     ∙ sym (any_map (are_one_key (parts_of_key key)) parts_of_key set.keys)
 
 pub key_inserted : (old new : BTreeSet Key) (key : Key) (word : Bool × Label) → new.keys ≡ insert_key key_cmp old.keys key
-    → list_any (are_one_key word) (keys_of new) ≡ (are_one_key word (parts_of_key key) || list_any (are_one_key word) (keys_of old))
+    → list_any (are_one_key word) (parts_of_keys new) ≡ (are_one_key word (parts_of_key key) || list_any (are_one_key word) (parts_of_keys old))
 key_inserted old new key word e =
     ap (λ keys. list_any (are_one_key word) (map parts_of_key keys)) e
     ∙ (any_map (are_one_key word) parts_of_key (insert_key key_cmp old.keys key)
@@ -185,7 +183,7 @@ key_inserted old new key word e =
     ∙ ap (λ z. are_one_key word (parts_of_key key) || z) (sym (any_map (are_one_key word) parts_of_key old.keys))))
 
 abbrev kept : Bytes → Bool → BTreeSet Key → KnownValues
-kept current is_label set = record { current = current; is_label = is_label; keys = keys_of set }
+kept current is_label set = record { current = current; is_label = is_label; keys = parts_of_keys set }
 
 -- no keys
 pub none_kept : (current now attribute : Bytes) (is_label : Bool) (set : BTreeSet Key) → current ≡ now → is_label ≡ is_label_attribute attribute → set.keys ≡ []
@@ -196,12 +194,12 @@ none_kept current now attribute is_label set here kind none =
 
 -- one more word
 pub more_kept : (current : Bytes) (is_label : Bool) (set more : BTreeSet Key) (known : KnownValues) (text : Bytes) (key : Bool × Label)
-    → kept current is_label set ≡ known → key ≡ key_of known.is_label known.current text
-    → ((word : Bool × Label) → list_any (are_one_key word) (keys_of more) ≡ (are_one_key word key || list_any (are_one_key word) (keys_of set)))
+    → kept current is_label set ≡ known → key ≡ word_key known.is_label known.current text
+    → ((word : Bool × Label) → list_any (are_one_key word) (parts_of_keys more) ≡ (are_one_key word key || list_any (are_one_key word) (parts_of_keys set)))
     → membership (kept current is_label more) ≡ with_word text (membership known)
 more_kept current is_label set more known text key view is e =
-    let own : key ≡ key_of is_label current text = is ∙ ap (λ (k : KnownValues). key_of k.is_label k.current text) (sym view) in
+    let own : key ≡ word_key is_label current text = is ∙ ap (λ (k : KnownValues). word_key k.is_label k.current text) (sym view) in
     ap (λ (test : Bytes → Bool). record { current = current; is_label = is_label; is_known = test })
-    (fun_ext (λ word. e (key_of is_label current word) ∙ ap (λ z. z || list_any (are_one_key (key_of is_label current word)) (keys_of set))
-    (ap (are_one_key (key_of is_label current word)) own ∙ sym (alike_keys is_label current word text))))
+    (fun_ext (λ word. e (word_key is_label current word) ∙ ap (λ z. z || list_any (are_one_key (word_key is_label current word)) (parts_of_keys set))
+    (ap (are_one_key (word_key is_label current word)) own ∙ sym (alike_keys is_label current word text))))
     ∙ ap (λ (k : KnownValues). with_word text (membership k)) view

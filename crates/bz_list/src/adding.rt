@@ -1,6 +1,6 @@
 //! Items that are added to the lists of an attribute: words, or items that come from another attribute. An expression that is not
 //! needed is handed to `drop`: dropped by the end of its scope, each form of it would be a path of that function's proof.
-ghost use Rattle.std.specs.Prelude.{◌≡◌, ◌⊎◌, ◌++◌, ◌∷◌, [], List, ℕ, Ok, Err, IfOk, OnOk, IfErr, map, nat_eq, true};
+ghost use Rattle.std.specs.Prelude.{◌≡◌, ◌⊎◌, ◌++◌, ◌∷◌, [], List, Ok, Err, IfOk, OnOk, IfErr, map, nat_eq, true};
 ghost use Rattle.std.specs.List.{ends_with, list_any, position};
 ghost use Rattle.std.specs.Option.{option_map_or};
 ghost use Rattle.bz_grammar.specs.declared.kind.Kind.TheVariants as kinds;
@@ -11,7 +11,7 @@ ghost use Rattle.bz_attribute.specs.Attributes.{on_first_that};
 ghost use Rattle.bz_attribute.specs.Lists.{are_one, fresh, is_item as is_item_of, items_in, listed, travelled as as_travelled, with_more};
 ghost use Rattle.bz_attribute.specs.Made.{list_of as list_made, plus as sum_made, string_of as string_made};
 ghost use Rattle.bz_list.specs.Changes.{with_items_added};
-ghost use Rattle.bz_list.specs.private.KnownValues.{Membership, membership, new_words, new_items as items_new};
+ghost use Rattle.bz_list.specs.private.KnownValues.{membership, new_words, new_items as items_new};
 ghost use Rattle.bz_list.specs.private.Listing.{added_by, added_to, is_item_ending, with_added};
 ghost use Rattle.bz_rule.specs.Rules.{inner};
 

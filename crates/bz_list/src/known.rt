@@ -6,7 +6,7 @@ ghost use Rattle.bz_label.specs.Forms.{label_of};
 ghost use Rattle.bz_label.specs.declared.label.Label.{Label};
 ghost use Rattle.bz_attribute.specs.Lists.{items_in, is_some_item, listed};
 ghost use Rattle.bz_list.specs.Changes.{is_moved};
-ghost use Rattle.bz_list.specs.private.KnownValues.{parts_of_key, keys_of, key_of, label_meant, are_one_key, membership, none_known, with_word, with_words, is_known_item, with_item, with_known_items};
+ghost use Rattle.bz_list.specs.private.KnownValues.{parts_of_key, parts_of_keys, word_key, label_meant, are_one_key, membership, none_known, with_word, with_words, is_known_item, with_item, with_known_items};
 ghost use Rattle.bz_list.specs.private.Listing.{chooses};
 
 use bz_attribute::{Slot, body_of, has_kind, items_of, operands_of};
@@ -45,7 +45,7 @@ impl Key {
 /// Whether one of the keys is this one.
 #[tactic(auto, using(crate::proofs::KnownSteps::key_found))]
 fn has_key(keys: &BTreeSet<Key>, key: &Key) -> bool
-    ensures { result ≡ list_any (are_one_key (parts_of_key key.now)) (keys_of keys.now) }
+    ensures { result ≡ list_any (are_one_key (parts_of_key key.now)) (parts_of_keys keys.now) }
 {
     keys.contains(key)
 }
@@ -53,7 +53,7 @@ fn has_key(keys: &BTreeSet<Key>, key: &Key) -> bool
 /// The key is one of them from now on.
 #[tactic(auto, using(crate::proofs::KnownSteps::key_inserted))]
 fn insert_key(keys: &mut BTreeSet<Key>, key: Key) -> Result<(), Memory>
-    ensures { (other : Bool × Label) → OnOk result (list_any (are_one_key other) (keys_of keys.new) ≡ (are_one_key other (parts_of_key key) || list_any (are_one_key other) (keys_of keys.old))) }
+    ensures { (other : Bool × Label) → OnOk result (list_any (are_one_key other) (parts_of_keys keys.new) ≡ (are_one_key other (parts_of_key key) || list_any (are_one_key other) (parts_of_keys keys.old))) }
 {
     keys.insert(key)?;
     Ok(())
@@ -69,15 +69,16 @@ pub(crate) struct Known {
 }
 
 impl Model for Known {
-    ghost use Rattle.bz_list.specs.private.KnownValues.{KnownValues, keys_of};
+    ghost use Rattle.bz_list.specs.private.KnownValues.{KnownValues, parts_of_keys};
 
     ghost Value = { KnownValues };
 
-    ghost view = { λ known. record { current = known.current; is_label = known.is_label; keys = keys_of known.keys } };
+    ghost view = { λ known. record { current = known.current; is_label = known.is_label; keys = parts_of_keys known.keys } };
 }
 
 impl Known {
     /// No values of the attribute.
+    #[tactic(auto, using(crate::proofs::KnownSteps::none_kept))]
     pub(crate) fn new(slot: Slot<'_>) -> Result<Known, Memory>
         ensures { IfOk result (λ known. membership known ≡ none_known slot.entry.current.now slot.entry.attribute.now) }
     {
@@ -101,7 +102,7 @@ impl Known {
     }
 
     fn key_of(&self, word: &[u8]) -> Result<Key, Memory>
-        ensures { IfOk result (λ key. parts_of_key key ≡ key_of self.now.is_label self.now.current word.now) }
+        ensures { IfOk result (λ key. parts_of_key key ≡ word_key self.now.is_label self.now.current word.now) }
     {
         match self.label(word) {
             Some(parts) => Ok(Key::new(self.alloc, true, parts)?),

@@ -26,8 +26,8 @@ abbrev pub key_by : Bytes → Option Label → Bool × Label
 key_by word (Some label) = (true, label)
 key_by word None = (false, record { repository = []; «package» = []; name = word })
 
-abbrev pub key_of : Bool → Bytes → Bytes → Bool × Label
-key_of is_label current word = key_by word (label_meant is_label current word)
+abbrev pub word_key : Bool → Bytes → Bytes → Bool × Label
+word_key is_label current word = key_by word (label_meant is_label current word)
 
 abbrev pub are_one_key : Bool × Label → Bool × Label → Bool
 are_one_key one other = (if one.0 then other.0 else not other.0) && is_equal one.1 other.1
@@ -35,8 +35,8 @@ are_one_key one other = (if one.0 then other.0 else not other.0) && is_equal one
 abbrev pub parts_of_key : Key → Bool × Label
 parts_of_key key = (key.is_label, record { repository = key.repository.items; «package» = key.«package».items; name = key.name.items })
 
-abbrev pub keys_of : BTreeSet Key → List (Bool × Label)
-keys_of set = map parts_of_key set.keys
+abbrev pub parts_of_keys : BTreeSet Key → List (Bool × Label)
+parts_of_keys set = map parts_of_key set.keys
 
 -- values of an attribute, as they are kept
 pub record KnownValues : Type 0 where
@@ -51,7 +51,7 @@ pub record Membership : Type 0 where
   pub is_known : Bytes → Bool
 
 abbrev pub membership : KnownValues → Membership
-membership known = record { current = known.current; is_label = known.is_label; is_known = λ word. list_any (are_one_key (key_of known.is_label known.current word)) known.keys }
+membership known = record { current = known.current; is_label = known.is_label; is_known = λ word. list_any (are_one_key (word_key known.is_label known.current word)) known.keys }
 
 abbrev pub none_known : Bytes → Bytes → Membership
 none_known current attribute = record { current = current; is_label = is_label_attribute attribute; is_known = λ word. false }
