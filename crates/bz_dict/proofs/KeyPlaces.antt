@@ -1,5 +1,5 @@
 -- An entry with another value has its key.
-use Rattle.std.proofs.Common.{◌≡◌, true, List, [], ◌∷◌, refl, sym, ap, ◌∙◌, ℕ, false, subst, inl, inr, ◌<◌, ◌≤◌, ◌+◌, zero, suc, Bool, ◌++◌, length, get_or, set, drop, cond, arith, true≢false, not}
+use Rattle.std.proofs.Common.{◌≡◌, true, List, [], ◌∷◌, refl, sym, ap, ◌∙◌, ℕ, false, subst, inl, inr, ◌<◌, ◌+◌, zero, suc, Bool, ◌++◌, length, get_or, set, cond, arith, true≢false, not}
 use Rattle.std.specs.Prelude.{None, Vec, Option, Some, bytes_eq, if◌then◌else◌, is_some, Ok, Err}
 use Rattle.bz_grammar.specs.declared.kind.Kind.{Kind}
 use Rattle.bz_grammar.specs.declared.kind.Kind.TheVariants as k
@@ -9,7 +9,7 @@ use Rattle.bz_command_syntax.specs.declared.command.Entry.{Entry}
 use Rattle.bz_rule.specs.Values.{has_kind, parts_of, items_of, with_parts, with_items, on_row, on_items, on_third}
 use Rattle.bz_rule.proofs.ProperChanges.{by_case}
 use Rattle.bz_attribute.specs.Made.{string_of, mark}
-use Rattle.bz_attribute.proofs.FormsAgain.{if_true, parts_kind, parts_filled, items_filled, if_false}
+use Rattle.bz_attribute.proofs.FormsAgain.{both, if_true, parts_kind, parts_filled, items_filled, if_false}
 use Rattle.bz_dict.specs.Dicts.{key_in, key_of, with_entry_value, has_some_key, has_key, entry_made, without_entries, cleared_dict, without_keys, dict_remove}
 use Rattle.std.specs.List.{list_any, position_from, filter}
 use Rattle.std.specs.Map.{KeepsOthers}
@@ -212,35 +212,21 @@ set_indexed current name entry places items at x all = λ key.
 
 -- ---- what is left of an attribute whose dict loses entries
 
--- no entry is left
-pub emptied : (test : Expr → Bool) (name : Bytes) (value new : Expr) (arguments after : List Expr) → has_kind k.Dict value ≡ true → new ≡ on_items k.Dict (filter test) value
-    → is_empty (items_of new) ≡ true → without name after ≡ without name arguments → without name after ≡ cleared_dict name (filter test (items_of value)) value arguments
-emptied test name value new arguments after is same none gone =
-    gone
-    ∙ sym (if_true (is_empty (filter test (items_of value))) (without name arguments) (with_value name (on_items k.Dict (λ old. filter test (items_of value)) value) arguments)
-    (sym (ap (λ (x : Expr). is_empty (items_of x)) same ∙ ap is_empty (items_changed k.Dict (filter test) value is)) ∙ none))
-
--- some are left
-pub remaining : (test : Expr → Bool) (name : Bytes) (value new : Expr) (arguments after : List Expr) → has_kind k.Dict value ≡ true → new ≡ on_items k.Dict (filter test) value
-    → is_empty (items_of new) ≡ false → ((other : Expr) → with_value name other after ≡ with_value name other arguments)
-    → with_value name new after ≡ cleared_dict name (filter test (items_of value)) value arguments
-remaining test name value new arguments after is same some place =
-    place new
-    ∙ (ap (λ (x : Expr). with_value name x arguments) same
-    ∙ sym (if_false (is_empty (filter test (items_of value))) (without name arguments) (with_value name (on_items k.Dict (λ old. filter test (items_of value)) value) arguments)
-    (sym (ap (λ (x : Expr). is_empty (items_of x)) same ∙ ap is_empty (items_changed k.Dict (filter test) value is)) ∙ some)))
+pub cleared_same : (name : Bytes) (value : Expr) (arguments after : List Expr) → ((other : Expr) → with_value name other after ≡ with_value name other arguments) → without name after ≡ without name arguments
+    → cleared_dict name value after ≡ cleared_dict name value arguments
+cleared_same name value arguments after place gone = both (λ xs ys. if is_empty (items_of value) then xs else ys) gone (place value)
 
 -- entries of the keys are there
 pub removed : (name : Bytes) (keys : List Bytes) (chosen : Expr → Bool) (value : Expr) (arguments new : List Expr) → attribute name arguments ≡ Some value → has_kind k.Dict value ≡ true
-    → chosen ≡ has_some_key keys → list_any chosen (items_of value) ≡ true → new ≡ cleared_dict name (filter (λ x. not (chosen x)) (items_of value)) value arguments
+    → chosen ≡ has_some_key keys → list_any chosen (items_of value) ≡ true → new ≡ cleared_dict name (on_items k.Dict (filter (λ x. not (chosen x))) value) arguments
     → dict_remove name keys arguments ≡ Ok new
 removed name keys chosen value arguments new own is same any e =
     ap (λ (o : Option Expr). by_value o (Ok arguments) (λ (x : Expr). if has_kind k.Dict x then Ok (without_keys name keys x arguments) else Err NotADict)) own
     ∙ (if_true {X = Arguments} (has_kind k.Dict value) (Ok (without_keys name keys value arguments)) (Err NotADict) is
     ∙ ap (λ (xs : List Expr). Ok xs)
-    (if_true (list_any (has_some_key keys) (items_of value)) (cleared_dict name (without_entries keys (items_of value)) value arguments) arguments
+    (if_true (list_any (has_some_key keys) (items_of value)) (cleared_dict name (on_items k.Dict (without_entries keys) value) arguments) arguments
     (ap (λ (test : Expr → Bool). list_any test (items_of value)) (sym same) ∙ any)
-    ∙ sym (e ∙ ap (λ (test : Expr → Bool). cleared_dict name (filter (λ x. not (test x)) (items_of value)) value arguments) same)))
+    ∙ sym (e ∙ ap (λ (test : Expr → Bool). cleared_dict name (on_items k.Dict (filter (λ x. not (test x))) value) arguments) same)))
 
 -- one value
 pub same_value : (one other : Expr) (found : Option Expr) → Some one ≡ found → found ≡ Some other → one ≡ other

@@ -1,5 +1,5 @@
 -- Entries that are added, set and removed: which keys are there afterwards.
-use Rattle.std.proofs.Common.{◌≡◌, Bool, true, false, not, ◌||◌, List, [], ◌∷◌, ◌++◌, Option, Some, None, Ok, Err, refl, sym, ap, ◌∙◌, subst, codes, true≢false}
+use Rattle.std.proofs.Common.{◌≡◌, Bool, true, false, not, ◌||◌, List, [], ◌∷◌, ◌++◌, Option, Some, None, Ok, Err, refl, sym, ap, ◌∙◌, codes, true≢false}
 use Rattle.std.specs.Prelude.{if◌then◌else◌, is_some}
 use Rattle.std.specs.List.{AllByRecursion, filter, list_any}
 use Rattle.std.specs.Option.{option_map_or}
@@ -13,16 +13,17 @@ use Rattle.bz_command_syntax.specs.declared.command.Entry.{Entry}
 use Rattle.bz_command_syntax.specs.Quoted.{is_escaped, quoted_of}
 use Rattle.bz_command_syntax.specs.Words.{is_nonempty}
 use Rattle.bz_rule.specs.Rules.{attribute, is_text}
-use Rattle.bz_rule.specs.Values.{has_kind, items_of, on_items}
+use Rattle.bz_rule.specs.Values.{has_kind, items_of, on_items, with_items}
 use Rattle.bz_rule.proofs.ProperChanges.{by_test, by_case}
+use Rattle.bz_value.specs.Empty.{is_empty}
 use Rattle.bz_value.specs.declared.refusal.Refusal.TheVariants.{NotADict}
-use Rattle.bz_attribute.specs.Attributes.{Arguments, has_attribute, on_first_that, with_value, with_new}
+use Rattle.bz_attribute.specs.Attributes.{Arguments, has_attribute, on_first_that, with_value, with_new, without}
 use Rattle.bz_attribute.specs.Made.{token, mark, string_of}
 use Rattle.bz_dict.specs.Dicts.{key_in, key_of, has_key, has_some_key, entry_made, each_put, with_entry, with_entry_value, with_entry_set, without_entries, dict_of, on_dict, cleared_dict, without_keys, dict_remove}
 use Rattle.bz_dict.specs.Laws.{are_keys, has_keys, have_plain_keys, keys_of, EntriesAddedAgain, EntriesAddedAreThere, EntriesSetAreThere, EntriesRemovedAgain}
 use Rattle.bz_attribute.proofs.ArgumentForms.{any_same}
 use Rattle.bz_attribute.proofs.AttributesAgain.{by_there, by_absent, same_made, with_value_same, node_parts, attribute_new, without_new, attribute_changed}
-use Rattle.bz_attribute.proofs.FormsAgain.{if_true, if_false, items_kind, items_same}
+use Rattle.bz_attribute.proofs.FormsAgain.{if_true, if_false, items_filled, items_kind, items_same}
 use Rattle.bz_attribute.proofs.KeySets.{any_on}
 use Rattle.bz_attribute.proofs.PlainWords.{IsPlain, equal_self, body_quoted}
 use Rattle.bz_dict.proofs.KeyPlaces.{key_kept, items_changed}
@@ -209,5 +210,7 @@ removing_again current name entries xs new absent full plain e =
     let none : without_entries keys (items_of value) ≡ [] = ap (without_entries keys) (dict_items items) ∙ none_left (has_some_key keys) items (all_some current name keys entries [] plain (λ x h. h) tt) in
     ap (dict_remove name keys) (sym same)
     ∙ (by_there (attribute name ys) value (Ok ys) (λ v. if has_kind k.Dict v then Ok (without_keys name keys v ys) else Err NotADict) (attribute_new name value xs absent)
-    ∙ ap Ok (if_true (list_any (has_some_key keys) (items_of value)) (cleared_dict name (without_entries keys (items_of value)) value ys) ys some
-    ∙ (ap (λ zs. cleared_dict name zs value ys) none ∙ without_new name value xs absent)))
+    ∙ ap Ok (if_true (list_any (has_some_key keys) (items_of value)) (cleared_dict name (on_items k.Dict (without_entries keys) value) ys) ys some
+    ∙ (ap (λ zs. cleared_dict name (with_items zs value) ys) none
+    ∙ (if_true (is_empty (items_of (with_items [] value))) (without name ys) (with_value name (with_items [] value) ys) (ap (λ (zs : List Expr). is_empty zs) (items_filled k.Dict [] value refl))
+    ∙ without_new name value xs absent))))

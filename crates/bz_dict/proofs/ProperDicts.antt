@@ -190,8 +190,8 @@ fewer_entries keys items h = all_kept (IsItem s.entry) (λ x. not (has_some_key 
 without_keys_kept : (name : Bytes) (keys : List Bytes) (value : Expr) (xs : List Expr) → IsValue value → AreArguments xs → AreArguments (without_keys name keys value xs)
 without_keys_kept name keys value xs v h =
     let less : Expr = on_items k.Dict (without_entries keys) value in
-    by_test AreArguments (list_any (has_some_key keys) (items_of value)) (cleared_dict name (without_entries keys (items_of value)) value xs) xs
-    (by_test AreArguments (is_empty (without_entries keys (items_of value))) (without name xs) (with_value name less xs) (without_kept name xs h)
+    by_test AreArguments (list_any (has_some_key keys) (items_of value)) (cleared_dict name less xs) xs
+    (by_test AreArguments (is_empty (items_of less)) (without name xs) (with_value name less xs) (without_kept name xs h)
     (with_value_kept name less xs (value_in_place value less (dict_in_place (without_entries keys) (fewer_entries keys) value) v) h))
     h
 

@@ -80,13 +80,13 @@ abbrev pub dict_set : Bytes → Bytes → List Entry → List Expr → Arguments
 dict_set current name entries arguments = on_dict name (each_put (with_entry_set current name) entries) arguments
 
 -- the attribute goes where its dict is then empty
-abbrev pub cleared_dict : Bytes → List Expr → Expr → List Expr → List Expr
-cleared_dict name items value arguments = if is_empty items then without name arguments else with_value name (on_items k.Dict (λ old. items) value) arguments
+abbrev pub cleared_dict : Bytes → Expr → List Expr → List Expr
+cleared_dict name value arguments = if is_empty (items_of value) then without name arguments else with_value name value arguments
 
 -- nothing changes where no entry has one of the keys
 abbrev pub without_keys : Bytes → List Bytes → Expr → List Expr → List Expr
 without_keys name keys value arguments =
-    if list_any (has_some_key keys) (items_of value) then cleared_dict name (without_entries keys (items_of value)) value arguments else arguments
+    if list_any (has_some_key keys) (items_of value) then cleared_dict name (on_items k.Dict (without_entries keys) value) arguments else arguments
 
 abbrev pub dict_remove : Bytes → List Bytes → List Expr → Arguments
 dict_remove name keys arguments =

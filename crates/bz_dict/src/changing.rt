@@ -8,6 +8,7 @@ ghost use Rattle.bz_rule.specs.Rules.{attribute as value_there};
 ghost use Rattle.bz_rule.specs.Values.{has_kind as is_of, items_of as items, on_items};
 ghost use Rattle.bz_value.specs.declared.refusal.Refusal.TheVariants.{NotADict};
 ghost use Rattle.bz_dict.specs.Dicts as d;
+ghost use Rattle.bz_dict.specs.Dicts.{dict_of, dicts_changed, entry_made};
 ghost use Rattle.bz_dict.specs.private.Keys.{AreIndexed, entry_put, is_chosen as has_chosen};
 
 use crate::keys::{chosen_of, is_chosen, place_at, places_of, put_place};
@@ -35,14 +36,14 @@ pub(crate) enum Change {
 
 /// A dict of these entries.
 fn dict_of(alloc: Global, items: Items<Expr>) -> Expr
-    ensures { result ≡ d.dict_of items }
+    ensures { result ≡ dict_of items }
 {
     sequence(alloc, Kind::Dict, Items::new(alloc), items)
 }
 
 /// The entry that is put into the dict of an attribute.
 fn entry_made(slot: Slot<'_>, entry: &Entry) -> Result<Expr, Memory>
-    ensures { IfOk result (λ x. x ≡ d.entry_made slot.entry.current.now slot.entry.attribute.now entry.now) }
+    ensures { IfOk result (λ x. x ≡ entry_made slot.entry.current.now slot.entry.attribute.now entry.now) }
 {
     let alloc = slot.alloc;
     let key = quoted(alloc, entry.key.as_slice())?;
@@ -229,6 +230,18 @@ fn has_no_items(x: &Expr) -> bool
     items_of(x).is_empty()
 }
 
+/// Puts what is left of a dict back; where it is empty, the attribute goes.
+fn put_back(name: &[u8], value: Expr, arguments: &mut Items<Expr>)
+    ensures { arguments.new ≡ d.cleared_dict name.now value arguments.old }
+{
+    if has_no_items(&value) {
+        drop(value);
+        remove_first(name, arguments);
+        return;
+    }
+    set_value(name, value, arguments);
+}
+
 /// Takes the entries whose key is in the set from the attribute's dict. The attribute goes where its dict is then empty.
 fn remove_chosen(
     alloc: Global,
@@ -236,17 +249,13 @@ fn remove_chosen(
     chosen: &BTreeSet<Vec<u8>>,
     arguments: &mut Items<Expr>,
 )
-    ensures { (value : Value) → value_there name.now arguments.old ≡ Some value → is_of kinds.Dict value ≡ true → arguments.new ≡ d.cleared_dict name.now (filter (λ x. not (has_chosen chosen.now x)) (items value)) value arguments.old }
+    ensures { (value : Value) → value_there name.now arguments.old ≡ Some value → arguments.new ≡ d.cleared_dict name.now (on_items kinds.Dict (filter (λ x. not (has_chosen chosen.now x))) value) arguments.old }
 {
     let Some(mut value) = take_value(alloc, name, arguments) else {
         return;
     };
     remove_from(chosen, &mut value);
-    if has_no_items(&value) {
-        remove_first(name, arguments);
-        return;
-    }
-    set_value(name, value, arguments);
+    put_back(name, value, arguments);
 }
 
 /// Takes all entries of these keys from the attribute's dict; the attribute goes where its dict is then empty.
@@ -281,8 +290,8 @@ pub fn change_dicts(
     current: &[u8],
     arguments: &mut Items<Expr>,
 ) -> Result<(), Refusal>
-    ensures ok { OnOk result (d.dicts_changed operation.now current.now arguments.old ≡ Ok arguments.new) }
-    ensures err { IfErr result (λ refusal. (d.dicts_changed operation.now current.now arguments.old ≡ Err refusal) ⊎ (refusal ≡ Refusal.Memory)) }
+    ensures ok { OnOk result (dicts_changed operation.now current.now arguments.old ≡ Ok arguments.new) }
+    ensures err { IfErr result (λ refusal. (dicts_changed operation.now current.now arguments.old ≡ Err refusal) ⊎ (refusal ≡ Refusal.Memory)) }
 {
     match operation {
         DictOperation::Add { attribute, entries } => {
