@@ -13,7 +13,7 @@ use Rattle.bz_value.specs.declared.value.Expr.{Expr}
 use Rattle.bz_items.specs.Characters.{Bytes}
 use Rattle.bz_rule.specs.Rules.{attribute, value_named}
 use Rattle.bz_rule.specs.Values.{has_kind}
-use Rattle.bz_attribute.specs.Attributes.{is_attribute, on_first_that, without_first, inserted}
+use Rattle.bz_attribute.specs.Attributes.{is_attribute, has_attribute, on_first_that, without_first, inserted}
 
 -- i is the index of the first element that passes
 pub record IsFirst {X : Type 0} (test : X → Bool) (xs : List X) (i : ℕ) : Type 0 where
@@ -118,3 +118,13 @@ removed_there test (x ∷ xs) i at = sym (removed_at test (x ∷ xs) i (is_first
 
 pub removed_nowhere : {X : Type 0} (test : X → Bool) (xs : List X) → None ≡ position test xs → xs ≡ without_first test xs
 removed_nowhere test xs none = sym (unremoved test xs (none_passes test xs none))
+
+pub value_there : (name : Bytes) (xs : List Expr) (i : ℕ) (x other : Expr) → Some i ≡ position (is_attribute name) xs → slice_get xs i ≡ Some x
+    → (is_attribute name x ≡ true → Some other ≡ value_named name x) → Some other ≡ attribute name xs
+value_there name xs i x other at there f =
+    let first = is_first (is_attribute name) xs i x at in
+    let own : get_or xs i x ≡ x = get_or_from_slice_get xs i x x there in
+    f (ap (is_attribute name) (sym own) ∙ first.passes x) ∙ sym (attribute_at name xs i x first ∙ ap (value_named name) own)
+
+pub value_nowhere : (name : Bytes) (xs : List Expr) → None ≡ position (is_attribute name) xs → has_attribute name xs ≡ false
+value_nowhere name xs none = ap is_some (attribute_none name xs (none_passes (is_attribute name) xs none))

@@ -1,5 +1,5 @@
 //! The arguments of a rule, changed. An attribute is a named argument; of several with one name the first is meant.
-ghost use Rattle.std.specs.Prelude.{◌≡◌, OnOk, None, Some, true, if◌then◌else◌};
+ghost use Rattle.std.specs.Prelude.{◌≡◌, OnOk, None, Some, true};
 ghost use Rattle.std.specs.List.{position, slice_index_or};
 ghost use Rattle.bz_grammar.specs.declared.kind.Kind.TheVariants as kinds;
 ghost use Rattle.bz_value.specs.declared.value.Expr.{Expr};
@@ -83,21 +83,13 @@ pub fn swap_value(kind: Kind, other: &mut Expr, x: &mut Expr)
 }
 
 /// Exchanges an expression for the value of the first attribute of the name.
-fn swap_in(name: &[u8], other: &mut Expr, arguments: &mut [Expr])
-    ensures arguments { arguments.new ≡ with_value name.now other.old arguments.old }
-    ensures other { has_attribute name.now arguments.old ≡ true → Some other.new ≡ attribute name.now arguments.old }
-{
-    if let Some(at) = place_of(name, arguments) {
-        swap_value(Kind::Named, other, &mut arguments[at]);
-    }
-}
-
-/// The same for a list that can grow.
 fn swap_first(name: &[u8], other: &mut Expr, arguments: &mut Items<Expr>)
     ensures arguments { arguments.new ≡ with_value name.now other.old arguments.old }
     ensures other { has_attribute name.now arguments.old ≡ true → Some other.new ≡ attribute name.now arguments.old }
 {
-    swap_in(name, other, arguments.as_mut_slice());
+    if let Some(at) = place_of(name, arguments.as_slice()) {
+        swap_value(Kind::Named, other, arguments.at_mut(at));
+    }
 }
 
 /// Takes the value of the attribute out. What is in its place until `set_value` puts a value there, or `remove_first`

@@ -91,12 +91,31 @@ fn alone(alloc: Global, x: Expr) -> Result<Items<Expr>, Memory>
     Ok(Items::from_vec(row))
 }
 
-/// The row of these three.
-fn row(alloc: Global, left: Expr, middle: Expr, right: Expr) -> Result<Items<Expr>, Memory>
-    ensures { IfOk result (λ row. row ≡ left ∷ middle ∷ right ∷ []) }
+/// A node of these three parts.
+fn of_three(
+    alloc: Global,
+    kind: Kind,
+    left: Expr,
+    middle: Expr,
+    right: Expr,
+) -> Result<Expr, Memory>
+    ensures { IfOk result (λ x. x ≡ node kind (left ∷ middle ∷ right ∷ [])) }
 {
     let row = Vec::from_array(alloc, [left, middle, right])?;
-    Ok(Items::from_vec(row))
+    Ok(node(alloc, kind, Items::from_vec(row)))
+}
+
+/// A node of two expressions with a sign between them.
+fn joined(alloc: Global, kind: Kind, left: Expr, sign: &[u8], right: Expr) -> Result<Expr, Memory>
+    ensures { IfOk result (λ x. x ≡ node kind (left ∷ mark sign.now ∷ right ∷ [])) }
+{
+    let Ok(sign) = new_token(alloc, Class::Mark, sign) else {
+        drop(left);
+        drop(right);
+        return Err(AllocError);
+    };
+    let x = of_three(alloc, kind, left, sign, right)?;
+    Ok(x)
 }
 
 /// The word as it is put into an attribute: shortened where that is a label attribute.
@@ -211,13 +230,14 @@ fn bracketed(alloc: Global, x: Expr) -> Result<Expr, Memory>
         drop(x);
         return Err(AllocError);
     };
-    let parts = row(
+    let between = of_three(
         alloc,
+        Kind::Paren,
         token(Class::Mark, open),
         x,
         token(Class::Mark, close),
     )?;
-    Ok(node(alloc, Kind::Paren, parts))
+    Ok(between)
 }
 
 /// The expression as an operand of a sum: between brackets where it binds looser.
@@ -230,25 +250,12 @@ fn operand(alloc: Global, x: Expr) -> Result<Expr, Memory>
     Ok(x)
 }
 
-/// The sum of an operand and a list.
-fn row_with_plus(alloc: Global, value: Expr, list: Expr) -> Result<Expr, Memory>
-    ensures { IfOk result (λ x. x ≡ node k.Sum (value ∷ mark (codes "+") ∷ list ∷ [])) }
-{
-    let Ok(plus) = Text::from_slice(alloc, b"+") else {
-        drop(value);
-        drop(list);
-        return Err(AllocError);
-    };
-    let parts = row(alloc, value, token(Class::Mark, plus), list)?;
-    Ok(node(alloc, Kind::Sum, parts))
-}
-
 /// The sum of a value that is no sum and a list.
 fn sum_of(alloc: Global, value: Expr, list: Expr) -> Result<Expr, Memory>
     ensures { IfOk result (λ x. x ≡ node k.Sum (operand value ∷ mark (codes "+") ∷ list ∷ [])) }
 {
     match operand(alloc, value) {
-        Ok(value) => row_with_plus(alloc, value, list),
+        Ok(value) => joined(alloc, Kind::Sum, value, b"+", list),
         Err(fault) => {
             drop(list);
             Err(fault)
@@ -317,17 +324,13 @@ fn cut(text: &[u8]) -> (&[u8], Option<&[u8]>)
 fn dotted(alloc: Global, front: Expr, text: &[u8]) -> Result<Expr, Memory>
     ensures { IfOk result (λ x. x ≡ node k.Dot (front ∷ mark (codes ".") ∷ name text.now ∷ [])) }
 {
-    let Ok((dot, name)) = both(alloc, b".", text) else {
-        drop(front);
-        return Err(AllocError);
-    };
-    let parts = row(
-        alloc,
-        front,
-        token(Class::Mark, dot),
-        token(Class::Name, name),
-    )?;
-    Ok(node(alloc, Kind::Dot, parts))
+    match new_token(alloc, Class::Name, text) {
+        Ok(name) => joined(alloc, Kind::Dot, front, b".", name),
+        Err(fault) => {
+            drop(front);
+            Err(fault)
+        }
+    }
 }
 
 /// The function of a call, by a kind: names joined by dots.
@@ -348,17 +351,13 @@ pub fn function_of(alloc: Global, kind: &[u8]) -> Result<Expr, Memory>
 pub(crate) fn argument_of(alloc: Global, attribute: &[u8], value: Expr) -> Result<Expr, Memory>
     ensures { IfOk result (λ x. x ≡ argument_of attribute.now value) }
 {
-    let Ok((name, equals)) = both(alloc, attribute, b"=") else {
-        drop(value);
-        return Err(AllocError);
-    };
-    let parts = row(
-        alloc,
-        token(Class::Name, name),
-        token(Class::Mark, equals),
-        value,
-    )?;
-    Ok(node(alloc, Kind::Named, parts))
+    match new_token(alloc, Class::Name, attribute) {
+        Ok(name) => joined(alloc, Kind::Named, name, b"=", value),
+        Err(fault) => {
+            drop(value);
+            Err(fault)
+        }
+    }
 }
 
 /// `kind(name = "word")`.

@@ -1,9 +1,8 @@
 -- What is set is a value.
 use Rattle.std.proofs.Common.{◌≡◌, true, false, ◌||◌, List, [], ◌∷◌, inl, inr, refl, sym, subst, map, true≢false, not}
 use Rattle.std.specs.Prelude.{IsUtf8, None, if◌then◌else◌, codes, bytes_eq, nat_lt, length, IfSome, Option, Ok, Err}
-use Rattle.std.specs.List.{AllByRecursion}
+use Rattle.std.specs.List.{AllByRecursion, list_all}
 use Rattle.std.specs.Char.{is_ascii_digit}
-use Rattle.std.specs.Str.{all_ascii_digits}
 use Rattle.std.proofs.lemmas.Bool.{and_parts, or_cases}
 use Rattle.std.proofs.lemmas.Slice.Eq.{bytes_eq-Decides}
 use Rattle.bz_token.specs.declared.class.Class.TheVariants as c
@@ -46,13 +45,13 @@ constant_name word h = elim (or_cases (bytes_eq word (codes "True")) (bytes_eq w
   ]
 ]
 
-each_digit : (word : Bytes) → all_ascii_digits word ≡ true → Each is_digit word
+each_digit : (word : Bytes) → list_all is_ascii_digit word ≡ true → Each is_digit word
 each_digit [] h = tt
-each_digit (byte ∷ word) h = let w = and_parts (is_ascii_digit byte) (all_ascii_digits word) h in (w.0, each_digit word w.1)
+each_digit (byte ∷ word) h = let w = and_parts (is_ascii_digit byte) (list_all is_ascii_digit word) h in (w.0, each_digit word w.1)
 
 digits : (word : Bytes) → is_decimal word ≡ true → IsDigits word
 digits [] h = absurd (true≢false (sym h))
-digits (byte ∷ word) h = let w = and_parts (nat_lt 0 (length (byte ∷ word))) (all_ascii_digits (byte ∷ word)) h in each_digit (byte ∷ word) w.1
+digits (byte ∷ word) h = let w = and_parts (nat_lt 0 (length (byte ∷ word))) (list_all is_ascii_digit (byte ∷ word)) h in each_digit (byte ∷ word) w.1
 
 single_value : (current attribute word : Bytes) → IsUtf8 word → IsValue (value_of (single_setting current attribute word))
 single_value current attribute word u =

@@ -1,7 +1,7 @@
 -- What the commands on whole attributes make of the arguments of a rule.
-use Rattle.std.specs.Prelude.{Bool, true, false, not, ◌&&◌, ◌||◌, List, [], ◌∷◌, Option, None, Ok, Err, codes, map, if◌then◌else◌, bytes_eq, length, nat_lt, ◌≡◌}
-use Rattle.std.specs.List.{filter}
-use Rattle.std.specs.Str.{all_ascii_digits}
+use Rattle.std.specs.Prelude.{Bool, false, not, ◌&&◌, ◌||◌, List, [], ◌∷◌, Option, None, Ok, Err, codes, map, if◌then◌else◌, bytes_eq, length, nat_eq, nat_lt, ◌≡◌}
+use Rattle.std.specs.List.{filter, list_all, zip}
+use Rattle.std.specs.Char.{is_ascii_digit}
 use Rattle.bz_token.specs.declared.class.Class.TheVariants as c
 use Rattle.bz_grammar.specs.declared.kind.Kind.TheVariants as k
 use Rattle.bz_label.specs.Tables.{is_list_attribute}
@@ -26,7 +26,7 @@ abbrev pub is_constant : Bytes → Bool
 is_constant word = bytes_eq word (codes "True") || (bytes_eq word (codes "False") || bytes_eq word (codes "None"))
 
 abbrev pub is_decimal : Bytes → Bool
-is_decimal word = nat_lt 0 (length word) && all_ascii_digits word
+is_decimal word = nat_lt 0 (length word) && list_all is_ascii_digit word
 
 abbrev pub single_setting : Bytes → Bytes → Bytes → Setting
 single_setting current attribute word =
@@ -42,9 +42,7 @@ value_of (One class text) = token class text
 value_of (Many texts) = list_of (map (token c.String) texts)
 
 abbrev pub are_texts : List Bytes → List Expr → Bool
-are_texts [] [] = true
-are_texts (text ∷ texts) (x ∷ xs) = has_class c.String x && bytes_eq (text_of x) text && are_texts texts xs
-are_texts _ _ = false
+are_texts texts items = nat_eq (length texts) (length items) && list_all (λ pair. has_class c.String pair.1 && bytes_eq (text_of pair.1) pair.0) (zip texts items)
 
 -- the value differs from what is set only in comments and flags
 abbrev pub is_set : Setting → Expr → Bool

@@ -3,12 +3,11 @@ ghost use Rattle.std.specs.Prelude.{◌≡◌, ◌&&◌, IfOk, bytes_eq, map};
 ghost use Rattle.std.specs.List.{list_all, zip};
 ghost use Rattle.std.specs.Char.{is_ascii_digit};
 ghost use Rattle.bz_token.specs.declared.class.Class.TheVariants as c;
-ghost use Rattle.bz_grammar.specs.declared.kind.Kind.TheVariants as k;
-ghost use Rattle.bz_rule.specs.Values.{has_kind, has_class, text_of, items_of};
+ghost use Rattle.bz_rule.specs.Values.{has_class, text_of};
 ghost use Rattle.bz_attribute.specs.Made.{token, string_text};
 ghost use Rattle.bz_change.specs.Changes.{is_constant, is_decimal, single_setting, setting, value_of, are_texts, is_set};
 
-use bz_attribute::{Slot, list_of, string_text, token};
+use bz_attribute::{Slot, has_kind, items_of, list_of, string_text, token};
 use bz_grammar::{Class, Kind};
 use bz_items::{Items, Memory, Text};
 use bz_label::bytes::is_list_attribute;
@@ -37,7 +36,6 @@ fn are_digits(word: &[u8]) -> bool
 }
 
 /// Whether the word is one or more decimal digits.
-#[tactic(auto, using(crate::proofs::SettingsTexts::decimal))]
 fn is_decimal(word: &[u8]) -> bool
     ensures { result ≡ is_decimal word.now }
 {
@@ -127,22 +125,11 @@ fn each_is_text(texts: &[Text], items: &[Expr]) -> bool
 }
 
 /// Whether the items are strings of these texts.
-#[tactic(auto, using(crate::proofs::SettingsTexts::texts_differ, crate::proofs::SettingsTexts::texts_by_pairs))]
+#[tactic(auto, using(crate::proofs::SettingsTexts::texts_beside))]
 fn are_texts(texts: &[Text], items: &[Expr]) -> bool
     ensures { result ≡ are_texts texts.now items.now }
 {
     texts.len() == items.len() && each_is_text(texts, items)
-}
-
-/// Whether the expression is a list of strings of these texts.
-#[tactic(auto, using(crate::proofs::SettingsTexts::items_Form))]
-fn is_list_of(texts: &[Text], x: &Expr) -> bool
-    ensures { result ≡ (has_kind k.List x.now && are_texts texts.now (items_of x.now)) }
-{
-    match x {
-        Expr::Token(_) => false,
-        Expr::Form(form) => form.kind == Kind::List && are_texts(texts, form.seq.items.as_slice()),
-    }
 }
 
 /// Whether the value differs from what is set only in comments and flags.
@@ -151,6 +138,8 @@ pub(crate) fn is_set(made: &Setting, value: &Expr) -> bool
 {
     match made {
         Setting::One(class, text) => is_token(*class, text.as_slice(), value),
-        Setting::Many(texts) => is_list_of(texts.as_slice(), value),
+        Setting::Many(texts) => {
+            has_kind(Kind::List, value) && are_texts(texts.as_slice(), items_of(value))
+        }
     }
 }

@@ -1,4 +1,4 @@
-//! Commands on whole attributes.
+//! What each command on whole attributes makes of the arguments of a rule.
 ghost use Rattle.std.specs.Prelude.{◌≡◌, ◌⊎◌, Ok, Err, OnOk, IfErr, false, not};
 ghost use Rattle.std.specs.List.{filter};
 ghost use Rattle.std.specs.Option.{option_copied, option_map_or};
@@ -6,13 +6,13 @@ ghost use Rattle.bz_grammar.specs.declared.kind.Kind.TheVariants as kinds;
 ghost use Rattle.bz_rule.specs.Rules.{attribute};
 ghost use Rattle.bz_rule.specs.Values.{on_first, on_row, with_text};
 ghost use Rattle.bz_attribute.specs.Attributes.{is_attribute, is_other_attribute, on_first_that};
-ghost use Rattle.bz_change.specs.Changes.{set, is_set, remove, rename, copy};
+ghost use Rattle.bz_change.specs.Changes.{attributes_changed, set, is_set, remove, rename, copy};
 
 use crate::settings::{Setting, is_set, setting_of, value_of};
 use bz_attribute::{
     Slot, has_attribute, is_other_attribute, place_of, put, remove_first, set_text,
 };
-use bz_command_syntax::Attributes;
+use bz_command_syntax::{AttributeOperation, Attributes};
 use bz_grammar::Kind;
 use bz_items::{Items, Memory, Text};
 use bz_rule::attribute;
@@ -31,12 +31,7 @@ fn has_setting(made: &Setting, name: &[u8], arguments: &[Expr]) -> bool
 }
 
 /// The attribute's value becomes these words.
-#[tactic(auto, using(crate::proofs::SettingsTexts::set_by_put))]
-pub(crate) fn set(
-    slot: Slot<'_>,
-    words: &[Text],
-    arguments: &mut Items<Expr>,
-) -> Result<(), Refusal>
+fn set(slot: Slot<'_>, words: &[Text], arguments: &mut Items<Expr>) -> Result<(), Refusal>
     ensures ok { OnOk result (set slot.entry.current.now slot.entry.attribute.now words.now arguments.old ≡ Ok arguments.new) }
     ensures err { IfErr result (λ refusal. (set slot.entry.current.now slot.entry.attribute.now words.now arguments.old ≡ Err refusal) ⊎ (refusal ≡ Refusal.Memory)) }
 {
@@ -67,7 +62,7 @@ fn remove_all(arguments: &mut Items<Expr>)
 }
 
 /// Whole attributes go.
-pub(crate) fn remove(attributes: &Attributes, arguments: &mut Items<Expr>) -> Result<(), Refusal>
+fn remove(attributes: &Attributes, arguments: &mut Items<Expr>) -> Result<(), Refusal>
     ensures ok { OnOk result (remove attributes.now arguments.old ≡ Ok arguments.new) }
     ensures err { IfErr result (λ refusal. (remove attributes.now arguments.old ≡ Err refusal) ⊎ (refusal ≡ Refusal.Memory)) }
 {
@@ -121,12 +116,7 @@ fn rename_in(
 }
 
 /// The attribute gets another name.
-pub(crate) fn rename(
-    alloc: Global,
-    from: &[u8],
-    to: &[u8],
-    arguments: &mut Items<Expr>,
-) -> Result<(), Refusal>
+fn rename(alloc: Global, from: &[u8], to: &[u8], arguments: &mut Items<Expr>) -> Result<(), Refusal>
     ensures ok { OnOk result (rename from.now to.now arguments.old ≡ Ok arguments.new) }
     ensures err { IfErr result (λ refusal. (rename from.now to.now arguments.old ≡ Err refusal) ⊎ (refusal ≡ Refusal.Memory)) }
 {
@@ -141,7 +131,7 @@ pub(crate) fn rename(
 }
 
 /// The attribute gets the value that was found.
-pub(crate) fn copy(
+fn copy(
     alloc: Global,
     name: &[u8],
     found: Option<&Expr>,
@@ -155,4 +145,45 @@ pub(crate) fn copy(
     };
     put(alloc, name, value.copy()?, arguments)?;
     Ok(())
+}
+
+/// What an operation on whole attributes makes of the arguments of a rule. `current` is the path of the file's package, `found` the
+/// value that is copied. Errors: the refusal of the operation; `Memory`: a growth was refused. After an error part of the arguments
+/// may be lost.
+pub fn change_attributes(
+    alloc: Global,
+    operation: &AttributeOperation,
+    current: &[u8],
+    found: Option<&Expr>,
+    arguments: &mut Items<Expr>,
+) -> Result<(), Refusal>
+    ensures ok { OnOk result (attributes_changed operation.now current.now (option_copied found.entry) arguments.old ≡ Ok arguments.new) }
+    ensures err { IfErr result (λ refusal. (attributes_changed operation.now current.now (option_copied found.entry) arguments.old ≡ Err refusal) ⊎ (refusal ≡ Refusal.Memory)) }
+{
+    match operation {
+        AttributeOperation::Set { attribute, values } => {
+            let slot = Slot::new(alloc, current, attribute.as_slice());
+            set(slot, values.as_slice(), arguments)
+        }
+        AttributeOperation::SetIfAbsent { attribute, values } => {
+            let slot = Slot::new(alloc, current, attribute.as_slice());
+            if has_attribute(slot.attribute, arguments.as_slice()) {
+                return Ok(());
+            }
+            set(slot, values.as_slice(), arguments)
+        }
+        AttributeOperation::Remove { attributes } => remove(attributes, arguments),
+        AttributeOperation::Rename { from, to } => {
+            rename(alloc, from.as_slice(), to.as_slice(), arguments)
+        }
+        AttributeOperation::Copy { attribute, rule: _ } => {
+            copy(alloc, attribute.as_slice(), found, arguments)
+        }
+        AttributeOperation::CopyNoOverwrite { attribute, rule: _ } => {
+            if has_attribute(attribute.as_slice(), arguments.as_slice()) {
+                return Ok(());
+            }
+            copy(alloc, attribute.as_slice(), found, arguments)
+        }
+    }
 }

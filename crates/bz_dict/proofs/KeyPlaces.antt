@@ -1,5 +1,5 @@
 -- An entry with another value has its key.
-use Rattle.std.proofs.Common.{◌≡◌, true, List, [], ◌∷◌, refl, sym, ap, ◌∙◌, ℕ, false, subst, inl, inr, ◌<◌, ◌≤◌, ◌+◌, zero, suc, Bool, ◌++◌, length, get_or, set, drop, cond, arith, true≢false, not}
+use Rattle.std.proofs.Common.{◌≡◌, true, List, [], ◌∷◌, refl, sym, ap, ◌∙◌, ℕ, false, subst, inl, inr, ◌<◌, ◌+◌, zero, suc, Bool, ◌++◌, length, get_or, set, cond, arith, true≢false, not}
 use Rattle.std.specs.Prelude.{None, Vec, Option, Some, bytes_eq, if◌then◌else◌, is_some, Ok, Err}
 use Rattle.bz_grammar.specs.declared.kind.Kind.{Kind}
 use Rattle.bz_grammar.specs.declared.kind.Kind.TheVariants as k
@@ -9,7 +9,7 @@ use Rattle.bz_command_syntax.specs.declared.command.Entry.{Entry}
 use Rattle.bz_rule.specs.Values.{has_kind, parts_of, items_of, with_parts, with_items, on_row, on_items, on_third}
 use Rattle.bz_rule.proofs.ProperChanges.{by_case}
 use Rattle.bz_attribute.specs.Made.{string_of, mark}
-use Rattle.bz_attribute.proofs.FormsAgain.{if_true, parts_kind, parts_filled, items_filled, if_false}
+use Rattle.bz_attribute.proofs.FormsAgain.{both, if_true, parts_kind, parts_filled, items_filled, if_false}
 use Rattle.bz_dict.specs.Dicts.{key_in, key_of, with_entry_value, has_some_key, has_key, entry_made, without_entries, cleared_dict, without_keys, dict_remove}
 use Rattle.std.specs.List.{list_any, position_from, filter}
 use Rattle.std.specs.Map.{KeepsOthers}
@@ -27,14 +27,13 @@ use Rattle.std.proofs.lemmas.List.Folds.{list_any_none, list_any_at}
 use Rattle.std.proofs.lemmas.Map.Text.{is_eq-slice_cmp}
 use Rattle.bz_attribute.proofs.KeySets.{equal_texts, text_cmp}
 use Rattle.bz_attribute.specs.Sets.{texts_of}
-use Rattle.bz_dict.specs.private.Keys.{place_at, is_chosen, first_place, AreIndexed, entry_put, entries_put}
+use Rattle.bz_dict.specs.private.Keys.{place_at, is_chosen, first_place, AreIndexed, entry_put}
 use Rattle.std.proofs.lemmas.Iterator.Adapters.{position_from-zero}
-use Rattle.std.proofs.lemmas.List.{drop_more, drop_all}
 use Rattle.bz_rule.specs.Rules.{is_text, attribute}
 use Rattle.bz_attribute.specs.Attributes.{on_first_that, with_value, without, Arguments, by_value}
 use Rattle.bz_attribute.proofs.ArgumentPlaces.{IsFirst, is_first, none_passes, changed_at}
-use Rattle.bz_dict.specs.declared.entries.Change.{Change}
-use Rattle.bz_dict.specs.declared.entries.Change.TheVariants.{Add, Set}
+use Rattle.bz_dict.specs.declared.changing.Change.{Change}
+use Rattle.bz_dict.specs.declared.changing.Change.TheVariants.{Add, Set}
 use Rattle.bz_value.specs.Empty.{is_empty}
 use Rattle.bz_value.specs.declared.refusal.Refusal.TheVariants.{NotADict}
 
@@ -211,66 +210,23 @@ set_indexed current name entry places items at x all = λ key.
     all key
     ∙ sym (place_set (has_key key) 0 items at (with_entry_value current name entry (get_or items at x)) x (ap (is_text key) (key_kept current name entry (get_or items at x))))
 
--- ---- one turn of the loop that puts entries
-
-put_next : (change : Change) (current name : Bytes) (entry : Entry) (entries : List Entry) (items : List Expr)
-    → entries_put change current name (entry ∷ entries) items ≡ entries_put change current name entries (entry_put change current name entry items)
-put_next Add current name entry entries items = refl
-put_next Set current name entry entries items = refl
-
--- what is left to be put after an entry gives what was to be given before it
-pub put_turn : (change : Change) (current name : Bytes) (entries : List Entry) (at : ℕ) (entry : Entry) (before after all : List Expr)
-    → at < length entries → entry ≡ get_or entries at entry
-    → entries_put change current name (drop at entries) before ≡ all → after ≡ entry_put change current name entry before
-    → entries_put change current name (drop (at + 1) entries) after ≡ all
-put_turn change current name entries at entry before after all within is so_far put =
-    let rest : List Entry = drop (at + 1) entries in
-    let cut : drop at entries ≡ entry ∷ rest = drop_more entries at entry within ∙ ap (λ first. first ∷ rest) (sym is) in
-    ap (entries_put change current name rest) put
-    ∙ (sym (put_next change current name entry rest before)
-    ∙ (ap (λ left. entries_put change current name left before) (sym cut) ∙ so_far))
-
-put_done : (change : Change) (current name : Bytes) (items : List Expr) → entries_put change current name [] items ≡ items
-put_done Add current name items = refl
-put_done Set current name items = refl
-
--- nothing is left to be put
-pub put_end : (change : Change) (current name : Bytes) (entries : List Entry) (at : ℕ) (items all : List Expr)
-    → length entries ≤ at → entries_put change current name (drop at entries) items ≡ all → items ≡ all
-put_end change current name entries at items all following so_far =
-    sym (put_done change current name items) ∙ (ap (λ left. entries_put change current name left items) (sym (drop_all at entries following)) ∙ so_far)
-
 -- ---- what is left of an attribute whose dict loses entries
 
--- no entry is left
-pub emptied : (test : Expr → Bool) (name : Bytes) (value new : Expr) (arguments after : List Expr) → has_kind k.Dict value ≡ true → new ≡ on_items k.Dict (filter test) value
-    → is_empty (items_of new) ≡ true → without name after ≡ without name arguments → without name after ≡ cleared_dict name (filter test (items_of value)) value arguments
-emptied test name value new arguments after is same none gone =
-    gone
-    ∙ sym (if_true (is_empty (filter test (items_of value))) (without name arguments) (with_value name (on_items k.Dict (λ old. filter test (items_of value)) value) arguments)
-    (sym (ap (λ (x : Expr). is_empty (items_of x)) same ∙ ap is_empty (items_changed k.Dict (filter test) value is)) ∙ none))
-
--- some are left
-pub remaining : (test : Expr → Bool) (name : Bytes) (value new : Expr) (arguments after : List Expr) → has_kind k.Dict value ≡ true → new ≡ on_items k.Dict (filter test) value
-    → is_empty (items_of new) ≡ false → ((other : Expr) → with_value name other after ≡ with_value name other arguments)
-    → with_value name new after ≡ cleared_dict name (filter test (items_of value)) value arguments
-remaining test name value new arguments after is same some place =
-    place new
-    ∙ (ap (λ (x : Expr). with_value name x arguments) same
-    ∙ sym (if_false (is_empty (filter test (items_of value))) (without name arguments) (with_value name (on_items k.Dict (λ old. filter test (items_of value)) value) arguments)
-    (sym (ap (λ (x : Expr). is_empty (items_of x)) same ∙ ap is_empty (items_changed k.Dict (filter test) value is)) ∙ some)))
+pub cleared_same : (name : Bytes) (value : Expr) (arguments after : List Expr) → ((other : Expr) → with_value name other after ≡ with_value name other arguments) → without name after ≡ without name arguments
+    → cleared_dict name value after ≡ cleared_dict name value arguments
+cleared_same name value arguments after place gone = both (λ xs ys. if is_empty (items_of value) then xs else ys) gone (place value)
 
 -- entries of the keys are there
 pub removed : (name : Bytes) (keys : List Bytes) (chosen : Expr → Bool) (value : Expr) (arguments new : List Expr) → attribute name arguments ≡ Some value → has_kind k.Dict value ≡ true
-    → chosen ≡ has_some_key keys → list_any chosen (items_of value) ≡ true → new ≡ cleared_dict name (filter (λ x. not (chosen x)) (items_of value)) value arguments
+    → chosen ≡ has_some_key keys → list_any chosen (items_of value) ≡ true → new ≡ cleared_dict name (on_items k.Dict (filter (λ x. not (chosen x))) value) arguments
     → dict_remove name keys arguments ≡ Ok new
 removed name keys chosen value arguments new own is same any e =
     ap (λ (o : Option Expr). by_value o (Ok arguments) (λ (x : Expr). if has_kind k.Dict x then Ok (without_keys name keys x arguments) else Err NotADict)) own
     ∙ (if_true {X = Arguments} (has_kind k.Dict value) (Ok (without_keys name keys value arguments)) (Err NotADict) is
     ∙ ap (λ (xs : List Expr). Ok xs)
-    (if_true (list_any (has_some_key keys) (items_of value)) (cleared_dict name (without_entries keys (items_of value)) value arguments) arguments
+    (if_true (list_any (has_some_key keys) (items_of value)) (cleared_dict name (on_items k.Dict (without_entries keys) value) arguments) arguments
     (ap (λ (test : Expr → Bool). list_any test (items_of value)) (sym same) ∙ any)
-    ∙ sym (e ∙ ap (λ (test : Expr → Bool). cleared_dict name (filter (λ x. not (test x)) (items_of value)) value arguments) same)))
+    ∙ sym (e ∙ ap (λ (test : Expr → Bool). cleared_dict name (on_items k.Dict (filter (λ x. not (test x))) value) arguments) same)))
 
 -- one value
 pub same_value : (one other : Expr) (found : Option Expr) → Some one ≡ found → found ≡ Some other → one ≡ other

@@ -1,5 +1,5 @@
 -- Entries that are added, set and removed: which keys are there afterwards.
-use Rattle.std.proofs.Common.{◌≡◌, Bool, true, false, not, ◌||◌, List, [], ◌∷◌, ◌++◌, Option, Some, None, Ok, Err, refl, sym, ap, ◌∙◌, subst, codes, true≢false}
+use Rattle.std.proofs.Common.{◌≡◌, Bool, true, false, not, ◌||◌, List, [], ◌∷◌, ◌++◌, Option, Some, None, Ok, Err, refl, sym, ap, ◌∙◌, codes, true≢false}
 use Rattle.std.specs.Prelude.{if◌then◌else◌, is_some}
 use Rattle.std.specs.List.{AllByRecursion, filter, list_any}
 use Rattle.std.specs.Option.{option_map_or}
@@ -13,16 +13,17 @@ use Rattle.bz_command_syntax.specs.declared.command.Entry.{Entry}
 use Rattle.bz_command_syntax.specs.Quoted.{is_escaped, quoted_of}
 use Rattle.bz_command_syntax.specs.Words.{is_nonempty}
 use Rattle.bz_rule.specs.Rules.{attribute, is_text}
-use Rattle.bz_rule.specs.Values.{has_kind, items_of, on_items}
+use Rattle.bz_rule.specs.Values.{has_kind, items_of, on_items, with_items}
 use Rattle.bz_rule.proofs.ProperChanges.{by_test, by_case}
+use Rattle.bz_value.specs.Empty.{is_empty}
 use Rattle.bz_value.specs.declared.refusal.Refusal.TheVariants.{NotADict}
-use Rattle.bz_attribute.specs.Attributes.{Arguments, has_attribute, on_first_that, with_value, with_new}
+use Rattle.bz_attribute.specs.Attributes.{Arguments, has_attribute, on_first_that, with_value, with_new, without}
 use Rattle.bz_attribute.specs.Made.{token, mark, string_of}
-use Rattle.bz_dict.specs.Dicts.{key_in, key_of, has_key, has_some_key, entry_made, with_entry, with_entries, with_entry_value, with_entry_set, with_entries_set, without_entries, dict_of, on_dict, cleared_dict, without_keys, dict_remove}
+use Rattle.bz_dict.specs.Dicts.{key_in, key_of, has_key, has_some_key, entry_made, each_put, with_entry, with_entry_value, with_entry_set, without_entries, dict_of, on_dict, cleared_dict, without_keys, dict_remove}
 use Rattle.bz_dict.specs.Laws.{are_keys, has_keys, have_plain_keys, keys_of, EntriesAddedAgain, EntriesAddedAreThere, EntriesSetAreThere, EntriesRemovedAgain}
 use Rattle.bz_attribute.proofs.ArgumentForms.{any_same}
 use Rattle.bz_attribute.proofs.AttributesAgain.{by_there, by_absent, same_made, with_value_same, node_parts, attribute_new, without_new, attribute_changed}
-use Rattle.bz_attribute.proofs.FormsAgain.{if_true, if_false, items_kind, items_same}
+use Rattle.bz_attribute.proofs.FormsAgain.{if_true, if_false, items_filled, items_kind, items_same}
 use Rattle.bz_attribute.proofs.KeySets.{any_on}
 use Rattle.bz_attribute.proofs.PlainWords.{IsPlain, equal_self, body_quoted}
 use Rattle.bz_dict.proofs.KeyPlaces.{key_kept, items_changed}
@@ -43,17 +44,17 @@ dict_items xs = items_hidden-the_row-Expr-0 xs
 
 -- ---- keys that are there
 
-known_again : (current name : Bytes) (entries : List Entry) (items : List Expr) → are_keys entries items ≡ true → with_entries current name entries items ≡ items
+known_again : (current name : Bytes) (entries : List Entry) (items : List Expr) → are_keys entries items ≡ true → each_put (with_entry current name) entries items ≡ items
 known_again current name [] items h = refl
 known_again current name (entry ∷ entries) items h =
     let p = and_parts (list_any (has_key entry.key) items) (are_keys entries items) h in
-    ap (with_entries current name entries) (if_true (list_any (has_key entry.key) items) items (items ++ entry_made current name entry ∷ []) p.0)
+    ap (each_put (with_entry current name) entries) (if_true (list_any (has_key entry.key) items) items (items ++ entry_made current name entry ∷ []) p.0)
     ∙ known_again current name entries items p.1
 
 pub adding_again : EntriesAddedAgain
 adding_again current name entries xs value own h =
     let p = and_parts (has_kind k.Dict value) (are_keys entries (items_of value)) h in
-    let change : List Expr → List Expr = with_entries current name entries in
+    let change : List Expr → List Expr = each_put (with_entry current name) entries in
     changed_there name change xs value own
     ∙ (if_true {X = Arguments} (has_kind k.Dict value) (Ok (with_value name (on_items k.Dict change value) xs)) (Err NotADict) p.0
     ∙ ap (λ (ys : List Expr). Ok ys)
@@ -83,22 +84,18 @@ there_last current name entry items plain =
     (or_left (has_key entry.key (entry_made current name entry)) false (made_key current name entry plain))
 
 -- each entry that is put in takes no key away, and its own key is there then
-module _ (put : Entry → List Expr → List Expr) (all : List Entry → List Expr → List Expr) (none : (items : List Expr) → all [] items ≡ items)
-    (more : (entry : Entry) (entries : List Entry) (items : List Expr) → all (entry ∷ entries) items ≡ all entries (put entry items))
-    (stays : (entry : Entry) (items : List Expr) (key : Bytes) → IsThere key items → IsThere key (put entry items))
+module _ (put : Entry → List Expr → List Expr) (stays : (entry : Entry) (items : List Expr) (key : Bytes) → IsThere key items → IsThere key (put entry items))
     (comes : (entry : Entry) (items : List Expr) → IsPlain entry.key → IsThere entry.key (put entry items)) where
-  all_stay : (entries : List Entry) (items : List Expr) (key : Bytes) → IsThere key items → IsThere key (all entries items)
-  all_stay [] items key h = subst (IsThere key) (sym (none items)) h
-  all_stay (entry ∷ entries) items key h = subst (IsThere key) (sym (more entry entries items)) (all_stay entries (put entry items) key (stays entry items key h))
+  all_stay : (entries : List Entry) (items : List Expr) (key : Bytes) → IsThere key items → IsThere key (each_put put entries items)
+  all_stay [] items key h = h
+  all_stay (entry ∷ entries) items key h = all_stay entries (put entry items) key (stays entry items key h)
 
-  all_come : (entries : List Entry) (items : List Expr) → have_plain_keys entries ≡ true → are_keys entries (all entries items) ≡ true
+  all_come : (entries : List Entry) (items : List Expr) → have_plain_keys entries ≡ true → are_keys entries (each_put put entries items) ≡ true
   all_come [] items plain = refl
   all_come (entry ∷ entries) items plain =
       let p = and_parts (not (list_any is_escaped entry.key)) (have_plain_keys entries) plain in
-      subst (λ (after : List Expr). are_keys (entry ∷ entries) after ≡ true) (sym (more entry entries items))
-      (and_from (list_any (has_key entry.key) (all entries (put entry items))) (are_keys entries (all entries (put entry items)))
-      (all_stay entries (put entry items) entry.key (comes entry items (not-true (list_any is_escaped entry.key) p.0)))
-      (all_come entries (put entry items) p.1))
+      and_from (list_any (has_key entry.key) (each_put put entries (put entry items))) (are_keys entries (each_put put entries (put entry items)))
+      (all_stay entries (put entry items) entry.key (comes entry items (not-true (list_any is_escaped entry.key) p.0))) (all_come entries (put entry items) p.1)
 
 module _ (current name : Bytes) where
   added_stays : (entry : Entry) (items : List Expr) (key : Bytes) → IsThere key items → IsThere key (with_entry current name entry items)
@@ -121,11 +118,11 @@ module _ (current name : Bytes) where
       by_case (IsThere entry.key) (list_any (has_key entry.key) items) (on_first_that (has_key entry.key) (with_entry_value current name entry) items) (items ++ entry_made current name entry ∷ [])
       (λ h. value_same entry items entry.key ∙ h) (λ h. there_last current name entry items plain)
 
-  added_keys : (entries : List Entry) (items : List Expr) → have_plain_keys entries ≡ true → are_keys entries (with_entries current name entries items) ≡ true
-  added_keys = all_come (with_entry current name) (with_entries current name) (λ items. refl) (λ entry entries items. refl) added_stays added_comes
+  added_keys : (entries : List Entry) (items : List Expr) → have_plain_keys entries ≡ true → are_keys entries (each_put (with_entry current name) entries items) ≡ true
+  added_keys = all_come (with_entry current name) added_stays added_comes
 
-  set_keys : (entries : List Entry) (items : List Expr) → have_plain_keys entries ≡ true → are_keys entries (with_entries_set current name entries items) ≡ true
-  set_keys = all_come (with_entry_set current name) (with_entries_set current name) (λ items. refl) (λ entry entries items. refl) set_stays set_comes
+  set_keys : (entries : List Entry) (items : List Expr) → have_plain_keys entries ≡ true → are_keys entries (each_put (with_entry_set current name) entries items) ≡ true
+  set_keys = all_come (with_entry_set current name) set_stays set_comes
 
 -- ---- the attribute afterwards
 
@@ -163,11 +160,11 @@ module _ (name : Bytes) (entries : List Entry) (change : List Expr → List Expr
 
 pub added_there : EntriesAddedAreThere
 added_there current name entries xs new plain e =
-    keyed_after name entries (with_entries current name entries) (λ items. added_keys current name entries items plain) xs new (attribute name xs) refl e
+    keyed_after name entries (each_put (with_entry current name) entries) (λ items. added_keys current name entries items plain) xs new (attribute name xs) refl e
 
 pub set_there : EntriesSetAreThere
 set_there current name entries xs new plain e =
-    keyed_after name entries (with_entries_set current name entries) (λ items. set_keys current name entries items plain) xs new (attribute name xs) refl e
+    keyed_after name entries (each_put (with_entry_set current name) entries) (λ items. set_keys current name entries items plain) xs new (attribute name xs) refl e
 
 -- ---- removing what was added
 
@@ -180,7 +177,7 @@ joined P [] x a h = (h, tt)
 joined P (y ∷ ys) x a h = (a.0, joined P ys x a.1 h)
 
 all_some : (current name : Bytes) (keys : List Bytes) (entries : List Entry) (items : List Expr) → have_plain_keys entries ≡ true
-    → ((x : Expr) → HasSome (keys_of entries) x → HasSome keys x) → AllByRecursion (HasSome keys) items → AllByRecursion (HasSome keys) (with_entries current name entries items)
+    → ((x : Expr) → HasSome (keys_of entries) x → HasSome keys x) → AllByRecursion (HasSome keys) items → AllByRecursion (HasSome keys) (each_put (with_entry current name) entries items)
 all_some current name keys [] items plain f a = a
 all_some current name keys (entry ∷ entries) items plain f a =
     let p = and_parts (not (list_any is_escaped entry.key)) (have_plain_keys entries) plain in
@@ -204,14 +201,16 @@ first_there (entry ∷ entries) items full h =
 
 pub removing_again : EntriesRemovedAgain
 removing_again current name entries xs new absent full plain e =
-    let items : List Expr = with_entries current name entries [] in
+    let items : List Expr = each_put (with_entry current name) entries [] in
     let keys : List Bytes = keys_of entries in
     let value : Expr = dict_of items in
     let ys : List Expr = with_new name value xs in
-    let same : ys ≡ new = same_made ys new _ (changed_absent name (with_entries current name entries) xs absent) e in
+    let same : ys ≡ new = same_made ys new _ (changed_absent name (each_put (with_entry current name) entries) xs absent) e in
     let some : list_any (has_some_key keys) (items_of value) ≡ true = ap (list_any (has_some_key keys)) (dict_items items) ∙ first_there entries items full (added_keys current name entries [] plain) in
     let none : without_entries keys (items_of value) ≡ [] = ap (without_entries keys) (dict_items items) ∙ none_left (has_some_key keys) items (all_some current name keys entries [] plain (λ x h. h) tt) in
     ap (dict_remove name keys) (sym same)
     ∙ (by_there (attribute name ys) value (Ok ys) (λ v. if has_kind k.Dict v then Ok (without_keys name keys v ys) else Err NotADict) (attribute_new name value xs absent)
-    ∙ ap Ok (if_true (list_any (has_some_key keys) (items_of value)) (cleared_dict name (without_entries keys (items_of value)) value ys) ys some
-    ∙ (ap (λ zs. cleared_dict name zs value ys) none ∙ without_new name value xs absent)))
+    ∙ ap Ok (if_true (list_any (has_some_key keys) (items_of value)) (cleared_dict name (on_items k.Dict (without_entries keys) value) ys) ys some
+    ∙ (ap (λ zs. cleared_dict name (with_items zs value) ys) none
+    ∙ (if_true (is_empty (items_of (with_items [] value))) (without name ys) (with_value name (with_items [] value) ys) (ap (λ (zs : List Expr). is_empty zs) (items_filled k.Dict [] value refl))
+    ∙ without_new name value xs absent))))

@@ -16,7 +16,7 @@ use Rattle.bz_attribute.specs.Made.{argument_of, token, mark, string_text, strin
 use Rattle.bz_attribute.proofs.AttributesAgain.{of_found}
 use Rattle.bz_attribute.proofs.Grown.{itself as grown_itself, in_turn, EachGrows, append_grows}
 use Rattle.bz_attribute.proofs.GrownArguments.{whole, on_items_grows, with_value_grows, inserted_grows, Grown}
-use Rattle.bz_dict.specs.Dicts.{has_key, entry_made, with_entry, with_entries, dict_of, dict_add, has_some_key, with_entry_value, with_entry_set, with_entries_set, without_entries, on_dict, dict_set, cleared_dict, without_keys, dict_remove}
+use Rattle.bz_dict.specs.Dicts.{has_key, entry_made, each_put, with_entry, dict_of, dict_add, has_some_key, with_entry_value, with_entry_set, without_entries, on_dict, dict_set, cleared_dict, without_keys, dict_remove}
 use Rattle.std.proofs.lemmas.List.Elements.{All-nil}
 use Rattle.bz_token.specs.declared.class.Class.TheVariants as c
 use Rattle.bz_grammar.specs.declared.kind.Kind.{Kind}
@@ -48,16 +48,16 @@ module _ (number : Bytes → ℕ) where
       by_test (λ (ys : List Expr). total (whole number) items ≤ total (whole number) ys) (list_any (has_key entry.key) items) items (items ++ more)
       (grown_itself (total (whole number) items)) (append_grows (whole number) more items)
 
-  entries_grow : (current name : Bytes) (entries : List Entry) → EachGrows (whole number) (with_entries current name entries)
+  entries_grow : (current name : Bytes) (entries : List Entry) → EachGrows (whole number) (each_put (with_entry current name) entries)
   entries_grow current name [] items = grown_itself (total (whole number) items)
   entries_grow current name (entry ∷ entries) items =
       let more : List Expr = with_entry current name entry items in
-      in_turn (total (whole number) items) (total (whole number) more) (total (whole number) (with_entries current name entries more))
+      in_turn (total (whole number) items) (total (whole number) more) (total (whole number) (each_put (with_entry current name) entries more))
       (entry_grows current name entry items) (entries_grow current name entries more)
 
   pub dict_add_grows : (current name : Bytes) (entries : List Entry) (xs : List Expr) → Grown number xs (dict_add current name entries xs)
   dict_add_grows current name entries xs =
-      let change : List Expr → List Expr = with_entries current name entries in
+      let change : List Expr → List Expr = each_put (with_entry current name) entries in
       of_found (Grown number xs) (attribute name xs) (Ok (with_new name (dict_of (change [])) xs)) (λ value. if has_kind k.Dict value then Ok (with_value name (on_items k.Dict change value) xs) else Err NotADict)
       (inserted_grows number (argument_of name (dict_of (change []))) xs)
       (λ value e. by_test (Grown number xs) (has_kind k.Dict value) (Ok (with_value name (on_items k.Dict change value) xs)) (Err NotADict)
@@ -155,10 +155,6 @@ module _ (current name : Bytes) where
   entry_added : (entry : Entry) → IsEntry entry → KeepsEntries (with_entry current name entry)
   entry_added entry e items h = by_test (AreOf s.entry) (list_any (has_key entry.key) items) items (items ++ entry_made current name entry ∷ []) h (entry_pushed entry e items h)
 
-  entries_added : (entries : List Entry) → EachIs IsEntry entries → KeepsEntries (with_entries current name entries)
-  entries_added [] e items h = h
-  entries_added (entry ∷ entries) e items h = entries_added entries e.1 (with_entry current name entry items) (entry_added entry e.0 items h)
-
   first_set : (entry : Entry) → IsEntry entry → KeepsEntries (on_first_that (has_key entry.key) (with_entry_value current name entry))
   first_set entry e items h =
       first_that_kept (IsItem s.entry) (has_key entry.key) (with_entry_value current name entry) (entry_changed (string_of current name entry.value) (value_new current name entry e) refl) items h
@@ -168,9 +164,9 @@ module _ (current name : Bytes) where
       by_test (AreOf s.entry) (list_any (has_key entry.key) items) (on_first_that (has_key entry.key) (with_entry_value current name entry) items) (items ++ entry_made current name entry ∷ [])
       (first_set entry e items h) (entry_pushed entry e items h)
 
-  entries_set : (entries : List Entry) → EachIs IsEntry entries → KeepsEntries (with_entries_set current name entries)
-  entries_set [] e items h = h
-  entries_set (entry ∷ entries) e items h = entries_set entries e.1 (with_entry_set current name entry items) (entry_set entry e.0 items h)
+entries_put : (put : Entry → List Expr → List Expr) → ((entry : Entry) → IsEntry entry → KeepsEntries (put entry)) → (entries : List Entry) → EachIs IsEntry entries → KeepsEntries (each_put put entries)
+entries_put put keeps [] e items h = h
+entries_put put keeps (entry ∷ entries) e items h = entries_put put keeps entries e.1 (put entry items) (keeps entry e.0 items h)
 
 -- ---- the commands
 
@@ -183,10 +179,10 @@ dict_changed name change a keeps xs h =
     (with_value_kept name (on_items k.Dict change value) xs (value_in_place value (on_items k.Dict change value) (dict_in_place change keeps value) v) h) tt)
 
 pub dict_add_keeps : (current name : Bytes) (entries : List Entry) → IsAttribute name → AreSome IsEntry entries → Keeps (dict_add current name entries)
-dict_add_keeps current name entries a e = dict_changed name (with_entries current name entries) a (entries_added current name entries e.1)
+dict_add_keeps current name entries a e = dict_changed name (each_put (with_entry current name) entries) a (entries_put (with_entry current name) (entry_added current name) entries e.1)
 
 pub dict_set_keeps : (current name : Bytes) (entries : List Entry) → IsAttribute name → AreSome IsEntry entries → Keeps (dict_set current name entries)
-dict_set_keeps current name entries a e = dict_changed name (with_entries_set current name entries) a (entries_set current name entries e.1)
+dict_set_keeps current name entries a e = dict_changed name (each_put (with_entry_set current name) entries) a (entries_put (with_entry_set current name) (entry_set current name) entries e.1)
 
 fewer_entries : (keys : List Bytes) → KeepsEntries (without_entries keys)
 fewer_entries keys items h = all_kept (IsItem s.entry) (λ x. not (has_some_key keys x)) items h
@@ -194,8 +190,8 @@ fewer_entries keys items h = all_kept (IsItem s.entry) (λ x. not (has_some_key 
 without_keys_kept : (name : Bytes) (keys : List Bytes) (value : Expr) (xs : List Expr) → IsValue value → AreArguments xs → AreArguments (without_keys name keys value xs)
 without_keys_kept name keys value xs v h =
     let less : Expr = on_items k.Dict (without_entries keys) value in
-    by_test AreArguments (list_any (has_some_key keys) (items_of value)) (cleared_dict name (without_entries keys (items_of value)) value xs) xs
-    (by_test AreArguments (is_empty (without_entries keys (items_of value))) (without name xs) (with_value name less xs) (without_kept name xs h)
+    by_test AreArguments (list_any (has_some_key keys) (items_of value)) (cleared_dict name less xs) xs
+    (by_test AreArguments (is_empty (items_of less)) (without name xs) (with_value name less xs) (without_kept name xs h)
     (with_value_kept name less xs (value_in_place value less (dict_in_place (without_entries keys) (fewer_entries keys) value) v) h))
     h
 

@@ -38,14 +38,15 @@ has_some_key keys x = list_any (λ key. has_key key x) keys
 abbrev pub entry_made : Bytes → Bytes → Entry → Expr
 entry_made current name entry = node k.Entry (token c.String (quoted_of entry.key) ∷ mark (codes ":") ∷ string_of current name entry.value ∷ [])
 
--- ---- the entries of a dict, changed; the keys of one command are taken one after the other
+-- ---- the entries of a dict, changed
+
+-- the entries of one command are taken one after the other
+abbrev pub each_put : (Entry → List Expr → List Expr) → List Entry → List Expr → List Expr
+each_put put [] items = items
+each_put put (entry ∷ entries) items = each_put put entries (put entry items)
 
 abbrev pub with_entry : Bytes → Bytes → Entry → List Expr → List Expr
 with_entry current name entry items = if list_any (has_key entry.key) items then items else items ++ entry_made current name entry ∷ []
-
-abbrev pub with_entries : Bytes → Bytes → List Entry → List Expr → List Expr
-with_entries current name [] items = items
-with_entries current name (entry ∷ entries) items = with_entries current name entries (with_entry current name entry items)
 
 -- the value of an entry becomes this string
 abbrev pub with_entry_value : Bytes → Bytes → Entry → Expr → Expr
@@ -56,10 +57,6 @@ abbrev pub with_entry_set : Bytes → Bytes → Entry → List Expr → List Exp
 with_entry_set current name entry items =
     if list_any (has_key entry.key) items then on_first_that (has_key entry.key) (with_entry_value current name entry) items
     else items ++ entry_made current name entry ∷ []
-
-abbrev pub with_entries_set : Bytes → Bytes → List Entry → List Expr → List Expr
-with_entries_set current name [] items = items
-with_entries_set current name (entry ∷ entries) items = with_entries_set current name entries (with_entry_set current name entry items)
 
 -- all entries of these keys are gone
 abbrev pub without_entries : List Bytes → List Expr → List Expr
@@ -77,19 +74,19 @@ on_dict name change arguments =
     (λ value. if has_kind k.Dict value then Ok (with_value name (on_items k.Dict change value) arguments) else Err NotADict)
 
 abbrev pub dict_add : Bytes → Bytes → List Entry → List Expr → Arguments
-dict_add current name entries arguments = on_dict name (with_entries current name entries) arguments
+dict_add current name entries arguments = on_dict name (each_put (with_entry current name) entries) arguments
 
 abbrev pub dict_set : Bytes → Bytes → List Entry → List Expr → Arguments
-dict_set current name entries arguments = on_dict name (with_entries_set current name entries) arguments
+dict_set current name entries arguments = on_dict name (each_put (with_entry_set current name) entries) arguments
 
 -- the attribute goes where its dict is then empty
-abbrev pub cleared_dict : Bytes → List Expr → Expr → List Expr → List Expr
-cleared_dict name items value arguments = if is_empty items then without name arguments else with_value name (on_items k.Dict (λ old. items) value) arguments
+abbrev pub cleared_dict : Bytes → Expr → List Expr → List Expr
+cleared_dict name value arguments = if is_empty (items_of value) then without name arguments else with_value name value arguments
 
 -- nothing changes where no entry has one of the keys
 abbrev pub without_keys : Bytes → List Bytes → Expr → List Expr → List Expr
 without_keys name keys value arguments =
-    if list_any (has_some_key keys) (items_of value) then cleared_dict name (without_entries keys (items_of value)) value arguments else arguments
+    if list_any (has_some_key keys) (items_of value) then cleared_dict name (on_items k.Dict (without_entries keys) value) arguments else arguments
 
 abbrev pub dict_remove : Bytes → List Bytes → List Expr → Arguments
 dict_remove name keys arguments =

@@ -4,15 +4,29 @@ ghost use Rattle.std.specs.List.{list_any};
 ghost use Rattle.bz_items.specs.Characters.{Bytes};
 ghost use Rattle.bz_value.specs.declared.value.Expr.{Expr as Value};
 ghost use Rattle.bz_attribute.specs.Sets.{texts_of};
-ghost use Rattle.bz_dict.specs.Dicts.{has_some_key};
+ghost use Rattle.std.specs.Option.{option_copied};
+ghost use Rattle.bz_dict.specs.Dicts.{has_some_key, key_of};
 ghost use Rattle.bz_dict.specs.private.Keys.{AreIndexed, place_at as place_in, is_chosen as has_chosen};
 
-use crate::entries::key_of;
-use bz_attribute::{has_text, insert_text};
+use bz_attribute::{body_of, has_kind, has_text, insert_text, parts_of};
+use bz_grammar::Kind;
 use bz_items::{Memory, Text};
 use bz_value::Expr;
 use std::alloc::Global;
 use std::collections::{BTreeMap, BTreeSet};
+
+/// The key of an entry, where it is a plain string.
+fn key_of(x: &Expr) -> Option<&[u8]>
+    ensures { option_copied result ≡ key_of x.now }
+{
+    if !has_kind(Kind::Entry, x) {
+        return None;
+    }
+    match parts_of(x) {
+        [] => None,
+        [key, ..] => body_of(key),
+    }
+}
 
 /// The place of the first entry of a key.
 pub(crate) fn place_at(places: &BTreeMap<Vec<u8>, usize>, key: &[u8]) -> Option<usize>

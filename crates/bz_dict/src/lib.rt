@@ -2,13 +2,10 @@
 #![tactic(auto)]
 
 mod changing;
-mod entries;
 mod keys;
 mod laws;
-mod operating;
-mod removing;
 
+pub use changing::change_dicts;
 pub use laws::{
     added_entries_are_there, adding_entries_again, removing_entries_again, set_entries_are_there,
 };
-pub use operating::change_dicts;

@@ -1,4 +1,5 @@
 pub mod AddedItems
+pub mod ItemEnds
 pub mod KnownSteps
 pub mod LawAdded
 pub mod ListedForms

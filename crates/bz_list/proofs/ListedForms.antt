@@ -97,7 +97,7 @@ left_there name test before after value own place gone =
 
 -- ---- what `move` makes, by the items that it takes
 
-module _ (current from to : Bytes) (values : Values) (arguments : List Expr) where
+module _ (current from to : Bytes) (values : Values) (arguments : List Expr) (chosen : Expr → Bool) (same : chosen ≡ is_moved current from values) where
   abbrev test : Expr → Bool
   test = is_moved current from values
 
@@ -116,28 +116,25 @@ module _ (current from to : Bytes) (values : Values) (arguments : List Expr) whe
   any_taken : (value : Expr) (taken : List Expr) → taken ≡ filter test (items_in value) → list_any test (items_in value) ≡ not (is_empty taken)
   any_taken value taken e = sym (some_filtered test (items_in value)) ∙ ap (λ xs. not (is_empty xs)) (sym e)
 
-  from_there : (value : Expr) → attribute from arguments ≡ Some value → has_lists value ≡ true
-      → move current from to values arguments ≡ (if list_any test (items_in value) then items_moved current from to (filter test (items_in value)) (without_items from test value arguments) else Ok arguments)
-  from_there value own lists = ap from_value own ∙ if_false (not (has_lists value)) (Err NotAList) _ (ap not lists)
+  module _ (value : Expr) (taken left : List Expr) (own : attribute from arguments ≡ Some value) (lists : has_lists value ≡ true)
+      (took : taken ≡ chosen_in chosen (attribute from arguments)) (is : left ≡ without_chosen from chosen (attribute from arguments) arguments) where
+    all_taken : taken ≡ filter test (items_in value)
+    all_taken = took ∙ both (λ t found. chosen_in t found) same own
 
-  pub nothing_moved : (value : Expr) (taken left : List Expr) → attribute from arguments ≡ Some value → has_lists value ≡ true
-      → taken ≡ chosen_in test (attribute from arguments) → left ≡ without_chosen from test (attribute from arguments) arguments → taken ≡ []
-      → move current from to values arguments ≡ Ok left
-  nothing_moved value taken left own lists took is none =
-      let took' : taken ≡ filter test (items_in value) = took ∙ ap (chosen_in test) own in
-      from_there value own lists
-      ∙ (none_by (list_any test (items_in value)) _ value (any_taken value taken took' ∙ ap (λ xs. not (is_empty xs)) none)
-      ∙ ap Ok (sym (is ∙ ap (λ found. without_chosen from test found arguments) own)))
+    all_left : left ≡ without_items from test value arguments
+    all_left = is ∙ both (λ t found. without_chosen from t found arguments) same own
 
-  pub something_moved : (value : Expr) (taken left : List Expr) → attribute from arguments ≡ Some value → has_lists value ≡ true
-      → taken ≡ chosen_in test (attribute from arguments) → left ≡ without_chosen from test (attribute from arguments) arguments → is_empty taken ≡ false
-      → move current from to values arguments ≡ with_items_added to (added_by current to (a.Moved taken)) left
-  something_moved value taken left own lists took is some =
-      let took' : taken ≡ filter test (items_in value) = took ∙ ap (chosen_in test) own in
-      from_there value own lists
-      ∙ (if_true (list_any test (items_in value)) _ _ (any_taken value taken took' ∙ ap not some)
-      ∙ (ap (λ xs. items_moved current from to xs (without_items from test value arguments)) (sym took')
-      ∙ ap (λ xs. items_moved current from to taken xs) (sym (is ∙ ap (λ found. without_chosen from test found arguments) own))))
+    from_there : move current from to values arguments ≡ (if list_any test (items_in value) then items_moved current from to (filter test (items_in value)) (without_items from test value arguments) else Ok arguments)
+    from_there = ap from_value own ∙ if_false (not (has_lists value)) (Err NotAList) _ (ap not lists)
+
+    pub nothing_moved : taken ≡ [] → move current from to values arguments ≡ Ok left
+    nothing_moved none = from_there ∙ (none_by (list_any test (items_in value)) _ value (any_taken value taken all_taken ∙ ap (λ xs. not (is_empty xs)) none) ∙ ap Ok (sym all_left))
+
+    pub something_moved : is_empty taken ≡ false → move current from to values arguments ≡ with_items_added to (added_by current to (a.Moved taken)) left
+    something_moved some =
+        from_there
+        ∙ (if_true (list_any test (items_in value)) _ _ (any_taken value taken all_taken ∙ ap not some)
+        ∙ sym (both (λ xs ys. items_moved current from to xs ys) all_taken all_left))
 
 -- ---- the first element that passes, changed in its place; and where none passes
 

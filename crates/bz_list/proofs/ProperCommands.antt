@@ -13,8 +13,6 @@ use Rattle.bz_grammar.specs.Spots.{Spot, Within}
 use Rattle.bz_label.specs.Tables.{is_label_attribute}
 use Rattle.bz_label.specs.Read.{shortened}
 use Rattle.bz_value.specs.declared.value.Expr.{Expr, Token, Form', items-the_row-Expr}
-use Rattle.bz_value.specs.declared.value.Expr.TheVariants as e
-use Rattle.bz_value.specs.Comments.{HostComments}
 use Rattle.bz_items.specs.Characters.{Bytes}
 use Rattle.bz_value.specs.Proper.{ProperExpr, after_expr}
 use Rattle.bz_value.proofs.FormParts.{AreParts}
@@ -25,7 +23,7 @@ use Rattle.bz_rule.specs.Rules.{body}
 use Rattle.bz_rule.specs.Values.{has_kind, has_class, text_of, parts_of, items_of, with_text, on_row, on_items, on_lists, first_text}
 use Rattle.bz_rule.proofs.ProperChanges.{by_test, by_case, Stays, row_stays, items_stay, lists_stay, string_in_place}
 use Rattle.bz_rule.proofs.ProperForms.{InPlace, AsForm, itself, each_mapped, opened}
-use Rattle.bz_rule.proofs.ProperItems.{IsValue, value_in_place, all_joined, all_kept, all_changed}
+use Rattle.bz_rule.proofs.ProperItems.{IsValue, from_in_place, item_within, value_in_place, all_joined, all_kept, all_changed}
 use Rattle.bz_rule.proofs.ProperSequences.{IsItem, AreOf, list_apart, list_in_place, where_true}
 use Rattle.bz_attribute.specs.Made.{string_text, list_of, string_of, plus}
 use Rattle.bz_attribute.specs.Attributes.{on_first_that, is_attribute, is_other_attribute, on_value, with_value, with_new, without}
@@ -154,34 +152,22 @@ fresh_utf8 current attribute items earlier (word ∷ words) u =
     (fresh current attribute items earlier words) (word ∷ fresh current attribute items (word ∷ earlier) words)
     (fresh_utf8 current attribute items earlier words u.1) (u.0, fresh_utf8 current attribute items (word ∷ earlier) words u.1)
 
--- a plain string with a shorter label
-shorter_item : (current attribute text : Bytes) (line_break : Bool) (comments : HostComments) (found : Option Bytes) → IfSome found IsUtf8
-    → IsItem s.test (e.Token (record { class = c.String; text = text; line_break = line_break; comments = comments }))
-    → IsItem s.test (option_map_or (λ inside. if is_label_attribute attribute && not (bytes_eq (shortened current inside) inside)
-    then with_text (quoted_of (shortened current inside)) (e.Token (record { class = c.String; text = text; line_break = line_break; comments = comments }))
-    else e.Token (record { class = c.String; text = text; line_break = line_break; comments = comments })) found (e.Token (record { class = c.String; text = text; line_break = line_break; comments = comments })))
-shorter_item current attribute text line_break comments None u h = h
-shorter_item current attribute text line_break comments (Some inside) u h =
-    by_test (IsItem s.test) (is_label_attribute attribute && not (bytes_eq (shortened current inside) inside))
-    (e.Token (record { class = c.String; text = quoted_of (shortened current inside); line_break = line_break; comments = comments }))
-    (e.Token (record { class = c.String; text = text; line_break = line_break; comments = comments }))
-    ((quoted_string (shortened current inside) (shortened_utf8 current inside u), h.0.1, h.0.2), refl) h
-
-travelled_token : (current attribute : Bytes) (class : Class) (text : Bytes) (line_break : Bool) (comments : HostComments)
-    → IsItem s.test (e.Token (record { class = class; text = text; line_break = line_break; comments = comments }))
-    → IsItem s.test (travelled current attribute (e.Token (record { class = class; text = text; line_break = line_break; comments = comments })))
-travelled_token current attribute c.String text line_break comments h = shorter_item current attribute text line_break comments (body text) (body_utf8 text h.0.0.1) h
-travelled_token current attribute _ text line_break comments h = h
-
-travelled_item : (current attribute : Bytes) (x : Expr) → IsItem s.test x → IsItem s.test (travelled current attribute x)
-travelled_item current attribute (Token t) h = travelled_token current attribute t.class t.text t.line_break t.comments h
-travelled_item current attribute (Form' kind s parts s' items end split open_break comments) h = h
+-- an item that comes from another attribute
+travelled_stays : (current attribute : Bytes) (x : Expr) (found : Option Bytes) → body_of x ≡ found
+    → InPlace x (option_map_or (λ inside. if is_label_attribute attribute && not (bytes_eq (shortened current inside) inside) then with_text (quoted_of (shortened current inside)) x else x) found x)
+travelled_stays current attribute x None e = itself x
+travelled_stays current attribute x (Some inside) e =
+    let short : Bytes = shortened current inside in
+    let w = body_there x inside e in
+    by_test (InPlace x) (is_label_attribute attribute && not (bytes_eq short inside)) (with_text (quoted_of short) x) x
+    (string_in_place (quoted_of short) x w.0 (λ h. quoted_string short (shortened_utf8 current inside (w.1 h.1)))) (itself x)
 
 pub arriving_items : (current attribute : Bytes) (there xs : List Expr) → AreOf s.test xs → AreOf s.test (arriving current attribute there xs)
 arriving_items current attribute there [] h = tt
 arriving_items current attribute there (x ∷ xs) h =
     by_test (AreOf s.test) (is_there current attribute there x) (arriving current attribute there xs) (travelled current attribute x ∷ arriving current attribute (x ∷ there) xs)
-    (arriving_items current attribute there xs h.1) (travelled_item current attribute x h.0, arriving_items current attribute (x ∷ there) xs h.1)
+    (arriving_items current attribute there xs h.1)
+    (item_within s.test x (travelled current attribute x) (from_in_place x (travelled current attribute x) (travelled_stays current attribute x (body_of x) refl)) h.0, arriving_items current attribute (x ∷ there) xs h.1)
 
 -- ---- what each command on values makes of the arguments of a rule is arguments
 

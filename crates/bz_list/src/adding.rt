@@ -1,18 +1,19 @@
 //! Items that are added to the lists of an attribute: words, or items that come from another attribute. An expression that is not
 //! needed is handed to `drop`: dropped by the end of its scope, each form of it would be a path of that function's proof.
-ghost use Rattle.std.specs.Prelude.{◌≡◌, ◌⊎◌, ◌++◌, ◌∷◌, [], List, ℕ, Ok, Err, IfOk, OnOk, IfErr, map};
-ghost use Rattle.std.specs.List.{list_any, position};
+ghost use Rattle.std.specs.Prelude.{◌≡◌, ◌⊎◌, ◌++◌, ◌∷◌, [], List, Ok, Err, IfOk, OnOk, IfErr, map, nat_eq, true};
+ghost use Rattle.std.specs.List.{ends_with, list_any, position};
 ghost use Rattle.std.specs.Option.{option_map_or};
 ghost use Rattle.bz_grammar.specs.declared.kind.Kind.TheVariants as kinds;
 ghost use Rattle.bz_value.specs.declared.value.Expr.{Expr as Value};
 ghost use Rattle.bz_items.specs.Characters.{Bytes};
 ghost use Rattle.bz_rule.specs.Values.{has_kind as is_of, on_items, with_text};
 ghost use Rattle.bz_attribute.specs.Attributes.{on_first_that};
-ghost use Rattle.bz_attribute.specs.Lists.{fresh, is_item as is_item_of, items_in, listed, travelled as as_travelled, with_more};
+ghost use Rattle.bz_attribute.specs.Lists.{are_one, fresh, is_item as is_item_of, items_in, listed, travelled as as_travelled, with_more};
 ghost use Rattle.bz_attribute.specs.Made.{list_of as list_made, plus as sum_made, string_of as string_made};
 ghost use Rattle.bz_list.specs.Changes.{with_items_added};
-ghost use Rattle.bz_list.specs.private.KnownValues.{Membership, membership, new_words, new_items as items_new};
-ghost use Rattle.bz_list.specs.private.Listing.{added_by, added_to, with_added};
+ghost use Rattle.bz_list.specs.private.KnownValues.{membership, new_words, new_items as items_new};
+ghost use Rattle.bz_list.specs.private.Listing.{added_by, added_to, is_item_ending, with_added};
+ghost use Rattle.bz_rule.specs.Rules.{inner};
 
 use crate::known::Known;
 use bz_attribute::{
@@ -22,7 +23,8 @@ use bz_attribute::{
 use bz_command_syntax::quoted;
 use bz_grammar::Kind;
 use bz_items::{Items, Memory, Text};
-use bz_label::bytes::{is_label_attribute, shortened};
+use bz_label::bytes::{is_label_attribute, label_parts, shortened};
+use bz_rule::text_of;
 use bz_value::{Expr, Refusal};
 
 /// What is added to an attribute.
@@ -147,28 +149,59 @@ fn added_items(slot: Slot<'_>, added: Added<'_>, known: Known) -> Result<Vec<Exp
     }
 }
 
+/// What each text that means the same as a word ends with: the name of the label that the word is, else the word itself.
+#[tactic(auto, using(crate::proofs::ItemEnds::name_ends, crate::proofs::ItemEnds::word_ends))]
+fn end_of<'a>(slot: Slot<'a>, word: &'a [u8]) -> &'a [u8]
+    ensures { (other : Bytes) → are_one slot.entry.current.now slot.entry.attribute.now word.entry.now other ≡ true → ends_with nat_eq other result.now ≡ true }
+{
+    if !is_label_attribute(slot.attribute) {
+        return word;
+    }
+    match label_parts(slot.current, word) {
+        Some(parts) => parts.name,
+        None => word,
+    }
+}
+
+/// What is between the quotation marks of a plain string.
+fn inner(text: &[u8]) -> &[u8]
+    ensures { result.now ≡ inner text.now }
+{
+    match text {
+        [_, inner @ .., _] => inner,
+        _ => &[],
+    }
+}
+
+/// Whether a word means an item. What the item ends with is looked at first: most others end otherwise.
+fn is_item_ending(slot: Slot<'_>, word: &[u8], end: &[u8], x: &Expr) -> bool
+    ensures { result ≡ is_item_ending slot.entry.current.now slot.entry.attribute.now word.now end.now x.now }
+{
+    inner(text_of(x)).ends_with(end) && is_item(slot.current, slot.attribute, word, x)
+}
+
 /// Whether a word means an item of a list.
-fn is_in_list(slot: Slot<'_>, word: &[u8], x: &Expr) -> bool
-    ensures { result ≡ list_any (is_item_of slot.entry.current.now slot.entry.attribute.now word.now) (listed x.now) }
+fn is_in_list(slot: Slot<'_>, word: &[u8], end: &[u8], x: &Expr) -> bool
+    ensures { result ≡ list_any (is_item_ending slot.entry.current.now slot.entry.attribute.now word.now end.now) (listed x.now) }
 {
     has_kind(Kind::List, x)
         && items_of(x)
             .iter()
-            .any(|item| is_item(slot.current, slot.attribute, word, item))
+            .any(|item| is_item_ending(slot, word, end, item))
 }
 
 /// Whether a word means an item of the lists among these expressions.
-fn is_in_lists(slot: Slot<'_>, word: &[u8], operands: &[Expr]) -> bool
-    ensures { result ≡ list_any (λ x. list_any (is_item_of slot.entry.current.now slot.entry.attribute.now word.now) (listed x)) operands.now }
+fn is_in_lists(slot: Slot<'_>, word: &[u8], end: &[u8], operands: &[Expr]) -> bool
+    ensures { result ≡ list_any (λ x. list_any (is_item_ending slot.entry.current.now slot.entry.attribute.now word.now end.now) (listed x)) operands.now }
 {
-    operands.iter().any(|x| is_in_list(slot, word, x))
+    operands.iter().any(|x| is_in_list(slot, word, end, x))
 }
 
 /// Whether a word means an item of the lists of a value.
 fn is_in_value(slot: Slot<'_>, word: &[u8], value: &Expr) -> bool
     ensures { result ≡ list_any (is_item_of slot.entry.current.now slot.entry.attribute.now word.now) (items_in value.now) }
 {
-    is_in_lists(slot, word, operands_of(value))
+    is_in_lists(slot, word, end_of(slot, word), operands_of(value))
 }
 
 /// The string of a word that is added alone to the items of a value: no set of these is made.

@@ -1,20 +1,15 @@
 //! Values of an attribute, to check whether a word means one of them.
-ghost use Rattle.std.specs.Prelude.{◌≡◌, ◌||◌, List, ℕ, IfOk, OnOk};
-ghost use Rattle.std.specs.List.{list_any, flat_map, filter};
+ghost use Rattle.std.specs.Prelude.{◌≡◌, ◌||◌, Bool, List, IfOk, OnOk, true, false};
+ghost use Rattle.std.specs.List.{list_any, flat_map};
 ghost use Rattle.std.specs.Option.{option_map};
-ghost use Rattle.std.specs.Str.{bytes_eq};
 ghost use Rattle.bz_label.specs.Forms.{label_of};
-ghost use Rattle.bz_label.specs.Read.{is_equal};
 ghost use Rattle.bz_label.specs.declared.label.Label.{Label};
-ghost use Rattle.bz_items.specs.Characters.{Bytes};
-ghost use Rattle.bz_grammar.specs.declared.kind.Kind.TheVariants as kinds;
-ghost use Rattle.bz_rule.specs.Values.{has_kind as is_of, items_of as items};
 ghost use Rattle.bz_attribute.specs.Lists.{items_in, is_some_item, listed};
 ghost use Rattle.bz_list.specs.Changes.{is_moved};
-ghost use Rattle.bz_list.specs.private.KnownValues.{label_of_key, labels_of, label_meant, membership, none_known, with_word, with_words, is_known_item, with_item, with_known_items};
+ghost use Rattle.bz_list.specs.private.KnownValues.{parts_of_key, parts_of_keys, word_key, label_meant, are_one_key, membership, none_known, with_word, with_words, is_known_item, with_item, with_known_items};
 ghost use Rattle.bz_list.specs.private.Listing.{chooses};
 
-use bz_attribute::{Slot, body_of, has_kind, has_text, insert_text, items_of, operands_of};
+use bz_attribute::{Slot, body_of, has_kind, items_of, operands_of};
 use bz_command_syntax::Values;
 use bz_grammar::Kind;
 use bz_items::{Memory, Text};
@@ -24,9 +19,10 @@ use std::alloc::Global;
 use std::collections::BTreeSet;
 use std::marker::Model;
 
-/// The three parts of a label.
+/// By what a word is known: the three parts of the label that it means, or else itself as a name alone.
 #[derive(PartialEq, Eq, PartialOrd, Ord, Drop)]
 pub(crate) struct Key {
+    is_label: bool,
     repository: Vec<u8>,
     package: Vec<u8>,
     name: Vec<u8>,
@@ -34,10 +30,11 @@ pub(crate) struct Key {
 
 impl Key {
     /// A copy of the parts.
-    fn new(alloc: Global, parts: Parts<'_>) -> Result<Key, Memory>
-        ensures { IfOk result (λ key. label_of_key key ≡ label_of parts.entry) }
+    fn new(alloc: Global, is_label: bool, parts: Parts<'_>) -> Result<Key, Memory>
+        ensures { IfOk result (λ key. parts_of_key key ≡ (is_label, label_of parts.entry)) }
     {
         Ok(Key {
+            is_label,
             repository: Vec::from_slice(alloc, parts.repository)?,
             package: Vec::from_slice(alloc, parts.package)?,
             name: Vec::from_slice(alloc, parts.name)?,
@@ -45,45 +42,43 @@ impl Key {
     }
 }
 
-/// Whether one of the labels has these parts.
-#[tactic(auto, using(crate::proofs::KnownSteps::label_found))]
-fn has_label(labels: &BTreeSet<Key>, key: &Key) -> bool
-    ensures { result ≡ list_any (is_equal (label_of_key key.now)) (labels_of labels.now) }
+/// Whether one of the keys is this one.
+#[tactic(auto, using(crate::proofs::KnownSteps::key_found))]
+fn has_key(keys: &BTreeSet<Key>, key: &Key) -> bool
+    ensures { result ≡ list_any (are_one_key (parts_of_key key.now)) (parts_of_keys keys.now) }
 {
-    labels.contains(key)
+    keys.contains(key)
 }
 
-/// The label is one of them from now on.
-#[tactic(auto, using(crate::proofs::KnownSteps::label_inserted))]
-fn insert_label(labels: &mut BTreeSet<Key>, key: Key) -> Result<(), Memory>
-    ensures { (label : Label) → OnOk result (list_any (is_equal label) (labels_of labels.new) ≡ (is_equal label (label_of_key key) || list_any (is_equal label) (labels_of labels.old))) }
+/// The key is one of them from now on.
+#[tactic(auto, using(crate::proofs::KnownSteps::key_inserted))]
+fn insert_key(keys: &mut BTreeSet<Key>, key: Key) -> Result<(), Memory>
+    ensures { (other : Bool × Label) → OnOk result (list_any (are_one_key other) (parts_of_keys keys.new) ≡ (are_one_key other (parts_of_key key) || list_any (are_one_key other) (parts_of_keys keys.old))) }
 {
-    labels.insert(key)?;
+    keys.insert(key)?;
     Ok(())
 }
 
-/// Values of an attribute. In a label attribute words that mean one label are one value: a word that reads as a label is
-/// kept by the parts of it, any other by its bytes.
+/// Values of an attribute. In a label attribute words that mean one label are one value.
 #[derive(Drop)]
 pub(crate) struct Known {
     alloc: Global,
     current: Text,
     is_label: bool,
-    labels: BTreeSet<Key>,
-    texts: BTreeSet<Vec<u8>>,
+    keys: BTreeSet<Key>,
 }
 
 impl Model for Known {
-    ghost use Rattle.bz_list.specs.private.KnownValues.{KnownValues, labels_of};
-    ghost use Rattle.bz_attribute.specs.Sets.{texts_of};
+    ghost use Rattle.bz_list.specs.private.KnownValues.{KnownValues, parts_of_keys};
 
     ghost Value = { KnownValues };
 
-    ghost view = { λ known. record { current = known.current; is_label = known.is_label; labels = labels_of known.labels; texts = texts_of known.texts } };
+    ghost view = { λ known. record { current = known.current; is_label = known.is_label; keys = parts_of_keys known.keys } };
 }
 
 impl Known {
     /// No values of the attribute.
+    #[tactic(auto, using(crate::proofs::KnownSteps::none_kept))]
     pub(crate) fn new(slot: Slot<'_>) -> Result<Known, Memory>
         ensures { IfOk result (λ known. membership known ≡ none_known slot.entry.current.now slot.entry.attribute.now) }
     {
@@ -92,21 +87,33 @@ impl Known {
             alloc,
             current: Text::from_slice(alloc, slot.current)?,
             is_label: is_label_attribute(slot.attribute),
-            labels: BTreeSet::new(alloc),
-            texts: BTreeSet::new(alloc),
+            keys: BTreeSet::new(alloc),
         })
     }
 
-    /// The label that a word means, where it means one.
-    fn key_of(&self, word: &[u8]) -> Result<Option<Key>, Memory>
-        ensures { IfOk result (λ key. option_map label_of_key key ≡ label_meant self.now.is_label self.now.current word.now) }
+    /// The parts of the label that a word means, where it means one.
+    fn label<'a>(&'a self, word: &'a [u8]) -> Option<Parts<'a>>
+        ensures { option_map label_of result ≡ label_meant self.now.is_label self.now.current word.now }
     {
         if !self.is_label {
-            return Ok(None);
+            return None;
         }
-        match label_parts(self.current.as_slice(), word) {
-            Some(parts) => Ok(Some(Key::new(self.alloc, parts)?)),
-            None => Ok(None),
+        label_parts(self.current.as_slice(), word)
+    }
+
+    fn key_of(&self, word: &[u8]) -> Result<Key, Memory>
+        ensures { IfOk result (λ key. parts_of_key key ≡ word_key self.now.is_label self.now.current word.now) }
+    {
+        match self.label(word) {
+            Some(parts) => Ok(Key::new(self.alloc, true, parts)?),
+            None => {
+                let alone = Parts {
+                    repository: &[],
+                    package: &[],
+                    name: word,
+                };
+                Ok(Key::new(self.alloc, false, alone)?)
+            }
         }
     }
 
@@ -114,21 +121,16 @@ impl Known {
     pub(crate) fn has(&self, word: &[u8]) -> Result<bool, Memory>
         ensures { IfOk result (λ found. found ≡ (membership self.now).is_known word.now) }
     {
-        match self.key_of(word)? {
-            Some(key) => Ok(has_label(&self.labels, &key)),
-            None => Ok(has_text(&self.texts, word)),
-        }
+        let key = self.key_of(word)?;
+        Ok(has_key(&self.keys, &key))
     }
 
     /// The word is one of them from now on.
     pub(crate) fn insert(&mut self, word: &[u8]) -> Result<(), Memory>
         ensures { OnOk result (membership self.new ≡ with_word word.now (membership self.old)) }
     {
-        let Some(key) = self.key_of(word)? else {
-            insert_text(self.alloc, &mut self.texts, word)?;
-            return Ok(());
-        };
-        insert_label(&mut self.labels, key)?;
+        let key = self.key_of(word)?;
+        insert_key(&mut self.keys, key)?;
         Ok(())
     }
 

@@ -2,11 +2,10 @@
 #![tactic(auto)]
 
 mod adding;
-mod changing;
 mod known;
 mod laws;
 mod listed;
 mod replacing;
 
-pub use changing::change_values;
 pub use laws::{added_is_there, adding_again, removing_again};
+pub use listed::change_values;

@@ -1,4 +1,4 @@
-//! Commands on the items of an attribute's lists.
+//! What each command on values makes of the arguments of a rule: items that are removed and moved, and the other commands.
 ghost use Rattle.std.specs.Prelude.{◌≡◌, ◌⊎◌, ◌++◌, ◌∷◌, List, Ok, Err, IfOk, OnOk, IfErr, map, not};
 ghost use Rattle.std.specs.List.{filter, flat_map};
 ghost use Rattle.bz_grammar.specs.declared.kind.Kind.TheVariants as kinds;
@@ -7,19 +7,21 @@ ghost use Rattle.bz_rule.specs.Rules.{attribute as value_there};
 ghost use Rattle.bz_rule.specs.Values.{on_items, on_lists};
 ghost use Rattle.bz_value.specs.Empty.{is_empty};
 ghost use Rattle.bz_attribute.specs.Lists.{items_in, listed};
-ghost use Rattle.bz_list.specs.Changes.{remove_values, is_moved, move};
+ghost use Rattle.bz_list.specs.Changes.{remove_values, move, values_changed};
 ghost use Rattle.bz_list.specs.private.Listing.{chooses, is_left, put_back, without_chosen, chosen_in};
 
 use crate::adding::{Added, add_items};
 use crate::known::Chosen;
+use crate::replacing::Change;
 use bz_attribute::{
     Slot, has_lists, is_empty_list, is_no_list, remove_first, set_value, take_value,
 };
-use bz_command_syntax::Values;
+use bz_command_syntax::{ValueOperation, Values};
 use bz_grammar::Kind;
 use bz_items::{Items, Memory, Text};
 use bz_rule::attribute;
 use bz_value::{Expr, Refusal};
+use std::alloc::Global;
 use std::mem;
 
 /// Puts an item to those that are taken, where the command is meant for it, else to those that are left.
@@ -141,11 +143,7 @@ fn take_items(
 }
 
 /// Items that are one of the words go; the attribute goes where its whole value is then an empty list.
-pub(crate) fn remove_values(
-    slot: Slot<'_>,
-    words: &[Text],
-    arguments: &mut Items<Expr>,
-) -> Result<(), Refusal>
+fn remove_values(slot: Slot<'_>, words: &[Text], arguments: &mut Items<Expr>) -> Result<(), Refusal>
     ensures ok { OnOk result (remove_values slot.entry.current.now slot.entry.attribute.now words.now arguments.old ≡ Ok arguments.new) }
     ensures err { IfErr result (λ refusal. (remove_values slot.entry.current.now slot.entry.attribute.now words.now arguments.old ≡ Err refusal) ⊎ (refusal ≡ Refusal.Memory)) }
 {
@@ -160,22 +158,8 @@ pub(crate) fn remove_values(
     Ok(())
 }
 
-/// Takes the items that are moved from the attribute's lists.
-fn take_moved(
-    from: Slot<'_>,
-    values: &Values,
-    arguments: &mut Items<Expr>,
-) -> Result<Items<Expr>, Memory>
-    ensures left { OnOk result (arguments.new ≡ without_chosen from.entry.attribute.now (is_moved from.entry.current.now from.entry.attribute.now values.now) (value_there from.entry.attribute.now arguments.old) arguments.old) }
-    ensures taken { IfOk result (λ taken. taken ≡ chosen_in (is_moved from.entry.current.now from.entry.attribute.now values.now) (value_there from.entry.attribute.now arguments.old)) }
-{
-    let chosen = Chosen::of_values(from, values)?;
-    let taken = take_items(from, &chosen, arguments)?;
-    Ok(taken)
-}
-
 /// Items leave one attribute and are added to another.
-pub(crate) fn move_values(
+fn move_values(
     from: Slot<'_>,
     to: &[u8],
     values: &Values,
@@ -190,7 +174,8 @@ pub(crate) fn move_values(
     if !has_lists(value) {
         return Err(Refusal::NotAList);
     }
-    let taken = take_moved(from, values, arguments)?;
+    let chosen = Chosen::of_values(from, values)?;
+    let taken = take_items(from, &chosen, arguments)?;
     if taken.is_empty() {
         return Ok(());
     }
@@ -199,4 +184,64 @@ pub(crate) fn move_values(
         ..from
     };
     add_items(to, Added::Moved(taken), arguments)
+}
+
+// Changes the arguments in place; after a refusal part of them may be lost.
+fn change_in_place(
+    alloc: Global,
+    operation: &ValueOperation,
+    current: &[u8],
+    arguments: &mut Items<Expr>,
+) -> Result<(), Refusal>
+    ensures ok { OnOk result (values_changed operation.now current.now arguments.old ≡ Ok arguments.new) }
+    ensures err { IfErr result (λ refusal. (values_changed operation.now current.now arguments.old ≡ Err refusal) ⊎ (refusal ≡ Refusal.Memory)) }
+{
+    match operation {
+        ValueOperation::Add { attribute, values } => {
+            let slot = Slot::new(alloc, current, attribute.as_slice());
+            add_items(slot, Added::Words(values.as_slice()), arguments)
+        }
+        ValueOperation::Remove { attribute, values } => {
+            remove_values(
+                Slot::new(alloc, current, attribute.as_slice()),
+                values.as_slice(),
+                arguments,
+            )
+        }
+        ValueOperation::Replace {
+            attributes,
+            old,
+            new,
+        } => {
+            let change = Change::Replace { old, new };
+            Ok(change.on_attributes(alloc, current, attributes, arguments)?)
+        }
+        ValueOperation::Substitute {
+            attributes,
+            pattern,
+            template,
+        } => {
+            let change = Change::Substitute { pattern, template };
+            Ok(change.on_attributes(alloc, current, attributes, arguments)?)
+        }
+        ValueOperation::Move { from, to, values } => {
+            let from = Slot::new(alloc, current, from.as_slice());
+            move_values(from, to.as_slice(), values, arguments)
+        }
+    }
+}
+
+/// What an operation on the values of attributes makes of the arguments of a rule, which are given up where it is refused. `current`
+/// is the path of the file's package. Errors: the refusal of the operation; `Memory`: a growth was refused.
+pub fn change_values(
+    alloc: Global,
+    operation: &ValueOperation,
+    current: &[u8],
+    mut arguments: Items<Expr>,
+) -> Result<Items<Expr>, Refusal>
+    ensures ok { IfOk result (λ new. values_changed operation.now current.now arguments ≡ Ok new) }
+    ensures err { IfErr result (λ refusal. (values_changed operation.now current.now arguments ≡ Err refusal) ⊎ (refusal ≡ Refusal.Memory)) }
+{
+    change_in_place(alloc, operation, current, &mut arguments)?;
+    Ok(arguments)
 }

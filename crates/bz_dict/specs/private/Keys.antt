@@ -12,9 +12,9 @@ use Rattle.bz_value.specs.declared.value.Expr.{Expr}
 use Rattle.bz_items.specs.Characters.{Bytes}
 use Rattle.bz_attribute.specs.Sets.{texts_of}
 use Rattle.bz_command_syntax.specs.declared.command.Entry.{Entry}
-use Rattle.bz_dict.specs.declared.entries.Change.{Change}
-use Rattle.bz_dict.specs.declared.entries.Change.TheVariants.{Add, Set}
-use Rattle.bz_dict.specs.Dicts.{key_of, has_key, with_entry, with_entries, with_entry_set, with_entries_set}
+use Rattle.bz_dict.specs.declared.changing.Change.{Change}
+use Rattle.bz_dict.specs.declared.changing.Change.TheVariants.{Add, Set}
+use Rattle.bz_dict.specs.Dicts.{key_of, has_key, with_entry, with_entry_set}
 
 -- ---- the places of the keys
 
@@ -30,15 +30,11 @@ first_place items key = position_from (has_key key) 0 items
 abbrev pub AreIndexed : BTreeMap (Vec ℕ Global) ℕ → List Expr → Type 0
 AreIndexed places items = (key : Bytes) → place_at places key ≡ first_place items key
 
--- ---- the change of the entries, by what becomes of an entry whose key is there
+-- ---- an entry that is put to others, by what becomes of one whose key is there
 
 abbrev pub entry_put : Change → Bytes → Bytes → Entry → List Expr → List Expr
-entry_put Add current name entry items = with_entry current name entry items
-entry_put Set current name entry items = with_entry_set current name entry items
-
-abbrev pub entries_put : Change → Bytes → Bytes → List Entry → List Expr → List Expr
-entries_put Add current name entries items = with_entries current name entries items
-entries_put Set current name entries items = with_entries_set current name entries items
+entry_put Add = with_entry
+entry_put Set = with_entry_set
 
 -- ---- the keys that go
 

@@ -1,24 +1,16 @@
--- The set in which labels that are values of an attribute are kept, seen as a list.
-use Rattle.std.specs.Prelude.{List, map, Bool, false, not, ◌||◌, [], ◌∷◌, Option, Some, None, if◌then◌else◌, bytes_eq}
+-- What the commands on lists know of the values of an attribute while they go through items and words: a set of keys, and what is
+-- found in it.
+use Rattle.std.specs.Prelude.{List, map, Bool, true, false, not, ◌||◌, ◌&&◌, [], ◌∷◌, Option, Some, None, if◌then◌else◌, bytes_eq}
 use Rattle.std.specs.BTreeSet.{BTreeSet}
-use Rattle.bz_label.specs.declared.label.Label.{Label}
-use Rattle.bz_list.specs.declared.known.Key.{Key}
 use Rattle.std.specs.List.{list_any}
 use Rattle.std.specs.Option.{option_map_or}
+use Rattle.bz_label.specs.declared.label.Label.{Label}
 use Rattle.bz_label.specs.Tables.{is_label_attribute}
 use Rattle.bz_label.specs.Read.{label_in, is_equal, is_same}
+use Rattle.bz_list.specs.declared.known.Key.{Key}
 use Rattle.bz_value.specs.declared.value.Expr.{Expr}
 use Rattle.bz_items.specs.Characters.{Bytes}
 use Rattle.bz_attribute.specs.Lists.{body_of, travelled}
-
--- the label of three parts
-abbrev pub label_of_key : Key → Label
-label_of_key key = record { repository = key.repository.items; «package» = key.«package».items; name = key.name.items }
-
-abbrev pub labels_of : BTreeSet Key → List Label
-labels_of set = map label_of_key set.keys
-
--- ---- what the commands on lists know of the values of an attribute while they go through items and words
 
 -- words that mean one value, where the attribute is a label attribute and where it is none
 abbrev pub mean_the_same : Bool → Bytes → Bytes → Bytes → Bool
@@ -28,17 +20,29 @@ mean_the_same is_label current word other = if is_label then is_same current wor
 abbrev pub label_meant : Bool → Bytes → Bytes → Option Label
 label_meant is_label current word = if is_label then label_in current word else None
 
--- values of an attribute, as they are kept: labels, and the other words
+-- ---- keys: a word is known by the label that it means, or else as a name alone, which is no label
+
+abbrev pub key_by : Bytes → Option Label → Bool × Label
+key_by word (Some label) = (true, label)
+key_by word None = (false, record { repository = []; «package» = []; name = word })
+
+abbrev pub word_key : Bool → Bytes → Bytes → Bool × Label
+word_key is_label current word = key_by word (label_meant is_label current word)
+
+abbrev pub are_one_key : Bool × Label → Bool × Label → Bool
+are_one_key one other = (if one.0 then other.0 else not other.0) && is_equal one.1 other.1
+
+abbrev pub parts_of_key : Key → Bool × Label
+parts_of_key key = (key.is_label, record { repository = key.repository.items; «package» = key.«package».items; name = key.name.items })
+
+abbrev pub parts_of_keys : BTreeSet Key → List (Bool × Label)
+parts_of_keys set = map parts_of_key set.keys
+
+-- values of an attribute, as they are kept
 pub record KnownValues : Type 0 where
   pub current : Bytes
   pub is_label : Bool
-  pub labels : List Label
-  pub texts : List Bytes
-
--- whether a word that means this label is one of them
-abbrev pub is_among : List Label → List Bytes → Bytes → Option Label → Bool
-is_among labels texts word (Some label) = list_any (is_equal label) labels
-is_among labels texts word None = list_any (bytes_eq word) texts
+  pub keys : List (Bool × Label)
 
 -- and as they are looked up: whether a word means one of them
 pub record Membership : Type 0 where
@@ -47,8 +51,7 @@ pub record Membership : Type 0 where
   pub is_known : Bytes → Bool
 
 abbrev pub membership : KnownValues → Membership
-membership known =
-    record { current = known.current; is_label = known.is_label; is_known = λ word. is_among known.labels known.texts word (label_meant known.is_label known.current word) }
+membership known = record { current = known.current; is_label = known.is_label; is_known = λ word. list_any (are_one_key (word_key known.is_label known.current word)) known.keys }
 
 abbrev pub none_known : Bytes → Bytes → Membership
 none_known current attribute = record { current = current; is_label = is_label_attribute attribute; is_known = λ word. false }

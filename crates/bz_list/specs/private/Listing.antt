@@ -1,12 +1,12 @@
 -- What the commands on lists do, in the steps in which they do it.
-use Rattle.std.specs.Prelude.{Bool, true, not, List, [], Option, Some, None, if◌then◌else◌, Result, Ok, Err, map}
-use Rattle.std.specs.List.{filter}
+use Rattle.std.specs.Prelude.{Bool, true, not, ◌&&◌, nat_eq, List, [], Option, Some, None, if◌then◌else◌, Result, Ok, Err, map}
+use Rattle.std.specs.List.{ends_with, filter}
 use Rattle.bz_value.specs.declared.value.Expr.{Expr}
 use Rattle.bz_items.specs.Characters.{Bytes}
 use Rattle.bz_list.specs.declared.known.Chosen.{Chosen}
 use Rattle.bz_list.specs.declared.known.Chosen.TheVariants as h
 use Rattle.bz_attribute.specs.Attributes.{with_value, is_other_attribute, on_value}
-use Rattle.bz_attribute.specs.Lists.{items_in, fresh, arriving, has_lists, is_no_list, with_more}
+use Rattle.bz_attribute.specs.Lists.{items_in, is_item, fresh, arriving, has_lists, is_no_list, with_more}
 use Rattle.bz_list.specs.Changes.{cleared, without_items, in_value, replaced_item, substituted_item}
 use Rattle.bz_list.specs.private.KnownValues.{membership, is_known_item, Membership, new_words, new_items}
 use Rattle.bz_list.specs.declared.adding.Added.{Added}
@@ -14,7 +14,8 @@ use Rattle.bz_list.specs.declared.adding.Added.TheVariants as a
 use Rattle.bz_value.specs.declared.refusal.Refusal.{Refusal}
 use Rattle.bz_value.specs.declared.refusal.Refusal.TheVariants.{NotAList}
 use Rattle.bz_attribute.specs.Made.{list_of, plus, string_of}
-use Rattle.bz_rule.specs.Values.{parts_of, first_text}
+use Rattle.bz_rule.specs.Rules.{inner}
+use Rattle.bz_rule.specs.Values.{parts_of, first_text, text_of}
 use Rattle.bz_list.specs.declared.replacing.Change.{Change}
 use Rattle.bz_list.specs.declared.replacing.Change.TheVariants.{Replace, Substitute}
 
@@ -50,6 +51,10 @@ added_by current name (a.Moved items) there = arriving current name there items
 abbrev pub added_to : Bytes → Bytes → Added → Membership → List Expr
 added_to current name (a.Words words) known = map (string_of current name) (new_words known words.now)
 added_to current name (a.Moved items) known = new_items current name known items
+
+-- whether a word means an item that ends so between its quotation marks
+abbrev pub is_item_ending : Bytes → Bytes → Bytes → Bytes → Expr → Bool
+is_item_ending current name word end x = ends_with nat_eq (inner (text_of x)) end && is_item current name word x
 
 -- a value with items added
 abbrev pub with_added : (List Expr → List Expr) → Expr → Result Expr Refusal

@@ -2,7 +2,7 @@ use Rattle.std.proofs.Common.{◌≡◌, ap, sym, ◌∙◌, subst, slice_set, r
 use Rattle.std.specs.Prelude.{Some, None}
 use Rattle.std.proofs.lemmas.Option.{get_or_from_slice_get}
 use Rattle.bz_value.specs.declared.value.Expr.{Expr}
-use Rattle.bz_dict.specs.declared.entries.Change.{Change}
+use Rattle.bz_dict.specs.declared.changing.Change.{Change}
 use Rattle.bz_dict.specs.Dicts.{with_entry_value}
 use Rattle.bz_dict.specs.private.Keys.{place_at, AreIndexed, entry_put}
 use Rattle.bz_dict.proofs.KeyPlaces.{entry_absent, entry_there, place_within, entry_set, set_indexed}

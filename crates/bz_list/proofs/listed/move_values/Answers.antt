@@ -4,6 +4,7 @@ use Rattle.bz_rule.specs.Rules.{attribute}
 use Rattle.bz_value.specs.declared.refusal.Refusal.TheVariants.{Memory}
 use Rattle.bz_attribute.specs.Attributes.{Arguments}
 use Rattle.bz_attribute.specs.Lists.{has_lists}
+use Rattle.bz_list.specs.private.Listing.{chooses}
 use Rattle.bz_list.proofs.ListedForms.{nothing_moved, something_moved, not_emptied}
 use Rattle.bz_list.proofs.listed.move_values.Goals as goal
 
@@ -13,25 +14,17 @@ returns-then-is_empty-clause-ok c =
     let own : attribute c.args.from.attribute.now c.args.arguments.now ≡ Some value = search rules in
     let lists : has_lists value ≡ true = search rules in
     let none : c.in_ok-taken.taken ≡ [] = search rules in
-    nothing_moved c.args.from.current.now c.args.from.attribute.now c.args.to.now c.args.values.now c.args.arguments.now value
-    c.in_ok-taken.taken c.take_moved.new.arguments own lists c.in_ok-taken.ensures.taken c.in_ok-taken.ensures.left none
+    nothing_moved c.args.from.current.now c.args.from.attribute.now c.args.to.now c.args.values.now c.args.arguments.now (chooses c.in_ok-chosen.chosen) c.in_ok-chosen.ensures
+    value c.in_ok-taken.taken c.take_items.new.arguments own lists c.in_ok-taken.ensures.taken c.in_ok-taken.ensures.left none
 
-pub returns-clause-ok : goal.returns-clause-ok
-returns-clause-ok c =
+pub returns : goal.returns
+returns c =
     let value = c.in-Some.value.now in
     let own : attribute c.args.from.attribute.now c.args.arguments.now ≡ Some value = search rules in
     let lists : has_lists value ≡ true = search rules in
-    subst (λ (made : Arguments). OnOk c.add_items.result (made ≡ Ok c.add_items.new.arguments))
-    (sym (something_moved c.args.from.current.now c.args.from.attribute.now c.args.to.now c.args.values.now c.args.arguments.now value
-    c.in_ok-taken.taken c.take_moved.new.arguments own lists c.in_ok-taken.ensures.taken c.in_ok-taken.ensures.left (not_emptied c.in_ok-taken.taken c.if-is_empty.ensures)))
-    c.add_items.ensures.ok
-
-pub returns-clause-err : goal.returns-clause-err
-returns-clause-err c =
-    let value = c.in-Some.value.now in
-    let own : attribute c.args.from.attribute.now c.args.arguments.now ≡ Some value = search rules in
-    let lists : has_lists value ≡ true = search rules in
-    subst (λ (made : Arguments). IfErr c.add_items.result (λ refusal. (made ≡ Err refusal) ⊎ (refusal ≡ Memory)))
-    (sym (something_moved c.args.from.current.now c.args.from.attribute.now c.args.to.now c.args.values.now c.args.arguments.now value
-    c.in_ok-taken.taken c.take_moved.new.arguments own lists c.in_ok-taken.ensures.taken c.in_ok-taken.ensures.left (not_emptied c.in_ok-taken.taken c.if-is_empty.ensures)))
-    c.add_items.ensures.err
+    let moved = something_moved c.args.from.current.now c.args.from.attribute.now c.args.to.now c.args.values.now c.args.arguments.now (chooses c.in_ok-chosen.chosen) c.in_ok-chosen.ensures
+    value c.in_ok-taken.taken c.take_items.new.arguments own lists c.in_ok-taken.ensures.taken c.in_ok-taken.ensures.left (not_emptied c.in_ok-taken.taken c.if-is_empty.ensures) in
+    record {
+      ok = subst (λ (made : Arguments). OnOk c.add_items.result (made ≡ Ok c.add_items.new.arguments)) (sym moved) c.add_items.ensures.ok;
+      err = subst (λ (made : Arguments). IfErr c.add_items.result (λ refusal. (made ≡ Err refusal) ⊎ (refusal ≡ Memory))) (sym moved) c.add_items.ensures.err;
+    }

@@ -6,7 +6,7 @@ use Rattle.bz_rule.specs.Rules.{attribute}
 use Rattle.bz_rule.specs.Values.{has_kind, items_of}
 use Rattle.bz_dict.specs.private.Keys.{is_chosen}
 use Rattle.bz_dict.proofs.KeyPlaces.{removed}
-use Rattle.bz_dict.proofs.removing.dict_remove.Goals as goal
+use Rattle.bz_dict.proofs.changing.dict_remove.Goals as goal
 
 pub returns-clause-ok : goal.returns-clause-ok
 returns-clause-ok c =
@@ -15,4 +15,4 @@ returns-clause-ok c =
     let is : has_kind k.Dict value ≡ true = search rules in
     let any : list_any (is_chosen c.in_ok-chosen.chosen) (items_of value) ≡ true = search rules in
     removed c.args.name.now c.args.keys.now (is_chosen c.in_ok-chosen.chosen) value c.args.arguments.now c.remove_chosen.new.arguments own is c.in_ok-chosen.ensures any
-    (c.remove_chosen.ensures value own is)
+    (c.remove_chosen.ensures value own)

@@ -4,7 +4,7 @@ use Rattle.bz_items.specs.Characters.{Bytes}
 use Rattle.bz_command_syntax.specs.declared.command.ValueOperation.{ValueOperation}
 use Rattle.bz_attribute.specs.Attributes.{Arguments}
 use Rattle.bz_list.specs.Changes.{add, values_changed}
-use Rattle.bz_list.proofs.changing.change_in_place.Goals as goal
+use Rattle.bz_list.proofs.listed.change_in_place.Goals as goal
 
 pub returns-in-Add-clause-ok : goal.returns-in-Add-clause-ok
 returns-in-Add-clause-ok c =

@@ -1,0 +1,92 @@
+-- What the texts that mean one value end with, so that most items are seen at their end to be none that a word means.
+use Rattle.std.proofs.Common.{◌≡◌, Bool, true, false, ◌||◌, ◌&&◌, List, [], ◌++◌, Option, Some, None, inl, inr, refl, sym, ap, ◌∙◌, true≢false, length, ◌-◌, take, take-append-drop, append_assoc, codes, not}
+use Rattle.std.specs.Prelude.{nat_eq, if◌then◌else◌}
+use Rattle.std.specs.Cmp.{unsigned_Decides}
+use Rattle.std.specs.List.{ends_with, flat_map, list_any, suffix_len}
+use Rattle.std.specs.Option.{option_and_then, option_map, option_map_or}
+use Rattle.std.proofs.lemmas.Slice.Eq.{ends_is}
+use Rattle.bz_token.specs.declared.class.Class.TheVariants as c
+use Rattle.bz_grammar.specs.Shapes.{is_class}
+use Rattle.bz_label.specs.Forms.{label_of}
+use Rattle.bz_label.specs.Labels.{IsLabel, whole, package_alone, repository_alone, colon_name, bare_name}
+use Rattle.bz_label.specs.Pieces.{is_slash}
+use Rattle.bz_label.specs.Read.{label_in, is_same}
+use Rattle.bz_label.specs.Tables.{is_label_attribute}
+use Rattle.bz_label.specs.declared.form.Parts.{Parts}
+use Rattle.bz_label.specs.declared.label.Label.{Label}
+use Rattle.bz_label.proofs.LabelFunctions.{label_exact, no_label, read_label, same_exactly}
+use Rattle.bz_value.specs.declared.value.Expr.{Expr, Token, Form'}
+use Rattle.bz_items.specs.Characters.{Bytes, apostrophe, quotation_mark}
+use Rattle.bz_rule.specs.Rules.{body, inner, is_plain_in}
+use Rattle.bz_rule.specs.Values.{text_of}
+use Rattle.bz_attribute.specs.Lists.{are_one, body_of, is_item, listed}
+use Rattle.bz_attribute.proofs.FormsAgain.{found_if, if_true}
+use Rattle.bz_attribute.proofs.KeySets.{any_like}
+use Rattle.bz_attribute.proofs.ListsThere.{any_listed}
+use Rattle.bz_list.specs.private.Listing.{is_item_ending}
+
+-- ---- texts that mean one value end with one name
+
+ends : (text front name : Bytes) → text ≡ front ++ name → ends_with nat_eq text name ≡ true
+ends text front name e = (ends_is unsigned_Decides text name (ends_with nat_eq text name) refl).1 front e
+
+-- a label ends with its name
+label_ends : (current text : Bytes) (label : Label) → IsLabel current text label → ends_with nat_eq text label.name ≡ true
+label_ends current text label (whole h) = ends text (label.repository ++ codes "//" ++ label.package ++ codes ":") label.name h.spelled
+label_ends current text label (package_alone h) =
+    let path : Bytes = label.package in
+    let before : Bytes = label.repository ++ codes "//" in
+    let front : Bytes = take (length path - suffix_len (λ x. not (is_slash x)) path) path in
+    let cut : path ≡ front ++ label.name = sym (take-append-drop (length path - suffix_len (λ x. not (is_slash x)) path) path) ∙ ap (λ z. front ++ z) (sym h.name) in
+    ends text (before ++ front) label.name (h.spelled ∙ (ap (λ z. before ++ z) cut ∙ sym (append_assoc before front label.name)))
+label_ends current text label (repository_alone h) = ends text (codes "@") label.name h.spelled
+label_ends current text label (colon_name h) = ends text (codes ":") label.name h.spelled
+label_ends current text label (bare_name h) = ends text [] label.name h.spelled
+
+pub name_ends : (current attribute word other : Bytes) (parts : Parts) → is_label_attribute attribute ≡ true → option_map label_of (Some parts) ≡ label_in current word
+    → are_one current attribute word other ≡ true → ends_with nat_eq other parts.name.now ≡ true
+name_ends current attribute word other parts is read h = elim ((same_exactly current word other).0 (sym (if_true (is_label_attribute attribute) (is_same current word other) _ is) ∙ h)) [
+  | inl same ↦ ap (λ z. ends_with nat_eq z parts.name.now) (sym same) ∙ label_ends current word (label_of parts) (read_label current word (label_of parts) read)
+  | inr both ↦
+      let one : Some (label_of parts) ≡ Some both.0 = read ∙ (label_exact current word both.0).0 both.1 in
+      let own : label_of parts ≡ both.0 = cc in
+      ap (λ (label : Label). ends_with nat_eq other label.name) own ∙ label_ends current other both.0 both.2
+]
+
+pub word_ends : (current attribute word other : Bytes) → is_label_attribute attribute ≡ true → None ≡ label_in current word → are_one current attribute word other ≡ true → ends_with nat_eq other word ≡ true
+word_ends current attribute word other is none h = elim ((same_exactly current word other).0 (sym (if_true (is_label_attribute attribute) (is_same current word other) _ is) ∙ h)) [
+  | inl same ↦ ends other [] word (sym same)
+  | inr both ↦ absurd (no_label current word none both.0 both.1)
+]
+
+-- ---- what is between the quotation marks of a plain string is its body
+
+body_inner : (b : Bool) (text other : Bytes) → option_and_then body (if b then Some text else None) ≡ Some other → inner text ≡ other
+body_inner true text other e =
+    let own : Some (inner text) ≡ Some other = (found_if (is_plain_in quotation_mark text || is_plain_in apostrophe text) (Some (inner text)) other e).1 in cc
+body_inner false text other e = absurd cc
+
+item_inner : (x : Expr) (other : Bytes) → body_of x ≡ Some other → inner (text_of x) ≡ other
+item_inner (Token t) other e = body_inner (is_class t.class c.String) t.text other e
+item_inner (Form' kind s parts s' items end split open_break comments) other e = absurd cc
+
+some_found : (test : Bytes → Bool) (found : Option Bytes) → option_map_or test found false ≡ true → (other : Bytes) × (found ≡ Some other) × (test other ≡ true)
+some_found test None h = absurd (true≢false (sym h))
+some_found test (Some other) h = (other, refl, h)
+
+implied : (b c : Bool) → (c ≡ true → b ≡ true) → (b && c) ≡ c
+implied true c f = refl
+implied false true f = f refl
+implied false false f = refl
+
+item_ending : (current attribute word end : Bytes) → ((other : Bytes) → are_one current attribute word other ≡ true → ends_with nat_eq other end ≡ true) → (x : Expr)
+    → is_item_ending current attribute word end x ≡ is_item current attribute word x
+item_ending current attribute word end f x =
+    implied (ends_with nat_eq (inner (text_of x)) end) (is_item current attribute word x)
+    (λ h. let w = some_found (are_one current attribute word) (body_of x) h in ap (λ z. ends_with nat_eq z end) (item_inner x w.0 w.1) ∙ f w.0 w.2)
+
+pub in_lists : (current attribute word end : Bytes) (operands items : List Expr) → ((other : Bytes) → are_one current attribute word other ≡ true → ends_with nat_eq other end ≡ true)
+    → flat_map listed operands ≡ items → list_any (λ x. list_any (is_item_ending current attribute word end) (listed x)) operands ≡ list_any (is_item current attribute word) items
+in_lists current attribute word end operands items f are =
+    sym (any_listed (is_item_ending current attribute word end) operands) ∙ (ap (list_any (is_item_ending current attribute word end)) are
+    ∙ any_like (is_item_ending current attribute word end) (is_item current attribute word) (item_ending current attribute word end f) items)
