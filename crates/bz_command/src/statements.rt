@@ -143,6 +143,7 @@ fn change(work: Work<'_>, arguments: &mut Items<Expr>) -> Result<(), Refusal>
 }
 
 /// What an operation makes of a rule by changing its arguments; what is no rule stays.
+#[tactic(auto, using(crate::proofs::StatementRules::rule_changed))]
 fn change_rule(work: Work<'_>, item: &mut Item) -> Result<(), Refusal>
     ensures ok { OnOk result (on_arguments (arguments_by work.entry) item.old ≡ Ok item.new) }
     ensures err { IfErr result (λ refusal. (on_arguments (arguments_by work.entry) item.old ≡ Err refusal) ⊎ (refusal ≡ Refusal.Memory)) }
