@@ -1,7 +1,7 @@
 -- Commands that take nothing away lose no comment.
-use Rattle.std.proofs.Common.{◌≡◌, ◌≤◌, ℕ, Bool, true, false, not, List, [], ◌∷◌, Option, Some, None, Result, Ok, Err, refl, sym, ap, ◌∙◌, subst, map, true≢false, arith}
+use Rattle.std.proofs.Common.{◌≡◌, ◌≤◌, ◌+◌, ℕ, Bool, true, false, not, List, [], ◌∷◌, Option, Some, None, Result, Ok, Err, refl, sym, ap, ◌∙◌, subst, map, true≢false, arith}
 use Rattle.std.specs.Prelude.{if◌then◌else◌, is_some, IfOk, option_map, bytes_eq}
-use Rattle.std.specs.List.{list_any}
+use Rattle.std.specs.List.{insert, list_any}
 use Rattle.std.specs.Option.{option_and_then, option_map_or}
 use Rattle.bz_grammar.specs.declared.kind.Kind.TheVariants as k
 use Rattle.bz_grammar.specs.Shapes.{is_kind}
@@ -23,7 +23,6 @@ use Rattle.bz_command_syntax.specs.declared.command.DictOperation.TheVariants as
 use Rattle.bz_command_syntax.specs.declared.command.LoadOperation.TheVariants as wl
 use Rattle.bz_command_syntax.specs.declared.command.CommentOperation.TheVariants as wc
 use Rattle.bz_command_syntax.specs.declared.command.RulePlace.{RulePlace}
-use Rattle.bz_command_syntax.specs.declared.command.RulePlace.TheVariants.{End, Before, After}
 use Rattle.bz_command_syntax.specs.declared.command.Attributes.{Attributes}
 use Rattle.bz_command_syntax.specs.declared.command.Attributes.TheVariants as t
 use Rattle.bz_rule.specs.Rules.{Call, Rule as RuleRead, only, form_in, called, named, dotted_name, rule_of, attribute, has_name}
@@ -35,12 +34,12 @@ use Rattle.bz_attribute.specs.Attributes.{is_attribute, has_attribute, is_other_
 use Rattle.bz_attribute.specs.Attributes.{Arguments}
 use Rattle.bz_change.specs.Changes.{value_of, setting, is_set, set, set_if_absent, rename, copy, copy_no_overwrite}
 use Rattle.bz_list.specs.Changes.{with_items_added, add, in_value, in_attributes, replaced_item, replace, with_body, substituted_item, substitute}
-use Rattle.bz_command.specs.Effect.{NewItem, with_arguments, made_of, on_rule, on_arguments, with_item_first, on_meant, before_first, after_rule, placed, has_rule_place, with_rule, source, on_rules, lacks_rules, kept, on_statement, effect, printed_rules, meant, may_mean_none}
+use Rattle.bz_command.specs.Effect.{NewItem, with_arguments, made_of, on_rule, on_arguments, with_item_first, on_meant, new_rule_place, with_rule, source, on_rules, lacks_rules, kept, on_statement, effect, printed_rules, meant, may_mean_none}
 use Rattle.bz_command_syntax.specs.declared.command.Host.TheVariants.{Rule, Attribute, Item as ItemHost}
 use Rattle.bz_command_syntax.specs.Printing.{prints}
 use Rattle.bz_dict.specs.Dicts.{dict_add}
 use Rattle.bz_dict.proofs.ProperDicts.{dict_add_grows}
-use Rattle.bz_load.proofs.LawComments.{new_load_same}
+use Rattle.bz_load.proofs.LawComments.{amount_answered, new_load_same, put_total}
 use Rattle.bz_comment.specs.Hosts.{with_comment, comment}
 use Rattle.bz_comment.proofs.LawBack.{own_grows, comment_grows}
 use Rattle.bz_command.specs.Laws.{keeps_comments, CommentsStay}
@@ -48,8 +47,8 @@ use Rattle.bz_attribute.specs.Lists.{has_lists, items_in, is_no_list, with_more,
 use Rattle.bz_attribute.specs.Made.{list_of, string_text, plus, argument_of, rule_made}
 use Rattle.bz_attribute.proofs.AttributesAgain.{by_absent, of_found}
 use Rattle.bz_attribute.proofs.FormsAgain.{if_true, if_false, then_if, made}
-use Rattle.bz_attribute.proofs.Grown.{itself, in_turn, both_at_most, last_at_most, Grows, EachGrows, map_grows, first_grows, append_grows, first_that_grows}
-use Rattle.bz_attribute.proofs.GrownArguments.{parts_grow, items_grow, text_grows, on_row_grows, on_lists_grows, on_value_grows, more_grows, plus_grows, with_value_grows, inserted_grows, Grown}
+use Rattle.bz_attribute.proofs.Grown.{itself, in_turn, both_at_most, Grows, map_grows, first_grows, first_that_grows}
+use Rattle.bz_attribute.proofs.GrownArguments.{text_grows, on_row_grows, on_lists_grows, on_value_grows, more_grows, plus_grows, with_value_grows, inserted_grows, Grown}
 use Rattle.bz_list.proofs.LawAdded.{grown, strings_for}
 
 -- ---- the arguments of a rule that is read
@@ -162,59 +161,51 @@ module _ (number : Bytes → ℕ) where
   abbrev size : Item → ℕ
   size = item_amount number
 
-  in_call : (y : Expr) (rule : RuleRead) (new : List Expr) → rule_in (Some y) ≡ Some rule → total whole rule.arguments ≤ total whole new → whole y ≤ whole (with_items new y)
-  in_call (Token t) rule new e h = itself (whole (Token t))
-  in_call (Form' own s parts s' items end split open_break comments) rule new e h =
-      items_grow number new (Form' own s parts s' items end split open_break comments)
-      (subst (λ xs. total whole xs ≤ total whole new)
-      (sym (form_arguments (is_kind own k.Call) (made own (items-the_row-Expr _ parts) (items-the_row-Expr _ items) end split open_break comments) rule e)) h)
+  -- what an item weighs with other arguments: a call, a row of one call, a statement and a rule
+  call_exact : (y : Expr) (rule : RuleRead) (new : List Expr) → rule_in (Some y) ≡ Some rule → whole (with_items new y) + total whole rule.arguments ≡ whole y + total whole new
+  call_exact (Token t) rule new e = cc
+  call_exact (Form' own s parts s' items end split open_break comments) rule new e =
+      let ps : List Expr = items-the_row-Expr _ parts in
+      let same = ap (total whole) (form_arguments (is_kind own k.Call) (made own ps (items-the_row-Expr _ items) end split open_break comments) rule e) in
+      let before = amount_answered number (Form' own s parts s' items end split open_break comments) in
+      let after = form_amount number (made own ps new end split open_break comments) in
+      omega (arith, same, before, after)
 
-  in_row : (ps : List Expr) (rule : RuleRead) (new : List Expr) → rule_in (only ps) ≡ Some rule → total whole rule.arguments ≤ total whole new → total whole ps ≤ total whole (on_first (with_items new) ps)
-  in_row [] rule new e h = itself 0
-  in_row (y ∷ []) rule new e h = both_at_most (whole y) (whole (with_items new y)) 0 0 (in_call y rule new e h) (itself 0)
-  in_row (y ∷ z ∷ ps) rule new e h = absurd (true≢false (sym (ap (λ (found : Option RuleRead). is_some found) e)))
+  row_exact : (ps : List Expr) (rule : RuleRead) (new : List Expr) → rule_in (only ps) ≡ Some rule → total whole (on_first (with_items new) ps) + total whole rule.arguments ≡ total whole ps + total whole new
+  row_exact [] rule new e = cc
+  row_exact (y ∷ []) rule new e = let call = call_exact y rule new e in omega (arith, call)
+  row_exact (y ∷ z ∷ ps) rule new e = absurd (true≢false (sym (ap (λ (found : Option RuleRead). is_some found) e)))
 
-  rule_grows : (item : Item) (rule : RuleRead) (new : List Expr) → rule_of item ≡ Some rule → total whole rule.arguments ≤ total whole new → size item ≤ size (with_arguments new item)
-  rule_grows (i.Block lines) rule new e h = itself (total number lines)
-  rule_grows (i.Stmt x) rule new e h =
-      by_case (λ (y : Expr). whole x ≤ whole y) (has_kind k.Bare x) (with_parts (on_first (with_items new) (parts_of x)) x) x
-      (λ is. parts_grow number (on_first (with_items new) (parts_of x)) x
-      (in_row (parts_of x) rule new (sym (ap rule_in (only_answered x ∙ if_true (has_kind k.Bare x) (only (parts_of x)) None is)) ∙ e) h))
-      (λ n. itself (whole x))
+  parts_exact : (ys : List Expr) (x : Expr) → has_kind k.Bare x ≡ true → whole (with_parts ys x) + total whole (parts_of x) ≡ whole x + total whole ys
+  parts_exact ys (Token t) h = absurd (true≢false (sym h))
+  parts_exact ys (Form' own s parts s' items end split open_break comments) h =
+      let before = amount_answered number (Form' own s parts s' items end split open_break comments) in
+      let after = form_amount number (made own ys (items-the_row-Expr _ items) end split open_break comments) in
+      omega (arith, before, after)
+
+  rule_exact : (item : Item) (rule : RuleRead) (new : List Expr) → rule_of item ≡ Some rule → size (with_arguments new item) + total whole rule.arguments ≡ size item + total whole new
+  rule_exact (i.Block lines) rule new e = cc
+  rule_exact (i.Stmt x) rule new e =
+      by_case (λ (y : Expr). whole y + total whole rule.arguments ≡ whole x + total whole new) (has_kind k.Bare x) (with_parts (on_first (with_items new) (parts_of x)) x) x
+      (λ is.
+      let row = row_exact (parts_of x) rule new (sym (ap rule_in (only_answered x ∙ if_true (has_kind k.Bare x) (only (parts_of x)) None is)) ∙ e) in
+      let statement = parts_exact (on_first (with_items new) (parts_of x)) x is in
+      omega (arith, row, statement))
+      (λ n. let none : rule_in None ≡ Some rule = sym (ap rule_in (only_answered x ∙ if_false (has_kind k.Bare x) (only (parts_of x)) None n)) ∙ e in absurd (true≢false (sym (ap (λ (found : Option RuleRead). is_some found) none))))
 
   -- the arguments that are put in are in the item then
-  parts_hold : (ys : List Expr) (x : Expr) → has_kind k.Bare x ≡ true → total whole ys ≤ whole (with_parts ys x)
-  parts_hold ys (Token t) h = absurd (true≢false (sym h))
-  parts_hold ys (Form' own s parts s' items end split open_break comments) h =
-      let all = form_amount number (made own ys (items-the_row-Expr _ items) end split open_break comments) in
-      omega arith
-
-  call_holds : (y : Expr) (rule : RuleRead) (new : List Expr) → rule_in (Some y) ≡ Some rule → total whole new ≤ whole (with_items new y)
-  call_holds (Token t) rule new e = cc
-  call_holds (Form' own s parts s' items end split open_break comments) rule new e =
-      let all = form_amount number (made own (items-the_row-Expr _ parts) new end split open_break comments) in
-      omega arith
-
-  row_holds : (ps : List Expr) (rule : RuleRead) (new : List Expr) → rule_in (only ps) ≡ Some rule → total whole new ≤ total whole (on_first (with_items new) ps)
-  row_holds [] rule new e = cc
-  row_holds (y ∷ []) rule new e = let call : total whole new ≤ whole (with_items new y) = call_holds y rule new e in omega arith
-  row_holds (y ∷ z ∷ ps) rule new e = absurd (true≢false (sym (ap (λ (found : Option RuleRead). is_some found) e)))
-
   pub rule_holds : (item : Item) (rule : RuleRead) (new : List Expr) → rule_of item ≡ Some rule → total whole new ≤ size (with_arguments new item)
-  rule_holds (i.Block lines) rule new e = cc
-  rule_holds (i.Stmt x) rule new e =
-      by_case (λ (y : Expr). total whole new ≤ whole y) (has_kind k.Bare x) (with_parts (on_first (with_items new) (parts_of x)) x) x
-      (λ is. in_turn (total whole new) (total whole (on_first (with_items new) (parts_of x))) (whole (with_parts (on_first (with_items new) (parts_of x)) x))
-      (row_holds (parts_of x) rule new (sym (ap rule_in (only_answered x ∙ if_true (has_kind k.Bare x) (only (parts_of x)) None is)) ∙ e))
-      (parts_hold (on_first (with_items new) (parts_of x)) x is))
-      (λ n. let none : rule_in None ≡ Some rule = sym (ap rule_in (only_answered x ∙ if_false (has_kind k.Bare x) (only (parts_of x)) None n)) ∙ e in absurd (true≢false (sym (ap (λ (found : Option RuleRead). is_some found) none))))
+  rule_holds item rule new e =
+      let exact = rule_exact item rule new e in
+      let none = rule_exact item rule [] e in
+      omega (arith, exact, none)
 
   abbrev MadeItem : Item → NewItem → Type 0
   MadeItem item result = IfOk result (λ new. size item ≤ size new)
 
   made_keeps : (item : Item) (rule : RuleRead) → rule_of item ≡ Some rule → (result : Arguments) → Grown number rule.arguments result → MadeItem item (made_of item result)
   made_keeps item rule e (Err refusal) h = tt
-  made_keeps item rule e (Ok new) h = rule_grows item rule new e h
+  made_keeps item rule e (Ok new) h = let exact = rule_exact item rule new e in omega (arith, exact, h)
 
   found_keeps : (change : List Expr → Arguments) → Keeps change → (item : Item) (found : Option RuleRead) → rule_of item ≡ found → MadeItem item (on_rule change found item)
   found_keeps change g item None e = itself (size item)
@@ -240,30 +231,14 @@ module _ (number : Bytes → ℕ) where
   meant_keeps change g (true ∷ marks) (item ∷ items) = after_keeps item items (change item) (on_meant change marks items) (g item) (meant_keeps change g marks items)
   meant_keeps change g (false ∷ marks) (item ∷ items) = after_keeps item items (Ok item) (on_meant change marks items) (itself (size item)) (meant_keeps change g marks items)
 
-  before_grows : (rule : Bytes) (new : Item) → EachGrows size (before_first rule new)
-  before_grows rule new [] = itself 0
-  before_grows rule new (item ∷ items) =
-      by_test (λ (all : List Item). total size (item ∷ items) ≤ total size all) (has_name rule item) (new ∷ item ∷ items) (item ∷ before_first rule new items)
-      (last_at_most (size new) (total size (item ∷ items)))
-      (both_at_most (size item) (size item) (total size items) (total size (before_first rule new items)) (itself (size item)) (before_grows rule new items))
-
-  after_grows : (rule : Bytes) (new : Item) → EachGrows size (after_rule rule new)
-  after_grows rule new [] = itself 0
-  after_grows rule new (item ∷ items) =
-      by_test (λ (all : List Item). total size (item ∷ items) ≤ total size all) (has_name rule item) (item ∷ new ∷ items) (item ∷ after_rule rule new items)
-      (both_at_most (size item) (size item) (total size items) (total size (new ∷ items)) (itself (size item)) (last_at_most (size new) (total size items)))
-      (both_at_most (size item) (size item) (total size items) (total size (after_rule rule new items)) (itself (size item)) (after_grows rule new items))
-
-  placed_grows : (place : RulePlace) (new : Item) → EachGrows size (placed place new)
-  placed_grows End new items = append_grows size (new ∷ []) items
-  placed_grows (Before rule) new items = before_grows rule new items
-  placed_grows (After rule) new items = after_grows rule new items
-
   new_keeps : (kind name : Bytes) (place : RulePlace) (items : List Item) → MadeItems items (with_rule kind name place items)
-  new_keeps kind name place items =
-      let new : List Item = placed place (rule_made kind name) items in
-      by_test (MadeItems items) (not (has_rule_place place items)) (Err NoTarget) (if list_any (has_name name) items then Err NameTaken else Ok new) tt
-      (by_test (MadeItems items) (list_any (has_name name) items) (Err NameTaken) (Ok new) tt (placed_grows place (rule_made kind name) items))
+  new_keeps kind name place items = put (new_rule_place place items)
+    where
+      put : (at : Option ℕ) → MadeItems items (option_map_or (λ at. if list_any (has_name name) items then Err NameTaken else Ok (insert items at (rule_made kind name))) at (Err NoTarget))
+      put None = tt
+      put (Some at) =
+          let more = put_total number at (rule_made kind name) items in
+          by_test (MadeItems items) (list_any (has_name name) items) (Err NameTaken) (Ok (insert items at (rule_made kind name))) tt (omega (arith, more))
 
   by_arguments : (change : List Expr → Arguments) → Keeps change → (marks : List Bool) (items : List Item) → MadeItems items (on_meant (on_arguments change) marks items)
   by_arguments change g = meant_keeps (on_arguments change) (arguments_keep change g)

@@ -1,5 +1,5 @@
 -- Commands that print no lines and have no target by its line depend on no lines.
-use Rattle.std.proofs.Common.{◌≡◌, ◌∙◌, ℕ, Bool, false, List, [], ◌∷◌, ◌++◌, Option, Some, None, refl, ap, ap₂, if◌then◌else◌, true≢false, Result, Ok, Err}
+use Rattle.std.proofs.Common.{◌≡◌, ◌∙◌, ℕ, Bool, false, List, [], ◌∷◌, ◌++◌, Option, Some, None, refl, ap, ap₂, if◌then◌else◌, map, true≢false, Result, Ok, Err}
 use Rattle.std.specs.Prelude.{decimal, option_map}
 use Rattle.std.proofs.lemmas.Bool.{or_parts}
 use Rattle.std.specs.List.{list_any}
@@ -16,10 +16,10 @@ use Rattle.bz_command_syntax.specs.declared.command.Field.{Field}
 use Rattle.bz_command_syntax.specs.declared.command.Field.TheVariants as f
 use Rattle.bz_command_syntax.specs.Printing.{prints}
 use Rattle.bz_rule.specs.Rules.{Rule, rule_of}
-use Rattle.bz_fields.specs.Prints.{printed_field, printed_fields, printed_rule, spaced}
+use Rattle.bz_fields.specs.Prints.{printed_field, printed_rule, spaced}
 use Rattle.bz_value.specs.declared.refusal.Refusal.{Refusal}
 use Rattle.bz_value.specs.declared.refusal.Refusal.TheVariants.{NoTarget}
-use Rattle.bz_command.specs.Effect.{kept, lacks_rules, on_rules, before_rest, if_marked, item_line, lines_after_item, printed_one, printed_rules, meant, may_mean_none}
+use Rattle.bz_command.specs.Effect.{kept, lacks_rules, on_rules, before_rest, item_line, lines_after_item, printed_one, printed_rules, meant, may_mean_none}
 use Rattle.bz_command.specs.Laws.{is_by_line, prints_line, prints_lines, LinesMatter}
 
 meant_same : (which : Which) (lines others : List ℕ) (items : List Item) → is_by_line which ≡ false → meant which lines items ≡ meant which others items
@@ -33,7 +33,7 @@ field_same line other item rule f.StartLine h = absurd (true≢false h)
 field_same line other item rule _ h = refl
 
 fields_same : (line other : Option Bytes) (item : Item) (rule : Rule) (fields : List Field) → list_any prints_line fields ≡ false
-    → printed_fields line item rule fields ≡ printed_fields other item rule fields
+    → map (printed_field line item rule) fields ≡ map (printed_field other item rule) fields
 fields_same line other item rule [] h = refl
 fields_same line other item rule (field ∷ fields) h =
     let quiet = or_parts (prints_line field) (list_any prints_line fields) h in
@@ -58,7 +58,7 @@ rules_same operation current lines others [] items h = refl
 rules_same operation current lines others (mark ∷ marks) [] h = refl
 rules_same operation current lines others (mark ∷ marks) (item ∷ items) h =
     ap₂ before_rest
-    (ap (if_marked mark) (one_same operation current (option_map decimal (item_line lines item)) (option_map decimal (item_line others item)) item h))
+    (ap (λ (text : Result Bytes Refusal). if mark then text else Ok []) (one_same operation current (option_map decimal (item_line lines item)) (option_map decimal (item_line others item)) item h))
     (rules_same operation current (lines_after_item lines item) (lines_after_item others item) marks items h)
 
 -- ---- the law

@@ -1,6 +1,6 @@
 -- A comment that is put on each of rules enough that its copies are past the limit.
-use Rattle.std.proofs.Common.{◌≡◌, ◌⊎◌, ◌≤◌, ◌<◌, ◌+◌, ◌*◌, ◌∙◌, ℕ, Bool, true, false, List, [], ◌∷◌, inl, inr, Option, Some, None, Result, Ok, Err, length, refl, sym, ap, subst, arith, true≢false}
-use Rattle.std.specs.Prelude.{is_some, IfOk, IfErr, IsOk, IsTrue, if◌then◌else◌}
+use Rattle.std.proofs.Common.{◌≡◌, ◌≤◌, ◌<◌, ◌+◌, ◌*◌, ◌∙◌, ℕ, Bool, true, false, List, [], ◌∷◌, inl, inr, Option, Some, None, Result, Ok, Err, length, refl, sym, ap, subst, arith, true≢false}
+use Rattle.std.specs.Prelude.{is_some, IfOk, IsOk, if◌then◌else◌}
 use Rattle.std.specs.List.{list_any}
 use Rattle.std.proofs.lemmas.Bool.{cases_Bool}
 use Rattle.std.proofs.Math.Nat.{mul-le-mul_right}
@@ -20,13 +20,12 @@ use Rattle.bz_command_syntax.specs.declared.command.Host.TheVariants.{Rule, Attr
 use Rattle.bz_command_syntax.specs.Proper.{IsProperCommand}
 use Rattle.bz_rule.specs.Rules.{Rule as RuleRead, rule_of}
 use Rattle.bz_value.specs.declared.refusal.Refusal.{Refusal}
-use Rattle.bz_value.specs.declared.refusal.Refusal.TheVariants.{Memory}
 use Rattle.bz_attribute.specs.Attributes.{Arguments}
 use Rattle.bz_comment.specs.Hosts.{comment_made, with_comment, comment}
 use Rattle.bz_comment.proofs.LawBack.{copies, own_comes, Comes, comment_comes}
 use Rattle.bz_command.specs.Effect.{NewItem, effect, with_arguments, made_of, on_rule, with_item_first, on_statement, is_rule, meant}
 use Rattle.bz_command.specs.Laws.{EffectsStayProper}
-use Rattle.bz_command.specs.Overfull.{IsOverfilling, IsRefusing, Overfills, all_commented, commented, marked_rules}
+use Rattle.bz_command.specs.Overfull.{Overfills, all_commented, commented, marked_rules}
 use Rattle.bz_command.proofs.LawComments.{rule_holds}
 
 -- ---- one rule
@@ -87,46 +86,37 @@ made_of_meant : (text current : Bytes) (host : Host) (target : Target) (lines : 
     → effect (w.Comment (wc.Add host text)) target current lines items ≡ all_commented current host text (meant target.which lines items) items
 made_of_meant text current host target lines items some = rw some refl
 
-pub comment_overfills : EffectsStayProper → (text current : Bytes) (host : Host) (target : Target) (lines : List ℕ) (items : List Item)
-    → IsProperCommand (w.Comment (wc.Add host text)) → IsProper items → IsOverfilling host text target current lines items
-    → Overfills (effect (w.Comment (wc.Add host text)) target current lines items)
-comment_overfills stays text current host target lines items command proper over_ =
-    let operation : Operation = w.Comment (wc.Add host text) in
-    let marks : List Bool = meant target.which lines items in
-    let made : effect operation target current lines items ≡ all_commented current host text marks items = made_of_meant text current host target lines items over_.0 in
-    subst Overfills (sym made)
-    (over text (marked_rules marks items) (all_commented current host text marks items) over_.2
-    (λ new is. stays operation target current lines items new command proper (made ∙ is)) (rules_have text current host marks items) over_.1)
-
-pub comment_refused : (text current : Bytes) (host : Host) (target : Target) (lines : List ℕ) (items : List Item) (refusal : Refusal)
-    → IsRefusing host text target current lines items refusal → effect (w.Comment (wc.Add host text)) target current lines items ≡ Err refusal
-comment_refused text current host target lines items refusal refused = made_of_meant text current host target lines items refused.0 ∙ refused.1
-
 -- ---- the rules one after the other
 
 -- what is known of the items that are left is known of all
 abbrev pub Follows : Result (List Item) Refusal → Result (List Item) Refusal → Type 0
 Follows left all = (IsOk left → IsOk all) × ((refusal : Refusal) → left ≡ Err refusal → all ≡ Err refusal)
 
--- ---- what is answered of a command
+-- ---- what is answered of a command: `words`, `all` and `marks` are the text, the items and the marks as they are handed on
 
--- `words` and `all` are the text and the items as they are handed on
-pub over_answered : EffectsStayProper → (operation : Operation) (host : Host) (text words current : Bytes) (target : Target) (lines : List ℕ) (items all : List Item) (result : Result Bool Refusal)
-    → operation ≡ w.Comment (wc.Add host text) → words ≡ text → all ≡ items → IsProperCommand operation → IsProper items
-    → IfOk result (λ over. IsTrue over → IsOverfilling host words target current lines all) → IfOk result (λ over. IsTrue over → Overfills (effect operation target current lines items))
-over_answered stays operation host text words current target lines items all (Err refusal) is same_text same_items command proper h = tt
-over_answered stays operation host text words current target lines items all (Ok over) is same_text same_items command proper h =
-    λ past_. subst (λ (o : Operation). Overfills (effect o target current lines items)) (sym is)
-    (comment_overfills stays text current host target lines items (subst IsProperCommand is command) proper
-    (subst (λ (t : Bytes). IsOverfilling host t target current lines items) same_text (subst (λ (xs : List Item). IsOverfilling host words target current lines xs) same_items (h past_))))
+-- of the items that are marked there are some, none refuses the comment, and its copies are past the limit
+abbrev IsOverfilling : Bytes → Host → Bytes → List Bool → List Item → Type 0
+IsOverfilling current host text marks items =
+    (list_any (λ mark. mark) marks ≡ true) × (limit < marked_rules marks items * length (comment_made text)) × IsOk (all_commented current host text marks items)
 
-pub refusal_answered : (operation : Operation) (host : Host) (text words current : Bytes) (target : Target) (lines : List ℕ) (items all : List Item) (result : Result Bool Refusal)
-    → operation ≡ w.Comment (wc.Add host text) → words ≡ text → all ≡ items
-    → IfErr result (λ refusal. IsRefusing host words target current lines all refusal ⊎ (refusal ≡ Memory))
-    → IfErr result (λ refusal. (effect operation target current lines items ≡ Err refusal) ⊎ (refusal ≡ Memory))
-refusal_answered operation host text words current target lines items all (Ok over) is same_text same_items h = tt
-refusal_answered operation host text words current target lines items all (Err refusal) is same_text same_items (inl refusing) =
-    inl (ap (λ (o : Operation). effect o target current lines items) is
-    ∙ comment_refused text current host target lines items refusal
-    (subst (λ (t : Bytes). IsRefusing host t target current lines items refusal) same_text (subst (λ (xs : List Item). IsRefusing host words target current lines xs refusal) same_items refusing)))
-refusal_answered operation host text words current target lines items all (Err refusal) is same_text same_items (inr memory) = inr memory
+module _ (operation : Operation) (host : Host) (text words current : Bytes) (target : Target) (lines : List ℕ) (items all : List Item) (marks : List Bool)
+    (is : operation ≡ w.Comment (wc.Add host text)) (same_text : words ≡ text) (same_items : all ≡ items) (are_meant : marks ≡ meant target.which lines all) where
+  handed_on : (P : Bytes → List Bool → List Item → Type 0) → P words marks all → P text (meant target.which lines items) items
+  handed_on P h =
+      subst (λ (t : Bytes). P t (meant target.which lines items) items) same_text
+      (subst (λ (xs : List Item). P words (meant target.which lines xs) xs) same_items (subst (λ (ms : List Bool). P words ms all) are_meant h))
+
+  pub overfilled : EffectsStayProper → IsProperCommand operation → IsProper items → IsOverfilling current host words marks all → Overfills (effect operation target current lines items)
+  overfilled stays command proper h =
+      let over_ : IsOverfilling current host text (meant target.which lines items) items = handed_on (IsOverfilling current host) h in
+      let made : effect operation target current lines items ≡ all_commented current host text (meant target.which lines items) items =
+      ap (λ (o : Operation). effect o target current lines items) is ∙ made_of_meant text current host target lines items over_.0 in
+      subst Overfills (sym made)
+      (over text (marked_rules (meant target.which lines items) items) (all_commented current host text (meant target.which lines items) items) over_.2
+      (λ new e. stays operation target current lines items new command proper (made ∙ e)) (rules_have text current host (meant target.which lines items) items) over_.1)
+
+  pub refused : (refusal : Refusal) → list_any (λ mark. mark) marks ≡ true → all_commented current host words marks all ≡ Err refusal → effect operation target current lines items ≡ Err refusal
+  refused refusal some h =
+      ap (λ (o : Operation). effect o target current lines items) is
+      ∙ (made_of_meant text current host target lines items (handed_on (λ t ms xs. list_any (λ mark. mark) ms ≡ true) some)
+      ∙ handed_on (λ t ms xs. all_commented current host t ms xs ≡ Err refusal) h)

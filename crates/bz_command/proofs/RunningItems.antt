@@ -1,16 +1,28 @@
 -- What commands make of the items of a file, item by item.
 use Rattle.std.proofs.Common.{◌≡◌, ◌≤◌, Bool, true, false, List, [], ◌∷◌, ◌++◌, length, refl, ap, arith, ◌&&◌, ◌∙◌, Err, Ok, sym, subst, ◌<◌, ◌+◌, ◌-◌, ℕ, zero, suc, true≢false, take, drop, get_or, set, append_assoc, inl, inr}
-use Rattle.std.specs.Prelude.{Result, IfOk}
+use Rattle.std.specs.Prelude.{Result, IfOk, IfSome, Option, Some, None}
 use Rattle.bz_value.specs.declared.value.Item.{Item}
+use Rattle.bz_value.specs.declared.value.Item.TheVariants as i
 use Rattle.bz_value.specs.declared.refusal.Refusal.{Refusal}
 use Rattle.bz_command.specs.Effect.{unmarked, NewItem, with_item_first, on_meant}
 use Rattle.std.proofs.lemmas.Bool.{and_parts, cases_lt}
 use Rattle.bz_value.specs.Exchanged.{is_bare, AreExchanged, IsSpliced}
 use Rattle.bz_command.specs.Renewed.{are_bare}
-use Rattle.std.specs.List.{swap}
+use Rattle.std.specs.List.{position, swap}
 use Rattle.std.proofs.lemmas.List.{drop-set-lt, drop_more, length-append, length-drop, length-take-le, set-set, take-set-le, take_more_set}
 use Rattle.std.proofs.lemmas.List.Edits.{swap_is}
+use Rattle.bz_attribute.proofs.ArgumentPlaces.{is_first}
 use Rattle.bz_load.proofs.PutSteps.{spliced}
+
+-- ---- the place of a rule
+
+pub rule_within : (test : Item → Bool) (items : List Item) (place : Option ℕ) → place ≡ position test items → IfSome place (λ at. at < length items)
+rule_within test items None is = tt
+rule_within test items (Some at) is = (is_first test items at (i.Block []) is).within
+
+pub at_most : (place : Option ℕ) (count : ℕ) → IfSome place (λ at. at < count) → IfSome place (λ at. at ≤ count)
+at_most None count within = tt
+at_most (Some at) count within = omega (arith, within)
 
 -- ---- the meant rules
 

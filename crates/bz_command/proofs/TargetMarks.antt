@@ -5,10 +5,9 @@ use Rattle.bz_label.specs.declared.target.Which.{Which}
 use Rattle.bz_label.specs.declared.target.Which.TheVariants as t
 use Rattle.bz_value.specs.declared.value.Expr.{Expr}
 use Rattle.bz_value.specs.declared.value.Item.{Item}
-use Rattle.bz_value.specs.declared.value.Item.TheVariants as i
 use Rattle.bz_items.specs.Characters.{Bytes}
 use Rattle.bz_rule.specs.Rules.{Call, Rule, dotted_name, named, is_rule_of_kind, has_name}
-use Rattle.bz_command.specs.Effect.{is_rule, on_line, first_mark, meant}
+use Rattle.bz_command.specs.Effect.{is_rule, lines_after_item, on_line, first_mark, meant}
 
 abbrev made : List Expr → Bytes → Rule
 made arguments kind = record { kind = kind; arguments = arguments }
@@ -30,9 +29,7 @@ each_marked test (x ∷ xs) = ap (λ n. suc n) (each_marked test xs)
 
 line_marks : (line : ℕ) (lines : List ℕ) (items : List Item) → length (on_line line lines items) ≡ length items
 line_marks line lines [] = refl
-line_marks line lines (i.Block comments ∷ items) = ap (λ n. suc n) (line_marks line lines items)
-line_marks line [] (i.Stmt x ∷ items) = ap (λ n. suc n) (line_marks line [] items)
-line_marks line (first ∷ lines) (i.Stmt x ∷ items) = ap (λ n. suc n) (line_marks line lines items)
+line_marks line lines (item ∷ items) = ap (λ n. suc n) (line_marks line (lines_after_item lines item) items)
 
 first_marks : (marks : List Bool) → length (first_mark marks) ≡ length marks
 first_marks [] = refl

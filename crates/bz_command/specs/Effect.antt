@@ -1,5 +1,5 @@
 -- Which rules a target means, and what a command prints of them and makes of a file value.
-use Rattle.std.specs.Prelude.{ℕ, Bool, true, false, ◌&&◌, List, [], ◌∷◌, codes, map, is_some, nat_eq, ◌++◌, Option, Some, None, Result, Ok, Err, decimal, option_map, if◌then◌else◌, not}
+use Rattle.std.specs.Prelude.{ℕ, ◌+◌, Bool, true, false, ◌&&◌, List, [], ◌∷◌, codes, length, map, is_some, nat_eq, ◌++◌, Option, Some, None, Result, Ok, Err, decimal, option_map, if◌then◌else◌, not}
 use Rattle.bz_label.specs.declared.target.Which.{Which}
 use Rattle.bz_label.specs.declared.target.Which.TheVariants.{All, Kind, Line, Package, Name}
 use Rattle.bz_value.specs.declared.value.Item.{Item}
@@ -15,7 +15,7 @@ use Rattle.bz_command_syntax.specs.declared.command.Host.{Host}
 use Rattle.bz_value.specs.declared.refusal.Refusal.{Refusal}
 use Rattle.bz_comment.specs.Hosts.{print_comment, with_comment, without_comments, comment, remove_comment}
 use Rattle.bz_fields.specs.Prints.{printed_item}
-use Rattle.std.specs.List.{list_any}
+use Rattle.std.specs.List.{insert, list_any, position}
 use Rattle.bz_grammar.specs.declared.kind.Kind.TheVariants as k
 use Rattle.bz_label.specs.declared.target.Target.{Target}
 use Rattle.bz_value.specs.declared.value.Expr.{Expr}
@@ -42,13 +42,27 @@ use Rattle.bz_command_syntax.specs.declared.command.Host.TheVariants.{Rule}
 abbrev pub is_rule : Item → Bool
 is_rule item = is_some (rule_of item)
 
--- The rules on a line, by the lines on which the statements begin, in their order. A Block is on no line, and a statement
--- past the list's end on none.
+-- the arguments of a rule; of any other item none
+abbrev pub rule_arguments : Item → List Expr
+rule_arguments item = option_map_or (λ rule. rule.arguments) (rule_of item) []
+
+-- the line on which an item begins, by the lines of the statements from it on: a Block is on no line, and a statement past the
+-- list's end on none
+abbrev pub item_line : List ℕ → Item → Option ℕ
+item_line lines (i.Block comments) = None
+item_line [] (i.Stmt x) = None
+item_line (line ∷ lines) (i.Stmt x) = Some line
+
+-- the lines of the statements after it
+abbrev pub lines_after_item : List ℕ → Item → List ℕ
+lines_after_item lines (i.Block comments) = lines
+lines_after_item [] (i.Stmt x) = []
+lines_after_item (line ∷ lines) (i.Stmt x) = lines
+
+-- the rules on a line, by the lines on which the statements begin, in their order
 abbrev pub on_line : ℕ → List ℕ → List Item → List Bool
 on_line line lines [] = []
-on_line line lines (i.Block comments ∷ items) = false ∷ on_line line lines items
-on_line line [] (i.Stmt x ∷ items) = false ∷ on_line line [] items
-on_line line (first ∷ lines) (i.Stmt x ∷ items) = (nat_eq first line && is_rule (i.Stmt x)) ∷ on_line line lines items
+on_line line lines (item ∷ items) = (option_map_or (nat_eq line) (item_line lines item) false && is_rule item) ∷ on_line line (lines_after_item lines item) items
 
 abbrev pub first_mark : List Bool → List Bool
 first_mark [] = []
@@ -75,7 +89,7 @@ may_mean_none _ = false
 -- the comments of a host in a rule
 abbrev pub printed_comments_of : Bytes → Host → Item → Result Bytes Refusal
 printed_comments_of current host (i.Block lines) = Ok []
-printed_comments_of current host (i.Stmt x) = print_comment current host (comments_of x) (option_map_or (λ rule. rule.arguments) (rule_of (i.Stmt x)) [])
+printed_comments_of current host (i.Stmt x) = print_comment current host (comments_of x) (rule_arguments (i.Stmt x))
 
 -- what is printed of one rule; `line` is the line on which it begins, in decimal digits
 abbrev pub printed_one : Operation → Bytes → Option Bytes → Item → Result Bytes Refusal
@@ -83,33 +97,16 @@ printed_one (w.Comment (wc.Print host)) current line item = printed_comments_of 
 printed_one (w.Print fields) current line item = Ok (printed_item line item fields)
 printed_one _ current line item = Ok []
 
--- of a rule that isn't marked nothing is printed
-abbrev pub if_marked : Bool → Result Bytes Refusal → Result Bytes Refusal
-if_marked mark text = if mark then text else Ok []
-
 -- The first rule that refuses decides.
 abbrev pub before_rest : Result Bytes Refusal → Result Bytes Refusal → Result Bytes Refusal
 before_rest (Err refusal) rest = Err refusal
 before_rest (Ok text) (Err refusal) = Err refusal
 before_rest (Ok text) (Ok rest) = Ok (text ++ rest)
 
--- the line on which an item begins, by the lines of the statements from it on: a Block is on no line, and a statement past the
--- list's end on none
-abbrev pub item_line : List ℕ → Item → Option ℕ
-item_line lines (i.Block comments) = None
-item_line [] (i.Stmt x) = None
-item_line (line ∷ lines) (i.Stmt x) = Some line
-
--- the lines of the statements after it
-abbrev pub lines_after_item : List ℕ → Item → List ℕ
-lines_after_item lines (i.Block comments) = lines
-lines_after_item [] (i.Stmt x) = []
-lines_after_item (line ∷ lines) (i.Stmt x) = lines
-
--- What is printed of the rules that are marked, in the order of the file.
+-- What is printed of the rules that are marked, in the order of the file; of the others nothing.
 abbrev pub printed_rules : Operation → Bytes → List ℕ → List Bool → List Item → Result Bytes Refusal
 printed_rules operation current lines (mark ∷ marks) (item ∷ items) =
-    before_rest (if_marked mark (printed_one operation current (option_map decimal (item_line lines item)) item))
+    before_rest (if mark then printed_one operation current (option_map decimal (item_line lines item)) item else Ok [])
     (printed_rules operation current (lines_after_item lines item) marks items)
 printed_rules operation current lines _ _ = Ok []
 
@@ -159,40 +156,22 @@ unmarked _ _ = []
 
 -- ---- new
 
-abbrev pub before_first : Bytes → Item → List Item → List Item
-before_first rule new [] = []
-before_first rule new (item ∷ items) = if has_name rule item then new ∷ item ∷ items else item ∷ before_first rule new items
-
-abbrev pub after_rule : Bytes → Item → List Item → List Item
-after_rule rule new [] = []
-after_rule rule new (item ∷ items) = if has_name rule item then item ∷ new ∷ items else item ∷ after_rule rule new items
-
-abbrev pub placed : RulePlace → Item → List Item → List Item
-placed End new items = items ++ new ∷ []
-placed (Before rule) new items = before_first rule new items
-placed (After rule) new items = after_rule rule new items
-
--- the rule after `before` or `after` is there
-abbrev pub has_rule_place : RulePlace → List Item → Bool
-has_rule_place End items = true
-has_rule_place (Before rule) items = list_any (has_name rule) items
-has_rule_place (After rule) items = list_any (has_name rule) items
+-- After how many items a new rule goes: at the end, or beside the first rule of a name, where that is there.
+abbrev pub new_rule_place : RulePlace → List Item → Option ℕ
+new_rule_place End items = Some (length items)
+new_rule_place (Before rule) items = position (has_name rule) items
+new_rule_place (After rule) items = option_map (λ at. at + 1) (position (has_name rule) items)
 
 abbrev pub with_rule : Bytes → Bytes → RulePlace → List Item → Result (List Item) Refusal
 with_rule kind name place items =
-    if not (has_rule_place place items) then Err NoTarget
-    else (if list_any (has_name name) items then Err NameTaken else Ok (placed place (rule_made kind name) items))
+    option_map_or (λ at. if list_any (has_name name) items then Err NameTaken else Ok (insert items at (rule_made kind name))) (new_rule_place place items) (Err NoTarget)
 
 -- ---- all commands
 
 -- the value that an attribute has in the first rule of a name
-abbrev pub value_in : Bytes → Option RuleRead → Option Expr
-value_in name None = None
-value_in name (Some rule) = attribute name rule.arguments
-
 abbrev pub source : Bytes → Bytes → List Item → Option Expr
 source name rule [] = None
-source name rule (item ∷ items) = if has_name rule item then value_in name (rule_of item) else source name rule items
+source name rule (item ∷ items) = if has_name rule item then attribute name (rule_arguments item) else source name rule items
 
 -- the value that is copied, from the file as it was
 abbrev pub source_of : Operation → List Item → Option Expr
@@ -222,7 +201,7 @@ on_host_of_item _ change others item = others
 
 -- what a command makes of a rule that it is meant for
 abbrev pub on_one : Operation → Bytes → Option Expr → Item → NewItem
-on_one (w.Rule (wr.SetKind kind)) current found item = Ok (with_function (function_of kind) item)
+on_one (w.Rule (wr.SetKind kind)) current found item = Ok (if is_rule item then with_function (function_of kind) item else item)
 on_one (w.Attribute operation) current found item = on_arguments (attributes_changed operation current found) item
 on_one (w.Value operation) current found item = on_arguments (values_changed operation current) item
 on_one (w.Dict operation) current found item = on_arguments (dicts_changed operation current) item

@@ -1,6 +1,5 @@
 -- Where what a command makes is past the limit of a text by the comments alone that it puts in: no pass drops or shortens them.
-use Rattle.std.specs.Prelude.{◌≡◌, ◌<◌, ◌*◌, ◌+◌, ℕ, Bool, true, ◌&&◌, List, ◌∷◌, Result, Ok, Err, IsOk, length, if◌then◌else◌}
-use Rattle.std.specs.List.{list_any}
+use Rattle.std.specs.Prelude.{◌<◌, ◌*◌, ◌+◌, ℕ, Bool, ◌&&◌, List, ◌∷◌, Result, Ok, Err, length, if◌then◌else◌}
 use Rattle.bz_grammar.specs.Spell.{limit}
 use Rattle.bz_value.specs.declared.value.Item.{Item}
 use Rattle.bz_value.specs.Counted.{times}
@@ -8,9 +7,8 @@ use Rattle.bz_value.specs.Proper.{IsProper}
 use Rattle.bz_items.specs.Characters.{Bytes}
 use Rattle.bz_value.specs.declared.refusal.Refusal.{Refusal}
 use Rattle.bz_command_syntax.specs.declared.command.Host.{Host}
-use Rattle.bz_comment.specs.Hosts.{comment, comment_made, with_comment}
-use Rattle.bz_label.specs.declared.target.Target.{Target}
-use Rattle.bz_command.specs.Effect.{NewItem, on_arguments, on_host_of_item, on_meant, is_rule, meant}
+use Rattle.bz_comment.specs.Hosts.{comment, with_comment}
+use Rattle.bz_command.specs.Effect.{NewItem, on_arguments, on_host_of_item, on_meant, is_rule}
 
 -- the copies of one comment are past the limit
 abbrev pub IsOverfull : List Item → Type 0
@@ -33,16 +31,3 @@ commented current host text item = on_host_of_item host (with_comment text) (on_
 -- and of the items that are marked
 abbrev pub all_commented : Bytes → Host → Bytes → List Bool → List Item → Result (List Item) Refusal
 all_commented current host text marks items = on_meant (commented current host text) marks items
-
--- Of the rules that a target means there are some, none refuses the comment, and its copies are past the limit.
-abbrev pub IsOverfilling : Host → Bytes → Target → Bytes → List ℕ → List Item → Type 0
-IsOverfilling host text target current lines items =
-    (list_any (λ mark. mark) (meant target.which lines items) ≡ true)
-    × (limit < marked_rules (meant target.which lines items) items * length (comment_made text))
-    × IsOk (all_commented current host text (meant target.which lines items) items)
-
--- there are some, and the first of them that refuses the comment does so for this cause
-abbrev pub IsRefusing : Host → Bytes → Target → Bytes → List ℕ → List Item → Refusal → Type 0
-IsRefusing host text target current lines items refusal =
-    (list_any (λ mark. mark) (meant target.which lines items) ≡ true)
-    × (all_commented current host text (meant target.which lines items) items ≡ Err refusal)

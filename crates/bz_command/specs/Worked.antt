@@ -15,8 +15,8 @@ use Rattle.bz_command_syntax.specs.declared.command.Operation.TheVariants as w
 use Rattle.bz_command_syntax.specs.declared.command.RuleOperation.TheVariants as wr
 use Rattle.bz_command_syntax.specs.Patterns.{substituted}
 use Rattle.bz_rule.specs.Rules.{rule_of}
-use Rattle.bz_attribute.specs.Made.{mark}
-use Rattle.bz_command.specs.SmallValues.{commented_token, commented_form, token_expr, form, name, number, literal, between_marks, string_expr, dot_form, sum, list, strings, entry, dict, argument_expr, call, comments_above, commented_statement, statement_item, block, rule_of_kind, rule, effect_on, made, gives, refuses, done, leaves, shown, shows_text}
+use Rattle.bz_attribute.specs.Made.{token, node, sequence, name, mark, list_of, argument_of}
+use Rattle.bz_command.specs.SmallValues.{commented_token, commented_form, number, literal, between_marks, string_expr, binary, dot_form, sum, strings, entry, dict, call, comments_above, commented_statement, statement_item, block, rule_of_kind, rule, effect_on, made, gives, refuses, done, leaves, shown}
 
 -- f(name = "x"), g(name = "y", ..) and package()
 abbrev x : Item
@@ -30,7 +30,7 @@ settings = statement_item (call (name (codes "package")) [])
 
 -- size = .., size = "small", size = "large", shard_count = 5, deps = [..] and **rest
 abbrev pub size : Expr → Expr
-size value = argument_expr (codes "size") value
+size value = argument_of (codes "size") value
 
 abbrev pub small : Expr
 small = size (string_expr (codes "small"))
@@ -39,13 +39,16 @@ abbrev large : Expr
 large = size (string_expr (codes "large"))
 
 abbrev shards : Expr
-shards = argument_expr (codes "shard_count") (number (codes "5"))
+shards = argument_of (codes "shard_count") (number (codes "5"))
 
 abbrev pub deps : List Expr → Expr
-deps items = argument_expr (codes "deps") (list items)
+deps items = argument_of (codes "deps") (list_of items)
 
 abbrev rest : Expr
-rest = form k.Star (mark (codes "**") ∷ name (codes "rest") ∷ []) []
+rest = node k.Star (mark (codes "**") ∷ name (codes "rest") ∷ [])
+
+abbrev load : List Expr → Item
+load items = i.Stmt (sequence k.Load (token c.Keyword (codes "load") ∷ []) items)
 
 -- "# c" above, and ":a" with comments
 abbrev c_above : HostComments
@@ -58,14 +61,10 @@ a_noted comments = commented_token comments c.String (between_marks (codes ":a")
 
 -- name = TEXT
 abbrev named : Bytes → Expr
-named text = argument_expr (codes "name") (literal text)
-
--- an expression as a statement under a comment
-abbrev bare : Expr → Item
-bare value = commented_statement (comments_above (codes "# c" ∷ [])) value
+named text = argument_of (codes "name") (literal text)
 
 abbrev statement : Bytes → List Expr → Item
-statement kind arguments = bare (call (name kind) arguments)
+statement kind arguments = statement_item (call (name kind) arguments)
 
 abbrev deleted : Which → List Item → Result (List Item) Refusal
 deleted which items = effect_on which (w.Rule wr.Delete) items
@@ -82,17 +81,13 @@ Rules =
     × (deleted (Name (codes "y")) (two ∷ []) ≡ Ok [])
     -- none is meant
     × (deleted (Name (codes "z")) (one ∷ block ∷ two ∷ []) ≡ Err NoTarget)
-    × (deleted Package (one ∷ block ∷ two ∷ []) ≡ Err NoTarget)
-    × (deleted (Name (codes "x")) [] ≡ Err NoTarget)
     -- the first rule of kind `package` alone
     × (deleted Package (one ∷ its_package ∷ two ∷ its_package ∷ []) ≡ Ok (one ∷ two ∷ its_package ∷ []))
     -- all rules, those of a kind, the one on a line: a Block is on none
     × (deleted All (one ∷ block ∷ other ∷ []) ≡ Ok (block ∷ []))
     × (deleted All (block ∷ []) ≡ Ok (block ∷ []))
     × (deleted (Kind (codes "g")) (one ∷ other ∷ []) ≡ Ok (one ∷ []))
-    × (deleted (Kind (codes "h")) (one ∷ other ∷ []) ≡ Ok (one ∷ other ∷ []))
     × (deleted (Line 2) (one ∷ block ∷ other ∷ two ∷ []) ≡ Ok (one ∷ block ∷ two ∷ []))
-    × (deleted (Line 4) (one ∷ other ∷ []) ≡ Err NoTarget)
 
 -- f(name = "x") as an expression
 abbrev x_call : Expr
@@ -100,16 +95,16 @@ x_call = call (name (codes "f")) (named (codes "\"x\"") ∷ [])
 
 -- a.b.c(name = "x")
 abbrev dotted : Item
-dotted = bare (call (dot_form (dot_form (name (codes "a")) (codes "b")) (codes "c")) (named (codes "\"x\"") ∷ []))
+dotted = statement_item (call (dot_form (dot_form (name (codes "a")) (codes "b")) (codes "c")) (named (codes "\"x\"") ∷ []))
 
 -- What is no rule: f().b(name = "x"), x = f(name = "x"), f(name = "x") + 1, f(name = "x")() and load("x").
 abbrev others : List Item
 others =
-    bare (call (dot_form (call (name (codes "f")) []) (codes "b")) (named (codes "\"x\"") ∷ []))
-    ∷ i.Stmt (form k.Assign (name (codes "x") ∷ token_expr c.Mark (codes "=") ∷ x_call ∷ []) [])
-    ∷ bare (form k.Sum (x_call ∷ token_expr c.Mark (codes "+") ∷ token_expr c.Number (codes "1") ∷ []) [])
-    ∷ bare (call x_call [])
-    ∷ i.Stmt (form k.Load (token_expr c.Keyword (codes "load") ∷ []) (token_expr c.String (codes "\"x\"") ∷ []))
+    statement_item (call (dot_form (call (name (codes "f")) []) (codes "b")) (named (codes "\"x\"") ∷ []))
+    ∷ i.Stmt (binary k.Assign (name (codes "x")) (codes "=") x_call)
+    ∷ statement_item (sum x_call (number (codes "1")))
+    ∷ statement_item (call x_call [])
+    ∷ load (string_expr (codes "x") ∷ [])
     ∷ []
 
 abbrev Statements : Type 0
@@ -126,7 +121,7 @@ WorkedEffects = Rules × Statements
 -- ---- rules: new ones, and rules of another kind
 
 abbrev y_named : List Expr
-y_named = argument_expr (codes "name") (string_expr (codes "y")) ∷ []
+y_named = argument_of (codes "name") (string_expr (codes "y")) ∷ []
 
 abbrev NewRules : Type 0
 NewRules =
@@ -139,11 +134,9 @@ NewRules =
     × (made (codes "new g y before x") All (block ∷ x ∷ x ∷ []) ≡ gives (block ∷ y [] ∷ x ∷ x ∷ []))
     × (made (codes "new g y after x") All (block ∷ x ∷ x ∷ []) ≡ gives (block ∷ x ∷ y [] ∷ x ∷ []))
     -- There is no rule of that name, which is reported before a name that is taken.
-    × (made (codes "new g y before z") All (x ∷ []) ≡ refuses NoTarget)
     × (made (codes "new g x after z") All (x ∷ []) ≡ refuses NoTarget)
     -- A rule has the name, whatever its kind is.
     × (made (codes "new g x") All (block ∷ x ∷ []) ≡ refuses NameTaken)
-    × (made (codes "new g x before x") All (x ∷ []) ≡ refuses NameTaken)
 
 abbrev NewKinds : Type 0
 NewKinds =
@@ -151,16 +144,12 @@ NewKinds =
     -- The rule is of another kind; its name and its other arguments stay.
     (done (codes "set kind g") (small ∷ []) ≡ gives (rule_of_kind (codes "g") (codes "x") (small ∷ []) ∷ []))
     -- So do the comments above it.
-    × (made (codes "set kind a.b") (Name (codes "y")) (commented_statement (comments_above (codes "# c" ∷ [])) (call (name (codes "f")) y_named) ∷ [])
-    ≡ gives (commented_statement (comments_above (codes "# c" ∷ [])) (call (dot_form (name (codes "a")) (codes "b")) y_named) ∷ []))
+    × (made (codes "set kind a.b") (Name (codes "y")) (commented_statement c_above (call (name (codes "f")) y_named) ∷ [])
+    ≡ gives (commented_statement c_above (call (dot_form (name (codes "a")) (codes "b")) y_named) ∷ []))
     -- All rules of a kind get another one.
     × (made (codes "set kind g") (Kind (codes "f")) (rule (small ∷ []) ∷ block ∷ rule_of_kind (codes "h") (codes "z") [] ∷ other ∷ [])
     ≡ gives (rule_of_kind (codes "g") (codes "x") (small ∷ []) ∷ block ∷ rule_of_kind (codes "h") (codes "z") [] ∷ rule_of_kind (codes "g") (codes "y") [] ∷ []))
-    -- It has that kind already.
-    × (done (codes "set kind f") (small ∷ []) ≡ gives (rule (small ∷ []) ∷ []))
-    -- No rule is meant: by a name that is refused, by a kind the file stays.
-    × (made (codes "set kind g") (Name (codes "z")) (rule (small ∷ []) ∷ []) ≡ refuses NoTarget)
-    × (made (codes "set kind g") Package (rule (small ∷ []) ∷ []) ≡ refuses NoTarget)
+    -- No rule of the kind is there: the file stays.
     × (made (codes "set kind g") (Kind (codes "h")) (rule (small ∷ []) ∷ []) ≡ gives (rule (small ∷ []) ∷ []))
 
 abbrev pub WorkedRules : Type 0
@@ -175,26 +164,21 @@ AttributesSet =
     × (done (codes "set size small") (shards ∷ rest ∷ []) ≡ leaves (shards ∷ small ∷ rest ∷ []))
     × (done (codes "set size small") (large ∷ shards ∷ []) ≡ leaves (small ∷ shards ∷ []))
     -- True, False, None and digits are as they are.
-    × (done (codes "set testonly True") [] ≡ leaves (argument_expr (codes "testonly") (name (codes "True")) ∷ []))
-    × (done (codes "set shard_count 5") [] ≡ leaves (shards ∷ []))
+    × (done (codes "set testonly True") [] ≡ leaves (argument_of (codes "testonly") (name (codes "True")) ∷ []))
     -- Several values are a list, and so is one in an attribute of lists; a label is written in its short form.
-    × (done (codes "set args a b") [] ≡ leaves (argument_expr (codes "args") (strings (codes "a" ∷ codes "b" ∷ [])) ∷ []))
-    × (done (codes "set copts -g") [] ≡ leaves (argument_expr (codes "copts") (strings (codes "-g" ∷ [])) ∷ []))
-    × (done (codes "set deps //p:a") [] ≡ leaves (argument_expr (codes "deps") (strings (codes ":a" ∷ [])) ∷ []))
+    × (done (codes "set args a b") [] ≡ leaves (argument_of (codes "args") (strings (codes "a" ∷ codes "b" ∷ [])) ∷ []))
+    × (done (codes "set deps //p:a") [] ≡ leaves (argument_of (codes "deps") (strings (codes ":a" ∷ [])) ∷ []))
     -- A space within a word has a backslash before it; a quotation mark gets one in the string.
-    × (done (codes "set size a\\ \"b") [] ≡ leaves (argument_expr (codes "size") (literal (codes "\"a \\\"b\"")) ∷ []))
+    × (done (codes "set size a\\ \"b") [] ≡ leaves (argument_of (codes "size") (literal (codes "\"a \\\"b\"")) ∷ []))
     -- 'small' is another token than "small"; a value that differs only in its comments stays.
-    × (done (codes "set size small") (argument_expr (codes "size") (literal (codes "'small'")) ∷ []) ≡ leaves (small ∷ []))
-    × (done (codes "set deps :a") (argument_expr (codes "deps") (list (a_noted c_above ∷ [])) ∷ []) ≡ leaves (argument_expr (codes "deps") (list (a_noted c_above ∷ [])) ∷ []))
-    × (made (codes "set size small") (Name (codes "z")) (rule [] ∷ []) ≡ refuses NoTarget)
+    × (done (codes "set size small") (argument_of (codes "size") (literal (codes "'small'")) ∷ []) ≡ leaves (small ∷ []))
+    × (done (codes "set deps :a") (argument_of (codes "deps") (list_of (a_noted c_above ∷ [])) ∷ []) ≡ leaves (argument_of (codes "deps") (list_of (a_noted c_above ∷ [])) ∷ []))
 
 abbrev AttributesSetIfAbsent : Type 0
 AttributesSetIfAbsent =
     -- It is absent, and then it is set as by `set`; or it is there, and stays.
     (done (codes "set_if_absent size small") [] ≡ leaves (small ∷ []))
     × (done (codes "set_if_absent size small") (large ∷ []) ≡ leaves (large ∷ []))
-    × (made (codes "set_if_absent size small") All (rule [] ∷ block ∷ y (large ∷ []) ∷ []) ≡ gives (rule (small ∷ []) ∷ block ∷ y (large ∷ []) ∷ []))
-    × (made (codes "set_if_absent size small") (Name (codes "z")) (rule [] ∷ []) ≡ refuses NoTarget)
 
 abbrev AttributesRemoved : Type 0
 AttributesRemoved =
@@ -206,35 +190,29 @@ AttributesRemoved =
     × (done (codes "remove *") (small ∷ shards ∷ large ∷ rest ∷ []) ≡ leaves (rest ∷ []))
     -- The name alone may go as well.
     × (done (codes "remove name") (small ∷ []) ≡ gives (statement_item (call (name (codes "f")) (small ∷ [])) ∷ []))
-    × (made (codes "remove size") (Name (codes "z")) (rule (small ∷ []) ∷ []) ≡ refuses NoTarget)
 
 abbrev Renamed : Type 0
 Renamed =
-    let timeout : Expr = argument_expr (codes "timeout") (string_expr (codes "small")) in
+    let timeout : Expr = argument_of (codes "timeout") (string_expr (codes "small")) in
     -- The attribute keeps its place and its value.
     (done (codes "rename size timeout") (small ∷ shards ∷ []) ≡ leaves (timeout ∷ shards ∷ []))
-    × (made (codes "rename size timeout") All (rule (small ∷ []) ∷ block ∷ y (small ∷ []) ∷ []) ≡ gives (rule (timeout ∷ []) ∷ block ∷ y (timeout ∷ []) ∷ []))
-    -- It is absent, or the new name is taken, also by itself.
+    -- It is absent, or the new name is taken.
     × (done (codes "rename size timeout") (shards ∷ []) ≡ refuses NoAttribute)
     × (done (codes "rename size timeout") (small ∷ timeout ∷ []) ≡ refuses AttributeExists)
-    × (done (codes "rename size size") (small ∷ []) ≡ refuses AttributeExists)
     -- The first rule that refuses decides for all.
     × (made (codes "rename size timeout") All (rule (small ∷ []) ∷ y [] ∷ rule (small ∷ timeout ∷ []) ∷ []) ≡ refuses NoAttribute)
-    × (made (codes "rename size timeout") (Name (codes "z")) (rule (small ∷ []) ∷ []) ≡ refuses NoTarget)
 
 abbrev Copied : Type 0
 Copied =
-    let long : Expr = argument_expr (codes "deps") (strings (codes "//p:a" ∷ [])) in
-    -- The value of the first rule y, put in last or in the place of the old one.
+    let long : Expr = argument_of (codes "deps") (strings (codes "//p:a" ∷ [])) in
+    -- The value of the first rule y.
     (made (codes "copy size y") (Name (codes "x")) (y (large ∷ []) ∷ rule (shards ∷ []) ∷ y (small ∷ []) ∷ [])
     ≡ gives (y (large ∷ []) ∷ rule (shards ∷ large ∷ []) ∷ y (small ∷ []) ∷ []))
-    × (made (codes "copy size y") (Name (codes "x")) (rule (small ∷ shards ∷ []) ∷ y (large ∷ []) ∷ []) ≡ gives (rule (large ∷ shards ∷ []) ∷ y (large ∷ []) ∷ []))
     -- No label is shortened.
     × (made (codes "copy deps y") (Name (codes "x")) (y (long ∷ []) ∷ rule [] ∷ []) ≡ gives (y (long ∷ []) ∷ rule (long ∷ []) ∷ []))
     -- There is no rule z, or the first rule y lacks the attribute.
     × (made (codes "copy size z") (Name (codes "x")) (y (large ∷ []) ∷ rule [] ∷ []) ≡ refuses NoSource)
     × (made (codes "copy size y") (Name (codes "x")) (y [] ∷ y (large ∷ []) ∷ rule (small ∷ []) ∷ []) ≡ refuses NoSource)
-    × (made (codes "copy size y") (Name (codes "z")) (y (large ∷ []) ∷ []) ≡ refuses NoTarget)
 
 abbrev CopiedIfAbsent : Type 0
 CopiedIfAbsent =
@@ -243,7 +221,6 @@ CopiedIfAbsent =
     -- Where the attribute is there nothing is required of the other rule.
     × (done (codes "copy_no_overwrite size z") (small ∷ []) ≡ leaves (small ∷ []))
     × (done (codes "copy_no_overwrite size z") (shards ∷ []) ≡ refuses NoSource)
-    × (made (codes "copy_no_overwrite size y") (Name (codes "z")) (y (large ∷ []) ∷ []) ≡ refuses NoTarget)
 
 abbrev pub WorkedAttributes : Type 0
 WorkedAttributes = AttributesSet × AttributesSetIfAbsent × AttributesRemoved × Renamed × Copied × CopiedIfAbsent
@@ -255,70 +232,59 @@ abbrev deps_of : List Bytes → Expr
 deps_of words = deps (map string_expr words)
 
 abbrev later : List Bytes → Expr
-later words = argument_expr (codes "runtime_deps") (strings words)
+later words = argument_of (codes "runtime_deps") (strings words)
 
 abbrev choice : Expr
 choice = call (name (codes "select")) (name (codes "C") ∷ [])
 
 abbrev ValuesAdded : Type 0
 ValuesAdded =
-    let either : Expr = form k.Cond (name (codes "a") ∷ token_expr c.Keyword (codes "if") ∷ name (codes "b") ∷ token_expr c.Keyword (codes "else") ∷ name (codes "c") ∷ []) [] in
-    let bracketed : Expr = form k.Paren (mark (codes "(") ∷ either ∷ mark (codes ")") ∷ []) [] in
+    let either : Expr = node k.Cond (name (codes "a") ∷ token c.Keyword (codes "if") ∷ name (codes "b") ∷ token c.Keyword (codes "else") ∷ name (codes "c") ∷ []) in
+    let bracketed : Expr = node k.Paren (mark (codes "(") ∷ either ∷ mark (codes ")") ∷ []) in
     -- Values go to the end of the list, labels in their short form; where there is none a list is made.
     (done (codes "add deps :b //q:q") (deps_of (codes ":a" ∷ []) ∷ small ∷ []) ≡ leaves (deps_of (codes ":a" ∷ codes ":b" ∷ codes "//q" ∷ []) ∷ small ∷ []))
     × (done (codes "add deps :a") (small ∷ []) ≡ leaves (small ∷ deps_of (codes ":a" ∷ []) ∷ []))
     -- What means a value that is there is not added, and what means the same as another one only once.
     × (done (codes "add deps //p:a a") (deps_of (codes ":a" ∷ []) ∷ []) ≡ leaves (deps_of (codes ":a" ∷ []) ∷ []))
-    × (done (codes "add deps :b b") (deps_of (codes ":a" ∷ []) ∷ []) ≡ leaves (deps_of (codes ":a" ∷ codes ":b" ∷ []) ∷ []))
-    × (done (codes "add tags a b") (argument_expr (codes "tags") (strings (codes "a" ∷ [])) ∷ []) ≡ leaves (argument_expr (codes "tags") (strings (codes "a" ∷ codes "b" ∷ [])) ∷ []))
     -- A raw string is no value that is there.
-    × (done (codes "add deps :a") (argument_expr (codes "deps") (list (literal (codes "r\":a\"") ∷ [])) ∷ [])
-    ≡ leaves (argument_expr (codes "deps") (list (literal (codes "r\":a\"") ∷ string_expr (codes ":a") ∷ [])) ∷ []))
+    × (done (codes "add deps :a") (argument_of (codes "deps") (list_of (literal (codes "r\":a\"") ∷ [])) ∷ [])
+    ≡ leaves (argument_of (codes "deps") (list_of (literal (codes "r\":a\"") ∷ string_expr (codes ":a") ∷ [])) ∷ []))
     -- A call becomes a sum, in which the list gets what is added next; a condition is in brackets there.
-    × (done (codes "add deps :a") (argument_expr (codes "deps") choice ∷ []) ≡ leaves (argument_expr (codes "deps") (sum choice (strings (codes ":a" ∷ []))) ∷ []))
-    × (done (codes "add deps :b") (argument_expr (codes "deps") (sum choice (strings (codes ":a" ∷ []))) ∷ [])
-    ≡ leaves (argument_expr (codes "deps") (sum choice (strings (codes ":a" ∷ codes ":b" ∷ []))) ∷ []))
-    × (done (codes "add deps :a") (argument_expr (codes "deps") either ∷ []) ≡ leaves (argument_expr (codes "deps") (sum bracketed (strings (codes ":a" ∷ []))) ∷ []))
-    -- A string, a number and a dict are no lists.
+    × (done (codes "add deps :a") (argument_of (codes "deps") choice ∷ []) ≡ leaves (argument_of (codes "deps") (sum choice (strings (codes ":a" ∷ []))) ∷ []))
+    × (done (codes "add deps :b") (argument_of (codes "deps") (sum choice (strings (codes ":a" ∷ []))) ∷ [])
+    ≡ leaves (argument_of (codes "deps") (sum choice (strings (codes ":a" ∷ codes ":b" ∷ []))) ∷ []))
+    × (done (codes "add deps :a") (argument_of (codes "deps") either ∷ []) ≡ leaves (argument_of (codes "deps") (sum bracketed (strings (codes ":a" ∷ []))) ∷ []))
+    -- A string is no list.
     × (done (codes "add size a") (small ∷ []) ≡ refuses NotAList)
-    × (done (codes "add shard_count 5") (argument_expr (codes "shard_count") (number (codes "5")) ∷ []) ≡ refuses NotAList)
-    × (done (codes "add env a") (argument_expr (codes "env") (dict []) ∷ []) ≡ refuses NotAList)
-    × (made (codes "add deps :a") (Name (codes "z")) (rule [] ∷ []) ≡ refuses NoTarget)
 
 abbrev ValuesRemoved : Type 0
 ValuesRemoved =
     -- All items go that mean the value.
-    (done (codes "remove deps :a") (deps_of (codes ":a" ∷ codes ":b" ∷ []) ∷ []) ≡ leaves (deps_of (codes ":b" ∷ []) ∷ []))
-    × (done (codes "remove deps a") (deps_of (codes ":a" ∷ codes ":b" ∷ codes "//p:a" ∷ []) ∷ []) ≡ leaves (deps_of (codes ":b" ∷ []) ∷ []))
+    (done (codes "remove deps a") (deps_of (codes ":a" ∷ codes ":b" ∷ codes "//p:a" ∷ []) ∷ []) ≡ leaves (deps_of (codes ":b" ∷ []) ∷ []))
     -- With the last item the attribute goes; a list that was empty stays.
     × (done (codes "remove deps :a :b") (small ∷ deps_of (codes ":a" ∷ codes ":b" ∷ []) ∷ []) ≡ leaves (small ∷ []))
     × (done (codes "remove deps :a") (deps_of [] ∷ []) ≡ leaves (deps_of [] ∷ []))
     -- From a sum items go too, and the sum stays.
-    × (done (codes "remove deps :a") (argument_expr (codes "deps") (sum choice (strings (codes ":a" ∷ []))) ∷ [])
-    ≡ leaves (argument_expr (codes "deps") (sum choice (strings [])) ∷ []))
-    -- The value is not there, or the attribute, or the value is no list that is written out.
-    × (done (codes "remove deps :c") (deps_of (codes ":a" ∷ []) ∷ []) ≡ leaves (deps_of (codes ":a" ∷ []) ∷ []))
+    × (done (codes "remove deps :a") (argument_of (codes "deps") (sum choice (strings (codes ":a" ∷ []))) ∷ [])
+    ≡ leaves (argument_of (codes "deps") (sum choice (strings [])) ∷ []))
+    -- The attribute is not there, or the value is no list that is written out.
     × (done (codes "remove deps :a") (small ∷ []) ≡ leaves (small ∷ []))
-    × (done (codes "remove deps :a") (argument_expr (codes "deps") choice ∷ []) ≡ leaves (argument_expr (codes "deps") choice ∷ []))
+    × (done (codes "remove deps :a") (argument_of (codes "deps") choice ∷ []) ≡ leaves (argument_of (codes "deps") choice ∷ []))
     -- A string is no list.
     × (done (codes "remove size small") (small ∷ []) ≡ refuses NotAList)
-    × (made (codes "remove deps :a") (Name (codes "z")) (rule (deps_of (codes ":a" ∷ []) ∷ []) ∷ []) ≡ refuses NoTarget)
 
 abbrev Replaced : Type 0
 Replaced =
-    let tags : List Bytes → Expr = λ words. argument_expr (codes "tags") (strings words) in
+    let tags : List Bytes → Expr = λ words. argument_of (codes "tags") (strings words) in
     -- Each item that means the old value becomes the new one, in its short form.
     (done (codes "replace deps :a :b") (deps_of (codes ":a" ∷ codes ":c" ∷ codes "a" ∷ []) ∷ []) ≡ leaves (deps_of (codes ":b" ∷ codes ":c" ∷ codes ":b" ∷ []) ∷ []))
-    × (done (codes "replace deps //p:a //p:b") (deps_of (codes ":a" ∷ []) ∷ []) ≡ leaves (deps_of (codes ":b" ∷ []) ∷ []))
     -- A string on its own does too.
-    × (done (codes "replace size small large") (small ∷ []) ≡ leaves (argument_expr (codes "size") (string_expr (codes "large")) ∷ []))
+    × (done (codes "replace size small large") (small ∷ []) ≡ leaves (argument_of (codes "size") (string_expr (codes "large")) ∷ []))
     -- In all attributes but the name, which is the old value here.
-    × (done (codes "replace * x y") (argument_expr (codes "size") (string_expr (codes "x")) ∷ tags (codes "x" ∷ codes "z" ∷ []) ∷ [])
-    ≡ leaves (argument_expr (codes "size") (string_expr (codes "y")) ∷ tags (codes "y" ∷ codes "z" ∷ []) ∷ []))
-    -- The old value is not there, or the attribute.
+    × (done (codes "replace * x y") (argument_of (codes "size") (string_expr (codes "x")) ∷ tags (codes "x" ∷ codes "z" ∷ []) ∷ [])
+    ≡ leaves (argument_of (codes "size") (string_expr (codes "y")) ∷ tags (codes "y" ∷ codes "z" ∷ []) ∷ []))
+    -- The old value is not there.
     × (done (codes "replace deps :a :b") (deps_of (codes ":c" ∷ []) ∷ []) ≡ leaves (deps_of (codes ":c" ∷ []) ∷ []))
-    × (done (codes "replace deps :a :b") (small ∷ []) ≡ leaves (small ∷ []))
-    × (made (codes "replace size small large") Package (rule (small ∷ []) ∷ []) ≡ refuses NoTarget)
 
 abbrev Moved : Type 0
 Moved =
@@ -327,17 +293,13 @@ Moved =
     -- All values go, and with them the attribute; a value that is there already does not come once more.
     × (done (codes "move deps runtime_deps *") (deps_of (codes ":a" ∷ codes ":b" ∷ []) ∷ later (codes ":a" ∷ []) ∷ []) ≡ leaves (later (codes ":a" ∷ codes ":b" ∷ []) ∷ []))
     -- Its comments go with it.
-    × (done (codes "move deps runtime_deps :a") (argument_expr (codes "deps") (list (a_noted c_above ∷ string_expr (codes ":b") ∷ [])) ∷ [])
-    ≡ leaves (deps_of (codes ":b" ∷ []) ∷ argument_expr (codes "runtime_deps") (list (a_noted c_above ∷ [])) ∷ []))
+    × (done (codes "move deps runtime_deps :a") (argument_of (codes "deps") (list_of (a_noted c_above ∷ string_expr (codes ":b") ∷ [])) ∷ [])
+    ≡ leaves (deps_of (codes ":b" ∷ []) ∷ argument_of (codes "runtime_deps") (list_of (a_noted c_above ∷ [])) ∷ []))
     -- From an attribute to itself: to the end.
     × (done (codes "move deps deps :a") (deps_of (codes ":a" ∷ codes ":b" ∷ []) ∷ []) ≡ leaves (deps_of (codes ":b" ∷ codes ":a" ∷ []) ∷ []))
-    -- The value is not there, and nothing is required of the other attribute.
-    × (done (codes "move deps size :c") (deps_of (codes ":a" ∷ []) ∷ small ∷ []) ≡ leaves (deps_of (codes ":a" ∷ []) ∷ small ∷ []))
-    -- The first attribute is absent; it is no list; the other one is no list.
+    -- The first attribute is absent; the other one is no list.
     × (done (codes "move deps runtime_deps :a") (later (codes ":a" ∷ []) ∷ []) ≡ refuses NoAttribute)
-    × (done (codes "move size tags small") (small ∷ []) ≡ refuses NotAList)
     × (done (codes "move deps size :a") (deps_of (codes ":a" ∷ []) ∷ small ∷ []) ≡ refuses NotAList)
-    × (made (codes "move deps runtime_deps :a") (Name (codes "z")) (rule (deps_of (codes ":a" ∷ []) ∷ []) ∷ []) ≡ refuses NoTarget)
 
 abbrev pub WorkedValues : Type 0
 WorkedValues = ValuesAdded × ValuesRemoved × Replaced × Moved
@@ -366,12 +328,10 @@ Strings =
 
 abbrev Untouched : Type 0
 Untouched =
-    -- There is no plain string, or no attribute, whatever the pattern is.
+    -- There is no plain string, whatever the pattern is.
     (done (codes "substitute deps l n") (deps other_values ∷ []) ≡ leaves (deps other_values ∷ []))
-    × (done (codes "substitute srcs (.*)\\.cc$ $1.cpp") (argument_expr (codes "srcs") (call (name (codes "glob")) (strings (codes "a.cc" ∷ []) ∷ [])) ∷ [])
-    ≡ leaves (argument_expr (codes "srcs") (call (name (codes "glob")) (strings (codes "a.cc" ∷ []) ∷ [])) ∷ []))
-    × (done (codes "substitute deps l n") (small ∷ []) ≡ leaves (small ∷ []))
-    × (made (codes "substitute size l n") (Name (codes "z")) (rule (small ∷ []) ∷ []) ≡ refuses NoTarget)
+    × (done (codes "substitute srcs (.*)\\.cc$ $1.cpp") (argument_of (codes "srcs") (call (name (codes "glob")) (strings (codes "a.cc" ∷ []) ∷ [])) ∷ [])
+    ≡ leaves (argument_of (codes "srcs") (call (name (codes "glob")) (strings (codes "a.cc" ∷ []) ∷ [])) ∷ []))
 
 abbrev pub WorkedSubstitutes : Type 0
 WorkedSubstitutes = Strings × Untouched
@@ -380,7 +340,7 @@ WorkedSubstitutes = Strings × Untouched
 
 -- env = {..} and "A": VALUE
 abbrev env : List Expr → Expr
-env entries = argument_expr (codes "env") (dict entries)
+env entries = argument_of (codes "env") (dict entries)
 
 abbrev entry_a : Bytes → Expr
 entry_a value = entry (codes "A") value
@@ -390,7 +350,7 @@ entry_b = entry (codes "B") (codes "2")
 
 -- {} | {}
 abbrev union : Expr
-union = form k.BitOr (dict [] ∷ mark (codes "|") ∷ dict [] ∷ []) []
+union = binary k.BitOr (dict []) (codes "|") (dict [])
 
 abbrev EntriesAdded : Type 0
 EntriesAdded =
@@ -403,42 +363,34 @@ EntriesAdded =
     × (done (codes "dict_add env A:x:y") [] ≡ leaves (env (entry_a (codes "x:y") ∷ []) ∷ []))
     × (done (codes "dict_add env :") [] ≡ leaves (env (entry [] [] ∷ []) ∷ []))
     -- In an attribute of labels the value is written in its short form.
-    × (done (codes "dict_add deps A://p:b") [] ≡ leaves (argument_expr (codes "deps") (dict (entry_a (codes ":b") ∷ [])) ∷ []))
-    -- A list, a string and a union of dicts are no dicts.
-    × (done (codes "dict_add env A:1") (argument_expr (codes "env") (list []) ∷ []) ≡ refuses NotADict)
-    × (done (codes "dict_add size A:1") (small ∷ []) ≡ refuses NotADict)
-    × (done (codes "dict_add env A:1") (argument_expr (codes "env") union ∷ []) ≡ refuses NotADict)
-    × (made (codes "dict_add env A:1") (Name (codes "z")) (rule [] ∷ []) ≡ refuses NoTarget)
+    × (done (codes "dict_add deps A://p:b") [] ≡ leaves (argument_of (codes "deps") (dict (entry_a (codes ":b") ∷ [])) ∷ []))
+    -- A list and a union of dicts are no dicts.
+    × (done (codes "dict_add env A:1") (argument_of (codes "env") (list_of []) ∷ []) ≡ refuses NotADict)
+    × (done (codes "dict_add env A:1") (argument_of (codes "env") union ∷ []) ≡ refuses NotADict)
 
 abbrev EntriesSet : Type 0
 EntriesSet =
-    let one : Expr = form k.Entry (string_expr (codes "A") ∷ mark (codes ":") ∷ number (codes "1") ∷ []) [] in
+    let one : Expr = binary k.Entry (string_expr (codes "A")) (codes ":") (number (codes "1")) in
     -- The value of a key that is there becomes this one in its place, and a new entry goes last.
     (done (codes "dict_set env A:3 C:4") (env (entry_a (codes "1") ∷ entry_b ∷ []) ∷ []) ≡ leaves (env (entry_a (codes "3") ∷ entry_b ∷ entry (codes "C") (codes "4") ∷ []) ∷ []))
-    × (done (codes "dict_set env A:1") (small ∷ []) ≡ leaves (small ∷ env (entry_a (codes "1") ∷ []) ∷ []))
     -- Of two entries of one key the last one counts.
     × (done (codes "dict_set env A:1 A:2") [] ≡ leaves (env (entry_a (codes "2") ∷ []) ∷ []))
     -- Where a key occurs twice in the file its first entry is meant; the value may be any.
+    × (done (codes "dict_set env A:1") (argument_of (codes "env") (list_of []) ∷ []) ≡ refuses NotADict)
     × (done (codes "dict_set env A:3") (env (one ∷ entry_a (codes "2") ∷ []) ∷ []) ≡ leaves (env (entry_a (codes "3") ∷ entry_a (codes "2") ∷ []) ∷ []))
-    × (done (codes "dict_set env A:1") (argument_expr (codes "env") (list []) ∷ []) ≡ refuses NotADict)
-    × (made (codes "dict_set env A:1") (Name (codes "z")) (rule [] ∷ []) ≡ refuses NoTarget)
 
 abbrev EntriesRemoved : Type 0
 EntriesRemoved =
-    let by_name : Expr = form k.Entry (name (codes "A") ∷ mark (codes ":") ∷ string_expr (codes "1") ∷ []) [] in
+    let by_name : Expr = binary k.Entry (name (codes "A")) (codes ":") (string_expr (codes "1")) in
     -- All entries of the key go.
     (done (codes "dict_remove env A") (env (entry_a (codes "1") ∷ entry_b ∷ entry_a (codes "3") ∷ []) ∷ []) ≡ leaves (env (entry_b ∷ []) ∷ []))
     -- With the last entry the attribute goes; a dict that was empty stays.
     × (done (codes "dict_remove env A B") (small ∷ env (entry_a (codes "1") ∷ entry_b ∷ []) ∷ []) ≡ leaves (small ∷ []))
     × (done (codes "dict_remove env A") (env [] ∷ []) ≡ leaves (env [] ∷ []))
-    -- The key is not there: A without quotation marks is another one. Or the attribute is absent.
+    -- The key is not there: A without quotation marks is another one.
     × (done (codes "dict_remove env A") (env (by_name ∷ entry_b ∷ []) ∷ []) ≡ leaves (env (by_name ∷ entry_b ∷ []) ∷ []))
-    × (done (codes "dict_remove env A") (small ∷ []) ≡ leaves (small ∷ []))
-    × (done (codes "dict_remove size A") (small ∷ []) ≡ refuses NotADict)
     -- Of all rules the first that refuses decides.
-    × (made (codes "dict_remove env B") All (rule (env (entry_b ∷ []) ∷ []) ∷ y (env (entry_b ∷ []) ∷ []) ∷ []) ≡ gives (rule [] ∷ y [] ∷ []))
-    × (made (codes "dict_remove env B") All (rule (env (entry_b ∷ []) ∷ []) ∷ y (argument_expr (codes "env") (list []) ∷ []) ∷ []) ≡ refuses NotADict)
-    × (made (codes "dict_remove env A") (Name (codes "z")) (rule [] ∷ []) ≡ refuses NoTarget)
+    × (made (codes "dict_remove env B") All (rule (env (entry_b ∷ []) ∷ []) ∷ y (argument_of (codes "env") (list_of []) ∷ []) ∷ []) ≡ refuses NotADict)
 
 abbrev pub WorkedDicts : Type 0
 WorkedDicts = EntriesAdded × EntriesSet × EntriesRemoved
@@ -451,10 +403,10 @@ both = record { before = codes "# c" ∷ []; suffix = Some (codes "#  s") }
 
 -- f(name = "x", ..) and size = "small" with comments
 abbrev x_noted : HostComments → List Expr → Item
-x_noted comments arguments = commented_statement comments (call (name (codes "f")) (argument_expr (codes "name") (string_expr (codes "x")) ∷ arguments))
+x_noted comments arguments = commented_statement comments (call (name (codes "f")) (argument_of (codes "name") (string_expr (codes "x")) ∷ arguments))
 
 abbrev size_noted : HostComments → Expr
-size_noted comments = commented_form comments k.Named (name (codes "size") ∷ mark (codes "=") ∷ string_expr (codes "small") ∷ []) []
+size_noted comments = commented_form comments k.Named (name (codes "size") ∷ mark (codes "=") ∷ string_expr (codes "small") ∷ [])
 
 abbrev CommentsAdded : Type 0
 CommentsAdded =
@@ -467,13 +419,9 @@ CommentsAdded =
     -- It is above an attribute, or above the first item that means the value.
     × (done (codes "comment size c") (size_noted no_comments ∷ []) ≡ leaves (size_noted c_above ∷ []))
     × (done (codes "comment deps :a c") (deps (b ∷ a_noted no_comments ∷ a_noted no_comments ∷ []) ∷ []) ≡ leaves (deps (b ∷ a_noted c_above ∷ a_noted no_comments ∷ []) ∷ []))
-    × (done (codes "comment deps //p:a c") (deps (a_noted no_comments ∷ []) ∷ []) ≡ leaves (deps (a_noted c_above ∷ []) ∷ []))
-    -- The attribute is absent, or the item; the value is no list; no rule is meant.
-    × (done (codes "comment size c") (deps [] ∷ []) ≡ refuses NoAttribute)
+    -- The item is absent; the value is no list.
     × (done (codes "comment deps :b c") (deps (a_noted no_comments ∷ []) ∷ []) ≡ refuses NoAttribute)
-    × (done (codes "comment deps :a c") (size_noted no_comments ∷ []) ≡ refuses NoAttribute)
     × (done (codes "comment size small c") (size_noted no_comments ∷ []) ≡ refuses NotAList)
-    × (made (codes "comment c") (Name (codes "z")) (rule [] ∷ []) ≡ refuses NoTarget)
 
 abbrev CommentsRemoved : Type 0
 CommentsRemoved =
@@ -481,64 +429,46 @@ CommentsRemoved =
     (made (codes "remove_comment") (Name (codes "x")) (block ∷ x_noted both (size_noted both ∷ []) ∷ []) ≡ gives (block ∷ x_noted no_comments (size_noted both ∷ []) ∷ []))
     × (made (codes "remove_comment size") (Name (codes "x")) (x_noted both (size_noted both ∷ []) ∷ []) ≡ gives (x_noted both (size_noted no_comments ∷ []) ∷ []))
     × (done (codes "remove_comment deps a") (deps (a_noted both ∷ a_noted both ∷ []) ∷ []) ≡ leaves (deps (a_noted no_comments ∷ a_noted both ∷ []) ∷ []))
-    -- There are none.
-    × (done (codes "remove_comment") (size_noted both ∷ []) ≡ leaves (size_noted both ∷ []))
+    -- The attribute is absent; the value is no list.
     × (done (codes "remove_comment size") (deps [] ∷ []) ≡ refuses NoAttribute)
-    × (done (codes "remove_comment deps :b") (deps (a_noted both ∷ []) ∷ []) ≡ refuses NoAttribute)
     × (done (codes "remove_comment size small") (size_noted both ∷ []) ≡ refuses NotAList)
-    × (made (codes "remove_comment") (Name (codes "z")) (rule [] ∷ []) ≡ refuses NoTarget)
 
 abbrev CommentsPrinted : Type 0
 CommentsPrinted =
     let noted : Item = y (size_noted c_above ∷ []) in
     -- One comment a line, without the sign and one space after it.
-    (shown (codes "print_comment") (Name (codes "x")) (x_noted both [] ∷ []) ≡ shows_text (codes "c\n s\n"))
-    × (shown (codes "print_comment size") (Name (codes "x")) (x_noted both (size_noted c_above ∷ []) ∷ []) ≡ shows_text (codes "c\n"))
-    × (shown (codes "print_comment deps :a") (Name (codes "x")) (x_noted both (deps (a_noted both ∷ []) ∷ []) ∷ []) ≡ shows_text (codes "c\n s\n"))
+    (shown (codes "print_comment") (Name (codes "x")) (x_noted both [] ∷ []) ≡ gives (codes "c\n s\n"))
+    × (shown (codes "print_comment deps :a") (Name (codes "x")) (x_noted both (deps (a_noted both ∷ []) ∷ []) ∷ []) ≡ gives (codes "c\n s\n"))
     -- Of all rules in their order; one without comments prints nothing.
-    × (shown (codes "print_comment size") All (x_noted both (size_noted both ∷ []) ∷ block ∷ noted ∷ []) ≡ shows_text (codes "c\n s\nc\n"))
-    × (shown (codes "print_comment") All (x_noted both [] ∷ block ∷ noted ∷ []) ≡ shows_text (codes "c\n s\n"))
+    × (shown (codes "print_comment size") All (x_noted both (size_noted both ∷ []) ∷ block ∷ noted ∷ []) ≡ gives (codes "c\n s\nc\n"))
     -- The file stays.
     × (made (codes "print_comment") All (x_noted both [] ∷ block ∷ noted ∷ []) ≡ gives (x_noted both [] ∷ block ∷ noted ∷ []))
     -- The first rule that refuses decides, for what is printed and for the file.
     × (shown (codes "print_comment size") All (noted ∷ x_noted both [] ∷ []) ≡ refuses NoAttribute)
     × (made (codes "print_comment size") All (noted ∷ x_noted both [] ∷ []) ≡ refuses NoAttribute)
-    × (done (codes "print_comment deps :b") (deps (a_noted both ∷ []) ∷ []) ≡ refuses NoAttribute)
     × (done (codes "print_comment size small") (size_noted both ∷ []) ≡ refuses NotAList)
-    -- No rule is meant: the command is refused, and nothing is printed.
-    × (made (codes "print_comment") (Name (codes "z")) (rule [] ∷ []) ≡ refuses NoTarget)
-    × (shown (codes "print_comment") (Name (codes "z")) (rule [] ∷ []) ≡ shows_text [])
 
 abbrev pub WorkedCommentCommands : Type 0
 WorkedCommentCommands = CommentsAdded × CommentsRemoved × CommentsPrinted
 
 -- ---- symbols that are loaded, and what `fix` mends; both commands look at no rule that the target means
 
-abbrev load : List Expr → Item
-load items = i.Stmt (form k.Load (token_expr c.Keyword (codes "load") ∷ []) items)
-
--- load("//:d.bzl", ..) and load("//:e.bzl", ..)
+-- load("//:d.bzl", ..)
 abbrev load_d : List Expr → Item
 load_d symbols = load (string_expr (codes "//:d.bzl") ∷ symbols)
 
-abbrev load_e : List Expr → Item
-load_e symbols = load (string_expr (codes "//:e.bzl") ∷ symbols)
-
 -- TO = "FROM"
 abbrev alias : Bytes → Bytes → Expr
-alias to from = form k.Alias (name to ∷ mark (codes "=") ∷ string_expr from ∷ []) []
+alias to from = binary k.Alias (name to) (codes "=") (string_expr from)
 
 abbrev NewLoads : Type 0
 NewLoads =
     let a : Expr = string_expr (codes "a") in
     let raw : Item = load (literal (codes "r\"//:d.bzl\"") ∷ a ∷ []) in
-    -- A new load goes after the comments at the top of the file, or after the last load.
+    -- A new load goes after the comments at the top of the file.
     (made (codes "new_load //:d.bzl a b=c") All (block ∷ x ∷ []) ≡ gives (block ∷ load_d (a ∷ alias (codes "b") (codes "c") ∷ []) ∷ x ∷ []))
-    × (made (codes "new_load //:d.bzl a") (Name (codes "z")) (load_e [] ∷ x ∷ load_e (a ∷ []) ∷ x ∷ []) ≡ gives (load_e [] ∷ x ∷ load_e (a ∷ []) ∷ load_d (a ∷ []) ∷ x ∷ []))
-    × (made (codes "new_load //:d.bzl a") (Name (codes "z")) [] ≡ gives (load_d (a ∷ []) ∷ []))
-    -- A further symbol goes to the end of the first load of the path; one that is loaded by that name is passed over.
+    -- A further symbol goes to the end of the first load of the path.
     × (made (codes "new_load //:d.bzl a b") All (load_d (a ∷ []) ∷ x ∷ load_d [] ∷ []) ≡ gives (load_d (a ∷ string_expr (codes "b") ∷ []) ∷ x ∷ load_d [] ∷ []))
-    × (made (codes "new_load //:d.bzl a") All (load_d [] ∷ load_d (a ∷ []) ∷ x ∷ []) ≡ gives (load_d [] ∷ load_d (a ∷ []) ∷ x ∷ []))
     -- By another name it is loaded once more.
     × (made (codes "new_load //:d.bzl b=a") All (load_d (a ∷ []) ∷ []) ≡ gives (load_d (a ∷ alias (codes "b") (codes "a") ∷ []) ∷ []))
     -- A raw string is no path.
@@ -548,18 +478,15 @@ abbrev Fixes : Type 0
 Fixes =
     let f : Expr = string_expr (codes "f") in
     let a : Expr = string_expr (codes "a") in
-    let noted : Expr = commented_token (comments_above (codes "# c" ∷ [])) c.String (between_marks (codes "a")) in
+    let noted : Expr = commented_token c_above c.String (between_marks (codes "a")) in
     -- The rule x uses the symbol f alone.
     (made (codes "fix unusedLoads") All (load_d (a ∷ f ∷ alias (codes "b") (codes "f") ∷ []) ∷ x ∷ settings ∷ []) ≡ gives (load_d (f ∷ []) ∷ x ∷ settings ∷ []))
-    -- A load goes with its last symbol, and a symbol with a comment stays.
-    × (made (codes "fix unusedLoads") All (load_d (a ∷ []) ∷ load_e (f ∷ []) ∷ x ∷ []) ≡ gives (load_e (f ∷ []) ∷ x ∷ []))
+    -- A symbol with a comment stays.
     × (made (codes "fix unusedLoads") (Name (codes "z")) (load_d (noted ∷ a ∷ []) ∷ x ∷ []) ≡ gives (load_d (noted ∷ []) ∷ x ∷ []))
-    -- The package goes right after the last load, or after the comments at the top of the file.
-    × (made (codes "fix movePackageToTop") All (load_d (a ∷ []) ∷ x ∷ block ∷ settings ∷ []) ≡ gives (load_d (a ∷ []) ∷ settings ∷ x ∷ block ∷ []))
+    -- The package goes after the comments at the top of the file.
     × (made (codes "fix movePackageToTop") All (block ∷ x ∷ settings ∷ []) ≡ gives (block ∷ settings ∷ x ∷ []))
     -- Both are mended where none is named, the place of the package first.
     × (made (codes "fix") All (settings ∷ load_d (a ∷ []) ∷ x ∷ []) ≡ gives (settings ∷ x ∷ []))
-    × (made (codes "fix movePackageToTop unusedLoads") All (load_e (f ∷ a ∷ []) ∷ x ∷ settings ∷ []) ≡ gives (load_e (f ∷ []) ∷ settings ∷ x ∷ []))
     -- There is nothing to mend.
     × (made (codes "fix") (Name (codes "z")) (x ∷ block ∷ []) ≡ gives (x ∷ block ∷ []))
 
@@ -572,48 +499,46 @@ abbrev Fields : Type 0
 Fields =
     let quoted : Expr = size (literal (codes "'small'")) in
     -- Fields are on one line in the order in which they are named. A string has no quotation marks, a list of strings has brackets.
-    (shown (codes "print name kind deps") (Name (codes "x")) (rule (deps_of (codes ":a" ∷ codes ":b" ∷ []) ∷ []) ∷ []) ≡ shows_text (codes "x f [:a :b]\n"))
-    × (shown (codes "print size name size") (Name (codes "x")) (rule (quoted ∷ []) ∷ []) ≡ shows_text (codes "small x small\n"))
+    (shown (codes "print name kind deps") (Name (codes "x")) (rule (deps_of (codes ":a" ∷ codes ":b" ∷ []) ∷ []) ∷ []) ≡ gives (codes "x f [:a :b]\n"))
+    × (shown (codes "print size name size") (Name (codes "x")) (rule (quoted ∷ []) ∷ []) ≡ gives (codes "small x small\n"))
     -- Any other value is as it is laid out.
-    × (shown (codes "print shard_count srcs") (Name (codes "x")) (rule (shards ∷ argument_expr (codes "srcs") choice ∷ []) ∷ []) ≡ shows_text (codes "5 select(C)\n"))
+    × (shown (codes "print shard_count srcs") (Name (codes "x")) (rule (shards ∷ argument_of (codes "srcs") choice ∷ []) ∷ []) ≡ gives (codes "5 select(C)\n"))
     -- The attribute is absent.
-    × (shown (codes "print size kind") All (x ∷ rule (quoted ∷ []) ∷ []) ≡ shows_text (codes "(missing) f\nsmall f\n"))
+    × (shown (codes "print size kind") All (x ∷ rule (quoted ∷ []) ∷ []) ≡ gives (codes "(missing) f\nsmall f\n"))
     -- Without a field the name and the kind.
-    × (shown (codes "print") All (x ∷ block ∷ y [] ∷ settings ∷ []) ≡ shows_text (codes "x f\ny g\n(missing) package\n"))
+    × (shown (codes "print") All (x ∷ block ∷ y [] ∷ settings ∷ []) ≡ gives (codes "x f\ny g\n(missing) package\n"))
     -- The rule, with its comments.
-    × (shown (codes "print rule") All (commented_statement (comments_above (codes "# c" ∷ [])) (call (name (codes "h")) []) ∷ rule (quoted ∷ []) ∷ [])
-    ≡ shows_text (codes "# c\nh()\nf(\n    name = \"x\",\n    size = 'small',\n)\n"))
+    × (shown (codes "print rule") All (commented_statement c_above (call (name (codes "h")) []) ∷ rule (quoted ∷ []) ∷ [])
+    ≡ gives (codes "# c\nh()\nf(\n    name = \"x\",\n    size = 'small',\n)\n"))
 
 abbrev Lines : Type 0
 Lines =
     let plain : Item = statement_item (string_expr (codes "x")) in
     -- Statements begin on lines 1, 2 and 3 here; a comment on its own counts as none of them, a plain string as one.
-    (shown (codes "print startline name") All (x ∷ block ∷ y [] ∷ []) ≡ shows_text (codes "1 x\n2 y\n"))
-    × (shown (codes "print startline name") All (plain ∷ block ∷ x ∷ plain ∷ []) ≡ shows_text (codes "2 x\n"))
+    (shown (codes "print startline name") All (x ∷ block ∷ y [] ∷ []) ≡ gives (codes "1 x\n2 y\n"))
+    × (shown (codes "print startline name") All (plain ∷ block ∷ x ∷ plain ∷ []) ≡ gives (codes "2 x\n"))
     -- Of a fourth one no line is known.
-    × (shown (codes "print startline") (Name (codes "y")) (x ∷ x ∷ x ∷ y [] ∷ []) ≡ shows_text (codes "(missing)\n"))
+    × (shown (codes "print startline") (Name (codes "y")) (x ∷ x ∷ x ∷ y [] ∷ []) ≡ gives (codes "(missing)\n"))
     -- The rule on a line, where a rule is there.
-    × (shown (codes "print name") (Line 2) (x ∷ block ∷ y [] ∷ []) ≡ shows_text (codes "y\n"))
+    × (shown (codes "print name") (Line 2) (x ∷ block ∷ y [] ∷ []) ≡ gives (codes "y\n"))
     × (made (codes "print name") (Line 1) (plain ∷ x ∷ []) ≡ refuses NoTarget)
 
 abbrev Targets : Type 0
 Targets =
     -- The rules of a kind, of a name, and the first package.
-    (shown (codes "print name") (Kind (codes "g")) (x ∷ y [] ∷ settings ∷ y [] ∷ []) ≡ shows_text (codes "y\ny\n"))
-    × (shown (codes "print kind") (Name (codes "x")) (y [] ∷ rule_of_kind (codes "h") (codes "x") [] ∷ x ∷ []) ≡ shows_text (codes "h\nf\n"))
-    × (shown (codes "print kind name") Package (x ∷ settings ∷ settings ∷ []) ≡ shows_text (codes "package (missing)\n"))
+    (shown (codes "print name") (Kind (codes "g")) (x ∷ y [] ∷ settings ∷ y [] ∷ []) ≡ gives (codes "y\ny\n"))
+    × (shown (codes "print kind") (Name (codes "x")) (y [] ∷ rule_of_kind (codes "h") (codes "x") [] ∷ x ∷ []) ≡ gives (codes "h\nf\n"))
+    × (shown (codes "print kind name") Package (x ∷ settings ∷ settings ∷ []) ≡ gives (codes "package (missing)\n"))
     -- The file stays.
     × (made (codes "print") All (x ∷ block ∷ y [] ∷ []) ≡ gives (x ∷ block ∷ y [] ∷ []))
     -- No rule is meant: nothing is printed, and the command is refused where it names one.
-    × (shown (codes "print") (Name (codes "z")) (x ∷ []) ≡ shows_text [])
+    × (shown (codes "print") (Name (codes "z")) (x ∷ []) ≡ gives [])
     × (made (codes "print") (Name (codes "z")) (x ∷ []) ≡ refuses NoTarget)
-    × (made (codes "print") Package (x ∷ []) ≡ refuses NoTarget)
-    × (shown (codes "print") All (block ∷ []) ≡ shows_text [])
+    × (shown (codes "print") All (block ∷ []) ≡ gives [])
     × (made (codes "print") All (block ∷ []) ≡ gives (block ∷ []))
-    × (made (codes "print") (Kind (codes "h")) (x ∷ []) ≡ gives (x ∷ []))
     -- Every other command prints nothing.
-    × (shown (codes "delete") All (x ∷ y [] ∷ []) ≡ shows_text [])
-    × (shown (codes "comment c") (Name (codes "x")) (x ∷ []) ≡ shows_text [])
+    × (shown (codes "delete") All (x ∷ y [] ∷ []) ≡ gives [])
+    × (shown (codes "comment c") (Name (codes "x")) (x ∷ []) ≡ gives [])
 
 abbrev pub WorkedPrintCommands : Type 0
 WorkedPrintCommands = Fields × Lines × Targets

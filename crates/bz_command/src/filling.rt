@@ -5,12 +5,10 @@ ghost use Rattle.bz_grammar.specs.Spell.{limit};
 ghost use Rattle.bz_items.specs.Characters.{Bytes};
 ghost use Rattle.bz_comment.specs.Hosts.{comment_made};
 ghost use Rattle.bz_command.specs.Effect.{effect, on_meant, meant};
-ghost use Rattle.bz_command.specs.Overfull.{IsOverfilling, IsRefusing, Overfills, commented, marked_rules};
+ghost use Rattle.bz_command.specs.Overfull.{Overfills, commented, marked_rules};
 
-use crate::printing::arguments_of;
-use crate::proper_laws::effects_stay_proper;
-use crate::running::is_any;
-use crate::targets::{is_rule, meant};
+use crate::laws::effects_stay_proper;
+use crate::targets::{arguments_of, is_any, is_rule, meant};
 use bz_command_syntax::{Command, CommentOperation, Host, Operation};
 use bz_comment::{comment_made, find_host};
 use bz_grammar::LENGTH_LIMIT;
@@ -84,28 +82,6 @@ fn find_in_all(current: &[u8], host: &Host, marks: &[bool], items: &[Item]) -> R
     Ok(())
 }
 
-/// Whether a comment on the rules that a target means is past the limit by its copies; the error is that of the first that refuses it.
-fn comment_overfills(
-    alloc: Global,
-    host: &Host,
-    text: &[u8],
-    target: &Target,
-    current: &[u8],
-    lines: &[u32],
-    items: &[Item],
-) -> Result<bool, Refusal>
-    ensures ok { IfOk result (λ over. IsTrue over → IsOverfilling host.now text.now target.now current.now lines.now items.now) }
-    ensures err { IfErr result (λ refusal. IsRefusing host.now text.now target.now current.now lines.now items.now refusal ⊎ (refusal ≡ Refusal.Memory)) }
-{
-    let marks = meant(alloc, &target.which, lines, items)?;
-    let marked = marks.as_slice();
-    if !is_any(marked) || !are_copies_past(alloc, text, marked, items)? {
-        return Ok(false);
-    }
-    find_in_all(current, host, marked, items)?;
-    Ok(true)
-}
-
 /// Whether what a command makes of a file is past the limit of a text by the comments alone that it puts in: then it need not be
 /// made. `false` says nothing. `current` is the path of the file's package, `lines` the lines on which its statements begin, from 1.
 /// Errors: the effect's refusal; `Memory`: a growth was refused.
@@ -122,22 +98,20 @@ pub fn overfills(
 {
     effects_stay_proper();
     let items = file.items.as_slice();
-    match &command.operation {
-        Operation::Comment(comment) => match comment {
-            CommentOperation::Add { host, text } => {
-                // If each item had the comment the copies would not be past the limit.
-                if !are_past(items.len(), text.len().saturating_add(2)) {
-                    return Ok(false);
-                }
-                comment_overfills(alloc, host, text.as_slice(), target, current, lines, items)
-            }
-            CommentOperation::Print { .. } | CommentOperation::Remove { .. } => Ok(false),
-        },
-        Operation::Rule(_)
-        | Operation::Attribute(_)
-        | Operation::Value(_)
-        | Operation::Dict(_)
-        | Operation::Load(_)
-        | Operation::Print { .. } => Ok(false),
+    let Operation::Comment(CommentOperation::Add { host, text }) = &command.operation else {
+        return Ok(false);
+    };
+    // If each item had the comment the copies would not be past the limit.
+    if !are_past(items.len(), text.len().saturating_add(2)) {
+        return Ok(false);
+    }
+    let marks = meant(alloc, &target.which, lines, items)?;
+    let marked = marks.as_slice();
+    if !is_any(marked) || !are_copies_past(alloc, text.as_slice(), marked, items)? {
+        return Ok(false);
+    }
+    match find_in_all(current, host, marked, items) {
+        Ok(()) => Ok(true),
+        Err(refusal) => Err(refusal),
     }
 }

@@ -1,5 +1,5 @@
 //! Facts about the definitions, for readers: the functions do nothing.
-ghost use Rattle.bz_command.specs.Laws.{CommentsStay};
+ghost use Rattle.bz_command.specs.Laws.{CommentsStay, EffectsStayProper, LinesMatter};
 ghost use Rattle.bz_command.specs.Table.{CommandsAreListed};
 ghost use Rattle.bz_command.specs.Worked.{WorkedAttributes, WorkedCommentCommands, WorkedDicts, WorkedEffects, WorkedLoadCommands, WorkedPrintCommands, WorkedRules, WorkedSubstitutes, WorkedValues};
 
@@ -18,6 +18,17 @@ pub fn worked_command_effects()
     ensures loads { WorkedLoadCommands }
     ensures comments { WorkedCommentCommands }
     ensures prints { WorkedPrintCommands }
+{}
+
+/// What a command that was read makes of a proper file value is a proper file value.
+#[tactic(auto, using(crate::proofs::ProperEffects::effects_stay_proper))]
+pub fn effects_stay_proper()
+    ensures { EffectsStayProper }
+{}
+
+/// To a command that doesn't look at lines they may be any.
+pub fn lines_matter()
+    ensures { LinesMatter }
 {}
 
 /// Commands that take nothing away lose no comment.

@@ -1,44 +1,17 @@
-//! What commands print of the rules that they are meant for.
-ghost use Rattle.std.specs.Prelude.{◌≡◌, ◌⊎◌, [], Ok, Err, OnOk, IfOk, IfErr, decimal, length, option_map};
-ghost use Rattle.std.specs.Option.{option_map_or};
-ghost use Rattle.bz_rule.specs.Rules.{rule_of};
-ghost use Rattle.bz_command.specs.Effect.{before_rest, item_line, lines_after_item, printed_comments_of, printed_one, printed_rules};
+//! What commands print of the rules that they are meant for, and which commands depend on the lines on which statements begin.
+ghost use Rattle.std.specs.Prelude.{◌≡◌, ◌⊎◌, Ok, Err, OnOk, IfOk, IfErr, decimal, length, option_map};
+ghost use Rattle.std.specs.List.{list_any};
+ghost use Rattle.bz_command.specs.Effect.{before_rest, printed_comments_of, printed_one, printed_rules};
+ghost use Rattle.bz_command.specs.Laws.{is_by_line, looks_at_lines, prints_line, prints_lines};
 
-use crate::targets::is_rule;
-use bz_command_syntax::{CommentOperation, Host, Operation};
+use crate::targets::{arguments_of, line_at};
+use bz_command_syntax::{Command, CommentOperation, Field, Host, Operation};
 use bz_comment::print_comments;
 use bz_fields::push_rule;
 use bz_items::Text;
-use bz_rule::call_of;
-use bz_value::{Expr, Item, Refusal};
+use bz_label::{Target, Which};
+use bz_value::{Item, Refusal};
 use std::alloc::Global;
-
-/// The line on which an item begins, where it is on one, and the lines of the statements after it.
-fn line_at<'a>(lines: &'a [u32], item: &Item) -> (Option<u32>, &'a [u32])
-    ensures line { result.0 ≡ item_line lines.entry.now item.now }
-    ensures following { result.1.now ≡ lines_after_item lines.entry.now item.now }
-{
-    match item {
-        Item::Block(_) => (None, lines),
-        Item::Stmt(_) => match lines.split_first() {
-            Some((line, following)) => (Some(*line), following),
-            None => (None, lines),
-        },
-    }
-}
-
-/// The arguments of a rule; of any other item none.
-pub(crate) fn arguments_of(item: &Item) -> &[Expr]
-    ensures { result.now ≡ option_map_or (λ rule. rule.arguments) (rule_of item.now) [] }
-{
-    if !is_rule(item) {
-        return &[];
-    }
-    match call_of(item) {
-        Some(call) => call.arguments,
-        None => &[],
-    }
-}
 
 /// The comments of a host in a rule.
 fn print_host(alloc: Global, current: &[u8], host: &Host, item: &Item) -> Result<Text, Refusal>
@@ -102,4 +75,42 @@ pub(crate) fn print_rules(
         left = following;
     }
     Ok(Text::from_vec(all))
+}
+
+/// Whether a target names a line.
+fn is_by_line(which: &Which) -> bool
+    ensures { result ≡ is_by_line which.now }
+{
+    matches!(which, Which::Line(_))
+}
+
+/// Whether a field is the line on which the rule begins.
+fn prints_line(field: &Field) -> bool
+    ensures { result ≡ prints_line field.now }
+{
+    matches!(field, Field::StartLine)
+}
+
+/// Whether one of the fields is.
+fn any_prints_line(fields: &[Field]) -> bool
+    ensures { result ≡ list_any prints_line fields.now }
+{
+    fields.iter().any(|field| prints_line(field))
+}
+
+/// Whether an operation prints such a field.
+fn prints_lines(operation: &Operation) -> bool
+    ensures { result ≡ prints_lines operation.now }
+{
+    match operation {
+        Operation::Print { fields } => any_prints_line(fields.as_slice()),
+        _ => false,
+    }
+}
+
+/// Whether a command on a target depends on the lines on which statements begin.
+pub fn looks_at_lines(command: &Command, target: &Target) -> bool
+    ensures { result ≡ looks_at_lines command.now target.now }
+{
+    prints_lines(&command.operation) || is_by_line(&target.which)
 }

@@ -1,30 +1,126 @@
-//! What a command makes of the items of a file: of the rules that are marked, with a new rule, and of loads. Items that stay are
-//! moved.
-ghost use Rattle.std.specs.Prelude.{◌≡◌, ◌⊎◌, ◌↔◌, ◌≤◌, ◌<◌, ◌∷◌, ◌++◌, ◌+◌, Bool, List, true, false, not, length, take, drop, vec_len, MatchOption, Ok, Err, OnOk, IsTrue, IfOk, IfErr, if◌then◌else◌};
-ghost use Rattle.std.specs.List.{list_any};
+//! What a command makes of the items of a file: of the rules that are marked, with a new rule, without some, and of loads. Items
+//! that stay are moved.
+ghost use Rattle.std.specs.Prelude.{◌≡◌, ◌⊎◌, ◌↔◌, ◌≤◌, ◌<◌, ◌∷◌, ◌++◌, ◌+◌, ℕ, Bool, List, false, length, take, drop, get_or, Ok, Err, OnOk, IsTrue, IfOk, IfErr, IfSome, if◌then◌else◌};
+ghost use Rattle.std.specs.List.{insert, list_any, position};
 ghost use Rattle.std.specs.Option.{option_copied};
 ghost use Rattle.bz_value.specs.declared.value.Item.{Item};
 ghost use Rattle.bz_value.specs.Exchanged.{IsSpliced};
 ghost use Rattle.bz_rule.specs.Rules.{has_name};
-ghost use Rattle.bz_load.specs.Fixes.{fix};
 ghost use Rattle.bz_load.specs.NewLoad.{new_load};
-ghost use Rattle.bz_command.specs.Effect.{before_first, after_rule, has_rule_place, loads_changed, on_each, on_meant, on_rules, placed, source_of, with_rule};
+ghost use Rattle.bz_command.specs.Effect.{loads_changed, on_each, on_meant, on_rules, new_rule_place, source_of, unmarked, with_rule};
 ghost use Rattle.bz_command.specs.private.Looks.{made_by, one_made_by};
-ghost use Rattle.bz_command.specs.Renewed.{IsOfExtent, are_bare};
+ghost use Rattle.bz_command.specs.Renewed.{IsOfExtent};
 
-use crate::deleting::delete;
-use crate::outcome::{Changed, Extent, Spliced};
-use crate::renewing::{are_bare, extent_of};
+use crate::outcome::{Changed, Extent, Spliced, are_bare, extent_of};
 use crate::statements::{Work, on_one, source};
 use bz_attribute::rule_made;
 use bz_command_syntax::{
-    AttributeOperation, Fixes, LoadOperation, Operation, RuleOperation, RulePlace, Symbol,
+    AttributeOperation, LoadOperation, Operation, RuleOperation, RulePlace, Symbol,
 };
 use bz_items::{Items, Memory};
 use bz_load::{WithLoad, fix, new_load};
 use bz_rule::has_name;
 use bz_value::{Expr, Item, Refusal};
 use std::alloc::Global;
+
+/// Moves an item after the first `kept`, unless it is marked. How many are kept then.
+#[tactic(auto, using(crate::proofs::RunningItems::one_kept, crate::proofs::RunningItems::one_passed))]
+fn keep(mark: bool, kept: usize, at: usize, items: &mut [Item]) -> usize
+    requires there { (kept ≤ at) × (at < length items.old) }
+    ensures within { result ≤ at + 1 }
+    ensures count { length items.new ≡ length items.old }
+    ensures stay { (marks : List Bool) → take result items.new ++ unmarked marks (drop (at + 1) items.new) ≡ take kept items.old ++ unmarked (mark ∷ marks) (drop at items.old) }
+{
+    if mark {
+        return kept;
+    }
+    items.swap(kept, at);
+    kept + 1
+}
+
+/// Moves the items without a mark to the front, in their order. How many they are.
+fn keep_unmarked(marks: &[bool], items: &mut [Item]) -> usize
+    requires { length marks.now ≡ length items.old }
+    ensures count { length items.new ≡ length items.old }
+    ensures stay { take result items.new ≡ unmarked marks.now items.old }
+{
+    let mut kept = 0;
+    for at in 0..items.len() {
+        kept = keep(marks[at], kept, at, items);
+    }
+    kept
+}
+
+/// The items without a mark, in their order.
+fn unmarked(marks: &[bool], items: Items<Item>) -> Items<Item>
+    requires { length marks.now ≡ length items }
+    ensures { result ≡ unmarked marks.now items }
+{
+    let mut all = items.into_vec();
+    let kept = keep_unmarked(marks, all.as_mut_slice());
+    all.truncate(kept);
+    Items::from_vec(all)
+}
+
+/// Before the first how many items no mark is set.
+fn count_to_first(marks: &[bool]) -> usize
+    ensures within { result ≤ length marks.now }
+    ensures unset { (k : ℕ) → k < result → get_or marks.now k false ≡ false }
+{
+    for at in 0..marks.len() {
+        if marks[at] {
+            return at;
+        }
+    }
+    marks.len()
+}
+
+/// How many items there are up to the last one that is marked; none where no mark is set.
+fn count_to_last(marks: &[bool]) -> usize
+    ensures within { result ≤ length marks.now }
+    ensures unset { (k : ℕ) → result ≤ k → k < length marks.now → get_or marks.now k false ≡ false }
+{
+    let mut count = marks.len();
+    while count > 0 && !marks[count - 1] {
+        count -= 1;
+    }
+    count
+}
+
+/// The items from the first marked one to the last, and how many of them are left once the marked ones are taken out, where `left`
+/// is how many are left of all. Any where no mark is set.
+fn window(marks: &[bool], left: usize) -> Extent
+    ensures { (items : List Item) → length marks.now ≡ length items → left ≡ length (unmarked marks.now items) → IsOfExtent result marks.now items (unmarked marks.now items) }
+{
+    let from = count_to_first(marks);
+    let last = count_to_last(marks);
+    if last <= from {
+        return Extent::Whole;
+    }
+    let others = from + (marks.len() - last);
+    Extent::Spliced(Spliced {
+        from,
+        gone: last - from,
+        come: left.saturating_sub(others),
+    })
+}
+
+/// The items without a mark; they are the same where as many are left.
+#[tactic(auto, using(crate::proofs::RunningItems::all_kept))]
+fn delete(marks: &[bool], items: Items<Item>) -> Changed
+    requires { length marks.now ≡ length items }
+    ensures items { result.items ≡ unmarked marks.now items }
+    ensures same { IsTrue result.same ↔ (result.items ≡ items) }
+    ensures extent { IsOfExtent result.extent marks.now items result.items }
+{
+    let count = items.len();
+    let items = unmarked(marks, items);
+    Changed {
+        same: items.len() == count,
+        extent: window(marks, items.len()),
+        items,
+    }
+}
 
 /// What an operation makes of an item where it is marked. Whether the item is the same then.
 #[tactic(auto, unfolding(crate::specs::private::Looks::one_made))]
@@ -62,29 +158,22 @@ fn on_meant(work: Work<'_>, marks: &[bool], items: &mut [Item]) -> Result<bool, 
 }
 
 /// The place of the first rule of this name.
+#[tactic(auto, using(crate::proofs::RunningItems::rule_within))]
 fn place_of_rule(name: &[u8], items: &[Item]) -> Option<usize>
-    ensures { MatchOption result (list_any (has_name name.now) items.now ≡ false)
-        (λ at. (at < length items.now) × (list_any (has_name name.now) items.now ≡ true)
-        × ((new : Item) → before_first name.now new items.now ≡ take at items.now ++ new ∷ drop at items.now)
-        × ((new : Item) → after_rule name.now new items.now ≡ take (at + 1) items.now ++ new ∷ drop (at + 1) items.now)) }
+    ensures place { result ≡ position (has_name name.now) items.now }
+    ensures within { IfSome result (λ at. at < length items.now) }
 {
-    for at in 0..items.len() {
-        if has_name(name, &items[at]) {
-            return Some(at);
-        }
-    }
-    None
+    items.iter().position(|item| has_name(name, item))
 }
 
 /// Where a new rule goes: after how many items. `None`: the rule beside which it goes isn't there.
+#[tactic(auto, using(crate::proofs::RunningItems::at_most))]
 fn place_of_new(place: &RulePlace, items: &[Item]) -> Option<usize>
-    ensures { MatchOption result (has_rule_place place.now items.now ≡ false)
-        (λ at. (at ≤ length items.now) × (has_rule_place place.now items.now ≡ true)
-        × ((new : Item) → placed place.now new items.now ≡ take at items.now ++ new ∷ drop at items.now)) }
+    ensures place { result ≡ new_rule_place place.now items.now }
+    ensures within { IfSome result (λ at. at ≤ length items.now) }
 {
-    let count = items.len();
     match place {
-        RulePlace::End => Some(count),
+        RulePlace::End => Some(items.len()),
         RulePlace::Before(rule) => place_of_rule(rule.as_slice(), items),
         RulePlace::After(rule) => match place_of_rule(rule.as_slice(), items) {
             Some(at) => Some(at + 1),
@@ -100,15 +189,6 @@ fn is_taken(name: &[u8], items: &[Item]) -> bool
     items.iter().any(|item| has_name(name, item))
 }
 
-/// Puts an item in front of the one at this place.
-fn put_at<T: Drop>(items: &mut Vec<T>, at: usize, item: T) -> Result<(), Memory>
-    requires { at ≤ vec_len items.old }
-    ensures { OnOk result (items.new.items ≡ take at items.old.items ++ item ∷ drop at items.old.items) }
-{
-    items.insert(at, item)?;
-    Ok(())
-}
-
 /// The extent of a change that takes `gone` items out after the first `from`, and puts `come` in.
 fn spliced(from: usize, gone: usize, come: usize) -> Extent
     ensures { (marks : List Bool) (old new : List Item) → IsSpliced from gone come old new → IsOfExtent result marks old new }
@@ -119,12 +199,12 @@ fn spliced(from: usize, gone: usize, come: usize) -> Extent
 /// The items with a new one at this place, so others than they were.
 fn with_item(at: usize, new: Item, items: Items<Item>) -> Result<Changed, Memory>
     requires { at ≤ length items }
-    ensures items { IfOk result (λ changed. changed.items ≡ take at items ++ new ∷ drop at items) }
+    ensures items { IfOk result (λ changed. changed.items ≡ insert items at new) }
     ensures same { IfOk result (λ changed. IsTrue changed.same ↔ (changed.items ≡ items)) }
     ensures extent { IfOk result (λ changed. (marks : List Bool) → IsOfExtent changed.extent marks items changed.items) }
 {
     let mut all = items.into_vec();
-    put_at(&mut all, at, new)?;
+    all.insert(at, new)?;
     Ok(Changed {
         items: Items::from_vec(all),
         same: false,
@@ -255,21 +335,6 @@ fn load_too(
     })
 }
 
-/// The items mended, which are dropped.
-fn mend(alloc: Global, fixes: Fixes, items: Items<Item>) -> Result<Changed, Memory>
-    ensures items { IfOk result (λ changed. changed.items ≡ fix fixes items) }
-    ensures same { IfOk result (λ changed. IsTrue changed.same ↔ (changed.items ≡ items)) }
-    ensures extent { IfOk result (λ changed. (marks : List Bool) → IsOfExtent changed.extent marks items changed.items) }
-{
-    let new = fix(alloc, fixes, items.as_slice())?;
-    let same = are_same(new.as_slice(), items.as_slice());
-    Ok(Changed {
-        items: new,
-        same,
-        extent: Extent::Whole,
-    })
-}
-
 /// What an operation on the symbols that the file loads makes of its items.
 fn change_loads(
     alloc: Global,
@@ -284,7 +349,14 @@ fn change_loads(
         LoadOperation::New { path, symbols } => {
             load_too(alloc, path.as_slice(), symbols.as_slice(), items)
         }
-        LoadOperation::Fix { fixes } => mend(alloc, *fixes, items),
+        LoadOperation::Fix { fixes } => {
+            let new = fix(alloc, *fixes, items.as_slice())?;
+            Ok(Changed {
+                same: are_same(new.as_slice(), items.as_slice()),
+                items: new,
+                extent: Extent::Whole,
+            })
+        }
     }
 }
 

@@ -7,11 +7,11 @@ ghost use Rattle.bz_command.specs.Effect.{may_mean_none, meant, effect, lacks_ru
 ghost use Rattle.bz_command.specs.private.Looks.{IsLook, IsMarked, effect_by, printed_for};
 ghost use Rattle.bz_command.specs.Renewed.{IsOfExtent};
 
+use crate::laws::effects_stay_proper;
 use crate::outcome::{Changed, Extent, Outcome, Ran};
 use crate::printing::print_rules;
-use crate::proper_laws::effects_stay_proper;
 use crate::ruling::on_rules;
-use crate::targets::{may_mean_none, meant, meant_by};
+use crate::targets::{is_any, meant, meant_by};
 use bz_command_syntax::{Command, Operation, RuleOperation};
 use bz_items::{Items, Text};
 use bz_label::{Target, Which};
@@ -26,20 +26,8 @@ fn looks_at_rules(operation: &Operation) -> bool
 {
     match operation {
         Operation::Rule(RuleOperation::New { .. }) | Operation::Load(_) => false,
-        Operation::Rule(RuleOperation::Delete | RuleOperation::SetKind { .. })
-        | Operation::Attribute(_)
-        | Operation::Value(_)
-        | Operation::Dict(_)
-        | Operation::Comment(_)
-        | Operation::Print { .. } => true,
+        _ => true,
     }
-}
-
-/// Whether an item is marked.
-pub(crate) fn is_any(marks: &[bool]) -> bool
-    ensures { result ≡ list_any (λ mark. mark) marks.now }
-{
-    marks.iter().any(|mark| *mark)
 }
 
 /// Whether an operation is meant for rules, and for none that is there.
@@ -54,10 +42,9 @@ fn on_none(which: &Which) -> Result<(), Refusal>
     ensures ok { IsOk result → may_mean_none which.now ≡ true }
     ensures err { IfErr result (λ refusal. (may_mean_none which.now ≡ false) × (refusal ≡ Refusal.NoTarget)) }
 {
-    if may_mean_none(which) {
-        Ok(())
-    } else {
-        Err(Refusal::NoTarget)
+    match which {
+        Which::All | Which::Kind(_) => Ok(()),
+        Which::Line(_) | Which::Package | Which::Name(_) => Err(Refusal::NoTarget),
     }
 }
 

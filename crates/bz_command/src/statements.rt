@@ -1,15 +1,14 @@
 //! What a command makes of one rule.
-ghost use Rattle.std.specs.Prelude.{◌≡◌, ◌⊎◌, [], ◌∷◌, Ok, Err, OnOk, IfErr};
+ghost use Rattle.std.specs.Prelude.{◌≡◌, ◌⊎◌, [], ◌∷◌, Ok, Err, OnOk, IfErr, if◌then◌else◌};
 ghost use Rattle.std.specs.Option.{option_copied};
-ghost use Rattle.bz_rule.specs.Rules.{rule_of};
 ghost use Rattle.bz_grammar.specs.declared.kind.Kind.TheVariants as k;
 ghost use Rattle.bz_rule.specs.Values.{on_first, on_row};
 ghost use Rattle.bz_comment.specs.Changes.{changed_by};
 ghost use Rattle.bz_command.specs.private.Looks.{with_list, with_list_in, before_in_call, before_in_row, before_in_statement, before_in, arguments_by, made_by};
 ghost use Rattle.bz_attribute.specs.Made.{function_of};
-ghost use Rattle.bz_command.specs.Effect.{on_arguments, on_host_of_item, on_one, on_statement, source, value_in, with_function};
+ghost use Rattle.bz_command.specs.Effect.{on_arguments, is_rule, on_host_of_item, on_one, on_statement, source, with_function};
 
-use crate::targets::is_rule;
+use crate::targets::{arguments_of, is_rule};
 use bz_attribute::function_of;
 use bz_change::change_attributes;
 use bz_command_syntax::{CommentOperation, Host, Operation, RuleOperation};
@@ -18,7 +17,7 @@ use bz_dict::change_dicts;
 use bz_grammar::Kind;
 use bz_items::{Items, Memory};
 use bz_list::change_values;
-use bz_rule::{attribute, call_of, has_name};
+use bz_rule::{attribute, has_name};
 use bz_value::{Expr, Item, Refusal};
 use std::alloc::Global;
 use std::mem;
@@ -144,6 +143,7 @@ fn change(work: Work<'_>, arguments: &mut Items<Expr>) -> Result<(), Refusal>
 }
 
 /// What an operation makes of a rule by changing its arguments; what is no rule stays.
+#[tactic(auto, using(crate::proofs::StatementRules::rule_changed))]
 fn change_rule(work: Work<'_>, item: &mut Item) -> Result<(), Refusal>
     ensures ok { OnOk result (on_arguments (arguments_by work.entry) item.old ≡ Ok item.new) }
     ensures err { IfErr result (λ refusal. (on_arguments (arguments_by work.entry) item.old ≡ Err refusal) ⊎ (refusal ≡ Refusal.Memory)) }
@@ -159,10 +159,13 @@ fn change_rule(work: Work<'_>, item: &mut Item) -> Result<(), Refusal>
     Ok(())
 }
 
-/// The rule's kind becomes this one.
+/// The rule's kind becomes this one; what is no rule stays.
 fn set_kind(alloc: Global, kind: &[u8], item: &mut Item) -> Result<(), Memory>
-    ensures { OnOk result (item.new ≡ with_function (function_of kind.now) item.old) }
+    ensures { OnOk result (item.new ≡ (if is_rule item.old then with_function (function_of kind.now) item.old else item.old)) }
 {
+    if !is_rule(item) {
+        return Ok(());
+    }
     let mut parts = Items::new(alloc);
     parts.push(function_of(alloc, kind)?)?;
     exchange(alloc, CallPart::Function, &mut parts, item);
@@ -220,26 +223,13 @@ pub(crate) fn on_one(work: Work<'_>, item: &mut Item) -> Result<(), Refusal>
     }
 }
 
-/// The value that an attribute has in this item, where it is a rule.
-fn value_in<'a>(name: &[u8], item: &'a Item) -> Option<&'a Expr>
-    ensures { option_copied result ≡ value_in name.now (rule_of item.now) }
-{
-    if !is_rule(item) {
-        return None;
-    }
-    match call_of(item) {
-        Some(call) => attribute(name, call.arguments),
-        None => None,
-    }
-}
-
 /// The value that an attribute has in the first rule of a name.
 pub(crate) fn source<'a>(name: &[u8], rule: &[u8], items: &'a [Item]) -> Option<&'a Expr>
     ensures { option_copied result ≡ source name.now rule.now items.now }
 {
     for item in items {
         if has_name(rule, item) {
-            return value_in(name, item);
+            return attribute(name, arguments_of(item));
         }
     }
     None

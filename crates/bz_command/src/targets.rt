@@ -1,14 +1,15 @@
 //! The rules that a target means.
-ghost use Rattle.std.specs.Prelude.{◌≡◌, ◌∷◌, List, IfOk, IfSome, length, map};
-ghost use Rattle.bz_value.specs.declared.value.Item.{Item};
-ghost use Rattle.bz_rule.specs.Rules.{is_rule_of_kind, has_name};
+ghost use Rattle.std.specs.Prelude.{◌≡◌, ◌&&◌, IfOk, IfSome, false, length, map, nat_eq};
+ghost use Rattle.std.specs.List.{list_any};
+ghost use Rattle.std.specs.Option.{option_map_or};
+ghost use Rattle.bz_rule.specs.Rules.{has_name, is_rule_of_kind};
 ghost use Rattle.bz_rule.specs.Index.{IsIndexOf};
-ghost use Rattle.bz_command.specs.Effect.{is_rule, on_line, first_mark, meant, may_mean_none};
+ghost use Rattle.bz_command.specs.Effect.{first_mark, is_rule, item_line, lines_after_item, meant, on_line, rule_arguments};
 
 use bz_items::Memory;
 use bz_label::Which;
 use bz_rule::{Names, call_of, has_name, is_named, is_rule_of_kind};
-use bz_value::Item;
+use bz_value::{Expr, Item};
 use std::alloc::Global;
 
 /// Whether the item is a rule.
@@ -19,6 +20,33 @@ pub(crate) fn is_rule(item: &Item) -> bool
     match call_of(item) {
         Some(call) => is_named(call.function),
         None => false,
+    }
+}
+
+/// The arguments of a rule; of any other item none.
+pub(crate) fn arguments_of(item: &Item) -> &[Expr]
+    ensures { result.now ≡ rule_arguments item.now }
+{
+    if !is_rule(item) {
+        return &[];
+    }
+    match call_of(item) {
+        Some(call) => call.arguments,
+        None => &[],
+    }
+}
+
+/// The line on which an item begins, where it is on one, and the lines of the statements after it.
+pub(crate) fn line_at<'a>(lines: &'a [u32], item: &Item) -> (Option<u32>, &'a [u32])
+    ensures line { result.0 ≡ item_line lines.entry.now item.now }
+    ensures following { result.1.now ≡ lines_after_item lines.entry.now item.now }
+{
+    match item {
+        Item::Block(_) => (None, lines),
+        Item::Stmt(_) => match lines.split_first() {
+            Some((line, following)) => (Some(*line), following),
+            None => (None, lines),
+        },
     }
 }
 
@@ -50,16 +78,13 @@ fn all_named(alloc: Global, name: &[u8], items: &[Item]) -> Result<Vec<bool>, Me
     items.iter().map(|item| has_name(name, item)).collect(alloc)
 }
 
-/// The mark of an item by the lines of the statements from it on, and the lines of those after it.
-fn mark_by_line<'a>(line: u32, lines: &'a [u32], item: &Item) -> (bool, &'a [u32])
-    ensures { (rest : List Item) → on_line line lines.entry.now (item.now ∷ rest) ≡ result.0 ∷ on_line line result.1.now rest }
+/// Whether an item that begins on this line, where it begins on one, is a rule on the other line.
+fn is_on_line(line: u32, begins: Option<u32>, item: &Item) -> bool
+    ensures { result ≡ (option_map_or (nat_eq line) begins false && is_rule item.now) }
 {
-    match item {
-        Item::Block(_) => (false, lines),
-        Item::Stmt(_) => match lines.split_first() {
-            Some((first, following)) => (*first == line && is_rule(item), following),
-            None => (false, lines),
-        },
+    match begins {
+        Some(first) => line == first && is_rule(item),
+        None => false,
     }
 }
 
@@ -70,8 +95,8 @@ fn all_on_line(alloc: Global, line: u32, lines: &[u32], items: &[Item]) -> Resul
     let mut marks = Vec::new(alloc);
     let mut left = lines;
     for item in items {
-        let (mark, following) = mark_by_line(line, left, item);
-        marks.push(mark)?;
+        let (begins, following) = line_at(left, item);
+        marks.push(is_on_line(line, begins, item))?;
         left = following;
     }
     Ok(marks)
@@ -130,21 +155,13 @@ pub(crate) fn meant_by(
     };
     match which {
         Which::Name(name) => index.marks(alloc, name.as_slice()),
-        Which::All | Which::Kind(_) | Which::Line(_) | Which::Package => {
-            meant(alloc, which, lines, items)
-        }
+        _ => meant(alloc, which, lines, items),
     }
 }
 
-/// Whether a command is unchanged, and not refused, where the target means no rule.
-pub(crate) fn may_mean_none(which: &Which) -> bool
-    ensures { result ≡ may_mean_none which.now }
+/// Whether an item is marked.
+pub(crate) fn is_any(marks: &[bool]) -> bool
+    ensures { result ≡ list_any (λ mark. mark) marks.now }
 {
-    match which {
-        Which::All => true,
-        Which::Kind(_) => true,
-        Which::Line(_) => false,
-        Which::Package => false,
-        Which::Name(_) => false,
-    }
+    marks.iter().any(|mark| *mark)
 }

@@ -6,7 +6,7 @@ use Rattle.bz_value.specs.declared.value.Expr.{Expr, Token, Form'}
 use Rattle.bz_value.specs.declared.refusal.Refusal.{Refusal}
 use Rattle.bz_value.specs.declared.refusal.Refusal.TheVariants.{NoAttribute, NotAList}
 use Rattle.bz_attribute.specs.Lists.{has_lists, items_in, is_item, listed}
-use Rattle.bz_comment.specs.declared.seeking.Sought.{Sought}
+use Rattle.bz_comment.specs.declared.hosts.Sought.{Sought}
 use Rattle.bz_comment.specs.Changes.{is_sought, item_refused, value_refused, changed_by, comments_made}
 use Rattle.bz_value.specs.Commented.{with_comments}
 use Rattle.bz_value.specs.Proper.{comments_of}

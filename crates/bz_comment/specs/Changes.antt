@@ -13,7 +13,7 @@ use Rattle.bz_attribute.specs.Attributes.{Arguments}
 use Rattle.bz_attribute.specs.Lists.{has_lists, items_in, is_item}
 use Rattle.bz_comment.specs.declared.changing.Change.{Change}
 use Rattle.bz_comment.specs.declared.changing.Change.TheVariants.{Add, Remove}
-use Rattle.bz_comment.specs.declared.seeking.Sought.{Sought}
+use Rattle.bz_comment.specs.declared.hosts.Sought.{Sought}
 use Rattle.bz_comment.specs.Hosts.{comment_made, with_comment, without_comments, on_host, on_named_item, comment, remove_comment}
 
 -- the change of an expression

@@ -1,14 +1,12 @@
 //! The comments of one expression, changed.
 ghost use Rattle.std.specs.Prelude.{◌≡◌, [], ◌∷◌, ◌++◌, IfOk, OnOk, IsErr};
 ghost use Rattle.std.specs.Option.{option_copied};
-ghost use Rattle.bz_token.specs.Bytes.{is_blank as blank};
 ghost use Rattle.bz_value.specs.Commented.{with_comments};
-ghost use Rattle.bz_value.specs.Gaps.{trimmed};
 ghost use Rattle.bz_comment.specs.Changes.{changed_by, comments_made};
 ghost use Rattle.bz_comment.specs.Hosts.{comment_made};
 
 use bz_items::{Items, Memory, Text};
-use bz_value::{Comments, Expr};
+use bz_value::{Comments, Expr, trim_end};
 use std::alloc::Global;
 
 /// What is done to comments.
@@ -18,24 +16,6 @@ pub enum Change<'a> {
     Add(&'a [u8]),
     /// All comments go: those above, and the one on the last line.
     Remove,
-}
-
-/// Whether the byte is a space, a tab or a carriage return.
-fn is_blank(byte: u8) -> bool
-    ensures { result ≡ blank byte }
-{
-    byte == b' ' || byte == b'\t' || byte == b'\r'
-}
-
-/// The text without spaces, tabs and carriage returns at its end.
-fn trim_end(text: &[u8]) -> &[u8]
-    ensures { result.now ≡ trimmed text.now }
-{
-    let mut end = text.len();
-    while end > 0 && is_blank(text[end - 1]) {
-        end -= 1;
-    }
-    &text[..end]
 }
 
 /// The comment that a text becomes. The error: memory was refused.

@@ -6,7 +6,6 @@ mod changing;
 mod hosts;
 mod laws;
 mod printing;
-mod seeking;
 
 pub use changing::{Change, change_own, comment_made};
 pub use hosts::{change_comments, find_host};

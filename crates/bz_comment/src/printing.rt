@@ -5,7 +5,7 @@ ghost use Rattle.std.specs.Option.{option_copied};
 ghost use Rattle.bz_attribute.specs.Attributes.{is_attribute as is_named};
 ghost use Rattle.bz_comment.specs.Hosts.{without_space as space_off, comment_text as text_of, comment_line, suffix_line, printed_comments, found_comments, print_comment};
 
-use crate::seeking::{Sought, first_sought};
+use crate::hosts::{Sought, first_sought};
 use bz_attribute::{has_lists, is_attribute};
 use bz_command_syntax::Host;
 use bz_items::{Items, Memory, Text};

@@ -1,5 +1,6 @@
 -- What `print` prints of a rule. (Own profile of buildozer's print command.)
-use Rattle.std.specs.Prelude.{List, [], ◌∷◌, ◌++◌, Option, Some, None, codes, length, ◌-◌, take, if◌then◌else◌}
+use Rattle.std.specs.Prelude.{Bool, List, [], ◌∷◌, ◌++◌, Option, codes, is_some, length, ◌-◌, ◌&&◌, map, take, if◌then◌else◌}
+use Rattle.std.specs.List.{list_all}
 use Rattle.std.specs.Option.{option_map_or}
 use Rattle.bz_grammar.specs.declared.kind.Kind.TheVariants as k
 use Rattle.bz_value.specs.declared.value.Expr.{Expr}
@@ -23,13 +24,12 @@ missing = codes "(missing)"
 
 -- ---- values
 
--- the bodies of plain strings, where all are such
-abbrev pub bodies_of : List Expr → Option (List Bytes)
-bodies_of [] = Some []
-bodies_of (x ∷ xs) = option_map_or (λ body. option_map_or (λ bodies. Some (body ∷ bodies)) (bodies_of xs) None) (body_of x) None
+abbrev pub is_string : Expr → Bool
+is_string x = is_some (body_of x)
 
-abbrev pub strings_in : Expr → Option (List Bytes)
-strings_in value = if has_kind k.List value then bodies_of (items_of value) else None
+-- the body of a plain string, and of any other item nothing
+abbrev pub printed_body : Expr → Bytes
+printed_body x = option_map_or (λ body. body) (body_of x) []
 
 -- [a b]
 abbrev pub in_brackets : List Bytes → Bytes
@@ -37,7 +37,9 @@ in_brackets texts = codes "[" ++ (spaced texts ++ codes "]")
 
 -- a plain string prints its body, a list of plain strings their bodies, any other value its layout at margin 0
 abbrev pub printed_value : Expr → Bytes
-printed_value value = option_map_or (λ body. body) (body_of value) (option_map_or in_brackets (strings_in value) (written.text_of value 0))
+printed_value value =
+    option_map_or (λ body. body) (body_of value)
+    (if has_kind k.List value && list_all is_string (items_of value) then in_brackets (map printed_body (items_of value)) else written.text_of value 0)
 
 -- ---- fields
 
@@ -52,13 +54,9 @@ printed_field line item rule f.StartLine = option_map_or (λ digits. digits) lin
 printed_field line item rule f.Rule = without_last (written.item_text item)
 printed_field line item rule (f.Attribute name) = option_map_or printed_value (attribute name rule.arguments) missing
 
-abbrev pub printed_fields : Option Bytes → Item → Rule → List Field → List Bytes
-printed_fields line item rule [] = []
-printed_fields line item rule (field ∷ fields) = printed_field line item rule field ∷ printed_fields line item rule fields
-
 -- one line a rule, fields joined by one space
 abbrev pub printed_rule : Option Bytes → Item → Rule → List Field → Bytes
-printed_rule line item rule fields = spaced (printed_fields line item rule fields) ++ line_feed ∷ []
+printed_rule line item rule fields = spaced (map (printed_field line item rule) fields) ++ line_feed ∷ []
 
 -- an item that is no rule prints nothing
 abbrev pub printed_item : Option Bytes → Item → List Field → Bytes

@@ -2,10 +2,8 @@
 #![tactic(auto)]
 
 mod laws;
-mod names;
 mod printing;
 mod rules;
-mod values;
 
 pub use laws::worked_prints;
 pub use printing::push_rule;

@@ -1,6 +1,6 @@
 -- The sets of the code: what is found in them, and what they have after one key more.
 use Rattle.std.proofs.Common.{◌≡◌, Bool, true, false, ◌||◌, List, [], ◌∷◌, ◌++◌, refl, sym, ap, ◌∙◌, map, true≢false, ◌&&◌, append_assoc, arith}
-use Rattle.std.specs.Prelude.{bytes_eq, if◌then◌else◌, not, Option, Some, None, option_map}
+use Rattle.std.specs.Prelude.{bytes_eq, if◌then◌else◌, not, Option, Some, None}
 use Rattle.std.specs.List.{list_any, position}
 use Rattle.std.proofs.lemmas.Bool.{and_parts, not-false, not-true}
 use Rattle.std.proofs.Math.Path.{fun_ext}
@@ -10,22 +10,14 @@ use Rattle.bz_command_syntax.specs.declared.command.Symbol.{Symbol}
 use Rattle.bz_attribute.proofs.KeySets.{any_map, or_twice, or_turn, equal_texts, or_group, or_none}
 use Rattle.bz_load.specs.declared.readings.Loaded.{Loaded}
 use Rattle.bz_load.specs.contracts.readings.LoadedPartialEq.TheImpl as loaded_eq
-use Rattle.bz_load.specs.NewLoad.{is_symbol, and_symbol, new_symbols, symbol_made}
-use Rattle.bz_load.specs.private.Known.{knows, symbol, alias_in, symbol_in, and_loaded, and_each, and_load, and_loads}
-use Rattle.bz_load.specs.private.KnownKeys.{symbol_of_key, symbols_of_keys}
+use Rattle.bz_load.specs.NewLoad.{and_symbol, new_symbols, symbol_made}
+use Rattle.bz_load.specs.private.Known.{knows, and_loaded, and_each, and_load, and_loads, symbol_of_key, symbols_of_keys}
 use Rattle.std.specs.Option.{option_map_or}
-use Rattle.std.proofs.Math.Bool.{and-false}
-use Rattle.std.proofs.lemmas.Cmp.{nat_list_eq_equiv}
-use Rattle.std.proofs.lemmas.Slice.Eq.{bytes_eq-Decides}
-use Rattle.bz_grammar.specs.declared.kind.Kind.TheVariants as k
 use Rattle.bz_value.specs.declared.value.Expr.{Expr}
 use Rattle.bz_value.specs.declared.value.Item.{Item}
 use Rattle.bz_rule.proofs.ProperChanges.{by_case}
-use Rattle.bz_rule.specs.Rules.{is_text}
-use Rattle.bz_rule.specs.Values.{has_kind, parts_of, text_of}
-use Rattle.bz_attribute.specs.Lists.{body_of}
 use Rattle.bz_attribute.proofs.ArgumentPlaces.{NonePasses, none_later, none_passes}
-use Rattle.bz_load.specs.Loads.{is_alias_of, loads_symbol, is_load_from, symbols_of, is_loaded}
+use Rattle.bz_load.specs.Loads.{is_symbol, symbol_in, loads_symbol, is_load_from, symbols_of, is_loaded}
 
 -- ---- one key more
 
@@ -85,46 +77,9 @@ known_again xs symbol h = fun_ext (λ other. by other (is_symbol other symbol) r
 abbrev Test : Type 0
 Test = Symbol → Bool
 
--- ---- the symbol that an item of a load loads
-
-alike : (xs ys : Bytes) → bytes_eq xs ys ≡ bytes_eq ys xs
-alike xs ys = nat_list_eq_equiv.symm xs ys
-
-abbrev is_found : Symbol → Option Symbol → Bool
-is_found other found = option_map_or (is_symbol other) found false
-
-alias_found : (other : Symbol) (to : Bytes) (found : Option Bytes) → (bytes_eq to other.to && is_text other.from found) ≡ is_found other (option_map (symbol to) found)
-alias_found other to None = and-false (bytes_eq to other.to)
-alias_found other to (Some from) = ap (λ z. z && bytes_eq from other.from) (alike to other.to) ∙ ap (λ z. bytes_eq other.to to && z) (alike from other.from)
-
-alias_answered : (other : Symbol) (ps : List Expr) → is_alias_of other ps ≡ is_found other (alias_in ps)
-alias_answered other [] = refl
-alias_answered other (x ∷ []) = refl
-alias_answered other (x ∷ y ∷ []) = refl
-alias_answered other (to ∷ equals ∷ from ∷ []) = alias_found other (text_of to) (body_of from)
-alias_answered other (x ∷ y ∷ z ∷ w ∷ ps) = refl
-
-both_names : (other : Symbol) (text : Bytes) (b : Bool) → bytes_eq text other.to ≡ b → (b && bytes_eq other.to other.from) ≡ (b && bytes_eq other.from text)
-both_names other text true e = ap (λ z. bytes_eq z other.from) (sym ((bytes_eq-Decides text other.to).0 e)) ∙ alike text other.from
-both_names other text false e = refl
-
-plain_answered : (other : Symbol) (found : Option Bytes) → (is_text other.to found && bytes_eq other.to other.from) ≡ is_found other (option_map (λ text. symbol text text) found)
-plain_answered other None = refl
-plain_answered other (Some text) = both_names other text (bytes_eq text other.to) refl ∙ ap (λ z. z && bytes_eq other.from text) (alike text other.to)
-
-answered_by : (other : Symbol) (b : Bool) (one two : Bool) (first second : Option Symbol) → one ≡ is_found other first → two ≡ is_found other second
-    → (if b then one else two) ≡ is_found other (if b then first else second)
-answered_by other true one two first second e f = e
-answered_by other false one two first second e f = f
-
-symbol_answered : (other : Symbol) (x : Expr) → loads_symbol other x ≡ is_found other (symbol_in x)
-symbol_answered other x =
-    answered_by other (has_kind k.Alias x) (is_alias_of other (parts_of x)) (is_text other.to (body_of x) && bytes_eq other.to other.from) (alias_in (parts_of x)) (option_map (λ text. symbol text text) (body_of x))
-    (alias_answered other (parts_of x)) (plain_answered other (body_of x))
-
 -- ---- what is known
 
-found_answered : (other : Symbol) (found : Option Symbol) (test : Test) → option_map_or (λ added. and_symbol added test) found test other ≡ (is_found other found || test other)
+found_answered : (other : Symbol) (found : Option Symbol) (test : Test) → option_map_or (λ added. and_symbol added test) found test other ≡ (option_map_or (is_symbol other) found false || test other)
 found_answered other None test = refl
 found_answered other (Some added) test = refl
 
@@ -132,7 +87,7 @@ each_answered : (other : Symbol) (xs : List Expr) (test : Test) → and_each xs 
 each_answered other [] test = refl
 each_answered other (x ∷ xs) test =
     each_answered other xs (and_loaded x test)
-    ∙ (ap (λ z. list_any (loads_symbol other) xs || z) (found_answered other (symbol_in x) test ∙ ap (λ z. z || test other) (sym (symbol_answered other x)))
+    ∙ (ap (λ z. list_any (loads_symbol other) xs || z) (found_answered other (symbol_in x) test)
     ∙ or_group (list_any (loads_symbol other) xs) (loads_symbol other x) (test other))
 
 load_answered : (other : Symbol) (b : Bool) (xs : List Expr) (test : Test) → (if b then and_each xs test else test) other ≡ ((b && list_any (loads_symbol other) xs) || test other)

@@ -1,7 +1,7 @@
 -- new_load and fix keep each comment as often as it occurred there.
 use Rattle.std.proofs.Common.{◌≡◌, ℕ, zero, suc, ◌+◌, Bool, true, false, not, ◌&&◌, ◌||◌, List, [], ◌∷◌, ◌++◌, Option, Some, None, refl, sym, ap, ◌∙◌, map, codes, arith, true≢false}
 use Rattle.std.specs.Prelude.{IfSome, bytes_eq, if◌then◌else◌}
-use Rattle.std.specs.List.{AllByRecursion, list_any, filter, insert}
+use Rattle.std.specs.List.{AllByRecursion, list_any, filter, insert, find}
 use Rattle.std.specs.Option.{option_map_or}
 use Rattle.std.proofs.lemmas.Bool.{and_parts, or_parts, not-true, not-false}
 use Rattle.std.proofs.lemmas.List.Elements.{recursion_from_All}
@@ -31,7 +31,7 @@ use Rattle.bz_attribute.proofs.FormsAgain.{if_false, made}
 use Rattle.bz_attribute.proofs.GrownArguments.{whole, row_total}
 use Rattle.bz_load.specs.Loads.{is_load_from, is_loaded, after_path, leading_blocks, loads_end, after_loads}
 use Rattle.bz_load.specs.NewLoad.{new_symbols, symbol_made, load_made, with_symbols, new_load}
-use Rattle.bz_load.specs.Fixes.{is_used, is_commented, path_comments, end_of, has_own_comments, symbol_stays, is_emptied, used_alone, is_package_call, first_that, package_moved, move_package_to_top, fix}
+use Rattle.bz_load.specs.Fixes.{is_used, is_commented, path_comments, end_of, has_own_comments, symbol_stays, is_emptied, used_alone, is_package_call, package_moved, move_package_to_top, fix}
 use Rattle.bz_load.specs.Laws.{LoadsKeepComments}
 use Rattle.bz_load.proofs.ProperLoads.{fix_keeps}
 use Rattle.bz_load.proofs.LoadParts.{alias_parts, load_parts}
@@ -51,7 +51,7 @@ module _ (number : Bytes → ℕ) where
   abbrev host : HostComments → ℕ
   host = host_amount number
 
-  amount_answered : (x : Expr) → whole number x ≡ host (comments_of x) + (total (whole number) (parts_of x) + (total (whole number) (items_of x) + total number (end_of x)))
+  pub amount_answered : (x : Expr) → whole number x ≡ host (comments_of x) + (total (whole number) (parts_of x) + (total (whole number) (items_of x) + total number (end_of x)))
   amount_answered (Token t) = omega arith
   amount_answered (Form' kind s parts s' items end split open_break comments) =
       ap (λ a. host comments + (a + (row_amount number items + total number end))) (row_total number _ parts)
@@ -96,7 +96,7 @@ module _ (number : Bytes → ℕ) where
   abbrev file : List Item → ℕ
   file = total (item_amount number)
 
-  put_total : (n : ℕ) (new : Item) (xs : List Item) → file (insert xs n new) ≡ item_amount number new + file xs
+  pub put_total : (n : ℕ) (new : Item) (xs : List Item) → file (insert xs n new) ≡ item_amount number new + file xs
   put_total zero new xs = refl
   put_total (suc n) new [] = refl
   put_total (suc n) new (x ∷ xs) = let rest = put_total n new xs in omega arith
@@ -198,9 +198,9 @@ module _ (number : Bytes → ℕ) where
 
   -- ---- the package
 
-  taken_total : (test : Item → Bool) (xs : List Item) → IfSome (first_that test xs) (λ new. file xs ≡ item_amount number new + file (without_first test xs))
+  taken_total : (test : Item → Bool) (xs : List Item) → IfSome (find test xs) (λ new. file xs ≡ item_amount number new + file (without_first test xs))
   taken_total test [] = tt
-  taken_total test (x ∷ xs) = by (test x) (first_that test xs) (taken_total test xs)
+  taken_total test (x ∷ xs) = by (test x) (find test xs) (taken_total test xs)
     where
       by : (b : Bool) (found : Option Item) → IfSome found (λ new. file xs ≡ item_amount number new + file (without_first test xs))
           → IfSome (if b then Some x else found) (λ new. item_amount number x + file xs ≡ item_amount number new + file (if b then xs else x ∷ without_first test xs))
@@ -214,7 +214,7 @@ module _ (number : Bytes → ℕ) where
   moved_by items (Some new) h = put_total (loads_end (leading_blocks items) 0 (without_first is_package_call items)) new (without_first is_package_call items) ∙ sym h
 
   moved_same : (items : List Item) → file (move_package_to_top items) ≡ file items
-  moved_same items = moved_by items (first_that is_package_call items) (taken_total is_package_call items)
+  moved_same items = moved_by items (find is_package_call items) (taken_total is_package_call items)
 
   by_fixes : (top unused : Bool) (items : List Item) → AllByRecursion IsProperItem items → file (fix (record { move_package_to_top = top; unused_loads = unused }) items) ≡ file items
   by_fixes false false items h = refl

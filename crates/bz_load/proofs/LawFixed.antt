@@ -1,7 +1,7 @@
 -- A file mended twice: symbols that nothing uses, and the package.
 use Rattle.std.proofs.Common.{◌≡◌, Bool, true, false, not, ◌&&◌, ◌||◌, List, [], ◌∷◌, ◌++◌, map, refl, sym, ap, ◌∙◌, inl, inr, ℕ, suc, true≢false, ◌+◌}
 use Rattle.std.specs.Prelude.{bytes_eq, if◌then◌else◌, Option, Some, None, IfSome, option_map}
-use Rattle.std.specs.List.{AllByRecursion, list_any, filter, insert}
+use Rattle.std.specs.List.{AllByRecursion, list_any, filter, insert, find}
 use Rattle.std.proofs.Math.Bool.{and-false}
 use Rattle.std.proofs.lemmas.Bool.{cases_Bool, and_parts, or_parts, not-true, not-false}
 use Rattle.std.proofs.lemmas.List.Elements.{recursion_from_All, All-from_recursion}
@@ -17,7 +17,7 @@ use Rattle.bz_rule.specs.Values.{has_kind, items_of, with_items, on_items, on_re
 use Rattle.bz_rule.proofs.ProperChanges.{by_test, by_case}
 use Rattle.bz_attribute.proofs.FormsAgain.{if_true, if_false, items_kind, items_filled, items_twice}
 use Rattle.bz_load.specs.Loads.{is_load_item, after_path, is_block, leading_blocks, loads_end}
-use Rattle.bz_load.specs.Fixes.{all_of, operand_names_in, is_used, is_commented, path_comments, has_own_comments, symbol_stays, with_used, is_emptied, used_alone, unused_loads, is_package_call, first_that, package_moved, move_package_to_top, fix}
+use Rattle.bz_load.specs.Fixes.{all_of, operand_names_in, is_used, is_commented, path_comments, has_own_comments, symbol_stays, with_used, is_emptied, used_alone, unused_loads, is_package_call, package_moved, move_package_to_top, fix}
 use Rattle.bz_load.specs.Laws.{UnusedAgain, has_second_package, MovedAgain, loses_load, FixedAgain}
 use Rattle.bz_load.proofs.LoadParts.{load_none}
 use Rattle.bz_load.proofs.ProperLoads.{used_statement, fix_keeps}
@@ -165,12 +165,12 @@ blocks_put new [] h = rw h refl
 blocks_put new (i.Stmt x ∷ items) h = rw h refl
 blocks_put new (i.Block lines ∷ items) h = ap (λ n. suc n) (blocks_put new items h)
 
-found_passes : (xs : List Item) → IfSome (first_that is_package_call xs) (λ x. is_package_call x ≡ true)
+found_passes : (xs : List Item) → IfSome (find is_package_call xs) (λ x. is_package_call x ≡ true)
 found_passes [] = tt
 found_passes (x ∷ xs) = elim (cases_Bool (is_package_call x)) [ inl e ↦ rw e e | inr e ↦ rw e (found_passes xs) ]
 
 -- the package that was moved is found and moved to the same place
-moved_by : (items : List Item) → has_second_package items ≡ false → (found : Option Item) → first_that is_package_call items ≡ found → IfSome found (λ new. is_package_call new ≡ true)
+moved_by : (items : List Item) → has_second_package items ≡ false → (found : Option Item) → find is_package_call items ≡ found → IfSome found (λ new. is_package_call new ≡ true)
     → move_package_to_top (option_map_or (package_moved items) found items) ≡ option_map_or (package_moved items) found items
 moved_by items one None e is = ap (λ found. option_map_or (package_moved items) found items) e
 moved_by items one (Some new) e is =
@@ -188,7 +188,7 @@ moved_by items one (Some new) e is =
     ∙ (ap (λ xs. insert xs (loads_end (leading_blocks moved) 0 xs) new) (left_put is_package_call place new rest is one) ∙ ap (λ n. insert rest n new) same)
 
 pub moved_again : MovedAgain
-moved_again items one = moved_by items one (first_that is_package_call items) refl (found_passes items)
+moved_again items one = moved_by items one (find is_package_call items) refl (found_passes items)
 
 -- ---- a file mended twice
 
@@ -199,7 +199,7 @@ module _ (f : Item → Item) where
   by_same g a true e p q = if_true a _ _ e ∙ p
   by_same g a false e p q = if_false a _ _ e ∙ q
 
-  found_map : (test : Item → Bool) → ((x : Item) → test (f x) ≡ test x) → (xs : List Item) → first_that test (map f xs) ≡ option_map f (first_that test xs)
+  found_map : (test : Item → Bool) → ((x : Item) → test (f x) ≡ test x) → (xs : List Item) → find test (map f xs) ≡ option_map f (find test xs)
   found_map test same [] = refl
   found_map test same (x ∷ xs) = by_same (option_map f) (test (f x)) (test x) (same x) refl (found_map test same xs)
 
@@ -226,7 +226,7 @@ module _ (f : Item → Item) where
         ∙ map_put f (loads_end (leading_blocks xs) 0 rest) new rest)
 
     moved_map : (xs : List Item) → move_package_to_top (map f xs) ≡ map f (move_package_to_top xs)
-    moved_map xs = ap (λ o. option_map_or (package_moved (map f xs)) o (map f xs)) (found_map is_package_call packages xs) ∙ placed_map xs (first_that is_package_call xs)
+    moved_map xs = ap (λ o. option_map_or (package_moved (map f xs)) o (map f xs)) (found_map is_package_call packages xs) ∙ placed_map xs (find is_package_call xs)
 
 -- ---- loads without some of their symbols
 

@@ -1,10 +1,10 @@
 -- The same symbols, loaded once more.
-use Rattle.std.proofs.Common.{◌≡◌, ℕ, Bool, true, false, ◌&&◌, ◌||◌, List, [], ◌∷◌, ◌++◌, map, refl, sym, ap, ◌∙◌, subst, true≢false, inl, inr}
-use Rattle.std.specs.Prelude.{bytes_eq, codes, if◌then◌else◌}
+use Rattle.std.proofs.Common.{◌≡◌, ℕ, Bool, true, false, ◌&&◌, List, [], ◌∷◌, ◌++◌, map, refl, sym, ap, ◌∙◌, subst, true≢false, inl, inr}
+use Rattle.std.specs.Prelude.{bytes_eq, codes, if◌then◌else◌, Option, option_map}
+use Rattle.std.specs.Option.{option_map_or}
 use Rattle.std.specs.List.{AllByRecursion, list_any, list_all}
 use Rattle.std.proofs.lemmas.Bool.{cases_Bool, and_parts, and_from, or_cases, not-true, or_left, or_right}
 use Rattle.std.proofs.lemmas.List.Folds.{list_any-append}
-use Rattle.std.proofs.lemmas.Slice.Eq.{bytes_eq-Decides}
 use Rattle.bz_token.specs.declared.class.Class.TheVariants as c
 use Rattle.bz_grammar.specs.declared.kind.Kind.TheVariants as k
 use Rattle.bz_value.specs.declared.value.Expr.{Expr, items_hidden-the_row-Expr-0}
@@ -21,8 +21,8 @@ use Rattle.bz_attribute.specs.Attributes.{on_first_that}
 use Rattle.bz_attribute.specs.Lists.{body_of}
 use Rattle.bz_attribute.proofs.FormsAgain.{if_true, items_kind, items_filled}
 use Rattle.bz_attribute.proofs.PlainWords.{IsPlain, equal_self, body_quoted}
-use Rattle.bz_load.specs.Loads.{path_in, is_load_from, is_alias_of, loads_symbol, after_path, symbols_of, is_loaded, leading_blocks, loads_end, after_loads}
-use Rattle.bz_load.specs.NewLoad.{is_symbol, and_symbol, new_symbols, symbol_made, load_made, with_symbols, new_load}
+use Rattle.bz_load.specs.Loads.{path_in, is_load_from, symbol_named, is_symbol, alias_in, loads_symbol, after_path, symbols_of, is_loaded, leading_blocks, loads_end, after_loads}
+use Rattle.bz_load.specs.NewLoad.{and_symbol, new_symbols, symbol_made, load_made, with_symbols, new_load}
 use Rattle.bz_load.specs.Laws.{becomes_plain, LoadedAgain}
 use Rattle.bz_load.proofs.KnownSteps.{same_symbol}
 use Rattle.bz_load.proofs.PlaceSteps.{any_put}
@@ -35,14 +35,14 @@ text_quoted text h = ap (is_text text) (body_quoted text h) ∙ equal_self text
 
 made_string : (symbol : Symbol) → IsPlain symbol.from → bytes_eq symbol.to symbol.from ≡ true → loads_symbol symbol (token c.String (quoted_of symbol.from)) ≡ true
 made_string symbol h e =
-    let same : symbol.to ≡ symbol.from = (bytes_eq-Decides symbol.to symbol.from).0 e in
-    and_from (is_text symbol.to (body_of (token c.String (quoted_of symbol.from)))) (bytes_eq symbol.to symbol.from)
-    (ap (λ to. is_text to (body_of (token c.String (quoted_of symbol.from)))) same ∙ text_quoted symbol.from h) e
+    ap (λ (found : Option Bytes). option_map_or (is_symbol symbol) (option_map (λ text. symbol_named text text) found) false) (body_quoted symbol.from h)
+    ∙ and_from (bytes_eq symbol.to symbol.from) (bytes_eq symbol.from symbol.from) e (equal_self symbol.from)
 
 made_alias : (symbol : Symbol) → IsPlain symbol.from → loads_symbol symbol (node k.Alias (name symbol.to ∷ mark (codes "=") ∷ token c.String (quoted_of symbol.from) ∷ [])) ≡ true
 made_alias symbol h =
-    ap (is_alias_of symbol) (items_hidden-the_row-Expr-0 (name symbol.to ∷ mark (codes "=") ∷ token c.String (quoted_of symbol.from) ∷ []))
-    ∙ and_from (bytes_eq symbol.to symbol.to) (is_text symbol.from (body_of (token c.String (quoted_of symbol.from)))) (equal_self symbol.to) (text_quoted symbol.from h)
+    ap (λ ps. option_map_or (is_symbol symbol) (alias_in ps) false) (items_hidden-the_row-Expr-0 (name symbol.to ∷ mark (codes "=") ∷ token c.String (quoted_of symbol.from) ∷ []))
+    ∙ (ap (λ (found : Option Bytes). option_map_or (is_symbol symbol) (option_map (symbol_named symbol.to) found) false) (body_quoted symbol.from h)
+    ∙ and_from (bytes_eq symbol.to symbol.to) (bytes_eq symbol.from symbol.from) (equal_self symbol.to) (equal_self symbol.from))
 
 made_loads : (symbol : Symbol) → IsPlain symbol.from → loads_symbol symbol (symbol_made symbol) ≡ true
 made_loads symbol h =

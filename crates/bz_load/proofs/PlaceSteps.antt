@@ -1,7 +1,7 @@
 -- Places by their numbers, and an item that is put in.
 use Rattle.std.proofs.Common.{◌≡◌, ℕ, zero, suc, ◌+◌, ◌≤◌, Bool, true, false, ◌||◌, List, [], ◌∷◌, length, get_or, map, refl, sym, ap, ◌∙◌, arith, true≢false, inl, inr}
 use Rattle.std.specs.Prelude.{Some, None, if◌then◌else◌}
-use Rattle.std.specs.List.{AllByRecursion, list_any, insert, remove}
+use Rattle.std.specs.List.{AllByRecursion, list_any, insert, remove, find}
 use Rattle.std.specs.Option.{option_map_or}
 use Rattle.std.proofs.lemmas.Bool.{cases_Bool, or_parts}
 use Rattle.std.proofs.lemmas.List.Edits.{length-remove}
@@ -12,8 +12,8 @@ use Rattle.bz_value.specs.declared.value.Item.TheVariants as i
 use Rattle.bz_attribute.specs.Attributes.{without_first}
 use Rattle.bz_attribute.proofs.ArgumentPlaces.{IsFirst, NonePasses, removed_at, later, none_later}
 use Rattle.bz_attribute.proofs.KeySets.{or_turn}
-use Rattle.bz_load.specs.Loads.{is_load_item, is_block, leading_blocks, loads_end}
-use Rattle.bz_load.specs.Fixes.{is_package_call, first_that, package_moved, move_package_to_top}
+use Rattle.bz_load.specs.Loads.{is_load_item, leading_blocks, loads_end}
+use Rattle.bz_load.specs.Fixes.{is_package_call, package_moved, move_package_to_top}
 
 -- ---- an item that is put in
 
@@ -33,7 +33,7 @@ map_put f (suc n) new [] = refl
 map_put f (suc n) new (x ∷ xs) = ap (λ ys. f x ∷ ys) (map_put f n new xs)
 
 -- it is the first that passes, where no other one does
-pub found_put : (test : Item → Bool) (n : ℕ) (new : Item) (xs : List Item) → test new ≡ true → list_any test xs ≡ false → first_that test (insert xs n new) ≡ Some new
+pub found_put : (test : Item → Bool) (n : ℕ) (new : Item) (xs : List Item) → test new ≡ true → list_any test xs ≡ false → find test (insert xs n new) ≡ Some new
 found_put test zero new xs is none = rw is refl
 found_put test (suc n) new [] is none = rw is refl
 found_put test (suc n) new (x ∷ xs) is none = let p = or_parts (test x) (list_any test xs) none in rw p.0 (found_put test n new xs is p.1)
@@ -74,12 +74,12 @@ pub none_any : {X : Type 0} (test : X → Bool) (xs : List X) → NonePasses tes
 none_any test [] h = refl
 none_any test (x ∷ xs) h = ap (λ z. z || list_any test xs) (h.all 0 x (omega arith)) ∙ none_any test xs (none_later test x xs h)
 
-first_found : (test : Item → Bool) (xs : List Item) (i : ℕ) (d : Item) → IsFirst test xs i → first_that test xs ≡ Some (get_or xs i d)
+first_found : (test : Item → Bool) (xs : List Item) (i : ℕ) (d : Item) → IsFirst test xs i → find test xs ≡ Some (get_or xs i d)
 first_found test [] i d h = absurd (omega (arith, h.within))
 first_found test (x ∷ xs) zero d h = rw (h.passes x) refl
 first_found test (x ∷ xs) (suc i) d h = rw (h.others 0 x (omega arith)) (first_found test xs i d (later test x xs i h))
 
-none_found : (test : Item → Bool) (xs : List Item) → NonePasses test xs → first_that test xs ≡ None
+none_found : (test : Item → Bool) (xs : List Item) → NonePasses test xs → find test xs ≡ None
 none_found test [] h = refl
 none_found test (x ∷ xs) h = rw (h.all 0 x (omega arith)) (none_found test xs (none_later test x xs h))
 

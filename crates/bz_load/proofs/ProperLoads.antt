@@ -1,7 +1,7 @@
 -- What new_load and fix make of proper items is proper.
-use Rattle.std.proofs.Common.{◌≡◌, Bool, true, false, not, List, [], ◌∷◌, ◌++◌, inr, refl, sym, ◌∙◌, subst, map, arith, true≢false}
-use Rattle.std.specs.Prelude.{IsUtf8, IfSome, Option, Some, None, codes, bytes_eq, if◌then◌else◌, ◌||◌}
-use Rattle.std.specs.List.{AllByRecursion, filter, list_any}
+use Rattle.std.proofs.Common.{◌≡◌, Bool, true, false, not, List, [], ◌∷◌, ◌++◌, inr, refl, sym, subst, map, arith, true≢false}
+use Rattle.std.specs.Prelude.{IsUtf8, IfSome, Option, Some, None, codes, bytes_eq, if◌then◌else◌}
+use Rattle.std.specs.List.{AllByRecursion, filter, list_any, find}
 use Rattle.std.specs.Option.{option_map_or}
 use Rattle.std.proofs.lemmas.Bool.{and_parts}
 use Rattle.std.proofs.lemmas.List.Elements.{All-nil, All-from_recursion, recursion_from_All}
@@ -34,7 +34,7 @@ use Rattle.bz_attribute.proofs.ProperTexts.{one_ascii}
 use Rattle.bz_attribute.proofs.ProperMade.{IsNew, none_there, new_part, row_proper, token_new, quoted_string}
 use Rattle.bz_load.specs.Loads.{path_in, is_load_from, is_loaded, leading_blocks, loads_end, after_loads}
 use Rattle.bz_load.specs.NewLoad.{and_symbol, new_symbols, symbol_made, load_made, with_symbols, new_load}
-use Rattle.bz_load.specs.Fixes.{is_used, has_own_comments, symbol_stays, with_used, is_emptied, used_alone, unused_loads, is_package_call, first_that, package_moved, move_package_to_top, fix}
+use Rattle.bz_load.specs.Fixes.{is_used, has_own_comments, symbol_stays, with_used, is_emptied, used_alone, unused_loads, is_package_call, package_moved, move_package_to_top, fix}
 use Rattle.bz_load.specs.Laws.{LoadsStayProper}
 use Rattle.bz_load.proofs.PlaceSteps.{all_put}
 
@@ -146,9 +146,9 @@ unused_keeps items h =
 
 -- ---- the package
 
-first_fine : (test : Item → Bool) (items : List Item) → AreFine items → IfSome (first_that test items) IsProperItem
+first_fine : (test : Item → Bool) (items : List Item) → AreFine items → IfSome (find test items) IsProperItem
 first_fine test [] h = tt
-first_fine test (item ∷ items) h = by_test (λ (o : Option Item). IfSome o IsProperItem) (test item) (Some item) (first_that test items) h.0 (first_fine test items h.1)
+first_fine test (item ∷ items) h = by_test (λ (o : Option Item). IfSome o IsProperItem) (test item) (Some item) (find test items) h.0 (first_fine test items h.1)
 
 others_fine : (test : Item → Bool) (items : List Item) → AreFine items → AreFine (without_first test items)
 others_fine test [] h = tt
@@ -161,7 +161,7 @@ package_placed items h (Some new) f =
     all_put IsProperItem (loads_end (leading_blocks items) 0 rest) new rest f (others_fine is_package_call items h)
 
 package_keeps : (items : List Item) → AreFine items → AreFine (move_package_to_top items)
-package_keeps items h = package_placed items h (first_that is_package_call items) (first_fine is_package_call items h)
+package_keeps items h = package_placed items h (find is_package_call items) (first_fine is_package_call items h)
 
 pub fix_keeps : (fixes : Fixes) (items : List Item) → AllByRecursion IsProperItem items → AllByRecursion IsProperItem (fix fixes items)
 fix_keeps fixes items h =

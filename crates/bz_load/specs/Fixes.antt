@@ -1,6 +1,6 @@
 -- The names that a file uses, and what `fix` makes of its items.
-use Rattle.std.specs.Prelude.{Bool, ◌||◌, List, [], ◌∷◌, ◌++◌, map, bytes_eq, if◌then◌else◌, false, not, ◌&&◌, Option, Some, None, codes}
-use Rattle.std.specs.List.{list_any, filter, insert}
+use Rattle.std.specs.Prelude.{Bool, ◌||◌, List, [], ◌∷◌, ◌++◌, map, bytes_eq, if◌then◌else◌, false, not, ◌&&◌, codes}
+use Rattle.std.specs.List.{list_any, filter, find, insert}
 use Rattle.bz_token.specs.declared.class.Class.TheVariants as c
 use Rattle.bz_grammar.specs.declared.kind.Kind.{Kind}
 use Rattle.bz_grammar.specs.declared.kind.Kind.TheVariants as k
@@ -101,11 +101,6 @@ unused_loads items = map (used_alone (is_used items)) (filter (λ item. not (is_
 abbrev pub is_package_call : Item → Bool
 is_package_call item = is_rule_of (codes "package") item
 
--- the first item that passes a test
-abbrev pub first_that : (Item → Bool) → List Item → Option Item
-first_that test [] = None
-first_that test (item ∷ items) = if test item then Some item else first_that test items
-
 -- Without a load the comment blocks count that lead the file as it is, so what is among them goes first.
 abbrev pub package_moved : List Item → Item → List Item
 package_moved items new =
@@ -113,7 +108,7 @@ package_moved items new =
 
 -- the first rule of kind `package` right after the last load; without a load after the leading comment blocks
 abbrev pub move_package_to_top : List Item → List Item
-move_package_to_top items = option_map_or (package_moved items) (first_that is_package_call items) items
+move_package_to_top items = option_map_or (package_moved items) (find is_package_call items) items
 
 -- ---- fix: movePackageToTop first
 

@@ -1,6 +1,7 @@
 -- The loads of a file, and what they load.
-use Rattle.std.specs.Prelude.{Bool, false, ◌&&◌, List, [], ◌∷◌, Option, None, bytes_eq, if◌then◌else◌, ℕ, suc, ◌+◌, true}
+use Rattle.std.specs.Prelude.{Bool, false, ◌&&◌, List, [], ◌∷◌, Option, None, bytes_eq, if◌then◌else◌, option_map, ℕ, suc, ◌+◌, true}
 use Rattle.std.specs.List.{list_any, insert}
+use Rattle.std.specs.Option.{option_map_or}
 use Rattle.bz_grammar.specs.declared.kind.Kind.TheVariants as k
 use Rattle.bz_value.specs.declared.value.Expr.{Expr}
 use Rattle.bz_value.specs.declared.value.Item.{Item}
@@ -24,15 +25,23 @@ abbrev pub is_load_from : Bytes → Item → Bool
 is_load_from path (i.Block lines) = false
 is_load_from path (i.Stmt x) = has_kind k.Load x && is_text path (path_in (items_of x))
 
--- to = "from", where the string is plain
-abbrev pub is_alias_of : Symbol → List Expr → Bool
-is_alias_of symbol (to ∷ equals ∷ from ∷ []) = bytes_eq (text_of to) symbol.to && is_text symbol.from (body_of from)
-is_alias_of symbol _ = false
+abbrev pub symbol_named : Bytes → Bytes → Symbol
+symbol_named to from = record { to = to; from = from }
 
--- an item of a load that loads this symbol by this name: an alias, or a plain string, which is both names
+abbrev pub is_symbol : Symbol → Symbol → Bool
+is_symbol symbol other = bytes_eq symbol.to other.to && bytes_eq symbol.from other.from
+
+-- to = "from", where the string is plain
+abbrev pub alias_in : List Expr → Option Symbol
+alias_in (to ∷ equals ∷ from ∷ []) = option_map (symbol_named (text_of to)) (body_of from)
+alias_in _ = None
+
+-- the symbol that an item of a load loads: an alias, or a plain string, which is both names
+abbrev pub symbol_in : Expr → Option Symbol
+symbol_in x = if has_kind k.Alias x then alias_in (parts_of x) else option_map (λ text. symbol_named text text) (body_of x)
+
 abbrev pub loads_symbol : Symbol → Expr → Bool
-loads_symbol symbol x =
-    if has_kind k.Alias x then is_alias_of symbol (parts_of x) else is_text symbol.to (body_of x) && bytes_eq symbol.to symbol.from
+loads_symbol symbol x = option_map_or (is_symbol symbol) (symbol_in x) false
 
 -- the items after the path
 abbrev pub after_path : List Expr → List Expr

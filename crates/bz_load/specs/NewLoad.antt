@@ -1,5 +1,5 @@
 -- Symbols that are loaded too. (Own profile of buildozer's `new_load`.)
-use Rattle.std.specs.Prelude.{Bool, ◌&&◌, ◌||◌, List, [], ◌∷◌, ◌++◌, codes, map, bytes_eq, if◌then◌else◌}
+use Rattle.std.specs.Prelude.{Bool, ◌||◌, List, [], ◌∷◌, ◌++◌, codes, map, bytes_eq, if◌then◌else◌}
 use Rattle.std.specs.List.{list_any}
 use Rattle.bz_token.specs.declared.class.Class.TheVariants as c
 use Rattle.bz_grammar.specs.declared.kind.Kind.TheVariants as k
@@ -12,10 +12,7 @@ use Rattle.bz_command_syntax.specs.Quoted.{quoted_of}
 use Rattle.bz_rule.specs.Values.{on_items}
 use Rattle.bz_attribute.specs.Made.{token, node, mark, sequence, name}
 use Rattle.bz_attribute.specs.Attributes.{on_first_that}
-use Rattle.bz_load.specs.Loads.{is_load_from, is_loaded, after_loads}
-
-abbrev pub is_symbol : Symbol → Symbol → Bool
-is_symbol symbol other = bytes_eq symbol.to other.to && bytes_eq symbol.from other.from
+use Rattle.bz_load.specs.Loads.{is_load_from, is_symbol, is_loaded, after_loads}
 
 -- a symbol more is known
 abbrev pub and_symbol : Symbol → (Symbol → Bool) → Symbol → Bool

@@ -1,21 +1,160 @@
-//! Symbols that are loaded too.
-ghost use Rattle.std.specs.Prelude.{◌≡◌, ◌↔◌, [], map, IfOk, IsTrue, OnOk};
+//! Symbols that are loaded too: those that aren't loaded so yet, put into a load.
+ghost use Rattle.std.specs.Prelude.{◌≡◌, ◌↔◌, List, [], ◌∷◌, ◌++◌, codes, map, not, IfOk, IsTrue, OnOk};
 ghost use Rattle.std.specs.List.{list_any, position};
+ghost use Rattle.bz_token.specs.declared.class.Class.TheVariants as c;
+ghost use Rattle.bz_grammar.specs.declared.kind.Kind.TheVariants as k;
 ghost use Rattle.bz_value.specs.Exchanged.{IsSpliced};
+ghost use Rattle.bz_command_syntax.specs.declared.command.Symbol.{Symbol};
+ghost use Rattle.bz_command_syntax.specs.Quoted.{quoted_of};
+ghost use Rattle.bz_attribute.specs.Made.{token, node, name, mark};
 ghost use Rattle.bz_load.specs.Loads.{is_load_from as is_from, is_loaded};
-ghost use Rattle.bz_load.specs.NewLoad.{new_load, new_symbols, symbol_made, with_load, with_symbols};
+ghost use Rattle.bz_load.specs.NewLoad.{and_symbol, load_made, new_load, new_symbols, symbol_made, with_load, with_symbols};
+ghost use Rattle.bz_load.specs.private.Known.{and_each, and_loaded, and_loads, knows, symbol_of_key, symbols_of_keys};
 
-use crate::known::{insert_loads, unknown};
-use crate::making::load_of;
-use crate::places::insert_after_loads;
-use crate::readings::is_load_from;
-use bz_attribute::append_to;
-use bz_command_syntax::Symbol;
-use bz_grammar::Kind;
-use bz_items::{Items, Memory};
+use crate::readings::{Loaded, insert_after_loads, is_load_from, symbol_in, symbols_of};
+use bz_attribute::{append_to, new_token, node, sequence, token};
+use bz_command_syntax::{Symbol, quoted};
+use bz_grammar::{Class, Kind};
+use bz_items::{Items, Memory, Text};
 use bz_value::{Expr, Item};
 use indexmap::IndexSet;
 use std::alloc::Global;
+
+/// A word as a string.
+fn string(alloc: Global, word: &[u8]) -> Result<Expr, Memory>
+    ensures { IfOk result (λ x. x ≡ token c.String (quoted_of word.now)) }
+{
+    let text = quoted(alloc, word)?;
+    Ok(token(Class::String, text))
+}
+
+/// `to = "from"`.
+fn alias(alloc: Global, to: &[u8], from: &[u8]) -> Result<Expr, Memory>
+    ensures { IfOk result (λ x. x ≡ node k.Alias (name to.now ∷ mark (codes "=") ∷ token c.String (quoted_of from.now) ∷ [])) }
+{
+    let to = Text::from_slice(alloc, to)?;
+    let sign = Text::from_slice(alloc, b"=")?;
+    let from = quoted(alloc, from)?;
+    let left = token(Class::Name, to);
+    let right = token(Class::String, from);
+    let parts = Vec::from_array(alloc, [left, token(Class::Mark, sign), right])?;
+    Ok(node(alloc, Kind::Alias, Items::from_vec(parts)))
+}
+
+/// The item of a load that loads the symbol: an alias, or where both names are one the string alone.
+fn symbol_made(alloc: Global, symbol: &Symbol) -> Result<Expr, Memory>
+    ensures { IfOk result (λ x. x ≡ symbol_made symbol.now) }
+{
+    let to = symbol.to.as_slice();
+    let from = symbol.from.as_slice();
+    if to == from {
+        return string(alloc, from);
+    }
+    alias(alloc, to, from)
+}
+
+/// The path, and the symbols after it.
+fn with_path(alloc: Global, path: Expr, symbols: &mut Vec<Expr>) -> Result<Items<Expr>, Memory>
+    ensures { IfOk result (λ items. items ≡ path ∷ symbols.old.items) }
+{
+    let mut items = Vec::from_array(alloc, [path])?;
+    items.append(symbols)?;
+    Ok(Items::from_vec(items))
+}
+
+/// A load of these symbols from the path. The error: memory was refused.
+fn load_of(alloc: Global, path: &[u8], symbols: &mut Vec<Expr>) -> Result<Item, Memory>
+    ensures { IfOk result (λ item. item ≡ load_made path.now symbols.old.items) }
+{
+    let word = new_token(alloc, Class::Keyword, b"load")?;
+    let parts = Vec::from_array(alloc, [word])?;
+    let items = with_path(alloc, string(alloc, path)?, symbols)?;
+    let load = sequence(alloc, Kind::Load, Items::from_vec(parts), items);
+    Ok(Item::Stmt(load))
+}
+
+/// Symbols that are loaded from one path.
+type Known<'a> = IndexSet<Loaded<'a>>;
+
+fn names_of(symbol: &Symbol) -> Loaded<'_>
+    ensures { symbol_of_key result ≡ symbol.now }
+{
+    Loaded {
+        to: symbol.to.as_slice(),
+        from: symbol.from.as_slice(),
+    }
+}
+
+/// The symbol is one of them from now on. Returned: whether it was none before.
+fn insert_key<'a>(key: Loaded<'a>, known: &mut Known<'a>) -> Result<bool, Memory>
+    ensures new { IfOk result (λ new. new ≡ not (knows (symbols_of_keys known.old.keys) (symbol_of_key key.entry))) }
+    ensures known { OnOk result (knows (symbols_of_keys known.new.keys) ≡ and_symbol (symbol_of_key key.entry) (knows (symbols_of_keys known.old.keys))) }
+{
+    let new = known.insert(key)?;
+    Ok(new)
+}
+
+/// The symbol that an item of a load loads.
+fn insert_expr<'a>(x: &'a Expr, known: &mut Known<'a>) -> Result<(), Memory>
+    ensures { OnOk result (knows (symbols_of_keys known.new.keys) ≡ and_loaded x.now (knows (symbols_of_keys known.old.keys))) }
+{
+    if let Some(symbol) = symbol_in(x) {
+        insert_key(symbol, known)?;
+    }
+    Ok(())
+}
+
+fn insert_each<'a>(exprs: &'a [Expr], known: &mut Known<'a>) -> Result<(), Memory>
+    ensures { OnOk result (knows (symbols_of_keys known.new.keys) ≡ and_each exprs.now (knows (symbols_of_keys known.old.keys))) }
+{
+    for x in exprs {
+        insert_expr(x, known)?;
+    }
+    Ok(())
+}
+
+/// The symbols that the items load from the path. The error: memory was refused.
+fn insert_loads<'a>(path: &[u8], items: &'a [Item], known: &mut Known<'a>) -> Result<(), Memory>
+    ensures { OnOk result (knows (symbols_of_keys known.new.keys) ≡ and_loads path.now items.now (knows (symbols_of_keys known.old.keys))) }
+{
+    for item in items {
+        if is_load_from(path, item) {
+            insert_each(symbols_of(item), known)?;
+        }
+    }
+    Ok(())
+}
+
+/// Appends the item of a load for a symbol that is none of them; it is one of them from then on.
+fn push_new<'a>(
+    alloc: Global,
+    symbol: &'a Symbol,
+    known: &mut Known<'a>,
+    made: &mut Vec<Expr>,
+) -> Result<(), Memory>
+    ensures { (rest : List Symbol) → OnOk result (made.new.items ++ map symbol_made (new_symbols (knows (symbols_of_keys known.new.keys)) rest) ≡ made.old.items ++ map symbol_made (new_symbols (knows (symbols_of_keys known.old.keys)) (symbol.now ∷ rest))) }
+{
+    if !insert_key(names_of(symbol), known)? {
+        return Ok(());
+    }
+    made.push(symbol_made(alloc, symbol)?)?;
+    Ok(())
+}
+
+/// New items of a load for the symbols that are none of them, each once; they are some of them from then on.
+fn unknown<'a>(
+    alloc: Global,
+    symbols: &'a [Symbol],
+    known: &mut Known<'a>,
+) -> Result<Vec<Expr>, Memory>
+    ensures { IfOk result (λ made. made.items ≡ map symbol_made (new_symbols (knows (symbols_of_keys known.old.keys)) symbols.now)) }
+{
+    let mut made = Vec::new(alloc);
+    for symbol in symbols {
+        push_new(alloc, symbol, known, &mut made)?;
+    }
+    Ok(made)
+}
 
 /// The items of a file with a load that has the new symbols.
 #[derive(Drop)]

@@ -3,14 +3,8 @@
 
 mod adding;
 mod fixing;
-mod known;
 mod laws;
-mod making;
-mod package;
-mod places;
 mod readings;
-mod unused;
-mod uses;
 
 pub use adding::{WithLoad, new_load};
 pub use fixing::fix;

@@ -1,14 +1,15 @@
-//! Loads, and what they load, read off values.
-ghost use Rattle.std.specs.Prelude.{◌≡◌, bytes_eq};
+//! Loads and what they load, read off values, and places among the items of a file.
+ghost use Rattle.std.specs.Prelude.{◌≡◌, ◌≤◌, bytes_eq, length, IfOk, OnOk};
+ghost use Rattle.std.specs.List.{insert};
 ghost use Rattle.std.specs.Option.{option_map};
 ghost use Rattle.bz_rule.specs.Rules.{inner, is_text};
 ghost use Rattle.bz_attribute.specs.Lists.{body_of};
-ghost use Rattle.bz_load.specs.private.Known.{alias_in, symbol_in};
-ghost use Rattle.bz_load.specs.private.KnownKeys.{symbol_of_key};
-ghost use Rattle.bz_load.specs.Loads.{after_path as following, is_load_item as is_any_load, is_load_from as is_from, path_in as path_of, symbols_of as symbols};
+ghost use Rattle.bz_load.specs.private.Known.{symbol_of_key};
+ghost use Rattle.bz_load.specs.Loads.{after_loads, after_path, alias_in, is_block, is_load_from, is_load_item, leading_blocks, loads_end, path_in, symbol_in, symbols_of};
 
 use bz_attribute::{body_of, first_text, has_kind, items_of, parts_of};
 use bz_grammar::{Class, Kind};
+use bz_items::Memory;
 use bz_rule::{body, is_text, text_in};
 use bz_value::{Expr, Item};
 
@@ -21,7 +22,7 @@ pub(crate) struct Loaded<'a> {
 
 /// Whether the item is a load.
 pub(crate) fn is_load(item: &Item) -> bool
-    ensures { result ≡ is_any_load item.now }
+    ensures { result ≡ is_load_item item.now }
 {
     match item {
         Item::Block(_) => false,
@@ -53,7 +54,7 @@ fn is_string_of(text: &[u8], x: &Expr) -> bool
 
 /// Whether the first item of a load is the path.
 fn is_first(path: &[u8], items: &[Expr]) -> bool
-    ensures { result ≡ is_text path.now (path_of items.now) }
+    ensures { result ≡ is_text path.now (path_in items.now) }
 {
     match items {
         [] => false,
@@ -63,7 +64,7 @@ fn is_first(path: &[u8], items: &[Expr]) -> bool
 
 /// Whether the item is a load from this path.
 pub(crate) fn is_load_from(path: &[u8], item: &Item) -> bool
-    ensures { result ≡ is_from path.now item.now }
+    ensures { result ≡ is_load_from path.now item.now }
 {
     match item {
         Item::Block(_) => false,
@@ -73,7 +74,7 @@ pub(crate) fn is_load_from(path: &[u8], item: &Item) -> bool
 
 /// The items of a load after its path.
 pub(crate) fn after_path(items: &[Expr]) -> &[Expr]
-    ensures { result.now ≡ following items.now }
+    ensures { result.now ≡ after_path items.now }
 {
     match items {
         [] => &[],
@@ -83,7 +84,7 @@ pub(crate) fn after_path(items: &[Expr]) -> &[Expr]
 
 /// What a load has after its path.
 pub(crate) fn symbols_of(item: &Item) -> &[Expr]
-    ensures { result.now ≡ symbols item.now }
+    ensures { result.now ≡ symbols_of item.now }
 {
     match item {
         Item::Block(_) => &[],
@@ -121,4 +122,53 @@ pub(crate) fn symbol_in(x: &Expr) -> Option<Loaded<'_>>
         }),
         None => None,
     }
+}
+
+fn is_block(item: &Item) -> bool
+    ensures { result ≡ is_block item.now }
+{
+    match item {
+        Item::Block(_) => true,
+        Item::Stmt(_) => false,
+    }
+}
+
+/// With how many comment blocks the items begin.
+pub(crate) fn count_of_blocks(items: &[Item]) -> usize
+    ensures within { result ≤ length items.now }
+    ensures blocks { result ≡ leading_blocks items.now }
+{
+    for at in 0..items.len() {
+        if !is_block(&items[at]) {
+            return at;
+        }
+    }
+    items.len()
+}
+
+/// After how many items the last load is; without a load the other place.
+pub(crate) fn place_after_loads(items: &[Item], other: usize) -> usize
+    requires { other ≤ length items.now }
+    ensures within { result ≤ length items.now }
+    ensures place { result ≡ loads_end other 0 items.now }
+{
+    let mut place = other;
+    for at in 0..items.len() {
+        if is_load(&items[at]) {
+            place = at + 1;
+        }
+    }
+    place
+}
+
+/// Puts an item after the last load, else after the leading comment blocks. After how many items it is then.
+pub(crate) fn insert_after_loads(new: Item, items: &mut Vec<Item>) -> Result<usize, Memory>
+    ensures items { OnOk result (items.new.items ≡ after_loads new items.old.items) }
+    ensures within { IfOk result (λ at. at ≤ length items.old.items) }
+    ensures place { IfOk result (λ at. items.new.items ≡ insert items.old.items at new) }
+{
+    let blocks = count_of_blocks(items.as_slice());
+    let at = place_after_loads(items.as_slice(), blocks);
+    items.insert(at, new)?;
+    Ok(at)
 }

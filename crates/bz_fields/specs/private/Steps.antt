@@ -1,22 +1,13 @@
 -- What the private functions append, as they state it.
-use Rattle.std.specs.Prelude.{Bool, List, [], ◌∷◌, Option, is_some}
+use Rattle.std.specs.Prelude.{List, [], ◌∷◌, Option}
 use Rattle.std.specs.Option.{option_map_or}
-use Rattle.bz_value.specs.declared.value.Expr.{Expr}
 use Rattle.bz_items.specs.Characters.{Bytes, space}
 use Rattle.bz_rule.specs.Rules as r
-use Rattle.bz_attribute.specs.Lists.{body_of}
 use Rattle.bz_fields.specs.declared.rules.Rule.{Rule}
 
 -- the text, where there is one
 abbrev pub text_or_nothing : Option Bytes → Bytes
 text_or_nothing text = option_map_or (λ bytes. bytes) text []
-
--- the body of a plain string
-abbrev pub printed_body : Expr → Bytes
-printed_body x = text_or_nothing (body_of x)
-
-abbrev pub is_string : Expr → Bool
-is_string x = is_some (body_of x)
 
 -- a space, where others follow
 abbrev pub space_between : {X : Type 0} → List X → Bytes

@@ -1,30 +1,24 @@
 -- What the code keeps in sets: the symbols that are loaded already, and the names that are used, each as what is looked up in it.
-use Rattle.std.specs.Prelude.{Bool, ◌||◌, List, [], ◌∷◌, Option, None, bytes_eq, option_map, if◌then◌else◌}
+use Rattle.std.specs.Prelude.{Bool, ◌||◌, List, [], ◌∷◌, bytes_eq, if◌then◌else◌, map}
 use Rattle.std.specs.List.{list_any}
 use Rattle.std.specs.Option.{option_map_or}
-use Rattle.bz_grammar.specs.declared.kind.Kind.TheVariants as k
 use Rattle.bz_value.specs.declared.value.Expr.{Expr}
 use Rattle.bz_value.specs.declared.value.Item.{Item}
 use Rattle.bz_items.specs.Characters.{Bytes}
 use Rattle.bz_command_syntax.specs.declared.command.Symbol.{Symbol}
-use Rattle.bz_rule.specs.Values.{has_kind, parts_of, text_of}
-use Rattle.bz_attribute.specs.Lists.{body_of}
-use Rattle.bz_load.specs.Loads.{is_load_from, symbols_of}
-use Rattle.bz_load.specs.NewLoad.{is_symbol, and_symbol}
+use Rattle.bz_load.specs.Loads.{is_load_from, is_symbol, symbol_in, symbols_of}
+use Rattle.bz_load.specs.NewLoad.{and_symbol}
 use Rattle.bz_load.specs.Fixes.{operands, operand_names_in}
+use Rattle.bz_load.specs.declared.readings.Loaded.{Loaded}
 
 -- ---- symbols
 
-abbrev pub symbol : Bytes → Bytes → Symbol
-symbol to from = record { to = to; from = from }
+-- the keys of the set, as the symbols that they represent
+abbrev pub symbol_of_key : Loaded → Symbol
+symbol_of_key loaded = record { to = loaded.to.now; from = loaded.from.now }
 
-abbrev pub alias_in : List Expr → Option Symbol
-alias_in (to ∷ equals ∷ from ∷ []) = option_map (symbol (text_of to)) (body_of from)
-alias_in _ = None
-
--- the symbol that an item of a load loads
-abbrev pub symbol_in : Expr → Option Symbol
-symbol_in x = if has_kind k.Alias x then alias_in (parts_of x) else option_map (λ text. symbol text text) (body_of x)
+abbrev pub symbols_of_keys : List Loaded → List Symbol
+symbols_of_keys keys = map symbol_of_key keys
 
 abbrev pub knows : List Symbol → Symbol → Bool
 knows symbols other = list_any (is_symbol other) symbols

@@ -1,18 +1,23 @@
-use Rattle.std.proofs.Common.{◌∙◌, ap, subst, sym}
+use Rattle.std.proofs.Common.{◌≡◌, ◌∙◌, arith, inl, refl, subst, sym}
+use Rattle.std.proofs.lemmas.Grind.{common_steps}
 use Rattle.bz_command_syntax.specs.declared.command.Operation.TheVariants as w
+use Rattle.bz_command_syntax.specs.declared.command.CommentOperation.TheVariants as wc
 use Rattle.bz_command_syntax.specs.Proper.{IsProperCommand}
 use Rattle.bz_value.specs.Proper.{IsProper}
-use Rattle.bz_command.proofs.Overfull.{over_answered, refusal_answered}
+use Rattle.bz_command.proofs.Overfull.{overfilled, refused}
 use Rattle.bz_command.proofs.filling.overfills.Goals as goal
 
-pub returns-else-not-are_past-clause-ok : goal.returns-else-not-are_past-clause-ok
-returns-else-not-are_past-clause-ok c =
-    over_answered c.effects_stay_proper.ensures c.args.command.now c.in-Add.host c.in-Add.text c.as_slice.result.now c.args.current.now c.args.target.now c.args.lines.now c.args.file.now c.as_slice-items.result.now
-    c.comment_overfills.result (sym c.command.view_is ∙ (c.in-Comment.is ∙ ap w.Comment c.in-Add.is)) c.as_slice.ensures (c.as_slice-items.ensures ∙ c.file.view_is)
-    (subst IsProperCommand c.command.view_is c.command.invariant) (subst IsProper c.file.view_is c.file.invariant) c.comment_overfills.ensures.ok
+pub returns-in-Ok-clause-ok : goal.returns-in-Ok-clause-ok
+returns-in-Ok-clause-ok c =
+    let is : c.args.command.now ≡ w.Comment (wc.Add c.in-Comment-Add.host c.in-Comment-Add.text) = grind (arith, common_steps) in
+    λ _. overfilled c.args.command.now c.in-Comment-Add.host c.in-Comment-Add.text c.as_slice.result.now c.args.current.now c.args.target.now c.args.lines.now c.args.file.now
+    c.as_slice-items.result.now c.as_slice-marked.result.now is c.as_slice.ensures (c.as_slice-items.ensures ∙ c.file.view_is) (c.as_slice-marked.ensures.value ∙ c.in_ok-marks.ensures.value)
+    c.effects_stay_proper.ensures (subst IsProperCommand c.command.view_is c.command.invariant) (subst IsProper c.file.view_is c.file.invariant)
+    (sym c.is_any.ensures ∙ c.if-not-is_any.false, c.in_ok-are_copies_past.ensures c.if-not-branch.false, c.in-Ok.ensures.ok refl c.as_slice.result.now)
 
-pub returns-else-not-are_past-clause-err : goal.returns-else-not-are_past-clause-err
-returns-else-not-are_past-clause-err c =
-    refusal_answered c.args.command.now c.in-Add.host c.in-Add.text c.as_slice.result.now c.args.current.now c.args.target.now c.args.lines.now c.args.file.now c.as_slice-items.result.now
-    c.comment_overfills.result (sym c.command.view_is ∙ (c.in-Comment.is ∙ ap w.Comment c.in-Add.is)) c.as_slice.ensures (c.as_slice-items.ensures ∙ c.file.view_is)
-    c.comment_overfills.ensures.err
+pub returns-clause-err : goal.returns-clause-err
+returns-clause-err c =
+    let is : c.args.command.now ≡ w.Comment (wc.Add c.in-Comment-Add.host c.in-Comment-Add.text) = grind (arith, common_steps) in
+    inl (refused c.args.command.now c.in-Comment-Add.host c.in-Comment-Add.text c.as_slice.result.now c.args.current.now c.args.target.now c.args.lines.now c.args.file.now
+    c.as_slice-items.result.now c.as_slice-marked.result.now is c.as_slice.ensures (c.as_slice-items.ensures ∙ c.file.view_is) (c.as_slice-marked.ensures.value ∙ c.in_ok-marks.ensures.value)
+    c.in-Err.refusal (sym c.is_any.ensures ∙ c.if-not-is_any.false) (c.in-Err.ensures.err c.as_slice.result.now))

@@ -7,4 +7,4 @@ use Rattle.bz_command.proofs.ruling.with_item.Goals as goal
 pub returns-clause-extent : goal.returns-clause-extent
 returns-clause-extent c = λ marks. c.spliced.ensures marks c.args.items c.from_vec.result
     (put_in c.args.at c.args.new c.args.items c.from_vec.result c.requires
-    (c.from_vec.ensures ∙ (c.in_ok-put_at.ensures ∙ ap (λ (items : List Item). insert items c.args.at c.args.new) c.into_vec-all.ensures)))
+    (c.from_vec.ensures ∙ (c.in_ok-insert.ensures.items ∙ ap (λ (items : List Item). insert items c.args.at c.args.new) c.into_vec-all.ensures)))

@@ -1,11 +1,11 @@
-use Rattle.std.proofs.Common.{◌≡◌, ◌++◌, drop}
+use Rattle.std.proofs.Common.{◌≡◌, ◌++◌, drop, map}
 use Rattle.std.specs.Prelude.{decimal}
 use Rattle.std.specs.Option.{option_map}
-use Rattle.bz_fields.specs.Prints.{spaced, printed_fields}
+use Rattle.bz_fields.specs.Prints.{spaced, printed_field}
 use Rattle.bz_fields.specs.private.Steps.{seen_rule}
 use Rattle.bz_fields.proofs.printing.push_fields.Given as goal
 
 abbrev pub invariant-loop-i : goal.invariant-loop-i
 invariant-loop-i l =
-    l.out.items ++ spaced (printed_fields (option_map decimal l.subject.line) l.subject.item.now (seen_rule l.subject.rule) (drop l.i l.fields)) ≡
-    l.fn.out.items ++ spaced (printed_fields (option_map decimal l.subject.line) l.subject.item.now (seen_rule l.subject.rule) l.fields)
+    l.out.items ++ spaced (map (printed_field (option_map decimal l.subject.line) l.subject.item.now (seen_rule l.subject.rule)) (drop l.i l.fields)) ≡
+    l.fn.out.items ++ spaced (map (printed_field (option_map decimal l.subject.line) l.subject.item.now (seen_rule l.subject.rule)) l.fields)

@@ -1,9 +1,0 @@
-use Rattle.std.proofs.Common.{◌≡◌, drop}
-use Rattle.std.specs.List.{find, flat_map}
-use Rattle.bz_attribute.specs.Lists.{listed}
-use Rattle.bz_comment.specs.Changes.{is_sought}
-use Rattle.bz_comment.proofs.seeking.first_in_operands.Given as goal
-
--- what is found in the lists that are left is what is found in all
-abbrev pub invariant-loop-x : goal.invariant-loop-x
-invariant-loop-x l = find (is_sought l.sought) (flat_map listed l.operands) ≡ find (is_sought l.sought) (flat_map listed (drop l.x-index l.operands))

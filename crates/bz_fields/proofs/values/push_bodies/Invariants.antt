@@ -1,7 +1,0 @@
-use Rattle.std.proofs.Common.{◌≡◌, ◌++◌, drop, map}
-use Rattle.bz_fields.specs.Prints.{spaced}
-use Rattle.bz_fields.specs.private.Steps.{printed_body}
-use Rattle.bz_fields.proofs.values.push_bodies.Given as goal
-
-abbrev pub invariant-loop-i : goal.invariant-loop-i
-invariant-loop-i l = l.out.items ++ spaced (map printed_body (drop l.i l.items)) ≡ l.fn.out.items ++ spaced (map printed_body l.items)

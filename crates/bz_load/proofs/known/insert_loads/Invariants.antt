@@ -1,7 +1,0 @@
-use Rattle.std.proofs.Common.{◌≡◌, drop}
-use Rattle.bz_load.specs.private.Known.{and_loads, knows}
-use Rattle.bz_load.specs.private.KnownKeys.{symbols_of_keys}
-use Rattle.bz_load.proofs.known.insert_loads.Given as goal
-
-abbrev pub invariant-loop-item : goal.invariant-loop-item
-invariant-loop-item l = and_loads l.path (drop l.item-index l.items) (knows (symbols_of_keys l.known.keys)) ≡ and_loads l.path l.items (knows (symbols_of_keys l.fn.known.keys))
