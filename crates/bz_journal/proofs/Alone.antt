@@ -9,7 +9,7 @@ use Rattle.bz_items.specs.Characters.{Bytes}
 use Rattle.bz_command_syntax.specs.declared.command.Operation.{Operation}
 use Rattle.bz_value.specs.declared.refusal.Refusal.TheVariants.{Full, Memory}
 use Rattle.bz_journal.specs.Actions.{Do}
-use Rattle.bz_journal.specs.Alone.{history_made, text_or}
+use Rattle.bz_journal.specs.private.Alone.{history_made, text_or}
 use Rattle.bz_journal.specs.declared.texts.Made.{Made}
 use Rattle.bz_journal.specs.declared.action.Reply.{Reply}
 use Rattle.bz_journal.specs.declared.action.Reply.TheVariants.{Changed}

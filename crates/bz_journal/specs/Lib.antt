@@ -1,5 +1,4 @@
 pub mod Actions
-pub mod Alone
 pub mod Clauses
 pub mod Editing
 pub mod Forms

@@ -27,7 +27,7 @@ pub(crate) struct Texts {
 
 impl Model for Texts {
     ghost use Rattle.std.specs.Prelude.{string_bytes};
-    ghost use Rattle.bz_journal.specs.Alone.{AreTexts, history_made};
+    ghost use Rattle.bz_journal.specs.private.Alone.{AreTexts, history_made};
     ghost use Rattle.bz_journal.specs.History.{History};
 
     ghost Value = { History };
