@@ -12,4 +12,4 @@ pub use formatter::{FormatFault, format, of_read_fault};
 pub use laws::{
     comments_fill, formatted_once, tokens_kept, views_keep_programs, writing_keeps_program,
 };
-pub use writing::{formatted, reads_back, written};
+pub use writing::{formatted, reads_back, written, written_text};

@@ -49,7 +49,7 @@ pub fn written(alloc: Global, file: File) -> Result<Tree, Refusal>
 
 /// The text of a new value, which has about this many bytes: the layout of the value tidied. No tree is made for it.
 #[tactic(auto, using(crate::proofs::Writes::written_too_large, crate::proofs::Writes::written_too_deep, crate::proofs::Writes::written_given))]
-pub(crate) fn written_text(alloc: Global, file: File, about: usize) -> Result<Text, Refusal>
+pub fn written_text(alloc: Global, file: File, about: usize) -> Result<Text, Refusal>
     ensures ok { IfOk result (λ text. (printed : Option Bytes) → written file printed ≡ gives text printed) }
     ensures err { IfErr result (λ refusal. ((printed : Option Bytes) → written file printed ≡ refuses refusal) ⊎ (refusal ≡ Refusal.Memory)) }
 {

@@ -99,7 +99,7 @@ fn act_at<E: Sink>(
         × Leads (action_in action.now) command.now file.history answer history × (progress_in run.new ≡ answered place file answer history (progress_in run.old))
         × ReportsLines E.Sink err.old err.new (reported_of false file.name command.now answer) }
 {
-    match run.workspace.act(place, action, command) {
+    match run.workspace.act(place, action, command, run.once) {
         Ok(reply) => match put_printed(&reply, &mut run.printed) {
             Ok(()) => Cut::Whole,
             Err(_) => refuse(false, run, place, command, Refusal::Memory, err),
@@ -117,7 +117,7 @@ fn list_at<E: Sink>(alloc: Global, run: &mut Run, place: usize, command: &str, e
         × ReportsLines E.Sink err.old err.new [] }
     ensures same { run.new.workspace ≡ run.old.workspace }
 {
-    let Ok(text) = open_file(&run.workspace, place).editor.listing(alloc) else {
+    let Ok(text) = open_file(&run.workspace, place).revisions.listing(alloc) else {
         return refuse(false, run, place, command, Refusal::Memory, err);
     };
     match put_printed(&Reply::Printed(text), &mut run.printed) {

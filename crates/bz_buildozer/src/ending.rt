@@ -50,7 +50,7 @@ fn put_file(file: &Opened, output: &mut Vec<u8>) -> Result<bool, Memory>
         × (output.new.items ≡ output.old.items ++ present (opened_in file.now).history)) }
 {
     let start = output.len();
-    file.editor.text_into(output)?;
+    file.revisions.text_into(output)?;
     Ok(&output[start..] != file.read.as_slice())
 }
 
@@ -241,6 +241,7 @@ pub(crate) fn finish<W: Sink, F: Files, E: Sink>(
         workspace,
         printed,
         failed,
+        ..
     } = run;
     let packages = workspace.used();
     let output = print_all(packages, shown, options.to_stdout, printed, out, err);

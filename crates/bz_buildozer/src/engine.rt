@@ -21,7 +21,7 @@ use crate::reported::{UNUSED, report_line_usage, report_script, report_unread, r
 use crate::run::begun;
 use crate::running::run_lines;
 use crate::script::{INPUT, read_bytes, reported_name};
-use crate::step::{names_input, shows_input};
+use crate::step::{are_one_step, names_input, shows_input};
 use bz_command_line::{Given, Options, Requested, read_group, read_line, read_script};
 use bz_files::Files;
 use bz_grammar::ReadFault;
@@ -68,7 +68,7 @@ fn perform<R: Source, W: Sink, E: Sink, F: Files>(
         report(err, &["buildozer: package - has no journal\n"]);
         return UNUSED;
     }
-    let mut run = begun(alloc);
+    let mut run = begun(alloc, are_one_step(lines));
     let cut = run_lines(alloc, options, lines, &mut run, input, files, err);
     let shown = shows_input(lines);
     finish(alloc, options, shown, run, cut, out, files, err)

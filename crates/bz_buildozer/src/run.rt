@@ -12,15 +12,18 @@ pub(crate) struct Run {
     pub(crate) workspace: Workspace,
     pub(crate) printed: Vec<u8>,
     pub(crate) failed: bool,
+    /// Whether it has one step, so that no other one comes after it.
+    pub(crate) once: bool,
 }
 
-/// A run that begins.
-pub(crate) fn begun(alloc: Global) -> Run
+/// A run that begins, of one step or of any.
+pub(crate) fn begun(alloc: Global, once: bool) -> Run
     ensures { progress_in result ≡ nothing_done }
 {
     Run {
         workspace: Workspace::new(alloc),
         printed: Vec::new(alloc),
         failed: false,
+        once,
     }
 }

@@ -80,3 +80,11 @@ pub(crate) fn shows_input(lines: &[Requested<'_>]) -> bool
 {
     lines.iter().any(|line| is_shown(line))
 }
+
+/// Whether lines are one command on one target.
+pub(crate) fn are_one_step(lines: &[Requested<'_>]) -> bool {
+    match lines {
+        [line] => line.commands.len() == 1 && line.targets.len() == 1,
+        _ => false,
+    }
+}

@@ -20,36 +20,54 @@ use Rattle.bz_value.specs.declared.refusal.Refusal.TheVariants.{Memory}
 use Rattle.bz_relayout.specs.Relaid.{IsWritten}
 use Rattle.bz_journal.specs.Actions.{Do}
 use Rattle.bz_journal.specs.declared.action.Reply.{Reply}
-use Rattle.bz_journal.specs.Meaning.{gives, refuses, printed_answer, written, EffectMeans}
+use Rattle.bz_journal.specs.Meaning.{Meaning, Means, gives, refuses, printed_answer, written, EffectMeans}
 use Rattle.bz_journal.specs.History.{History, Answer, present, unchanged, after_meaning, MakesOrWants}
 use Rattle.bz_journal.specs.Editing.{IsLayoutOf, WrittenIsLaidOut}
 use Rattle.bz_journal.specs.State.{SessionState}
-use Rattle.bz_journal.proofs.Acting.{acts_refused, acts_same, meant_there, means_on, printed_answer_of}
+use Rattle.bz_journal.proofs.Acting.{acts_same, meant_there, means_on, printed_answer_of}
+
+-- ---- what a command means by its effect on the value that was seen of a tree, and what it prints of that
+
+module _ (operation : Operation) (target : Target) (current : Bytes) (tree : Node) (value : List Item) (reads : Reads (spell_node tree) tree) (seen : value ≡ view_of tree) where
+  abbrev Made : Result (List Item) Refusal
+  Made = effect operation target current (lines_of tree) value
+
+  abbrev Out : Result Bytes Refusal
+  Out = printed operation target current (lines_of tree) value
+
+  abbrev Meant : Meaning → Type 0
+  Meant = Means operation target current (spell_node tree)
+
+  meant_by : (made : Result (List Item) Refusal) (m : Meaning) → Made ≡ made → EffectMeans made (printed_answer operation Out) value (spell_node tree) m → Meant m
+  meant_by made m is means =
+      means_on operation target current (spell_node tree) m tree value (lines_of tree) reads seen refl
+      (subst (λ (r : Result (List Item) Refusal). EffectMeans r (printed_answer operation Out) value (spell_node tree) m) (sym is) means)
+
+  pub means_refused : (refusal : Refusal) → (Made ≡ Err refusal) ⊎ (refusal ≡ Memory) → Meant (refuses refusal) ⊎ (refusal ≡ Memory)
+  means_refused refusal (inl made) = inl (meant_by (Err refusal) (refuses refusal) made refl)
+  means_refused refusal (inr memory) = inr memory
+
+  -- `out` was printed
+  module _ (new : List Item) (out : Bytes) (answer : Option Bytes) (made : Made ≡ Ok new) (printed_is : Out ≡ Ok out) (answer_is : answer ≡ printed_answer operation (Ok out)) where
+    answered_is : answer ≡ printed_answer operation Out
+    answered_is = printed_answer_of operation Out out answer printed_is answer_is
+
+    pub means_same : new ≡ value → Meant (gives (spell_node tree) answer)
+    means_same same = meant_by (Ok new) (gives (spell_node tree) answer) made (inl (same, ap (gives (spell_node tree)) answered_is))
+
+    pub means_made : new ≢ value → Meant (written new answer)
+    means_made apart = meant_by (Ok new) (written new answer) made (inr (apart, ap (written new) answered_is))
+
+-- ---- what it answers beside a session
 
 -- Below, `value` is the value of the tree, and `out` what was printed of it.
-pub edited_refused : (note : Bytes) (operation : Operation) (target : Target) (h : History) (current : Bytes) (tree : Node) (value : List Item) (refusal : Refusal)
-    → current ≡ h.package → spell_node tree ≡ present h → Reads (spell_node tree) tree → value ≡ view_of tree
-    → (effect operation target current (lines_of tree) value ≡ Err refusal) ⊎ (refusal ≡ Memory) → MakesOrWants (Do operation target) note h (Err refusal) h
-edited_refused note operation target h current tree value refusal own is reads seen (inr memory) = acts_refused note operation target h current (spell_node tree) refusal own is (inr memory)
-edited_refused note operation target h current tree value refusal own is reads seen (inl made) =
-    let answer : Option Bytes = printed_answer operation (printed operation target current (lines_of tree) value) in
-    let means : EffectMeans (effect operation target current (lines_of tree) value) answer value (spell_node tree) (refuses refusal) =
-    subst (λ (r : Result (List Item) Refusal). EffectMeans r answer value (spell_node tree) (refuses refusal)) (sym made) refl in
-    acts_refused note operation target h current (spell_node tree) refusal own is
-    (inl (means_on operation target current (spell_node tree) (refuses refusal) tree value (lines_of tree) reads seen refl means))
-
 pub edited_same : (note : Bytes) (operation : Operation) (target : Target) (h : History) (current : Bytes) (tree : Node) (value new : List Item) (out : Bytes) (answer : Option Bytes) (reply : Reply)
     → current ≡ h.package → spell_node tree ≡ present h → Reads (spell_node tree) tree → value ≡ view_of tree
     → effect operation target current (lines_of tree) value ≡ Ok new → new ≡ value
     → printed operation target current (lines_of tree) value ≡ Ok out → answer ≡ printed_answer operation (Ok out) → reply ≡ unchanged answer → MakesOrWants (Do operation target) note h (Ok reply) h
 edited_same note operation target h current tree value new out answer reply own is reads seen made same printed_is answer_is replied =
-    let other : Option Bytes = printed_answer operation (printed operation target current (lines_of tree) value) in
-    let answered_is : answer ≡ other = printed_answer_of operation (printed operation target current (lines_of tree) value) out answer printed_is answer_is in
-    let means : EffectMeans (effect operation target current (lines_of tree) value) other value (spell_node tree) (gives (spell_node tree) answer) =
-    subst (λ (r : Result (List Item) Refusal). EffectMeans r other value (spell_node tree) (gives (spell_node tree) answer)) (sym made)
-    (inl (same, ap (gives (spell_node tree)) answered_is)) in
     acts_same note operation target h current (spell_node tree) answer reply own is
-    (means_on operation target current (spell_node tree) (gives (spell_node tree) answer) tree value (lines_of tree) reads seen refl means) replied
+    (means_same operation target current tree value reads seen new out answer made printed_is answer_is same) replied
 
 pub edited_made : (note : Bytes) (operation : Operation) (target : Target) (h after : History) (current : Bytes) (tree : Node) (value new : List Item) (out : Bytes) (answer : Option Bytes) (reply : Answer)
     → current ≡ h.package → spell_node tree ≡ present h → Reads (spell_node tree) tree → value ≡ view_of tree
@@ -58,14 +76,10 @@ pub edited_made : (note : Bytes) (operation : Operation) (target : Target) (h af
     → ((reply, after) ≡ after_meaning note h (written new answer)) ⊎ ((reply ≡ Err Memory) × (after ≡ h)) → MakesOrWants (Do operation target) note h reply after
 edited_made note operation target h after current tree value new out answer reply own is reads seen made apart printed_is answer_is (inr memory) = inr (λ none. none, memory.0, memory.1)
 edited_made note operation target h after current tree value new out answer reply own is reads seen made apart printed_is answer_is (inl led) =
-    let other : Option Bytes = printed_answer operation (printed operation target current (lines_of tree) value) in
-    let answered_is : answer ≡ other = printed_answer_of operation (printed operation target current (lines_of tree) value) out answer printed_is answer_is in
-    let means : EffectMeans (effect operation target current (lines_of tree) value) other value (spell_node tree) (written new answer) =
-    subst (λ (r : Result (List Item) Refusal). EffectMeans r other value (spell_node tree) (written new answer)) (sym made) (inr (apart, ap (written new) answered_is)) in
     inl (
       written new answer,
       meant_there operation target h current (spell_node tree) (written new answer) own is
-          (means_on operation target current (spell_node tree) (written new answer) tree value (lines_of tree) reads seen refl means),
+          (means_made operation target current tree value reads seen new out answer made printed_is answer_is apart),
       led,
     )
 

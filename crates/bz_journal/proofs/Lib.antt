@@ -1,10 +1,12 @@
 pub mod Acting
 pub mod Alike
+pub mod Alone
 pub mod Following
 pub mod Formatting
 pub mod Hashes
 pub mod Kept
 pub mod Layouts
+pub mod Meant
 pub mod Digested
 pub mod Edited
 pub mod PutLines

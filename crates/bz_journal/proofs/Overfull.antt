@@ -15,13 +15,11 @@ use Rattle.bz_command.specs.Overfull.{Overfills}
 use Rattle.bz_build_format.specs.Filled.{CommentsFill, CommentsFit}
 use Rattle.bz_value.specs.declared.refusal.Refusal.{Refusal}
 use Rattle.bz_value.specs.declared.refusal.Refusal.TheVariants.{Memory, TooLarge}
-use Rattle.bz_journal.specs.Actions.{Do}
-use Rattle.bz_journal.specs.History.{History, present, MakesOrWants}
 use Rattle.bz_journal.specs.Meaning.{refuses, printed_answer, Means, EffectMeans}
-use Rattle.bz_journal.proofs.Acting.{acts_refused, means_on}
-use Rattle.bz_journal.proofs.Edited.{edited_refused}
+use Rattle.bz_journal.proofs.Acting.{means_on}
+use Rattle.bz_journal.proofs.Edited.{means_refused}
 
-abbrev OverfullIsRefused : Type 0
+abbrev pub OverfullIsRefused : Type 0
 OverfullIsRefused = (made : Result (List Item) Refusal) (answer : Option Bytes) (text : Bytes) (tree : Node)
     → Reads text tree → Overfills made → EffectMeans made answer (view_of tree) text (refuses TooLarge)
 
@@ -44,13 +42,12 @@ means_overfull refused operation target current text tree value lines reads seen
     (subst (λ (items : List Item). EffectMeans (effect operation target current lines value) answer items text (refuses TooLarge)) (sym seen)
     (refused (effect operation target current lines value) answer text tree reads over))
 
--- a command beside a session that is refused, or is past the limit
-pub edited_not : OverfullIsRefused → (note : Bytes) (operation : Operation) (target : Target) (h : History) (current : Bytes) (tree : Node) (value : List Item) (refusal : Refusal)
-    → current ≡ h.package → spell_node tree ≡ present h → Reads (spell_node tree) tree → value ≡ view_of tree
+-- a command that is refused, or is past the limit
+pub means_not : OverfullIsRefused → (operation : Operation) (target : Target) (current : Bytes) (tree : Node) (value : List Item) (refusal : Refusal)
+    → Reads (spell_node tree) tree → value ≡ view_of tree
     → ((effect operation target current (lines_of tree) value ≡ Err refusal) ⊎ (refusal ≡ Memory)) ⊎ ((refusal ≡ TooLarge) × Overfills (effect operation target current (lines_of tree) value))
-    → MakesOrWants (Do operation target) note h (Err refusal) h
-edited_not refused note operation target h current tree value refusal own is reads seen (inl made) = edited_refused note operation target h current tree value refusal own is reads seen made
-edited_not refused note operation target h current tree value refusal own is reads seen (inr over) =
-    acts_refused note operation target h current (spell_node tree) refusal own is
-    (inl (subst (λ (r : Refusal). Means operation target current (spell_node tree) (refuses r)) (sym over.0)
-    (means_overfull refused operation target current (spell_node tree) tree value (lines_of tree) reads seen refl over.1)))
+    → Means operation target current (spell_node tree) (refuses refusal) ⊎ (refusal ≡ Memory)
+means_not refused operation target current tree value refusal reads seen (inl made) = means_refused operation target current tree value reads seen refusal made
+means_not refused operation target current tree value refusal reads seen (inr over) =
+    inl (subst (λ (r : Refusal). Means operation target current (spell_node tree) (refuses r)) (sym over.0)
+    (means_overfull refused operation target current (spell_node tree) tree value (lines_of tree) reads seen refl over.1))

@@ -1,6 +1,6 @@
 -- What keeping an action leaves, by its ways out.
-use Rattle.std.proofs.Common.{◌≡◌, ◌≢◌, ◌⊎◌, ◌≤◌, ◌∙◌, inl, inr, ℕ, List, true, Option, Result, Some, Ok, Err, refl, sym, ap, subst, arith}
-use Rattle.std.specs.Prelude.{IsErrOf}
+use Rattle.std.proofs.Common.{◌≡◌, ◌≢◌, ◌⊎◌, ◌≤◌, ◌∙◌, inl, inr, ℕ, List, [], true, Option, Result, Some, Ok, Err, refl, sym, ap, subst, arith}
+use Rattle.std.specs.Prelude.{IfErr, IsErrOf}
 use Rattle.std.specs.FinMap.{get}
 use Rattle.bz_edit.specs.declared.edit.Edit.{Edit}
 use Rattle.bz_files.specs.Faults.{Rises}
@@ -20,7 +20,7 @@ use Rattle.bz_journal.specs.declared.keeping.KeepFault.{KeepFault}
 use Rattle.bz_journal.specs.declared.keeping.KeepFault.TheVariants.{Pair, Refused}
 use Rattle.bz_journal.specs.History.{Answer, History, present}
 use Rattle.bz_journal.specs.declared.keeping.Written.{Written}
-use Rattle.bz_journal.specs.Keeping.{HasActed, IsRefused, IsWriteOrOpen, IsWrittenOf, IsWrittenSince, Keeps, KeepsPair}
+use Rattle.bz_journal.specs.Keeping.{HasActed, IsRefused, IsWriteOrOpen, IsWrittenOf, IsWrittenSince, Keeps, KeepsFile, KeepsPair}
 use Rattle.bz_journal.specs.Lasting.{IsSavedSession, saved}
 use Rattle.bz_journal.specs.Shown.{session_history}
 use Rattle.bz_journal.specs.State.{SessionState, session_trail}
@@ -204,3 +204,68 @@ module _ {F : Type 0} (files : FilesOf F) (action : Action) (note file : Bytes) 
         count = count;
         honest = honest_still;
       }
+
+-- ---- the same, of histories
+
+refused_stays : {F : Type 0} (answer : Result Reply KeepFault) (s t : SessionState) (old new : F)
+    → IfErr answer (λ fault. IsRefused fault → (t ≡ s) × (new ≡ old)) → IfErr answer (λ fault. IsRefused fault → new ≡ old)
+refused_stays (Ok reply) s t old new stays = tt
+refused_stays (Err fault) s t old new stays = λ refused. (stays refused).1
+
+pub file_kept : {F : Type 0} (files : FilesOf F) (action : Action) (note file : Bytes) (s : SessionState) (answer : Result Reply KeepFault) (t : SessionState) (old new : F)
+    → KeepsPair files action note file s answer t old new → KeepsFile files file (session_history s) (session_history t) answer old new
+file_kept files action note file s answer t old new kept = record {
+  steps = t.steps;
+  each = kept.each;
+  time = kept.time;
+  kept = kept.kept;
+  journal = kept.journal;
+  stored = kept.stored;
+  changed = kept.changed;
+  still = kept.still;
+  refused = refused_stays answer s t old new kept.refused;
+  untouched = kept.untouched;
+  cause = kept.cause;
+  rest = kept.rest;
+  count = kept.count;
+  honest = kept.honest;
+}
+
+-- nothing was done
+module _ {F : Type 0} (files : FilesOf F) (file : Bytes) (h : History) (held : F)
+    (only : (now : Folder) → files.since held (files.moment held) now → now ≡ files.folder held) where
+  pub file_still : (reply : Reply) → KeepsFile files file h h (Ok reply) held held
+  file_still reply = record {
+    steps = [];
+    each = λ honest resumes now stood. inl (only now stood);
+    time = λ honest resumes. stays (files.moment held) (files.since held) _;
+    kept = λ honest resumes other. absurd (other refl);
+    journal = λ honest other. absurd (other refl);
+    stored = λ honest now stood. inl (ap (λ (f : Folder). get f (journal_name file)) (only now stood));
+    changed = λ honest is. absurd (no_fault reply (Pair p.Changed) is);
+    still = λ _. refl;
+    refused = tt;
+    untouched = λ honest. tt;
+    cause = λ is. absurd is;
+    rest = λ _. refl;
+    count = omega arith;
+    honest = refl;
+  }
+
+  pub file_left : (refusal : Refusal) → KeepsFile files file h h (Err (Refused refusal)) held held
+  file_left refusal = record {
+    steps = [];
+    each = λ honest resumes now stood. inl (only now stood);
+    time = λ honest resumes. stays (files.moment held) (files.since held) _;
+    kept = λ honest resumes. tt;
+    journal = λ honest. tt;
+    stored = λ honest now stood. inl (ap (λ (f : Folder). get f (journal_name file)) (only now stood));
+    changed = λ honest is. absurd (not_changed refusal is);
+    still = tt;
+    refused = λ _. refl;
+    untouched = λ honest other now stood. only now stood;
+    cause = λ is. absurd is;
+    rest = λ _. refl;
+    count = omega arith;
+    honest = refl;
+  }

@@ -9,10 +9,11 @@ pub use Rattle.bz_files.specs.Folder.{Elapses, Folder}
 pub use Rattle.bz_build_format.specs.Fixed.{IsFormatted}
 pub use Rattle.bz_items.specs.Characters.{Bytes}
 pub use Rattle.bz_journal.specs.Actions.{MakesText, action_in}
-pub use Rattle.bz_journal.specs.private.Doing.{EndsAt, EndsKeeping, EndsOrNone, HasMade, IsReady}
+pub use Rattle.bz_journal.specs.private.Alone.{text_or}
+pub use Rattle.bz_journal.specs.private.Doing.{EndsAt, EndsKeeping, EndsOrNone, HasMade, IsReady, RunsIn}
 pub use Rattle.bz_journal.specs.Editing.{AreFirstDigests, IsBeside, WrittenIsLaidOut}
 pub use Rattle.bz_journal.specs.History.{Acts, Answer, History, IsFormat, IsKept, MakesOrWants, Runs, after_meaning, after_text, changed, most_steps, note_limit, opened, present, unchanged}
-pub use Rattle.bz_journal.specs.Keeping.{HasActed, IsRefused, IsWriteOrOpen, IsWrittenSince, Keeps, KeepsPair}
+pub use Rattle.bz_journal.specs.Keeping.{HasActed, IsRefused, IsWriteOrOpen, IsWrittenSince, Keeps, KeepsFile, KeepsPair}
 pub use Rattle.bz_journal.specs.Lasting.{AlikeActs, AlikeGoesOn, GoesOn, IsAgain, IsKnownSession, IsResumedSession, IsSavedSession, saved}
 pub use Rattle.bz_journal.specs.private.Lines.{AreIn, AreLinesOf, AreSpliced, tree_with}
 pub use Rattle.bz_journal.specs.Listing.{lines_of_texts, listing, noted, text_line, text_lines_from}

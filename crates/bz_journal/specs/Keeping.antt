@@ -1,11 +1,13 @@
 -- What keeping an action leaves: an answer, and a file with its journal.
-use Rattle.std.specs.Prelude.{◌≡◌, ◌≢◌, ◌≤◌, ◌<◌, ◌⊎◌, true, ℕ, length, Option, None, Some, Result, Ok, Err, IfErr, IsErrOf, IsOk, OnErr, OnOk}
+use Rattle.std.specs.Prelude.{◌≡◌, ◌≢◌, ◌≤◌, ◌<◌, ◌⊎◌, true, ℕ, List, length, Option, None, Some, Result, Ok, Err, IfErr, IsErrOf, IsOk, OnErr, OnOk}
 use Rattle.std.specs.FinMap.{get}
+use Rattle.bz_edit.specs.declared.edit.Edit.{Edit}
 use Rattle.bz_files.specs.Faults.{Rises}
 use Rattle.bz_files.specs.Folder.{Elapses, Folder}
 use Rattle.bz_files.specs.declared.files.Files.{Ghosts as FilesOf}
 use Rattle.bz_items.specs.Characters.{Bytes}
 use Rattle.bz_build_format.specs.Fixed.{IsFormatted}
+use Rattle.bz_resume.specs.Journals.{journal_text}
 use Rattle.bz_resume.specs.Pair.{journal_name}
 use Rattle.bz_resume.specs.Resuming.{Holds, OthersStay, Resumes, Survives}
 use Rattle.bz_resume.specs.declared.pair_fault.PairFault.TheVariants as f
@@ -82,6 +84,36 @@ pub record KeepsPair {F : Type 0} (files : FilesOf F) (action : Action) (note fi
   -- fault but Write.
   pub changed : files.honest old ≡ true → IsErrOf answer (Pair f.Changed) → get (files.folder old) file ≢ Some (present (session_history s))
   pub still : OnOk answer (t.cursor ≡ s.cursor → new ≡ old)
+  pub untouched : files.honest old ≡ true → IfErr answer (λ fault. fault ≢ Pair f.Write
+      → (now : Folder) → files.since new (files.moment old) now → now ≡ files.folder old)
+  -- A Write and an Open are counted, and nothing else.
+  pub cause : IsWriteOrOpen answer → Rises (files.faults old) (files.faults new)
+  pub rest : (IsWriteOrOpen answer → ⊥) → files.faults new ≡ files.faults old
+  pub count : files.faults old ≤ files.faults new
+  pub honest : files.honest new ≡ files.honest old
+
+-- What keeping an action does to files: to the file of this name and to its journal, by the history before and the one after it, and
+-- by what was answered. (The files before and after.)
+pub record KeepsFile {F : Type 0} (files : FilesOf F) (name : Bytes) (before after : History) (answer : Result Reply KeepFault) (old new : F) : Type 0 where
+  -- the steps between the texts of the history after it, as its journal has them
+  pub steps : List (List Edit)
+  -- A stop at any moment leaves a file that goes on with the texts of before or after, and that holds the present text of either.
+  pub each : files.honest old ≡ true → Resumes (files.folder old) name before.package before.texts
+      → (now : Folder) → files.since new (files.moment old) now → (now ≡ files.folder old) ⊎ Survives name before after (files.folder old) now
+  pub time : files.honest old ≡ true → Resumes (files.folder old) name before.package before.texts
+      → Elapses (files.moment old) (files.moment new) (files.since old) (files.since new)
+      (λ now. (now ≡ files.folder old) ⊎ Survives name before after (files.folder old) now)
+  -- Where the text is another one then, the file holds it, and the journal is that of its history.
+  pub kept : files.honest old ≡ true → Resumes (files.folder old) name before.package before.texts → OnOk answer (after.cursor ≢ before.cursor
+      → Holds (files.folder new) name before.package (present after) after.texts × OthersStay name (files.folder old) (files.folder new))
+  pub journal : files.honest old ≡ true → OnOk answer (after.cursor ≢ before.cursor → get (files.folder new) (journal_name name) ≡ Some (journal_text after steps))
+  pub stored : files.honest old ≡ true → (now : Folder) → files.since new (files.moment old) now
+      → (get now (journal_name name) ≡ get (files.folder old) (journal_name name)) ⊎ (get now (journal_name name) ≡ Some (journal_text after steps))
+  -- That the file holds another text is said only where it does. Nothing is replaced where the present text stays, where the action is
+  -- refused, and at every fault but Write.
+  pub changed : files.honest old ≡ true → IsErrOf answer (Pair f.Changed) → get (files.folder old) name ≢ Some (present before)
+  pub still : OnOk answer (after.cursor ≡ before.cursor → new ≡ old)
+  pub refused : IfErr answer (λ fault. IsRefused fault → new ≡ old)
   pub untouched : files.honest old ≡ true → IfErr answer (λ fault. fault ≢ Pair f.Write
       → (now : Folder) → files.since new (files.moment old) now → now ≡ files.folder old)
   -- A Write and an Open are counted, and nothing else.

@@ -1,6 +1,7 @@
 pub mod Actions
 pub mod Clauses
 pub mod Editing
+pub mod Forms
 pub mod History
 pub mod Keeping
 pub mod Lasting

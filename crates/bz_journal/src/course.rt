@@ -1,6 +1,6 @@
 //! The course of a file: its texts as one tree and the steps between them, and what actions make of it.
-ghost use Rattle.std.specs.Prelude.{◌≡◌, ◌≤◌, ◌<◌, ◌-◌, ◌+◌, ◌↔◌, true, false, take, Err, None, Ok, Result, ℕ, List, IfOk, OnOk, OnErr, IsOk, IsTrue, length};
-ghost use Rattle.bz_journal.specs.Clauses.{OpensText, AreIn, AreSpliced, EndsAt, EndsOrNone, HasMade, IsFormatted, IsSmall, IsTree, MakesOrWants, Refusal, after_text, are_even, changed, most_steps, note_limit, present, session_history, session_trail, spell_node, steps_back, steps_forward, tree_with, unchanged};
+ghost use Rattle.std.specs.Prelude.{◌≡◌, ◌≤◌, ◌<◌, ◌-◌, ◌+◌, ◌↔◌, true, false, take, Err, None, Ok, Result, ℕ, List, IfOk, OnOk, OnErr, IsOk, IsTrue, length, string_bytes};
+ghost use Rattle.bz_journal.specs.Clauses.{OpensText, AreIn, AreSpliced, EndsAt, EndsOrNone, HasMade, IsFormatted, IsSmall, IsTree, MakesOrWants, Refusal, after_text, are_even, changed, most_steps, note_limit, opened, present, session_history, session_trail, spell_node, steps_back, steps_forward, tree_with, unchanged};
 ghost use Rattle.bz_journal.specs.Actions as a;
 
 use crate::action::Reply;
@@ -114,6 +114,25 @@ impl Course {
         ensures { result.now ≡ (session_history self.now).«package» }
     {
         self.package.as_str()
+    }
+
+    /// The tree of the one text of a course, and the path of its package.
+    pub(crate) fn into_first(self) -> (Tree, String)
+        requires { length (session_history self).texts ≡ 1 }
+        ensures first { session_history self ≡ opened (string_bytes result.1) (spell_node result.0) }
+        ensures path { length (string_bytes result.1) ≤ 65536 }
+    {
+        texts_kept();
+        let Course {
+            tree,
+            steps,
+            notes,
+            package,
+            ..
+        } = self;
+        drop(steps);
+        drop(notes);
+        (tree, package)
     }
 
     /// How many steps there are between the present text and the last.

@@ -1,6 +1,6 @@
 //! An editor: a session, and beside it the value of the present text from one command to the next.
-ghost use Rattle.std.specs.Prelude.{◌≡◌, ◌≤◌, ◌<◌, ◌++◌, ℕ, length, IfOk, IfSome, Ok, OnErr, OnOk, Some};
-ghost use Rattle.bz_journal.specs.Clauses.{AreFirstDigests, HasActed, IsSavedSession, IsWrittenSince, Keeps, KeepsPair, OpensText, Refusal, Reply, action_in, listing, opened, present, saved, session_history};
+ghost use Rattle.std.specs.Prelude.{◌≡◌, ◌≤◌, ◌<◌, ◌++◌, ℕ, length, string_bytes, IfErr, IfOk, IfSome, Ok, OnErr, OnOk, Some};
+ghost use Rattle.bz_journal.specs.Clauses.{AreFirstDigests, HasActed, IsSavedSession, IsWrittenSince, Keeps, KeepsPair, OpensText, Refusal, Reply, action_in, listing, opened, present, saved, session_history, spell_node};
 
 use crate::action::{Action, Reply};
 use crate::answering::Lookups;
@@ -10,7 +10,7 @@ use crate::digests::{cut_off, known, learn};
 use crate::keeping::{KeepFault, Written, persist};
 use crate::session::Session;
 use bz_files::Files;
-use bz_grammar::ReadFault;
+use bz_grammar::{ReadFault, Tree};
 use bz_items::{Memory, Text};
 use bz_value::Refusal;
 use std::alloc::Global;
@@ -56,7 +56,7 @@ impl Model for Editor {
 }
 
 /// An editor of a course of whose first texts these are the digests, and which may have this text. Nothing else is kept beside it yet.
-fn editor_of(course: Course, digests: Vec<[u8; 32]>, text: Option<Vec<u8>>) -> Editor
+pub(crate) fn editor_of(course: Course, digests: Vec<[u8; 32]>, text: Option<Vec<u8>>) -> Editor
     requires digests { AreFirstDigests digests.items (session_history course).texts }
     requires text { IfSome text (λ own. own.items ≡ present (session_history course)) }
     ensures { result ≡ course }
@@ -178,19 +178,52 @@ impl Editor {
         kept
     }
 
-    /// The present text, whose digest is then known where those of the texts before it are. The error: a growth was refused.
-    fn take_text(&mut self) -> Result<Vec<u8>, Memory>
+    /// The present text, which is taken where it is at hand. The error: a growth was refused.
+    fn own_text(&mut self) -> Result<Vec<u8>, Memory>
         ensures text { IfOk result (λ text. text.items ≡ present (session_history self.old)) }
         ensures within { (session_history self.old).cursor < length (session_history self.old).texts }
         ensures stays { self.new ≡ self.old }
     {
         let _here = self.course.present();
-        let text = match self.text.take() {
-            Some(text) => text,
-            None => text_of(self.course.present())?,
-        };
+        match self.text.take() {
+            Some(text) => Ok(text),
+            None => text_of(self.course.present()),
+        }
+    }
+
+    /// The same; its digest is then known where those of the texts before it are.
+    fn take_text(&mut self) -> Result<Vec<u8>, Memory>
+        ensures text { IfOk result (λ text. text.items ≡ present (session_history self.old)) }
+        ensures within { (session_history self.old).cursor < length (session_history self.old).texts }
+        ensures stays { self.new ≡ self.old }
+    {
+        let text = self.own_text()?;
         learn(&mut self.digests, &self.course, text.as_slice());
         Ok(text)
+    }
+
+    /// The one text of an editor, its tree, and the path of its package. The error: a growth was refused, and it is given back.
+    pub(crate) fn into_first(self) -> Result<(Tree, String, Vec<u8>), Editor>
+        requires { length (session_history self).texts ≡ 1 }
+        ensures first { IfOk result (λ parts. session_history self ≡ opened (string_bytes parts.1) parts.2.items) }
+        ensures text { IfOk result (λ parts. parts.2.items ≡ spell_node parts.0) }
+        ensures path { IfOk result (λ parts. length (string_bytes parts.1) ≤ 65536) }
+        ensures err { IfErr result (λ editor. editor ≡ self) }
+    {
+        let mut editor = self;
+        let Ok(text) = editor.own_text() else {
+            return Err(editor);
+        };
+        let Editor {
+            course,
+            digests,
+            beside,
+            ..
+        } = editor;
+        drop(digests);
+        drop(beside);
+        let (tree, package) = course.into_first();
+        Ok((tree, package, text))
     }
 
     /// What is written of the session, where its cursor is another one than this. The error: a growth was refused.

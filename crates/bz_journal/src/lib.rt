@@ -14,7 +14,9 @@ mod laws;
 mod lines;
 mod listing;
 mod meaning;
+mod revisions;
 mod session;
+mod texts;
 
 pub use action::{Action, Reply};
 pub use bz_files::{DiskFiles, FileFault, Files, MemoryFiles};
@@ -24,4 +26,5 @@ pub use keeping::KeepFault;
 pub use laws::{
     alike_goes_on, editor_holds, history_kept, session_holds, stopped_is_resumed, worked_histories,
 };
+pub use revisions::Revisions;
 pub use session::Session;

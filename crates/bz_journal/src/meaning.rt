@@ -1,13 +1,15 @@
 //! What a command makes of the value of a tree.
-ghost use Rattle.std.specs.Prelude.{◌≡◌, ◌⊎◌, ◌↔◌, List, Ok, Err, IfOk, IfErr, IfSome, IsTrue, OnOk};
-ghost use Rattle.bz_journal.specs.Clauses.{Bytes, IsOfExtent, Item, Overfills, Refusal, effect, lines_of, printed, printed_answer, view_of};
+ghost use Rattle.std.specs.Prelude.{◌≡◌, ◌⊎◌, List, Ok, IfOk, IfErr, IfSome};
+ghost use Rattle.bz_journal.specs.Clauses.{Bytes, Item, Means, Refusal, RunsIn, effect, gives, lines_of, printed, printed_answer, refuses, spell_node, text_or, view_of};
 
+use bz_build_format::{comments_fill, reads_back, written_text};
 use bz_command::{Ran, lines_matter, looks_at_lines, overfills, run_in};
 use bz_command_syntax::Command;
 use bz_grammar::Tree;
-use bz_hosts::view;
+use bz_hosts::{into_view, view};
 use bz_items::{Memory, Text};
 use bz_label::Target;
+use bz_rule::take_apart;
 use bz_value::{File, Refusal};
 use std::alloc::Global;
 
@@ -46,8 +48,25 @@ pub(crate) fn lines_for(
     Ok(Vec::new(alloc))
 }
 
-/// Runs a command on the value of a tree, in place. Errors: those of the command; `TooLarge` where what it makes is past the limit by
-/// the comments that it puts in, and isn't made.
+/// Runs a command on a value, in place, by the lines on which its statements begin. Errors: those of the command; `TooLarge` where what it
+/// makes is past the limit by the comments that it puts in, and isn't made.
+fn run_by_lines(
+    alloc: Global,
+    command: &Command,
+    target: &Target,
+    current: &[u8],
+    lines: &[u32],
+    file: &mut File,
+) -> Result<Ran, Refusal>
+    ensures { RunsIn (effect command.now target.now current.now lines.now file.old) (printed command.now target.now current.now lines.now file.old) file.old result file.new }
+{
+    if overfills(alloc, command, target, current, lines, file)? {
+        return Err(Refusal::TooLarge);
+    }
+    run_in(alloc, command, target, current, lines, file)
+}
+
+/// The same on the value of a tree.
 pub(crate) fn run_on_tree(
     alloc: Global,
     command: &Command,
@@ -56,16 +75,44 @@ pub(crate) fn run_on_tree(
     tree: &Tree,
     file: &mut File,
 ) -> Result<Ran, Refusal>
-    ensures ok { OnOk result (effect command.now target.now current.now (lines_of tree.now) file.old ≡ Ok file.new) }
-    ensures same { IfOk result (λ ran. IsTrue ran.same ↔ (file.new ≡ file.old)) }
-    ensures printed { IfOk result (λ ran. printed command.now target.now current.now (lines_of tree.now) file.old ≡ Ok ran.printed) }
-    ensures extent { IfOk result (λ ran. IsOfExtent ran.extent ran.marks.items file.old file.new) }
-    ensures err { IfErr result (λ refusal. ((effect command.now target.now current.now (lines_of tree.now) file.old ≡ Err refusal) ⊎ (refusal ≡ Refusal.Memory))
-        ⊎ ((refusal ≡ Refusal.TooLarge) × Overfills (effect command.now target.now current.now (lines_of tree.now) file.old))) }
+    ensures { RunsIn (effect command.now target.now current.now (lines_of tree.now) file.old) (printed command.now target.now current.now (lines_of tree.now) file.old) file.old result file.new }
 {
     let lines = lines_for(alloc, command, target, tree)?;
-    if overfills(alloc, command, target, current, lines.as_slice(), file)? {
-        return Err(Refusal::TooLarge);
+    run_by_lines(alloc, command, target, current, lines.as_slice(), file)
+}
+
+/// What a command means on the text of a tree, which has this many bytes and is given up for its value: the text after it, none where the
+/// value stays as it was, and what is printed. Errors: those of the command; `TooLarge` and `TooDeep` where the new text would be past a limit; `Memory`.
+pub(crate) fn meant(
+    alloc: Global,
+    command: &Command,
+    target: &Target,
+    current: &[u8],
+    tree: Tree,
+    len: usize,
+) -> Result<(Option<Text>, Option<Text>), Refusal>
+    ensures ok { IfOk result (λ meant. Means command.now target.now current.now (spell_node tree) (gives (text_or (spell_node tree) meant.0) meant.1)) }
+    ensures err { IfErr result (λ refusal. Means command.now target.now current.now (spell_node tree) (refuses refusal) ⊎ (refusal ≡ Refusal.Memory)) }
+{
+    reads_back(&tree);
+    comments_fill();
+    let lines = lines_for(alloc, command, target, &tree)?;
+    let mut file = into_view(alloc, tree)?;
+    match run_by_lines(alloc, command, target, current, lines.as_slice(), &mut file) {
+        Ok(ran) => {
+            let printed = printed_answer(command, ran.printed);
+            if ran.same {
+                take_apart(file);
+                return Ok((None, printed));
+            }
+            match written_text(alloc, file, len) {
+                Ok(text) => Ok((Some(text), printed)),
+                Err(refusal) => Err(refusal),
+            }
+        }
+        Err(refusal) => {
+            take_apart(file);
+            Err(refusal)
+        }
     }
-    run_in(alloc, command, target, current, lines.as_slice(), file)
 }

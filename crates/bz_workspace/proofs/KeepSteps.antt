@@ -1,20 +1,11 @@
 -- A file after an action that was kept, or not.
-use Rattle.std.proofs.Common.{◌≡◌, ◌∙◌, ◌||◌, ℕ, Bool, not, true, Result, Ok, Err, ap}
-use Rattle.std.specs.Prelude.{◌==◌, IfErr}
-use Rattle.bz_journal.specs.declared.action.Reply.{Reply}
-use Rattle.bz_journal.specs.declared.keeping.KeepFault.{KeepFault}
+use Rattle.std.proofs.Common.{◌≡◌, ◌∙◌, ◌||◌, ℕ, Bool, not, true, Err, ap}
+use Rattle.std.specs.Prelude.{◌==◌}
 use Rattle.bz_journal.specs.declared.keeping.KeepFault.TheVariants.{Pair}
 use Rattle.bz_resume.specs.declared.pair_fault.PairFault.{PairFault}
 use Rattle.bz_journal.specs.History.{History}
-use Rattle.bz_journal.specs.Keeping.{IsRefused}
-use Rattle.bz_journal.specs.State.{SessionState}
 use Rattle.bz_workspace.specs.Keeps.{after_keeping}
 use Rattle.bz_workspace.specs.Packages.{Opened}
-
-pub refused_stays : {F : Type 0} (answer : Result Reply KeepFault) (s t : SessionState) (old new : F)
-    → IfErr answer (λ fault. IsRefused fault → (t ≡ s) × (new ≡ old)) → IfErr answer (λ fault. IsRefused fault → new ≡ old)
-refused_stays (Ok reply) s t old new stays = tt
-refused_stays (Err fault) s t old new stays = λ refused. (stays refused).1
 
 -- the file with what was marked; `mid` is it before
 pub marked_written : (after : History) (file mid : Opened) (written : Bool) (from to : ℕ) → mid ≡ record file { history = after }

@@ -11,7 +11,7 @@ ghost use Rattle.bz_workspace.specs.Shown.{opened_in, used_in};
 
 use bz_files::Files;
 use bz_items::Text;
-use bz_journal::{Action, Editor, KeepFault, Reply};
+use bz_journal::{Action, Editor, KeepFault, Reply, Revisions};
 
 /// A file that is open.
 #[derive(Drop)]
@@ -20,8 +20,8 @@ pub struct Opened {
     pub name: String,
     /// The text that was read.
     pub read: Text,
-    /// What became of it: its session, with the value beside it.
-    pub editor: Editor,
+    /// What became of it: its texts so far.
+    pub revisions: Revisions,
     /// Whether its journal and it were written in this run.
     pub written: bool,
     /// Whether it is left alone: the two could not both be written.
@@ -36,7 +36,7 @@ impl Opened {
         Opened {
             name,
             read,
-            editor,
+            revisions: Revisions::new(editor),
             written: false,
             left: false,
         }
@@ -54,7 +54,7 @@ impl Opened {
         ensures same { opened_in self.new ≡ record (opened_in self.old) { history = (opened_in self.new).history } }
         ensures pair { KeepsFile F.Files (opened_in self.old).name (opened_in self.old).history (opened_in self.new).history result files.old files.new }
     {
-        self.editor
+        self.revisions
             .keep_noted(action, note, self.name.as_str(), files)
     }
 
@@ -69,10 +69,10 @@ impl Opened {
             × (opened_in self.new ≡ after_keeping result history (opened_in self.old))
             × KeepsFile F.Files (opened_in self.old).name (opened_in self.old).history history result files.old files.new }
     {
-        let from = self.editor.cursor();
+        let from = self.revisions.cursor();
         match self.keep_pair(action, note, files) {
             Ok(reply) => {
-                self.written |= self.editor.cursor() != from;
+                self.written |= self.revisions.cursor() != from;
                 Ok(reply)
             }
             Err(KeepFault::Refused(refusal)) => Err(KeepFault::Refused(refusal)),

@@ -338,15 +338,21 @@ impl Workspace {
         }
     }
 
-    /// Does an action with a note in the open file of the package with this number. Errors: those of `Session::act_noted`; the
-    /// file is then as before.
-    pub fn act(&mut self, place: usize, action: &Action<'_>, note: &str) -> Result<Reply, Refusal>
+    /// Does an action with a note in the open file of the package with this number, which is said to be the last one there or not: that
+    /// changes what it takes, and not what it does. Errors: those of `Session::act_noted`; the file is then as before.
+    pub fn act(
+        &mut self,
+        place: usize,
+        action: &Action<'_>,
+        note: &str,
+        is_last: bool,
+    ) -> Result<Reply, Refusal>
         requires { IsSome (file_at place self.old) }
         ensures { ActsAt place (action_in action.now) note.now self.old result self.new }
     {
         let used = &mut self.used[place];
         match &mut used.file {
-            Some(opened) => opened.editor.act_noted(action, note),
+            Some(opened) => opened.revisions.act_noted(action, note, is_last),
             None => unreachable!(),
         }
     }

@@ -1,7 +1,9 @@
 use Rattle.std.proofs.Common.{◌≡◌, ◌∙◌, ap, false, is_some, refl, sym, true≢false, Option, None, Some}
+use Rattle.bz_grammar.specs.Spell.{spell_node}
 use Rattle.bz_hosts.specs.View.{view_of}
 use Rattle.bz_journal.specs.Shown.{session_history}
-use Rattle.bz_journal.proofs.Edited.{edited_refused, edited_same}
+use Rattle.bz_journal.proofs.Acting.{acts_refused}
+use Rattle.bz_journal.proofs.Edited.{edited_same, means_refused}
 use Rattle.bz_journal.proofs.answering.answer_of.Goals as goal
 
 none_of : {X : Type 0} (o : Option X) → is_some o ≡ false → o ≡ None
@@ -17,5 +19,7 @@ returns-else-is_some c = λ note.
 
 pub returns-in-Err : goal.returns-in-Err
 returns-in-Err c = λ note.
-    edited_refused note c.args.command.now c.args.target.now (session_history c.args.course.now) c.as_bytes-current.result.now c.present-here.result.now c.args.file.now c.in-Err.refusal (c.as_bytes-current.ensures.value ∙ c.own_package.ensures)
-    c.present-here.ensures.text c.reads_back.ensures (c.requires.value ∙ sym (ap view_of c.present-here.ensures.tree)) c.in-Err.ensures.err
+    acts_refused note c.args.command.now c.args.target.now (session_history c.args.course.now) c.as_bytes-current.result.now (spell_node c.present-here.result.now) c.in-Err.refusal
+    (c.as_bytes-current.ensures.value ∙ c.own_package.ensures) c.present-here.ensures.text
+    (means_refused c.args.command.now c.args.target.now c.as_bytes-current.result.now c.present-here.result.now c.args.file.now c.reads_back.ensures
+    (c.requires.value ∙ sym (ap view_of c.present-here.ensures.tree)) c.in-Err.refusal c.in-Err.ensures.err)
