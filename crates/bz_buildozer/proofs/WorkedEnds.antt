@@ -346,6 +346,11 @@ set_next world has =
 abbrev redo : Request
 redo = record { verb = Redo 1; text = codes "redo" }
 
+ends_without : (world : World) (keep_going : Bool) (steps : List RunStep) → RunsSteps world keep_going steps nothing_done (none_line ∷ []) after_none
+    → Performs (record plain { keep_going = keep_going }) steps world (left_of [] (none_line ∷ []) 2 world.folder)
+ends_without world keep_going steps runs =
+    record { reported = none_line ∷ []; state = after_none; output = refl; writes = refl; lines = refl; status = refl; runs = runs; }
+
 beside_none : (world : World) → HasBuild world → found_in world.folder none ≡ None → BesideNone world
 unfolding clap_on_literals
 beside_none world has gone =
@@ -354,16 +359,9 @@ beside_none world has gone =
     let texts : List Bytes = set_text ∷ codes "//none:x" ∷ rule_word ∷ [] in
     let requested : Requested = requested_of (set_size ∷ []) (rule_x none ∷ rule_x [] ∷ []) in (
       run_of texts texts plain requested world (left_of [] (none_line ∷ []) 2 world.folder) refl refl refl
-          (record {
-            reported = none_line ∷ [];
-            state = after_none;
-            output = refl;
-            writes = refl;
-            lines = refl;
-            status = refl;
-            runs = one_step world false (step_at none set_size) (step_at [] set_size ∷ []) nothing_done after_none after_none (none_line ∷ []) [] refl
-                (fails_first world set_size gone) (inl (refl, refl, refl));
-          }),
+          (ends_without world false (all_steps (requested ∷ []))
+          (one_step world false (step_at none set_size) (step_at [] set_size ∷ []) nothing_done after_none after_none (none_line ∷ []) [] refl
+          (fails_first world set_size gone) (inl (refl, refl, refl)))),
       run_of (codes "-k" ∷ texts) texts keep requested world (left_of [] (none_line ∷ made_lines) 2 written) refl refl refl
           (record {
             reported = none_line ∷ [];
@@ -377,17 +375,10 @@ beside_none world has gone =
           }),
       run_of (codes "-k" ∷ undo_text ∷ codes "redo" ∷ codes "//none:x" ∷ []) (undo_text ∷ codes "redo" ∷ codes "//none:x" ∷ []) keep
           (requested_of (undo 1 undo_text ∷ redo ∷ []) (rule_x none ∷ [])) world (left_of [] (none_line ∷ []) 2 world.folder) refl refl refl
-          (record {
-            reported = none_line ∷ [];
-            state = after_none;
-            output = refl;
-            writes = refl;
-            lines = refl;
-            status = refl;
-            runs = one_step world true (step_at none (undo 1 undo_text)) (step_at none redo ∷ []) nothing_done after_none after_none (none_line ∷ []) [] refl
-                (fails_first world (undo 1 undo_text) gone)
-                (one_step world true (step_at none redo) [] after_none after_none after_none [] [] refl (fails_again world redo) (refl, refl));
-          }),
+          (ends_without world true (step_at none (undo 1 undo_text) ∷ step_at none redo ∷ [])
+          (one_step world true (step_at none (undo 1 undo_text)) (step_at none redo ∷ []) nothing_done after_none after_none (none_line ∷ []) [] refl
+          (fails_first world (undo 1 undo_text) gone)
+          (one_step world true (step_at none redo) [] after_none after_none after_none [] [] refl (fails_again world redo) (refl, refl)))),
     )
 
 -- ---- runs over standard input
