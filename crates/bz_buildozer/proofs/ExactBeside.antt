@@ -21,7 +21,7 @@ use Rattle.bz_buildozer.specs.Run.{Finds, Progress, World, nothing_done, reporte
 use Rattle.bz_buildozer.specs.Steps.{RunStep, action_of, input_package, shows_input}
 use Rattle.bz_buildozer.proofs.ExactActions.{one_answer}
 use Rattle.bz_buildozer.proofs.ExactEnding.{either_not, reads_input}
-use Rattle.bz_buildozer.proofs.ExactLines.{same_append, same_as, same_lines}
+use Rattle.bz_buildozer.proofs.ExactLines.{same_append, same_as, same_lines, same_reported}
 use Rattle.bz_buildozer.proofs.ExactSteps.{TakesSame, no_place, one_place, same_taken}
 use Rattle.bz_buildozer.proofs.Outcomes.{apart}
 use Rattle.bz_buildozer.proofs.SafeSteps.{IsUnlike, file_in_front, one_file, unlike_put}
@@ -281,9 +281,7 @@ same_kept one words options steps world left other unread journals performs perf
     record {
       output = performs.output ∙ ap (λ (s : Progress). s.printed ++ texts_out (shows_input steps) options.to_stdout s.used) same.1 ∙ sym performs'.output;
       status = performs.status ∙ ap status_of same.1 ∙ sym performs'.status;
-      lines = same_as words world left.lines other.lines (performs.reported ++ fixed_lines options.quiet files) (performs'.reported ++ fixed_lines options.quiet files) performs.lines lines
-          (same_append words world performs.reported performs'.reported (fixed_lines options.quiet files) (fixed_lines options.quiet files) same.0
-          (same_lines words world (fixed_lines options.quiet files) (fixed_lines options.quiet files) refl));
+      lines = same_reported words world left.lines other.lines performs.reported performs'.reported (fixed_lines options.quiet files) performs.lines lines same.0;
       folder = λ name open_is. same_folder world performs.state.used left.folder other.folder
           (stays_run world options.keep_going steps left.folder performs.state performs.reported performs.runs) stays' name (λ aside. open_is (inl aside))
           (λ file is. open_is (subst (IsLeftOpen words) (sym is) (journals file)));

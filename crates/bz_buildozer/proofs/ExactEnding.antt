@@ -18,7 +18,7 @@ use Rattle.bz_buildozer.specs.Ending.{Left, Performs, WritesFiles, Writing, text
 use Rattle.bz_buildozer.specs.Exact.{SameLeft}
 use Rattle.bz_buildozer.specs.Run.{World, Progress, Finds, Uses, Does, RunsSteps, nothing_done}
 use Rattle.bz_buildozer.specs.Steps.{RunStep, step_of, steps_requested, all_steps, is_of_input, names_input, shows_input}
-use Rattle.bz_buildozer.proofs.ExactLines.{same_lines, same_as, same_append}
+use Rattle.bz_buildozer.proofs.ExactLines.{same_reported}
 use Rattle.bz_buildozer.proofs.ExactSteps.{same_run}
 use Rattle.bz_buildozer.proofs.Outcomes.{apart}
 
@@ -133,9 +133,7 @@ same_performed one words bytes options steps world left other known performs per
     record {
       output = performs.output ∙ ap (λ (s : Progress). s.printed ++ texts_out (shows_input steps) options.to_stdout s.used) same.1 ∙ sym performs'.output;
       status = performs.status ∙ ap status_of same.1 ∙ sym performs'.status;
-      lines = same_as words world left.lines other.lines (performs.reported ++ fixed_lines options.quiet files) (performs'.reported ++ fixed_lines options.quiet files) performs.lines lines
-          (same_append words world performs.reported performs'.reported (fixed_lines options.quiet files) (fixed_lines options.quiet files) same.0
-          (same_lines words world (fixed_lines options.quiet files) (fixed_lines options.quiet files) refl));
+      lines = same_reported words world left.lines other.lines performs.reported performs'.reported (fixed_lines options.quiet files) performs.lines lines same.0;
       folder = λ name open_is. same_writes files world.folder world.folder left.folder other.folder (λ name aside. refl) performs.writes writes name
           (λ aside. open_is (inl aside));
     }

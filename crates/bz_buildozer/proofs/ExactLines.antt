@@ -24,3 +24,10 @@ same_append words world [] (other ∷ others) rest more same following = absurd 
 same_append words world (line ∷ first) [] rest more same following = absurd same
 same_append words world (line ∷ first) (other ∷ others) rest more same following =
     (same.0, same_append words world first others rest more same.1 following)
+
+-- The same lines, above others that are the same ones.
+pub same_reported : (words : List Bytes) (world : World) (lines others reported reported' rest : List Bytes) → lines ≡ reported ++ rest → others ≡ reported' ++ rest
+    → SameLines words world reported reported' → SameLines words world lines others
+same_reported words world lines others reported reported' rest is other_is same =
+    same_as words world lines others (reported ++ rest) (reported' ++ rest) is other_is
+    (same_append words world reported reported' rest rest same (same_lines words world rest rest refl))
