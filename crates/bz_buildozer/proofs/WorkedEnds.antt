@@ -349,7 +349,7 @@ redo = record { verb = Redo 1; text = codes "redo" }
 ends_without : (world : World) (keep_going : Bool) (steps : List RunStep) → RunsSteps world keep_going steps nothing_done (none_line ∷ []) after_none
     → Performs (record plain { keep_going = keep_going }) steps world (left_of [] (none_line ∷ []) 2 world.folder)
 ends_without world keep_going steps runs =
-    record { reported = none_line ∷ []; state = after_none; output = refl; writes = refl; lines = refl; status = refl; runs = runs; }
+    record { reported = none_line ∷ []; state = after_none; output = refl; writes = refl; lines = refl; status = refl; runs = runs }
 
 beside_none : (world : World) → HasBuild world → found_in world.folder none ≡ None → BesideNone world
 unfolding clap_on_literals
