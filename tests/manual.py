@@ -61,7 +61,7 @@ def commands_of_code():
 
 def options_of_code(program):
     text = (CRATES / OPTIONS[program]).read_text()
-    long = re.findall(r'long = Some \(codes "(\w+)"\)', text)
+    long = re.findall(r'(?:long = Some|flag_rule) \(codes "(\w+)"\)', text)
     return [f"--{name}" for name in long] + [f"-{name}" for name in re.findall(r"short = Some letter_(\w)", text)]
 
 

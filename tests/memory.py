@@ -110,10 +110,11 @@ ROWS = {
         [
             Left(2, b"", refused("print deps") + told_of("print", "NoTarget (41)")),
             Left(2, b"[:x]\na t\n" + X, refused("delete")),
-            # the last command takes no memory: it looks at a file of no rules, and no step copies its command
+            # the last command looks at a file of no rules, of which the value has room for one item
+            Left(2, b"[:x]\n", refused("print")),
             Left(2, b"", UNREAD + told_of("print", "NoTarget (41)")),
         ],
-        [refused("print deps", "delete", "print"), refused("delete", "print")],
+        [refused("print deps", "delete", "print"), refused("delete", "print"), refused("print")],
     ),
 }  # fmt: skip
 
