@@ -11,7 +11,6 @@ mod order;
 mod place;
 mod plan;
 mod step;
-mod weigh;
 
 pub use across::advance_across;
 pub use advancing::{advance, advance_at};

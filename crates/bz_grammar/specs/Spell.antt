@@ -1,5 +1,5 @@
 -- What a tree is a tree of: its spelling, its leaves, and how deep it is.
-use Rattle.std.specs.Prelude.{ℕ, suc, max, List, [], ◌∷◌, ◌++◌}
+use Rattle.std.specs.Prelude.{ℕ, suc, max, nat_le, if◌then◌else◌, Option, Some, None, List, [], ◌∷◌, ◌++◌}
 use Rattle.std.specs.List.{flat_map}
 use Rattle.bz_lex.specs.declared.leaf.Leaf.{Leaf}
 use Rattle.bz_grammar.specs.declared.tree.Node.{Node}
@@ -57,6 +57,10 @@ depth_of n = suc (deepest n.parts)
 -- the most bytes that an accepted text has
 abbrev pub limit : ℕ
 limit = 67108864
+
+-- this number of bytes, where a text may have as many
+abbrev pub within_limit : ℕ → Option ℕ
+within_limit n = if nat_le n limit then Some n else None
 
 -- the most nodes that are inside each other in an accepted tree
 abbrev pub depth_limit : ℕ

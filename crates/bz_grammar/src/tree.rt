@@ -1,10 +1,10 @@
-ghost use Rattle.std.specs.Prelude.{◌≡◌, ◌++◌, ◌+◌, ◌<◌, ◌≤◌, ◌^◌, length, take, OnOk, OnErr, IfOk};
+ghost use Rattle.std.specs.Prelude.{◌≡◌, ◌++◌, ◌+◌, length, take, OnOk, OnErr, IfOk};
 ghost use Rattle.std.specs.List.{flat_map};
-ghost use Rattle.bz_grammar.specs.Spell.{spell_leaf, spell_node, spell_part, limit};
+ghost use Rattle.bz_grammar.specs.Spell.{spell_leaf, spell_node, spell_part, within_limit};
 
 use crate::kind::Kind;
 use bz_items::{Items, Memory};
-use bz_lex::Leaf;
+use bz_lex::{LENGTH_LIMIT, Leaf};
 use std::alloc::Global;
 use std::marker::Model;
 
@@ -74,26 +74,49 @@ impl Node {
     }
 }
 
-fn leaf_len(leaf: &Leaf) -> usize
-    requires { length (spell_leaf leaf.now) < 2 ^ 64 }
-    ensures { result ≡ length (spell_leaf leaf.now) }
+/// This many bytes, where a text may have as many.
+fn fitting(bytes: usize) -> Option<usize>
+    ensures { result ≡ within_limit bytes }
 {
-    leaf.gap.len() + leaf.token.len()
+    if bytes > LENGTH_LIMIT {
+        return None;
+    }
+    Some(bytes)
+}
+
+/// This many bytes and those of a leaf; none where a text may not have as many.
+fn length_with_leaf(leaf: &Leaf, bytes: usize) -> Option<usize>
+    ensures { result ≡ within_limit (bytes + length (spell_leaf leaf.now)) }
+{
+    let with_gap = bytes.checked_add(leaf.gap.len())?;
+    fitting(with_gap.checked_add(leaf.token.len())?)
+}
+
+/// This many bytes and those that a part spells; none where a text may not have as many.
+#[cycle(length)]
+#[tactic(auto, using(crate::proofs::Spells::spell_Node))]
+fn length_with_part(part: &Part, bytes: usize) -> Option<usize>
+    ensures { result ≡ within_limit (bytes + length (spell_part part.now)) }
+{
+    match part {
+        Part::Leaf(leaf) => length_with_leaf(leaf, bytes),
+        Part::Node(node) => length_with(node.parts.as_slice(), bytes),
+    }
+}
+
+/// This many bytes and those that parts spell; none where a text may not have as many.
+#[cycle(length)]
+pub fn length_with(parts: &[Part], bytes: usize) -> Option<usize>
+    ensures { result ≡ within_limit (bytes + length (flat_map spell_part parts.now)) }
+{
+    let mut total = fitting(bytes)?;
+    for part in parts {
+        total = length_with_part(part, total)?;
+    }
+    Some(total)
 }
 
 impl Part {
-    #[cycle(len)]
-    #[tactic(auto, using(crate::proofs::Spells::spell_Node))]
-    fn len(&self) -> usize
-        requires { length (spell_part self.now) < 2 ^ 64 }
-        ensures { result ≡ length (spell_part self.now) }
-    {
-        match self {
-            Part::Leaf(leaf) => leaf_len(leaf),
-            Part::Node(node) => len_of(node.parts.as_slice()),
-        }
-    }
-
     #[cycle(copy)]
     fn copy(&self) -> Result<Part, Memory>
         ensures { IfOk result (λ part. part ≡ self.now) }
@@ -103,19 +126,6 @@ impl Part {
             Part::Node(node) => Ok(Part::Node(node.copy()?)),
         }
     }
-}
-
-#[cycle(len)]
-#[tactic(auto, using(crate::proofs::Spells::spelled_so_far))]
-fn len_of(parts: &[Part]) -> usize
-    requires { length (flat_map spell_part parts.now) < 2 ^ 64 }
-    ensures { result ≡ length (flat_map spell_part parts.now) }
-{
-    let mut sum = 0;
-    for part in parts {
-        sum += part.len();
-    }
-    sum
 }
 
 impl Node {
@@ -172,7 +182,7 @@ impl Tree {
     pub fn len(&self) -> usize
         ensures { result ≡ length (spell_node self.now) }
     {
-        len_of(self.root.parts.as_slice())
+        length_with(self.root.parts.as_slice(), 0).unwrap()
     }
 
     /// An equal tree. The error: a growth was refused.
@@ -223,7 +233,7 @@ impl BzlTree {
         ensures { result ≡ length (spell_node self.now) }
     {
         let parts = self.root.parts.as_slice();
-        len_of(parts)
+        length_with(parts, 0).unwrap()
     }
 
     /// An equal tree. The error: a growth was refused.

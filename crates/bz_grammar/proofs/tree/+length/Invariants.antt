@@ -1,0 +1,8 @@
+use Rattle.std.proofs.Common.{◌≡◌, ◌≤◌, ◌+◌, drop, length}
+use Rattle.std.specs.List.{flat_map}
+use Rattle.bz_grammar.specs.Spell.{spell_part, limit, within_limit}
+use Rattle.bz_grammar.proofs.tree.+length.Given as goal
+
+abbrev pub invariant-length_with-loop-part : goal.invariant-length_with-loop-part
+invariant-length_with-loop-part l =
+    (within_limit (l.total + length (flat_map spell_part (drop l.part-index l.parts))) ≡ within_limit (l.bytes + length (flat_map spell_part l.parts))) × (l.total ≤ limit)
