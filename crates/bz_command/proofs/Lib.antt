@@ -2,6 +2,7 @@ pub mod CommandRows
 pub mod LawComments
 pub mod LinesMatter
 pub mod Overfull
+pub mod Pieces
 pub mod ProperEffects
 pub mod RunningItems
 pub mod StatementRules

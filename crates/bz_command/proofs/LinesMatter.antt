@@ -16,7 +16,7 @@ use Rattle.bz_command_syntax.specs.declared.command.Field.{Field}
 use Rattle.bz_command_syntax.specs.declared.command.Field.TheVariants as f
 use Rattle.bz_command_syntax.specs.Printing.{prints}
 use Rattle.bz_rule.specs.Rules.{Rule, rule_of}
-use Rattle.bz_fields.specs.Prints.{printed_field, printed_rule, spaced}
+use Rattle.bz_command.specs.Prints.{printed_field, printed_rule, spaced}
 use Rattle.bz_value.specs.declared.refusal.Refusal.{Refusal}
 use Rattle.bz_value.specs.declared.refusal.Refusal.TheVariants.{NoTarget}
 use Rattle.bz_command.specs.Effect.{kept, lacks_rules, on_rules, before_rest, item_line, lines_after_item, printed_one, printed_rules, meant, may_mean_none}

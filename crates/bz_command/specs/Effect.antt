@@ -14,7 +14,7 @@ use Rattle.bz_command_syntax.specs.declared.command.CommentOperation.TheVariants
 use Rattle.bz_command_syntax.specs.declared.command.Host.{Host}
 use Rattle.bz_value.specs.declared.refusal.Refusal.{Refusal}
 use Rattle.bz_comment.specs.Hosts.{print_comment, with_comment, without_comments, comment, remove_comment}
-use Rattle.bz_fields.specs.Prints.{printed_item}
+use Rattle.bz_command.specs.Prints.{printed_item}
 use Rattle.std.specs.List.{insert, list_any, position}
 use Rattle.bz_grammar.specs.declared.kind.Kind.TheVariants as k
 use Rattle.bz_label.specs.declared.target.Target.{Target}

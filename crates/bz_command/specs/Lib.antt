@@ -1,6 +1,7 @@
 pub mod Effect
 pub mod Laws
 pub mod Overfull
+pub mod Prints
 pub mod Renewed
 pub mod SmallValues
 pub mod Table

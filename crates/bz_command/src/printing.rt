@@ -4,10 +4,10 @@ ghost use Rattle.std.specs.List.{list_any};
 ghost use Rattle.bz_command.specs.Effect.{before_rest, printed_comments_of, printed_one, printed_rules};
 ghost use Rattle.bz_command.specs.Laws.{is_by_line, looks_at_lines, prints_line, prints_lines};
 
+use crate::fields::push_rule;
 use crate::targets::{arguments_of, line_at};
 use bz_command_syntax::{Command, CommentOperation, Field, Host, Operation};
 use bz_comment::print_comments;
-use bz_fields::push_rule;
 use bz_items::Text;
 use bz_label::{Target, Which};
 use bz_value::{Item, Refusal};

@@ -134,7 +134,6 @@ fn call_effects() {
     bz_comment::comment_loses_none();
     bz_comment::own_comment_loses_none();
     bz_comment::worked_comments();
-    bz_fields::worked_prints();
     bz_command::worked_effects();
     bz_command::worked_command_effects();
     bz_command::effects_stay_proper();

@@ -17,8 +17,8 @@ use Rattle.bz_rule.specs.Values.{has_kind, items_of}
 use Rattle.bz_rule.specs.private.Named.{each_named}
 use Rattle.bz_rule.proofs.Forms.{dotted_name_Form}
 use Rattle.bz_attribute.specs.Lists.{body_of}
-use Rattle.bz_fields.specs.Prints.{spaced, is_string, printed_body, in_brackets, printed_value, printed_field}
-use Rattle.bz_fields.specs.private.Steps.{space_between}
+use Rattle.bz_command.specs.Prints.{spaced, is_string, printed_body, in_brackets, printed_value, printed_field}
+use Rattle.bz_command.specs.private.Steps.{space_between}
 
 -- ---- texts with a space between two of them
 

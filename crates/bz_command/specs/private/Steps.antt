@@ -3,7 +3,7 @@ use Rattle.std.specs.Prelude.{List, [], ◌∷◌, Option}
 use Rattle.std.specs.Option.{option_map_or}
 use Rattle.bz_items.specs.Characters.{Bytes, space}
 use Rattle.bz_rule.specs.Rules as r
-use Rattle.bz_fields.specs.declared.rules.Rule.{Rule}
+use Rattle.bz_command.specs.declared.rules.Rule.{Rule}
 
 -- the text, where there is one
 abbrev pub text_or_nothing : Option Bytes → Bytes

@@ -1,9 +1,9 @@
 use Rattle.std.proofs.Common.{◌≡◌, ◌++◌, drop, map}
 use Rattle.std.specs.Prelude.{decimal}
 use Rattle.std.specs.Option.{option_map}
-use Rattle.bz_fields.specs.Prints.{spaced, printed_field}
-use Rattle.bz_fields.specs.private.Steps.{seen_rule}
-use Rattle.bz_fields.proofs.printing.push_fields.Given as goal
+use Rattle.bz_command.specs.Prints.{spaced, printed_field}
+use Rattle.bz_command.specs.private.Steps.{seen_rule}
+use Rattle.bz_command.proofs.fields.push_fields.Given as goal
 
 abbrev pub invariant-loop-i : goal.invariant-loop-i
 invariant-loop-i l =

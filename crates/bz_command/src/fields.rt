@@ -4,8 +4,8 @@ ghost use Rattle.std.specs.List.{list_all};
 ghost use Rattle.std.specs.Option.{option_map, option_map_or};
 ghost use Rattle.bz_rule.specs.Rules as r;
 ghost use Rattle.bz_layout.specs.Written as written;
-ghost use Rattle.bz_fields.specs.Prints.{in_brackets, is_string, missing, printed_body, printed_field, printed_item, printed_value, spaced, without_last};
-ghost use Rattle.bz_fields.specs.private.Steps.{seen_rule, space_between};
+ghost use Rattle.bz_command.specs.Prints.{in_brackets, is_string, missing, printed_body, printed_field, printed_item, printed_value, spaced, without_last};
+ghost use Rattle.bz_command.specs.private.Steps.{seen_rule, space_between};
 
 use crate::rules::{Rule, printed_rule_of};
 use bz_attribute::{body_of, has_kind, items_of};

@@ -5,7 +5,7 @@ ghost use Rattle.bz_token.specs.declared.class.Class.TheVariants as c;
 ghost use Rattle.bz_rule.specs.Rules as r;
 ghost use Rattle.bz_items.specs.Characters.{full_stop};
 ghost use Rattle.bz_rule.specs.private.Named.{each_named};
-ghost use Rattle.bz_fields.specs.private.Steps.{seen_rule, text_or_nothing};
+ghost use Rattle.bz_command.specs.private.Steps.{seen_rule, text_or_nothing};
 
 use bz_grammar::{Class, Kind};
 use bz_items::{Memory, Text};

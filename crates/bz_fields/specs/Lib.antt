@@ -1,3 +1,0 @@
-pub mod Prints
-pub mod Worked
-pub mod private
