@@ -27,10 +27,10 @@ module _ (source template body : List ℕ) where
   with_texts text more new = rw (is_utf8-from_IsUtf8 template text, is_utf8-from_IsUtf8 body more, is_utf8-from_IsUtf8 made new) refl
 
 -- what passes the test, or a text
-tested : (texts test : Bool) (made body : List ℕ) → (test ≡ true → IsUtf8 made) → IsUtf8 body → IsUtf8 (if texts && test then made else body)
-tested true true made body new u = new refl
-tested true false made body new u = u
-tested false test made body new u = u
+tested : (texts test : Bool) (new body : List ℕ) → (test ≡ true → IsUtf8 new) → IsUtf8 body → IsUtf8 (if texts && test then new else body)
+tested true true new body h u = h refl
+tested true false new body h u = u
+tested false test new body h u = u
 
 pub substituted_utf8 : TextStaysText
 unfolding substituted
