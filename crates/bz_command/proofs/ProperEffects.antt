@@ -43,7 +43,7 @@ use Rattle.bz_value.specs.declared.refusal.Refusal.{Refusal}
 use Rattle.bz_value.specs.declared.refusal.Refusal.TheVariants.{NoTarget, NameTaken}
 use Rattle.bz_command.specs.Laws.{EffectsStayProper}
 use Rattle.bz_attribute.proofs.ProperAttributes.{Made, Keeps}
-use Rattle.bz_command_syntax.proofs.TextMatches.{substituted_utf8}
+use Rattle.bz_command_syntax.proofs.PlainTexts.{substituted_utf8}
 use Rattle.bz_change.proofs.ProperCommands.{set_keeps, set_if_absent_keeps, remove_keeps, rename_keeps, copy_keeps, copy_no_overwrite_keeps}
 use Rattle.bz_list.proofs.ProperCommands.{add_keeps, remove_values_keeps, replace_keeps, substitute_keeps, move_keeps}
 use Rattle.bz_attribute.proofs.ProperMade.{made_rule, kind_function}
@@ -162,7 +162,7 @@ module _ (current : Bytes) (marks : List Bool) (items : List Item) (h : AreItems
   rules_made (w.Value (wv.Remove name words)) p = by_arguments (remove_values current name words) (remove_values_keeps current name words)
   rules_made (w.Value (wv.Replace attributes old new)) p = by_arguments (replace current attributes old new) (replace_keeps current attributes old new p.2)
   rules_made (w.Value (wv.Substitute attributes pattern template)) p =
-      by_arguments (substitute current attributes pattern template) (substitute_keeps current attributes pattern template (λ text u. substituted_utf8 pattern template text p.1 p.2 u))
+      by_arguments (substitute current attributes pattern template) (substitute_keeps current attributes pattern template (substituted_utf8 pattern template))
   rules_made (w.Value (wv.Move from to values)) p = by_arguments (move current from to values) (move_keeps current from to values p.1)
   rules_made (w.Dict (wd.Add name entries)) p = by_arguments (dict_add current name entries) (dict_add_keeps current name entries p.0 p.1)
   rules_made (w.Dict (wd.Set name entries)) p = by_arguments (dict_set current name entries) (dict_set_keeps current name entries p.0 p.1)

@@ -6,6 +6,4 @@ pub mod Pieces
 pub mod PlainTexts
 pub mod ProperCommands
 pub mod Strings
-pub mod TextMatches
-pub mod TextParts
 pub mod Utf8Texts

@@ -11,62 +11,36 @@ use Rattle.bz_token.specs.Lexemes.{is_keyword, IsLetters, none, one, three, IsWo
 use Rattle.bz_token.specs.Tokens.{IsToken, NoToken, TokenAt}
 use Rattle.bz_token.proofs.Laws.{one_token}
 use Rattle.bz_items.specs.Characters.{Bytes}
-use Rattle.bz_command_syntax.specs.Identifiers.{is_plain_letter, are_letters, is_word_of_letters, is_identifier, IdentifiersAreNames}
+use Rattle.bz_command_syntax.specs.Identifiers.{are_letters, end_a_letter, is_word_of_letters, is_identifier, IdentifiersAreNames}
 
 -- ---- letters
-
-one_more : {a : ℕ} {s : Bytes} → is_plain_letter a ≡ true → IsLetters s → IsLetters (a ∷ s)
-one_more {a} h l = let w = and_parts (is_letter a || is_digit a) (not (a == 239)) h in one w.0 (not-true (a == 239) w.1) l
 
 -- a test by cases, of either case
 either : (t x y : Bool) → (if t then x else y) ≡ true → ((t ≡ true) × (x ≡ true)) ⊎ ((t ≡ false) × (y ≡ true))
 either true x y h = inl (refl, h)
 either false x y h = inr (refl, h)
 
-otherwise : (t x y : Bool) → t ≡ false → y ≡ true → (if t then x else y) ≡ true
-otherwise t x y e h = rw e h
+mutual
+  letters_of : (s : Bytes) → are_letters s ≡ true → IsLetters s
+  letters_of [] h = none
+  letters_of (byte ∷ s) h = elim (either (byte == 239) (end_a_letter s) _ h) [
+    | inl w ↦ subst (λ (first : ℕ). IsLetters (first ∷ s)) (sym (eqb-true byte 239 w.0)) (whole_letter s w.1)
+    | inr w ↦ let v = and_parts (is_letter byte || is_digit byte) (are_letters s) w.1 in one v.0 w.0 (letters_of s v.1)
+  ]
 
--- EF and the two bytes after it
-abbrev is_high_character : ℕ → ℕ → Bool
-is_high_character b c = is_high b && is_high c && not (b == 187 && c == 191)
-
-following : (b c : ℕ) (s : Bytes) → is_high_character b c ≡ true → IsLetters s → IsLetters (239 ∷ b ∷ c ∷ s)
-following b c s h l =
-    let w = and_parts (is_high b && is_high c) (not (b == 187 && c == 191)) h in
-    let v = and_parts (is_high b) (is_high c) w.0 in
-    three v.0 v.1 (not-true (b == 187 && c == 191) w.1) l
-
-letters_of : (s : Bytes) → are_letters s ≡ true → IsLetters s
-letters_of [] h = none
-letters_of (a ∷ []) h = one_more h none
-letters_of (a ∷ b ∷ []) h = let w = and_parts (is_plain_letter a) (is_plain_letter b) h in one_more w.0 (one_more w.1 none)
-letters_of (a ∷ b ∷ c ∷ s) h =
-    elim (either (a == 239) (is_high_character b c && are_letters s) (is_plain_letter a && are_letters (b ∷ c ∷ s)) h) [
-      | inl w ↦
-          let v = and_parts (is_high_character b c) (are_letters s) w.1 in
-          subst (λ (x : ℕ). IsLetters (x ∷ b ∷ c ∷ s)) (sym (eqb-true a 239 w.0)) (following b c s v.0 (letters_of s v.1))
-      | inr w ↦
-          let v = and_parts (is_plain_letter a) (are_letters (b ∷ c ∷ s)) w.1 in
-          one_more v.0 (letters_of (b ∷ c ∷ s) v.1)
-    ]
-
-plain_letter : (a : ℕ) → (is_letter a || is_digit a) ≡ true → (a == 239) ≡ false → is_plain_letter a ≡ true
-plain_letter a h e = and_from (is_letter a || is_digit a) (not (a == 239)) h (not_from_false (a == 239) e)
-
-test_more : (a : ℕ) (s : Bytes) → (is_letter a || is_digit a) ≡ true → (a == 239) ≡ false → are_letters s ≡ true → are_letters (a ∷ s) ≡ true
-test_more a [] h e l = plain_letter a h e
-test_more a (b ∷ []) h e l = and_from (is_plain_letter a) (is_plain_letter b) (plain_letter a h e) l
-test_more a (b ∷ c ∷ s) h e l =
-    otherwise (a == 239) (is_high_character b c && are_letters s) (is_plain_letter a && are_letters (b ∷ c ∷ s)) e
-    (and_from (is_plain_letter a) (are_letters (b ∷ c ∷ s)) (plain_letter a h e) l)
+  whole_letter : (s : Bytes) → end_a_letter s ≡ true → IsLetters (239 ∷ s)
+  whole_letter [] h = absurd cc
+  whole_letter (b ∷ []) h = absurd cc
+  whole_letter (b ∷ c ∷ s) h =
+      let v = and_parts (is_high b && is_high c && not (b == 187 && c == 191)) (are_letters s) h in
+      let w = and_parts (is_high b && is_high c) (not (b == 187 && c == 191)) v.0 in
+      let x = and_parts (is_high b) (is_high c) w.0 in
+      three x.0 x.1 (not-true (b == 187 && c == 191) w.1) (letters_of s v.1)
 
 test_of : {s : Bytes} → IsLetters s → are_letters s ≡ true
 test_of none = refl
-test_of (one {b} {s} h e l) = test_more b s h e (test_of l)
-test_of (three {b} {c} {s} h k n l) =
-    and_from (is_high_character b c) (are_letters s)
-    (and_from (is_high b && is_high c) (not (b == 187 && c == 191)) (and_from (is_high b) (is_high c) h k) (not_from_false (b == 187 && c == 191) n))
-    (test_of l)
+test_of (one h e l) = rw (e, h) (test_of l)
+test_of (three h k n l) = rw (h, k, n) (test_of l)
 
 -- ---- identifiers
 

@@ -1,16 +1,19 @@
--- What a body becomes, by whether it and the template are texts.
-use Rattle.std.proofs.Common.{◌≡◌, ℕ, List, chars, IsUtf8, refl, false}
+-- What a body becomes, by whether it, the template and what is made of them are texts.
+use Rattle.std.proofs.Common.{◌≡◌, ◌&&◌, true, false, Bool, ℕ, List, chars, IsUtf8, refl, if◌then◌else◌}
 use Rattle.std.specs.Str.{is_utf8}
 use Rattle.std.proofs.lemmas.Bool.{false_from_ne_true}
 use Rattle.std.proofs.lemmas.Str.{IsUtf8-from_is_utf8, is_utf8-from_IsUtf8}
 use Rattle.regex_syntax.specs.Grammar.{read}
 use Rattle.regex.specs.Patterns.{default_config}
-use Rattle.bz_command_syntax.specs.Patterns.{substituted, substituted_by}
+use Rattle.bz_command_syntax.specs.Patterns.{substituted, substituted_by, TextStaysText}
 
 is_no_text : (bytes : List ℕ) → (IsUtf8 bytes → ⊥) → is_utf8 bytes ≡ false
 is_no_text bytes other = false_from_ne_true _ (λ e. other (IsUtf8-from_is_utf8 bytes e))
 
 module _ (source template body : List ℕ) where
+  abbrev made : List ℕ
+  made = substituted_by (read default_config (chars source)) template body
+
   pub without_template : (IsUtf8 template → ⊥) → substituted source template body ≡ body
   unfolding substituted
   without_template other = rw (is_no_text template other) refl
@@ -19,6 +22,17 @@ module _ (source template body : List ℕ) where
   unfolding substituted
   without_body text other = rw (is_utf8-from_IsUtf8 template text, is_no_text body other) refl
 
-  pub with_texts : IsUtf8 template → IsUtf8 body → substituted source template body ≡ substituted_by (read default_config (chars source)) template body
+  pub with_texts : IsUtf8 template → IsUtf8 body → IsUtf8 made → substituted source template body ≡ made
   unfolding substituted
-  with_texts text more = rw (is_utf8-from_IsUtf8 template text, is_utf8-from_IsUtf8 body more) refl
+  with_texts text more new = rw (is_utf8-from_IsUtf8 template text, is_utf8-from_IsUtf8 body more, is_utf8-from_IsUtf8 made new) refl
+
+-- what passes the test, or a text
+tested : (texts test : Bool) (new body : List ℕ) → (test ≡ true → IsUtf8 new) → IsUtf8 body → IsUtf8 (if texts && test then new else body)
+tested true true new body h u = h refl
+tested true false new body h u = u
+tested false test new body h u = u
+
+pub substituted_utf8 : TextStaysText
+unfolding substituted
+substituted_utf8 source template body u =
+    tested (is_utf8 template && is_utf8 body) _ _ body (IsUtf8-from_is_utf8 (made source template body)) u

@@ -13,7 +13,7 @@ use Rattle.bz_command_syntax.specs.Identifiers.{is_identifier, is_rule_kind}
 use Rattle.bz_command_syntax.specs.Commands as c
 use Rattle.bz_command_syntax.specs.Commands.{ReadCommand}
 use Rattle.bz_command_syntax.specs.Proper.{AreUtf8, EachIs, AreSome, IsAttribute, IsKind, IsPlace, AreAttributes, AreValues, AreMoved, IsEntry, IsSymbol, IsHost, IsField, IsProperCommand}
-use Rattle.bz_command_syntax.specs.declared.command.{Attributes.Attributes, Entry.Entry, Fixes.Fixes, Host.Host, RulePlace.RulePlace, Symbol.Symbol, Values.Values, Operation.Operation}
+use Rattle.bz_command_syntax.specs.declared.command.{Attributes.Attributes, Fixes.Fixes, Operation.Operation}
 use Rattle.bz_command_syntax.specs.declared.command.Values.TheVariants.{All, These}
 use Rattle.bz_command_syntax.specs.declared.command.Operation.TheVariants as w
 use Rattle.bz_command_syntax.specs.declared.command.RuleOperation.TheVariants as wr
@@ -45,164 +45,116 @@ module _ {X : Type 0} (P : X → Type 0) where
     after f None h g = tt
     after f (Some x) h g = g x h
 
+module _ {X : Type 0} (P : X → Type 0) (form : Bytes → Option X) (fits : (word : Bytes) → IsUtf8 word → IfSome (form word) P) where
   -- as many as there are words
-  each_proper : (form : Bytes → Option X) → ((word : Bytes) → IsUtf8 word → IfSome (form word) P) → (words : List Bytes) → AreUtf8 words
-      → IfSome (c.each_of form words) (λ xs. (is_nonempty xs ≡ is_nonempty words) × EachIs P xs)
-  each_proper form fits [] u = (refl, tt)
-  each_proper form fits (word ∷ words) u =
-      after (λ xs. (is_nonempty xs ≡ true) × EachIs P xs) (λ x. option_map (λ xs. x ∷ xs) (c.each_of form words)) (form word) (fits word u.0) (λ x p.
-      consed x p (c.each_of form words) (each_proper form fits words u.1))
-    where
-      consed : (x : X) → P x → (o : Option (List X)) → IfSome o (λ xs. (is_nonempty xs ≡ is_nonempty words) × EachIs P xs)
-          → IfSome (option_map (λ xs. x ∷ xs) o) (λ xs. (is_nonempty xs ≡ true) × EachIs P xs)
-      consed x p None h = tt
-      consed x p (Some xs) h = (refl, (p, h.1))
+  each_proper : (words : List Bytes) → AreUtf8 words → IfSome (c.each_of form words) (λ xs. (is_nonempty xs ≡ is_nonempty words) × EachIs P xs)
+  each_proper [] u = (refl, tt)
+  each_proper (word ∷ words) u =
+      after P _ (λ x. option_map (λ xs. x ∷ xs) (c.each_of form words)) (form word) (fits word u.0) (λ x p.
+      mapped (λ xs. (is_nonempty xs ≡ is_nonempty words) × EachIs P xs) _ (λ xs. x ∷ xs) (c.each_of form words) (each_proper words u.1) (λ xs h. (refl, (p, h.1))))
 
-  some_proper : (form : Bytes → Option X) → ((word : Bytes) → IsUtf8 word → IfSome (form word) P) → (words : List Bytes) → is_nonempty words ≡ true → AreUtf8 words
-      → IfSome (c.each_of form words) (AreSome P)
-  some_proper form fits words n u = subst (λ (b : Bool). IfSome (c.each_of form words) (λ xs. (is_nonempty xs ≡ b) × EachIs P xs)) n (each_proper form fits words u)
+  some_proper : (words : List Bytes) → is_nonempty words ≡ true → AreUtf8 words → IfSome (c.each_of form words) (AreSome P)
+  some_proper words n u = subst (λ (b : Bool). IfSome (c.each_of form words) (λ xs. (is_nonempty xs ≡ b) × EachIs P xs)) n (each_proper words u)
 
 -- ---- forms
 
-abbrev IsWord : Bytes × Bytes → Type 0
-IsWord parts = IsAttribute parts.0 × IsUtf8 parts.1
+-- each word of the form is, where the words have it
+abbrev Gives : {X : Type 0} → (List Bytes → Option X) → (X → Type 0) → Type 0
+Gives form P = (words : List Bytes) → AreUtf8 words → IfSome (form words) P
 
-word_proper : (words : List Bytes) → AreUtf8 words → IfSome (c.attribute_word words) IsWord
-word_proper [] u = tt
-word_proper (attribute ∷ []) u = tt
-word_proper (attribute ∷ word ∷ []) u = given_is IsWord (is_identifier attribute) (attribute, word) (λ i. ((i, u.0), u.1.0))
-word_proper (attribute ∷ word ∷ more ∷ words) u = tt
+word_proper : Gives c.attribute_word (λ parts. IsAttribute parts.0 × IsUtf8 parts.1)
+word_proper (attribute ∷ word ∷ []) u = given_is (λ (parts : Bytes × Bytes). IsAttribute parts.0 × IsUtf8 parts.1) _ _ (λ i. ((i, u.0), u.1.0))
+word_proper _ u = tt
 
-abbrev AreTwo : Bytes × Bytes → Type 0
-AreTwo parts = IsAttribute parts.0 × IsAttribute parts.1
+two_proper : Gives c.two_attributes (λ parts. IsAttribute parts.0 × IsAttribute parts.1)
+two_proper (from ∷ to ∷ []) u = given_is _ _ _ (λ h. let i = and_parts (is_identifier from) (is_identifier to) h in ((i.0, u.0), (i.1, u.1.0)))
+two_proper _ u = tt
 
-two_proper : (words : List Bytes) → AreUtf8 words → IfSome (c.two_attributes words) AreTwo
-two_proper [] u = tt
-two_proper (from ∷ []) u = tt
-two_proper (from ∷ to ∷ []) u =
-    given_is AreTwo (is_identifier from && is_identifier to) (from, to) (λ h. let i = and_parts (is_identifier from) (is_identifier to) h in ((i.0, u.0), (i.1, u.1.0)))
-two_proper (from ∷ to ∷ more ∷ words) u = tt
-
-abbrev HasValues : Bytes × List Bytes → Type 0
-HasValues parts = IsAttribute parts.0 × AreValues parts.1
-
-values_proper : (words : List Bytes) → AreUtf8 words → IfSome (c.attribute_values words) HasValues
+values_proper : Gives c.attribute_values (λ parts. IsAttribute parts.0 × AreValues parts.1)
 values_proper [] u = tt
 values_proper (attribute ∷ values) u =
-    given_is HasValues (is_identifier attribute && is_nonempty values) (attribute, values) (λ h.
-    let i = and_parts (is_identifier attribute) (is_nonempty values) h in ((i.0, u.0), (i.1, u.1)))
+    given_is _ _ _ (λ h. let i = and_parts (is_identifier attribute) (is_nonempty values) h in ((i.0, u.0), (i.1, u.1)))
 
 attributes_proper : (word : Bytes) → IsUtf8 word → IfSome (c.attributes_of word) AreAttributes
-attributes_proper word u = either AreAttributes (c.is_star word) _ _ (λ _. tt) (given_is AreAttributes (is_identifier word) _ (λ i. (i, u)))
+attributes_proper word u = either _ (c.is_star word) _ _ (λ _. tt) (given_is _ (is_identifier word) _ (λ i. (i, u)))
 
 abbrev pub HasWords : Attributes × Bytes × Bytes → Type 0
 HasWords parts = AreAttributes parts.0 × IsUtf8 parts.1 × IsUtf8 parts.2
 
 pub words_proper : (words : List Bytes) → AreUtf8 words → IfSome (c.attributes_words words) HasWords
-words_proper [] u = tt
-words_proper (attribute ∷ []) u = tt
-words_proper (attribute ∷ first ∷ []) u = tt
 words_proper (attribute ∷ first ∷ second ∷ []) u =
-    mapped AreAttributes HasWords (λ attributes. (attributes, first, second)) (c.attributes_of attribute) (attributes_proper attribute u.0) (λ attributes a. (a, u.1.0, u.1.1.0))
-words_proper (attribute ∷ first ∷ second ∷ more ∷ words) u = tt
+    mapped AreAttributes _ (λ attributes. (attributes, first, second)) (c.attributes_of attribute) (attributes_proper attribute u.0) (λ attributes a. (a, u.1.0, u.1.1.0))
+words_proper _ u = tt
 
-place_proper : (words : List Bytes) → AreUtf8 words → IfSome (c.rule_place words) IsPlace
+place_proper : Gives c.rule_place IsPlace
 place_proper [] u = tt
-place_proper (side ∷ []) u = tt
 place_proper (side ∷ rule ∷ []) u =
-    either IsPlace (bytes_eq side (codes "before")) _ _ (λ _. u.1.0) (either IsPlace (bytes_eq side (codes "after")) _ _ (λ _. u.1.0) tt)
-place_proper (side ∷ rule ∷ more ∷ words) u = tt
+    either _ (bytes_eq side (codes "before")) _ _ (λ _. u.1.0) (either _ (bytes_eq side (codes "after")) _ _ (λ _. u.1.0) tt)
+place_proper _ u = tt
 
-abbrev IsNewRule : Bytes × Bytes × RulePlace → Type 0
-IsNewRule parts = IsKind parts.0 × IsUtf8 parts.1 × IsPlace parts.2
-
-rule_proper : (words : List Bytes) → AreUtf8 words → IfSome (c.new_rule words) IsNewRule
-rule_proper [] u = tt
-rule_proper (kind ∷ []) u = tt
+rule_proper : Gives c.new_rule (λ parts. IsKind parts.0 × IsUtf8 parts.1 × IsPlace parts.2)
 rule_proper (kind ∷ name ∷ words) u =
-    either IsNewRule (is_rule_kind kind) _ _ (λ k.
-    mapped IsPlace IsNewRule (λ place. (kind, name, place)) (c.rule_place words) (place_proper words u.1.1) (λ place p. ((k, u.0), u.1.0, p))) tt
+    either _ (is_rule_kind kind) _ _ (λ k. mapped IsPlace _ (λ place. (kind, name, place)) (c.rule_place words) (place_proper words u.1.1) (λ place p. ((k, u.0), u.1.0, p))) tt
+rule_proper _ u = tt
 
-kind_proper : (words : List Bytes) → AreUtf8 words → IfSome (c.new_kind words) IsKind
-kind_proper [] u = tt
-kind_proper (word ∷ []) u = tt
-kind_proper (word ∷ kind ∷ []) u = given_is IsKind (is_rule_kind kind) kind (λ k. (k, u.1.0))
-kind_proper (word ∷ kind ∷ more ∷ words) u = tt
-
-abbrev IsMoved : Bytes × Bytes × Values → Type 0
-IsMoved parts = IsAttribute parts.0 × IsAttribute parts.1 × AreMoved parts.2
+kind_proper : Gives c.new_kind IsKind
+kind_proper (word ∷ kind ∷ []) u = given_is IsKind _ _ (λ k. (k, u.1.0))
+kind_proper _ u = tt
 
 all_or_these : (t : Bool) (words : List Bytes) → AreValues words → AreMoved (if t then All else These words)
 all_or_these true words v = tt
 all_or_these false words v = v
 
-moved_proper : (words : List Bytes) → AreUtf8 words → IfSome (c.moved_values words) IsMoved
-moved_proper [] u = tt
-moved_proper (from ∷ []) u = tt
+moved_proper : Gives c.moved_values (λ parts. IsAttribute parts.0 × IsAttribute parts.1 × AreMoved parts.2)
 moved_proper (from ∷ to ∷ values) u =
-    given_is IsMoved (is_identifier from && is_identifier to && is_nonempty values) (from, to, c.values_of values) (λ h.
+    given_is _ _ _ (λ h.
     let i = and_parts (is_identifier from && is_identifier to) (is_nonempty values) h in
     let j = and_parts (is_identifier from) (is_identifier to) i.0 in
     ((j.0, u.0), (j.1, u.1.0), all_or_these (list_any c.is_star values) values (i.1, u.1.1)))
-
-abbrev AreTexts : Bytes × Bytes → Type 0
-AreTexts parts = IsUtf8 parts.0 × IsUtf8 parts.1
+moved_proper _ u = tt
 
 entry_proper : (word : Bytes) → IsUtf8 word → IfSome (c.entry_of word) IsEntry
-entry_proper word u = mapped AreTexts IsEntry _ (c.cut_at colon word) (cut_utf8 colon word (omega arith) u) (λ parts p. p)
+entry_proper word u = mapped _ _ _ (c.cut_at colon word) (cut_utf8 colon word (omega arith) u) (λ parts p. p)
 
-abbrev HasEntries : Bytes × List Entry → Type 0
-HasEntries parts = IsAttribute parts.0 × AreSome IsEntry parts.1
-
-entries_proper : (words : List Bytes) → AreUtf8 words → IfSome (c.dict_entries words) HasEntries
+entries_proper : Gives c.dict_entries (λ parts. IsAttribute parts.0 × AreSome IsEntry parts.1)
 entries_proper [] u = tt
 entries_proper (attribute ∷ words) u =
-    either HasEntries (is_identifier attribute && is_nonempty words) _ _ (λ h.
+    either _ (is_identifier attribute && is_nonempty words) _ _ (λ h.
     let i = and_parts (is_identifier attribute) (is_nonempty words) h in
-    mapped (AreSome IsEntry) HasEntries (λ entries. (attribute, entries)) (c.each_of c.entry_of words) (some_proper IsEntry c.entry_of entry_proper words i.1 u.1)
-    (λ entries e. ((i.0, u.0), e))) tt
+    mapped (AreSome IsEntry) _ (λ entries. (attribute, entries)) (c.each_of c.entry_of words) (some_proper IsEntry c.entry_of entry_proper words i.1 u.1) (λ entries e. ((i.0, u.0), e))) tt
 
 names_proper : (to from : Bytes) → IsUtf8 to → IsUtf8 from → IfSome (c.symbol_of_names to from) IsSymbol
-names_proper to from u v = given_is IsSymbol (is_identifier to && is_identifier from) _ (λ h. let i = and_parts (is_identifier to) (is_identifier from) h in ((i.0, u), (i.1, v)))
+names_proper to from u v = given_is _ _ _ (λ h. let i = and_parts (is_identifier to) (is_identifier from) h in ((i.0, u), (i.1, v)))
 
 symbol_proper : (word : Bytes) → IsUtf8 word → IfSome (c.symbol_of word) IsSymbol
 symbol_proper word u = by (c.cut_at equals_sign word) (cut_utf8 equals_sign word (omega arith) u)
   where
-    by : (parts : Option (Bytes × Bytes)) → IfSome parts AreTexts → IfSome (option_map_or (λ both. c.symbol_of_names both.0 both.1) parts (c.symbol_of_names word word)) IsSymbol
+    by : (parts : Option (Bytes × Bytes)) → IfSome parts (λ both. IsUtf8 both.0 × IsUtf8 both.1)
+        → IfSome (option_map_or (λ both. c.symbol_of_names both.0 both.1) parts (c.symbol_of_names word word)) IsSymbol
     by None h = names_proper word word u u
     by (Some both) h = names_proper both.0 both.1 h.0 h.1
 
-abbrev HasSymbols : Bytes × List Symbol → Type 0
-HasSymbols parts = IsUtf8 parts.0 × AreSome IsSymbol parts.1
-
-symbols_proper : (words : List Bytes) → AreUtf8 words → IfSome (c.path_symbols words) HasSymbols
+symbols_proper : Gives c.path_symbols (λ parts. IsUtf8 parts.0 × AreSome IsSymbol parts.1)
 symbols_proper [] u = tt
 symbols_proper (path ∷ words) u =
-    either HasSymbols (is_nonempty words) _ _ (λ some.
-    mapped (AreSome IsSymbol) HasSymbols (λ symbols. (path, symbols)) (c.each_of c.symbol_of words) (some_proper IsSymbol c.symbol_of symbol_proper words some u.1) (λ symbols s. (u.0, s))) tt
+    either _ (is_nonempty words) _ _ (λ some.
+    mapped (AreSome IsSymbol) _ (λ symbols. (path, symbols)) (c.each_of c.symbol_of words) (some_proper IsSymbol c.symbol_of symbol_proper words some u.1) (λ symbols s. (u.0, s))) tt
 
-host_proper : (words : List Bytes) → AreUtf8 words → IfSome (c.host_of words) IsHost
+host_proper : Gives c.host_of IsHost
 host_proper [] u = tt
-host_proper (attribute ∷ []) u = given_is IsHost (is_identifier attribute) _ (λ i. (i, u.0))
-host_proper (attribute ∷ value ∷ []) u = given_is IsHost (is_identifier attribute) _ (λ i. ((i, u.0), u.1.0))
-host_proper (attribute ∷ value ∷ more ∷ words) u = tt
+host_proper (attribute ∷ []) u = given_is IsHost _ _ (λ i. (i, u.0))
+host_proper (attribute ∷ value ∷ []) u = given_is IsHost _ _ (λ i. ((i, u.0), u.1.0))
+host_proper _ u = tt
 
-abbrev AreCut : List Bytes × Bytes → Type 0
-AreCut parts = AreUtf8 parts.0 × IsUtf8 parts.1
-
-last_proper : (words : List Bytes) → AreUtf8 words → IfSome (c.split_last words) AreCut
+last_proper : Gives c.split_last (λ parts. AreUtf8 parts.0 × IsUtf8 parts.1)
 last_proper [] u = tt
 last_proper (word ∷ []) u = (tt, u.0)
-last_proper (word ∷ next ∷ words) u = mapped AreCut AreCut (λ parts. (word ∷ parts.0, parts.1)) (c.split_last (next ∷ words)) (last_proper (next ∷ words) u.1) (λ parts p. ((u.0, p.0), p.1))
+last_proper (word ∷ next ∷ words) u = mapped _ _ (λ parts. (word ∷ parts.0, parts.1)) (c.split_last (next ∷ words)) (last_proper (next ∷ words) u.1) (λ parts p. ((u.0, p.0), p.1))
 
-abbrev HasText : Host × Bytes → Type 0
-HasText parts = IsHost parts.0 × (c.is_one_line parts.1 ≡ true) × IsUtf8 parts.1
-
-text_proper : (words : List Bytes) → AreUtf8 words → IfSome (option_and_then c.host_text (c.split_last words)) HasText
+text_proper : Gives (λ words. option_and_then c.host_text (c.split_last words)) (λ parts. IsHost parts.0 × (c.is_one_line parts.1 ≡ true) × IsUtf8 parts.1)
 text_proper words u =
-    after AreCut HasText c.host_text (c.split_last words) (last_proper words u) (λ parts p.
-    either HasText (c.is_one_line parts.1) _ _ (λ line.
-    mapped IsHost HasText (λ host. (host, parts.1)) (c.host_of parts.0) (host_proper parts.0 p.0) (λ host h. (h, line, p.1))) tt)
+    after _ _ c.host_text (c.split_last words) (last_proper words u) (λ parts p.
+    either _ (c.is_one_line parts.1) _ _ (λ line. mapped IsHost _ (λ host. (host, parts.1)) (c.host_of parts.0) (host_proper parts.0 p.0) (λ host h. (h, line, p.1))) tt)
 
 fixes_proper : (o : Option Fixes) → IfSome o (λ fixes. Unit {0})
 fixes_proper None = tt
@@ -210,15 +162,14 @@ fixes_proper (Some fixes) = tt
 
 field_proper : (word : Bytes) → IsUtf8 word → IfSome (c.field_of word) IsField
 field_proper word u =
-    either IsField (bytes_eq word (codes "kind")) _ _ (λ _. tt) (either IsField (bytes_eq word (codes "startline")) _ _ (λ _. tt)
-    (either IsField (bytes_eq word (codes "rule")) _ _ (λ _. tt) (given_is IsField (is_identifier word && not (c.is_unknown_field word)) _ (λ h.
-    ((and_parts (is_identifier word) (not (c.is_unknown_field word)) h).0, u)))))
+    either _ (bytes_eq word (codes "kind")) _ _ (λ _. tt) (either _ (bytes_eq word (codes "startline")) _ _ (λ _. tt)
+    (either _ (bytes_eq word (codes "rule")) _ _ (λ _. tt) (given_is IsField _ _ (λ h. ((and_parts (is_identifier word) (not (c.is_unknown_field word)) h).0, u)))))
 
 name_is_text : is_utf8 (codes "name") ≡ true
 unfolding is_utf8 chars encode
 name_is_text = refl
 
-fields_proper : (words : List Bytes) → AreUtf8 words → IfSome (c.fields_of words) (AreSome IsField)
+fields_proper : Gives c.fields_of (AreSome IsField)
 fields_proper [] u = (refl, ((refl, IsUtf8-from_is_utf8 (codes "name") name_is_text), (tt, tt)))
 fields_proper (word ∷ words) u = some_proper IsField c.field_of field_proper (word ∷ words) refl u
 
@@ -239,8 +190,7 @@ made_proper : {X : Type 0} (make : X → Operation) (o : Option X) → IfSome o 
 made_proper make None h = tt
 made_proper make (Some x) h = h
 
-by_form : {X : Type 0} (make : X → Operation) (form : List Bytes → Option X) → ((words : List Bytes) → AreUtf8 words → IfSome (form words) (λ x. IsProperCommand (make x)))
-    → IsProperReader (λ words. c.operation_of make (form words))
+by_form : {X : Type 0} (make : X → Operation) (form : List Bytes → Option X) → Gives form (λ x. IsProperCommand (make x)) → IsProperReader (λ words. c.operation_of make (form words))
 by_form make form proper words u = made_proper make (form words) (proper words u)
 
 if_proper : (t : Bool) (x y : ReadCommand) → (t ≡ true → ReadsProper x) → ReadsProper y → ReadsProper (if t then x else y)
@@ -249,7 +199,7 @@ if_proper false x y f k = k
 
 delete_proper : IsProperReader c.delete_of
 delete_proper [] u = tt
-delete_proper (word ∷ words) u = tt
+delete_proper _ u = tt
 
 set_proper : IsProperReader c.set_of
 set_proper words u =
@@ -264,8 +214,7 @@ remove_proper : IsProperReader c.remove_of
 remove_proper [] u = tt
 remove_proper (attribute ∷ values) u =
     if_proper (is_nonempty values) _ _
-    (λ some. made_proper (λ name. w.Value (wv.Remove name values)) (c.given (is_identifier attribute) attribute)
-    (given_is (λ name. IsAttribute name × AreValues values) (is_identifier attribute) attribute (λ i. ((i, u.0), (some, u.1)))))
+    (λ some. made_proper (λ name. w.Value (wv.Remove name values)) (c.given (is_identifier attribute) attribute) (given_is _ (is_identifier attribute) attribute (λ i. ((i, u.0), (some, u.1)))))
     (made_proper (λ attributes. w.Attribute (wa.Remove attributes)) (c.attributes_of attribute) (attributes_proper attribute u.0))
 
 abbrev AllReadProper : List (Bytes × (Bytes × Reader)) → Type 0

@@ -9,20 +9,20 @@ use Rattle.bz_token.specs.Lexemes.{IsShort, short_end, short_plain, short_taken,
 use Rattle.bz_command_syntax.specs.Quoted.{is_escaped, escaped, quoted_of}
 
 -- a byte that is written as it is
-stays : (byte : ℕ) → (byte == line_feed) ≡ false → (byte == quotation_mark || byte == backslash) ≡ false
-    → among byte (quotation_mark ∷ line_feed ∷ backslash ∷ []) ≡ false
-stays byte e f = let w = or_parts (byte == quotation_mark) (byte == backslash) f in rw (w.0, e, w.1) refl
+pub written_plain : (byte : ℕ) → is_escaped byte ≡ false → escaped byte ≡ byte ∷ []
+written_plain byte h = let w = or_parts (byte == line_feed) (byte == quotation_mark || byte == backslash) h in rw (w.0, w.1) refl
 
 short_more : (byte : ℕ) (rest : Bytes) → IsShort quotation_mark rest → IsShort quotation_mark (escaped byte ++ rest)
-short_more byte rest l =
-    elim (cases_Bool (byte == line_feed)) [
-      | inl e ↦ rw e (short_taken l)
-      | inr e ↦
-          elim (cases_Bool (byte == quotation_mark || byte == backslash)) [
-            | inl f ↦ rw (e, f) (short_taken l)
-            | inr f ↦ let plain = stays byte e f in rw (e, f) (short_plain plain l)
-          ]
-    ]
+short_more byte rest l = elim (cases_Bool (byte == line_feed)) [
+  | inl e ↦ rw e (short_taken l)
+  | inr e ↦ elim (cases_Bool (byte == quotation_mark || byte == backslash)) [
+    | inl f ↦ rw (e, f) (short_taken l)
+    | inr f ↦
+        let w = or_parts (byte == quotation_mark) (byte == backslash) f in
+        let plain : among byte (quotation_mark ∷ line_feed ∷ backslash ∷ []) ≡ false = rw (w.0, e, w.1) refl in
+        rw (e, f) (short_plain plain l)
+  ]
+]
 
 short_text : (word : Bytes) → IsShort quotation_mark (flat_map escaped word)
 short_text [] = short_end
@@ -37,9 +37,7 @@ plain_text : (word : Bytes) → list_any is_escaped word ≡ false → flat_map 
 plain_text [] h = refl
 plain_text (byte ∷ word) h =
     let w = or_parts (is_escaped byte) (list_any is_escaped word) h in
-    let v = or_parts (byte == line_feed) (byte == quotation_mark || byte == backslash) w.0 in
-    let itself : escaped byte ≡ byte ∷ [] = rw (v.0, v.1) refl in
-    ap (λ (front : Bytes). front ++ flat_map escaped word) itself ∙ ap (λ (rest : Bytes). byte ∷ rest) (plain_text word w.1)
+    ap (λ (front : Bytes). front ++ flat_map escaped word) (written_plain byte w.0) ∙ ap (λ (rest : Bytes). byte ∷ rest) (plain_text word w.1)
 
 pub quoted_plain : (word : Bytes) → list_any is_escaped word ≡ false → quoted_of word ≡ quotation_mark ∷ word ++ quotation_mark ∷ []
 quoted_plain word h = rw (plain_text word h) refl

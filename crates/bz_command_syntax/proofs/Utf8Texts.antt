@@ -11,9 +11,10 @@ use Rattle.std.proofs.Math.Seq.{get_or-append_seam}
 use Rattle.bz_items.specs.Characters.{Bytes, backslash, letter_n, line_feed, quotation_mark, space}
 use Rattle.bz_command_syntax.specs.Commands.{cut_at}
 use Rattle.bz_command_syntax.specs.Proper.{AreUtf8}
-use Rattle.bz_command_syntax.specs.Quoted.{escaped, quoted_of}
+use Rattle.bz_command_syntax.specs.Quoted.{is_escaped, escaped, quoted_of}
 use Rattle.bz_command_syntax.specs.Words.{pieces, begins_with_space, is_nonempty, after_word, words_of}
 use Rattle.bz_command_syntax.proofs.Pieces.{after_word-onto_first}
+use Rattle.bz_command_syntax.proofs.Strings.{written_plain}
 
 -- a text on both sides of an ASCII byte
 pub beside_ascii : (front : Bytes) (byte : ℕ) (rest : Bytes) → byte < 128 → IsUtf8 (front ++ byte ∷ rest) → IsUtf8 front × IsUtf8 rest
@@ -45,42 +46,33 @@ one_ascii byte h = IsUtf8-from_ascii (byte ∷ []) (IsAscii-from_all (byte ∷ [
 
 -- ---- a word between quotation marks
 
-two_ascii : (first second : ℕ) → first < 128 → second < 128 → IsUtf8 (first ∷ second ∷ [])
-two_ascii first second h k = IsUtf8-append (first ∷ []) (second ∷ []) (one_ascii first h) (one_ascii second k)
+-- a byte that has a backslash before it is ASCII, as what is written for it
+abbrev IsWritten : ℕ → Type 0
+IsWritten byte = (byte < 128) × IsUtf8 (escaped byte)
 
-abbrev is_between : ℕ → Bool
-is_between byte = byte == quotation_mark || byte == backslash
+two_ascii : (second : ℕ) → second < 128 → IsUtf8 (backslash ∷ second ∷ [])
+two_ascii second h = IsUtf8-append (backslash ∷ []) (second ∷ []) (one_ascii backslash (omega arith)) (one_ascii second h)
 
-between_ascii : (byte : ℕ) → is_between byte ≡ true → byte < 128
-between_ascii byte h = elim (or_cases (byte == quotation_mark) (byte == backslash) h) [
-  | inl e ↦ let same = eqb-true byte quotation_mark e in omega arith
-  | inr e ↦ let same = eqb-true byte backslash e in omega arith
+written : (byte : ℕ) → is_escaped byte ≡ true → IsWritten byte
+written byte h = elim (or_cases (byte == line_feed) (byte == quotation_mark || byte == backslash) h) [
+  | inl e ↦ subst IsWritten (sym (eqb-true byte line_feed e)) (omega arith, two_ascii letter_n (omega arith))
+  | inr e ↦ elim (or_cases (byte == quotation_mark) (byte == backslash) e) [
+    | inl f ↦ subst IsWritten (sym (eqb-true byte quotation_mark f)) (omega arith, two_ascii quotation_mark (omega arith))
+    | inr f ↦ subst IsWritten (sym (eqb-true byte backslash f)) (omega arith, two_ascii backslash (omega arith))
+  ]
 ]
 
 escapes_utf8 : (front rest : Bytes) → IsUtf8 (front ++ rest) → IsUtf8 (front ++ flat_map escaped rest)
 escapes_utf8 front [] u = u
-escapes_utf8 front (byte ∷ rest) u =
-    let following : Bytes → Type 0 = λ text. IsUtf8 (front ++ (text ++ flat_map escaped rest)) in
-    let two : (first second : ℕ) → first < 128 → second < 128 → byte < 128 → following (first ∷ second ∷ []) =
-    (λ first second h k a.
-    let w = beside_ascii front byte rest a u in
-    IsUtf8-append front (first ∷ second ∷ flat_map escaped rest) w.0
-    (IsUtf8-append (first ∷ second ∷ []) (flat_map escaped rest) (two_ascii first second h k) (escapes_utf8 [] rest w.1))) in
-    elim (cases_Bool (byte == line_feed)) [
-      | inl e ↦
-          let same : byte ≡ line_feed = eqb-true byte line_feed e in
-          let as_two : escaped byte ≡ backslash ∷ letter_n ∷ [] = rw e refl in
-          subst following (sym as_two) (two backslash letter_n (omega arith) (omega arith) (omega arith))
-      | inr e ↦
-          elim (cases_Bool (is_between byte)) [
-            | inl f ↦
-                let as_two : escaped byte ≡ backslash ∷ byte ∷ [] = rw (e, f) refl in
-                subst following (sym as_two) (two backslash byte (omega arith) (between_ascii byte f) (between_ascii byte f))
-            | inr f ↦
-                let itself : escaped byte ≡ byte ∷ [] = rw (e, f) refl in
-                subst following (sym itself) (rw append_assoc at (escapes_utf8 (front ++ byte ∷ []) rest (rw append_assoc u)))
-          ]
-    ]
+escapes_utf8 front (byte ∷ rest) u = elim (cases_Bool (is_escaped byte)) [
+  | inl e ↦
+      let w = written byte e in
+      let v = beside_ascii front byte rest w.0 u in
+      IsUtf8-append front (escaped byte ++ flat_map escaped rest) v.0 (IsUtf8-append (escaped byte) (flat_map escaped rest) w.1 (escapes_utf8 [] rest v.1))
+  | inr e ↦
+      subst (λ (text : Bytes). IsUtf8 (front ++ (text ++ flat_map escaped rest))) (sym (written_plain byte e))
+      (rw append_assoc at (escapes_utf8 (front ++ byte ∷ []) rest (rw append_assoc u)))
+]
 
 pub quoted_utf8 : (word : Bytes) → IsUtf8 word → IsUtf8 (quoted_of word)
 quoted_utf8 word u =

@@ -1,23 +1,20 @@
 -- Identifiers, and kinds: identifiers joined by dots.
-use Rattle.std.specs.Prelude.{ℕ, ◌==◌, ◌↔◌, ◌≡◌, Bool, true, false, [], ◌∷◌, ◌&&◌, ◌||◌, not, if◌then◌else◌}
+use Rattle.std.specs.Prelude.{◌==◌, ◌↔◌, ◌≡◌, Bool, true, false, [], ◌∷◌, ◌&&◌, ◌||◌, not, if◌then◌else◌}
 use Rattle.std.specs.List.{list_all, slice_split}
 use Rattle.bz_token.specs.declared.class.Class.TheVariants as class
 use Rattle.bz_token.specs.Bytes.{is_digit, is_high, is_letter}
 use Rattle.bz_token.specs.Lexemes.{is_keyword, IsLexeme}
 use Rattle.bz_items.specs.Characters.{Bytes, full_stop}
 
--- a letter, a digit or `_`, known from its byte alone: EF says nothing
-abbrev pub is_plain_letter : ℕ → Bool
-is_plain_letter byte = (is_letter byte || is_digit byte) && not (byte == 239)
-
 -- Letters, digits and `_`. EF begins a character of three bytes, which is a letter unless it is U+FEFF, EF BB BF.
-abbrev pub are_letters : Bytes → Bool
-are_letters [] = true
-are_letters (a ∷ []) = is_plain_letter a
-are_letters (a ∷ b ∷ []) = is_plain_letter a && is_plain_letter b
-are_letters (a ∷ b ∷ c ∷ rest) =
-    if a == 239 then is_high b && is_high c && not (b == 187 && c == 191) && are_letters rest
-    else is_plain_letter a && are_letters (b ∷ c ∷ rest)
+abbrev mutual
+  pub are_letters : Bytes → Bool
+  are_letters [] = true
+  are_letters (byte ∷ rest) = if byte == 239 then end_a_letter rest else (is_letter byte || is_digit byte) && are_letters rest
+
+  pub end_a_letter : Bytes → Bool
+  end_a_letter (b ∷ c ∷ rest) = is_high b && is_high c && not (b == 187 && c == 191) && are_letters rest
+  end_a_letter _ = false
 
 -- a letter or `_`, then letters, digits and `_`
 abbrev pub is_word_of_letters : Bytes → Bool

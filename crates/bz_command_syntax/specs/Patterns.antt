@@ -22,14 +22,15 @@ substituted_by None template body = body
 substituted_by (Some pattern) template body = replaced_in pattern.0.value pattern.1 template body
 
 -- The body with each match of the pattern that `regex`'s grammar reads in the source replaced by the template. Bytes that are
--- no text have no match.
+-- no text have no match, and what would leave no text leaves the body: `regex` matches whole characters, so nothing does.
 unfoldable pub substituted : List ℕ → List ℕ → List ℕ → List ℕ
 substituted source template body =
-    if is_utf8 template && is_utf8 body then substituted_by (read default_config (chars source)) template body else body
+    let made = substituted_by (read default_config (chars source)) template body in
+    if is_utf8 template && is_utf8 body && is_utf8 made then made else body
 
--- What a substitution makes of a text is one, where its pattern and its template are texts.
+-- What a substitution makes of a text is one.
 abbrev pub TextStaysText : Type 0
-TextStaysText = (source template body : List ℕ) → IsUtf8 source → IsUtf8 template → IsUtf8 body → IsUtf8 (substituted source template body)
+TextStaysText = (source template body : List ℕ) → IsUtf8 body → IsUtf8 (substituted source template body)
 
 -- the characters by which a pattern is more than a text
 abbrev pub special_characters : List ℕ

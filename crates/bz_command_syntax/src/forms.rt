@@ -10,6 +10,17 @@ use bz_items::{Items, Text};
 use bz_token::{Class, token};
 use std::str;
 
+/// Answers `Arguments` unless the words have this form.
+macro_rules! ensure {
+    ($has_form:expr) => {
+        if !$has_form {
+            return Err(CommandFault::Arguments);
+        }
+    };
+}
+
+pub(crate) use ensure;
+
 /// What a command reads.
 pub(crate) type Read = Result<Operation, CommandFault>;
 
@@ -105,11 +116,8 @@ pub(crate) fn attribute_and_word(mut words: Vec<Text>) -> Result<(Text, Text), C
 {
     let attribute = take_first(&mut words)?;
     let word = take_first(&mut words)?;
-    if words.is_empty() && is_attribute(&attribute) {
-        Ok((attribute, word))
-    } else {
-        Err(CommandFault::Arguments)
-    }
+    ensure!(words.is_empty() && is_attribute(&attribute));
+    Ok((attribute, word))
 }
 
 /// The attribute and its values, one or more. The error: `Arguments`: the words have another form.
@@ -119,11 +127,8 @@ pub(crate) fn attribute_and_values(
     ensures { MatchResult result (λ parts. c.attribute_values words.items ≡ Some parts) (λ fault. (c.attribute_values words.items ≡ None) × (fault ≡ CommandFault.Arguments)) }
 {
     let attribute = take_first(&mut words)?;
-    if is_attribute(&attribute) && has_values(&words) {
-        Ok((attribute, Items::from_vec(words)))
-    } else {
-        Err(CommandFault::Arguments)
-    }
+    ensure!(is_attribute(&attribute) && has_values(&words));
+    Ok((attribute, Items::from_vec(words)))
 }
 
 /// The attributes and the two words after them. The error: `Arguments`: the words have another form.
@@ -135,9 +140,7 @@ pub(crate) fn attributes_and_words(
     let attribute = take_first(&mut words)?;
     let first = take_first(&mut words)?;
     let second = take_first(&mut words)?;
-    if !words.is_empty() {
-        return Err(CommandFault::Arguments);
-    }
+    ensure!(words.is_empty());
     let attributes = attributes_of(attribute).ok_or(CommandFault::Arguments)?;
     Ok((attributes, first, second))
 }

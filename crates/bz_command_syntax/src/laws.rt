@@ -29,8 +29,8 @@ pub fn worked_strings()
     ensures { WorkedStrings }
 {}
 
-/// What a substitution makes of a text is a text, where its pattern and its template are texts.
-#[tactic(auto, using(crate::proofs::TextMatches::substituted_utf8))]
+/// What a substitution makes of a text is a text.
+#[tactic(auto, using(crate::proofs::PlainTexts::substituted_utf8))]
 pub fn text_stays_text()
     ensures { TextStaysText }
 {}

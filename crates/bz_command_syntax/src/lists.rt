@@ -6,7 +6,7 @@ ghost use Rattle.bz_command_syntax.specs.Refused.{IsReadAs};
 use crate::command::{DictOperation, Entry, Field, LoadOperation, Operation, Symbol};
 use crate::fault::CommandFault;
 use crate::forms::{
-    Read, attribute_and_values, has_values, is_attribute, is_identifier, take_first,
+    Read, attribute_and_values, ensure, has_values, is_attribute, is_identifier, take_first,
 };
 use bz_items::{Items, Memory, Text};
 use std::alloc::Global;
@@ -82,9 +82,7 @@ fn entries_of(mut words: Vec<Text>) -> Result<(Text, Items<Entry>), CommandFault
     ensures err { IfErr result (λ fault. ((c.dict_entries words.items ≡ None) × (fault ≡ CommandFault.Arguments)) ⊎ (fault ≡ CommandFault.Memory)) }
 {
     let attribute = take_first(&mut words)?;
-    if !is_attribute(&attribute) || !has_values(&words) {
-        return Err(CommandFault::Arguments);
-    }
+    ensure!(is_attribute(&attribute) && has_values(&words));
     let entries = each(*words.allocator(), &words)?;
     Ok((attribute, entries))
 }
@@ -141,9 +139,7 @@ pub(crate) fn new_load_of(mut words: Vec<Text>) -> Read
     ensures { IsReadAs (c.command_in true (codes "new_load" ∷ words.items)) result }
 {
     let path = take_first(&mut words)?;
-    if !has_values(&words) {
-        return Err(CommandFault::Arguments);
-    }
+    ensure!(has_values(&words));
     let symbols = each(*words.allocator(), &words)?;
     Ok(Operation::Load(LoadOperation::New { path, symbols }))
 }

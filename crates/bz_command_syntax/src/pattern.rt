@@ -59,7 +59,7 @@ fn has_special(source: &str) -> bool
 }
 
 impl Pattern {
-    ghost use Rattle.std.specs.Prelude.{◌≡◌, ◌⊎◌, IfOk, IfErr, chars};
+    ghost use Rattle.std.specs.Prelude.{◌≡◌, ◌⊎◌, IfOk, IfErr, IsUtf8, chars};
     ghost use Rattle.regex_syntax.specs.Grammar.{read};
     ghost use Rattle.regex.specs.Patterns.{default_config};
     ghost use Rattle.bz_command_syntax.specs.Patterns.{IsRefusedPattern, substituted, substituted_by};
@@ -82,7 +82,8 @@ impl Pattern {
     /// error: a growth was refused.
     #[tactic(auto, using(crate::proofs::PlainTexts::without_template, crate::proofs::PlainTexts::without_body, crate::proofs::PlainTexts::with_texts))]
     pub fn substituted(&self, alloc: Global, template: &[u8], body: &[u8]) -> Result<Text, Memory>
-        ensures { IfOk result (λ text. text ≡ substituted self.now template.now body.now) }
+        ensures ok { IfOk result (λ text. text ≡ substituted self.now template.now body.now) }
+        ensures of_texts { IsUtf8 template.now → IsUtf8 body.now → IfOk result (λ text. text ≡ substituted_by (read default_config (chars self.now)) template.now body.now) }
     {
         let Ok(template) = str::from_utf8(template) else {
             return Text::from_slice(alloc, body);
@@ -95,7 +96,8 @@ impl Pattern {
 
     /// The same of texts.
     fn replaced(&self, alloc: Global, template: &str, body: &str) -> Result<Text, Memory>
-        ensures { IfOk result (λ text. text ≡ substituted_by (read default_config (chars self.now)) template.now body.now) }
+        ensures ok { IfOk result (λ text. text ≡ substituted_by (read default_config (chars self.now)) template.now body.now) }
+        ensures utf8 { IfOk result IsUtf8 }
     {
         let template = Template::new(alloc, self.regex.capture_names(), template)?;
         let mut matcher = self.regex.matcher(alloc)?;

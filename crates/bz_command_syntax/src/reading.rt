@@ -1,6 +1,5 @@
 //! What the commands read whose words have a form of their own: those on rules, attributes, values and comments, and `fix`.
-ghost use Rattle.std.specs.Prelude.{◌≡◌, ◌∷◌, codes, true, false, Some, None, MatchResult};
-ghost use Rattle.std.specs.Option.{ok_or};
+ghost use Rattle.std.specs.Prelude.{◌≡◌, ◌∷◌, codes, true, Some, None, MatchResult};
 ghost use Rattle.std.specs.List.{list_any};
 ghost use Rattle.bz_command_syntax.specs.Commands as c;
 ghost use Rattle.bz_command_syntax.specs.Proper.{AreUtf8};
@@ -13,7 +12,7 @@ use crate::command::{
 use crate::fault::CommandFault;
 use crate::forms::{
     Read, as_text, attribute_and_values, attribute_and_word, attributes_and_words, attributes_of,
-    has_values, is_attribute, is_kind_name, is_star, is_text, take_first,
+    ensure, has_values, is_attribute, is_kind_name, is_star, is_text, take_first,
 };
 use crate::pattern::Pattern;
 use bz_items::{Items, Text};
@@ -27,10 +26,7 @@ fn has_star(words: &[Text]) -> bool
 fn begins_with_kind(words: &[Text]) -> bool
     ensures { result ≡ c.begins_with_kind words.now }
 {
-    match words {
-        [word, ..] => is_text(word, b"kind"),
-        [] => false,
-    }
+    matches!(words, [word, ..] if is_text(word, b"kind"))
 }
 
 fn values_of(words: Vec<Text>) -> Values
@@ -43,28 +39,19 @@ fn values_of(words: Vec<Text>) -> Values
     }
 }
 
-fn beside(side: Text, rule: Text) -> Option<RulePlace>
-    ensures { result ≡ c.beside side rule }
+fn rule_place(mut words: Vec<Text>) -> Result<RulePlace, CommandFault>
+    ensures { MatchResult result (λ place. c.rule_place words.items ≡ Some place) (λ fault. (c.rule_place words.items ≡ None) × (fault ≡ CommandFault.Arguments)) }
 {
+    let Ok(side) = take_first(&mut words) else {
+        return Ok(RulePlace::End);
+    };
+    let rule = take_first(&mut words)?;
+    ensure!(words.is_empty());
     if is_text(&side, b"before") {
-        return Some(RulePlace::Before(rule));
+        return Ok(RulePlace::Before(rule));
     }
-    if is_text(&side, b"after") {
-        return Some(RulePlace::After(rule));
-    }
-    None
-}
-
-fn rule_place(words: Vec<Text>) -> Option<RulePlace>
-    ensures { result ≡ c.rule_place words.items }
-{
-    if words.is_empty() {
-        return Some(RulePlace::End);
-    }
-    match <[Text; 2]>::try_from(words) {
-        Ok([side, rule]) => beside(side, rule),
-        Err(_words) => None,
-    }
+    ensure!(is_text(&side, b"after"));
+    Ok(RulePlace::After(rule))
 }
 
 pub(crate) fn new_of(mut words: Vec<Text>) -> Read
@@ -72,21 +59,16 @@ pub(crate) fn new_of(mut words: Vec<Text>) -> Read
 {
     let kind = take_first(&mut words)?;
     let name = take_first(&mut words)?;
-    if !is_kind_name(kind.as_slice()) {
-        return Err(CommandFault::Arguments);
-    }
-    let place = rule_place(words).ok_or(CommandFault::Arguments)?;
+    ensure!(is_kind_name(kind.as_slice()));
+    let place = rule_place(words)?;
     Ok(Operation::Rule(RuleOperation::New { kind, name, place }))
 }
 
 pub(crate) fn delete_of(words: Vec<Text>) -> Read
     ensures { result ≡ c.delete_of words.items }
 {
-    if words.is_empty() {
-        Ok(Operation::Rule(RuleOperation::Delete))
-    } else {
-        Err(CommandFault::Arguments)
-    }
+    ensure!(words.is_empty());
+    Ok(Operation::Rule(RuleOperation::Delete))
 }
 
 fn new_kind(mut words: Vec<Text>) -> Result<Text, CommandFault>
@@ -95,11 +77,8 @@ fn new_kind(mut words: Vec<Text>) -> Result<Text, CommandFault>
     let word = take_first(&mut words)?;
     drop(word);
     let kind = take_first(&mut words)?;
-    if words.is_empty() && is_kind_name(kind.as_slice()) {
-        Ok(kind)
-    } else {
-        Err(CommandFault::Arguments)
-    }
+    ensure!(words.is_empty() && is_kind_name(kind.as_slice()));
+    Ok(kind)
 }
 
 pub(crate) fn set_of(words: Vec<Text>) -> Read
@@ -116,9 +95,7 @@ pub(crate) fn set_of(words: Vec<Text>) -> Read
 pub(crate) fn set_if_absent_of(words: Vec<Text>) -> Read
     ensures { result ≡ c.set_if_absent_of words.items }
 {
-    if begins_with_kind(&words) {
-        return Err(CommandFault::Arguments);
-    }
+    ensure!(!begins_with_kind(&words));
     let (attribute, values) = attribute_and_values(words)?;
     Ok(Operation::Attribute(AttributeOperation::SetIfAbsent { attribute, values }))
 }
@@ -135,9 +112,7 @@ pub(crate) fn remove_of(mut words: Vec<Text>) -> Read
 {
     let attribute = take_first(&mut words)?;
     if has_values(&words) {
-        if !is_attribute(&attribute) {
-            return Err(CommandFault::Arguments);
-        }
+        ensure!(is_attribute(&attribute));
         let values = Items::from_vec(words);
         return Ok(Operation::Value(ValueOperation::Remove { attribute, values }));
     }
@@ -161,29 +136,17 @@ pub(crate) fn move_of(mut words: Vec<Text>) -> Read
 {
     let from = take_first(&mut words)?;
     let to = take_first(&mut words)?;
-    if !is_attribute(&from) || !is_attribute(&to) || !has_values(&words) {
-        return Err(CommandFault::Arguments);
-    }
+    ensure!(is_attribute(&from) && is_attribute(&to) && has_values(&words));
     let values = values_of(words);
     Ok(Operation::Value(ValueOperation::Move { from, to, values }))
 }
 
-fn two_attributes(mut words: Vec<Text>) -> Result<(Text, Text), CommandFault>
-    ensures { MatchResult result (λ parts. c.two_attributes words.items ≡ Some parts) (λ fault. (c.two_attributes words.items ≡ None) × (fault ≡ CommandFault.Arguments)) }
+pub(crate) fn rename_of(mut words: Vec<Text>) -> Read
+    ensures { result ≡ c.command_in true (codes "rename" ∷ words.items) }
 {
     let from = take_first(&mut words)?;
     let to = take_first(&mut words)?;
-    if words.is_empty() && is_attribute(&from) && is_attribute(&to) {
-        Ok((from, to))
-    } else {
-        Err(CommandFault::Arguments)
-    }
-}
-
-pub(crate) fn rename_of(words: Vec<Text>) -> Read
-    ensures { result ≡ c.command_in true (codes "rename" ∷ words.items) }
-{
-    let (from, to) = two_attributes(words)?;
+    ensure!(words.is_empty() && is_attribute(&from) && is_attribute(&to));
     Ok(Operation::Attribute(AttributeOperation::Rename { from, to }))
 }
 
@@ -216,28 +179,19 @@ pub(crate) fn substitute_of(words: Vec<Text>) -> Read
     }))
 }
 
-// The attribute, or the first item of its lists that is the value.
-fn host_in(attribute: Text, mut values: Vec<Text>) -> Option<Host>
-    ensures { result ≡ c.host_of (attribute ∷ values.items) }
+// What carries the comments: the rule, an attribute, or the first item of its lists that is the value.
+fn host_of(mut words: Vec<Text>) -> Result<Host, CommandFault>
+    ensures { MatchResult result (λ host. c.host_of words.items ≡ Some host) (λ fault. (c.host_of words.items ≡ None) × (fault ≡ CommandFault.Arguments)) }
 {
-    if !is_attribute(&attribute) {
-        return None;
-    }
-    match take_first(&mut values) {
-        Ok(value) if values.is_empty() => Some(Host::Item { attribute, value }),
-        Ok(_value) => None,
-        Err(_) => Some(Host::Attribute(attribute)),
-    }
-}
-
-// What carries the comments: the rule, where there is no word.
-fn host_of(mut words: Vec<Text>) -> Option<Host>
-    ensures { result ≡ c.host_of words.items }
-{
-    match take_first(&mut words) {
-        Ok(attribute) => host_in(attribute, words),
-        Err(_) => Some(Host::Rule),
-    }
+    let Ok(attribute) = take_first(&mut words) else {
+        return Ok(Host::Rule);
+    };
+    ensure!(is_attribute(&attribute));
+    let Ok(value) = take_first(&mut words) else {
+        return Ok(Host::Attribute(attribute));
+    };
+    ensure!(words.is_empty());
+    Ok(Host::Item { attribute, value })
 }
 
 fn is_one_line(text: &Text) -> bool
@@ -253,53 +207,48 @@ pub(crate) fn comment_of(mut words: Vec<Text>) -> Read
     let Some(text) = words.pop() else {
         return Err(CommandFault::Arguments);
     };
-    if !is_one_line(&text) {
-        return Err(CommandFault::Arguments);
-    }
-    let host = host_of(words).ok_or(CommandFault::Arguments)?;
+    ensure!(is_one_line(&text));
+    let host = host_of(words)?;
     Ok(Operation::Comment(CommentOperation::Add { host, text }))
 }
 
 pub(crate) fn print_comment_of(words: Vec<Text>) -> Read
     ensures { result ≡ c.command_in true (codes "print_comment" ∷ words.items) }
 {
-    let host = host_of(words).ok_or(CommandFault::Arguments)?;
+    let host = host_of(words)?;
     Ok(Operation::Comment(CommentOperation::Print { host }))
 }
 
 pub(crate) fn remove_comment_of(words: Vec<Text>) -> Read
     ensures { result ≡ c.command_in true (codes "remove_comment" ∷ words.items) }
 {
-    let host = host_of(words).ok_or(CommandFault::Arguments)?;
+    let host = host_of(words)?;
     Ok(Operation::Comment(CommentOperation::Remove { host }))
 }
 
 // The fixes and one more, where the word names one that isn't among them.
-fn with_fix(word: &Text, fixes: Fixes) -> Option<Fixes>
+fn with_fix(word: &Text, mut fixes: Fixes) -> Option<Fixes>
     ensures { result ≡ c.with_fix word.now fixes }
 {
     if is_text(word, b"movePackageToTop") && !fixes.move_package_to_top {
-        return Some(Fixes {
-            move_package_to_top: true,
-            ..fixes
-        });
+        fixes.move_package_to_top = true;
+        return Some(fixes);
     }
     if is_text(word, b"unusedLoads") && !fixes.unused_loads {
-        return Some(Fixes {
-            unused_loads: true,
-            ..fixes
-        });
+        fixes.unused_loads = true;
+        return Some(fixes);
     }
     None
 }
 
-// The fixes that the words name, each at most once.
-fn named_fixes(words: &[Text]) -> Option<Fixes>
-    ensures { result ≡ c.fixes_from (record { move_package_to_top = false; unused_loads = false }) words.now }
+// The fixes that the words name, each at most once; where none is named, all are meant.
+fn fixes_of(words: &[Text]) -> Option<Fixes>
+    ensures { result ≡ c.fixes_of words.now }
 {
+    let all = words.is_empty();
     let mut fixes = Fixes {
-        move_package_to_top: false,
-        unused_loads: false,
+        move_package_to_top: all,
+        unused_loads: all,
     };
     for word in words {
         match with_fix(word, fixes) {
@@ -308,19 +257,6 @@ fn named_fixes(words: &[Text]) -> Option<Fixes>
         }
     }
     Some(fixes)
-}
-
-// Where none is named, all are meant.
-fn fixes_of(words: &[Text]) -> Option<Fixes>
-    ensures { result ≡ c.fixes_of words.now }
-{
-    match words {
-        [] => Some(Fixes {
-            move_package_to_top: true,
-            unused_loads: true,
-        }),
-        _ => named_fixes(words),
-    }
 }
 
 pub(crate) fn fix_of(words: Vec<Text>) -> Read

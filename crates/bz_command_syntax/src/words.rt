@@ -22,13 +22,6 @@ fn close(words: &mut Vec<Text>, word: Vec<u8>) -> Result<(), Memory>
     Ok(())
 }
 
-// A space separates, unless a backslash is right before it.
-fn is_separating(byte: u8, after_backslash: bool) -> bool
-    ensures { result ≡ (byte == space && not after_backslash) }
-{
-    byte == b' ' && !after_backslash
-}
-
 // A backslash right before a space goes.
 fn is_dropped(byte: u8, rest: &[u8]) -> bool
     ensures { result ≡ (byte == backslash && begins_with_space rest.now) }
@@ -48,7 +41,7 @@ fn read_byte(
 ) -> Result<(), Memory>
     ensures { OnOk result (words.new.items ++ words_after word.new.items (byte == backslash) rest.now ≡ words.old.items ++ words_after word.old.items after_backslash (byte ∷ rest.now)) }
 {
-    if is_separating(byte, after_backslash) {
+    if byte == b' ' && !after_backslash {
         let whole = mem::replace(word, Vec::new(alloc));
         close(words, whole)?;
         return Ok(());
