@@ -1,4 +1,3 @@
-pub mod Apps
 pub mod Counts
 pub mod InTurn
 pub mod PathTexts

@@ -1,5 +1,5 @@
 -- Texts of a list: the place of one among those after references, and the characters of each.
-use Rattle.std.proofs.Common.{◌≡◌, ◌<◌, ◌+◌, ◌∷◌, [], ℕ, Bool, not, cond, nat_lt, List, Bor, map, position, get_or, length, Some, None, IsUtf8, arith, zero, suc, refl, ap, sym, ◌∙◌}
+use Rattle.std.proofs.Common.{◌≡◌, ◌<◌, ◌+◌, ◌∷◌, [], ℕ, Bool, not, cond, nat_lt, List, Bor, position, get_or, length, Some, None, IsUtf8, arith, zero, suc, refl, ap, sym, ◌∙◌}
 use Rattle.std.specs.List.{position_or_len}
 use Rattle.std.proofs.lemmas.List.{length-map}
 use Rattle.bz_items.specs.Characters.{Bytes}
