@@ -1,6 +1,4 @@
-pub mod Apps
-pub mod RequestedLemmas
 pub mod Counts
-pub mod GroupLemmas
+pub mod InTurn
 pub mod PathTexts
 pub mod Texts

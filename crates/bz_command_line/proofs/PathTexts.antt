@@ -1,6 +1,5 @@
 -- The package of a target that is read in a text of characters.
-use Rattle.std.proofs.Common.{◌≡◌, ◌++◌, List, [], ◌∷◌, All, IsUtf8, codes, subst, sym, inl, inr, arith, append_assoc}
-use Rattle.std.proofs.lemmas.List.Elements.{All-nil, All-cons, All-append}
+use Rattle.std.proofs.Common.{◌++◌, IsUtf8, codes, subst, inl, inr, arith, append_assoc}
 use Rattle.bz_items.specs.Characters.{Bytes}
 use Rattle.bz_label.specs.Targets.{IsSpelled, IsTarget}
 use Rattle.bz_label.specs.declared.target.Target.{Target}
@@ -20,8 +19,3 @@ path_utf8 text path word (inr (inr is)) u = slashes_cut path (subst IsUtf8 is.0 
 
 pub has_path : (text : Bytes) (target : Target) → IsTarget text target → IsUtf8 text → HasPath target
 has_path text target is u = (path_utf8 text target.«package» is.word is.spelled u, is.room)
-
--- one element more
-pub all_more : {X : Type 0} (P : X → Type 0) (old new : List X) (last : X) → new ≡ old ++ last ∷ [] → All P old → P last → All P new
-all_more P old new last split each one =
-    subst (All P) (sym split) (All-append P old (last ∷ []) each (All-cons P last [] one (All-nil P)))

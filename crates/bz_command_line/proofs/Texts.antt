@@ -1,30 +1,10 @@
--- Texts after references, cut at a place.
-use Rattle.std.proofs.Common.{◌≡◌, ◌<◌, ◌+◌, ◌++◌, ◌∷◌, [], ℕ, Bool, not, cond, nat_lt, List, Bor, map, position, take, drop, get_or, length, Some, None, IsUtf8, add-one, arith, zero, suc, refl, ap, sym, ◌∙◌}
-use Rattle.std.proofs.Math.Seq.{take-suc, drop-cons}
+-- Texts of a list: the place of one among those after references, and the characters of each.
+use Rattle.std.proofs.Common.{◌≡◌, ◌<◌, ◌+◌, ◌∷◌, [], ℕ, Bool, not, cond, nat_lt, List, Bor, position, get_or, length, Some, None, IsUtf8, arith, zero, suc, refl, ap, sym, ◌∙◌}
 use Rattle.std.specs.List.{position_or_len}
-use Rattle.std.proofs.lemmas.List.{length-map, length-take-le, map-append, take-append-drop}
+use Rattle.std.proofs.lemmas.List.{length-map}
 use Rattle.bz_items.specs.Characters.{Bytes}
 use Rattle.bz_command_syntax.specs.Proper.{AreUtf8}
-
-abbrev pub texts_in : List (Bor (List ℕ)) → List (List ℕ)
-texts_in items = map (λ s. s.now) items
-
--- one text more
-pub texts_more : (items : List (Bor (List ℕ))) (at : ℕ) (none : Bor (List ℕ)) → at < length items
-    → texts_in (take (at + 1) items) ≡ texts_in (take at items) ++ (get_or items at none).now ∷ []
-texts_more items at none within = rw (add-one, take-suc items at none within) (map-append (λ s. s.now) (take at items) (get_or items at none ∷ []))
-
--- as many as come before a place
-pub texts_before : (items : List (Bor (List ℕ))) (at : ℕ) → at < length items → length (texts_in (take at items)) ≡ at
-texts_before items at within = length-map (take at items) (λ s. s.now) ∙ length-take-le at items (omega (arith, within))
-
--- what is before a place, the text there, and what is after it
-pub texts_split : (items : List (Bor (List ℕ))) (at : ℕ) (none : Bor (List ℕ)) → at < length items
-    → texts_in items ≡ texts_in (take at items) ++ (get_or items at none).now ∷ texts_in (drop (at + 1) items)
-texts_split items at none within =
-    let rest : drop at items ≡ get_or items at none ∷ drop (at + 1) items = rw (add-one) (drop-cons items at none within) in
-    ap texts_in (sym (take-append-drop at items)) ∙ map-append (λ s. s.now) (take at items) (drop at items)
-    ∙ ap (λ (left : List (Bor (List ℕ))). texts_in (take at items) ++ texts_in left) rest
+use Rattle.bz_command_line.proofs.InTurn.{texts_in}
 
 before_passing : (p : List ℕ → Bool) (items : List (Bor (List ℕ))) → position_or_len (λ (s : Bor (List ℕ)). p s.now) items ≡ position_or_len p (texts_in items)
 before_passing p [] = refl

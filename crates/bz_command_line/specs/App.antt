@@ -25,12 +25,8 @@ nameless = let app = new_app (codes "buildozer") in record { top = record app.to
 
 -- how lines are found and run
 abbrev pub lines_app : App
-lines_app = with_rule (with_rule nameless keep_going_rule) script_rule
+lines_app = with_rule (with_rule (with_rule nameless operand_rule) keep_going_rule) script_rule
 
--- and what becomes of files: to standard output, without a report, with a journal beside each
-abbrev pub options_app : App
-options_app = with_rule (with_rule (with_rule lines_app (flag_rule (codes "stdout"))) (flag_rule (codes "quiet"))) (flag_rule (codes "journal"))
-
--- buildozer [-k] [-f FILE] [--stdout] [--quiet] [--journal] [OPERAND..]
+-- and what becomes of files: buildozer [-k] [-f FILE] [--stdout] [--quiet] [--journal] [OPERAND..]
 abbrev pub buildozer_app : App
-buildozer_app = with_rule options_app operand_rule
+buildozer_app = with_rule (with_rule (with_rule lines_app (flag_rule (codes "stdout"))) (flag_rule (codes "quiet"))) (flag_rule (codes "journal"))

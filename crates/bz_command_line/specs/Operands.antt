@@ -2,6 +2,7 @@
 use Rattle.std.specs.Prelude.{◌==◌, ℕ, ◌^◌, List, [], ◌∷◌, length, take, codes, bytes_eq, nat_lt, nat_le, Bool, not, ◌&&◌, ◌||◌, if◌then◌else◌, Option, Some, None, Result, Ok, Err}
 use Rattle.std.specs.Str.{all_ascii_digits}
 use Rattle.std.specs.Option.{ok_or, option_map_or}
+use Rattle.std.specs.Result.{result_map_both}
 use Rattle.std.specs.List.{list_any}
 use Rattle.bz_items.specs.Characters.{Bytes, space}
 use Rattle.bz_label.specs.Pieces.{has_colon}
@@ -20,12 +21,9 @@ use Rattle.bz_command_line.specs.declared.verb.OperandFault.TheVariants.{Memory,
 abbrev pub begins_with : Bytes → Bytes → Bool
 begins_with front text = bytes_eq (take (length front) text) front
 
-abbrev pub has_space : Bytes → Bool
-has_space text = list_any (λ byte. byte == space) text
-
 -- An operand without a space that holds a colon or begins with two slashes is a target; every other one is a command.
 abbrev pub is_target : Bytes → Bool
-is_target operand = not (has_space operand) && (has_colon operand || begins_with (codes "//") operand)
+is_target operand = not (list_any (λ byte. byte == space) operand) && (has_colon operand || begins_with (codes "//") operand)
 
 -- the target of this text, of any package
 abbrev pub operand_target : Bytes → Result Target OperandFault
@@ -43,10 +41,6 @@ steps_of [] = Ok 1
 steps_of (count ∷ []) = ok_or (count_of count) (Command c.Arguments)
 steps_of (count ∷ argument ∷ more) = Err (Command c.Arguments)
 
-abbrev pub by_steps : (ℕ → Verb) → Result ℕ OperandFault → Result Verb OperandFault
-by_steps verb (Ok count) = Ok (verb count)
-by_steps verb (Err fault) = Err fault
-
 -- `journal` takes nothing.
 abbrev pub journal_of : List Bytes → Result Verb OperandFault
 journal_of [] = Ok Journal
@@ -56,8 +50,8 @@ journal_of (argument ∷ more) = Err (Command c.Arguments)
 abbrev pub history_verb_in : List Bytes → Option (Result Verb OperandFault)
 history_verb_in [] = None
 history_verb_in (name ∷ arguments) =
-    if bytes_eq name (codes "undo") then Some (by_steps Undo (steps_of arguments))
-    else (if bytes_eq name (codes "redo") then Some (by_steps Redo (steps_of arguments))
+    if bytes_eq name (codes "undo") then Some (result_map_both Undo (λ fault. fault) (steps_of arguments))
+    else (if bytes_eq name (codes "redo") then Some (result_map_both Redo (λ fault. fault) (steps_of arguments))
     else (if bytes_eq name (codes "journal") then Some (journal_of arguments) else None))
 
 -- ---- commands
@@ -67,8 +61,7 @@ of_command c.Memory = Memory
 of_command fault = Command fault
 
 abbrev pub by_command : Result Operation CommandFault → Result Verb OperandFault
-by_command (Ok operation) = Ok (Do operation)
-by_command (Err fault) = Err (of_command fault)
+by_command read = result_map_both Do of_command read
 
 -- what the words of a text request: `undo`, `redo` or `journal`, else a command on the rules of a target; the flag: the text is not too long
 abbrev pub verb_in : Bool → List Bytes → Result Verb OperandFault

@@ -1,7 +1,7 @@
 //! The words of a command line: options, and where commands and targets are.
 ghost use Rattle.std.specs.Prelude.{◌≡◌, [], false, Ok, Err, IfOk, IfErr, IfSome, map};
 ghost use Rattle.clap.specs.Words.{app_of, rule_of, found_of, fault_of, matches_of, rows_of};
-ghost use Rattle.bz_command_line.specs.App.{nameless, buildozer_app, lines_app, options_app, flag_rule, keep_going_rule, script_rule, operand_rule};
+ghost use Rattle.bz_command_line.specs.App.{buildozer_app, lines_app, flag_rule, keep_going_rule, script_rule, operand_rule};
 ghost use Rattle.bz_command_line.specs.Line.{is_flag_set, options_of, given_of, command_line_of};
 ghost use Rattle.bz_command_line.specs.Shown.{given_in, line_in, line_usage_in};
 
@@ -108,24 +108,22 @@ fn operand<'a>(alloc: Global) -> Arg<'a>
         .help("Commands and targets")
 }
 
-fn described<'a>(alloc: Global) -> Command<'a>
-    ensures { app_of result ≡ nameless }
+// How lines are found and run.
+fn lines_command<'a>(alloc: Global) -> Result<Command<'a>, AllocError>
+    ensures { IfOk result (λ command. app_of command ≡ lines_app) }
 {
     Command::new(alloc, "buildozer")
         .no_binary_name(true)
         .version(VERSION)
         .about(ABOUT)
         .after_help(EXAMPLES)
+        .arg(operand(alloc))?
+        .arg(keep_going(alloc))?
+        .arg(file(alloc))
 }
 
-fn lines_command<'a>(alloc: Global) -> Result<Command<'a>, AllocError>
-    ensures { IfOk result (λ command. app_of command ≡ lines_app) }
-{
-    described(alloc).arg(keep_going(alloc))?.arg(file(alloc))
-}
-
-fn options_command<'a>(alloc: Global) -> Result<Command<'a>, AllocError>
-    ensures { IfOk result (λ command. app_of command ≡ options_app) }
+fn buildozer_command<'a>(alloc: Global) -> Result<Command<'a>, AllocError>
+    ensures { IfOk result (λ command. app_of command ≡ buildozer_app) }
 {
     lines_command(alloc)?
         .arg(flag(
@@ -141,20 +139,13 @@ fn options_command<'a>(alloc: Global) -> Result<Command<'a>, AllocError>
         ))
 }
 
-fn buildozer_command<'a>(alloc: Global) -> Result<Command<'a>, AllocError>
-    ensures { IfOk result (λ command. app_of command ≡ buildozer_app) }
-{
-    options_command(alloc)?.arg(operand(alloc))
-}
-
 fn parse<'a, S: AsStr>(alloc: Global, words: &'a [S]) -> Result<ArgMatches<'a>, LineFault>
     ensures ok { IfOk result (λ m. (fault_of buildozer_app (map S.text words.entry.now) ≡ [])
         × (rows_of (found_of m) ≡ matches_of buildozer_app (map S.text words.entry.now))) }
     ensures err { IfErr result (λ fault. IfSome (line_usage_in fault) (λ usage. command_line_of (map S.text words.entry.now) ≡ Err usage)) }
 {
-    let command = match buildozer_command(alloc) {
-        Ok(command) => command,
-        Err(_) => return Err(LineFault::Memory),
+    let Ok(command) = buildozer_command(alloc) else {
+        return Err(LineFault::Memory);
     };
     match command.try_get_matches_from(words) {
         Ok(matches) => Ok(matches),
@@ -187,9 +178,8 @@ fn given_of<'a>(alloc: Global, matches: &ArgMatches<'a>) -> Result<Given<'a>, Li
     ensures ok { IfOk result (λ given. given_of (rows_of (found_of matches.now)) ≡ Ok (given_in given)) }
     ensures err { IfErr result (λ fault. IfSome (line_usage_in fault) (λ usage. given_of (rows_of (found_of matches.now)) ≡ Err usage)) }
 {
-    let operands = match argument_texts(alloc, matches, "operand") {
-        Ok(operands) => operands,
-        Err(_) => return Err(LineFault::Memory),
+    let Ok(operands) = argument_texts(alloc, matches, "operand") else {
+        return Err(LineFault::Memory);
     };
     let Some(file) = argument_text(matches, "file") else {
         return Ok(Given::Operands(operands));

@@ -1,11 +1,11 @@
 //! What the operands of one line request: its commands and its targets.
-ghost use Rattle.std.specs.Prelude.{◌≡◌, ◌≢◌, ◌⊎◌, Ok, Err, Some, None, IfOk, IfErr, IfSome, OnOk, map};
+ghost use Rattle.std.specs.Prelude.{◌≡◌, ◌⊎◌, Ok, Err, IfOk, IfErr, IfSome, OnOk, map};
 ghost use Rattle.std.specs.List.{All};
 ghost use Rattle.bz_command_line.specs.Requested as a;
-ghost use Rattle.bz_command_line.specs.Operands.{is_target, operand_target, verb_of};
+ghost use Rattle.bz_command_line.specs.Operands.{is_target, operand_target};
 ghost use Rattle.bz_command_line.specs.Paths.{HasPath};
-ghost use Rattle.bz_command_line.specs.Refused.{IsFirstRefused, IsGroupFault, IsOperandFault, IsPatternFault};
-ghost use Rattle.bz_command_line.specs.Shown.{requested_in, refused_in, usage_in};
+ghost use Rattle.bz_command_line.specs.Refused.{IsGroupFault, IsOperandFault};
+ghost use Rattle.bz_command_line.specs.Shown.{requested_in, usage_in};
 ghost use Rattle.bz_command_line.specs.declared.verb.OperandFault.{OperandFault};
 
 use crate::verb::{OperandFault, Verb, read_verb};
@@ -79,34 +79,25 @@ fn read_target(alloc: Global, text: &str) -> Result<Target, OperandFault>
     }
 }
 
-fn add_target(
-    alloc: Global,
-    requested: &mut Requested<'_>,
-    operand: &str,
-) -> Result<(), OperandFault>
-    ensures ok { OnOk result (a.joined_operands (Ok (requested_in requested.old)) (a.aimed operand.now (operand_target operand.now)) ≡ Ok (requested_in requested.new)) }
-    ensures err { IfErr result (λ fault. (operand_target operand.now ≡ Err fault) ⊎ (fault ≡ OperandFault.Memory)) }
-    ensures paths { All HasPath requested.old.targets.items → OnOk result (All HasPath requested.new.targets.items) }
-{
-    // The room comes first: a push that fails gives the target back, and the proof that it is dropped is long.
-    if requested.targets.reserve(1).is_err() {
-        return Err(OperandFault::Memory);
-    }
-    let target = read_target(alloc, operand)?;
-    requested.targets.push_reserved(target);
-    Ok(())
-}
-
-fn add_command<'a>(
+// Appends what the operand requests. The room comes first: a push that fails gives its value back, and the proof that it is dropped
+// is long.
+fn add<'a>(
     alloc: Global,
     requested: &mut Requested<'a>,
     operand: &'a str,
 ) -> Result<(), OperandFault>
-    ensures ok { OnOk result (a.joined_operands (Ok (requested_in requested.old)) (a.wanted operand.entry.now (verb_of operand.entry.now)) ≡ Ok (requested_in requested.new)) }
-    ensures err { IfErr result (λ fault. (verb_of operand.entry.now ≡ Err fault) ⊎ IsPatternFault operand.entry.now fault
-        ⊎ (fault ≡ OperandFault.Memory)) }
+    ensures ok { OnOk result (a.joined_operands (Ok (requested_in requested.old)) (a.requested_by operand.entry.now) ≡ Ok (requested_in requested.new)) }
+    ensures err { IfErr result (λ fault. IsOperandFault operand.entry.now fault ⊎ (fault ≡ OperandFault.Memory)) }
     ensures paths { All HasPath requested.old.targets.items → OnOk result (All HasPath requested.new.targets.items) }
 {
+    if is_target(operand.as_bytes()) {
+        if requested.targets.reserve(1).is_err() {
+            return Err(OperandFault::Memory);
+        }
+        let target = read_target(alloc, operand)?;
+        requested.targets.push_reserved(target);
+        return Ok(());
+    }
     if requested.commands.reserve(1).is_err() {
         return Err(OperandFault::Memory);
     }
@@ -118,27 +109,10 @@ fn add_command<'a>(
     Ok(())
 }
 
-fn add<'a>(
-    alloc: Global,
-    requested: &mut Requested<'a>,
-    operand: &'a str,
-) -> Result<(), OperandFault>
-    ensures ok { OnOk result (a.joined_operands (Ok (requested_in requested.old)) (a.requested_by operand.entry.now) ≡ Ok (requested_in requested.new)) }
-    ensures err { IfErr result (λ fault. IsOperandFault operand.entry.now fault ⊎ (fault ≡ OperandFault.Memory)) }
-    ensures paths { All HasPath requested.old.targets.items → OnOk result (All HasPath requested.new.targets.items) }
-{
-    if is_target(operand.as_bytes()) {
-        add_target(alloc, requested, operand)
-    } else {
-        add_command(alloc, requested, operand)
-    }
-}
-
 // What the operands request. The error is the first operand that is refused, in order, or memory.
-fn read_requested<'a>(alloc: Global, operands: &[&'a str]) -> Result<Requested<'a>, Refused<'a>>
+fn read_requested<'a>(alloc: Global, operands: &[&'a str]) -> Result<Requested<'a>, UsageFault<'a>>
     ensures ok { IfOk result (λ requested. a.requested_of (map (λ s. s.now) operands.now) ≡ Ok (requested_in requested)) }
-    ensures err { IfErr result (λ refused. IsFirstRefused (map (λ s. s.now) operands.now) (refused_in refused)
-        ⊎ (refused.fault ≡ OperandFault.Memory)) }
+    ensures err { IfErr result (λ fault. IfSome (usage_in fault) (IsGroupFault (map (λ s. s.now) operands.now))) }
     ensures paths { IfOk result (λ requested. All HasPath requested.targets.items) }
 {
     let mut requested = Requested {
@@ -148,20 +122,13 @@ fn read_requested<'a>(alloc: Global, operands: &[&'a str]) -> Result<Requested<'
     for &operand in operands {
         match add(alloc, &mut requested, operand) {
             Ok(()) => {}
-            Err(fault) => return Err(Refused { operand, fault }),
+            Err(fault) => match fault {
+                OperandFault::Memory => return Err(UsageFault::Memory),
+                fault => return Err(UsageFault::Operand(Refused { operand, fault })),
+            },
         }
     }
     Ok(requested)
-}
-
-fn usage_fault(refused: Refused<'_>) -> UsageFault<'_>
-    ensures { (usage_in result ≡ Some (a.of_operand (refused_in refused.entry))) × (refused.entry.fault ≢ OperandFault.Memory)
-        ⊎ (usage_in result ≡ None) }
-{
-    match refused.fault {
-        OperandFault::Memory => UsageFault::Memory,
-        _ => UsageFault::Operand(refused),
-    }
 }
 
 /// What the operands of one line request: commands and targets, at least one of each, in order. The package of each target
@@ -172,10 +139,7 @@ pub fn read_group<'a>(alloc: Global, operands: &[&'a str]) -> Result<Requested<'
     ensures err { IfErr result (λ fault. IfSome (usage_in fault) (IsGroupFault (map (λ s. s.now) operands.now))) }
     ensures paths { IfOk result (λ requested. All HasPath requested.targets.items) }
 {
-    let requested = match read_requested(alloc, operands) {
-        Ok(requested) => requested,
-        Err(refused) => return Err(usage_fault(refused)),
-    };
+    let requested = read_requested(alloc, operands)?;
     if requested.commands.is_empty() {
         return Err(UsageFault::NoCommand);
     }

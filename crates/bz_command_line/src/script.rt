@@ -2,11 +2,10 @@
 ghost use Rattle.std.specs.Prelude.{◌≡◌, ◌<◌, length, position, Ok, IfOk, OnOk, IfErr, IfSome, map};
 ghost use Rattle.std.specs.List.{All};
 ghost use Rattle.std.specs.Str.Lines.{lines};
-ghost use Rattle.bz_command_line.specs.Requested.{operand_group};
 ghost use Rattle.bz_command_line.specs.Paths.{HasPath};
-ghost use Rattle.bz_command_line.specs.Refused.{IsFirstFault, IsGroupFault, IsLineFault, IsScriptFault};
+ghost use Rattle.bz_command_line.specs.Refused.{IsFirstFault, IsLineFault, IsScriptFault};
 ghost use Rattle.bz_command_line.specs.Script.{has_nul, in_front, is_read, line_group, line_with_nul, operands_in, operand_groups, script_of, without_mark};
-ghost use Rattle.bz_command_line.specs.Shown.{requested_in, script_usage_in, usage_in};
+ghost use Rattle.bz_command_line.specs.Shown.{requested_in, script_usage_in};
 
 use crate::requested::{Requested, UsageFault, read_group};
 use std::alloc::{AllocError, Global};
@@ -39,10 +38,7 @@ impl From<AllocError> for ScriptFault<'_> {
 fn is_read(line: &str) -> bool
     ensures { result ≡ is_read line.now }
 {
-    match line.as_bytes() {
-        [] => false,
-        [first, ..] => *first != b'#',
-    }
+    matches!(line.as_bytes(), [first, ..] if *first != b'#')
 }
 
 // What is after a byte order mark.
@@ -88,15 +84,6 @@ fn operands_in<'a>(alloc: Global, line: &'a str) -> Result<Vec<&'a str>, AllocEr
     line.split('|').collect(alloc)
 }
 
-fn read_operands<'a>(alloc: Global, line: &'a str) -> Result<Requested<'a>, UsageFault<'a>>
-    ensures ok { IfOk result (λ requested. operand_group (operands_in line.entry.now) ≡ Ok (requested_in requested)) }
-    ensures err { IfErr result (λ fault. IfSome (usage_in fault) (IsGroupFault (operands_in line.entry.now))) }
-    ensures paths { IfOk result (λ requested. All HasPath requested.targets.items) }
-{
-    let operands = operands_in(alloc, line)?;
-    read_group(alloc, &operands)
-}
-
 // Appends what the line of this number requests, unless it is passed over.
 fn add_line<'a>(
     alloc: Global,
@@ -113,7 +100,8 @@ fn add_line<'a>(
         return Ok(());
     }
     groups.reserve(1)?;
-    match read_operands(alloc, line) {
+    let operands = operands_in(alloc, line)?;
+    match read_group(alloc, &operands) {
         Ok(group) => {
             groups.push_reserved(group);
             Ok(())
@@ -129,7 +117,10 @@ fn read_groups<'a>(alloc: Global, lines: &[&'a str]) -> Result<Vec<Requested<'a>
 {
     let mut groups = Vec::new(alloc);
     for (at, &line) in lines.iter().enumerate() {
-        add_line(alloc, &mut groups, at + 1, line)?;
+        match add_line(alloc, &mut groups, at + 1, line) {
+            Ok(()) => {}
+            Err(fault) => return Err(fault),
+        }
     }
     Ok(groups)
 }

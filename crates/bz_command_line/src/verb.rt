@@ -3,7 +3,7 @@ ghost use Rattle.std.specs.Prelude.{◌≡◌, ◌⊎◌, Ok, Err, IfOk, IfErr};
 ghost use Rattle.bz_command_syntax.specs.Commands.{command_in};
 ghost use Rattle.bz_command_syntax.specs.Proper.{AreUtf8};
 ghost use Rattle.bz_command_syntax.specs.Refused.{HasBadPattern};
-ghost use Rattle.bz_command_line.specs.Operands.{verb_in, verb_of, by_command, count_of, history_verb_in, journal_of, steps_of};
+ghost use Rattle.bz_command_line.specs.Operands.{verb_of, by_command, count_of, history_verb_in, journal_of, steps_of};
 ghost use Rattle.bz_command_line.specs.Refused.{IsPatternFault};
 ghost use Rattle.bz_command_line.specs.Verbs.{prints, operand_fault_name, operand_fault_number};
 
@@ -148,20 +148,6 @@ fn read_command(words: Vec<Text>, fits: bool) -> Result<Verb, OperandFault>
     Ok(Verb::Do(Command::of_words(words, fits)?))
 }
 
-// What these words request; `fits` says that their text is not too long.
-fn verb_in(words: Vec<Text>, fits: bool) -> Result<Verb, OperandFault>
-    requires { AreUtf8 words.items }
-    ensures ok { IfOk result (λ verb. verb_in fits words.items ≡ Ok verb) }
-    ensures err { IfErr result (λ fault. (verb_in fits words.items ≡ Err fault)
-        ⊎ ((fault ≡ OperandFault.Command CommandFault.BadPattern) × HasBadPattern (command_in fits words.items)) ⊎ (fault ≡ OperandFault.Memory)) }
-{
-    match history_verb_in(&words) {
-        Some(verb) if fits => verb,
-        Some(_) => Err(WRONG_ARGUMENTS),
-        None => read_command(words, fits),
-    }
-}
-
 /// What the command of this text requests. Errors: `Command`: there is no command of that name, its arguments are wrong,
 /// it is too long, or `regex` refuses its pattern; `Memory`: a growth was refused.
 pub(crate) fn read_verb(alloc: Global, text: &str) -> Result<Verb, OperandFault>
@@ -171,5 +157,10 @@ pub(crate) fn read_verb(alloc: Global, text: &str) -> Result<Verb, OperandFault>
     let Ok(words) = read_words(alloc, text.as_bytes()) else {
         return Err(OperandFault::Memory);
     };
-    verb_in(words, text.len() <= TEXT_LIMIT)
+    let fits = text.len() <= TEXT_LIMIT;
+    match history_verb_in(&words) {
+        Some(verb) if fits => verb,
+        Some(_) => Err(WRONG_ARGUMENTS),
+        None => read_command(words, fits),
+    }
 }

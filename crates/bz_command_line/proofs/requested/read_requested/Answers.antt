@@ -1,33 +1,18 @@
-use Rattle.std.proofs.Common.{ℕ, List, Bor, [], ◌+◌, take, drop, get_or, inl, inr}
+use Rattle.std.proofs.Common.{inl, inr}
 use Rattle.bz_command_line.specs.Shown.{requested_in}
-use Rattle.bz_command_line.proofs.RequestedLemmas.{requested_turn}
-use Rattle.bz_command_line.proofs.Texts.{texts_in, texts_more, texts_split}
+use Rattle.bz_command_line.proofs.InTurn.{refused_turn, requested_turn}
 use Rattle.bz_command_line.proofs.requested.read_requested.Goals as goal
 
 pub loop-operand-preserved : goal.loop-operand-preserved
-loop-operand-preserved c =
-    let operands : List (Bor (List ℕ)) = c.args.operands.now in
-    let at = c.loop-operand.operand-index in
-    let none : Bor (List ℕ) = record { ref_ptr = (0, 0); now = [] } in
-    record {
-      answered = requested_turn (texts_in (take at operands)) _ (get_or operands at none).now (requested_in c.loop-operand.requested) (requested_in c.add.new.requested)
-          (texts_more operands at none c.loop-operand-test.true) c.loop-operand.invariant.answered c.in-Ok.ensures.ok;
-      paths = c.in-Ok.ensures.paths c.loop-operand.invariant.paths;
-    }
+loop-operand-preserved c = record {
+  answered = requested_turn c.args.operands.now c.loop-operand.operand-index (requested_in c.loop-operand.requested) (requested_in c.add.new.requested)
+      c.loop-operand-test.true c.loop-operand.invariant.answered c.in-Ok.ensures.ok;
+  paths = c.in-Ok.ensures.paths c.loop-operand.invariant.paths;
+}
 
-pub returns-in-Err-clause-err : goal.returns-in-Err-clause-err
-returns-in-Err-clause-err c =
-    let operands : List (Bor (List ℕ)) = c.args.operands.now in
-    let at = c.loop-operand.operand-index in
-    let none : Bor (List ℕ) = record { ref_ptr = (0, 0); now = [] } in
-    elim c.in-Err.ensures.err [
-      | inl fault ↦ inl (record {
-        front = texts_in (take at operands);
-        rest = texts_in (drop (at + 1) operands);
-        requested = requested_in c.loop-operand.requested;
-        split = texts_split operands at none c.loop-operand-test.true;
-        before = c.loop-operand.invariant.answered;
-        fault = fault;
-      })
-      | inr memory ↦ inr memory
-    ]
+pub returns-in_default-clause-err : goal.returns-in_default-clause-err
+returns-in_default-clause-err c = elim c.in-Err.ensures.err [
+  | inl fault ↦ refused_turn c.args.operands.now c.loop-operand.operand-index (requested_in c.loop-operand.requested) c.in-Err.fault c.loop-operand-test.true
+      c.loop-operand.invariant.answered fault
+  | inr memory ↦ absurd (c.in_default.not-Memory memory)
+]

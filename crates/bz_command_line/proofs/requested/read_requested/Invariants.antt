@@ -2,7 +2,7 @@ use Rattle.std.proofs.Common.{◌≡◌, All, Ok, take}
 use Rattle.bz_command_line.specs.Requested.{requested_of}
 use Rattle.bz_command_line.specs.Paths.{HasPath}
 use Rattle.bz_command_line.specs.Shown.{requested_in}
-use Rattle.bz_command_line.proofs.Texts.{texts_in}
+use Rattle.bz_command_line.proofs.InTurn.{texts_in}
 use Rattle.bz_command_line.proofs.requested.read_requested.Given as goal
 
 abbrev pub invariant-loop-operand : goal.invariant-loop-operand

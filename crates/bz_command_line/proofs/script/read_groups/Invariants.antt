@@ -2,7 +2,7 @@ use Rattle.std.proofs.Common.{◌≡◌, All, Ok, map, take}
 use Rattle.bz_command_line.specs.Paths.{HasPath}
 use Rattle.bz_command_line.specs.Script.{operand_groups}
 use Rattle.bz_command_line.specs.Shown.{requested_in}
-use Rattle.bz_command_line.proofs.Texts.{texts_in}
+use Rattle.bz_command_line.proofs.InTurn.{texts_in}
 use Rattle.bz_command_line.proofs.script.read_groups.Given as goal
 
 abbrev pub invariant-loop-at : goal.invariant-loop-at

@@ -1,0 +1,112 @@
+-- Operands of a line, and lines of a file, one after the other.
+use Rattle.std.proofs.Common.{◌≡◌, ◌<◌, ◌+◌, ◌++◌, ◌∷◌, [], ℕ, List, Bor, Result, Ok, Err, Option, Some, None, IfSome, map, take, drop, get_or, length, append_assoc, add-one, arith, suc, refl, ap, sym, ◌∙◌}
+use Rattle.std.proofs.Math.Seq.{take-suc, drop-cons}
+use Rattle.std.proofs.lemmas.List.{append-nil, length-map, length-take-le, map-append, take-append-drop}
+use Rattle.bz_items.specs.Characters.{Bytes}
+use Rattle.bz_command_line.specs.Refused.{IsFirstFault, IsFirstRefused, IsLineFault, IsOperandFault}
+use Rattle.bz_command_line.specs.Requested.{Requested, Usage, both, joined, joined_operands, nothing_requested, requested_by, requested_of}
+use Rattle.bz_command_line.specs.Script.{in_front, line_group, operand_groups}
+use Rattle.bz_command_line.specs.declared.verb.OperandFault.{OperandFault}
+
+-- ---- texts after references, cut at a place
+
+abbrev pub texts_in : List (Bor Bytes) → List Bytes
+texts_in items = map (λ s. s.now) items
+
+abbrev pub text_at : List (Bor Bytes) → ℕ → Bytes
+text_at items at = (get_or items at (record { ref_ptr = (0, 0); now = [] })).now
+
+texts_more : (items : List (Bor Bytes)) (at : ℕ) → at < length items → texts_in (take (at + 1) items) ≡ texts_in (take at items) ++ text_at items at ∷ []
+texts_more items at within =
+    let none : Bor Bytes = record { ref_ptr = (0, 0); now = [] } in
+    rw (add-one, take-suc items at none within) (map-append (λ s. s.now) (take at items) (get_or items at none ∷ []))
+
+texts_before : (items : List (Bor Bytes)) (at : ℕ) → at < length items → length (texts_in (take at items)) ≡ at
+texts_before items at within = length-map (take at items) (λ s. s.now) ∙ length-take-le at items (omega (arith, within))
+
+texts_split : (items : List (Bor Bytes)) (at : ℕ) → at < length items
+    → texts_in items ≡ texts_in (take at items) ++ text_at items at ∷ texts_in (drop (at + 1) items)
+texts_split items at within =
+    let none : Bor Bytes = record { ref_ptr = (0, 0); now = [] } in
+    let rest : drop at items ≡ get_or items at none ∷ drop (at + 1) items = rw (add-one) (drop-cons items at none within) in
+    ap texts_in (sym (take-append-drop at items)) ∙ map-append (λ s. s.now) (take at items) (drop at items)
+    ∙ ap (λ (left : List (Bor Bytes)). texts_in (take at items) ++ texts_in left) rest
+
+-- ---- results, of which the first fault counts
+
+module _ {A E : Type 0} (join : A → A → A) where
+  joined-none : (none : A) → ((a : A) → join a none ≡ join none a) → (a : Result A E) → joined join a (Ok none) ≡ joined join (Ok none) a
+  joined-none none same (Err fault) = refl
+  joined-none none same (Ok a) = ap Ok (same a)
+
+  joined-assoc : ((a b c : A) → join (join a b) c ≡ join a (join b c)) → (a b c : Result A E) → joined join (joined join a b) c ≡ joined join a (joined join b c)
+  joined-assoc same (Err fault) b c = refl
+  joined-assoc same (Ok a) (Err fault) c = refl
+  joined-assoc same (Ok a) (Ok b) (Err fault) = refl
+  joined-assoc same (Ok a) (Ok b) (Ok c) = ap Ok (same a b c)
+
+-- ---- operands
+
+requested_more : (front : List Bytes) (operand : Bytes) → requested_of (front ++ operand ∷ []) ≡ joined_operands (requested_of front) (requested_by operand)
+requested_more [] operand =
+    joined-none both nothing_requested (λ a. rw (append-nil a.commands, append-nil a.targets) refl) (requested_by operand)
+requested_more (first ∷ front) operand =
+    ap (joined_operands (requested_by first)) (requested_more front operand)
+    ∙ sym (joined-assoc both (λ a b c. rw (append_assoc a.commands b.commands c.commands, append_assoc a.targets b.targets c.targets) refl)
+    (requested_by first) (requested_of front) (requested_by operand))
+
+-- one operand more is read
+pub requested_turn : (items : List (Bor Bytes)) (at : ℕ) (requested more : Requested) → at < length items → requested_of (texts_in (take at items)) ≡ Ok requested
+    → joined_operands (Ok requested) (requested_by (text_at items at)) ≡ Ok more → requested_of (texts_in (take (at + 1) items)) ≡ Ok more
+requested_turn items at requested more within before one =
+    ap requested_of (texts_more items at within) ∙ requested_more (texts_in (take at items)) (text_at items at)
+    ∙ ap (λ first. joined_operands first (requested_by (text_at items at))) before ∙ one
+
+pub refused_turn : (items : List (Bor Bytes)) (at : ℕ) (requested : Requested) (fault : OperandFault) → at < length items
+    → requested_of (texts_in (take at items)) ≡ Ok requested → IsOperandFault (text_at items at) fault
+    → IsFirstRefused (texts_in items) (record { operand = text_at items at; fault = fault })
+refused_turn items at requested fault within before is = record {
+  front = texts_in (take at items);
+  rest = texts_in (drop (at + 1) items);
+  requested = requested;
+  split = texts_split items at within;
+  before = before;
+  fault = is;
+}
+
+-- ---- lines
+
+groups_more : (number : ℕ) (front : List Bytes) (line : Bytes)
+    → operand_groups number (front ++ line ∷ []) ≡ in_front (operand_groups number front) (line_group (number + length front) line)
+groups_more number [] line =
+    let same : number ≡ number + 0 = omega arith in
+    joined-none (λ a b. a ++ b) [] append-nil (line_group number line) ∙ ap (λ (n : ℕ). in_front (Ok []) (line_group n line)) same
+groups_more number (first ∷ front) line =
+    let same : number + 1 + length front ≡ number + suc (length front) = omega arith in
+    ap (in_front (line_group number first)) (groups_more (number + 1) front line)
+    ∙ sym (joined-assoc (λ a b. a ++ b) append_assoc (line_group number first) (operand_groups (number + 1) front) (line_group (number + 1 + length front) line))
+    ∙ ap (λ (n : ℕ). in_front (operand_groups number (first ∷ front)) (line_group n line)) same
+
+-- one line more is read
+pub groups_turn : (items : List (Bor Bytes)) (at : ℕ) (groups more : List Requested) → at < length items → operand_groups 1 (texts_in (take at items)) ≡ Ok groups
+    → in_front (Ok groups) (line_group (at + 1) (text_at items at)) ≡ Ok more → operand_groups 1 (texts_in (take (at + 1) items)) ≡ Ok more
+groups_turn items at groups more within before turn =
+    let count = texts_before items at within in
+    let number : 1 + length (texts_in (take at items)) ≡ at + 1 = omega (arith, count) in
+    ap (operand_groups 1) (texts_more items at within) ∙ groups_more 1 (texts_in (take at items)) (text_at items at)
+    ∙ ap (λ (it : Result (List Requested) Usage). in_front it (line_group (1 + length (texts_in (take at items))) (text_at items at))) before
+    ∙ ap (λ (n : ℕ). in_front (Ok groups) (line_group n (text_at items at))) number ∙ turn
+
+-- the fault of a line is the first one
+pub fault_turn : (items : List (Bor Bytes)) (at : ℕ) (groups : List Requested) (found : Option Usage) → at < length items
+    → operand_groups 1 (texts_in (take at items)) ≡ Ok groups → IfSome found (IsLineFault (at + 1) (text_at items at)) → IfSome found (IsFirstFault (texts_in items))
+fault_turn items at groups None within before is = tt
+fault_turn items at groups (Some usage) within before is = record {
+  front = texts_in (take at items);
+  line = text_at items at;
+  rest = texts_in (drop (at + 1) items);
+  groups = groups;
+  split = texts_split items at within;
+  before = before;
+  fault = rw (texts_before items at within) is;
+}
