@@ -179,9 +179,6 @@ module _ (current name : Bytes) (items all : List Expr) (stay : (word : Bytes) �
             (λ other h. both_there other (or_right (is_item current name other string) (list_any (is_item current name other) (map (string_of current name) more)) h)))
       ]
 
-  added_words : (words : List Bytes) → become_plain words ≡ true → AreThere (fresh current name items [] words) → list_all (λ word. list_any (is_item current name word) all) words ≡ true
-  added_words words plain fresh_there = words_there [] words plain (λ word h. absurd (true≢false (sym h))) fresh_there
-
 -- ---- further items at the end of the first list
 
 abbrev longer : List Expr → Expr → Expr
@@ -289,14 +286,14 @@ there_more : (current name : Bytes) (words : List Bytes) (value : Expr) → beco
     → are_there current name words (with_more (strings_for current name words (items_in value)) value) ≡ true
 there_more current name words value p l =
     let more : List Expr = strings_for current name words (items_in value) in
-    added_words current name (items_in value) (items_in (with_more more value))
-    (λ word h. any_more (is_item current name word) more value l ∙ ap (λ b. b || list_any (is_item current name word) more) h) words p
+    words_there current name (items_in value) (items_in (with_more more value))
+    (λ word h. any_more (is_item current name word) more value l ∙ ap (λ b. b || list_any (is_item current name word) more) h) [] words p (λ word h. absurd (true≢false (sym h)))
     (λ word h. any_more (is_item current name word) more value l ∙ or_right (list_any (is_item current name word) (items_in value)) (list_any (is_item current name word) more) h)
 
 -- in a new list
 there_new : (current name : Bytes) (words : List Bytes) (value : Expr) → become_plain words ≡ true → items_in value ≡ strings_for current name words [] → are_there current name words value ≡ true
 there_new current name words value p e =
-    added_words current name [] (items_in value) (λ word h. absurd (true≢false (sym h))) words p (λ word h. ap (list_any (is_item current name word)) e ∙ h)
+    words_there current name [] (items_in value) (λ word h. absurd (true≢false (sym h))) [] words p (λ word h. absurd (true≢false (sym h))) (λ word h. ap (list_any (is_item current name word)) e ∙ h)
 
 pub added_is_there : AddedIsThere
 added_is_there current name words xs new plain e = found_or_new (attribute name xs) refl

@@ -51,7 +51,6 @@ fn push_word(
 }
 
 /// Adds an item that is not known yet, as it comes to another attribute.
-#[tactic(auto, using(crate::proofs::AddedItems::one_more))]
 fn push_item(
     slot: Slot<'_>,
     mut x: Expr,
