@@ -1,6 +1,6 @@
 -- What the texts that mean one value end with, so that most items are seen at their end to be none that a word means.
 use Rattle.std.proofs.Common.{◌≡◌, Bool, true, false, ◌||◌, ◌&&◌, List, [], ◌++◌, Option, Some, None, inl, inr, refl, sym, ap, ◌∙◌, true≢false, length, ◌-◌, take, take-append-drop, append_assoc, codes, not}
-use Rattle.std.specs.Prelude.{nat_eq, if◌then◌else◌}
+use Rattle.std.specs.Prelude.{nat_eq, bytes_eq, ◌⊎◌, if◌then◌else◌}
 use Rattle.std.specs.Cmp.{unsigned_Decides}
 use Rattle.std.specs.List.{ends_with, flat_map, list_any, suffix_len}
 use Rattle.std.specs.Option.{option_and_then, option_map, option_map_or}
@@ -14,15 +14,16 @@ use Rattle.bz_label.specs.Read.{label_in, is_same}
 use Rattle.bz_label.specs.Tables.{is_label_attribute}
 use Rattle.bz_label.specs.declared.form.Parts.{Parts}
 use Rattle.bz_label.specs.declared.label.Label.{Label}
-use Rattle.bz_label.proofs.LabelFunctions.{label_exact, no_label, read_label, same_exactly}
+use Rattle.bz_label.proofs.LabelFunctions.{label_exact, read_label, same_exactly}
 use Rattle.bz_value.specs.declared.value.Expr.{Expr, Token, Form'}
 use Rattle.bz_items.specs.Characters.{Bytes, apostrophe, quotation_mark}
 use Rattle.bz_rule.specs.Rules.{body, inner, is_plain_in}
 use Rattle.bz_rule.specs.Values.{text_of}
 use Rattle.bz_attribute.specs.Lists.{are_one, body_of, is_item, listed}
-use Rattle.bz_attribute.proofs.FormsAgain.{found_if, if_true}
-use Rattle.bz_attribute.proofs.KeySets.{any_like}
+use Rattle.bz_attribute.proofs.FormsAgain.{found_if}
+use Rattle.bz_attribute.proofs.KeySets.{any_like, equal_texts}
 use Rattle.bz_attribute.proofs.ListsThere.{any_listed}
+use Rattle.bz_list.specs.private.KnownValues.{label_meant}
 use Rattle.bz_list.specs.private.Listing.{is_item_ending}
 
 -- ---- texts that mean one value end with one name
@@ -43,20 +44,33 @@ label_ends current text label (repository_alone h) = ends text (codes "@") label
 label_ends current text label (colon_name h) = ends text (codes ":") label.name h.spelled
 label_ends current text label (bare_name h) = ends text [] label.name h.spelled
 
-pub name_ends : (current attribute word other : Bytes) (parts : Parts) → is_label_attribute attribute ≡ true → option_map label_of (Some parts) ≡ label_in current word
+-- texts that mean one value are equal, or labels with one name
+ends_by : (b : Bool) (current word other : Bytes) → (if b then is_same current word other else bytes_eq word other) ≡ true
+    → (word ≡ other) ⊎ ((label : Label) × ((if b then label_in current word else None) ≡ Some label) × IsLabel current other label)
+ends_by false current word other h = inl (equal_texts word other h)
+ends_by true current word other h = elim ((same_exactly current word other).0 h) [
+  | inl same ↦ inl same
+  | inr both ↦ inr (both.0, (label_exact current word both.0).0 both.1, both.2)
+]
+
+meant_ends : (b : Bool) (current word : Bytes) (label : Label) → (if b then label_in current word else None) ≡ Some label → ends_with nat_eq word label.name ≡ true
+meant_ends true current word label h = label_ends current word label (read_label current word label (sym h))
+meant_ends false current word label h = absurd cc
+
+pub name_ends : (current attribute word other : Bytes) (parts : Parts) → option_map label_of (Some parts) ≡ label_meant current attribute word
     → are_one current attribute word other ≡ true → ends_with nat_eq other parts.name.now ≡ true
-name_ends current attribute word other parts is read h = elim ((same_exactly current word other).0 (sym (if_true (is_label_attribute attribute) (is_same current word other) _ is) ∙ h)) [
-  | inl same ↦ ap (λ z. ends_with nat_eq z parts.name.now) (sym same) ∙ label_ends current word (label_of parts) (read_label current word (label_of parts) read)
+name_ends current attribute word other parts read h = elim (ends_by (is_label_attribute attribute) current word other h) [
+  | inl same ↦ ap (λ z. ends_with nat_eq z parts.name.now) (sym same) ∙ meant_ends (is_label_attribute attribute) current word (label_of parts) (sym read)
   | inr both ↦
-      let one : Some (label_of parts) ≡ Some both.0 = read ∙ (label_exact current word both.0).0 both.1 in
+      let one : Some (label_of parts) ≡ Some both.0 = read ∙ both.1 in
       let own : label_of parts ≡ both.0 = cc in
       ap (λ (label : Label). ends_with nat_eq other label.name) own ∙ label_ends current other both.0 both.2
 ]
 
-pub word_ends : (current attribute word other : Bytes) → is_label_attribute attribute ≡ true → None ≡ label_in current word → are_one current attribute word other ≡ true → ends_with nat_eq other word ≡ true
-word_ends current attribute word other is none h = elim ((same_exactly current word other).0 (sym (if_true (is_label_attribute attribute) (is_same current word other) _ is) ∙ h)) [
+pub word_ends : (current attribute word other : Bytes) → None ≡ label_meant current attribute word → are_one current attribute word other ≡ true → ends_with nat_eq other word ≡ true
+word_ends current attribute word other none h = elim (ends_by (is_label_attribute attribute) current word other h) [
   | inl same ↦ ends other [] word (sym same)
-  | inr both ↦ absurd (no_label current word none both.0 both.1)
+  | inr both ↦ let no : None ≡ Some both.0 = none ∙ both.1 in absurd cc
 ]
 
 -- ---- what is between the quotation marks of a plain string is its body

@@ -1,5 +1,5 @@
 -- What is known, and what it becomes.
-use Rattle.std.proofs.Common.{◌≡◌, ℕ, ◌+◌, ◌<◌, length, drop, get_or, inl, inr, Bool, true, false, not, ◌||◌, ◌&&◌, List, [], ◌∷◌, ◌++◌, refl, sym, ap, ◌∙◌, true≢false, map}
+use Rattle.std.proofs.Common.{◌≡◌, ℕ, ◌+◌, ◌<◌, length, drop, get_or, inl, inr, Bool, true, false, not, ◌||◌, ◌&&◌, List, [], ◌∷◌, ◌++◌, refl, sym, ap, ◌∙◌, true≢false}
 use Rattle.std.specs.Prelude.{bytes_eq, Option, Some, None, if◌then◌else◌}
 use Rattle.std.specs.List.{list_any, flat_map}
 use Rattle.std.specs.Option.{option_map_or}
@@ -21,13 +21,14 @@ use Rattle.bz_value.specs.declared.value.Expr.{Expr}
 use Rattle.bz_items.specs.Characters.{Bytes}
 use Rattle.bz_attribute.specs.Lists.{body_of, are_one, is_some_item, listed}
 use Rattle.bz_attribute.proofs.FormsAgain.{both}
-use Rattle.bz_attribute.proofs.KeySets.{any_like, equal_texts, or_group, or_none, any_map, any_inserted}
+use Rattle.bz_attribute.proofs.KeySets.{any_like, equal_texts, or_group, or_none, any_inserted}
 use Rattle.bz_attribute.proofs.PlainWords.{equal_self}
 use Rattle.bz_list.specs.declared.known.Chosen.TheVariants as h
 use Rattle.bz_list.specs.declared.known.Key.{Key}
 use Rattle.bz_list.specs.contracts.known.KeyOrd.TheImpl as key_ord
 use Rattle.bz_list.specs.private.Listing.{chooses}
-use Rattle.bz_list.specs.private.KnownValues.{mean_the_same, key_by, word_key, are_one_key, parts_of_key, parts_of_keys, KnownValues, Membership, membership, none_known, with_word, with_words, is_known_item, with_item, with_known_items}
+use Rattle.bz_list.specs.declared.known.Known.{Known}
+use Rattle.bz_list.specs.private.KnownValues.{key_by, word_key, are_one_key, parts_of_key, knows, with_known, with_all}
 
 -- ---- equal keys
 
@@ -76,67 +77,22 @@ keys_apart word other (Some one) None e = refl
 keys_apart word other None (Some two) e = refl
 keys_apart word other None None e = sym e
 
-same_keys : (current word other : Bytes) → is_same current word other ≡ are_one_key (word_key true current word) (word_key true current other)
-same_keys current word other =
-    let same : (b : Bool) → bytes_eq word other ≡ b → is_same current word other ≡ (b || are_equal (label_in current word) (label_in current other)) =
-    λ b e. ap (λ z. z || are_equal (label_in current word) (label_in current other)) e in
-    elim (cases_Bool (bytes_eq word other)) [
-      | inl w ↦ same true w ∙ (sym (own_key (word_key true current word)) ∙ ap (λ z. are_one_key (word_key true current word) (word_key true current z)) (equal_texts word other w))
-      | inr w ↦ same false w ∙ keys_apart word other (label_in current word) (label_in current other) w
-    ]
+keys_by : (is_label : Bool) (current word other : Bytes) → (if is_label then is_same current word other else bytes_eq word other)
+    ≡ are_one_key (key_by word (if is_label then label_in current word else None)) (key_by other (if is_label then label_in current other else None))
+keys_by false current word other = refl
+keys_by true current word other = elim (cases_Bool (bytes_eq word other)) [
+  | inl w ↦ rw (equal_texts word other w) (rw (equal_self other) (sym (own_key (key_by other (label_in current other)))))
+  | inr w ↦ rw w (keys_apart word other (label_in current word) (label_in current other) w)
+]
 
-alike_keys : (is_label : Bool) (current word other : Bytes) → mean_the_same is_label current word other ≡ are_one_key (word_key is_label current word) (word_key is_label current other)
-alike_keys true current word other = same_keys current word other
-alike_keys false current word other = refl
-
-alike_both : (is_label : Bool) (current one other : Bytes) → mean_the_same is_label current one other ≡ mean_the_same is_label current other one
-alike_both is_label current one other =
-    alike_keys is_label current one other ∙ (key_alike (word_key is_label current one) (word_key is_label current other) ∙ sym (alike_keys is_label current other one))
+alike_keys : (current attribute word other : Bytes) → are_one current attribute word other ≡ are_one_key (word_key current attribute word) (word_key current attribute other)
+alike_keys current attribute word other = keys_by (is_label_attribute attribute) current word other
 
 -- what means the same as another word means the same as any third one just where the other does
-pub meant_alike : (is_label : Bool) (current word other third : Bytes) → mean_the_same is_label current word other ≡ true → mean_the_same is_label current word third ≡ mean_the_same is_label current other third
-meant_alike is_label current word other third h =
-    alike_keys is_label current word third
-    ∙ (ap (λ key. are_one_key key (word_key is_label current third)) (equal_keys _ _ (sym (alike_keys is_label current word other) ∙ h)) ∙ sym (alike_keys is_label current other third))
-
--- ---- items and words
-
-more_items : (xs ys : List Expr) (known : Membership) → with_known_items (xs ++ ys) known ≡ with_known_items ys (with_known_items xs known)
-more_items [] ys known = refl
-more_items (x ∷ xs) ys known = more_items xs ys (with_item x known)
-
-pub lists_next : (xs : List Expr) (k : ℕ) (d : Expr) (known : Membership) → k < length xs
-    → with_known_items (flat_map listed (drop k xs)) known ≡ with_known_items (flat_map listed (drop (k + 1) xs)) (with_known_items (listed (get_or xs k d)) known)
-lists_next xs k d known h = ap (λ ys. with_known_items (flat_map listed ys) known) (drop_more xs k d h) ∙ more_items (listed (get_or xs k d)) (flat_map listed (drop (k + 1) xs)) known
-
--- ---- the words as they are looked up
-
--- what words make of what is known
-words_known : (words : List Bytes) (known : Membership) → with_words words known
-    ≡ record { current = known.current; is_label = known.is_label; is_known = λ other. list_any (mean_the_same known.is_label known.current other) words || known.is_known other }
-words_known [] known = refl
-words_known (word ∷ words) known = words_known words (with_word word known)
-    ∙ ap (λ (test : Bytes → Bool). record { current = known.current; is_label = known.is_label; is_known = test })
-    (fun_ext (λ other. or_group (list_any (mean_the_same known.is_label known.current other) words) (mean_the_same known.is_label known.current other word) (known.is_known other)))
-
-any_alike : (is_label : Bool) (current other : Bytes) (words : List Bytes) → list_any (mean_the_same is_label current other) words ≡ list_any (λ word. mean_the_same is_label current word other) words
-any_alike is_label current other words = any_like (mean_the_same is_label current other) (λ word. mean_the_same is_label current word other) (λ word. alike_both is_label current other word) words
-
--- an item is one of the words, looked up by the body of a plain string
-by_body : (current attribute : Bytes) (words : List Bytes) (found : Option Bytes)
-    → option_map_or (λ other. list_any (λ word. are_one current attribute word other) words) found false ≡ list_any (λ word. option_map_or (are_one current attribute word) found false) words
-by_body current attribute words None = sym (list_any_none (λ (word : Bytes). false) words (λ k d l. refl))
-by_body current attribute words (Some other) = refl
-
-words_membership : (current attribute : Bytes) (words : List Bytes) (x : Expr) → is_known_item (with_words words (none_known current attribute)) x ≡ is_some_item current attribute words x
-words_membership current attribute words x =
-    ap (λ (known : Membership). is_known_item known x) (words_known words (none_known current attribute))
-    ∙ ap (λ (test : Bytes → Bool). option_map_or test (body_of x) false)
-    (fun_ext (λ other. or_none (list_any (mean_the_same (is_label_attribute attribute) current other) words) ∙ any_alike (is_label_attribute attribute) current other words))
-    ∙ by_body current attribute words (body_of x)
-
-pub chosen_words : (current attribute : Bytes) (words : List Bytes) (known : KnownValues) → membership known ≡ with_words words (none_known current attribute) → chooses (h.These known) ≡ is_some_item current attribute words
-chosen_words current attribute words known e = fun_ext (λ x. ap (λ (all : Membership). is_known_item all x) e ∙ words_membership current attribute words x)
+pub meant_alike : (current attribute word other third : Bytes) → are_one current attribute word other ≡ true → are_one current attribute word third ≡ are_one current attribute other third
+meant_alike current attribute word other third h =
+    alike_keys current attribute word third
+    ∙ (ap (λ key. are_one_key key (word_key current attribute third)) (equal_keys _ _ (sym (alike_keys current attribute word other) ∙ h)) ∙ sym (alike_keys current attribute other third))
 
 -- ---- the set of keys: what is found in it, and what it has after one key more
 
@@ -168,38 +124,60 @@ key_ties one other =
     (texts_tie a b _ ∙ (ap (λ z. bytes_eq a b && z) (texts_tie c d _ ∙ ap (λ z. bytes_eq c d && z) (is_eq-slice_cmp one.name.items other.name.items))
     ∙ and_turn (bytes_eq a b) (bytes_eq c d) (bytes_eq one.name.items other.name.items)))
 
-pub key_found : (set : BTreeSet Key) (key : Key) → list_any (is_at (key_cmp key)) set.keys ≡ list_any (are_one_key (parts_of_key key)) (parts_of_keys set)
-key_found set key =
-    any_like (is_at (key_cmp key)) (λ other. are_one_key (parts_of_key key) (parts_of_key other)) (key_ties key) set.keys
-    ∙ sym (any_map (are_one_key (parts_of_key key)) parts_of_key set.keys)
+pub key_found : (current attribute word : Bytes) (set : BTreeSet Key) (key : Key) → parts_of_key key ≡ word_key current attribute word
+    → list_any (is_at (key_cmp key)) set.keys ≡ knows current attribute (record { keys = set }) word
+key_found current attribute word set key is =
+    any_like (is_at (key_cmp key)) (λ other. are_one_key (word_key current attribute word) (parts_of_key other))
+    (λ other. key_ties key other ∙ ap (λ parts. are_one_key parts (parts_of_key other)) is) set.keys
 
-pub key_inserted : (old new : BTreeSet Key) (key : Key) (word : Bool × Label) → new.keys ≡ insert_key key_cmp old.keys key
-    → list_any (are_one_key word) (parts_of_keys new) ≡ (are_one_key word (parts_of_key key) || list_any (are_one_key word) (parts_of_keys old))
-key_inserted old new key word e =
-    ap (λ keys. list_any (are_one_key word) (map parts_of_key keys)) e
-    ∙ (any_map (are_one_key word) parts_of_key (insert_key key_cmp old.keys key)
-    ∙ (any_inserted key_cmp (λ other. are_one_key word (parts_of_key other))
-    (λ one other tie. ap (are_one_key word) (equal_keys (parts_of_key one) (parts_of_key other) (sym (key_ties one other) ∙ ap is_eq tie))) old.keys key
-    ∙ ap (λ z. are_one_key word (parts_of_key key) || z) (sym (any_map (are_one_key word) parts_of_key old.keys))))
+pub key_inserted : (current attribute word : Bytes) (old new : BTreeSet Key) (key : Key) → parts_of_key key ≡ word_key current attribute word → new.keys ≡ insert_key key_cmp old.keys key
+    → knows current attribute (record { keys = new }) ≡ with_known current attribute (Some word) (knows current attribute (record { keys = old }))
+key_inserted current attribute word old new key is e = fun_ext (λ other.
+    let test : Key → Bool = λ key. are_one_key (word_key current attribute other) (parts_of_key key) in
+    ap (list_any test) e
+    ∙ (any_inserted key_cmp test
+    (λ one two tie. ap (are_one_key (word_key current attribute other)) (equal_keys (parts_of_key one) (parts_of_key two) (sym (key_ties one two) ∙ ap is_eq tie))) old.keys key
+    ∙ ap (λ z. z || list_any test old.keys) (ap (are_one_key (word_key current attribute other)) is ∙ sym (alike_keys current attribute other word))))
 
-abbrev kept : Bytes → Bool → BTreeSet Key → KnownValues
-kept current is_label set = record { current = current; is_label = is_label; keys = parts_of_keys set }
+pub key_again : (current attribute : Bytes) (old new : BTreeSet Key) → new.keys ≡ old.keys → knows current attribute (record { keys = new }) ≡ knows current attribute (record { keys = old })
+key_again current attribute old new e = ap (λ keys word. list_any (λ key. are_one_key (word_key current attribute word) (parts_of_key key)) keys) e
 
--- no keys
-pub none_kept : (current now attribute : Bytes) (is_label : Bool) (set : BTreeSet Key) → current ≡ now → is_label ≡ is_label_attribute attribute → set.keys ≡ []
-    → membership (kept current is_label set) ≡ none_known now attribute
-none_kept current now attribute is_label set here kind none =
-    ap (λ keys. membership (record { current = current; is_label = is_label; keys = map parts_of_key keys })) none
-    ∙ both (λ (z : Bytes) (b : Bool). membership (record { current = z; is_label = b; keys = [] })) here kind
+pub none_known : (current attribute : Bytes) (set : BTreeSet Key) → set.keys ≡ [] → knows current attribute (record { keys = set }) ≡ (λ word. false)
+none_known current attribute set none = ap (λ keys word. list_any (λ key. are_one_key (word_key current attribute word) (parts_of_key key)) keys) none
 
--- one more word
-pub more_kept : (current : Bytes) (is_label : Bool) (set more : BTreeSet Key) (known : KnownValues) (text : Bytes) (key : Bool × Label)
-    → kept current is_label set ≡ known → key ≡ word_key known.is_label known.current text
-    → ((word : Bool × Label) → list_any (are_one_key word) (parts_of_keys more) ≡ (are_one_key word key || list_any (are_one_key word) (parts_of_keys set)))
-    → membership (kept current is_label more) ≡ with_word text (membership known)
-more_kept current is_label set more known text key view is e =
-    let own : key ≡ word_key is_label current text = is ∙ ap (λ (k : KnownValues). word_key k.is_label k.current text) (sym view) in
-    ap (λ (test : Bytes → Bool). record { current = current; is_label = is_label; is_known = test })
-    (fun_ext (λ word. e (word_key is_label current word) ∙ ap (λ z. z || list_any (are_one_key (word_key is_label current word)) (parts_of_keys set))
-    (ap (are_one_key (word_key is_label current word)) own ∙ sym (alike_keys is_label current word text))))
-    ∙ ap (λ (k : KnownValues). with_word text (membership k)) view
+-- ---- items and words
+
+module _ {X : Type 0} (current attribute : Bytes) (text : X → Option Bytes) where
+  -- what is known of all
+  pub known_by : (found : Option Bytes) (known : Bytes → Bool) (word : Bytes) → with_known current attribute found known word ≡ (option_map_or (are_one current attribute word) found false || known word)
+  known_by None known word = refl
+  known_by (Some other) known word = refl
+
+  pub all_known : (xs : List X) (known : Bytes → Bool) → with_all current attribute text xs known ≡ (λ word. list_any (λ x. option_map_or (are_one current attribute word) (text x) false) xs || known word)
+  all_known [] known = refl
+  all_known (x ∷ xs) known = all_known xs (with_known current attribute (text x) known) ∙ fun_ext (λ word.
+      let all : Bool = list_any (λ x. option_map_or (are_one current attribute word) (text x) false) xs in
+      ap (λ z. all || z) (known_by (text x) known word) ∙ or_group all (option_map_or (are_one current attribute word) (text x) false) (known word))
+
+  more_known : (xs ys : List X) (known : Bytes → Bool) → with_all current attribute text (xs ++ ys) known ≡ with_all current attribute text ys (with_all current attribute text xs known)
+  more_known [] ys known = refl
+  more_known (x ∷ xs) ys known = more_known xs ys (with_known current attribute (text x) known)
+
+pub lists_next : (current attribute : Bytes) (xs : List Expr) (k : ℕ) (d : Expr) (known : Bytes → Bool) → k < length xs
+    → with_all current attribute body_of (flat_map listed (drop k xs)) known ≡ with_all current attribute body_of (flat_map listed (drop (k + 1) xs)) (with_all current attribute body_of (listed (get_or xs k d)) known)
+lists_next current attribute xs k d known h =
+    ap (λ ys. with_all current attribute body_of (flat_map listed ys) known) (drop_more xs k d h) ∙ more_known current attribute body_of (listed (get_or xs k d)) (flat_map listed (drop (k + 1) xs)) known
+
+-- an item is one of the words, looked up by the body of a plain string
+by_body : (current attribute : Bytes) (words : List Bytes) (found : Option Bytes)
+    → option_map_or (λ other. list_any (are_one current attribute other) words || false) found false ≡ list_any (λ word. option_map_or (are_one current attribute word) found false) words
+by_body current attribute words None = sym (list_any_none (λ (word : Bytes). false) words (λ k d l. refl))
+by_body current attribute words (Some other) =
+    or_none (list_any (are_one current attribute other) words)
+    ∙ any_like (are_one current attribute other) (λ word. are_one current attribute word other)
+    (λ word. alike_keys current attribute other word ∙ (key_alike (word_key current attribute other) (word_key current attribute word) ∙ sym (alike_keys current attribute word other))) words
+
+pub chosen_words : (current attribute : Bytes) (words : List Bytes) (known : Known) → knows current attribute known ≡ with_all current attribute (λ word. Some word) words (λ word. false)
+    → chooses current attribute (h.These known) ≡ is_some_item current attribute words
+chosen_words current attribute words known e =
+    fun_ext (λ x. ap (λ all. option_map_or all (body_of x) false) (e ∙ all_known current attribute (λ word. Some word) words (λ word. false)) ∙ by_body current attribute words (body_of x))

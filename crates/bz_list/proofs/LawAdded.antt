@@ -1,7 +1,7 @@
 -- Adding what is there.
 use Rattle.std.proofs.Common.{◌≡◌, Bool, true, false, ◌||◌, List, [], ◌∷◌, ◌++◌, Some, Ok, Err, refl, ap, ◌∙◌, map, Option, None, codes, not, inl, inr, sym, subst, true≢false, ◌&&◌}
-use Rattle.std.specs.Prelude.{if◌then◌else◌, bytes_eq, ◌⊎◌, is_some}
-use Rattle.std.specs.List.{list_any, list_all, AllByRecursion, flat_map, filter}
+use Rattle.std.specs.Prelude.{if◌then◌else◌, bytes_eq, is_some}
+use Rattle.std.specs.List.{list_any, list_all, flat_map, filter}
 use Rattle.std.proofs.lemmas.Bool.{and_parts, or_parts, cases_Bool, and_from, or_cases, not-true, or_left, or_right}
 use Rattle.std.proofs.lemmas.List.{append-nil}
 use Rattle.bz_grammar.specs.declared.kind.Kind.TheVariants as k
@@ -9,7 +9,7 @@ use Rattle.bz_value.specs.declared.value.Expr.{Expr, items_hidden-the_row-Expr-0
 use Rattle.bz_items.specs.Characters.{Bytes}
 use Rattle.bz_rule.specs.Rules.{attribute}
 use Rattle.bz_rule.specs.Values.{has_kind, parts_of, items_of, on_row, on_items, with_parts, with_items, on_lists}
-use Rattle.bz_attribute.specs.Attributes.{has_attribute, on_first_that, with_value, with_new, Arguments, by_value, without}
+use Rattle.bz_attribute.specs.Attributes.{has_attribute, on_first_that, with_value, with_new, Arguments, without}
 use Rattle.bz_attribute.proofs.AttributesAgain.{by_there, by_absent, with_value_same, node_parts, attribute_new, attribute_changed, without_new, same_made}
 use Rattle.bz_attribute.proofs.FormsAgain.{if_true, if_either, row_same, items_same, both, if_false, parts_kind, items_kind, parts_filled, items_filled, row_changed, items_changed}
 use Rattle.bz_list.specs.Changes.{with_items_added, cleared, without_items, remove_values}
@@ -28,7 +28,8 @@ use Rattle.bz_command_syntax.specs.Quoted.{is_escaped}
 use Rattle.bz_rule.proofs.ProperChanges.{by_test, by_case}
 use Rattle.bz_attribute.proofs.PlainWords.{IsPlain, equal_self, body_quoted}
 use Rattle.bz_list.proofs.KnownSteps.{meant_alike}
-use Rattle.bz_attribute.proofs.KeySets.{any_on}
+use Rattle.bz_list.proofs.ListedForms.{added_found}
+use Rattle.bz_list.specs.private.Listing.{value_with}
 use Rattle.std.proofs.Math.Bool.{or_assoc, or-false}
 use Rattle.std.proofs.lemmas.Grind.{flat_map-append}
 use Rattle.std.proofs.lemmas.List.Folds.{list_any-append}
@@ -42,10 +43,7 @@ grown name added arguments value =
     if has_lists value then Ok (with_value name (with_more (added (items_in value)) value) arguments)
     else (if is_no_list value then Err NotAList else Ok (with_value name (plus value (list_of (added []))) arguments))
 
-pub added_there : (name : Bytes) (added : List Expr → List Expr) (xs : List Expr) (value : Expr) → attribute name xs ≡ Some value → with_items_added name added xs ≡ grown name added xs value
-added_there name added xs value e = by_there (attribute name xs) value (Ok (with_new name (list_of (added [])) xs)) (grown name added xs) e
-
-pub added_absent : (name : Bytes) (added : List Expr → List Expr) (xs : List Expr) → has_attribute name xs ≡ false → with_items_added name added xs ≡ Ok (with_new name (list_of (added [])) xs)
+added_absent : (name : Bytes) (added : List Expr → List Expr) (xs : List Expr) → has_attribute name xs ≡ false → with_items_added name added xs ≡ Ok (with_new name (list_of (added [])) xs)
 added_absent name added xs h = by_absent (attribute name xs) (Ok (with_new name (list_of (added [])) xs)) (grown name added xs) h
 
 -- the strings that the words become that are none of these items
@@ -80,11 +78,9 @@ adding_again current name words xs value e l t =
     let added : List Expr → List Expr = strings_for current name words in
     let none : added (items_in value) ≡ [] = ap (map (string_of current name)) (none_fresh current name (items_in value) words t) in
     let same : with_more (added (items_in value)) value ≡ value = ap (λ more. with_more more value) none ∙ more_none value in
-    added_there name added xs value e
-    ∙ (if_true (has_lists value) (Ok (with_value name (with_more (added (items_in value)) value) xs)) (if is_no_list value then Err NotAList else Ok (with_value name (plus value (list_of (added []))) xs)) l
+    added_found name added xs value e
+    ∙ (ap (λ b. if not b && is_no_list value then Err NotAList else Ok (with_value name (if b then with_more (added (items_in value)) value else plus value (list_of (added []))) xs)) l
     ∙ ap Ok (ap (λ v. with_value name v xs) same ∙ with_value_same name value xs e))
-
--- ---- a word put into an attribute and what it means there: its string means the same, and meaning the same carries on
 
 -- ---- a shorter label of a plain word
 
@@ -127,13 +123,11 @@ word_is_item current attribute word h =
 body_on : (current attribute word other : Bytes) → are_one current attribute word other ≡ true → (found : Option Bytes) → option_map_or (are_one current attribute other) found false ≡ true
     → option_map_or (are_one current attribute word) found false ≡ true
 body_on current attribute word other h None i = i
-body_on current attribute word other h (Some text) i = meant_alike (is_label_attribute attribute) current word other text h ∙ i
+body_on current attribute word other h (Some text) i = meant_alike current attribute word other text h ∙ i
 
 -- what a word that means the same as another means is what the other means
 pub item_on : (current attribute word other : Bytes) → are_one current attribute word other ≡ true → (x : Expr) → is_item current attribute other x ≡ true → is_item current attribute word x ≡ true
 item_on current attribute word other h x i = body_on current attribute word other h (body_of x) i
-
--- ---- words that are put into an attribute: which are fresh, and where their strings are
 
 -- ---- a new list
 
@@ -146,68 +140,44 @@ items_list xs = append-nil (items_of (list_of xs)) ∙ list_items xs
 
 -- ---- words
 
-pub each_plain : (words : List Bytes) → become_plain words ≡ true → AllByRecursion IsPlain words
-each_plain [] h = tt
-each_plain (word ∷ words) h =
-    let p = and_parts (not (list_any is_escaped word)) (become_plain words) h in
-    (not-true (list_any is_escaped word) p.0, each_plain words p.1)
-
-pub fresh_all : (P : Bytes → Type 0) (current name : Bytes) (items : List Expr) (earlier words : List Bytes) → AllByRecursion P words → AllByRecursion P (fresh current name items earlier words)
-fresh_all P current name items earlier [] a = tt
-fresh_all P current name items earlier (word ∷ words) a =
-    by_test (AllByRecursion P) (list_any (are_one current name word) earlier || list_any (is_item current name word) items)
-    (fresh current name items earlier words) (word ∷ fresh current name items (word ∷ earlier) words)
-    (fresh_all P current name items earlier words a.1) (a.0, fresh_all P current name items (word ∷ earlier) words a.1)
-
 -- the word is one of these items
 abbrev pub IsThere : Bytes → Bytes → List Expr → Bytes → Type 0
 IsThere current name all word = list_any (is_item current name word) all ≡ true
 
--- where the strings of some words are, the words are
-strings_there : (current name : Bytes) (all : List Expr) (words : List Bytes) → AllByRecursion IsPlain words
-    → ((word : Bytes) → IsThere current name (map (string_of current name) words) word → IsThere current name all word) → AllByRecursion (IsThere current name all) words
-strings_there current name all [] p f = tt
-strings_there current name all (word ∷ words) p f =
-    let rest : List Expr = map (string_of current name) words in (
-      f word (or_left (is_item current name word (string_of current name word)) (list_any (is_item current name word) rest) (word_is_item current name word p.0)),
-      strings_there current name all words p.1 (λ other h. f other (or_right (is_item current name other (string_of current name word)) (list_any (is_item current name other) rest) h)),
-    )
-
-earlier_there : (current name : Bytes) (all : List Expr) (word : Bytes) (earlier : List Bytes) → list_any (are_one current name word) earlier ≡ true → AllByRecursion (IsThere current name all) earlier → IsThere current name all word
-earlier_there current name all word [] h a = absurd (true≢false (sym h))
-earlier_there current name all word (other ∷ earlier) h a = elim (or_cases (are_one current name word other) (list_any (are_one current name word) earlier) h) [
-  | inl e ↦ any_on (is_item current name other) (is_item current name word) (item_on current name word other e) all a.0
-  | inr e ↦ earlier_there current name all word earlier e a.1
-]
-
-words_there : (current name : Bytes) (items all : List Expr) → ((word : Bytes) → IsThere current name items word → IsThere current name all word) → (earlier words : List Bytes)
-    → AllByRecursion (IsThere current name all) earlier → AllByRecursion (IsThere current name all) (fresh current name items earlier words)
-    → list_all (λ word. list_any (is_item current name word) all) words ≡ true
-words_there current name items all f earlier [] a g = refl
-words_there current name items all f earlier (word ∷ words) a g =
-    let known : Bool = list_any (are_one current name word) earlier || list_any (is_item current name word) items in
-    let less : List Bytes = fresh current name items earlier words in
-    let more : List Bytes = word ∷ fresh current name items (word ∷ earlier) words in
-    let there : Bytes → Bool = λ other. list_any (is_item current name other) all in
-    elim (cases_Bool known) [
-      | inl t ↦
-          let this : IsThere current name all word = elim (or_cases (list_any (are_one current name word) earlier) (list_any (is_item current name word) items) t) [
-            | inl e ↦ earlier_there current name all word earlier e a
-            | inr i ↦ f word i
-          ] in
-          and_from (there word) (list_all there words) this (words_there current name items all f earlier words a (subst (AllByRecursion (IsThere current name all)) (if_true known less more t) g))
-      | inr n ↦
-          let rest : AllByRecursion (IsThere current name all) more = subst (AllByRecursion (IsThere current name all)) (if_false known less more n) g in
-          and_from (there word) (list_all there words) rest.0 (words_there current name items all f (word ∷ earlier) words (rest.0, a) rest.1)
-    ]
-
 -- where some items are, and the strings of the words that are fresh beside them, all words are
-pub added_words : (current name : Bytes) (items all : List Expr) (words : List Bytes) → AllByRecursion IsPlain words → ((word : Bytes) → IsThere current name items word → IsThere current name all word)
-    → ((word : Bytes) → IsThere current name (strings_for current name words items) word → IsThere current name all word) → list_all (λ word. list_any (is_item current name word) all) words ≡ true
-added_words current name items all words p f g =
-    words_there current name items all f [] words tt (strings_there current name all (fresh current name items [] words) (fresh_all IsPlain current name items [] words p) g)
+module _ (current name : Bytes) (items all : List Expr) (stay : (word : Bytes) → IsThere current name items word → IsThere current name all word) where
+  abbrev AreThere : List Bytes → Type 0
+  AreThere words = (word : Bytes) → IsThere current name (map (string_of current name) words) word → IsThere current name all word
 
--- ---- what was added is there afterwards
+  words_there : (earlier words : List Bytes) → become_plain words ≡ true → ((word : Bytes) → list_any (are_one current name word) earlier ≡ true → IsThere current name all word)
+      → AreThere (fresh current name items earlier words) → list_all (λ word. list_any (is_item current name word) all) words ≡ true
+  words_there earlier [] plain before fresh_there = refl
+  words_there earlier (word ∷ words) plain before fresh_there =
+      let p = and_parts (not (list_any is_escaped word)) (become_plain words) plain in
+      let known : Bool = list_any (are_one current name word) earlier || list_any (is_item current name word) items in
+      let less : List Bytes = fresh current name items earlier words in
+      let more : List Bytes = fresh current name items (word ∷ earlier) words in
+      let there : Bytes → Bool = λ other. list_any (is_item current name other) all in
+      elim (cases_Bool known) [
+        | inl t ↦
+            let this : IsThere current name all word = elim (or_cases (list_any (are_one current name word) earlier) (list_any (is_item current name word) items) t) [
+              | inl h ↦ before word h
+              | inr h ↦ stay word h
+            ] in
+            and_from (there word) (list_all there words) this (words_there earlier words p.1 before (subst AreThere (if_true known less (word ∷ more) t) fresh_there))
+        | inr n ↦
+            let string : Expr = string_of current name word in
+            let meant : is_item current name word string ≡ true = word_is_item current name word (not-true (list_any is_escaped word) p.0) in
+            let both_there : AreThere (word ∷ more) = subst AreThere (if_false known less (word ∷ more) n) fresh_there in
+            let here : (other : Bytes) → is_item current name other string ≡ true → IsThere current name all other =
+            λ other h. both_there other (or_left (is_item current name other string) (list_any (is_item current name other) (map (string_of current name) more)) h) in
+            and_from (there word) (list_all there words) (here word meant) (words_there (word ∷ earlier) words p.1
+            (λ other h. elim (or_cases (are_one current name other word) (list_any (are_one current name other) earlier) h) [
+              | inl one ↦ here other (item_on current name other word one string meant)
+              | inr h ↦ before other h
+            ])
+            (λ other h. both_there other (or_right (is_item current name other string) (list_any (is_item current name other) (map (string_of current name) more)) h)))
+      ]
 
 -- ---- further items at the end of the first list
 
@@ -298,14 +268,9 @@ items_plus value items h =
 
 -- ---- what was added
 
--- what is made by the two tests of a value
-abbrev tested : Bool → Bool → List Expr → List Expr → Arguments
-tested lists none one other = if lists then Ok one else (if none then Err NotAList else Ok other)
-
-one_or_other : (lists none : Bool) (one other new : List Expr) → tested lists none one other ≡ Ok new → ((lists ≡ true) × (one ≡ new)) ⊎ ((lists ≡ false) × (other ≡ new))
-one_or_other true none one other new e = inl (refl, cc)
-one_or_other false true one other new e = cc
-one_or_other false false one other new e = inr (refl, cc)
+made_if : (b : Bool) (made new : List Expr) → ◌≡◌ {A = Arguments} (if b then Err NotAList else Ok made) (Ok new) → made ≡ new
+made_if true made new e = cc
+made_if false made new e = cc
 
 -- the words are items of the attribute's lists
 abbrev AreAdded : Bytes → Bytes → List Bytes → List Expr → Type 0
@@ -317,65 +282,67 @@ are_added current name words xs new value same found there =
     ∙ (ap (λ (o : Option Expr). option_map_or (are_there current name words) o false) found ∙ there)
 
 -- in a list or a sum that grows
-there_more : (current name : Bytes) (words : List Bytes) (value : Expr) → AllByRecursion IsPlain words → has_lists value ≡ true
+there_more : (current name : Bytes) (words : List Bytes) (value : Expr) → become_plain words ≡ true → has_lists value ≡ true
     → are_there current name words (with_more (strings_for current name words (items_in value)) value) ≡ true
 there_more current name words value p l =
     let more : List Expr = strings_for current name words (items_in value) in
-    added_words current name (items_in value) (items_in (with_more more value)) words p
-    (λ word h. any_more (is_item current name word) more value l ∙ ap (λ b. b || list_any (is_item current name word) more) h)
+    words_there current name (items_in value) (items_in (with_more more value))
+    (λ word h. any_more (is_item current name word) more value l ∙ ap (λ b. b || list_any (is_item current name word) more) h) [] words p (λ word h. absurd (true≢false (sym h)))
     (λ word h. any_more (is_item current name word) more value l ∙ or_right (list_any (is_item current name word) (items_in value)) (list_any (is_item current name word) more) h)
 
 -- in a new list
-there_new : (current name : Bytes) (words : List Bytes) (value : Expr) → AllByRecursion IsPlain words → items_in value ≡ strings_for current name words [] → are_there current name words value ≡ true
+there_new : (current name : Bytes) (words : List Bytes) (value : Expr) → become_plain words ≡ true → items_in value ≡ strings_for current name words [] → are_there current name words value ≡ true
 there_new current name words value p e =
-    added_words current name [] (items_in value) words p (λ word h. absurd (true≢false (sym h))) (λ word h. ap (list_any (is_item current name word)) e ∙ h)
-
-found_or_new : (current name : Bytes) (words : List Bytes) (xs new : List Expr) → AllByRecursion IsPlain words → (found : Option Expr) → attribute name xs ≡ found
-    → by_value found (Ok (with_new name (list_of (strings_for current name words [])) xs)) (grown name (strings_for current name words) xs) ≡ Ok new → AreAdded current name words new
-found_or_new current name words xs new p None d e =
-    let value : Expr = list_of (strings_for current name words []) in
-    let same : with_new name value xs ≡ new = cc in
-    are_added current name words (with_new name value xs) new value same (attribute_new name value xs (ap (λ (o : Option Expr). is_some o) d))
-    (there_new current name words value p (items_list (strings_for current name words [])))
-found_or_new current name words xs new p (Some value) d e =
-    let more : Expr = with_more (strings_for current name words (items_in value)) value in
-    let sum : Expr = plus value (list_of (strings_for current name words [])) in
-    elim (one_or_other (has_lists value) (is_no_list value) (with_value name more xs) (with_value name sum xs) new e) [
-      | inl (l, same) ↦ are_added current name words (with_value name more xs) new more same (attribute_changed name value more xs d) (there_more current name words value p l)
-      | inr (l, same) ↦
-          are_added current name words (with_value name sum xs) new sum same (attribute_changed name value sum xs d)
-          (there_new current name words sum p (items_plus value (strings_for current name words []) l))
-    ]
+    words_there current name [] (items_in value) (λ word h. absurd (true≢false (sym h))) [] words p (λ word h. absurd (true≢false (sym h))) (λ word h. ap (list_any (is_item current name word)) e ∙ h)
 
 pub added_is_there : AddedIsThere
-added_is_there current name words xs new plain e = found_or_new current name words xs new (each_plain words plain) (attribute name xs) refl e
+added_is_there current name words xs new plain e = found_or_new (attribute name xs) refl
+  where
+    strings : List Expr → List Expr
+    strings = strings_for current name words
+
+    there_with : (value : Expr) → are_there current name words (value_with strings value) ≡ true
+    there_with value =
+        by_case (λ made. are_there current name words made ≡ true) (has_lists value) (with_more (strings (items_in value)) value) (plus value (list_of (strings [])))
+        (there_more current name words value plain)
+        (λ n. there_new current name words (plus value (list_of (strings []))) plain (items_plus value (strings []) n))
+
+    found_or_new : (found : Option Expr) → attribute name xs ≡ found → AreAdded current name words new
+    found_or_new None d =
+        let value : Expr = list_of (strings []) in
+        let absent : has_attribute name xs ≡ false = ap (λ (o : Option Expr). is_some o) d in
+        are_added current name words (with_new name value xs) new value (same_made (with_new name value xs) new _ (added_absent name strings xs absent) e) (attribute_new name value xs absent)
+        (there_new current name words value plain (items_list (strings [])))
+    found_or_new (Some value) d =
+        let made : Expr = value_with strings value in
+        are_added current name words (with_value name made xs) new made (made_if (not (has_lists value) && is_no_list value) (with_value name made xs) new (sym (added_found name strings xs value d) ∙ e))
+        (attribute_changed name value made xs d) (there_with value)
 
 -- ---- removing what was added to an absent attribute
 
--- the string of the word is one of the items that these words mean
-abbrev IsMeant : Bytes → Bytes → List Bytes → Bytes → Type 0
-IsMeant current name all word = is_some_item current name all (string_of current name word) ≡ true
-
-words_meant : (current name : Bytes) (all words : List Bytes) → AllByRecursion IsPlain words → ((x : Expr) → is_some_item current name words x ≡ true → is_some_item current name all x ≡ true)
-    → AllByRecursion (IsMeant current name all) words
-words_meant current name all [] p f = tt
-words_meant current name all (word ∷ words) p f =
-    let string : Expr = string_of current name word in (
-      f string (ap (λ b. b || is_some_item current name words string) (word_is_item current name word p.0)),
-      words_meant current name all words p.1 (λ x h. f x (or_right (is_item current name word x) (is_some_item current name words x) h)),
-    )
-
-none_left : (current name : Bytes) (all words : List Bytes) → AllByRecursion (IsMeant current name all) words → filter (λ x. not (is_some_item current name all x)) (map (string_of current name) words) ≡ []
-none_left current name all [] a = refl
-none_left current name all (word ∷ words) a =
-    let left : List Expr = filter (λ x. not (is_some_item current name all x)) (map (string_of current name) words) in
-    if_false (not (is_some_item current name all (string_of current name word))) (string_of current name word ∷ left) left (ap not a.0) ∙ none_left current name all words a.1
+-- the strings of words are items that the words mean, so none of them is left
+none_left : (current name : Bytes) (all earlier words : List Bytes) → become_plain words ≡ true → ((x : Expr) → is_some_item current name words x ≡ true → is_some_item current name all x ≡ true)
+    → filter (λ x. not (is_some_item current name all x)) (map (string_of current name) (fresh current name [] earlier words)) ≡ []
+none_left current name all earlier [] plain f = refl
+none_left current name all earlier (word ∷ words) plain f =
+    let p = and_parts (not (list_any is_escaped word)) (become_plain words) plain in
+    let string : Expr = string_of current name word in
+    let none : List Bytes → List Expr = λ ws. filter (λ x. not (is_some_item current name all x)) (map (string_of current name) ws) in
+    let less : List Bytes = fresh current name [] earlier words in
+    let more : List Bytes = fresh current name [] (word ∷ earlier) words in
+    let rest : (x : Expr) → is_some_item current name words x ≡ true → is_some_item current name all x ≡ true = λ x h. f x (or_right (is_item current name word x) (is_some_item current name words x) h) in
+    let meant : is_some_item current name all string ≡ true =
+    f string (or_left (is_item current name word string) (is_some_item current name words string) (word_is_item current name word (not-true (list_any is_escaped word) p.0))) in
+    by_test (λ (ws : List Bytes). none ws ≡ []) (list_any (are_one current name word) earlier || list_any (is_item current name word) []) less (word ∷ more)
+    (none_left current name all earlier words p.1 rest)
+    (if_false (not (is_some_item current name all string)) (string ∷ none more) (none more) (ap not meant) ∙ none_left current name all (word ∷ earlier) words p.1 rest)
 
 -- the first word is fresh where nothing is there
-some_made : (current name : Bytes) (all words : List Bytes) → is_nonempty words ≡ true → AllByRecursion (IsMeant current name all) words → list_any (is_some_item current name all) (strings_for current name words []) ≡ true
-some_made current name all [] h a = absurd (true≢false (sym h))
-some_made current name all (word ∷ words) h a =
-    ap (λ b. b || list_any (is_some_item current name all) (map (string_of current name) (fresh current name [] (word ∷ []) words))) a.0
+some_made : (current name : Bytes) (words : List Bytes) → is_nonempty words ≡ true → become_plain words ≡ true → list_any (is_some_item current name words) (strings_for current name words []) ≡ true
+some_made current name [] h plain = absurd (true≢false (sym h))
+some_made current name (word ∷ words) h plain =
+    let p = and_parts (not (list_any is_escaped word)) (become_plain words) plain in
+    or_left _ _ (or_left (is_item current name word (string_of current name word)) _ (word_is_item current name word (not-true (list_any is_escaped word) p.0)))
 
 emptied : (name : Bytes) (xs items : List Expr) → cleared name (with_items [] (list_of items)) xs ≡ without name xs
 emptied name xs items =
@@ -390,9 +357,8 @@ removing_again current name words xs new absent full plain e =
     let test : Expr → Bool = is_some_item current name words in
     let left : Expr → Bool = λ x. not (test x) in
     let same : ys ≡ new = same_made ys new _ (added_absent name (strings_for current name words) xs absent) e in
-    let meant : AllByRecursion (IsMeant current name words) words = words_meant current name words words (each_plain words plain) (λ x h. h) in
-    let some : list_any test (items_in value) ≡ true = ap (list_any test) (items_list items) ∙ some_made current name words words full meant in
-    let none : filter left (items_of value) ≡ [] = ap (filter left) (list_items items) ∙ none_left current name words (fresh current name [] [] words) (fresh_all (IsMeant current name words) current name [] [] words meant) in
+    let some : list_any test (items_in value) ≡ true = ap (list_any test) (items_list items) ∙ some_made current name words full plain in
+    let none : filter left (items_of value) ≡ [] = ap (filter left) (list_items items) ∙ none_left current name words [] words plain (λ x h. h) in
     ap (remove_values current name words) (sym same)
     ∙ (by_there (attribute name ys) value (Ok ys) (λ v. if is_no_list v then Err NotAList else Ok (without_items name test v ys)) (attribute_new name value xs absent)
     ∙ ap Ok (if_true (list_any test (items_in value)) (cleared name (on_lists (filter left) value) ys) ys some

@@ -1,5 +1,5 @@
 -- The lists of a value and their items.
-use Rattle.std.proofs.Common.{◌≡◌, false, List, [], ◌∷◌, refl, sym, ap, ◌∙◌, Bool, true, not, map, true≢false, ℕ}
+use Rattle.std.proofs.Common.{◌≡◌, false, List, [], ◌∷◌, refl, sym, ap, ◌∙◌, Bool, true, not, ◌&&◌, map, true≢false, ℕ}
 use Rattle.std.specs.Prelude.{IsTrue, ◌↔◌, if◌then◌else◌, Some, Option, Ok, Err, None, slice_get, slice_set}
 use Rattle.std.specs.List.{flat_map, list_any, filter, position}
 use Rattle.bz_grammar.specs.declared.kind.Kind.TheVariants as k
@@ -7,32 +7,33 @@ use Rattle.bz_grammar.specs.Shapes.{is_kind}
 use Rattle.bz_value.specs.declared.value.Form.{Form}
 use Rattle.bz_value.specs.declared.value.Expr.TheVariants as e
 use Rattle.bz_attribute.proofs.ArgumentForms.{parts_Form}
+use Rattle.std.proofs.lemmas.List.{append-nil}
 use Rattle.bz_value.specs.declared.value.Expr.{Expr}
 use Rattle.bz_value.specs.Empty.{is_empty}
-use Rattle.bz_attribute.specs.Lists.{items_in, listed, is_empty_list, has_lists}
-use Rattle.bz_attribute.proofs.ListsThere.{items_there, some_filtered}
-use Rattle.bz_attribute.proofs.MakingForms as forms
+use Rattle.bz_attribute.specs.Lists.{items_in, listed, lists_of, is_empty_list, is_no_list, has_lists, is_some_item, with_more}
+use Rattle.bz_attribute.proofs.ListsThere.{in_sum, in_value, items_there, some_filtered}
 use Rattle.std.proofs.lemmas.Bool.{or_parts}
 use Rattle.std.proofs.lemmas.List.Folds.{list_any-append}
 use Rattle.bz_items.specs.Characters.{Bytes}
 use Rattle.bz_rule.specs.Rules.{attribute}
 use Rattle.bz_rule.specs.Values.{has_kind, parts_of, items_of, with_parts, with_items, on_row, on_items, on_lists}
-use Rattle.bz_attribute.specs.Attributes.{with_value, without, Arguments, by_value, on_first_that}
-use Rattle.bz_attribute.proofs.AttributesAgain.{with_value_same}
+use Rattle.bz_attribute.specs.Attributes.{with_new, with_value, without, Arguments, by_value, on_first_that}
+use Rattle.bz_attribute.proofs.AttributesAgain.{by_there, with_value_same}
 use Rattle.bz_attribute.proofs.FormsAgain.{both, own_parts, own_items, if_true, if_false}
-use Rattle.bz_list.specs.Changes.{cleared, without_items, is_moved, items_moved, with_items_added, move}
-use Rattle.bz_list.specs.private.Listing.{put_back, without_chosen, chosen_in, added_by}
+use Rattle.bz_list.specs.Changes.{cleared, without_items, is_moved, items_moved, with_items_added, move, remove_values}
+use Rattle.bz_list.specs.private.Listing.{put_back, without_chosen, chosen_in, added_by, value_with}
 use Rattle.bz_command_syntax.specs.declared.command.Values.{Values}
 use Rattle.bz_list.specs.declared.adding.Added.TheVariants as a
 use Rattle.bz_value.specs.declared.refusal.Refusal.TheVariants.{NoAttribute, NotAList}
+use Rattle.bz_attribute.specs.Made.{list_of, plus}
 use Rattle.bz_attribute.proofs.ArgumentPlaces as places
 
--- the items of a form
-pub items_Form : (f : Form) → items_in (e.Form f) ≡ (if is_kind f.kind k.Sum then flat_map listed f.parts else (if is_kind f.kind k.List then f.seq.items else []))
-items_Form f =
-    items_there (e.Form f)
-    ∙ (ap (λ xs. if is_kind f.kind k.Sum then flat_map listed xs else listed (e.Form f)) (parts_Form f)
-    ∙ ap (λ xs. if is_kind f.kind k.Sum then flat_map listed f.parts else (if is_kind f.kind k.List then xs else [])) (forms.items_Form f))
+-- the items of a sum, and of any other value
+pub sum_items : (f : Form) → is_kind f.kind k.Sum ≡ true → items_in (e.Form f) ≡ flat_map listed f.parts
+sum_items f h = sym (in_sum (e.Form f) h) ∙ ap (flat_map listed) (parts_Form f)
+
+pub own_items_in : (value : Expr) → has_kind k.Sum value ≡ false → items_in value ≡ listed value
+own_items_in value h = sym (in_value value h) ∙ append-nil (listed value)
 
 pub not_emptied : (xs : List Expr) → IsTrue false ↔ (xs ≡ []) → is_empty xs ≡ false
 not_emptied [] h = sym (h.1 refl)
@@ -95,6 +96,13 @@ left_there name test before after value own place gone =
     ∙ (both (put_by (list_any test (items_in value)) (is_empty_list left) left) gone (place left)
     ∙ (left_by name test (list_any test (items_in value)) before value own refl ∙ ap (λ found. without_chosen name test found before) (sym own)))
 
+-- what `remove` makes, by what is left
+pub removed : (current name : Bytes) (words : List Bytes) (arguments left : List Expr) (chosen : Expr → Bool) (value : Expr) → chosen ≡ is_some_item current name words → attribute name arguments ≡ Some value
+    → is_no_list value ≡ false → left ≡ without_chosen name chosen (attribute name arguments) arguments → remove_values current name words arguments ≡ Ok left
+removed current name words arguments left chosen value same own listable is =
+    by_there (attribute name arguments) value (Ok arguments) (λ value. if is_no_list value then Err NotAList else Ok (without_items name (is_some_item current name words) value arguments)) own
+    ∙ (if_false (is_no_list value) (Err NotAList) _ listable ∙ ap Ok (sym (is ∙ both (λ test found. without_chosen name test found arguments) same own)))
+
 -- ---- what `move` makes, by the items that it takes
 
 module _ (current from to : Bytes) (values : Values) (arguments : List Expr) (chosen : Expr → Bool) (same : chosen ≡ is_moved current from values) where
@@ -135,6 +143,29 @@ module _ (current from to : Bytes) (values : Values) (arguments : List Expr) (ch
         from_there
         ∙ (if_true (list_any test (items_in value)) _ _ (any_taken value taken all_taken ∙ ap not some)
         ∙ sym (both (λ xs ys. items_moved current from to xs ys) all_taken all_left))
+
+-- ---- what further items make of a value
+
+pub no_items : (value : Expr) → has_lists value ≡ false → items_in value ≡ []
+no_items value h = by (lists_of value) h
+  where
+    by : (lists : List Expr) → not (is_empty lists) ≡ false → flat_map items_of lists ≡ []
+    by [] e = refl
+    by (x ∷ xs) e = absurd (true≢false e)
+
+pub added_found : (name : Bytes) (added : List Expr → List Expr) (xs : List Expr) (value : Expr) → attribute name xs ≡ Some value
+    → with_items_added name added xs ≡ (if not (has_lists value) && is_no_list value then Err NotAList else Ok (with_value name (value_with added value) xs))
+added_found name added xs value found =
+    by_there (attribute name xs) value (Ok (with_new name (list_of (added [])) xs)) (λ value. grown (has_lists value) (is_no_list value) (with_more (added (items_in value)) value) (plus value (list_of (added [])))) found
+    ∙ by (has_lists value) (is_no_list value) (with_more (added (items_in value)) value) (plus value (list_of (added [])))
+  where
+    grown : Bool → Bool → Expr → Expr → Arguments
+    grown lists none more sum = if lists then Ok (with_value name more xs) else (if none then Err NotAList else Ok (with_value name sum xs))
+
+    by : (lists none : Bool) (more sum : Expr) → grown lists none more sum ≡ (if not lists && none then Err NotAList else Ok (with_value name (if lists then more else sum) xs))
+    by true none more sum = refl
+    by false true more sum = refl
+    by false false more sum = refl
 
 -- ---- the first element that passes, changed in its place; and where none passes
 

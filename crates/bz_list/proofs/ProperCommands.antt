@@ -27,9 +27,11 @@ use Rattle.bz_rule.proofs.ProperItems.{IsValue, from_in_place, item_within, valu
 use Rattle.bz_rule.proofs.ProperSequences.{IsItem, AreOf, list_apart, list_in_place, where_true}
 use Rattle.bz_attribute.specs.Made.{string_text, list_of, string_of, plus}
 use Rattle.bz_attribute.specs.Attributes.{on_first_that, is_attribute, is_other_attribute, on_value, with_value, with_new, without}
-use Rattle.bz_attribute.specs.Lists.{items_in, with_more, body_of, are_one, is_item, fresh, travelled, is_there, arriving, has_lists, is_no_list, is_empty_list, is_some_item}
+use Rattle.bz_attribute.specs.Lists.{items_in, listed, with_more, body_of, are_one, is_item, fresh, travelled, is_there, arriving, has_lists, is_no_list, is_empty_list, is_some_item}
+use Rattle.bz_attribute.proofs.ListsThere as lists
 use Rattle.bz_attribute.proofs.ProperAttributes.{first_that_stays, AreArguments, Made, Keeps, of_attribute, first_that_kept, value_stays, with_value_kept, without_kept, with_new_kept}
 use Rattle.bz_list.specs.Changes.{in_value, replaced_item, with_body, substituted_item, with_items_added, add, cleared, without_items, remove_values, in_attributes, replace, substitute, is_moved, items_moved, move}
+use Rattle.bz_list.proofs.LawAdded.{grown}
 use Rattle.bz_attribute.proofs.ProperMade.{string_strung, quoted_string, list_value, plus_value, words_are_items}
 use Rattle.bz_attribute.proofs.ProperTexts.{body_utf8, shortened_utf8}
 use Rattle.bz_command_syntax.specs.declared.command.Attributes.{Attributes}
@@ -52,13 +54,12 @@ items_there (Token t) is h = tt
 items_there (Form' kind s parts s' items end split open_break comments) is h =
     list_items kind h.0 end split open_break (items-the_row-Expr _ parts) (items-the_row-Expr _ items) is (opened h.0 (Form' kind s parts s' items end split open_break comments) h.1)
 
--- the items of the lists among some expressions
-lists_items : (xs : List Expr) → AllByRecursion Stands xs → AreOf s.test (flat_map items_of (filter (has_kind k.List) xs))
-lists_items [] h = tt
-lists_items (x ∷ xs) h =
-    by_case (λ (ys : List Expr). AreOf s.test (flat_map items_of ys)) (has_kind k.List x) (x ∷ filter (has_kind k.List) xs) (filter (has_kind k.List) xs)
-    (λ is. all_joined (IsItem s.test) (items_of x) (flat_map items_of (filter (has_kind k.List) xs)) (items_there x is h.0) (lists_items xs h.1))
-    (λ is. lists_items xs h.1)
+listed_items : (x : Expr) → Stands x → AreOf s.test (listed x)
+listed_items x h = by_case (AreOf s.test) (has_kind k.List x) (items_of x) [] (λ is. items_there x is h) (λ n. tt)
+
+all_listed : (xs : List Expr) → AllByRecursion Stands xs → AreOf s.test (flat_map listed xs)
+all_listed [] h = tt
+all_listed (x ∷ xs) h = all_joined (IsItem s.test) (listed x) (flat_map listed xs) (listed_items x h.0) (all_listed xs h.1)
 
 each_stands : (binary : Bool) (outer here : Spot) (xs : List Expr) → AreParts binary outer here xs → AllByRecursion Stands xs
 each_stands binary outer here [] h = tt
@@ -76,10 +77,8 @@ parts_there (Form' kind s parts s' items end split open_break comments) is h =
 pub value_items : (x : Expr) → IsValue x → AreOf s.test (items_in x)
 value_items x v =
     let h : Stands x = (Within, v.0.0.0) in
-    let of : List Expr → Type 0 = λ ys. AreOf s.test (flat_map items_of ys) in
-    by_case of (has_kind k.List x) (x ∷ []) (if has_kind k.Sum x then filter (has_kind k.List) (parts_of x) else [])
-    (λ is. all_joined (IsItem s.test) (items_of x) [] (items_there x is h) tt)
-    (λ n. by_case of (has_kind k.Sum x) (filter (has_kind k.List) (parts_of x)) [] (λ is. lists_items (parts_of x) (parts_there x is h)) (λ m. tt))
+    subst (AreOf s.test) (sym (lists.items_there x))
+    (by_case (AreOf s.test) (has_kind k.Sum x) (flat_map listed (parts_of x)) (listed x) (λ is. all_listed (parts_of x) (parts_there x is h)) (λ n. listed_items x h))
 
 -- ---- further items
 
@@ -176,9 +175,7 @@ arriving_items current attribute there (x ∷ xs) h =
 added_keeps : (name : Bytes) (added : List Expr → List Expr) → IsAttribute name → ((there : List Expr) → AreOf s.test (added there)) → Keeps (with_items_added name added)
 added_keeps name added a f xs h =
     of_attribute name xs (Ok (with_new name (list_of (added [])) xs))
-    (λ value.
-    if has_lists value then Ok (with_value name (with_more (added (items_in value)) value) xs)
-    else (if is_no_list value then Err NotAList else Ok (with_value name (plus value (list_of (added []))) xs)))
+    (grown name added xs)
     h
     (with_new_kept name (list_of (added [])) xs a (list_value (added []) (f [])) h)
     (λ value v.

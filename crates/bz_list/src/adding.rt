@@ -1,29 +1,26 @@
-//! Items that are added to the lists of an attribute: words, or items that come from another attribute. An expression that is not
-//! needed is handed to `drop`: dropped by the end of its scope, each form of it would be a path of that function's proof.
+//! Items that are added to the lists of an attribute: words, or items that come from another attribute.
 ghost use Rattle.std.specs.Prelude.{◌≡◌, ◌⊎◌, ◌++◌, ◌∷◌, [], List, Ok, Err, IfOk, OnOk, IfErr, map, nat_eq, true};
 ghost use Rattle.std.specs.List.{ends_with, list_any, position};
-ghost use Rattle.std.specs.Option.{option_map_or};
 ghost use Rattle.bz_grammar.specs.declared.kind.Kind.TheVariants as kinds;
 ghost use Rattle.bz_value.specs.declared.value.Expr.{Expr as Value};
 ghost use Rattle.bz_items.specs.Characters.{Bytes};
-ghost use Rattle.bz_rule.specs.Values.{has_kind as is_of, on_items, with_text};
+ghost use Rattle.bz_rule.specs.Values.{has_kind as is_of, on_items};
 ghost use Rattle.bz_attribute.specs.Attributes.{on_first_that};
-ghost use Rattle.bz_attribute.specs.Lists.{are_one, fresh, is_item as is_item_of, items_in, listed, travelled as as_travelled, with_more};
-ghost use Rattle.bz_attribute.specs.Made.{list_of as list_made, plus as sum_made, string_of as string_made};
+ghost use Rattle.bz_attribute.specs.Lists.{are_one, fresh, is_item as is_item_of, items_in, listed as as_listed, with_more};
+ghost use Rattle.bz_attribute.specs.Made.{list_of as list_made, string_of as string_made};
 ghost use Rattle.bz_list.specs.Changes.{with_items_added};
-ghost use Rattle.bz_list.specs.private.KnownValues.{membership, new_words, new_items as items_new};
-ghost use Rattle.bz_list.specs.private.Listing.{added_by, added_to, is_item_ending, with_added};
+ghost use Rattle.bz_list.specs.private.KnownValues.{knows};
+ghost use Rattle.bz_list.specs.private.Listing.{added_by, added_to, is_item_ending, new_items, new_strings, value_with};
 ghost use Rattle.bz_rule.specs.Rules.{inner};
 
-use crate::known::Known;
+use crate::known::{Known, label_meant, listed};
+use crate::replacing::Change;
 use bz_attribute::{
-    Slot, add_attribute, append_to, body_of, has_kind, has_lists, is_item, is_no_list, items_of,
-    list_of, operands_of, plus, set_text, set_value, string_of, take_value,
+    Slot, add_attribute, append_to, body_of, has_kind, has_lists, is_item, is_no_list, list_of,
+    operands_of, plus, set_value, string_of, take_value,
 };
-use bz_command_syntax::quoted;
 use bz_grammar::Kind;
 use bz_items::{Items, Memory, Text};
-use bz_label::bytes::{is_label_attribute, label_parts, shortened};
 use bz_rule::text_of;
 use bz_value::{Expr, Refusal};
 
@@ -37,116 +34,57 @@ pub(crate) enum Added<'a> {
 }
 
 /// Adds the string of a word that is not known yet.
+#[tactic(auto, using(crate::proofs::AddedItems::one_more))]
 fn push_word(
     slot: Slot<'_>,
     word: &[u8],
     known: &mut Known,
     items: &mut Vec<Expr>,
 ) -> Result<(), Memory>
-    ensures { (rest : List Bytes) → OnOk result (items.new.items ++ map (string_made slot.entry.current.now slot.entry.attribute.now) (new_words (membership known.new) rest)
-        ≡ items.old.items ++ map (string_made slot.entry.current.now slot.entry.attribute.now) (new_words (membership known.old) (word.now ∷ rest))) }
+    ensures { (rest : List Bytes) → OnOk result (items.new.items ++ new_strings slot.entry.current.now slot.entry.attribute.now (knows slot.entry.current.now slot.entry.attribute.now known.new) rest
+        ≡ items.old.items ++ new_strings slot.entry.current.now slot.entry.attribute.now (knows slot.entry.current.now slot.entry.attribute.now known.old) (word.now ∷ rest)) }
 {
-    if known.has(word)? {
-        return Ok(());
+    if known.insert(slot, Some(word))? {
+        items.push(string_of(slot, word)?)?;
     }
-    known.insert(word)?;
-    items.push(string_of(slot, word)?)?;
     Ok(())
 }
 
-/// The strings of the words that are not known yet, each once.
-fn new_strings(slot: Slot<'_>, words: &[Text], mut known: Known) -> Result<Vec<Expr>, Memory>
-    ensures { IfOk result (λ items. items.items ≡ map (string_made slot.entry.current.now slot.entry.attribute.now) (new_words (membership known) words.now)) }
-{
-    let mut items = Vec::new(slot.alloc);
-    for word in words {
-        push_word(slot, word.as_slice(), &mut known, &mut items)?;
-    }
-    Ok(items)
-}
-
-/// The shorter text of an item that comes to a label attribute, where it has one.
-fn shorter_text(slot: Slot<'_>, x: &Expr) -> Result<Option<Text>, Memory>
-    ensures { IfOk result (λ text. option_map_or (λ new. with_text new x.now) text x.now ≡ as_travelled slot.entry.current.now slot.entry.attribute.now x.now) }
-{
-    let Some(text) = body_of(x) else {
-        return Ok(None);
-    };
-    if !is_label_attribute(slot.attribute) {
-        return Ok(None);
-    }
-    let short = shortened(slot.current, text);
-    if short == text {
-        return Ok(None);
-    }
-    Ok(Some(quoted(slot.alloc, short)?))
-}
-
-/// An item as it comes to another attribute.
-fn travelled(slot: Slot<'_>, mut x: Expr) -> Result<Expr, Memory>
-    ensures { IfOk result (λ there. there ≡ as_travelled slot.entry.current.now slot.entry.attribute.now x) }
-{
-    match shorter_text(slot, &x) {
-        Ok(Some(text)) => {
-            set_text(text, &mut x);
-            Ok(x)
-        }
-        Ok(None) => Ok(x),
-        Err(fault) => {
-            drop(x);
-            Err(fault)
-        }
-    }
-}
-
-/// Adds an item that is not known yet.
+/// Adds an item that is not known yet, as it comes to another attribute.
 fn push_item(
     slot: Slot<'_>,
-    x: Expr,
+    mut x: Expr,
     known: &mut Known,
     items: &mut Vec<Expr>,
 ) -> Result<(), Memory>
-    ensures { (rest : List Value) → OnOk result (items.new.items ++ items_new slot.entry.current.now slot.entry.attribute.now (membership known.new) rest
-        ≡ items.old.items ++ items_new slot.entry.current.now slot.entry.attribute.now (membership known.old) (x ∷ rest)) }
+    ensures { (rest : List Value) → OnOk result (items.new.items ++ new_items slot.entry.current.now slot.entry.attribute.now (knows slot.entry.current.now slot.entry.attribute.now known.new) rest
+        ≡ items.old.items ++ new_items slot.entry.current.now slot.entry.attribute.now (knows slot.entry.current.now slot.entry.attribute.now known.old) (x ∷ rest)) }
 {
-    match known.has_item(&x) {
-        Ok(false) => {}
-        Ok(true) => {
-            drop(x);
-            return Ok(());
-        }
-        Err(fault) => {
-            drop(x);
-            return Err(fault);
-        }
+    if known.insert(slot, body_of(&x))? {
+        Change::Shorten.on_item(slot, &mut x)?;
+        items.push(x)?;
     }
-    if let Err(fault) = known.insert_item(&x) {
-        drop(x);
-        return Err(fault);
-    }
-    items.push(travelled(slot, x)?)?;
     Ok(())
 }
 
-/// The items that are not known yet, each once.
-fn new_items(slot: Slot<'_>, moved: Items<Expr>, mut known: Known) -> Result<Vec<Expr>, Memory>
-    ensures { IfOk result (λ items. items.items ≡ items_new slot.entry.current.now slot.entry.attribute.now (membership known) moved) }
+/// The items that are added to those that are known, each once.
+fn added_items(slot: Slot<'_>, added: Added<'_>, mut known: Known) -> Result<Vec<Expr>, Memory>
+    ensures { IfOk result (λ items. items.items ≡ added_to slot.entry.current.now slot.entry.attribute.now added.entry (knows slot.entry.current.now slot.entry.attribute.now known)) }
 {
     let mut items = Vec::new(slot.alloc);
-    for x in moved.into_vec() {
-        push_item(slot, x, &mut known, &mut items)?;
+    match added {
+        Added::Words(words) => {
+            for word in words {
+                push_word(slot, word.as_slice(), &mut known, &mut items)?;
+            }
+        }
+        Added::Moved(moved) => {
+            for x in moved.into_vec() {
+                push_item(slot, x, &mut known, &mut items)?;
+            }
+        }
     }
     Ok(items)
-}
-
-/// The items that are added to those that are known.
-fn added_items(slot: Slot<'_>, added: Added<'_>, known: Known) -> Result<Vec<Expr>, Memory>
-    ensures { IfOk result (λ items. items.items ≡ added_to slot.entry.current.now slot.entry.attribute.now added.entry (membership known)) }
-{
-    match added {
-        Added::Words(words) => new_strings(slot, words, known),
-        Added::Moved(moved) => new_items(slot, moved, known),
-    }
 }
 
 /// What each text that means the same as a word ends with: the name of the label that the word is, else the word itself.
@@ -154,10 +92,7 @@ fn added_items(slot: Slot<'_>, added: Added<'_>, known: Known) -> Result<Vec<Exp
 fn end_of<'a>(slot: Slot<'a>, word: &'a [u8]) -> &'a [u8]
     ensures { (other : Bytes) → are_one slot.entry.current.now slot.entry.attribute.now word.entry.now other ≡ true → ends_with nat_eq other result.now ≡ true }
 {
-    if !is_label_attribute(slot.attribute) {
-        return word;
-    }
-    match label_parts(slot.current, word) {
+    match label_meant(slot, word) {
         Some(parts) => parts.name,
         None => word,
     }
@@ -182,17 +117,16 @@ fn is_item_ending(slot: Slot<'_>, word: &[u8], end: &[u8], x: &Expr) -> bool
 
 /// Whether a word means an item of a list.
 fn is_in_list(slot: Slot<'_>, word: &[u8], end: &[u8], x: &Expr) -> bool
-    ensures { result ≡ list_any (is_item_ending slot.entry.current.now slot.entry.attribute.now word.now end.now) (listed x.now) }
+    ensures { result ≡ list_any (is_item_ending slot.entry.current.now slot.entry.attribute.now word.now end.now) (as_listed x.now) }
 {
-    has_kind(Kind::List, x)
-        && items_of(x)
-            .iter()
-            .any(|item| is_item_ending(slot, word, end, item))
+    listed(x)
+        .iter()
+        .any(|item| is_item_ending(slot, word, end, item))
 }
 
 /// Whether a word means an item of the lists among these expressions.
 fn is_in_lists(slot: Slot<'_>, word: &[u8], end: &[u8], operands: &[Expr]) -> bool
-    ensures { result ≡ list_any (λ x. list_any (is_item_ending slot.entry.current.now slot.entry.attribute.now word.now end.now) (listed x)) operands.now }
+    ensures { result ≡ list_any (λ x. list_any (is_item_ending slot.entry.current.now slot.entry.attribute.now word.now end.now) (as_listed x)) operands.now }
 {
     operands.iter().any(|x| is_in_list(slot, word, end, x))
 }
@@ -216,25 +150,18 @@ fn one_beside(slot: Slot<'_>, word: &[u8], value: &Expr) -> Result<Vec<Expr>, Me
     Ok(items)
 }
 
-/// The items that are added to those of a value, of which a set is made.
-#[tactic(auto, using(crate::proofs::AddedItems::added_there))]
-fn more_beside(slot: Slot<'_>, added: Added<'_>, value: &Expr) -> Result<Vec<Expr>, Memory>
-    ensures { IfOk result (λ items. items.items ≡ added_by slot.entry.current.now slot.entry.attribute.now added.entry (items_in value.now)) }
-{
-    let mut known = Known::new(slot)?;
-    known.insert_value(value)?;
-    let items = added_items(slot, added, known)?;
-    Ok(items)
-}
-
 /// The items that are added to those of a value.
+#[tactic(auto, using(crate::proofs::AddedItems::added_there))]
 fn added_beside(slot: Slot<'_>, added: Added<'_>, value: &Expr) -> Result<Vec<Expr>, Memory>
     ensures { IfOk result (λ items. items.items ≡ added_by slot.entry.current.now slot.entry.attribute.now added.entry (items_in value.now)) }
 {
     if let Added::Words([word]) = &added {
         return one_beside(slot, word.as_slice(), value);
     }
-    more_beside(slot, added, value)
+    let mut known = Known::new(slot);
+    known.insert_value(slot, value)?;
+    let items = added_items(slot, added, known)?;
+    Ok(items)
 }
 
 /// A list of the items that are added where there are none.
@@ -242,8 +169,7 @@ fn added_beside(slot: Slot<'_>, added: Added<'_>, value: &Expr) -> Result<Vec<Ex
 fn added_alone(slot: Slot<'_>, added: Added<'_>) -> Result<Expr, Memory>
     ensures { IfOk result (λ list. list ≡ list_made (added_by slot.entry.current.now slot.entry.attribute.now added.entry [])) }
 {
-    let known = Known::new(slot)?;
-    let items = added_items(slot, added, known)?;
+    let items = added_items(slot, added, Known::new(slot))?;
     Ok(list_of(slot.alloc, Items::from_vec(items)))
 }
 
@@ -276,55 +202,23 @@ fn append_to_value(more: &mut Vec<Expr>, value: &mut Expr) -> Result<(), Memory>
     }
 }
 
-/// A value whose first list has the items that are added too.
-fn grown(slot: Slot<'_>, added: Added<'_>, mut value: Expr) -> Result<Expr, Memory>
-    ensures { IfOk result (λ new. new ≡ with_more (added_by slot.entry.current.now slot.entry.attribute.now added.entry (items_in value)) value) }
+/// A value with the items that are added: in its first list, else in a list after it.
+#[tactic(auto, using(crate::proofs::ListedForms::no_items))]
+fn value_with(slot: Slot<'_>, added: Added<'_>, mut value: Expr) -> Result<Expr, Memory>
+    ensures { IfOk result (λ new. new ≡ value_with (added_by slot.entry.current.now slot.entry.attribute.now added.entry) value) }
 {
-    let mut more = match added_beside(slot, added, &value) {
-        Ok(more) => more,
-        Err(fault) => {
-            drop(value);
-            return Err(fault);
-        }
-    };
-    if let Err(fault) = append_to_value(&mut more, &mut value) {
-        drop(value);
-        return Err(fault);
+    let mut more = added_beside(slot, added, &value)?;
+    if !has_lists(&value) {
+        let list = list_of(slot.alloc, Items::from_vec(more));
+        let sum = plus(slot.alloc, value, list)?;
+        return Ok(sum);
     }
+    append_to_value(&mut more, &mut value)?;
     Ok(value)
 }
 
-/// A sum of a value and a list of the items that are added.
-fn joined(slot: Slot<'_>, added: Added<'_>, value: Expr) -> Result<Expr, Memory>
-    ensures { IfOk result (λ new. new ≡ sum_made value (list_made (added_by slot.entry.current.now slot.entry.attribute.now added.entry []))) }
-{
-    match added_alone(slot, added) {
-        Ok(list) => plus(slot.alloc, value, list),
-        Err(fault) => {
-            drop(value);
-            Err(fault)
-        }
-    }
-}
-
-/// A value with the items that are added.
-fn value_with(slot: Slot<'_>, added: Added<'_>, value: Expr) -> Result<Expr, Refusal>
-    ensures ok { IfOk result (λ new. with_added (added_by slot.entry.current.now slot.entry.attribute.now added.entry) value ≡ Ok new) }
-    ensures err { IfErr result (λ refusal. (with_added (added_by slot.entry.current.now slot.entry.attribute.now added.entry) value ≡ Err refusal) ⊎ (refusal ≡ Refusal.Memory)) }
-{
-    if has_lists(&value) {
-        let new = grown(slot, added, value)?;
-        return Ok(new);
-    }
-    if is_no_list(&value) {
-        drop(value);
-        return Err(Refusal::NotAList);
-    }
-    let new = joined(slot, added, value)?;
-    Ok(new)
-}
-
 /// Adds items to the end of the first list of an attribute. A value that is no list becomes a sum with a new one.
+#[tactic(auto, using(crate::proofs::ListedForms::added_found))]
 pub(crate) fn add_items(
     slot: Slot<'_>,
     added: Added<'_>,
@@ -338,11 +232,11 @@ pub(crate) fn add_items(
         add_attribute(slot.alloc, slot.attribute, list, arguments)?;
         return Ok(());
     };
-    match value_with(slot, added, value) {
-        Ok(new) => {
-            set_value(slot.attribute, new, arguments);
-            Ok(())
-        }
-        Err(refusal) => Err(refusal),
+    if !has_lists(&value) && is_no_list(&value) {
+        drop(value);
+        return Err(Refusal::NotAList);
     }
+    let new = value_with(slot, added, value)?;
+    set_value(slot.attribute, new, arguments);
+    Ok(())
 }

@@ -1,12 +1,11 @@
 //! Values of an attribute, to check whether a word means one of them.
-ghost use Rattle.std.specs.Prelude.{◌≡◌, ◌||◌, Bool, List, IfOk, OnOk, true, false};
-ghost use Rattle.std.specs.List.{list_any, flat_map};
-ghost use Rattle.std.specs.Option.{option_map};
+ghost use Rattle.std.specs.Prelude.{◌≡◌, IfOk, OnOk, Some, not, true, false};
+ghost use Rattle.std.specs.Bool.{OnFalse};
+ghost use Rattle.std.specs.Option.{option_copied, option_map, option_map_or};
 ghost use Rattle.bz_label.specs.Forms.{label_of};
-ghost use Rattle.bz_label.specs.declared.label.Label.{Label};
-ghost use Rattle.bz_attribute.specs.Lists.{items_in, is_some_item, listed};
+ghost use Rattle.bz_attribute.specs.Lists.{body_of as plain, items_in, is_some_item, listed as as_listed};
 ghost use Rattle.bz_list.specs.Changes.{is_moved};
-ghost use Rattle.bz_list.specs.private.KnownValues.{parts_of_key, parts_of_keys, word_key, label_meant, are_one_key, membership, none_known, with_word, with_words, is_known_item, with_item, with_known_items};
+ghost use Rattle.bz_list.specs.private.KnownValues.{parts_of_key, word_key, label_meant, knows, is_known, with_known, with_all};
 ghost use Rattle.bz_list.specs.private.Listing.{chooses};
 
 use bz_attribute::{Slot, body_of, has_kind, items_of, operands_of};
@@ -17,7 +16,26 @@ use bz_label::bytes::{Parts, is_label_attribute, label_parts};
 use bz_value::Expr;
 use std::alloc::Global;
 use std::collections::BTreeSet;
-use std::marker::Model;
+
+/// The parts of the label that a word means in a label attribute, where it means one.
+pub(crate) fn label_meant<'a>(slot: Slot<'a>, word: &'a [u8]) -> Option<Parts<'a>>
+    ensures { option_map label_of result ≡ label_meant slot.entry.current.now slot.entry.attribute.now word.entry.now }
+{
+    if !is_label_attribute(slot.attribute) {
+        return None;
+    }
+    label_parts(slot.current, word)
+}
+
+/// The items of a list; of any other expression none.
+pub(crate) fn listed(x: &Expr) -> &[Expr]
+    ensures { result.now ≡ as_listed x.now }
+{
+    if has_kind(Kind::List, x) {
+        return items_of(x);
+    }
+    &[]
+}
 
 /// By what a word is known: the three parts of the label that it means, or else itself as a name alone.
 #[derive(PartialEq, Eq, PartialOrd, Ord, Drop)]
@@ -40,163 +58,93 @@ impl Key {
             name: Vec::from_slice(alloc, parts.name)?,
         })
     }
-}
 
-/// Whether one of the keys is this one.
-#[tactic(auto, using(crate::proofs::KnownSteps::key_found))]
-fn has_key(keys: &BTreeSet<Key>, key: &Key) -> bool
-    ensures { result ≡ list_any (are_one_key (parts_of_key key.now)) (parts_of_keys keys.now) }
-{
-    keys.contains(key)
-}
-
-/// The key is one of them from now on.
-#[tactic(auto, using(crate::proofs::KnownSteps::key_inserted))]
-fn insert_key(keys: &mut BTreeSet<Key>, key: Key) -> Result<(), Memory>
-    ensures { (other : Bool × Label) → OnOk result (list_any (are_one_key other) (parts_of_keys keys.new) ≡ (are_one_key other (parts_of_key key) || list_any (are_one_key other) (parts_of_keys keys.old))) }
-{
-    keys.insert(key)?;
-    Ok(())
-}
-
-/// Values of an attribute. In a label attribute words that mean one label are one value.
-#[derive(Drop)]
-pub(crate) struct Known {
-    alloc: Global,
-    current: Text,
-    is_label: bool,
-    keys: BTreeSet<Key>,
-}
-
-impl Model for Known {
-    ghost use Rattle.bz_list.specs.private.KnownValues.{KnownValues, parts_of_keys};
-
-    ghost Value = { KnownValues };
-
-    ghost view = { λ known. record { current = known.current; is_label = known.is_label; keys = parts_of_keys known.keys } };
-}
-
-impl Known {
-    /// No values of the attribute.
-    #[tactic(auto, using(crate::proofs::KnownSteps::none_kept))]
-    pub(crate) fn new(slot: Slot<'_>) -> Result<Known, Memory>
-        ensures { IfOk result (λ known. membership known ≡ none_known slot.entry.current.now slot.entry.attribute.now) }
+    /// The key of a word in an attribute.
+    fn of(slot: Slot<'_>, word: &[u8]) -> Result<Key, Memory>
+        ensures { IfOk result (λ key. parts_of_key key ≡ word_key slot.entry.current.now slot.entry.attribute.now word.now) }
     {
-        let alloc = slot.alloc;
-        Ok(Known {
-            alloc,
-            current: Text::from_slice(alloc, slot.current)?,
-            is_label: is_label_attribute(slot.attribute),
-            keys: BTreeSet::new(alloc),
-        })
-    }
-
-    /// The parts of the label that a word means, where it means one.
-    fn label<'a>(&'a self, word: &'a [u8]) -> Option<Parts<'a>>
-        ensures { option_map label_of result ≡ label_meant self.now.is_label self.now.current word.now }
-    {
-        if !self.is_label {
-            return None;
-        }
-        label_parts(self.current.as_slice(), word)
-    }
-
-    fn key_of(&self, word: &[u8]) -> Result<Key, Memory>
-        ensures { IfOk result (λ key. parts_of_key key ≡ word_key self.now.is_label self.now.current word.now) }
-    {
-        match self.label(word) {
-            Some(parts) => Ok(Key::new(self.alloc, true, parts)?),
+        match label_meant(slot, word) {
+            Some(parts) => Ok(Key::new(slot.alloc, true, parts)?),
             None => {
                 let alone = Parts {
                     repository: &[],
                     package: &[],
                     name: word,
                 };
-                Ok(Key::new(self.alloc, false, alone)?)
+                Ok(Key::new(slot.alloc, false, alone)?)
             }
         }
     }
+}
 
-    /// Whether the word means one of them.
-    pub(crate) fn has(&self, word: &[u8]) -> Result<bool, Memory>
-        ensures { IfOk result (λ found. found ≡ (membership self.now).is_known word.now) }
-    {
-        let key = self.key_of(word)?;
-        Ok(has_key(&self.keys, &key))
-    }
+/// Values of an attribute. In a label attribute words that mean one label are one value.
+#[derive(Drop)]
+pub(crate) struct Known {
+    keys: BTreeSet<Key>,
+}
 
-    /// The word is one of them from now on.
-    pub(crate) fn insert(&mut self, word: &[u8]) -> Result<(), Memory>
-        ensures { OnOk result (membership self.new ≡ with_word word.now (membership self.old)) }
+impl Known {
+    /// No values of an attribute.
+    #[tactic(auto, using(crate::proofs::KnownSteps::none_known))]
+    pub(crate) fn new(slot: Slot<'_>) -> Known
+        ensures { knows slot.entry.current.now slot.entry.attribute.now result ≡ (λ word. false) }
     {
-        let key = self.key_of(word)?;
-        insert_key(&mut self.keys, key)?;
-        Ok(())
+        Known {
+            keys: BTreeSet::new(slot.alloc),
+        }
     }
 
     /// Whether the item is a plain string that means one of them.
-    pub(crate) fn has_item(&self, x: &Expr) -> Result<bool, Memory>
-        ensures { IfOk result (λ found. found ≡ is_known_item (membership self.now) x.now) }
+    #[tactic(auto, using(crate::proofs::KnownSteps::key_found))]
+    fn has(&self, slot: Slot<'_>, x: &Expr) -> Result<bool, Memory>
+        ensures { IfOk result (λ found. found ≡ is_known plain (knows slot.entry.current.now slot.entry.attribute.now self.now) x.now) }
     {
-        match body_of(x) {
-            Some(text) => self.has(text),
-            None => Ok(false),
-        }
+        let Some(text) = body_of(x) else {
+            return Ok(false);
+        };
+        let key = Key::of(slot, text)?;
+        Ok(self.keys.contains(&key))
     }
 
-    /// The item is one of them from now on, where it is a plain string.
-    pub(crate) fn insert_item(&mut self, x: &Expr) -> Result<(), Memory>
-        ensures { OnOk result (membership self.new ≡ with_item x.now (membership self.old)) }
+    /// The word is one of them from now on. The answer is whether it is a new one; where there is no word, it is.
+    #[tactic(auto, using(crate::proofs::KnownSteps::key_found, crate::proofs::KnownSteps::key_inserted, crate::proofs::KnownSteps::key_again))]
+    pub(crate) fn insert(&mut self, slot: Slot<'_>, word: Option<&[u8]>) -> Result<bool, Memory>
+        ensures is_new { IfOk result (λ is_new. is_new ≡ not (option_map_or (knows slot.entry.current.now slot.entry.attribute.now self.old) (option_copied word.entry) false)) }
+        ensures known { OnOk result (knows slot.entry.current.now slot.entry.attribute.now self.new ≡ with_known slot.entry.current.now slot.entry.attribute.now (option_copied word.entry) (knows slot.entry.current.now slot.entry.attribute.now self.old)) }
+        ensures again { IfOk result (λ is_new. OnFalse is_new (knows slot.entry.current.now slot.entry.attribute.now self.new ≡ knows slot.entry.current.now slot.entry.attribute.now self.old)) }
     {
-        match body_of(x) {
-            Some(text) => self.insert(text),
-            None => Ok(()),
-        }
+        let Some(word) = word else {
+            return Ok(true);
+        };
+        let key = Key::of(slot, word)?;
+        Ok(self.keys.insert(key)?)
     }
 
-    fn insert_items(&mut self, items: &[Expr]) -> Result<(), Memory>
-        ensures { OnOk result (membership self.new ≡ with_known_items items.now (membership self.old)) }
+    fn insert_words(&mut self, slot: Slot<'_>, words: &[Text]) -> Result<(), Memory>
+        ensures { OnOk result (knows slot.entry.current.now slot.entry.attribute.now self.new ≡ with_all slot.entry.current.now slot.entry.attribute.now (λ word. Some word) words.now (knows slot.entry.current.now slot.entry.attribute.now self.old)) }
+    {
+        for word in words {
+            self.insert(slot, Some(word.as_slice()))?;
+        }
+        Ok(())
+    }
+
+    fn insert_items(&mut self, slot: Slot<'_>, items: &[Expr]) -> Result<(), Memory>
+        ensures { OnOk result (knows slot.entry.current.now slot.entry.attribute.now self.new ≡ with_all slot.entry.current.now slot.entry.attribute.now plain items.now (knows slot.entry.current.now slot.entry.attribute.now self.old)) }
     {
         for x in items {
-            self.insert_item(x)?;
-        }
-        Ok(())
-    }
-
-    /// The items of a list.
-    fn insert_list(&mut self, x: &Expr) -> Result<(), Memory>
-        ensures { OnOk result (membership self.new ≡ with_known_items (listed x.now) (membership self.old)) }
-    {
-        if has_kind(Kind::List, x) {
-            return self.insert_items(items_of(x));
-        }
-        Ok(())
-    }
-
-    /// The items of the lists among these expressions.
-    #[tactic(auto, using(crate::proofs::KnownSteps::lists_next))]
-    fn insert_lists(&mut self, operands: &[Expr]) -> Result<(), Memory>
-        ensures { OnOk result (membership self.new ≡ with_known_items (flat_map listed operands.now) (membership self.old)) }
-    {
-        for x in operands {
-            self.insert_list(x)?;
+            self.insert(slot, body_of(x))?;
         }
         Ok(())
     }
 
     /// The items of the lists of a value are some of them from now on.
-    pub(crate) fn insert_value(&mut self, value: &Expr) -> Result<(), Memory>
-        ensures { OnOk result (membership self.new ≡ with_known_items (items_in value.now) (membership self.old)) }
+    #[tactic(auto, using(crate::proofs::KnownSteps::lists_next))]
+    pub(crate) fn insert_value(&mut self, slot: Slot<'_>, value: &Expr) -> Result<(), Memory>
+        ensures { OnOk result (knows slot.entry.current.now slot.entry.attribute.now self.new ≡ with_all slot.entry.current.now slot.entry.attribute.now plain (items_in value.now) (knows slot.entry.current.now slot.entry.attribute.now self.old)) }
     {
-        self.insert_lists(operands_of(value))?;
-        Ok(())
-    }
-
-    fn insert_words(&mut self, words: &[Text]) -> Result<(), Memory>
-        ensures { OnOk result (membership self.new ≡ with_words words.now (membership self.old)) }
-    {
-        for word in words {
-            self.insert(word.as_slice())?;
+        for x in operands_of(value) {
+            self.insert_items(slot, listed(x))?;
         }
         Ok(())
     }
@@ -212,16 +160,16 @@ pub(crate) enum Chosen {
 impl Chosen {
     /// The items that are one of these words.
     pub(crate) fn of_words(slot: Slot<'_>, words: &[Text]) -> Result<Chosen, Memory>
-        ensures { IfOk result (λ chosen. chooses chosen ≡ is_some_item slot.entry.current.now slot.entry.attribute.now words.now) }
+        ensures { IfOk result (λ chosen. chooses slot.entry.current.now slot.entry.attribute.now chosen ≡ is_some_item slot.entry.current.now slot.entry.attribute.now words.now) }
     {
-        let mut known = Known::new(slot)?;
-        known.insert_words(words)?;
+        let mut known = Known::new(slot);
+        known.insert_words(slot, words)?;
         Ok(Chosen::These(known))
     }
 
     /// The items that are moved.
     pub(crate) fn of_values(slot: Slot<'_>, values: &Values) -> Result<Chosen, Memory>
-        ensures { IfOk result (λ chosen. chooses chosen ≡ is_moved slot.entry.current.now slot.entry.attribute.now values.now) }
+        ensures { IfOk result (λ chosen. chooses slot.entry.current.now slot.entry.attribute.now chosen ≡ is_moved slot.entry.current.now slot.entry.attribute.now values.now) }
     {
         match values {
             Values::All => Ok(Chosen::All),
@@ -229,12 +177,13 @@ impl Chosen {
         }
     }
 
-    pub(crate) fn has(&self, x: &Expr) -> Result<bool, Memory>
-        ensures { IfOk result (λ found. found ≡ chooses self.now x.now) }
+    /// Whether the command is meant for the item.
+    pub(crate) fn has(&self, slot: Slot<'_>, x: &Expr) -> Result<bool, Memory>
+        ensures { IfOk result (λ found. found ≡ chooses slot.entry.current.now slot.entry.attribute.now self.now x.now) }
     {
         match self {
             Chosen::All => Ok(true),
-            Chosen::These(known) => known.has_item(x),
+            Chosen::These(known) => known.has(slot, x),
         }
     }
 }

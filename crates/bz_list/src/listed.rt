@@ -26,53 +26,56 @@ use std::mem;
 
 /// Puts an item to those that are taken, where the command is meant for it, else to those that are left.
 fn put_apart(
+    slot: Slot<'_>,
     chosen: &Chosen,
     x: Expr,
     left: &mut Vec<Expr>,
     taken: &mut Vec<Expr>,
 ) -> Result<(), Memory>
-    ensures left { (rest : List Value) → OnOk result (left.new.items ++ filter (is_left chosen.now) rest ≡ left.old.items ++ filter (is_left chosen.now) (x ∷ rest)) }
-    ensures taken { (rest : List Value) → OnOk result (taken.new.items ++ filter (chooses chosen.now) rest ≡ taken.old.items ++ filter (chooses chosen.now) (x ∷ rest)) }
+    ensures left { (rest : List Value) → OnOk result (left.new.items ++ filter (is_left slot.entry.current.now slot.entry.attribute.now chosen.now) rest ≡ left.old.items ++ filter (is_left slot.entry.current.now slot.entry.attribute.now chosen.now) (x ∷ rest)) }
+    ensures taken { (rest : List Value) → OnOk result (taken.new.items ++ filter (chooses slot.entry.current.now slot.entry.attribute.now chosen.now) rest ≡ taken.old.items ++ filter (chooses slot.entry.current.now slot.entry.attribute.now chosen.now) (x ∷ rest)) }
 {
-    match chosen.has(&x) {
-        Ok(true) => taken.push(x)?,
-        Ok(false) => left.push(x)?,
-        Err(fault) => {
-            // By a call: dropped here, each form of it would be a path of this proof.
-            drop(x);
-            return Err(fault);
-        }
+    if chosen.has(slot, &x)? {
+        taken.push(x)?;
+    } else {
+        left.push(x)?;
     }
     Ok(())
 }
 
 /// Takes the items that the command is meant for.
 fn take_chosen(
+    slot: Slot<'_>,
     chosen: &Chosen,
     items: &mut Items<Expr>,
     taken: &mut Vec<Expr>,
 ) -> Result<(), Memory>
-    ensures left { OnOk result (items.new ≡ filter (is_left chosen.now) items.old) }
-    ensures taken { OnOk result (taken.new.items ≡ taken.old.items ++ filter (chooses chosen.now) items.old) }
+    ensures left { OnOk result (items.new ≡ filter (is_left slot.entry.current.now slot.entry.attribute.now chosen.now) items.old) }
+    ensures taken { OnOk result (taken.new.items ≡ taken.old.items ++ filter (chooses slot.entry.current.now slot.entry.attribute.now chosen.now) items.old) }
 {
     let alloc = items.alloc();
     let all = mem::replace(items, Items::new(alloc)).into_vec();
     let mut left = Vec::new(alloc);
     for x in all {
-        put_apart(chosen, x, &mut left, taken)?;
+        put_apart(slot, chosen, x, &mut left, taken)?;
     }
     *items = Items::from_vec(left);
     Ok(())
 }
 
 /// The same of a list; any other expression stays.
-fn take_from_list(chosen: &Chosen, x: &mut Expr, taken: &mut Vec<Expr>) -> Result<(), Memory>
-    ensures left { OnOk result (x.new ≡ on_items kinds.List (filter (is_left chosen.now)) x.old) }
-    ensures taken { OnOk result (taken.new.items ≡ taken.old.items ++ filter (chooses chosen.now) (listed x.old)) }
+fn take_from_list(
+    slot: Slot<'_>,
+    chosen: &Chosen,
+    x: &mut Expr,
+    taken: &mut Vec<Expr>,
+) -> Result<(), Memory>
+    ensures left { OnOk result (x.new ≡ on_items kinds.List (filter (is_left slot.entry.current.now slot.entry.attribute.now chosen.now)) x.old) }
+    ensures taken { OnOk result (taken.new.items ≡ taken.old.items ++ filter (chooses slot.entry.current.now slot.entry.attribute.now chosen.now) (listed x.old)) }
 {
     match x {
         Expr::Form(form) if form.kind == Kind::List => {
-            take_chosen(chosen, &mut form.seq.items, taken)
+            take_chosen(slot, chosen, &mut form.seq.items, taken)
         }
         _ => Ok(()),
     }
@@ -80,35 +83,36 @@ fn take_from_list(chosen: &Chosen, x: &mut Expr, taken: &mut Vec<Expr>) -> Resul
 
 /// The same of the lists among the operands of a sum.
 fn take_from_operands(
+    slot: Slot<'_>,
     chosen: &Chosen,
     operands: &mut Items<Expr>,
     taken: &mut Vec<Expr>,
 ) -> Result<(), Memory>
-    ensures left { OnOk result (operands.new ≡ map (on_items kinds.List (filter (is_left chosen.now))) operands.old) }
-    ensures taken { OnOk result (taken.new.items ≡ taken.old.items ++ filter (chooses chosen.now) (flat_map listed operands.old)) }
+    ensures left { OnOk result (operands.new ≡ map (on_items kinds.List (filter (is_left slot.entry.current.now slot.entry.attribute.now chosen.now))) operands.old) }
+    ensures taken { OnOk result (taken.new.items ≡ taken.old.items ++ filter (chooses slot.entry.current.now slot.entry.attribute.now chosen.now) (flat_map listed operands.old)) }
 {
     for x in operands.as_mut_slice().iter_mut() {
-        take_from_list(chosen, x, taken)?;
+        take_from_list(slot, chosen, x, taken)?;
     }
     Ok(())
 }
 
 /// The same of the lists of a value.
-#[tactic(auto, using(crate::proofs::ListedForms::items_Form))]
-fn take_from_lists(chosen: &Chosen, value: &mut Expr, taken: &mut Vec<Expr>) -> Result<(), Memory>
-    ensures left { OnOk result (value.new ≡ on_lists (filter (is_left chosen.now)) value.old) }
-    ensures taken { OnOk result (taken.new.items ≡ taken.old.items ++ filter (chooses chosen.now) (items_in value.old)) }
+#[tactic(auto, using(crate::proofs::ListedForms::sum_items, crate::proofs::ListedForms::own_items_in))]
+fn take_from_lists(
+    slot: Slot<'_>,
+    chosen: &Chosen,
+    value: &mut Expr,
+    taken: &mut Vec<Expr>,
+) -> Result<(), Memory>
+    ensures left { OnOk result (value.new ≡ on_lists (filter (is_left slot.entry.current.now slot.entry.attribute.now chosen.now)) value.old) }
+    ensures taken { OnOk result (taken.new.items ≡ taken.old.items ++ filter (chooses slot.entry.current.now slot.entry.attribute.now chosen.now) (items_in value.old)) }
 {
     match value {
-        Expr::Token(_) => Ok(()),
-        Expr::Form(form) => {
-            if form.kind == Kind::Sum {
-                take_from_operands(chosen, &mut form.parts, taken)?;
-            } else if form.kind == Kind::List {
-                take_chosen(chosen, &mut form.seq.items, taken)?;
-            }
-            Ok(())
+        Expr::Form(form) if form.kind == Kind::Sum => {
+            take_from_operands(slot, chosen, &mut form.parts, taken)
         }
+        _ => take_from_list(slot, chosen, value, taken),
     }
 }
 
@@ -130,14 +134,14 @@ fn take_items(
     chosen: &Chosen,
     arguments: &mut Items<Expr>,
 ) -> Result<Items<Expr>, Memory>
-    ensures left { OnOk result (arguments.new ≡ without_chosen slot.entry.attribute.now (chooses chosen.now) (value_there slot.entry.attribute.now arguments.old) arguments.old) }
-    ensures taken { IfOk result (λ taken. taken ≡ chosen_in (chooses chosen.now) (value_there slot.entry.attribute.now arguments.old)) }
+    ensures left { OnOk result (arguments.new ≡ without_chosen slot.entry.attribute.now (chooses slot.entry.current.now slot.entry.attribute.now chosen.now) (value_there slot.entry.attribute.now arguments.old) arguments.old) }
+    ensures taken { IfOk result (λ taken. taken ≡ chosen_in (chooses slot.entry.current.now slot.entry.attribute.now chosen.now) (value_there slot.entry.attribute.now arguments.old)) }
 {
     let mut taken = Vec::new(slot.alloc);
     let Some(mut value) = take_value(slot.alloc, slot.attribute, arguments) else {
         return Ok(Items::from_vec(taken));
     };
-    take_from_lists(chosen, &mut value, &mut taken)?;
+    take_from_lists(slot, chosen, &mut value, &mut taken)?;
     put_back(slot.attribute, taken.as_slice(), value, arguments);
     Ok(Items::from_vec(taken))
 }

@@ -4,6 +4,7 @@ ghost use Rattle.std.specs.Option.{option_map_or};
 ghost use Rattle.bz_grammar.specs.declared.kind.Kind.TheVariants as kinds;
 ghost use Rattle.bz_rule.specs.Values.{on_items, on_lists, on_third, with_text};
 ghost use Rattle.bz_attribute.specs.Attributes.{is_attribute, on_first_that, on_value};
+ghost use Rattle.bz_attribute.specs.Lists.{travelled};
 ghost use Rattle.bz_list.specs.Changes.{in_attributes, replaced_item, substituted_item};
 ghost use Rattle.bz_list.specs.private.Listing.{item_changed_by, value_changed_by, other_changed_by};
 
@@ -11,9 +12,10 @@ use bz_attribute::{
     Slot, body_of, first_text, is_item, is_other_attribute, parts_of, place_of, set_text,
     string_text,
 };
-use bz_command_syntax::{Attributes, Pattern};
+use bz_command_syntax::{Attributes, Pattern, quoted};
 use bz_grammar::Kind;
 use bz_items::{Items, Memory, Text};
+use bz_label::bytes::{is_label_attribute, shortened};
 use bz_value::Expr;
 use std::alloc::Global;
 
@@ -30,6 +32,8 @@ pub(crate) enum Change<'a> {
         pattern: &'a Pattern,
         template: &'a Text,
     },
+    /// The body becomes shorter where the attribute is a label attribute: an item comes from another attribute.
+    Shorten,
 }
 
 /// The text that an item gets where it is the old value; `None` where it stays.
@@ -62,6 +66,23 @@ fn text_substituted(
     Ok(Some(text))
 }
 
+/// The shorter text of an item that comes to a label attribute; `None` where it stays.
+fn text_shortened(slot: Slot<'_>, x: &Expr) -> Result<Option<Text>, Memory>
+    ensures { IfOk result (λ text. option_map_or (λ new. with_text new x.now) text x.now ≡ travelled slot.entry.current.now slot.entry.attribute.now x.now) }
+{
+    let Some(text) = body_of(x) else {
+        return Ok(None);
+    };
+    if !is_label_attribute(slot.attribute) {
+        return Ok(None);
+    }
+    let short = shortened(slot.current, text);
+    if short == text {
+        return Ok(None);
+    }
+    Ok(Some(quoted(slot.alloc, short)?))
+}
+
 impl Change<'_> {
     /// The text that an item gets; `None` where it stays.
     fn new_text(self, slot: Slot<'_>, x: &Expr) -> Result<Option<Text>, Memory>
@@ -72,11 +93,12 @@ impl Change<'_> {
             Change::Substitute { pattern, template } => text_substituted(
                 slot, pattern, template, x,
             ),
+            Change::Shorten => text_shortened(slot, x),
         }
     }
 
     /// Changes an item.
-    fn on_item(self, slot: Slot<'_>, x: &mut Expr) -> Result<(), Memory>
+    pub(crate) fn on_item(self, slot: Slot<'_>, x: &mut Expr) -> Result<(), Memory>
         ensures { OnOk result (x.new ≡ item_changed_by self.entry slot.entry.current.now slot.entry.attribute.now x.old) }
     {
         let Some(text) = self.new_text(slot, x)? else {

@@ -1,24 +1,20 @@
 -- What the commands on lists know of the values of an attribute while they go through items and words: a set of keys, and what is
 -- found in it.
-use Rattle.std.specs.Prelude.{List, map, Bool, true, false, not, ◌||◌, ◌&&◌, [], ◌∷◌, Option, Some, None, if◌then◌else◌, bytes_eq}
-use Rattle.std.specs.BTreeSet.{BTreeSet}
+use Rattle.std.specs.Prelude.{List, Bool, true, false, not, ◌||◌, ◌&&◌, [], ◌∷◌, Option, Some, None, if◌then◌else◌}
 use Rattle.std.specs.List.{list_any}
 use Rattle.std.specs.Option.{option_map_or}
 use Rattle.bz_label.specs.declared.label.Label.{Label}
 use Rattle.bz_label.specs.Tables.{is_label_attribute}
-use Rattle.bz_label.specs.Read.{label_in, is_equal, is_same}
+use Rattle.bz_label.specs.Read.{label_in, is_equal}
 use Rattle.bz_list.specs.declared.known.Key.{Key}
+use Rattle.bz_list.specs.declared.known.Known.{Known}
 use Rattle.bz_value.specs.declared.value.Expr.{Expr}
 use Rattle.bz_items.specs.Characters.{Bytes}
-use Rattle.bz_attribute.specs.Lists.{body_of, travelled}
-
--- words that mean one value, where the attribute is a label attribute and where it is none
-abbrev pub mean_the_same : Bool → Bytes → Bytes → Bytes → Bool
-mean_the_same is_label current word other = if is_label then is_same current word other else bytes_eq word other
+use Rattle.bz_attribute.specs.Lists.{are_one}
 
 -- the label that a word means in a label attribute, where it means one
-abbrev pub label_meant : Bool → Bytes → Bytes → Option Label
-label_meant is_label current word = if is_label then label_in current word else None
+abbrev pub label_meant : Bytes → Bytes → Bytes → Option Label
+label_meant current attribute word = if is_label_attribute attribute then label_in current word else None
 
 -- ---- keys: a word is known by the label that it means, or else as a name alone, which is no label
 
@@ -26,8 +22,8 @@ abbrev pub key_by : Bytes → Option Label → Bool × Label
 key_by word (Some label) = (true, label)
 key_by word None = (false, record { repository = []; «package» = []; name = word })
 
-abbrev pub word_key : Bool → Bytes → Bytes → Bool × Label
-word_key is_label current word = key_by word (label_meant is_label current word)
+abbrev pub word_key : Bytes → Bytes → Bytes → Bool × Label
+word_key current attribute word = key_by word (label_meant current attribute word)
 
 abbrev pub are_one_key : Bool × Label → Bool × Label → Bool
 are_one_key one other = (if one.0 then other.0 else not other.0) && is_equal one.1 other.1
@@ -35,54 +31,26 @@ are_one_key one other = (if one.0 then other.0 else not other.0) && is_equal one
 abbrev pub parts_of_key : Key → Bool × Label
 parts_of_key key = (key.is_label, record { repository = key.repository.items; «package» = key.«package».items; name = key.name.items })
 
-abbrev pub parts_of_keys : BTreeSet Key → List (Bool × Label)
-parts_of_keys set = map parts_of_key set.keys
+-- ---- what is known, as a test of words
 
--- values of an attribute, as they are kept
-pub record KnownValues : Type 0 where
-  pub current : Bytes
-  pub is_label : Bool
-  pub keys : List (Bool × Label)
+abbrev pub knows : Bytes → Bytes → Known → Bytes → Bool
+knows current attribute known word = list_any (λ key. are_one_key (word_key current attribute word) (parts_of_key key)) known.keys.keys
 
--- and as they are looked up: whether a word means one of them
-pub record Membership : Type 0 where
-  pub current : Bytes
-  pub is_label : Bool
-  pub is_known : Bytes → Bool
+-- A thing is known by its text: a word by itself, an item by the body of a plain string; any other item is never known.
+abbrev pub is_known : {X : Type 0} → (X → Option Bytes) → (Bytes → Bool) → X → Bool
+is_known text known x = option_map_or known (text x) false
 
-abbrev pub membership : KnownValues → Membership
-membership known = record { current = known.current; is_label = known.is_label; is_known = λ word. list_any (are_one_key (word_key known.is_label known.current word)) known.keys }
+-- what is known with one text more, where there is one, and with the texts of some things
+abbrev pub with_known : Bytes → Bytes → Option Bytes → (Bytes → Bool) → Bytes → Bool
+with_known current attribute text known = option_map_or (λ word other. are_one current attribute other word || known other) text known
 
-abbrev pub none_known : Bytes → Bytes → Membership
-none_known current attribute = record { current = current; is_label = is_label_attribute attribute; is_known = λ word. false }
+abbrev pub with_all : {X : Type 0} → Bytes → Bytes → (X → Option Bytes) → List X → (Bytes → Bool) → Bytes → Bool
+with_all current attribute text [] known = known
+with_all current attribute text (x ∷ xs) known = with_all current attribute text xs (with_known current attribute (text x) known)
 
-abbrev pub with_word : Bytes → Membership → Membership
-with_word text known =
-    record { current = known.current; is_label = known.is_label; is_known = λ word. mean_the_same known.is_label known.current word text || known.is_known word }
-
-abbrev pub with_words : List Bytes → Membership → Membership
-with_words [] known = known
-with_words (word ∷ words) known = with_words words (with_word word known)
-
--- An item is known by the body of a plain string; no other item is.
-abbrev pub is_known_item : Membership → Expr → Bool
-is_known_item known x = option_map_or known.is_known (body_of x) false
-
-abbrev pub with_item : Expr → Membership → Membership
-with_item x known = option_map_or (λ text. with_word text known) (body_of x) known
-
-abbrev pub with_known_items : List Expr → Membership → Membership
-with_known_items [] known = known
-with_known_items (x ∷ xs) known = with_known_items xs (with_item x known)
-
--- the words that are not known, each once
-abbrev pub new_words : Membership → List Bytes → List Bytes
-new_words known [] = []
-new_words known (word ∷ words) = if known.is_known word then new_words known words else word ∷ new_words (with_word word known) words
-
--- the items that are not known, each once
-abbrev pub new_items : Bytes → Bytes → Membership → List Expr → List Expr
-new_items current attribute known [] = []
-new_items current attribute known (x ∷ xs) =
-    if is_known_item known x then new_items current attribute known xs
-    else travelled current attribute x ∷ new_items current attribute (with_item x known) xs
+-- what is made of those that are not known, each once
+abbrev pub new_ones : {X : Type 0} → Bytes → Bytes → (X → Option Bytes) → (X → Expr) → (Bytes → Bool) → List X → List Expr
+new_ones current attribute text made known [] = []
+new_ones current attribute text made known (x ∷ xs) =
+    if is_known text known x then new_ones current attribute text made known xs
+    else made x ∷ new_ones current attribute text made (with_known current attribute (text x) known) xs

@@ -1,31 +1,29 @@
 -- What the commands on lists do, in the steps in which they do it.
-use Rattle.std.specs.Prelude.{Bool, true, not, ◌&&◌, nat_eq, List, [], Option, Some, None, if◌then◌else◌, Result, Ok, Err, map}
+use Rattle.std.specs.Prelude.{Bool, true, not, ◌&&◌, nat_eq, List, [], Option, Some, None, if◌then◌else◌, map}
 use Rattle.std.specs.List.{ends_with, filter}
 use Rattle.bz_value.specs.declared.value.Expr.{Expr}
 use Rattle.bz_items.specs.Characters.{Bytes}
 use Rattle.bz_list.specs.declared.known.Chosen.{Chosen}
 use Rattle.bz_list.specs.declared.known.Chosen.TheVariants as h
 use Rattle.bz_attribute.specs.Attributes.{with_value, is_other_attribute, on_value}
-use Rattle.bz_attribute.specs.Lists.{items_in, is_item, fresh, arriving, has_lists, is_no_list, with_more}
+use Rattle.bz_attribute.specs.Lists.{body_of, items_in, is_item, fresh, travelled, arriving, has_lists, with_more}
 use Rattle.bz_list.specs.Changes.{cleared, without_items, in_value, replaced_item, substituted_item}
-use Rattle.bz_list.specs.private.KnownValues.{membership, is_known_item, Membership, new_words, new_items}
+use Rattle.bz_list.specs.private.KnownValues.{knows, is_known, new_ones}
 use Rattle.bz_list.specs.declared.adding.Added.{Added}
 use Rattle.bz_list.specs.declared.adding.Added.TheVariants as a
-use Rattle.bz_value.specs.declared.refusal.Refusal.{Refusal}
-use Rattle.bz_value.specs.declared.refusal.Refusal.TheVariants.{NotAList}
 use Rattle.bz_attribute.specs.Made.{list_of, plus, string_of}
 use Rattle.bz_rule.specs.Rules.{inner}
 use Rattle.bz_rule.specs.Values.{parts_of, first_text, text_of}
 use Rattle.bz_list.specs.declared.replacing.Change.{Change}
-use Rattle.bz_list.specs.declared.replacing.Change.TheVariants.{Replace, Substitute}
+use Rattle.bz_list.specs.declared.replacing.Change.TheVariants.{Replace, Substitute, Shorten}
 
--- whether a command is meant for an item
-abbrev pub chooses : Chosen → Expr → Bool
-chooses h.All x = true
-chooses (h.These known) x = is_known_item (membership known) x
+-- whether a command is meant for an item of an attribute
+abbrev pub chooses : Bytes → Bytes → Chosen → Expr → Bool
+chooses current name h.All x = true
+chooses current name (h.These known) x = is_known body_of (knows current name known) x
 
-abbrev pub is_left : Chosen → Expr → Bool
-is_left chosen x = not (chooses chosen x)
+abbrev pub is_left : Bytes → Bytes → Chosen → Expr → Bool
+is_left current name chosen x = not (chooses current name chosen x)
 
 -- what is left of a value put back, where items were taken and where none was
 abbrev pub put_back : Bytes → Bool → Expr → List Expr → List Expr
@@ -48,8 +46,14 @@ added_by current name (a.Words words) there = map (string_of current name) (fres
 added_by current name (a.Moved items) there = arriving current name there items
 
 -- and to those that are known
-abbrev pub added_to : Bytes → Bytes → Added → Membership → List Expr
-added_to current name (a.Words words) known = map (string_of current name) (new_words known words.now)
+abbrev pub new_strings : Bytes → Bytes → (Bytes → Bool) → List Bytes → List Expr
+new_strings current name known words = new_ones current name (λ word. Some word) (string_of current name) known words
+
+abbrev pub new_items : Bytes → Bytes → (Bytes → Bool) → List Expr → List Expr
+new_items current name known items = new_ones current name body_of (travelled current name) known items
+
+abbrev pub added_to : Bytes → Bytes → Added → (Bytes → Bool) → List Expr
+added_to current name (a.Words words) known = new_strings current name known words.now
 added_to current name (a.Moved items) known = new_items current name known items
 
 -- whether a word means an item that ends so between its quotation marks
@@ -57,16 +61,15 @@ abbrev pub is_item_ending : Bytes → Bytes → Bytes → Bytes → Expr → Boo
 is_item_ending current name word end x = ends_with nat_eq (inner (text_of x)) end && is_item current name word x
 
 -- a value with items added
-abbrev pub with_added : (List Expr → List Expr) → Expr → Result Expr Refusal
-with_added added value =
-    if has_lists value then Ok (with_more (added (items_in value)) value)
-    else (if is_no_list value then Err NotAList else Ok (plus value (list_of (added []))))
+abbrev pub value_with : (List Expr → List Expr) → Expr → Expr
+value_with added value = if has_lists value then with_more (added (items_in value)) value else plus value (list_of (added []))
 
 -- ---- what `replace` and `substitute` do to an item, to a value and to an attribute, by the change that they are
 
 abbrev pub item_changed_by : Change → Bytes → Bytes → Expr → Expr
 item_changed_by (Replace old new) current name = replaced_item current name old.now new.now
 item_changed_by (Substitute pattern template) current name = substituted_item current name pattern.now template.now
+item_changed_by Shorten current name = travelled current name
 
 abbrev pub value_changed_by : Change → Bytes → Bytes → Expr → Expr
 value_changed_by change current name = in_value (item_changed_by change current name)

@@ -14,7 +14,7 @@ returns-then-is_empty-clause-ok c =
     let own : attribute c.args.from.attribute.now c.args.arguments.now ≡ Some value = search rules in
     let lists : has_lists value ≡ true = search rules in
     let none : c.in_ok-taken.taken ≡ [] = search rules in
-    nothing_moved c.args.from.current.now c.args.from.attribute.now c.args.to.now c.args.values.now c.args.arguments.now (chooses c.in_ok-chosen.chosen) c.in_ok-chosen.ensures
+    nothing_moved c.args.from.current.now c.args.from.attribute.now c.args.to.now c.args.values.now c.args.arguments.now (chooses c.args.from.current.now c.args.from.attribute.now c.in_ok-chosen.chosen) c.in_ok-chosen.ensures
     value c.in_ok-taken.taken c.take_items.new.arguments own lists c.in_ok-taken.ensures.taken c.in_ok-taken.ensures.left none
 
 pub returns : goal.returns
@@ -22,7 +22,7 @@ returns c =
     let value = c.in-Some.value.now in
     let own : attribute c.args.from.attribute.now c.args.arguments.now ≡ Some value = search rules in
     let lists : has_lists value ≡ true = search rules in
-    let moved = something_moved c.args.from.current.now c.args.from.attribute.now c.args.to.now c.args.values.now c.args.arguments.now (chooses c.in_ok-chosen.chosen) c.in_ok-chosen.ensures
+    let moved = something_moved c.args.from.current.now c.args.from.attribute.now c.args.to.now c.args.values.now c.args.arguments.now (chooses c.args.from.current.now c.args.from.attribute.now c.in_ok-chosen.chosen) c.in_ok-chosen.ensures
     value c.in_ok-taken.taken c.take_items.new.arguments own lists c.in_ok-taken.ensures.taken c.in_ok-taken.ensures.left (not_emptied c.in_ok-taken.taken c.if-is_empty.ensures) in
     record {
       ok = subst (λ (made : Arguments). OnOk c.add_items.result (made ≡ Ok c.add_items.new.arguments)) (sym moved) c.add_items.ensures.ok;

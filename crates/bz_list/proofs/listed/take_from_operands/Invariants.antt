@@ -8,6 +8,6 @@ use Rattle.bz_list.proofs.listed.take_from_operands.Given as goal
 
 abbrev pub invariant-loop-x : goal.invariant-loop-x
 invariant-loop-x l = record {
-  left : take l.x-index l.x-items ++ map (on_items k.List (filter (is_left l.chosen))) (drop l.x-index l.x-items) ≡ map (on_items k.List (filter (is_left l.chosen))) l.fn.operands;
-  taken : l.taken.items ++ filter (chooses l.chosen) (flat_map listed (drop l.x-index l.x-items)) ≡ l.fn.taken.items ++ filter (chooses l.chosen) (flat_map listed l.fn.operands);
+  left : take l.x-index l.x-items ++ map (on_items k.List (filter (is_left l.fn.slot.current.now l.fn.slot.attribute.now l.chosen))) (drop l.x-index l.x-items) ≡ map (on_items k.List (filter (is_left l.fn.slot.current.now l.fn.slot.attribute.now l.chosen))) l.fn.operands;
+  taken : l.taken.items ++ filter (chooses l.fn.slot.current.now l.fn.slot.attribute.now l.chosen) (flat_map listed (drop l.x-index l.x-items)) ≡ l.fn.taken.items ++ filter (chooses l.fn.slot.current.now l.fn.slot.attribute.now l.chosen) (flat_map listed l.fn.operands);
 }

@@ -12,7 +12,7 @@ use Rattle.bz_list.proofs.listed.take_items.Goals as goal
 pub returns-clause-left : goal.returns-clause-left
 returns-clause-left c =
     let name = c.args.slot.attribute.now in
-    let test : Expr → Bool = chooses c.args.chosen.now in
+    let test : Expr → Bool = chooses c.args.slot.current.now name c.args.chosen.now in
     let after = c.take_value.new.arguments in
     let taken : c.as_slice.result.now ≡ filter test (items_in c.in-Some.value) = search rules in
     let own : attribute name c.args.arguments.now ≡ Some c.in-Some.value = search rules in

@@ -1,9 +1,15 @@
-use Rattle.bz_list.specs.private.KnownValues.{parts_of_key}
-use Rattle.bz_list.proofs.KnownSteps.{more_kept}
+use Rattle.std.proofs.Common.{◌≡◌, Option, sym, ap, ◌∙◌, rules}
+use Rattle.std.specs.Prelude.{Some}
+use Rattle.std.specs.Option.{option_copied}
+use Rattle.bz_items.specs.Characters.{Bytes}
+use Rattle.bz_list.specs.private.KnownValues.{knows, with_known}
+use Rattle.bz_list.proofs.KnownSteps.{key_inserted}
 use Rattle.bz_list.proofs.known.Known.insert.Goals as goal
 
-pub returns : goal.returns
-returns c =
-    let self = c.self.inside in
-    more_kept self.current self.is_label self.keys c.insert_key.new.keys c.args.self.now c.args.word.now (parts_of_key c.in_ok-key.key) c.self.view_is
-    c.in_ok-key.ensures c.in_ok-insert_key.ensures
+pub returns-clause-known : goal.returns-clause-known
+returns-clause-known c =
+    let current = c.args.slot.current.now in
+    let attribute = c.args.slot.attribute.now in
+    let own : option_copied c.args.word ≡ Some c.in-Some.word.now = search rules in
+    key_inserted current attribute c.in-Some.word.now c.args.self.now.keys c.insert.new.self c.in_ok-key.key c.in_ok-key.ensures c.in_ok-insert.ensures.keys
+    ∙ ap (λ (word : Option Bytes). with_known current attribute word (knows current attribute c.args.self.now)) (sym own)
