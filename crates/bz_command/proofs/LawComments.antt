@@ -37,8 +37,8 @@ use Rattle.bz_list.specs.Changes.{with_items_added, add, in_value, in_attributes
 use Rattle.bz_command.specs.Effect.{NewItem, with_arguments, made_of, on_rule, on_arguments, with_item_first, on_meant, new_rule_place, with_rule, source, on_rules, lacks_rules, kept, on_statement, effect, printed_rules, meant, may_mean_none}
 use Rattle.bz_command_syntax.specs.declared.command.Host.TheVariants.{Rule, Attribute, Item as ItemHost}
 use Rattle.bz_command_syntax.specs.Printing.{prints}
-use Rattle.bz_dict.specs.Dicts.{dict_add}
-use Rattle.bz_dict.proofs.ProperDicts.{dict_add_grows}
+use Rattle.bz_change.specs.Dicts.{dict_add}
+use Rattle.bz_change.proofs.ProperDicts.{dict_add_grows}
 use Rattle.bz_load.proofs.LawComments.{amount_answered, new_load_same, put_total}
 use Rattle.bz_comment.specs.Hosts.{with_comment, comment}
 use Rattle.bz_comment.proofs.LawBack.{own_grows, comment_grows}
