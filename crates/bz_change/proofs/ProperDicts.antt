@@ -1,5 +1,5 @@
 -- Entries that are added take no comment away.
-use Rattle.std.proofs.Common.{ℕ, ◌≤◌, List, [], ◌∷◌, ◌++◌, Ok, Err, ◌≡◌, Bool, true, false, not, refl, sym, map, arith, codes, true≢false}
+use Rattle.std.proofs.Common.{ℕ, ◌≤◌, List, [], ◌∷◌, ◌++◌, Ok, Err, ◌≡◌, Bool, true, false, not, ◌&&◌, refl, sym, map, arith, codes, true≢false}
 use Rattle.std.specs.Prelude.{if◌then◌else◌}
 use Rattle.std.specs.List.{list_any}
 use Rattle.bz_grammar.specs.declared.kind.Kind.TheVariants as k
@@ -14,9 +14,11 @@ use Rattle.bz_value.specs.declared.refusal.Refusal.TheVariants.{NotADict}
 use Rattle.bz_attribute.specs.Attributes.{with_value, with_new, on_first_that, without}
 use Rattle.bz_attribute.specs.Made.{argument_of, token, mark, string_text, string_of}
 use Rattle.bz_attribute.proofs.AttributesAgain.{of_found}
-use Rattle.bz_attribute.proofs.Grown.{itself as grown_itself, in_turn, EachGrows, append_grows}
+use Rattle.bz_attribute.proofs.Grown.{itself as grown_itself, in_turn, EachGrows, append_grows, first_that_grows}
 use Rattle.bz_attribute.proofs.GrownArguments.{whole, on_items_grows, with_value_grows, inserted_grows, Grown}
-use Rattle.bz_change.specs.Dicts.{has_key, entry_made, each_put, with_entry, dict_of, dict_add, has_some_key, with_entry_value, with_entry_set, without_entries, on_dict, dict_set, cleared_dict, without_keys, dict_remove}
+use Rattle.bz_change.specs.declared.dicts.Change.{Change}
+use Rattle.bz_change.specs.declared.dicts.Change.TheVariants.{Add, Set}
+use Rattle.bz_change.specs.Dicts.{has_key, has_some_key, entry_made, entry_changed, entry_put, entries_put, without_entries, dict_of, on_dict, dict_add, dict_set, with_dict_left, dict_remove}
 use Rattle.std.proofs.lemmas.List.Elements.{All-nil}
 use Rattle.bz_token.specs.declared.class.Class.TheVariants as c
 use Rattle.bz_grammar.specs.declared.kind.Kind.{Kind}
@@ -41,63 +43,54 @@ use Rattle.bz_attribute.proofs.ProperAttributes.{AreArguments, Made, Keeps, of_a
 use Rattle.bz_attribute.proofs.ProperMade.{IsNew, new_part, new_value, none_there, row_proper, token_new, quoted_string, string_strung}
 use Rattle.bz_attribute.proofs.ProperTexts.{one_ascii}
 
-module _ (number : Bytes → ℕ) where
-  entry_grows : (current name : Bytes) (entry : Entry) → EachGrows (whole number) (with_entry current name entry)
-  entry_grows current name entry items =
+module _ (number : Bytes → ℕ) (current name : Bytes) where
+  entries_grow : (entries : List Entry) → EachGrows (whole number) (entries_put Add current name entries)
+  entries_grow [] items = grown_itself (total (whole number) items)
+  entries_grow (entry ∷ entries) items =
       let more : List Expr = entry_made current name entry ∷ [] in
-      by_test (λ (ys : List Expr). total (whole number) items ≤ total (whole number) ys) (list_any (has_key entry.key) items) items (items ++ more)
-      (grown_itself (total (whole number) items)) (append_grows (whole number) more items)
+      let first : List Expr = entry_put Add current name entry items in
+      in_turn (total (whole number) items) (total (whole number) first) (total (whole number) (entries_put Add current name entries first))
+      (by_test (λ (ys : List Expr). total (whole number) items ≤ total (whole number) ys) (list_any (has_key entry.key) items) (on_first_that (has_key entry.key) (λ x. x) items) (items ++ more)
+      (first_that_grows (whole number) (has_key entry.key) (λ x. x) (λ x. grown_itself (whole number x)) items) (append_grows (whole number) more items))
+      (entries_grow entries first)
 
-  entries_grow : (current name : Bytes) (entries : List Entry) → EachGrows (whole number) (each_put (with_entry current name) entries)
-  entries_grow current name [] items = grown_itself (total (whole number) items)
-  entries_grow current name (entry ∷ entries) items =
-      let more : List Expr = with_entry current name entry items in
-      in_turn (total (whole number) items) (total (whole number) more) (total (whole number) (each_put (with_entry current name) entries more))
-      (entry_grows current name entry items) (entries_grow current name entries more)
-
-  pub dict_add_grows : (current name : Bytes) (entries : List Entry) (xs : List Expr) → Grown number xs (dict_add current name entries xs)
-  dict_add_grows current name entries xs =
-      let change : List Expr → List Expr = each_put (with_entry current name) entries in
+  pub dict_add_grows : (entries : List Entry) (xs : List Expr) → Grown number xs (dict_add current name entries xs)
+  dict_add_grows entries xs =
+      let change : List Expr → List Expr = entries_put Add current name entries in
       of_found (Grown number xs) (attribute name xs) (Ok (with_new name (dict_of (change [])) xs)) (λ value. if has_kind k.Dict value then Ok (with_value name (on_items k.Dict change value) xs) else Err NotADict)
       (inserted_grows number (argument_of name (dict_of (change []))) xs)
       (λ value e. by_test (Grown number xs) (has_kind k.Dict value) (Ok (with_value name (on_items k.Dict change value) xs)) (Err NotADict)
-      (with_value_grows number name value (on_items k.Dict change value) xs e (on_items_grows number k.Dict change (entries_grow current name entries) value)) tt)
+      (with_value_grows number name value (on_items k.Dict change value) xs e (on_items_grows number k.Dict change (entries_grow entries) value)) tt)
 
 -- ---- what each command on dicts makes of the arguments of a rule is arguments
 
 -- ---- new entries and new dicts
 
-key_new : (entry : Entry) → IsEntry entry → IsNew (token c.String (quoted_of entry.key))
-key_new entry e = let strung = quoted_string entry.key e.0 in token_new c.String (quoted_of entry.key) strung.0 strung.1
-
 value_new : (current name : Bytes) (entry : Entry) → IsEntry entry → IsNew (string_of current name entry.value)
 value_new current name entry e = let strung = string_strung current name entry.value e.1 in token_new c.String (string_text current name entry.value) strung.0 strung.1
-
-colon_new : IsNew (mark (codes ":"))
-colon_new = token_new c.Mark (58 ∷ []) refl (one_ascii 58 (omega arith))
 
 entry_item : (current name : Bytes) (entry : Entry) → IsEntry entry → IsItem s.entry (entry_made current name entry)
 entry_item current name entry e =
     let key : Expr = token c.String (quoted_of entry.key) in
     let colon : Expr = mark (codes ":") in
     let value : Expr = string_of current name entry.value in
+    let strung = quoted_string entry.key e.0 in
     let parts : AreParts false Within Within (key ∷ colon ∷ value ∷ []) =
-    new_part false Within Within key (colon ∷ value ∷ []) (key_new entry e)
-    (new_part false Within (after_expr Within Within key) colon (value ∷ []) colon_new
+    new_part false Within Within key (colon ∷ value ∷ []) (token_new c.String (quoted_of entry.key) strung.0 strung.1)
+    (new_part false Within (after_expr Within Within key) colon (value ∷ []) (token_new c.Mark (58 ∷ []) refl (one_ascii 58 (omega arith)))
     (new_part false Within (after_expr Within (after_expr Within Within key) colon) value [] (value_new current name entry e) tt)) in
     ((row_proper Within k.Entry (key ∷ colon ∷ value ∷ []) refl (refl, (refl, (refl, tt))) parts, none_there, refl), refl)
 
-dict_new : (items : List Expr) → AreOf s.entry items → IsNew (dict_of items)
-dict_new items h = record {
-  proper = λ here.
-      form_proper here (record { kind = k.Dict; parts = []; seq = record { items = items; end = []; split = false }; open_break = false; comments = no_comments })
-      (refl, items_again s.entry s.close_curly (r.mark_leaf 125) refl items h) (tt, each_item s.entry s.close_curly (r.mark_leaf 125) items h, All-nil IsComment, refl);
-  comments = refl;
-  breaks = refl;
-}
-
 dict_value : (items : List Expr) → AreOf s.entry items → IsValue (dict_of items)
-dict_value items h = new_value (dict_of items) (dict_new items h) refl
+dict_value items h =
+    let new : IsNew (dict_of items) = record {
+      proper = λ here.
+          form_proper here (record { kind = k.Dict; parts = []; seq = record { items = items; end = []; split = false }; open_break = false; comments = no_comments })
+          (refl, items_again s.entry s.close_curly (r.mark_leaf 125) refl items h) (tt, each_item s.entry s.close_curly (r.mark_leaf 125) items h, All-nil IsComment, refl);
+      comments = refl;
+      breaks = refl;
+    } in
+    new_value (dict_of items) new refl
 
 -- ---- a dict with other entries
 
@@ -143,30 +136,25 @@ module _ (value : Expr) (new : IsNew value) (nonterminal : IsNonterminal s.test 
   only_entry k.Entry is = value_kept
   only_entry _ is = absurd (true≢false (sym is))
 
-  entry_changed : (x : Expr) → IsItem s.entry x → IsItem s.entry (on_row k.Entry (on_third (λ old. value)) x)
-  entry_changed x = item_within s.entry x (on_row k.Entry (on_third (λ old. value)) x) (row_within k.Entry (on_third (λ old. value)) only_entry x)
+  value_changed : (x : Expr) → IsItem s.entry x → IsItem s.entry (on_row k.Entry (on_third (λ old. value)) x)
+  value_changed x = item_within s.entry x (on_row k.Entry (on_third (λ old. value)) x) (row_within k.Entry (on_third (λ old. value)) only_entry x)
 
 -- ---- the entries of a dict
 
 module _ (current name : Bytes) where
-  entry_pushed : (entry : Entry) → IsEntry entry → KeepsEntries (λ items. items ++ entry_made current name entry ∷ [])
-  entry_pushed entry e items h = all_joined (IsItem s.entry) items (entry_made current name entry ∷ []) h (entry_item current name entry e, tt)
+  entry_kept : (change : Change) (entry : Entry) → IsEntry entry → (x : Expr) → IsItem s.entry x → IsItem s.entry (entry_changed change current name entry x)
+  entry_kept Add entry e x h = h
+  entry_kept Set entry e x h = value_changed (string_of current name entry.value) (value_new current name entry e) refl x h
 
-  entry_added : (entry : Entry) → IsEntry entry → KeepsEntries (with_entry current name entry)
-  entry_added entry e items h = by_test (AreOf s.entry) (list_any (has_key entry.key) items) items (items ++ entry_made current name entry ∷ []) h (entry_pushed entry e items h)
-
-  first_set : (entry : Entry) → IsEntry entry → KeepsEntries (on_first_that (has_key entry.key) (with_entry_value current name entry))
-  first_set entry e items h =
-      first_that_kept (IsItem s.entry) (has_key entry.key) (with_entry_value current name entry) (entry_changed (string_of current name entry.value) (value_new current name entry e) refl) items h
-
-  entry_set : (entry : Entry) → IsEntry entry → KeepsEntries (with_entry_set current name entry)
-  entry_set entry e items h =
-      by_test (AreOf s.entry) (list_any (has_key entry.key) items) (on_first_that (has_key entry.key) (with_entry_value current name entry) items) (items ++ entry_made current name entry ∷ [])
-      (first_set entry e items h) (entry_pushed entry e items h)
-
-entries_put : (put : Entry → List Expr → List Expr) → ((entry : Entry) → IsEntry entry → KeepsEntries (put entry)) → (entries : List Entry) → EachIs IsEntry entries → KeepsEntries (each_put put entries)
-entries_put put keeps [] e items h = h
-entries_put put keeps (entry ∷ entries) e items h = entries_put put keeps entries e.1 (put entry items) (keeps entry e.0 items h)
+  entries_kept : (change : Change) (entries : List Entry) → EachIs IsEntry entries → KeepsEntries (entries_put change current name entries)
+  entries_kept change [] e items h = h
+  entries_kept change (entry ∷ entries) e items h =
+      let changed : List Expr = on_first_that (has_key entry.key) (entry_changed change current name entry) items in
+      let new : List Expr = entry_made current name entry ∷ [] in
+      entries_kept change entries e.1 (entry_put change current name entry items)
+      (by_test (AreOf s.entry) (list_any (has_key entry.key) items) changed (items ++ new)
+      (first_that_kept (IsItem s.entry) (has_key entry.key) (entry_changed change current name entry) (entry_kept change entry e.0) items h)
+      (all_joined (IsItem s.entry) items new h (entry_item current name entry e.0, tt)))
 
 -- ---- the commands
 
@@ -179,23 +167,18 @@ dict_changed name change a keeps xs h =
     (with_value_kept name (on_items k.Dict change value) xs (value_in_place value (on_items k.Dict change value) (dict_in_place change keeps value) v) h) tt)
 
 pub dict_add_keeps : (current name : Bytes) (entries : List Entry) → IsAttribute name → AreSome IsEntry entries → Keeps (dict_add current name entries)
-dict_add_keeps current name entries a e = dict_changed name (each_put (with_entry current name) entries) a (entries_put (with_entry current name) (entry_added current name) entries e.1)
+dict_add_keeps current name entries a e = dict_changed name (entries_put Add current name entries) a (entries_kept current name Add entries e.1)
 
 pub dict_set_keeps : (current name : Bytes) (entries : List Entry) → IsAttribute name → AreSome IsEntry entries → Keeps (dict_set current name entries)
-dict_set_keeps current name entries a e = dict_changed name (each_put (with_entry_set current name) entries) a (entries_put (with_entry_set current name) (entry_set current name) entries e.1)
-
-fewer_entries : (keys : List Bytes) → KeepsEntries (without_entries keys)
-fewer_entries keys items h = all_kept (IsItem s.entry) (λ x. not (has_some_key keys x)) items h
-
-without_keys_kept : (name : Bytes) (keys : List Bytes) (value : Expr) (xs : List Expr) → IsValue value → AreArguments xs → AreArguments (without_keys name keys value xs)
-without_keys_kept name keys value xs v h =
-    let less : Expr = on_items k.Dict (without_entries keys) value in
-    by_test AreArguments (list_any (has_some_key keys) (items_of value)) (cleared_dict name less xs) xs
-    (by_test AreArguments (is_empty (items_of less)) (without name xs) (with_value name less xs) (without_kept name xs h)
-    (with_value_kept name less xs (value_in_place value less (dict_in_place (without_entries keys) (fewer_entries keys) value) v) h))
-    h
+dict_set_keeps current name entries a e = dict_changed name (entries_put Set current name entries) a (entries_kept current name Set entries e.1)
 
 pub dict_remove_keeps : (name : Bytes) (keys : List Bytes) → Keeps (dict_remove name keys)
 dict_remove_keeps name keys xs h =
-    of_attribute name xs (Ok xs) (λ value. if has_kind k.Dict value then Ok (without_keys name keys value xs) else Err NotADict) h h
-    (λ value v. by_test Made (has_kind k.Dict value) (Ok (without_keys name keys value xs)) (Err NotADict) (without_keys_kept name keys value xs v h) tt)
+    let fewer : KeepsEntries (without_entries keys) = λ items. all_kept (IsItem s.entry) (λ x. not (has_some_key keys x)) items in
+    of_attribute name xs (Ok xs) (λ value. if has_kind k.Dict value then Ok (with_dict_left name value (on_items k.Dict (without_entries keys) value) xs) else Err NotADict) h h
+    (λ value v.
+    let less : Expr = on_items k.Dict (without_entries keys) value in
+    by_test Made (has_kind k.Dict value) (Ok (with_dict_left name value less xs)) (Err NotADict)
+    (by_test AreArguments (is_empty (items_of less) && not (is_empty (items_of value))) (without name xs) (with_value name less xs) (without_kept name xs h)
+    (with_value_kept name less xs (value_in_place value less (dict_in_place (without_entries keys) fewer value) v) h))
+    tt)

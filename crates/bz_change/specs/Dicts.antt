@@ -1,5 +1,5 @@
 -- The dicts of attributes: entries that are added, set and removed. (Own profile of buildozer's dict commands.)
-use Rattle.std.specs.Prelude.{Bool, not, List, [], ◌∷◌, ◌++◌, Option, None, Ok, Err, codes, if◌then◌else◌}
+use Rattle.std.specs.Prelude.{Bool, not, ◌&&◌, List, [], ◌∷◌, ◌++◌, Option, None, Ok, Err, codes, if◌then◌else◌}
 use Rattle.std.specs.List.{list_any, filter}
 use Rattle.bz_token.specs.declared.class.Class.TheVariants as c
 use Rattle.bz_grammar.specs.declared.kind.Kind.TheVariants as k
@@ -9,6 +9,8 @@ use Rattle.bz_value.specs.Empty.{is_empty}
 use Rattle.bz_command_syntax.specs.declared.command.DictOperation.{DictOperation}
 use Rattle.bz_command_syntax.specs.declared.command.DictOperation.TheVariants as wd
 use Rattle.bz_command_syntax.specs.declared.command.Entry.{Entry}
+use Rattle.bz_change.specs.declared.dicts.Change.{Change}
+use Rattle.bz_change.specs.declared.dicts.Change.TheVariants.{Add, Set}
 use Rattle.bz_command_syntax.specs.Quoted.{quoted_of}
 use Rattle.bz_rule.specs.Rules.{attribute, is_text}
 use Rattle.bz_rule.specs.Values.{has_kind, parts_of, items_of, on_row, on_items, on_third}
@@ -40,23 +42,21 @@ entry_made current name entry = node k.Entry (token c.String (quoted_of entry.ke
 
 -- ---- the entries of a dict, changed
 
--- the entries of one command are taken one after the other
-abbrev pub each_put : (Entry → List Expr → List Expr) → List Entry → List Expr → List Expr
-each_put put [] items = items
-each_put put (entry ∷ entries) items = each_put put entries (put entry items)
+-- an entry whose key is there stays, or gets the new value
+abbrev pub entry_changed : Change → Bytes → Bytes → Entry → Expr → Expr
+entry_changed Add current name entry x = x
+entry_changed Set current name entry x = on_row k.Entry (on_third (λ old. string_of current name entry.value)) x
 
-abbrev pub with_entry : Bytes → Bytes → Entry → List Expr → List Expr
-with_entry current name entry items = if list_any (has_key entry.key) items then items else items ++ entry_made current name entry ∷ []
-
--- the value of an entry becomes this string
-abbrev pub with_entry_value : Bytes → Bytes → Entry → Expr → Expr
-with_entry_value current name entry x = on_row k.Entry (on_third (λ old. string_of current name entry.value)) x
-
--- the first entry of the key gets the value; where there is none, a new entry goes last
-abbrev pub with_entry_set : Bytes → Bytes → Entry → List Expr → List Expr
-with_entry_set current name entry items =
-    if list_any (has_key entry.key) items then on_first_that (has_key entry.key) (with_entry_value current name entry) items
+-- the first entry of the key changes; where there is none, a new entry goes last
+abbrev pub entry_put : Change → Bytes → Bytes → Entry → List Expr → List Expr
+entry_put change current name entry items =
+    if list_any (has_key entry.key) items then on_first_that (has_key entry.key) (entry_changed change current name entry) items
     else items ++ entry_made current name entry ∷ []
+
+-- the entries of one command are taken one after the other
+abbrev pub entries_put : Change → Bytes → Bytes → List Entry → List Expr → List Expr
+entries_put change current name [] items = items
+entries_put change current name (entry ∷ entries) items = entries_put change current name entries (entry_put change current name entry items)
 
 -- all entries of these keys are gone
 abbrev pub without_entries : List Bytes → List Expr → List Expr
@@ -74,24 +74,19 @@ on_dict name change arguments =
     (λ value. if has_kind k.Dict value then Ok (with_value name (on_items k.Dict change value) arguments) else Err NotADict)
 
 abbrev pub dict_add : Bytes → Bytes → List Entry → List Expr → Arguments
-dict_add current name entries arguments = on_dict name (each_put (with_entry current name) entries) arguments
+dict_add current name entries = on_dict name (entries_put Add current name entries)
 
 abbrev pub dict_set : Bytes → Bytes → List Entry → List Expr → Arguments
-dict_set current name entries arguments = on_dict name (each_put (with_entry_set current name) entries) arguments
+dict_set current name entries = on_dict name (entries_put Set current name entries)
 
--- the attribute goes where its dict is then empty
-abbrev pub cleared_dict : Bytes → Expr → List Expr → List Expr
-cleared_dict name value arguments = if is_empty (items_of value) then without name arguments else with_value name value arguments
-
--- nothing changes where no entry has one of the keys
-abbrev pub without_keys : Bytes → List Bytes → Expr → List Expr → List Expr
-without_keys name keys value arguments =
-    if list_any (has_some_key keys) (items_of value) then cleared_dict name (on_items k.Dict (without_entries keys) value) arguments else arguments
+-- an emptied dict goes with its attribute; one that was empty stays
+abbrev pub with_dict_left : Bytes → Expr → Expr → List Expr → List Expr
+with_dict_left name old new arguments = if is_empty (items_of new) && not (is_empty (items_of old)) then without name arguments else with_value name new arguments
 
 abbrev pub dict_remove : Bytes → List Bytes → List Expr → Arguments
 dict_remove name keys arguments =
     by_value (attribute name arguments) (Ok arguments)
-    (λ value. if has_kind k.Dict value then Ok (without_keys name keys value arguments) else Err NotADict)
+    (λ value. if has_kind k.Dict value then Ok (with_dict_left name value (on_items k.Dict (without_entries keys) value) arguments) else Err NotADict)
 
 -- the table of these commands
 abbrev pub dicts_changed : DictOperation → Bytes → List Expr → Arguments

@@ -11,10 +11,7 @@ use Rattle.std.specs.declared.alloc.Global.{Global}
 use Rattle.bz_value.specs.declared.value.Expr.{Expr}
 use Rattle.bz_items.specs.Characters.{Bytes}
 use Rattle.bz_attribute.specs.Sets.{texts_of}
-use Rattle.bz_command_syntax.specs.declared.command.Entry.{Entry}
-use Rattle.bz_change.specs.declared.dicts.Change.{Change}
-use Rattle.bz_change.specs.declared.dicts.Change.TheVariants.{Add, Set}
-use Rattle.bz_change.specs.Dicts.{key_of, has_key, with_entry, with_entry_set}
+use Rattle.bz_change.specs.Dicts.{key_of, has_key}
 
 -- ---- the places of the keys
 
@@ -22,19 +19,9 @@ use Rattle.bz_change.specs.Dicts.{key_of, has_key, with_entry, with_entry_set}
 abbrev pub place_at : BTreeMap (Vec ℕ Global) ℕ → Bytes → Option ℕ
 place_at places key = tree.get_by (λ (text : Vec ℕ Global). slice_cmp nat_cmp key text.items) places
 
--- where the first entry of a key is
-abbrev pub first_place : List Expr → Bytes → Option ℕ
-first_place items key = position_from (has_key key) 0 items
-
 -- The map has each key of these entries, at the place of its first entry, and no other key.
 abbrev pub AreIndexed : BTreeMap (Vec ℕ Global) ℕ → List Expr → Type 0
-AreIndexed places items = (key : Bytes) → place_at places key ≡ first_place items key
-
--- ---- an entry that is put to others, by what becomes of one whose key is there
-
-abbrev pub entry_put : Change → Bytes → Bytes → Entry → List Expr → List Expr
-entry_put Add = with_entry
-entry_put Set = with_entry_set
+AreIndexed places items = (key : Bytes) → place_at places key ≡ position_from (has_key key) 0 items
 
 -- ---- the keys that go
 
