@@ -17,7 +17,7 @@ use Rattle.bz_rule.specs.Values.{has_kind, items_of, on_items, with_items}
 use Rattle.bz_rule.proofs.ProperChanges.{by_test, by_case}
 use Rattle.bz_value.specs.Empty.{is_empty}
 use Rattle.bz_value.specs.declared.refusal.Refusal.TheVariants.{NotADict}
-use Rattle.bz_attribute.specs.Attributes.{Arguments, by_value, has_attribute, on_first_that, with_value, with_new, without}
+use Rattle.bz_attribute.specs.Attributes.{Arguments, by_value, on_first_that, with_value, with_new, without}
 use Rattle.bz_attribute.specs.Made.{token, mark, string_of}
 use Rattle.bz_change.specs.declared.dicts.Change.{Change}
 use Rattle.bz_change.specs.declared.dicts.Change.TheVariants.{Add, Set}
@@ -34,12 +34,6 @@ use Rattle.bz_change.proofs.KeyPlaces.{key_kept}
 
 abbrev dict_there : Bytes → (List Expr → List Expr) → List Expr → Expr → Arguments
 dict_there name change xs value = if has_kind k.Dict value then Ok (with_value name (on_items k.Dict change value) xs) else Err NotADict
-
-changed_there : (name : Bytes) (change : List Expr → List Expr) (xs : List Expr) (value : Expr) → attribute name xs ≡ Some value → on_dict name change xs ≡ dict_there name change xs value
-changed_there name change xs value e = by_there (attribute name xs) value (Ok (with_new name (dict_of (change [])) xs)) (dict_there name change xs) e
-
-changed_absent : (name : Bytes) (change : List Expr → List Expr) (xs : List Expr) → has_attribute name xs ≡ false → on_dict name change xs ≡ Ok (with_new name (dict_of (change [])) xs)
-changed_absent name change xs h = by_absent (attribute name xs) (Ok (with_new name (dict_of (change [])) xs)) (dict_there name change xs) h
 
 dict_items : (xs : List Expr) → items_of (dict_of xs) ≡ xs
 dict_items xs = items_hidden-the_row-Expr-0 xs
@@ -62,7 +56,7 @@ pub adding_again : EntriesAddedAgain
 adding_again current name entries xs value own h =
     let p = and_parts (has_kind k.Dict value) (are_keys entries (items_of value)) h in
     let change : List Expr → List Expr = entries_put Add current name entries in
-    changed_there name change xs value own
+    by_there (attribute name xs) value (Ok (with_new name (dict_of (change [])) xs)) (dict_there name change xs) own
     ∙ (if_true {X = Arguments} (has_kind k.Dict value) (Ok (with_value name (on_items k.Dict change value) xs)) (Err NotADict) p.0
     ∙ ap (λ (ys : List Expr). Ok ys)
     (ap (λ (v : Expr). with_value name v xs) (items_same k.Dict change value (known_again current name entries (items_of value) p.1)) ∙ with_value_same name value xs own))
@@ -195,7 +189,7 @@ removing_again current name entries xs new absent full plain e =
     let keys : List Bytes = keys_of entries in
     let value : Expr = dict_of items in
     let ys : List Expr = with_new name value xs in
-    let same : ys ≡ new = same_made ys new _ (changed_absent name (entries_put Add current name entries) xs absent) e in
+    let same : ys ≡ new = same_made ys new _ (by_absent (attribute name xs) (Ok ys) (dict_there name (entries_put Add current name entries) xs) absent) e in
     let some : is_empty (items_of value) ≡ false = ap (λ (zs : List Expr). is_empty zs) (dict_items items) ∙ some_there entries items full (all_come Add current name entries [] plain) in
     let none : without_entries keys (items_of value) ≡ [] = ap (without_entries keys) (dict_items items) ∙ none_left (has_some_key keys) items (all_some current name keys entries [] plain (λ x h. h) tt) in
     ap (dict_remove name keys) (sym same)

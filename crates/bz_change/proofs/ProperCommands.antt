@@ -5,7 +5,7 @@ use Rattle.std.specs.List.{list_all}
 use Rattle.std.specs.Option.{option_map_or}
 use Rattle.std.specs.Char.{is_ascii_digit}
 use Rattle.std.proofs.lemmas.Bool.{and_parts, or_cases}
-use Rattle.std.proofs.lemmas.Slice.Eq.{bytes_eq-Decides}
+use Rattle.bz_attribute.proofs.KeySets.{equal_texts}
 use Rattle.bz_token.specs.declared.class.Class.TheVariants as c
 use Rattle.bz_token.specs.Bytes.{is_digit}
 use Rattle.bz_token.specs.Lexemes.{IsLexeme, IsDigits, Each, whole}
@@ -33,15 +33,12 @@ use Rattle.bz_attribute.proofs.ProperAttributes.{AreArguments, Made, Keeps, of_v
 
 -- ---- what is set
 
-same_text : (word text : Bytes) → bytes_eq word text ≡ true → word ≡ text
-same_text word text h = (bytes_eq-Decides word text).0 h
-
 constant_name : (word : Bytes) → is_constant word ≡ true → IsLexeme c.Name word
 constant_name word h = elim (or_cases (bytes_eq word (codes "True")) (bytes_eq word (codes "False") || bytes_eq word (codes "None")) h) [
-  | inl a ↦ subst (IsLexeme c.Name) (sym (same_text word (codes "True") a)) ((identifiers_are_names (codes "True")).0 refl)
+  | inl a ↦ subst (IsLexeme c.Name) (sym (equal_texts word (codes "True") a)) ((identifiers_are_names (codes "True")).0 refl)
   | inr b ↦ elim (or_cases (bytes_eq word (codes "False")) (bytes_eq word (codes "None")) b) [
-    | inl a ↦ subst (IsLexeme c.Name) (sym (same_text word (codes "False") a)) ((identifiers_are_names (codes "False")).0 refl)
-    | inr a ↦ subst (IsLexeme c.Name) (sym (same_text word (codes "None") a)) ((identifiers_are_names (codes "None")).0 refl)
+    | inl a ↦ subst (IsLexeme c.Name) (sym (equal_texts word (codes "False") a)) ((identifiers_are_names (codes "False")).0 refl)
+    | inr a ↦ subst (IsLexeme c.Name) (sym (equal_texts word (codes "None") a)) ((identifiers_are_names (codes "None")).0 refl)
   ]
 ]
 

@@ -1,4 +1,4 @@
-use Rattle.std.proofs.Common.{◌≡◌, rules}
+use Rattle.std.proofs.Common.{◌∙◌, ap, rules}
 use Rattle.std.specs.Prelude.{not}
 use Rattle.std.specs.List.{filter}
 use Rattle.std.proofs.lemmas.List.Elements.{filter_from_retain}
@@ -7,9 +7,6 @@ use Rattle.bz_change.proofs.whole.remove_all.Goals as goal
 
 pub returns : goal.returns
 returns c =
-    let kept : c.retain.new.self.items ≡ filter (λ x. not (is_other_attribute x)) c.into_vec-all.result.items =
-    filter_from_retain _ (λ x. not (is_other_attribute x)) (λ p x b q h. search rules) _ _ _ c.retain.ensures.filtered in
-    let new = c.from_vec.ensures in
-    let all = c.into_vec-all.ensures in
-    let old = c.replace.ensures.value in
-    cc
+    c.from_vec.ensures
+    ∙ (filter_from_retain _ (λ x. not (is_other_attribute x)) (λ p x b q h. search rules) _ _ _ c.retain.ensures.filtered
+    ∙ ap (filter (λ x. not (is_other_attribute x))) (c.into_vec-all.ensures ∙ c.replace.ensures.value))
