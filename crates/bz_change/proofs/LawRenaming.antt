@@ -11,10 +11,11 @@ use Rattle.bz_value.specs.declared.value.Expr.{Expr, Token, Form'}
 use Rattle.bz_value.specs.declared.value.Expr.TheVariants as e
 use Rattle.bz_items.specs.Characters.{Bytes}
 use Rattle.bz_rule.specs.Rules.{text_in, is_text, value_after}
-use Rattle.bz_rule.specs.Values.{parts_of, with_parts, with_text, on_row, on_first}
+use Rattle.bz_rule.specs.Values.{parts_of, with_text, on_row, on_first}
 use Rattle.bz_attribute.specs.Attributes.{is_attribute, has_attribute, on_first_that}
 use Rattle.bz_attribute.specs.Attributes.{Arguments}
-use Rattle.bz_attribute.proofs.FormsAgain.{some_if, own_parts, row_twice, attribute_parts, value_changed, attribute_any}
+use Rattle.bz_attribute.proofs.FormsAgain.{both, some_if, row_back, attribute_parts, value_changed, attribute_any}
+use Rattle.bz_attribute.proofs.PlainWords.{equal_self}
 use Rattle.bz_change.specs.Changes.{RenamedBack}
 use Rattle.bz_value.specs.declared.refusal.Refusal.TheVariants.{NoAttribute, AttributeExists}
 
@@ -24,17 +25,11 @@ text_if : (b : Bool) (text other : Bytes) → is_text text (if b then Some other
 text_if true text other h = (refl, (bytes_eq-Decides other text).0 h)
 text_if false text other h = absurd (true≢false (sym h))
 
-own_text : (b : Bool) (text : Bytes) → b ≡ true → is_text text (if b then Some text else None) ≡ true
-own_text true text h = (bytes_eq-Decides text text).1 refl
-own_text false text h = absurd (true≢false (sym h))
-
-name_back : (from to : Bytes) (x : Expr) → is_text from (text_in c.Name x) ≡ true → with_text from (with_text to x) ≡ x
-name_back from to (Token t) h = ap (λ (text : Bytes). e.Token (record t { text = text })) (sym (text_if (is_class t.class c.Name) from t.text h).1)
+name_back : (from to : Bytes) (x : Expr) → is_text from (text_in c.Name x) ≡ true → (with_text from (with_text to x) ≡ x) × (is_text to (text_in c.Name (with_text to x)) ≡ true)
+name_back from to (Token t) h =
+    let p = text_if (is_class t.class c.Name) from t.text h in
+    (ap (λ (text : Bytes). e.Token (record t { text = text })) (sym p.1), ap (λ (b : Bool). is_text to (if b then Some to else None)) p.0 ∙ equal_self to)
 name_back from to (Form' own s parts s' items end split open_break comments) h = absurd (true≢false (sym h))
-
-name_found : (from to : Bytes) (x : Expr) → is_text from (text_in c.Name x) ≡ true → is_text to (text_in c.Name (with_text to x)) ≡ true
-name_found from to (Token t) h = own_text (is_class t.class c.Name) to (text_if (is_class t.class c.Name) from t.text h).0
-name_found from to (Form' own s parts s' items end split open_break comments) h = absurd (true≢false (sym h))
 
 -- ---- an argument
 
@@ -47,15 +42,15 @@ parts_back from to [] h = absurd (true≢false (sym h))
 parts_back from to (x ∷ []) h = absurd (true≢false (sym h))
 parts_back from to (x ∷ y ∷ []) h = absurd (true≢false (sym h))
 parts_back from to (x ∷ y ∷ v ∷ []) h =
-    let named : is_text from (text_in c.Name x) ≡ true = (some_if (is_text from (text_in c.Name x)) (Some v) h).0 in
-    (ap (λ z. z ∷ y ∷ v ∷ []) (name_back from to x named), ap (λ (b : Bool). is_some (if b then Some v else None)) (name_found from to x named))
+    let n = name_back from to x (some_if (is_text from (text_in c.Name x)) (Some v) h).0 in
+    (ap (λ z. z ∷ y ∷ v ∷ []) n.0, ap (λ (b : Bool). is_some (if b then Some v else None)) n.1)
 parts_back from to (x ∷ y ∷ v ∷ w ∷ rest) h = absurd (true≢false (sym h))
 
 argument_back : (from to : Bytes) (x : Expr) → is_attribute from x ≡ true → (renamed from (renamed to x) ≡ x) × (is_attribute to (renamed to x) ≡ true)
 argument_back from to x h =
     let p = attribute_parts from x h in
     let b = parts_back from to (parts_of x) p.1 in (
-      row_twice k.Named (on_first (with_text from)) (on_first (with_text to)) x p.0 ∙ (ap (λ ps. with_parts ps x) b.0 ∙ own_parts x),
+      row_back k.Named (on_first (with_text to)) (on_first (with_text from)) x (λ is. b.0),
       ap (λ (found : Option Expr). is_some found) (value_changed to (on_first (with_text to)) x p.0) ∙ b.1,
     )
 
@@ -82,15 +77,10 @@ not_refused true false made new e = (refl, refl, cc)
 not_refused true true made new e = cc
 not_refused false taken made new e = cc
 
-accepted : (there taken : Bool) (made : List Expr) → there ≡ true → taken ≡ false → tested there taken made ≡ Ok made
-accepted true false made h n = refl
-accepted true true made h n = absurd (true≢false n)
-accepted false taken made h n = absurd (true≢false (sym h))
-
 pub renamed_back : RenamedBack
 renamed_back from to xs new e n =
     let made : List Expr = on_first_that (is_attribute from) (renamed to) xs in
     let p : (has_attribute from xs ≡ true) × (has_attribute to xs ≡ false) × (made ≡ new) = not_refused (has_attribute from xs) (has_attribute to xs) made new e in
     let b = first_back (is_attribute from) (is_attribute to) (renamed to) (renamed from) (λ x w. argument_back from to x w) xs (sym (attribute_any from xs) ∙ p.0) (sym (attribute_any to xs) ∙ p.1) in
-    accepted (has_attribute to new) (has_attribute from new) (on_first_that (is_attribute to) (renamed from) new) (sym (ap (has_attribute to) p.2) ∙ (attribute_any to made ∙ b.1)) n
+    both (λ (there taken : Bool). tested there taken (on_first_that (is_attribute to) (renamed from) new)) (sym (ap (has_attribute to) p.2) ∙ (attribute_any to made ∙ b.1)) n
     ∙ ap Ok (sym (ap (on_first_that (is_attribute to) (renamed from)) p.2) ∙ b.0)

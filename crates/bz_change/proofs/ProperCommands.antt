@@ -1,10 +1,11 @@
 -- What is set is a value.
 use Rattle.std.proofs.Common.{◌≡◌, true, false, ◌||◌, List, [], ◌∷◌, inl, inr, refl, sym, subst, map, true≢false, not}
-use Rattle.std.specs.Prelude.{IsUtf8, None, if◌then◌else◌, codes, bytes_eq, nat_lt, length, IfSome, Option, Ok, Err}
-use Rattle.std.specs.List.{AllByRecursion, list_all}
+use Rattle.std.specs.Prelude.{IsUtf8, if◌then◌else◌, codes, bytes_eq, nat_lt, length, IfSome, Option, Ok, Err}
+use Rattle.std.specs.List.{list_all}
+use Rattle.std.specs.Option.{option_map_or}
 use Rattle.std.specs.Char.{is_ascii_digit}
 use Rattle.std.proofs.lemmas.Bool.{and_parts, or_cases}
-use Rattle.std.proofs.lemmas.Slice.Eq.{bytes_eq-Decides}
+use Rattle.bz_attribute.proofs.KeySets.{equal_texts}
 use Rattle.bz_token.specs.declared.class.Class.TheVariants as c
 use Rattle.bz_token.specs.Bytes.{is_digit}
 use Rattle.bz_token.specs.Lexemes.{IsLexeme, IsDigits, Each, whole}
@@ -12,13 +13,12 @@ use Rattle.bz_label.specs.Tables.{is_list_attribute}
 use Rattle.bz_items.specs.Characters.{Bytes}
 use Rattle.bz_command_syntax.specs.Proper.{AreUtf8, IsAttribute}
 use Rattle.bz_command_syntax.proofs.NameTests.{identifiers_are_names}
-use Rattle.bz_rule.proofs.ProperChanges.{by_test, by_case, Strung}
+use Rattle.bz_rule.specs.Rules.{attribute}
+use Rattle.bz_rule.proofs.ProperChanges.{by_test, by_case}
 use Rattle.bz_rule.proofs.ProperItems.{IsValue, all_kept}
-use Rattle.bz_attribute.specs.Made.{token, string_text}
-use Rattle.bz_change.specs.declared.settings.Setting.{Setting}
-use Rattle.bz_change.specs.declared.settings.Setting.TheVariants.{One, Many}
-use Rattle.bz_change.specs.Changes.{is_constant, is_decimal, single_setting, setting, value_of, is_set, set, set_if_absent, remove, rename, copy, copy_no_overwrite}
-use Rattle.bz_attribute.proofs.ProperMade.{token_new, new_value, list_value, string_value, string_strung, texts_are_items}
+use Rattle.bz_attribute.specs.Made.{token, string_text, string_of, list_of}
+use Rattle.bz_change.specs.Changes.{is_constant, is_decimal, single_setting, setting, is_set, set, set_if_absent, remove, rename, copy, copy_no_overwrite}
+use Rattle.bz_attribute.proofs.ProperMade.{token_new, new_value, list_value, string_value, string_strung, words_are_items}
 use Rattle.bz_grammar.specs.declared.kind.Kind.TheVariants as k
 use Rattle.bz_grammar.specs.Shapes as s
 use Rattle.bz_value.specs.declared.value.Expr.{Expr}
@@ -27,21 +27,18 @@ use Rattle.bz_command_syntax.specs.declared.command.Attributes.TheVariants as t
 use Rattle.bz_rule.specs.Values.{with_text, on_row, on_first}
 use Rattle.bz_rule.proofs.ProperArguments.{argument_changed, name_kept}
 use Rattle.bz_rule.proofs.ProperSequences.{IsItem}
-use Rattle.bz_attribute.specs.Attributes.{is_attribute, has_attribute, is_other_attribute, on_first_that, with_value, with_new, put}
+use Rattle.bz_attribute.specs.Attributes.{is_attribute, has_attribute, is_other_attribute, on_first_that, put}
 use Rattle.bz_value.specs.declared.refusal.Refusal.TheVariants.{NoAttribute, AttributeExists, NoSource}
-use Rattle.bz_attribute.proofs.ProperAttributes.{AreArguments, Made, Keeps, of_value, of_attribute, first_that_kept, with_value_kept, without_kept, with_new_kept, put_kept}
+use Rattle.bz_attribute.proofs.ProperAttributes.{AreArguments, Made, Keeps, of_value, first_that_kept, without_kept, put_kept}
 
 -- ---- what is set
 
-same_text : (word text : Bytes) → bytes_eq word text ≡ true → word ≡ text
-same_text word text h = (bytes_eq-Decides word text).0 h
-
 constant_name : (word : Bytes) → is_constant word ≡ true → IsLexeme c.Name word
 constant_name word h = elim (or_cases (bytes_eq word (codes "True")) (bytes_eq word (codes "False") || bytes_eq word (codes "None")) h) [
-  | inl a ↦ subst (IsLexeme c.Name) (sym (same_text word (codes "True") a)) ((identifiers_are_names (codes "True")).0 refl)
+  | inl a ↦ subst (IsLexeme c.Name) (sym (equal_texts word (codes "True") a)) ((identifiers_are_names (codes "True")).0 refl)
   | inr b ↦ elim (or_cases (bytes_eq word (codes "False")) (bytes_eq word (codes "None")) b) [
-    | inl a ↦ subst (IsLexeme c.Name) (sym (same_text word (codes "False") a)) ((identifiers_are_names (codes "False")).0 refl)
-    | inr a ↦ subst (IsLexeme c.Name) (sym (same_text word (codes "None") a)) ((identifiers_are_names (codes "None")).0 refl)
+    | inl a ↦ subst (IsLexeme c.Name) (sym (equal_texts word (codes "False") a)) ((identifiers_are_names (codes "False")).0 refl)
+    | inr a ↦ subst (IsLexeme c.Name) (sym (equal_texts word (codes "None") a)) ((identifiers_are_names (codes "None")).0 refl)
   ]
 ]
 
@@ -53,28 +50,21 @@ digits : (word : Bytes) → is_decimal word ≡ true → IsDigits word
 digits [] h = absurd (true≢false (sym h))
 digits (byte ∷ word) h = let w = and_parts (nat_lt 0 (length (byte ∷ word))) (list_all is_ascii_digit (byte ∷ word)) h in each_digit (byte ∷ word) w.1
 
-single_value : (current attribute word : Bytes) → IsUtf8 word → IsValue (value_of (single_setting current attribute word))
+single_value : (current attribute word : Bytes) → IsUtf8 word → IsValue (single_setting current attribute word)
 single_value current attribute word u =
-    let set : Setting → Type 0 = λ made. IsValue (value_of made) in
-    by_case set (is_constant word) (One c.Name word) (if is_decimal word then One c.Number word else One c.String (string_text current attribute word))
+    by_case IsValue (is_constant word) (token c.Name word) (if is_decimal word then token c.Number word else string_of current attribute word)
     (λ h. new_value (token c.Name word) (token_new c.Name word (constant_name word h) u) refl)
-    (λ n. by_case set (is_decimal word) (One c.Number word) (One c.String (string_text current attribute word))
+    (λ n. by_case IsValue (is_decimal word) (token c.Number word) (string_of current attribute word)
     (λ h. new_value (token c.Number word) (token_new c.Number word (whole word (digits word h)) u) refl)
     (λ m. string_value (string_text current attribute word) (string_strung current attribute word u)))
 
-texts_strung : (current attribute : Bytes) (words : List Bytes) → AreUtf8 words → AllByRecursion Strung (map (string_text current attribute) words)
-texts_strung current attribute [] u = tt
-texts_strung current attribute (word ∷ words) u = (string_strung current attribute word u.0, texts_strung current attribute words u.1)
+many_value : (current attribute : Bytes) (words : List Bytes) → AreUtf8 words → IsValue (list_of (map (string_of current attribute) words))
+many_value current attribute words u = list_value (map (string_of current attribute) words) (words_are_items current attribute words u)
 
-many_value : (current attribute : Bytes) (words : List Bytes) → AreUtf8 words → IsValue (value_of (Many (map (string_text current attribute) words)))
-many_value current attribute words u =
-    let texts : List Bytes = map (string_text current attribute) words in
-    list_value (map (token c.String) texts) (texts_are_items texts (texts_strung current attribute words u))
-
-pub setting_value : (current attribute : Bytes) (words : List Bytes) → AreUtf8 words → IsValue (value_of (setting current attribute words))
+setting_value : (current attribute : Bytes) (words : List Bytes) → AreUtf8 words → IsValue (setting current attribute words)
 setting_value current attribute [] u = many_value current attribute [] u
 setting_value current attribute (word ∷ []) u =
-    by_test (λ (made : Setting). IsValue (value_of made)) (is_list_attribute attribute) (Many (string_text current attribute word ∷ [])) (single_setting current attribute word)
+    by_test IsValue (is_list_attribute attribute) (list_of (string_of current attribute word ∷ [])) (single_setting current attribute word)
     (many_value current attribute (word ∷ []) u) (single_value current attribute word u.0)
 setting_value current attribute (word ∷ other ∷ words) u = many_value current attribute (word ∷ other ∷ words) u
 
@@ -84,11 +74,8 @@ setting_value current attribute (word ∷ other ∷ words) u = many_value curren
 
 pub set_keeps : (current name : Bytes) (words : List Bytes) → IsAttribute name → AreUtf8 words → Keeps (set current name words)
 set_keeps current name words a u xs h =
-    let new : Expr = value_of (setting current name words) in
-    let v : IsValue new = setting_value current name words u in
-    of_attribute name xs (Ok (with_new name new xs)) (λ value. Ok (if is_set (setting current name words) value then xs else with_value name new xs)) h
-    (with_new_kept name new xs a v h)
-    (λ value w. by_test AreArguments (is_set (setting current name words) value) xs (with_value name new xs) h (with_value_kept name new xs v h))
+    let new : Expr = setting current name words in
+    by_test AreArguments (option_map_or (is_set new) (attribute name xs) false) xs (put name new xs) h (put_kept name new xs a (setting_value current name words u) h)
 
 pub set_if_absent_keeps : (current name : Bytes) (words : List Bytes) → IsAttribute name → AreUtf8 words → Keeps (set_if_absent current name words)
 set_if_absent_keeps current name words a u xs h = by_test Made (has_attribute name xs) (Ok xs) (set current name words xs) h (set_keeps current name words a u xs h)

@@ -1,11 +1,12 @@
 -- What the commands on whole attributes make of the arguments of a rule.
-use Rattle.std.specs.Prelude.{Bool, false, not, ◌&&◌, ◌||◌, List, [], ◌∷◌, Option, None, Ok, Err, codes, map, if◌then◌else◌, bytes_eq, length, nat_eq, nat_lt, ◌≡◌}
+use Rattle.std.specs.Prelude.{Bool, false, not, ◌&&◌, ◌||◌, List, [], ◌∷◌, Option, Ok, Err, codes, map, if◌then◌else◌, bytes_eq, length, nat_eq, nat_lt, ◌≡◌}
 use Rattle.std.specs.List.{filter, list_all, zip}
 use Rattle.std.specs.Char.{is_ascii_digit}
+use Rattle.std.specs.Option.{option_map_or}
 use Rattle.bz_token.specs.declared.class.Class.TheVariants as c
 use Rattle.bz_grammar.specs.declared.kind.Kind.TheVariants as k
 use Rattle.bz_label.specs.Tables.{is_list_attribute}
-use Rattle.bz_value.specs.declared.value.Expr.{Expr}
+use Rattle.bz_value.specs.declared.value.Expr.{Expr, Token, Form'}
 use Rattle.bz_items.specs.Characters.{Bytes}
 use Rattle.bz_command_syntax.specs.declared.command.AttributeOperation.{AttributeOperation}
 use Rattle.bz_command_syntax.specs.declared.command.AttributeOperation.TheVariants as wa
@@ -14,45 +15,41 @@ use Rattle.bz_command_syntax.specs.declared.command.Attributes.TheVariants as a
 use Rattle.bz_rule.specs.Rules.{attribute}
 use Rattle.bz_rule.specs.Values.{has_kind, has_class, text_of, items_of, with_text, on_row, on_first}
 use Rattle.bz_value.specs.declared.refusal.Refusal.TheVariants.{NoAttribute, AttributeExists, NoSource}
-use Rattle.bz_change.specs.declared.settings.Setting.{Setting}
-use Rattle.bz_change.specs.declared.settings.Setting.TheVariants.{One, Many}
-use Rattle.bz_attribute.specs.Made.{token, string_text, list_of}
-use Rattle.bz_attribute.specs.Attributes.{is_attribute, has_attribute, is_other_attribute, on_first_that, with_value, with_new, without, put, Arguments, by_value}
+use Rattle.bz_attribute.specs.Made.{token, string_of, list_of}
+use Rattle.bz_attribute.specs.Attributes.{is_attribute, has_attribute, is_other_attribute, on_first_that, without, put, Arguments, by_value}
 
 -- ---- set
 
--- True, False, None and decimal digits are as they are
+-- True, False, None and decimal digits are as they are, any other word becomes a string
 abbrev pub is_constant : Bytes → Bool
 is_constant word = bytes_eq word (codes "True") || (bytes_eq word (codes "False") || bytes_eq word (codes "None"))
 
 abbrev pub is_decimal : Bytes → Bool
 is_decimal word = nat_lt 0 (length word) && list_all is_ascii_digit word
 
-abbrev pub single_setting : Bytes → Bytes → Bytes → Setting
-single_setting current attribute word =
-    if is_constant word then One c.Name word else (if is_decimal word then One c.Number word else One c.String (string_text current attribute word))
+abbrev pub single_setting : Bytes → Bytes → Bytes → Expr
+single_setting current attribute word = if is_constant word then token c.Name word else (if is_decimal word then token c.Number word else string_of current attribute word)
 
--- The value becomes a list of strings where the attribute is a list attribute or there are two or more words.
-abbrev pub setting : Bytes → Bytes → List Bytes → Setting
-setting current attribute (word ∷ []) = if is_list_attribute attribute then Many (string_text current attribute word ∷ []) else single_setting current attribute word
-setting current attribute words = Many (map (string_text current attribute) words)
+-- A list of strings where the attribute is a list attribute or there are two or more words.
+abbrev pub setting : Bytes → Bytes → List Bytes → Expr
+setting current attribute (word ∷ []) = if is_list_attribute attribute then list_of (string_of current attribute word ∷ []) else single_setting current attribute word
+setting current attribute words = list_of (map (string_of current attribute) words)
 
-abbrev pub value_of : Setting → Expr
-value_of (One class text) = token class text
-value_of (Many texts) = list_of (map (token c.String) texts)
+-- tokens of one class and text
+abbrev pub is_token : Expr → Expr → Bool
+is_token (Token t) x = has_class t.class x && bytes_eq (text_of x) t.text
+is_token (Form' kind s parts s' items end split open_break comments) x = false
 
-abbrev pub are_texts : List Bytes → List Expr → Bool
-are_texts texts items = nat_eq (length texts) (length items) && list_all (λ pair. has_class c.String pair.1 && bytes_eq (text_of pair.1) pair.0) (zip texts items)
+abbrev pub are_tokens : List Expr → List Expr → Bool
+are_tokens xs items = nat_eq (length xs) (length items) && list_all (λ pair. is_token pair.0 pair.1) (zip xs items)
 
--- the value differs from what is set only in comments and flags
-abbrev pub is_set : Setting → Expr → Bool
-is_set (One class text) value = has_class class value && bytes_eq (text_of value) text
-is_set (Many texts) value = has_kind k.List value && are_texts texts (items_of value)
+-- the value differs from what is set, a token or a list of tokens, only in comments and flags
+abbrev pub is_set : Expr → Expr → Bool
+is_set new value = if has_kind k.List new then has_kind k.List value && are_tokens (items_of new) (items_of value) else is_token new value
 
 abbrev pub set : Bytes → Bytes → List Bytes → List Expr → Arguments
 set current name words arguments =
-    by_value (attribute name arguments) (Ok (with_new name (value_of (setting current name words)) arguments))
-    (λ value. Ok (if is_set (setting current name words) value then arguments else with_value name (value_of (setting current name words)) arguments))
+    Ok (if option_map_or (is_set (setting current name words)) (attribute name arguments) false then arguments else put name (setting current name words) arguments)
 
 abbrev pub set_if_absent : Bytes → Bytes → List Bytes → List Expr → Arguments
 set_if_absent current name words arguments = if has_attribute name arguments then Ok arguments else set current name words arguments

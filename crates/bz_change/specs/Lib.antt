@@ -1,1 +1,4 @@
 pub mod Changes
+pub mod Dicts
+pub mod Laws
+pub mod private

@@ -1,9 +1,15 @@
-//! What the commands on whole attributes make of the arguments of a rule.
+//! What the commands on whole attributes and on dicts make of the arguments of a rule.
 #![tactic(auto)]
 
+mod dicts;
+mod keys;
 mod laws;
 mod settings;
 mod whole;
 
-pub use laws::renamed_back;
+pub use dicts::change_dicts;
+pub use laws::{
+    added_entries_are_there, adding_entries_again, removing_entries_again, renamed_back,
+    set_entries_are_there,
+};
 pub use whole::change_attributes;

@@ -32,20 +32,20 @@ use Rattle.bz_value.specs.declared.refusal.Refusal.{Refusal}
 use Rattle.bz_value.specs.declared.refusal.Refusal.TheVariants.{NoTarget, NoAttribute, AttributeExists, NotAList, NoSource, NameTaken}
 use Rattle.bz_attribute.specs.Attributes.{is_attribute, has_attribute, is_other_attribute, on_first_that, on_value, with_value, with_new, put}
 use Rattle.bz_attribute.specs.Attributes.{Arguments}
-use Rattle.bz_change.specs.Changes.{value_of, setting, is_set, set, set_if_absent, rename, copy, copy_no_overwrite}
+use Rattle.bz_change.specs.Changes.{setting, is_set, set, set_if_absent, rename, copy, copy_no_overwrite}
 use Rattle.bz_list.specs.Changes.{with_items_added, add, in_value, in_attributes, replaced_item, replace, with_body, substituted_item, substitute}
 use Rattle.bz_command.specs.Effect.{NewItem, with_arguments, made_of, on_rule, on_arguments, with_item_first, on_meant, new_rule_place, with_rule, source, on_rules, lacks_rules, kept, on_statement, effect, printed_rules, meant, may_mean_none}
 use Rattle.bz_command_syntax.specs.declared.command.Host.TheVariants.{Rule, Attribute, Item as ItemHost}
 use Rattle.bz_command_syntax.specs.Printing.{prints}
-use Rattle.bz_dict.specs.Dicts.{dict_add}
-use Rattle.bz_dict.proofs.ProperDicts.{dict_add_grows}
+use Rattle.bz_change.specs.Dicts.{dict_add}
+use Rattle.bz_change.proofs.ProperDicts.{dict_add_grows}
 use Rattle.bz_load.proofs.LawComments.{amount_answered, new_load_same, put_total}
 use Rattle.bz_comment.specs.Hosts.{with_comment, comment}
 use Rattle.bz_comment.proofs.LawBack.{own_grows, comment_grows}
 use Rattle.bz_command.specs.Laws.{keeps_comments, CommentsStay}
 use Rattle.bz_attribute.specs.Lists.{has_lists, items_in, is_no_list, with_more, body_of, is_item}
 use Rattle.bz_attribute.specs.Made.{list_of, string_text, plus, argument_of, rule_made}
-use Rattle.bz_attribute.proofs.AttributesAgain.{by_absent, of_found}
+use Rattle.bz_attribute.proofs.AttributesAgain.{of_found}
 use Rattle.bz_attribute.proofs.FormsAgain.{if_true, if_false, then_if, made}
 use Rattle.bz_attribute.proofs.Grown.{itself, in_turn, both_at_most, Grows, map_grows, first_grows, first_that_grows}
 use Rattle.bz_attribute.proofs.GrownArguments.{text_grows, on_row_grows, on_lists_grows, on_value_grows, more_grows, plus_grows, with_value_grows, inserted_grows, Grown}
@@ -111,11 +111,10 @@ module _ (number : Bytes → ℕ) where
 
   set_if_absent_keeps : (current name : Bytes) (words : List Bytes) → Keeps (set_if_absent current name words)
   set_if_absent_keeps current name words xs =
-      let new : Expr = value_of (setting current name words) in
+      let new : Expr = setting current name words in
       by_case (Grown number xs) (has_attribute name xs) (Ok xs) (set current name words xs) (λ h. itself (total whole xs))
-      (λ n. subst (Grown number xs)
-      (sym (by_absent (attribute name xs) (Ok (with_new name new xs)) (λ value. Ok (if is_set (setting current name words) value then xs else with_value name new xs)) n))
-      (inserted_grows number (argument_of name new) xs))
+      (λ n. by_test (λ (ys : List Expr). total whole xs ≤ total whole ys) (option_map_or (is_set new) (attribute name xs) false) xs (put name new xs) (itself (total whole xs))
+      (subst (λ (there : Bool). total whole xs ≤ total whole (if there then with_value name new xs else with_new name new xs)) (sym n) (inserted_grows number (argument_of name new) xs)))
 
   added_keeps : (name : Bytes) (added : List Expr → List Expr) → Keeps (with_items_added name added)
   added_keeps name added xs =

@@ -33,8 +33,8 @@ use Rattle.bz_change.specs.Changes.{set, set_if_absent, remove, rename, copy, co
 use Rattle.bz_list.specs.Changes.{add, remove_values, replace, substitute, move}
 use Rattle.bz_command_syntax.specs.declared.command.Host.TheVariants as r
 use Rattle.bz_command_syntax.specs.Printing.{prints}
-use Rattle.bz_dict.specs.Dicts.{dict_add, dict_set, dict_remove}
-use Rattle.bz_dict.proofs.ProperDicts.{dict_add_keeps, dict_set_keeps, dict_remove_keeps}
+use Rattle.bz_change.specs.Dicts.{dict_add, dict_set, dict_remove}
+use Rattle.bz_change.proofs.ProperDicts.{dict_add_keeps, dict_set_keeps, dict_remove_keeps}
 use Rattle.bz_load.proofs.ProperLoads.{new_load_keeps, fix_keeps}
 use Rattle.bz_load.proofs.PlaceSteps.{all_put}
 use Rattle.bz_comment.specs.Hosts.{with_comment, without_comments, comment, remove_comment}

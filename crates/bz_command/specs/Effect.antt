@@ -31,7 +31,7 @@ use Rattle.bz_attribute.specs.Made.{function_of, rule_made}
 use Rattle.bz_attribute.specs.Attributes.{Arguments}
 use Rattle.bz_change.specs.Changes.{attributes_changed}
 use Rattle.bz_list.specs.Changes.{values_changed}
-use Rattle.bz_dict.specs.Dicts.{dicts_changed}
+use Rattle.bz_change.specs.Dicts.{dicts_changed}
 use Rattle.bz_load.specs.Fixes.{fix}
 use Rattle.bz_load.specs.NewLoad.{new_load}
 use Rattle.bz_command_syntax.specs.Printing.{prints}

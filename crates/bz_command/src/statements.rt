@@ -10,10 +10,9 @@ ghost use Rattle.bz_command.specs.Effect.{on_arguments, is_rule, on_host_of_item
 
 use crate::targets::{arguments_of, is_rule};
 use bz_attribute::function_of;
-use bz_change::change_attributes;
+use bz_change::{change_attributes, change_dicts};
 use bz_command_syntax::{CommentOperation, Host, Operation, RuleOperation};
 use bz_comment::{Change, change_comments, change_own};
-use bz_dict::change_dicts;
 use bz_grammar::Kind;
 use bz_items::{Items, Memory};
 use bz_list::change_values;

@@ -118,10 +118,10 @@ fn call_effects() {
     bz_list::adding_again();
     bz_list::added_is_there();
     bz_list::removing_again();
-    bz_dict::adding_entries_again();
-    bz_dict::added_entries_are_there();
-    bz_dict::set_entries_are_there();
-    bz_dict::removing_entries_again();
+    bz_change::adding_entries_again();
+    bz_change::added_entries_are_there();
+    bz_change::set_entries_are_there();
+    bz_change::removing_entries_again();
     bz_load::worked_loads();
     bz_load::loads_stay_proper();
     bz_load::loading_again();

@@ -1,7 +1,0 @@
-use Rattle.std.proofs.Common.{◌≡◌, ◌++◌, drop, map}
-use Rattle.bz_attribute.specs.Made.{string_text}
-use Rattle.bz_change.proofs.settings.string_texts.Given as goal
-
--- the strings so far, and those of the words that are left, are those of all words
-abbrev pub invariant-loop-word : goal.invariant-loop-word
-invariant-loop-word l = l.texts.items ++ map (string_text l.slot.current.now l.slot.attribute.now) (drop l.word-index l.words) ≡ map (string_text l.slot.current.now l.slot.attribute.now) l.words

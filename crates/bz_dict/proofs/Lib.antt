@@ -1,3 +1,0 @@
-pub mod KeyPlaces
-pub mod LawDicts
-pub mod ProperDicts

@@ -1,6 +1,0 @@
-use Rattle.std.proofs.Common.{take}
-use Rattle.bz_dict.specs.private.Keys.{AreIndexed}
-use Rattle.bz_dict.proofs.keys.places_of.Given as goal
-
-abbrev pub invariant-loop-at : goal.invariant-loop-at
-invariant-loop-at l = AreIndexed l.places (take l.at l.items)

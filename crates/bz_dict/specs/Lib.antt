@@ -1,3 +1,0 @@
-pub mod Dicts
-pub mod Laws
-pub mod private
