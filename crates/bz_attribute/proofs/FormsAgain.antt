@@ -21,12 +21,10 @@ use Rattle.bz_attribute.specs.Attributes.{is_attribute, has_attribute, on_first_
 -- ---- tests
 
 pub if_true : {X : Type 0} (b : Bool) (x y : X) → b ≡ true → (if b then x else y) ≡ x
-if_true true x y h = refl
-if_true false x y h = absurd (true≢false (sym h))
+if_true b x y h = rw h refl
 
 pub if_false : {X : Type 0} (b : Bool) (x y : X) → b ≡ false → (if b then x else y) ≡ y
-if_false true x y h = absurd (true≢false h)
-if_false false x y h = refl
+if_false b x y h = rw h refl
 
 -- either way the same
 pub if_either : {X : Type 0} (b : Bool) (x y z : X) → x ≡ z → y ≡ z → (if b then x else y) ≡ z
