@@ -1,19 +1,19 @@
 -- The first element of a list that passes a test, by its index.
-use Rattle.std.proofs.Common.{◌≡◌, ℕ, ◌<◌, ◌≤◌, Bool, true, false, List, [], ◌∷◌, ◌++◌, length, get_or, set, refl, ap, sym, arith, zero, suc, ◌∙◌, true≢false}
-use Rattle.std.specs.Prelude.{Option, Some, None, cond, not, is_some, slice_get, slice_set}
+use Rattle.std.proofs.Common.{◌≡◌, ℕ, ◌<◌, ◌≤◌, Bool, true, false, List, [], ◌∷◌, ◌++◌, length, get_or, set, take, drop, subst, refl, ap, sym, arith, zero, suc, ◌∙◌}
+use Rattle.std.specs.Prelude.{Option, Some, None, cond, not, slice_get, slice_set}
 use Rattle.std.specs.List.{position, position_or_len, insert, remove}
-use Rattle.std.specs.Option.{option_or, unwrap_or}
+use Rattle.std.specs.Option.{unwrap_or}
 use Rattle.std.proofs.lemmas.List.Quantifiers.{position-Some}
 use Rattle.std.proofs.lemmas.List.Sums.{prefix_len_passes}
 use Rattle.std.proofs.lemmas.Bool.{ltb-false, not-true}
+use Rattle.std.proofs.lemmas.List.{length-set}
 use Rattle.std.proofs.lemmas.List.Edits.{insert_end}
+use Rattle.std.proofs.Math.Seq.{take-append_seam}
 use Rattle.std.proofs.lemmas.Option.{get_or_from_slice_get}
 use Rattle.bz_grammar.specs.declared.kind.Kind.TheVariants as k
 use Rattle.bz_value.specs.declared.value.Expr.{Expr}
-use Rattle.bz_items.specs.Characters.{Bytes}
-use Rattle.bz_rule.specs.Rules.{attribute, value_named}
 use Rattle.bz_rule.specs.Values.{has_kind}
-use Rattle.bz_attribute.specs.Attributes.{is_attribute, has_attribute, on_first_that, without_first, inserted}
+use Rattle.bz_attribute.specs.Attributes.{on_first_that, without_first, inserted}
 
 -- i is the index of the first element that passes
 pub record IsFirst {X : Type 0} (test : X → Bool) (xs : List X) (i : ℕ) : Type 0 where
@@ -84,26 +84,6 @@ inserted_where argument xs = by (position (has_kind k.Star) xs) refl
     by None e = insert_end xs argument ∙ sym (inserted_last argument xs (none_passes (has_kind k.Star) xs (sym e)))
     by (Some at) e = sym (inserted_at argument xs at (is_first (has_kind k.Star) xs at argument (sym e)))
 
--- ---- the first attribute
-
-same_some : (a b : Option Expr) → is_some a ≡ true → option_or a b ≡ a
-same_some None b h = absurd (true≢false (sym h))
-same_some (Some x) b h = refl
-
-other_some : (a b : Option Expr) → is_some a ≡ false → option_or a b ≡ b
-other_some None b h = refl
-other_some (Some x) b h = absurd (true≢false h)
-
-pub attribute_at : (name : Bytes) (xs : List Expr) (i : ℕ) (d : Expr) → IsFirst (is_attribute name) xs i → attribute name xs ≡ value_named name (get_or xs i d)
-attribute_at name [] i d h = absurd (omega (arith, h.within))
-attribute_at name (x ∷ xs) zero d h = same_some (value_named name x) (attribute name xs) (h.passes x)
-attribute_at name (x ∷ xs) (suc i) d h =
-    other_some (value_named name x) (attribute name xs) (h.others 0 x (omega arith)) ∙ attribute_at name xs i d (later (is_attribute name) x xs i h)
-
-pub attribute_none : (name : Bytes) (xs : List Expr) → NonePasses (is_attribute name) xs → attribute name xs ≡ None
-attribute_none name [] h = refl
-attribute_none name (x ∷ xs) h = other_some (value_named name x) (attribute name xs) (h.all 0 x (omega arith)) ∙ attribute_none name xs (none_later (is_attribute name) x xs h)
-
 -- the first element that passes, changed in its place; and where none passes
 pub changed_there : {X : Type 0} (test : X → Bool) (f : X → X) (xs : List X) (i : ℕ) (x new : X) → Some i ≡ position test xs → slice_get xs i ≡ Some x → new ≡ f x → slice_set xs i new ≡ on_first_that test f xs
 changed_there test f xs i x new at there made =
@@ -119,12 +99,14 @@ removed_there test (x ∷ xs) i at = sym (removed_at test (x ∷ xs) i (is_first
 pub removed_nowhere : {X : Type 0} (test : X → Bool) (xs : List X) → None ≡ position test xs → xs ≡ without_first test xs
 removed_nowhere test xs none = sym (unremoved test xs (none_passes test xs none))
 
-pub value_there : (name : Bytes) (xs : List Expr) (i : ℕ) (x other : Expr) → Some i ≡ position (is_attribute name) xs → slice_get xs i ≡ Some x
-    → (is_attribute name x ≡ true → Some other ≡ value_named name x) → Some other ≡ attribute name xs
-value_there name xs i x other at there f =
-    let first = is_first (is_attribute name) xs i x at in
-    let own : get_or xs i x ≡ x = get_or_from_slice_get xs i x x there in
-    f (ap (is_attribute name) (sym own) ∙ first.passes x) ∙ sym (attribute_at name xs i x first ∙ ap (value_named name) own)
+-- a list in which the first element that passes was changed, written back
+set_first : {X : Type 0} (test : X → Bool) (f : X → X) (xs : List X) (i : ℕ) (d : X) → i < length xs → test (get_or xs i d) ≡ true → set xs i (f (get_or xs i d)) ≡ take i xs ++ on_first_that test f (drop i xs)
+set_first test f [] i d l t = absurd (omega (arith, l))
+set_first test f (x ∷ xs) zero d l t = rw t refl
+set_first test f (x ∷ xs) (suc i) d l t = ap (λ ys. x ∷ ys) (set_first test f xs i d (omega (arith, l)) t)
 
-pub value_nowhere : (name : Bytes) (xs : List Expr) → None ≡ position (is_attribute name) xs → has_attribute name xs ≡ false
-value_nowhere name xs none = ap is_some (attribute_none name xs (none_passes (is_attribute name) xs none))
+pub first_written : {X : Type 0} (test : X → Bool) (f : X → X) (xs all : List X) (i : ℕ) (d new : X) → length xs ≡ length all → i < length xs → test (get_or xs i d) ≡ true → new ≡ f (get_or xs i d)
+    → take (length all) (set xs i new ++ drop (length (set xs i new)) all) ≡ take i xs ++ on_first_that test f (drop i xs)
+first_written test f xs all i d new same l t made =
+    let ys = set xs i new in
+    subst (λ n. take n (ys ++ drop (length ys) all) ≡ ys) (length-set xs i new ∙ same) (take-append_seam ys (drop (length ys) all)) ∙ (ap (set xs i) made ∙ set_first test f xs i d l t)

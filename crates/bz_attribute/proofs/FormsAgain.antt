@@ -14,19 +14,16 @@ use Rattle.bz_items.specs.Characters.{Bytes}
 use Rattle.bz_token.specs.declared.class.Class.TheVariants as c
 use Rattle.bz_rule.specs.Rules.{is_text, text_in, value_after, value_named, attribute}
 use Rattle.bz_rule.specs.Values.{has_kind, parts_of, items_of, with_parts, with_items, on_row, on_items}
-use Rattle.bz_rule.proofs.ProperChanges.{by_case}
 pub use Rattle.bz_rule.proofs.Opened.{made, own_parts, own_items}
 use Rattle.bz_attribute.specs.Attributes.{is_attribute, has_attribute, on_first_that}
 
 -- ---- tests
 
 pub if_true : {X : Type 0} (b : Bool) (x y : X) → b ≡ true → (if b then x else y) ≡ x
-if_true true x y h = refl
-if_true false x y h = absurd (true≢false (sym h))
+if_true b x y h = rw h refl
 
 pub if_false : {X : Type 0} (b : Bool) (x y : X) → b ≡ false → (if b then x else y) ≡ y
-if_false true x y h = absurd (true≢false h)
-if_false false x y h = refl
+if_false b x y h = rw h refl
 
 -- either way the same
 pub if_either : {X : Type 0} (b : Bool) (x y z : X) → x ≡ z → y ≡ z → (if b then x else y) ≡ z
@@ -100,10 +97,7 @@ items_same kind change x h = if_either (has_kind kind x) (with_items (change (it
 -- two changes in turn
 pub row_twice : (kind : Kind) (f g : List Expr → List Expr) (x : Expr) → has_kind kind x ≡ true → on_row kind f (on_row kind g x) ≡ with_parts (f (g (parts_of x))) x
 row_twice kind f g x h =
-    let y : Expr = with_parts (g (parts_of x)) x in
-    ap (on_row kind f) (row_changed kind g x h)
-    ∙ (row_changed kind f y (parts_kind kind (g (parts_of x)) x ∙ h)
-    ∙ (ap (λ ps. with_parts (f ps) y) (parts_filled kind (g (parts_of x)) x h) ∙ parts_twice (f (g (parts_of x))) (g (parts_of x)) x))
+    rw (h, parts_kind kind (g (parts_of x)) x ∙ h, parts_filled kind (g (parts_of x)) x h) (parts_twice (f (g (parts_of x))) (g (parts_of x)) x)
 
 -- ---- two changes, of which the second takes the first back
 
@@ -111,19 +105,16 @@ module _ (kind : Kind) (f g : List Expr → List Expr) where
   pub row_back : (x : Expr) → (has_kind kind x ≡ true → g (f (parts_of x)) ≡ parts_of x) → on_row kind g (on_row kind f x) ≡ x
   row_back x h = elim (cases_Bool (has_kind kind x)) [
     | inl is ↦ row_twice kind g f x is ∙ (ap (λ ps. with_parts ps x) (h is) ∙ own_parts x)
-    | inr n ↦ ap (on_row kind g) (if_false (has_kind kind x) (with_parts (f (parts_of x)) x) x n) ∙ if_false (has_kind kind x) (with_parts (g (parts_of x)) x) x n
+    | inr n ↦ rw (n, n) refl
   ]
 
   pub items_back : (x : Expr) → (has_kind kind x ≡ true → g (f (items_of x)) ≡ items_of x) → on_items kind g (on_items kind f x) ≡ x
-  items_back x h =
-      by_case (λ y. on_items kind g y ≡ x) (has_kind kind x) (with_items (f (items_of x)) x) x
-      (λ is.
-      let y : Expr = with_items (f (items_of x)) x in
-      if_true (has_kind kind y) (with_items (g (items_of y)) y) y (items_kind kind (f (items_of x)) x ∙ is)
-      ∙ (ap (λ xs. with_items (g xs) y) (items_filled kind (f (items_of x)) x is)
-      ∙ (items_twice (g (f (items_of x))) (f (items_of x)) x
-      ∙ (ap (λ xs. with_items xs x) (h is) ∙ own_items x))))
-      (λ n. if_false (has_kind kind x) (with_items (g (items_of x)) x) x n)
+  items_back x h = elim (cases_Bool (has_kind kind x)) [
+    | inl is ↦
+        rw (is, items_kind kind (f (items_of x)) x ∙ is, items_filled kind (f (items_of x)) x is)
+        (items_twice (g (f (items_of x))) (f (items_of x)) x ∙ (ap (λ xs. with_items xs x) (h is) ∙ own_items x))
+    | inr n ↦ rw (n, n) refl
+  ]
 
 -- ---- named arguments
 

@@ -17,9 +17,6 @@ in_turn a b c h i = omega arith
 pub both_at_most : (a b x y : ℕ) → a ≤ b → x ≤ y → a + x ≤ b + y
 both_at_most a b x y h i = omega arith
 
-pub last_at_most : (a b : ℕ) → b ≤ a + b
-last_at_most a b = omega arith
-
 -- ---- lists
 
 module _ {X : Type 0} (number : X → ℕ) where

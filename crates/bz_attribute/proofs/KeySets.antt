@@ -38,9 +38,7 @@ or_twice false b = refl
 
 pub or_turn : (a b c : Bool) → (a || (b || c)) ≡ (b || (a || c))
 or_turn true true c = refl
-or_turn true false c = refl
-or_turn false true c = refl
-or_turn false false c = refl
+or_turn _ _ c = refl
 
 pub or_group : (a b c : Bool) → (a || (b || c)) ≡ ((b || a) || c)
 or_group true true c = refl

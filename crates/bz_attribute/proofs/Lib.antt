@@ -8,7 +8,6 @@ pub mod KeySets
 pub mod ListsThere
 pub mod MakingForms
 pub mod MakingPieces
-pub mod MakingSums
 pub mod PlainWords
 pub mod ProperAttributes
 pub mod ProperMade

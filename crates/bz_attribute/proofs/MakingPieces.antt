@@ -1,9 +1,14 @@
 -- The pieces of a text between its dots, cut off one after the other.
-use Rattle.std.proofs.Common.{◌≡◌, ℕ, ◌+◌, ◌<◌, Bool, true, false, cond, Some, None, List, [], ◌∷◌, length, take, drop, refl, sym, ◌∙◌, ap, arith, position, nat_lt}
+use Rattle.std.proofs.Common.{◌≡◌, ℕ, ◌+◌, ◌-◌, ◌<◌, Bool, true, false, cond, Some, None, List, [], ◌∷◌, length, take, drop, refl, sym, ◌∙◌, ap, arith, nat_eq, position, nat_lt}
 use Rattle.std.specs.List.{slice_split, position_or_len}
 use Rattle.std.proofs.lemmas.Bool.Decides.{nat_tests}
+use Rattle.std.proofs.lemmas.List.{take_rest}
 use Rattle.std.proofs.lemmas.List.Splits.{slice_split_none, slice_split_first}
+use Rattle.bz_items.specs.Characters.{full_stop}
 use Rattle.bz_attribute.proofs.ArgumentPlaces.{none_passes}
+
+abbrev is_dot : ℕ → Bool
+is_dot byte = nat_eq byte full_stop
 
 -- a choice that gives something
 chosen : (b : Bool) (n at : ℕ) → cond b (Some n) None ≡ Some at → (b ≡ true) × (n ≡ at)
@@ -13,12 +18,13 @@ chosen false n at e = cc
 below : (m n : ℕ) → nat_lt m n ≡ true → m < n
 below m n e = grind (arith, nat_tests)
 
--- the first piece ends before the first element that passes
-pub piece_found : (p : ℕ → Bool) (xs : List ℕ) (at : ℕ) → position p xs ≡ Some at → slice_split p xs ≡ take at xs ∷ slice_split p (drop (at + 1) xs)
-piece_found p xs at e =
-    let here = chosen (nat_lt (position_or_len p xs) (length xs)) (position_or_len p xs) at e in
-    slice_split_first p xs 0 (below _ _ here.0) ∙ ap (λ n. take n xs ∷ slice_split p (drop (n + 1) xs)) here.1
+-- the first piece ends before the first dot
+pub piece_found : (xs : List ℕ) (at : ℕ) → Some at ≡ position is_dot xs → take at xs ∷ slice_split is_dot (take (length xs - (at + 1)) (drop (at + 1) xs)) ≡ slice_split is_dot xs
+piece_found xs at e =
+    let here = chosen (nat_lt (position_or_len is_dot xs) (length xs)) (position_or_len is_dot xs) at (sym e) in
+    ap (λ rest. take at xs ∷ slice_split is_dot rest) (take_rest xs (at + 1))
+    ∙ sym (slice_split_first is_dot xs 0 (below _ _ here.0) ∙ ap (λ n. take n xs ∷ slice_split is_dot (drop (n + 1) xs)) here.1)
 
--- where none passes, there is one piece
-pub piece_alone : (p : ℕ → Bool) (xs : List ℕ) → position p xs ≡ None → slice_split p xs ≡ xs ∷ []
-piece_alone p xs e = slice_split_none p xs (none_passes p xs (sym e)).all
+-- where there is none, there is one piece
+pub piece_alone : (xs : List ℕ) → None ≡ position is_dot xs → slice_split is_dot xs ≡ xs ∷ []
+piece_alone xs e = slice_split_none is_dot xs (none_passes is_dot xs e).all

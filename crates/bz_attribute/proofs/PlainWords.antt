@@ -1,15 +1,15 @@
 -- The string of a plain word, and its body.
-use Rattle.std.proofs.Common.{◌≡◌, ℕ, ◌+◌, ◌-◌, Bool, true, false, not, ◌||◌, [], ◌∷◌, ◌++◌, Some, None, refl, ap, ◌∙◌, length, nat_eq, arith, length-append}
+use Rattle.std.proofs.Common.{◌≡◌, ℕ, ◌+◌, ◌-◌, Bool, true, false, ◌||◌, [], ◌∷◌, ◌++◌, Some, refl, ap, ◌∙◌, length, nat_eq, arith, length-append}
 use Rattle.std.specs.Prelude.{bytes_eq}
 use Rattle.std.specs.List.{list_any}
-use Rattle.std.proofs.lemmas.Bool.{and_from, or_parts}
+use Rattle.std.proofs.lemmas.Bool.{or_parts}
 use Rattle.std.proofs.lemmas.List.{take_at}
 use Rattle.std.proofs.lemmas.Slice.Eq.{bytes_eq-Decides}
-use Rattle.bz_items.specs.Characters.{Bytes, apostrophe, backslash, quotation_mark}
+use Rattle.bz_items.specs.Characters.{Bytes, backslash, quotation_mark}
 use Rattle.bz_command_syntax.specs.Quoted.{is_escaped, quoted_of}
 use Rattle.bz_command_syntax.proofs.Strings.{quoted_plain}
-use Rattle.bz_rule.specs.Rules.{inner, is_plain_in, body}
-use Rattle.bz_attribute.proofs.FormsAgain.{if_true, both}
+use Rattle.bz_rule.specs.Rules.{inner, body}
+use Rattle.bz_attribute.proofs.FormsAgain.{both}
 
 -- no quotation mark, no backslash and no newline
 abbrev pub IsPlain : Bytes → Type 0
@@ -38,18 +38,8 @@ no_end (byte ∷ text) h =
     let q : (nat_eq byte 10 ≡ false) × (ends_string byte ≡ false) = or_parts (nat_eq byte 10) (ends_string byte) p.0 in
     both (λ x y. x || y) q.1 (no_end text p.1)
 
-plain_between : (text : Bytes) → IsPlain text → is_plain_in quotation_mark (between text) ≡ true
-plain_between text h =
-    let i : inner (between text) ≡ text = inner_between text in
-    and_from (bytes_eq (between text) (between (inner (between text)))) (not (list_any ends_string (inner (between text))))
-    (ap (λ z. bytes_eq (between text) (between z)) i ∙ equal_self (between text))
-    (ap (λ z. not (list_any ends_string z)) i ∙ ap not (no_end text h))
-
 body_between : (text : Bytes) → IsPlain text → body (between text) ≡ Some text
-body_between text h =
-    if_true (is_plain_in quotation_mark (between text) || is_plain_in apostrophe (between text)) (Some (inner (between text))) None
-    (ap (λ b. b || is_plain_in apostrophe (between text)) (plain_between text h))
-    ∙ ap Some (inner_between text)
+body_between text h = rw (inner_between text, equal_self (between text), no_end text h) refl
 
 pub body_quoted : (text : Bytes) → IsPlain text → body (quoted_of text) ≡ Some text
 body_quoted text h = ap body (quoted_plain text h) ∙ body_between text h

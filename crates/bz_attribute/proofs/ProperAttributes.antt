@@ -15,14 +15,11 @@ use Rattle.bz_rule.proofs.ProperForms.{EachInPlace, itself, none, both, all_itse
 use Rattle.bz_rule.proofs.ProperItems.{IsValue}
 use Rattle.bz_rule.proofs.ProperSequences.{IsItem, AreOf}
 use Rattle.bz_attribute.specs.Made.{argument_of}
-use Rattle.bz_attribute.specs.Attributes.{is_attribute, has_attribute, on_first_that, without_first, on_value, with_value, without, inserted, with_new, put, Arguments, by_value}
+use Rattle.bz_attribute.specs.Attributes.{is_attribute, has_attribute, on_first_that, on_value, with_value, without, inserted, with_new, put, Arguments, by_value}
 use Rattle.bz_attribute.proofs.ProperMade.{argument_item}
 
 abbrev pub AreArguments : List Expr → Type 0
 AreArguments xs = AreOf s.argument xs
-
-abbrev pub StaysArgument : (Expr → Expr) → Type 0
-StaysArgument change = (x : Expr) → IsItem s.argument x → IsItem s.argument (change x)
 
 pub first_that_kept : (P : Expr → Type 0) (test : Expr → Bool) (change : Expr → Expr) → ((x : Expr) → P x → P (change x)) → (xs : List Expr) → AllByRecursion P xs → AllByRecursion P (on_first_that test change xs)
 first_that_kept P test change f [] h = tt
@@ -34,18 +31,15 @@ first_that_stays test change h (x ∷ xs) =
     by_test (EachInPlace (x ∷ xs)) (test x) (change x ∷ xs) (x ∷ on_first_that test change xs)
     (both x (change x) xs xs (h x) (all_itself xs)) (both x x xs (on_first_that test change xs) (itself x) (first_that_stays test change h xs))
 
-pub value_stays : (change : Expr → Expr) → ((v : Expr) → IsValue v → IsValue (change v)) → StaysArgument (on_value change)
+pub value_stays : (change : Expr → Expr) → ((v : Expr) → IsValue v → IsValue (change v)) → (x : Expr) → IsItem s.argument x → IsItem s.argument (on_value change x)
 value_stays change f x = argument_changed (on_third change) (value_kept change f) x
 
 pub with_value_kept : (name : Bytes) (value : Expr) (xs : List Expr) → IsValue value → AreArguments xs → AreArguments (with_value name value xs)
 with_value_kept name value xs v h = first_that_kept (IsItem s.argument) (is_attribute name) (on_value (λ old. value)) (value_stays (λ old. value) (λ old o. v)) xs h
 
-without_first_kept : (test : Expr → Bool) (xs : List Expr) → AreArguments xs → AreArguments (without_first test xs)
-without_first_kept test [] h = tt
-without_first_kept test (x ∷ xs) h = by_test AreArguments (test x) xs (x ∷ without_first test xs) h.1 (h.0, without_first_kept test xs h.1)
-
 pub without_kept : (name : Bytes) (xs : List Expr) → AreArguments xs → AreArguments (without name xs)
-without_kept name xs h = without_first_kept (is_attribute name) xs h
+without_kept name [] h = tt
+without_kept name (x ∷ xs) h = by_test AreArguments (is_attribute name x) xs (x ∷ without name xs) h.1 (h.0, without_kept name xs h.1)
 
 inserted_kept : (argument : Expr) (xs : List Expr) → IsItem s.argument argument → AreArguments xs → AreArguments (inserted argument xs)
 inserted_kept argument [] a h = (a, tt)

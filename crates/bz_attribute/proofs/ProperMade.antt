@@ -9,7 +9,7 @@ use Rattle.bz_token.specs.Lexemes.{IsLexeme, is_mark}
 use Rattle.bz_grammar.specs.declared.kind.Kind.{Kind}
 use Rattle.bz_grammar.specs.declared.kind.Kind.TheVariants as k
 use Rattle.bz_grammar.specs.Shapes as s
-use Rattle.bz_grammar.specs.Shapes.{Fits, Listed, After, rank, is_kind, shape}
+use Rattle.bz_grammar.specs.Shapes.{Fits, Listed, rank, is_kind, shape}
 use Rattle.bz_grammar.specs.Legal.{IsNonterminal}
 use Rattle.bz_grammar.specs.Spots.{Spot, Begins, Within}
 use Rattle.bz_label.specs.Tables.{is_label_attribute}
@@ -64,6 +64,10 @@ name_new text a = token_new c.Name text ((identifiers_are_names text).0 a.0) a.1
 pub new_part : (binary : Bool) (outer here : Spot) (x : Expr) (xs : List Expr) → IsNew x → AreParts binary outer (after_expr outer here x) xs → AreParts binary outer here (x ∷ xs)
 new_part binary outer here x xs n h = (n.proper here, n.comments, λ b. absurd (true≢false (sym b ∙ n.breaks)), h)
 
+new_parts : (binary : Bool) (outer here : Spot) (xs : List Expr) → AllByRecursion IsNew xs → AreParts binary outer here xs
+new_parts binary outer here [] n = tt
+new_parts binary outer here (x ∷ xs) n = new_part binary outer here x xs n.0 (new_parts binary outer (after_expr outer here x) xs n.1)
+
 -- a node of a row of parts
 pub row_proper : (here : Spot) (kind : Kind) (ps : List Expr) → frame kind ≡ row → Fits IsNonterminal (shape kind) (row_in (frame kind) (map root ps) []) → AreParts (is_binary kind) here here ps → ProperExpr here (node kind ps)
 row_proper here kind ps is fits parts =
@@ -116,12 +120,9 @@ argument_item attribute value a v =
 
 dot_function : (front : Expr) (text : Bytes) → IsFunction front → IsAttribute text → IsFunction (node k.Dot (front ∷ mark (codes ".") ∷ name text ∷ []))
 dot_function front text f a =
-    let proper : (here : Spot) → ProperExpr here (node k.Dot (front ∷ mark (codes ".") ∷ name text ∷ [])) = λ here.
-    row_proper here k.Dot (front ∷ mark (codes ".") ∷ name text ∷ []) refl (f.2, (refl, (refl, tt)))
-    (new_part false here here front (mark (codes ".") ∷ name text ∷ []) (record { proper = f.0; comments = f.1.0; breaks = f.1.1 })
-    (new_part false here (after_expr here here front) (mark (codes ".")) (name text ∷ []) (mark_new 46 (omega arith) refl)
-    (new_part false here (after_expr here (after_expr here here front) (mark (codes "."))) (name text) [] (name_new text a) tt))) in
-    (proper, (refl, refl), refl)
+    let ps : List Expr = front ∷ mark (codes ".") ∷ name text ∷ [] in
+    let new : AllByRecursion IsNew ps = (record { proper = f.0; comments = f.1.0; breaks = f.1.1 }, (mark_new 46 (omega arith) refl, (name_new text a, tt))) in
+    ((λ here. row_proper here k.Dot ps refl (f.2, (refl, (refl, tt))) (new_parts false here here ps new)), (refl, refl), refl)
 
 dotted_function : (front : Expr) (texts : List Bytes) → IsFunction front → AllByRecursion IsAttribute texts → IsFunction (dotted_after front texts)
 dotted_function front [] f h = f
@@ -162,19 +163,8 @@ abbrev IsOperand : Expr → Type 0
 IsOperand x = (ProperExpr Within x × (comments_of x ≡ no_comments) × (has_break x ≡ false)) × IsNonterminal (s.level 2) (root x)
 
 tight_kind : (kind : Kind) → is_kind kind k.Sum ≡ false → nat_lt (rank k.Sum) (rank kind) ≡ false → s.nonterminal_has_kind s.test kind ≡ true → s.nonterminal_has_kind (s.level 2) kind ≡ true
-tight_kind k.Sum n t h = absurd (true≢false n)
-tight_kind k.Shift n t h = absurd (true≢false t)
-tight_kind k.BitAnd n t h = absurd (true≢false t)
-tight_kind k.Xor n t h = absurd (true≢false t)
-tight_kind k.BitOr n t h = absurd (true≢false t)
-tight_kind k.Compare n t h = absurd (true≢false t)
-tight_kind k.Not n t h = absurd (true≢false t)
-tight_kind k.And n t h = absurd (true≢false t)
-tight_kind k.Or n t h = absurd (true≢false t)
-tight_kind k.Cond n t h = absurd (true≢false t)
-tight_kind k.Lambda n t h = absurd (true≢false t)
-tight_kind k.Row n t h = absurd (true≢false t)
-tight_kind _ n t h = h
+tight_kind k.Sum n t h = cc
+tight_kind _ n t h = cc
 
 tight : (x : Expr) → has_kind k.Sum x ≡ false → binds_looser x ≡ false → IsNonterminal s.test (root x) → IsNonterminal (s.level 2) (root x)
 tight (Token t) n b h = h
@@ -197,9 +187,7 @@ abbrev more_operands : List Expr → List Expr
 more_operands items = mark (codes "+") ∷ list_of items ∷ []
 
 more_parts : (outer here : Spot) (items : List Expr) → AreOf s.test items → AreParts true outer here (more_operands items)
-more_parts outer here items h =
-    new_part true outer here (mark (codes "+")) (list_of items ∷ []) (mark_new 43 (omega arith) refl)
-    (new_part true outer (after_expr outer here (mark (codes "+"))) (list_of items) [] (list_new items h) tt)
+more_parts outer here items h = new_parts true outer here (more_operands items) (mark_new 43 (omega arith) refl, (list_new items h, tt))
 
 sum_value : (first : Expr) (items : List Expr) → IsOperand first → AreOf s.test items → IsValue (node k.Sum (first ∷ more_operands items))
 sum_value first items o h =
@@ -217,54 +205,30 @@ no_sign : (x : Expr) → IsNonterminal (s.level 2) (root x) → is_operator x �
 no_sign (Token t) h = word_class t.class t.text h
 no_sign (Form' kind s parts s' items end split open_break comments) h = refl
 
-abbrev ends_operator : List Expr → Bool
-ends_operator [] = false
-ends_operator (x ∷ []) = is_operator x
-ends_operator (x ∷ y ∷ ys) = ends_operator (y ∷ ys)
-
 abbrev Operands : List Expr → Type 0
 Operands xs = Listed (IsNonterminal (s.level 2)) s.sums false (Fits IsNonterminal s.done) (map root xs)
 
-abbrev AfterOperand : List Expr → Type 0
-AfterOperand xs = After (IsNonterminal (s.level 2)) s.sums false (Fits IsNonterminal s.done) (map root xs)
+module _ (items : List Expr) (are : AreOf s.test items) where
+  sum_more : (here : Spot) (xs : List Expr) → Operands xs → AreParts true Within here xs → Operands (xs ++ more_operands items) × AreParts true Within here (xs ++ more_operands items)
+  sum_more here [] h a = absurd h
+  sum_more here (x ∷ []) h a = (
+    (h.0, inr (refl, inl (refl, tt))),
+    (a.0, a.1, λ b. absurd (true≢false (sym (a.2 b).0 ∙ ap (λ z. z && true) (no_sign x h.0))), more_parts Within (after_expr Within here x) items are),
+  )
+  sum_more here (x ∷ y ∷ ys) (h, inl e) a = absurd e
+  sum_more here (x ∷ y ∷ []) (h, inr (t, inl e)) a = absurd e
+  sum_more here (x ∷ y ∷ z ∷ zs) (h, inr (t, inl e)) a =
+      let more = sum_more (after_expr Within (after_expr Within here x) y) (z ∷ zs) e a.3.3 in ((h, inr (t, inl more.0)), (a.0, a.1, a.2, (a.3.0, a.3.1, a.3.2, more.1)))
+  sum_more here (x ∷ y ∷ ys) (h, inr (t, inr e)) a = absurd (true≢false (sym e.0))
 
-mutual
-  operands_more : (items xs : List Expr) → Operands xs → Operands (xs ++ more_operands items)
-  operands_more items [] h = absurd h
-  operands_more items (x ∷ xs) h = (h.0, after_more items xs h.1)
-
-  after_more : (items xs : List Expr) → AfterOperand xs → AfterOperand (xs ++ more_operands items)
-  after_more items [] h = inr (refl, inl (refl, tt))
-  after_more items (x ∷ xs) (inl h) = absurd h
-  after_more items (x ∷ xs) (inr (t, inl h)) = inr (t, inl (operands_more items xs h))
-  after_more items (x ∷ xs) (inr (t, inr h)) = absurd (true≢false (sym h.0))
-
-operands_end : (xs : List Expr) → Operands xs → ends_operator xs ≡ false
-operands_end [] h = refl
-operands_end (x ∷ []) h = no_sign x h.0
-operands_end (x ∷ y ∷ ys) (h, inl e) = absurd e
-operands_end (x ∷ y ∷ []) (h, inr (t, inl e)) = absurd e
-operands_end (x ∷ y ∷ z ∷ zs) (h, inr (t, inl e)) = operands_end (z ∷ zs) e
-operands_end (x ∷ y ∷ ys) (h, inr (t, inr e)) = absurd (true≢false (sym e.0))
-
-parts_more : (outer here : Spot) (items xs : List Expr) → AreOf s.test items → ends_operator xs ≡ false → AreParts true outer here xs → AreParts true outer here (xs ++ more_operands items)
-parts_more outer here items [] h n a = more_parts outer here items h
-parts_more outer here items (x ∷ []) h n a = (
-  a.0,
-  a.1,
-  λ b. absurd (true≢false (sym (a.2 b).0 ∙ ap (λ z. z && true) n)),
-  more_parts outer (after_expr outer here x) items h,
-)
-parts_more outer here items (x ∷ y ∷ ys) h n a = (a.0, a.1, a.2, parts_more outer (after_expr outer here x) items (y ∷ ys) h n a.3)
-
-sum_kept : (items : List Expr) → AreOf s.test items → KeepsRow k.Sum (λ parts. parts ++ more_operands items)
-sum_kept items h end split open_break [] xs g = absurd g.0
-sum_kept items h end split open_break (x ∷ []) xs g = absurd g.0.1
-sum_kept items h end split open_break (x ∷ y ∷ []) xs g = absurd g.0.1.1
-sum_kept items h end split open_break (x ∷ y ∷ z ∷ zs) xs g = (
-  (g.0.0, (g.0.1.0, operands_more items (z ∷ zs) g.0.1.1)),
-  (parts_more Within Within items (x ∷ y ∷ z ∷ zs) h (operands_end (z ∷ zs) g.0.1.1) g.1.0, g.1.1, g.1.2, g.1.3, g.1.4),
-)
+  sum_kept : KeepsRow k.Sum (λ parts. parts ++ more_operands items)
+  sum_kept end split open_break [] xs g = absurd g.0
+  sum_kept end split open_break (x ∷ []) xs g = absurd g.0.1
+  sum_kept end split open_break (x ∷ y ∷ []) xs g = absurd g.0.1.1
+  sum_kept end split open_break (x ∷ y ∷ z ∷ zs) xs g =
+      let row = g.1.0 in
+      let more = sum_more (after_expr Within (after_expr Within Within x) y) (z ∷ zs) g.0.1.1 row.3.3 in
+      ((g.0.0, (g.0.1.0, more.0)), ((row.0, row.1, row.2, (row.3.0, row.3.1, row.3.2, more.1)), g.1.1, g.1.2, g.1.3, g.1.4))
 
 only_sum : (change : List Expr → List Expr) → KeepsRow k.Sum change → (kind : Kind) → is_kind kind k.Sum ≡ true → KeepsRow kind change
 only_sum change keeps k.Sum is = keeps

@@ -9,22 +9,13 @@ ghost use Rattle.bz_rule.specs.Values.{has_kind, on_row, on_third};
 ghost use Rattle.bz_attribute.specs.Attributes.{is_attribute, has_attribute, is_other_attribute, inserted, with_value, with_new, without, put};
 
 use crate::making::{argument_of, token};
+use crate::readings::has_kind;
 use bz_grammar::{Class, Kind};
 use bz_items::{Items, Memory, Text};
 use bz_rule::{attribute, value_named};
 use bz_value::Expr;
 use std::alloc::Global;
 use std::mem;
-
-/// Whether the expression is a node of this kind.
-pub fn has_kind(kind: Kind, x: &Expr) -> bool
-    ensures { result ≡ has_kind kind x.now }
-{
-    match x {
-        Expr::Token(_) => false,
-        Expr::Form(form) => form.kind == kind,
-    }
-}
 
 /// Whether the expression is a named argument of this name.
 pub fn is_attribute(name: &[u8], x: &Expr) -> bool
@@ -87,8 +78,11 @@ fn swap_first(name: &[u8], other: &mut Expr, arguments: &mut Items<Expr>)
     ensures arguments { arguments.new ≡ with_value name.now other.old arguments.old }
     ensures other { has_attribute name.now arguments.old ≡ true → Some other.new ≡ attribute name.now arguments.old }
 {
-    if let Some(at) = place_of(name, arguments.as_slice()) {
-        swap_value(Kind::Named, other, arguments.at_mut(at));
+    for x in arguments.as_mut_slice().iter_mut() {
+        if is_attribute(name, x) {
+            swap_value(Kind::Named, other, x);
+            return;
+        }
     }
 }
 

@@ -8,15 +8,16 @@ mod readings;
 mod sets;
 
 pub use arguments::{
-    add_attribute, has_attribute, has_kind, is_attribute, is_other_attribute, place_of, put,
-    remove_first, set_value, swap_value, take_value,
+    add_attribute, has_attribute, is_attribute, is_other_attribute, place_of, put, remove_first,
+    set_value, swap_value, take_value,
 };
+pub use bz_rule::first_text;
 pub use making::{
     Slot, append_to, function_of, list_of, new_token, node, plus, rule_made, sequence, set_text,
     string_of, string_text, token,
 };
 pub use readings::{
-    body_of, first_text, has_lists, is_empty_list, is_item, is_no_list, items_of, operands_of,
+    body_of, has_kind, has_lists, is_empty_list, is_item, is_no_list, items_of, operands_of,
     parts_of,
 };
 pub use sets::{has_text, insert_text};

@@ -1,20 +1,20 @@
-//! New parts of a file value: no comments, no sequence split, no break. Where memory is refused, what a function was given is handed
-//! to `drop`: dropped by the end of its scope, each form of it would be a path of that function's proof.
+//! New parts of a file value: no comments, no sequence split, no break.
 ghost use Rattle.std.specs.Prelude.{◌≡◌, IfOk, OnOk, [], ◌∷◌, ◌++◌, nat_eq, nat_lt, codes, position, length, ◌<◌, IfSome};
 ghost use Rattle.std.specs.List.{slice_split};
 ghost use Rattle.std.specs.Option.{option_map_or};
 ghost use Rattle.bz_grammar.specs.declared.kind.Kind.TheVariants as k;
 ghost use Rattle.bz_grammar.specs.Shapes.{rank};
 ghost use Rattle.bz_items.specs.Characters.{full_stop};
-ghost use Rattle.bz_rule.specs.Values.{on_items, with_text};
+ghost use Rattle.bz_rule.specs.Values.{on_items, on_row, with_text};
 ghost use Rattle.bz_attribute.specs.Made.{token, node, sequence, name, mark, shortened_in, string_text, string_of, list_of, binds_looser, operand, plus, function_of, argument_of, rule_made};
 
+use crate::readings::has_kind;
 use bz_command_syntax::quoted;
 use bz_grammar::{Class, Kind};
 use bz_items::{Items, Memory, Text};
 use bz_label::bytes::{is_label_attribute, shortened};
 use bz_value::{Comments, EndComments, Expr, Form, Item, Seq, Token};
-use std::alloc::{AllocError, Global};
+use std::alloc::Global;
 use std::mem;
 
 /// An attribute of the rules of a package, into which words are put.
@@ -79,43 +79,23 @@ pub fn node(alloc: Global, kind: Kind, parts: Items<Expr>) -> Expr
 pub fn new_token(alloc: Global, class: Class, text: &[u8]) -> Result<Expr, Memory>
     ensures { IfOk result (λ x. x ≡ token class text.now) }
 {
-    let text = Text::from_slice(alloc, text)?;
-    Ok(token(class, text))
+    Ok(token(class, Text::from_slice(alloc, text)?))
 }
 
-/// A list of this one.
-fn alone(alloc: Global, x: Expr) -> Result<Items<Expr>, Memory>
-    ensures { IfOk result (λ row. row ≡ x ∷ []) }
+/// These expressions as the parts of a node.
+fn row<const N: usize>(alloc: Global, parts: [Expr; N]) -> Result<Items<Expr>, Memory>
+    ensures { IfOk result (λ row. row ≡ parts.entry) }
 {
-    let row = Vec::from_array(alloc, [x])?;
-    Ok(Items::from_vec(row))
-}
-
-/// A node of these three parts.
-fn of_three(
-    alloc: Global,
-    kind: Kind,
-    left: Expr,
-    middle: Expr,
-    right: Expr,
-) -> Result<Expr, Memory>
-    ensures { IfOk result (λ x. x ≡ node kind (left ∷ middle ∷ right ∷ [])) }
-{
-    let row = Vec::from_array(alloc, [left, middle, right])?;
-    Ok(node(alloc, kind, Items::from_vec(row)))
+    Ok(Items::from_vec(Vec::from_array(alloc, parts)?))
 }
 
 /// A node of two expressions with a sign between them.
 fn joined(alloc: Global, kind: Kind, left: Expr, sign: &[u8], right: Expr) -> Result<Expr, Memory>
     ensures { IfOk result (λ x. x ≡ node kind (left ∷ mark sign.now ∷ right ∷ [])) }
 {
-    let Ok(sign) = new_token(alloc, Class::Mark, sign) else {
-        drop(left);
-        drop(right);
-        return Err(AllocError);
-    };
-    let x = of_three(alloc, kind, left, sign, right)?;
-    Ok(x)
+    let sign = new_token(alloc, Class::Mark, sign)?;
+    let row = row(alloc, [left, sign, right])?;
+    Ok(node(alloc, kind, row))
 }
 
 /// The word as it is put into an attribute: shortened where that is a label attribute.
@@ -213,92 +193,42 @@ fn binds_looser(x: &Expr) -> bool
     }
 }
 
-/// The texts of two tokens.
-fn both(alloc: Global, one: &[u8], other: &[u8]) -> Result<(Text, Text), Memory>
-    ensures { IfOk result (λ texts. (texts.0 ≡ one.now) × (texts.1 ≡ other.now)) }
-{
-    let first = Text::from_slice(alloc, one)?;
-    let second = Text::from_slice(alloc, other)?;
-    Ok((first, second))
-}
-
-/// The expression between brackets.
-fn bracketed(alloc: Global, x: Expr) -> Result<Expr, Memory>
-    ensures { IfOk result (λ y. y ≡ node k.Paren (mark (codes "(") ∷ x ∷ mark (codes ")") ∷ [])) }
-{
-    let Ok((open, close)) = both(alloc, b"(", b")") else {
-        drop(x);
-        return Err(AllocError);
-    };
-    let between = of_three(
-        alloc,
-        Kind::Paren,
-        token(Class::Mark, open),
-        x,
-        token(Class::Mark, close),
-    )?;
-    Ok(between)
-}
-
 /// The expression as an operand of a sum: between brackets where it binds looser.
 fn operand(alloc: Global, x: Expr) -> Result<Expr, Memory>
     ensures { IfOk result (λ y. y ≡ operand x) }
 {
-    if binds_looser(&x) {
-        return bracketed(alloc, x);
+    if !binds_looser(&x) {
+        return Ok(x);
     }
-    Ok(x)
+    let open = new_token(alloc, Class::Mark, b"(")?;
+    let close = new_token(alloc, Class::Mark, b")")?;
+    let row = row(alloc, [open, x, close])?;
+    Ok(node(alloc, Kind::Paren, row))
 }
 
-/// The sum of a value that is no sum and a list.
-fn sum_of(alloc: Global, value: Expr, list: Expr) -> Result<Expr, Memory>
-    ensures { IfOk result (λ x. x ≡ node k.Sum (operand value ∷ mark (codes "+") ∷ list ∷ [])) }
+/// Puts a sign and a list after the parts of a sum; any other expression stays.
+fn add_operand(alloc: Global, list: Expr, x: &mut Expr) -> Result<(), Memory>
+    ensures { OnOk result (x.new ≡ on_row k.Sum (λ parts. parts ++ mark (codes "+") ∷ list ∷ []) x.old) }
 {
-    match operand(alloc, value) {
-        Ok(value) => joined(alloc, Kind::Sum, value, b"+", list),
-        Err(fault) => {
-            drop(list);
-            Err(fault)
-        }
+    let sign = new_token(alloc, Class::Mark, b"+")?;
+    let mut more = Vec::from_array(alloc, [sign, list])?;
+    match x {
+        Expr::Form(form) if form.kind == Kind::Sum => append(&mut more, &mut form.parts),
+        _ => Ok(()),
     }
-}
-
-/// A sum with a further operand after a sign.
-fn with_operand(mut sum: Form, sign: Expr, value: Expr) -> Result<Form, Memory>
-    ensures { IfOk result (λ more. more ≡ record sum { parts = sum.parts ++ sign ∷ value ∷ [] }) }
-{
-    if sum.parts.push(sign).is_err() {
-        drop(value);
-        drop(sum);
-        return Err(AllocError);
-    }
-    if sum.parts.push(value).is_err() {
-        drop(sum);
-        return Err(AllocError);
-    }
-    Ok(sum)
 }
 
 /// A value and a list: a sum takes the list as a further operand.
-#[tactic(auto, using(crate::proofs::MakingSums::plus_Form))]
 pub fn plus(alloc: Global, value: Expr, list: Expr) -> Result<Expr, Memory>
     ensures { IfOk result (λ x. x ≡ plus value list) }
 {
-    match value {
-        Expr::Token(token) => sum_of(alloc, Expr::Token(token), list),
-        Expr::Form(form) => {
-            if form.kind != Kind::Sum {
-                return sum_of(alloc, Expr::Form(form), list);
-            }
-            let Ok(sign) = new_token(alloc, Class::Mark, b"+") else {
-                drop(form);
-                drop(list);
-                return Err(AllocError);
-            };
-            let sum = with_operand(form, sign, list)?;
-            Ok(Expr::Form(sum))
-        }
+    if !has_kind(Kind::Sum, &value) {
+        let first = operand(alloc, value)?;
+        return joined(alloc, Kind::Sum, first, b"+", list);
     }
+    let mut sum = value;
+    add_operand(alloc, list, &mut sum)?;
+    Ok(sum)
 }
 
 /// Where the first dot is.
@@ -309,6 +239,7 @@ fn dot_place(text: &[u8]) -> Option<usize>
 }
 
 /// What is before the first dot, and what is after it.
+#[tactic(auto, using(crate::proofs::MakingPieces::piece_found, crate::proofs::MakingPieces::piece_alone))]
 fn cut(text: &[u8]) -> (&[u8], Option<&[u8]>)
     ensures pieces { slice_split (λ byte. nat_eq byte full_stop) text.now
         ≡ result.0.now ∷ option_map_or (λ rest. slice_split (λ byte. nat_eq byte full_stop) rest.now) result.1 [] }
@@ -324,13 +255,8 @@ fn cut(text: &[u8]) -> (&[u8], Option<&[u8]>)
 fn dotted(alloc: Global, front: Expr, text: &[u8]) -> Result<Expr, Memory>
     ensures { IfOk result (λ x. x ≡ node k.Dot (front ∷ mark (codes ".") ∷ name text.now ∷ [])) }
 {
-    match new_token(alloc, Class::Name, text) {
-        Ok(name) => joined(alloc, Kind::Dot, front, b".", name),
-        Err(fault) => {
-            drop(front);
-            Err(fault)
-        }
-    }
+    let name = new_token(alloc, Class::Name, text)?;
+    joined(alloc, Kind::Dot, front, b".", name)
 }
 
 /// The function of a call, by a kind: names joined by dots.
@@ -351,25 +277,17 @@ pub fn function_of(alloc: Global, kind: &[u8]) -> Result<Expr, Memory>
 pub(crate) fn argument_of(alloc: Global, attribute: &[u8], value: Expr) -> Result<Expr, Memory>
     ensures { IfOk result (λ x. x ≡ argument_of attribute.now value) }
 {
-    match new_token(alloc, Class::Name, attribute) {
-        Ok(name) => joined(alloc, Kind::Named, name, b"=", value),
-        Err(fault) => {
-            drop(value);
-            Err(fault)
-        }
-    }
+    let name = new_token(alloc, Class::Name, attribute)?;
+    joined(alloc, Kind::Named, name, b"=", value)
 }
 
 /// `kind(name = "word")`.
 pub fn rule_made(alloc: Global, kind: &[u8], word: &[u8]) -> Result<Item, Memory>
     ensures { IfOk result (λ item. item ≡ rule_made kind.now word.now) }
 {
-    let function = alone(alloc, function_of(alloc, kind)?)?;
-    let text = quoted(alloc, word)?;
-    let argument = alone(
-        alloc,
-        argument_of(alloc, b"name", token(Class::String, text))?,
-    )?;
-    let call = alone(alloc, sequence(alloc, Kind::Call, function, argument))?;
+    let function = row(alloc, [function_of(alloc, kind)?])?;
+    let name = token(Class::String, quoted(alloc, word)?);
+    let arguments = row(alloc, [argument_of(alloc, b"name", name)?])?;
+    let call = row(alloc, [sequence(alloc, Kind::Call, function, arguments)])?;
     Ok(Item::Stmt(node(alloc, Kind::Bare, call)))
 }

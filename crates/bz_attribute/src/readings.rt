@@ -3,15 +3,24 @@ ghost use Rattle.std.specs.Prelude.{◌≡◌};
 ghost use Rattle.std.specs.List.{flat_map, list_any};
 ghost use Rattle.std.specs.Option.{option_copied};
 ghost use Rattle.bz_grammar.specs.declared.kind.Kind.TheVariants as kinds;
-ghost use Rattle.bz_rule.specs.Values.{has_kind as is_of, has_class as is_in, first_text as first, parts_of as parts, items_of as items, text_of as text};
+ghost use Rattle.bz_rule.specs.Values.{has_kind as is_of, has_class as is_in, parts_of as parts, items_of as items};
 ghost use Rattle.bz_attribute.specs.Lists.{has_lists as has_any, is_no_list as is_none, is_empty_list as is_empty, body_of as plain, are_one, is_item as item, items_in, listed};
 
-use crate::arguments::has_kind;
 use bz_grammar::{Class, Kind};
 use bz_label::bytes::{is_label_attribute, same};
 use bz_rule::{body, text_in};
 use bz_value::Expr;
 use std::slice;
+
+/// Whether the expression is a node of this kind.
+pub fn has_kind(kind: Kind, x: &Expr) -> bool
+    ensures { result ≡ is_of kind x.now }
+{
+    match x {
+        Expr::Token(_) => false,
+        Expr::Form(form) => form.kind == kind,
+    }
+}
 
 /// Whether the expression is a token of this class.
 fn has_class(class: Class, x: &Expr) -> bool
@@ -20,26 +29,6 @@ fn has_class(class: Class, x: &Expr) -> bool
     match x {
         Expr::Token(token) => token.class == class,
         Expr::Form(_) => false,
-    }
-}
-
-/// The text of a token; of a form none.
-fn text_of(x: &Expr) -> &[u8]
-    ensures { result.now ≡ text x.now }
-{
-    match x {
-        Expr::Token(token) => token.text.as_slice(),
-        Expr::Form(_) => &[],
-    }
-}
-
-/// The text of the first part: of a named argument, its name.
-pub fn first_text(parts: &[Expr]) -> &[u8]
-    ensures { result.now ≡ first parts.now }
-{
-    match parts {
-        [] => &[],
-        [first, ..] => text_of(first),
     }
 }
 

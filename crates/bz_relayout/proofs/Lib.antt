@@ -1,3 +1,4 @@
 pub mod Renewals
 pub mod Rereadings
+pub mod Rooms
 pub mod Resplicings
