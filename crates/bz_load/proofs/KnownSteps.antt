@@ -1,7 +1,7 @@
 -- The sets of the code: the symbols that are loaded already, what is found among them, what they are with one more, and the
 -- symbols that are none of them; and the names that are used.
 use Rattle.std.proofs.Common.{◌≡◌, ◌≤◌, ℕ, length, drop, Bool, true, false, ◌||◌, ◌&&◌, List, [], ◌∷◌, ◌++◌, refl, sym, ap, ◌∙◌, arith}
-use Rattle.std.specs.Prelude.{bytes_eq, if◌then◌else◌, not, None, Vec}
+use Rattle.std.specs.Prelude.{bytes_eq, not, None, Vec}
 use Rattle.std.specs.List.{list_any, position}
 use Rattle.std.proofs.lemmas.Bool.{and_parts, not-false, not-true}
 use Rattle.std.proofs.Math.Path.{fun_ext}
@@ -9,7 +9,7 @@ use Rattle.std.proofs.lemmas.List.{at_drop_all}
 use Rattle.indexmap.specs.IndexSet.{insert_key}
 use Rattle.bz_items.specs.Characters.{Bytes}
 use Rattle.bz_command_syntax.specs.declared.command.Symbol.{Symbol}
-use Rattle.bz_attribute.proofs.KeySets.{any_on, or_turn, equal_texts, or_none}
+use Rattle.bz_attribute.proofs.KeySets.{or_turn, equal_texts, or_none}
 use Rattle.bz_attribute.proofs.FormsAgain.{if_true, if_false}
 use Rattle.bz_load.specs.declared.readings.Loaded.{Loaded}
 use Rattle.bz_load.specs.contracts.readings.LoadedPartialEq.TheImpl as loaded_eq

@@ -27,7 +27,7 @@ use Rattle.bz_load.specs.Loads.{path_in, is_load_from, symbol_named, is_symbol, 
 use Rattle.bz_load.specs.NewLoad.{and_symbol, new_symbols, symbol_made, load_made, with_symbols, new_load}
 use Rattle.bz_load.specs.Laws.{becomes_plain, LoadedAgain, UnusedAgain, has_second_package, MovedAgain, loses_load, FixedAgain}
 use Rattle.bz_load.proofs.KnownSteps.{same_symbol}
-use Rattle.bz_load.proofs.PlaceSteps.{any_put, found_put, left_put, ends_other, ends_alike, map_put, next_end, package_no_load}
+use Rattle.bz_load.proofs.PlaceSteps.{any_put, found_put, left_put, ends_other, ends_alike, map_put, next_end}
 use Rattle.bz_load.proofs.PutSteps.{with_none}
 use Rattle.std.proofs.Math.Path.{fun_ext}
 use Rattle.std.proofs.lemmas.List.Elements.{recursion_from_All, All-from_recursion}
@@ -388,11 +388,10 @@ module _ (f : Item → Item) where
 -- ---- loads without some of their symbols
 
 load_no_package : (item : Item) → is_load_item item ≡ true → is_package_call item ≡ false
-load_no_package item is = by (is_package_call item) refl
-  where
-    by : (b : Bool) → is_package_call item ≡ b → b ≡ false
-    by true e = absurd (true≢false (sym is ∙ package_no_load item e))
-    by false e = refl
+load_no_package (i.Block lines) is = refl
+load_no_package (i.Stmt (Token t)) is = refl
+load_no_package (i.Stmt (Form' k.Load s parts s' items end split open_break comments)) is = refl
+load_no_package (i.Stmt (Form' _ s parts s' items end split open_break comments)) is = absurd (true≢false (sym is))
 
 used_package : (used : Bytes → Bool) (item : Item) → is_package_call (used_alone used item) ≡ is_package_call item
 used_package used item = elim (cases_Bool (is_load_item item)) [

@@ -8,7 +8,6 @@ use Rattle.std.proofs.lemmas.List.Elements.{recursion_from_All}
 use Rattle.bz_token.specs.declared.class.Class.TheVariants as c
 use Rattle.bz_grammar.specs.declared.kind.Kind.TheVariants as k
 use Rattle.bz_grammar.specs.Shapes as s
-use Rattle.bz_grammar.specs.Shapes.{Terminal, has_token}
 use Rattle.bz_grammar.specs.Spots.{Begins}
 use Rattle.bz_value.specs.declared.value.Expr.{Expr, Token, Form', items-the_row-Expr}
 use Rattle.bz_value.specs.declared.value.Item.{Item}
@@ -17,7 +16,6 @@ use Rattle.bz_value.specs.Comments.{HostComments, no_comments}
 use Rattle.bz_value.specs.Counted.{total, suffix_amount, host_amount, row_amount, item_amount, one_if}
 use Rattle.bz_items.specs.Characters.{Bytes}
 use Rattle.bz_value.specs.Proper.{comments_of, IsProperItem}
-use Rattle.bz_value.specs.Roots.{root}
 use Rattle.bz_value.proofs.Totals.{append_total, form_amount}
 use Rattle.bz_value.specs.Empty.{is_empty, is_none}
 use Rattle.bz_command_syntax.specs.Quoted.{quoted_of}

@@ -26,8 +26,8 @@ use Rattle.bz_rule.specs.Rules.{is_text}
 use Rattle.bz_rule.specs.Values.{has_kind, items_of, with_items, on_items, on_rest, parts_of}
 use Rattle.bz_rule.proofs.ProperChanges.{by_test, by_case}
 use Rattle.bz_rule.proofs.ProperForms.{InPlace, itself, AsForm, opened}
-use Rattle.bz_rule.proofs.ProperItems.{all_joined, all_kept}
-use Rattle.bz_rule.proofs.ProperSequences.{IsItem, AreOf, Keeps, items_again, each_item, load_in_place, items_apart}
+use Rattle.bz_rule.proofs.ProperItems.{all_joined, all_kept, all_changed}
+use Rattle.bz_rule.proofs.ProperSequences.{IsItem, AreOf, items_again, each_item, load_in_place, items_apart}
 use Rattle.bz_attribute.specs.Made.{token, node, mark, name}
 use Rattle.bz_attribute.specs.Attributes.{on_first_that, without_first}
 use Rattle.bz_attribute.proofs.ProperTexts.{one_ascii}
@@ -69,13 +69,10 @@ alias_item to from a u =
     (new_part false Within Within right [] (string_new from u) tt)) in
     ((row_proper Within k.Alias (name to ∷ sign ∷ right ∷ []) refl (refl, (refl, (refl, tt))) parts, none_there, refl), refl)
 
-string_item : (from : Bytes) → IsUtf8 from → IsItem s.loaded (token c.String (quoted_of from))
-string_item from u = (((string_new from u).proper Within, none_there, refl), refl)
-
 symbol_item : (symbol : Symbol) → IsSymbol symbol → IsItem s.loaded (symbol_made symbol)
 symbol_item symbol h =
     by_test (IsItem s.loaded) (bytes_eq symbol.to symbol.from) (token c.String (quoted_of symbol.from)) (node k.Alias (name symbol.to ∷ mark (codes "=") ∷ token c.String (quoted_of symbol.from) ∷ []))
-    (string_item symbol.from h.1.1) (alias_item symbol.to symbol.from h.0 h.1.1)
+    (((string_new symbol.from h.1.1).proper Within, none_there, refl), refl) (alias_item symbol.to symbol.from h.0 h.1.1)
 
 symbol_items : (symbols : List Symbol) → EachIs IsSymbol symbols → AreOf s.loaded (map symbol_made symbols)
 symbol_items [] h = tt
@@ -113,15 +110,12 @@ after_the_path path more (x ∷ xs) h = refl
 stays_statement : (x y : Expr) → InPlace x y → IsProperItem (i.Stmt x) → IsProperItem (i.Stmt y)
 stays_statement x y p w = (subst (λ b. b ≡ true) p.statement w.0, p.proper Begins w.1, subst AreComments p.comments w.2)
 
-more_keeps : (more : List Expr) → AreOf s.loaded more → Keeps s.loaded (λ ys. ys ++ more)
-more_keeps more m xs h = all_joined (IsItem s.loaded) xs more h m
-
 more_symbols : (path : Bytes) (more : List Expr) → AreOf s.loaded more → (item : Item) → is_load_from path item ≡ true → IsProperItem item → IsProperItem (with_symbols more item)
 more_symbols path more h (i.Block lines) is w = w
 more_symbols path more h (i.Stmt x) is w =
     let p = and_parts (has_kind k.Load x) (is_text path (path_in (items_of x))) is in
     subst (λ (ys : List Expr). IsProperItem (i.Stmt (if has_kind k.Load x then with_items ys x else x))) (after_the_path path more (items_of x) p.1)
-    (stays_statement x (on_items k.Load (on_rest (λ ys. ys ++ more)) x) (load_in_place (λ ys. ys ++ more) (more_keeps more h) x) w)
+    (stays_statement x (on_items k.Load (on_rest (λ ys. ys ++ more)) x) (load_in_place (λ ys. ys ++ more) (λ xs m. all_joined (IsItem s.loaded) xs more m h) x) w)
 
 -- ---- places
 
@@ -148,14 +142,11 @@ used_statement used (i.Stmt x) h =
     stays_statement x (with_used used x)
     (by_test (InPlace x) (has_own_comments x) x (on_items k.Load (on_rest change) x) (itself x) (load_in_place change (λ xs m. all_kept (IsItem s.loaded) (symbol_stays used) xs m) x)) h
 
-used_each : (used : Bytes → Bool) (items : List Item) → AreFine items → AreFine (map (used_alone used) items)
-used_each used [] h = tt
-used_each used (item ∷ items) h = (used_statement used item h.0, used_each used items h.1)
-
 unused_keeps : (items : List Item) → AreFine items → AreFine (unused_loads items)
 unused_keeps items h =
     let used : Bytes → Bool = is_used items in
-    used_each used (filter (λ item. not (is_emptied used item)) items) (all_kept IsProperItem (λ item. not (is_emptied used item)) items h)
+    let rest : List Item = filter (λ item. not (is_emptied used item)) items in
+    all_changed IsProperItem (used_alone used) (used_statement used) rest (all_kept IsProperItem (λ item. not (is_emptied used item)) items h)
 
 -- ---- the package
 

@@ -1,5 +1,5 @@
 //! A file mended: the package goes after the loads, and symbols that nothing uses are loaded no more.
-ghost use Rattle.std.specs.Prelude.{◌≡◌, ◌&&◌, ◌||◌, IfOk, OnOk, codes, if◌then◌else◌, map, not};
+ghost use Rattle.std.specs.Prelude.{◌≡◌, ◌&&◌, ◌||◌, IfOk, OnOk, if◌then◌else◌, map, not};
 ghost use Rattle.std.specs.List.{filter, list_any, position};
 ghost use Rattle.bz_grammar.specs.declared.kind.Kind.TheVariants as k;
 ghost use Rattle.bz_rule.specs.Values.{on_items, on_rest};
