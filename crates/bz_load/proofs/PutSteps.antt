@@ -1,7 +1,7 @@
 -- Items put in the place of others that were adjacent.
 use Rattle.std.proofs.Common.{◌≡◌, ◌≢◌, ◌≤◌, ◌<◌, ◌+◌, ◌∙◌, ℕ, suc, List, [], ◌∷◌, ◌++◌, length, take, drop, set, refl, sym, ap, subst, arith, ◌↔◌, Bool, true, false, true≢false, get_or}
 use Rattle.std.specs.List.{insert, list_any, position}
-use Rattle.std.proofs.lemmas.List.{take_at, drop_at, drop-drop, length-append, length-take-le, set_split, append-nil, get_or-set_same, get_or_default, nil_from_length, set-get_or}
+use Rattle.std.proofs.lemmas.List.{take_at, drop_at, drop-drop, length-append, length-take-le, set_split, append-nil, get_or-set_same, get_or_default, append_cancel_left, set-get_or}
 use Rattle.std.proofs.lemmas.List.Edits.{length-insert}
 use Rattle.bz_value.specs.declared.value.Item.{Item}
 use Rattle.bz_value.specs.Exchanged.{IsSpliced}
@@ -78,9 +78,7 @@ none_added path more (i.Stmt x) from same =
     let stays : on_items k.Load (λ xs. xs ++ more) x ≡ x = cc same in
     let all : items_of x ++ more ≡ items_of x =
     sym (items_filled k.Load (items_of x ++ more) x load) ∙ ap items_of (sym (items_changed k.Load (λ xs. xs ++ more) x load) ∙ stays) in
-    let long = length-append (items_of x) more in
-    let short = ap length all in
-    nil_from_length more (omega (arith, long, short))
+    append_cancel_left (items_of x) more [] (all ∙ sym (append-nil (items_of x)))
 
 -- ---- into the first load from the path
 

@@ -31,10 +31,14 @@ fn place_of_package(items: &[Item]) -> Option<usize>
     items.iter().position(is_package)
 }
 
-/// The first rule of kind `package` goes right after the last load, else after the comment blocks that the items begin with.
-fn move_package(items: &mut Vec<Item>) -> Result<(), Memory>
-    ensures { OnOk result (items.new.items ≡ move_package_to_top items.old.items) }
+/// Where that is wanted, the first rule of kind `package` goes right after the last load, else after the comment blocks that
+/// the items begin with.
+fn move_package(wanted: bool, items: &mut Vec<Item>) -> Result<(), Memory>
+    ensures { OnOk result (items.new.items ≡ (if wanted then move_package_to_top items.old.items else items.old.items)) }
 {
+    if !wanted {
+        return Ok(());
+    }
     let Some(from) = place_of_package(items.as_slice()) else {
         return Ok(());
     };
@@ -256,22 +260,13 @@ fn copied(alloc: Global, items: &[Item]) -> Result<Vec<Item>, Memory>
     Ok(copied)
 }
 
-fn fix_package(wanted: bool, items: &mut Vec<Item>) -> Result<(), Memory>
-    ensures { OnOk result (items.new.items ≡ (if wanted then move_package_to_top items.old.items else items.old.items)) }
-{
-    if !wanted {
-        return Ok(());
-    }
-    move_package(items)
-}
-
 /// A copy of the items that is mended: first the package goes after the loads, then symbols that nothing uses go. The error:
 /// memory was refused.
 pub fn fix(alloc: Global, fixes: Fixes, items: &[Item]) -> Result<Items<Item>, Memory>
     ensures { IfOk result (λ new. new ≡ fix fixes items.now) }
 {
     let mut all = copied(alloc, items)?;
-    fix_package(fixes.move_package_to_top, &mut all)?;
+    move_package(fixes.move_package_to_top, &mut all)?;
     drop_unused(alloc, fixes.unused_loads, &mut all)?;
     Ok(Items::from_vec(all))
 }
