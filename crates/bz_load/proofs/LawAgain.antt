@@ -30,12 +30,12 @@ use Rattle.bz_load.proofs.KnownSteps.{same_symbol}
 use Rattle.bz_load.proofs.PlaceSteps.{any_put, found_put, left_put, ends_other, ends_alike, map_put, next_end}
 use Rattle.bz_load.proofs.PutSteps.{with_none}
 use Rattle.std.proofs.Math.Path.{fun_ext}
-use Rattle.std.proofs.lemmas.List.Elements.{recursion_from_All, All-from_recursion}
+use Rattle.std.proofs.lemmas.List.Elements.{recursion_from_All}
 use Rattle.bz_grammar.specs.Spots.{Begins}
 use Rattle.bz_value.specs.Proper.{IsProperItem, IsProper}
 use Rattle.bz_value.specs.Empty.{is_empty}
 use Rattle.bz_load.specs.Fixes.{uses, is_used, is_commented, path_comments, has_own_comments, symbol_stays, with_used, is_emptied, used_alone, unused_loads, is_package_call, package_moved, move_package_to_top, fix}
-use Rattle.bz_load.proofs.ProperLoads.{used_statement, fix_keeps, load_none}
+use Rattle.bz_load.proofs.ProperLoads.{used_statement, loads_stay_proper, load_none}
 
 -- ---- a new symbol is loaded
 
@@ -421,11 +421,6 @@ unused_moved items one none =
     ∙ (moved_map (used_alone used) (used_load used) (used_block used) (used_package used) moved
     ∙ (ap (map (used_alone used)) (moved_again items one) ∙ sym same))
 
-moved_proper : (items : List Item) → IsProper items → IsProper (move_package_to_top items)
-moved_proper items h =
-    All-from_recursion IsProperItem (move_package_to_top items)
-    (fix_keeps (record { move_package_to_top = true; unused_loads = false }) items (recursion_from_All IsProperItem items h))
-
 by_fixes : (top unused : Bool) (items : List Item) → IsProper items → has_second_package items ≡ false → loses_load (move_package_to_top items) ≡ false
     → fix (record { move_package_to_top = top; unused_loads = unused }) (fix (record { move_package_to_top = top; unused_loads = unused }) items)
     ≡ fix (record { move_package_to_top = top; unused_loads = unused }) items
@@ -433,7 +428,8 @@ by_fixes false false items h one none = refl
 by_fixes true false items h one none = moved_again items one
 by_fixes false true items h one none = unused_again items h
 by_fixes true true items h one none =
-    ap unused_loads (unused_moved items one none) ∙ unused_again (move_package_to_top items) (moved_proper items h)
+    ap unused_loads (unused_moved items one none)
+    ∙ unused_again (move_package_to_top items) (loads_stay_proper.1 (record { move_package_to_top = true; unused_loads = false }) items h)
 
 pub fixed_again : FixedAgain
 fixed_again fixes = by_fixes fixes.move_package_to_top fixes.unused_loads
