@@ -8,7 +8,6 @@ use Rattle.std.proofs.lemmas.List.Elements.{recursion_from_All}
 use Rattle.bz_token.specs.declared.class.Class.TheVariants as c
 use Rattle.bz_grammar.specs.declared.kind.Kind.TheVariants as k
 use Rattle.bz_grammar.specs.Shapes as s
-use Rattle.bz_grammar.specs.Shapes.{Terminal, has_token}
 use Rattle.bz_grammar.specs.Spots.{Begins}
 use Rattle.bz_value.specs.declared.value.Expr.{Expr, Token, Form', items-the_row-Expr}
 use Rattle.bz_value.specs.declared.value.Item.{Item}
@@ -17,7 +16,6 @@ use Rattle.bz_value.specs.Comments.{HostComments, no_comments}
 use Rattle.bz_value.specs.Counted.{total, suffix_amount, host_amount, row_amount, item_amount, one_if}
 use Rattle.bz_items.specs.Characters.{Bytes}
 use Rattle.bz_value.specs.Proper.{comments_of, IsProperItem}
-use Rattle.bz_value.specs.Roots.{root}
 use Rattle.bz_value.proofs.Totals.{append_total, form_amount}
 use Rattle.bz_value.specs.Empty.{is_empty, is_none}
 use Rattle.bz_command_syntax.specs.Quoted.{quoted_of}
@@ -33,8 +31,7 @@ use Rattle.bz_load.specs.Loads.{is_load_from, is_loaded, after_path, leading_blo
 use Rattle.bz_load.specs.NewLoad.{new_symbols, symbol_made, load_made, with_symbols, new_load}
 use Rattle.bz_load.specs.Fixes.{is_used, is_commented, path_comments, end_of, has_own_comments, symbol_stays, is_emptied, used_alone, is_package_call, package_moved, move_package_to_top, fix}
 use Rattle.bz_load.specs.Laws.{LoadsKeepComments}
-use Rattle.bz_load.proofs.ProperLoads.{fix_keeps}
-use Rattle.bz_load.proofs.LoadParts.{alias_parts, load_parts}
+use Rattle.bz_load.proofs.ProperLoads.{fix_keeps, IsAlias, alias_parts, load_parts, token_amount}
 
 -- ---- lists
 
@@ -120,26 +117,19 @@ module _ (number : Bytes → ℕ) where
   host_none : (comments : HostComments) → is_commented comments ≡ false → host comments ≡ 0
   host_none comments h = by_parts comments.before comments.suffix h
 
-  token_amount : (terminals : List Terminal) (x : Expr) → has_token terminals (root x) ≡ true → whole number x ≡ host (comments_of x)
-  token_amount terminals (Token t) h = refl
-  token_amount terminals (Form' kind s parts s' items end split open_break comments) h = absurd (true≢false (sym h))
-
-  bare_amount : (terminals : List Terminal) (x : Expr) → has_token terminals (root x) ≡ true → comments_of x ≡ no_comments → whole number x ≡ 0
-  bare_amount terminals x h e = token_amount terminals x h ∙ ap host e
+  alias_amount : (x : Expr) → IsAlias (parts_of x) (items_of x) (end_of x) → is_commented (comments_of x) ≡ false → whole number x ≡ 0
+  alias_amount x a e =
+      let all = amount_answered x in
+      let own = host_none (comments_of x) e in
+      let parts = a.bare number in
+      let items = ap (total (whole number)) a.items in
+      let ends = ap (total number) a.ends in
+      omega arith
 
   loaded_amount : (x : Expr) → IsItem s.loaded x → is_commented (comments_of x) ≡ false → whole number x ≡ 0
   loaded_amount (Token t) h e = host_none t.comments e
   loaded_amount (Form' kind m parts m' items end split open_break comments) h e =
-      let x : Expr = Form' kind m parts m' items end split open_break comments in
-      let a = alias_parts x h.1 h.0.0 in
-      let l = bare_amount s.name a.left a.at_left a.bare_left in
-      let n = bare_amount s.equals a.sign a.at_sign a.bare_sign in
-      let r = bare_amount s.string a.right a.at_right a.bare_right in
-      let z = host_none comments e in
-      amount_answered x
-      ∙ (ap (λ ps. host comments + (total (whole number) ps + (total (whole number) (items_of x) + total number (end_of x)))) a.parts
-      ∙ (ap (λ xs. host comments + (total (whole number) (a.left ∷ a.sign ∷ a.right ∷ []) + (total (whole number) xs + total number (end_of x)))) a.items
-      ∙ (ap (λ ts. host comments + (total (whole number) (a.left ∷ a.sign ∷ a.right ∷ []) + (0 + total number ts))) a.ends ∙ omega arith)))
+      let x : Expr = Form' kind m parts m' items end split open_break comments in alias_amount x (alias_parts x h.1 h.0.0) e
 
   kept_amount : (used : Bytes → Bool) (xs : List Expr) → AreOf s.loaded xs → total (whole number) (filter (symbol_stays used) xs) ≡ total (whole number) xs
   kept_amount used [] h = refl
@@ -178,15 +168,15 @@ module _ (number : Bytes → ℕ) where
       let loose = or_parts (is_commented (comments_of x)) (not (is_empty (end_of x)) || path_comments (items_of x)) (not-true (has_own_comments x) q.1) in
       let ends = or_parts (not (is_empty (end_of x))) (path_comments (items_of x)) loose.1 in
       let gone = not-true (list_any (symbol_stays used) (after_path (items_of x))) (and_parts (not (is_empty (after_path (items_of x)))) _ p.1).1 in
-      let top : host (comments_of x) ≡ 0 = host_none (comments_of x) loose.0 in
-      let word : whole number a.word ≡ 0 = bare_amount (s.one_keyword (codes "load")) a.word a.at_word a.bare_word in
-      let path : whole number a.path ≡ 0 = token_amount s.string a.path a.at_path ∙ host_none (comments_of a.path) (ap path_comments (sym a.items) ∙ ends.1) in
-      let symbols : total (whole number) a.symbols ≡ 0 =
-      sym (kept_amount used a.symbols a.loaded) ∙ ap (total (whole number)) (none_kept (symbol_stays used) a.symbols (ap (λ xs. list_any (symbol_stays used) (after_path xs)) (sym a.items) ∙ gone)) in
-      let end : total number (end_of x) ≡ 0 = ends_none (end_of x) ends.0 in
-      amount_answered x
-      ∙ (ap (λ ps. host (comments_of x) + (total (whole number) ps + (total (whole number) (items_of x) + total number (end_of x)))) a.parts
-      ∙ (ap (λ xs. host (comments_of x) + ((whole number a.word + 0) + (total (whole number) xs + total number (end_of x)))) a.items ∙ omega arith))
+      let all = amount_answered x in
+      let top = host_none (comments_of x) loose.0 in
+      let word = a.bare number in
+      let path = token_amount number s.string a.path a.at_path ∙ host_none (comments_of a.path) (ap path_comments (sym a.items) ∙ ends.1) in
+      let none = none_kept (symbol_stays used) a.symbols (ap (λ xs. list_any (symbol_stays used) (after_path xs)) (sym a.items) ∙ gone) in
+      let symbols : total (whole number) a.symbols ≡ 0 = sym (kept_amount used a.symbols a.loaded) ∙ ap (total (whole number)) none in
+      let items = ap (total (whole number)) a.items in
+      let end = ends_none (end_of x) ends.0 in
+      omega arith
 
   unused_amount : (used : Bytes → Bool) (items : List Item) → AllByRecursion IsProperItem items → file (map (used_alone used) (filter (λ item. not (is_emptied used item)) items)) ≡ file items
   unused_amount used [] h = refl

@@ -1,9 +1,6 @@
 pub mod KnownSteps
+pub mod LawAgain
 pub mod LawComments
-pub mod LawFixed
-pub mod LawLoaded
-pub mod LoadParts
 pub mod PlaceSteps
 pub mod ProperLoads
 pub mod PutSteps
-pub mod UsesSteps

@@ -5,8 +5,6 @@ use Rattle.std.specs.List.{AllByRecursion, list_any, insert, remove, find}
 use Rattle.std.specs.Option.{option_map_or}
 use Rattle.std.proofs.lemmas.Bool.{cases_Bool, or_parts}
 use Rattle.std.proofs.lemmas.List.Edits.{length-remove}
-use Rattle.bz_grammar.specs.declared.kind.Kind.TheVariants as k
-use Rattle.bz_value.specs.declared.value.Expr.{Token, Form'}
 use Rattle.bz_value.specs.declared.value.Item.{Item}
 use Rattle.bz_value.specs.declared.value.Item.TheVariants as i
 use Rattle.bz_attribute.specs.Attributes.{without_first}
@@ -87,13 +85,6 @@ none_found test (x ∷ xs) h = rw (h.all 0 x (omega arith)) (none_found test xs 
 
 pub no_package : (items : List Item) → NonePasses is_package_call items → items ≡ move_package_to_top items
 no_package items h = sym (ap (λ found. option_map_or (package_moved items) found items) (none_found is_package_call items h))
-
--- a package is no load
-pub package_no_load : (item : Item) → is_package_call item ≡ true → is_load_item item ≡ false
-package_no_load (i.Block lines) h = refl
-package_no_load (i.Stmt (Token t)) h = refl
-package_no_load (i.Stmt (Form' k.Load s parts s' items end split open_break comments)) h = absurd (true≢false (sym h))
-package_no_load (i.Stmt (Form' _ s parts s' items end split open_break comments)) h = refl
 
 blocks_before : (items : List Item) (from : ℕ) → IsFirst is_package_call items from → leading_blocks items ≤ from
 blocks_before [] from h = omega arith

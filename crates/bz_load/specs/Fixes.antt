@@ -1,5 +1,5 @@
 -- The names that a file uses, and what `fix` makes of its items.
-use Rattle.std.specs.Prelude.{Bool, ◌||◌, List, [], ◌∷◌, ◌++◌, map, bytes_eq, if◌then◌else◌, false, not, ◌&&◌, codes}
+use Rattle.std.specs.Prelude.{Bool, ◌||◌, List, [], ◌∷◌, map, take, drop, bytes_eq, if◌then◌else◌, false, not, ◌&&◌, codes}
 use Rattle.std.specs.List.{list_any, filter, find, insert}
 use Rattle.bz_token.specs.declared.class.Class.TheVariants as c
 use Rattle.bz_grammar.specs.declared.kind.Kind.{Kind}
@@ -21,40 +21,27 @@ use Rattle.bz_rule.specs.QuoteMarks.{local_name}
 use Rattle.bz_attribute.specs.Attributes.{without_first}
 use Rattle.bz_load.specs.Loads.{after_path, leading_blocks, loads_end}
 
--- all parts but the first
-abbrev pub after_head : {X : Type 0} → List X → List X
-after_head [] = []
-after_head (x ∷ xs) = xs
-
--- only the first part
-abbrev pub first_item : {X : Type 0} → List X → List X
-first_item [] = []
-first_item (x ∷ xs) = x ∷ []
-
 -- The parts of a node that hold operands: not the name of an argument or of an alias, and none after a dot.
 abbrev pub with_operands : {X : Type 0} → Kind → List X → List X
-with_operands kind xs = if is_kind kind k.Named || is_kind kind k.Alias then after_head xs else (if is_kind kind k.Dot then first_item xs else xs)
+with_operands kind xs = if is_kind kind k.Named || is_kind kind k.Alias then drop 1 xs else (if is_kind kind k.Dot then take 1 xs else xs)
 
-abbrev pub all_of : List (List Bytes) → List Bytes
-all_of [] = []
-all_of (xs ∷ rest) = xs ++ all_of rest
-
--- the names that are operands
+-- whether a text is a name that is an operand
 abbrev mutual
-  pub operands : Expr → List Bytes
-  operands (e.Token t) = if is_class t.class c.Name then t.text ∷ [] else []
-  operands (Form' kind s parts s' items end split open_break comments) = all_of (with_operands kind (each_operands parts)) ++ all_of (each_operands items)
+  pub has_operand : Bytes → Expr → Bool
+  has_operand text (e.Token t) = is_class t.class c.Name && bytes_eq text t.text
+  has_operand text (Form' kind s parts s' items end split open_break comments) =
+      list_any (λ b. b) (with_operands kind (each_operand text parts)) || list_any (λ b. b) (each_operand text items)
 
-  pub each_operands : {m : _} → Row_of-Expr m → List (List Bytes)
-  each_operands end_of-Expr = []
-  each_operands (more_of-Expr x rest) = operands x ∷ each_operands rest
+  pub each_operand : {m : _} → Bytes → Row_of-Expr m → List Bool
+  each_operand text end_of-Expr = []
+  each_operand text (more_of-Expr x rest) = has_operand text x ∷ each_operand text rest
 
-abbrev pub operand_names_in : Item → List Bytes
-operand_names_in (i.Block lines) = []
-operand_names_in (i.Stmt x) = operands x
+abbrev pub uses : Bytes → Item → Bool
+uses text (i.Block lines) = false
+uses text (i.Stmt x) = has_operand text x
 
 abbrev pub is_used : List Item → Bytes → Bool
-is_used items text = list_any (bytes_eq text) (all_of (map operand_names_in items))
+is_used items text = list_any (uses text) items
 
 -- ---- symbols that nothing uses are loaded no more, and the package goes after the loads. (Own profile of buildozer's fixes
 -- `unusedLoads` and `movePackageToTop`.)

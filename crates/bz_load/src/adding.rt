@@ -1,5 +1,5 @@
 //! Symbols that are loaded too: those that aren't loaded so yet, put into a load.
-ghost use Rattle.std.specs.Prelude.{◌≡◌, ◌↔◌, List, [], ◌∷◌, ◌++◌, codes, map, not, IfOk, IsTrue, OnOk};
+ghost use Rattle.std.specs.Prelude.{◌≡◌, ◌↔◌, ◌||◌, List, [], ◌∷◌, ◌++◌, codes, map, not, IfOk, IsTrue, OnOk};
 ghost use Rattle.std.specs.List.{list_any, position};
 ghost use Rattle.bz_token.specs.declared.class.Class.TheVariants as c;
 ghost use Rattle.bz_grammar.specs.declared.kind.Kind.TheVariants as k;
@@ -7,11 +7,13 @@ ghost use Rattle.bz_value.specs.Exchanged.{IsSpliced};
 ghost use Rattle.bz_command_syntax.specs.declared.command.Symbol.{Symbol};
 ghost use Rattle.bz_command_syntax.specs.Quoted.{quoted_of};
 ghost use Rattle.bz_attribute.specs.Made.{token, node, name, mark};
-ghost use Rattle.bz_load.specs.Loads.{is_load_from as is_from, is_loaded};
-ghost use Rattle.bz_load.specs.NewLoad.{and_symbol, load_made, new_load, new_symbols, symbol_made, with_load, with_symbols};
-ghost use Rattle.bz_load.specs.private.Known.{and_each, and_loaded, and_loads, knows, symbol_of_key, symbols_of_keys};
+ghost use Rattle.bz_load.specs.Loads.{after_loads, is_load_from as is_from, is_loaded, is_symbol, loads_symbol};
+ghost use Rattle.bz_load.specs.NewLoad.{load_made, new_load, new_symbols, symbol_made, with_load, with_symbols};
+ghost use Rattle.bz_load.specs.private.Known.{knows, symbol_of_key};
 
-use crate::readings::{Loaded, insert_after_loads, is_load_from, symbol_in, symbols_of};
+use crate::readings::{
+    Loaded, count_of_blocks, is_load_from, place_after_loads, symbol_in, symbols_of,
+};
 use bz_attribute::{append_to, new_token, node, sequence, token};
 use bz_command_syntax::{Symbol, quoted};
 use bz_grammar::{Class, Kind};
@@ -53,23 +55,20 @@ fn symbol_made(alloc: Global, symbol: &Symbol) -> Result<Expr, Memory>
     alias(alloc, to, from)
 }
 
-/// The path, and the symbols after it.
-fn with_path(alloc: Global, path: Expr, symbols: &mut Vec<Expr>) -> Result<Items<Expr>, Memory>
-    ensures { IfOk result (λ items. items ≡ path ∷ symbols.old.items) }
-{
-    let mut items = Vec::from_array(alloc, [path])?;
-    items.append(symbols)?;
-    Ok(Items::from_vec(items))
-}
-
 /// A load of these symbols from the path. The error: memory was refused.
 fn load_of(alloc: Global, path: &[u8], symbols: &mut Vec<Expr>) -> Result<Item, Memory>
     ensures { IfOk result (λ item. item ≡ load_made path.now symbols.old.items) }
 {
     let word = new_token(alloc, Class::Keyword, b"load")?;
     let parts = Vec::from_array(alloc, [word])?;
-    let items = with_path(alloc, string(alloc, path)?, symbols)?;
-    let load = sequence(alloc, Kind::Load, Items::from_vec(parts), items);
+    let mut items = Vec::from_array(alloc, [string(alloc, path)?])?;
+    items.append(symbols)?;
+    let load = sequence(
+        alloc,
+        Kind::Load,
+        Items::from_vec(parts),
+        Items::from_vec(items),
+    );
     Ok(Item::Stmt(load))
 }
 
@@ -87,35 +86,28 @@ fn names_of(symbol: &Symbol) -> Loaded<'_>
 
 /// The symbol is one of them from now on. Returned: whether it was none before.
 fn insert_key<'a>(key: Loaded<'a>, known: &mut Known<'a>) -> Result<bool, Memory>
-    ensures new { IfOk result (λ new. new ≡ not (knows (symbols_of_keys known.old.keys) (symbol_of_key key.entry))) }
-    ensures known { OnOk result (knows (symbols_of_keys known.new.keys) ≡ and_symbol (symbol_of_key key.entry) (knows (symbols_of_keys known.old.keys))) }
+    ensures new { IfOk result (λ new. new ≡ not (knows known.old.keys (symbol_of_key key.entry))) }
+    ensures known { (other : Symbol) → OnOk result (knows known.new.keys other ≡ (is_symbol other (symbol_of_key key.entry) || knows known.old.keys other)) }
 {
     let new = known.insert(key)?;
     Ok(new)
 }
 
-/// The symbol that an item of a load loads.
-fn insert_expr<'a>(x: &'a Expr, known: &mut Known<'a>) -> Result<(), Memory>
-    ensures { OnOk result (knows (symbols_of_keys known.new.keys) ≡ and_loaded x.now (knows (symbols_of_keys known.old.keys))) }
-{
-    if let Some(symbol) = symbol_in(x) {
-        insert_key(symbol, known)?;
-    }
-    Ok(())
-}
-
+/// The symbols that these items of a load load.
 fn insert_each<'a>(exprs: &'a [Expr], known: &mut Known<'a>) -> Result<(), Memory>
-    ensures { OnOk result (knows (symbols_of_keys known.new.keys) ≡ and_each exprs.now (knows (symbols_of_keys known.old.keys))) }
+    ensures { (other : Symbol) → OnOk result (knows known.new.keys other ≡ (list_any (loads_symbol other) exprs.now || knows known.old.keys other)) }
 {
     for x in exprs {
-        insert_expr(x, known)?;
+        if let Some(symbol) = symbol_in(x) {
+            insert_key(symbol, known)?;
+        }
     }
     Ok(())
 }
 
 /// The symbols that the items load from the path. The error: memory was refused.
 fn insert_loads<'a>(path: &[u8], items: &'a [Item], known: &mut Known<'a>) -> Result<(), Memory>
-    ensures { OnOk result (knows (symbols_of_keys known.new.keys) ≡ and_loads path.now items.now (knows (symbols_of_keys known.old.keys))) }
+    ensures { (other : Symbol) → OnOk result (knows known.new.keys other ≡ (is_loaded path.now items.now other || knows known.old.keys other)) }
 {
     for item in items {
         if is_load_from(path, item) {
@@ -132,7 +124,7 @@ fn push_new<'a>(
     known: &mut Known<'a>,
     made: &mut Vec<Expr>,
 ) -> Result<(), Memory>
-    ensures { (rest : List Symbol) → OnOk result (made.new.items ++ map symbol_made (new_symbols (knows (symbols_of_keys known.new.keys)) rest) ≡ made.old.items ++ map symbol_made (new_symbols (knows (symbols_of_keys known.old.keys)) (symbol.now ∷ rest))) }
+    ensures { (rest : List Symbol) → OnOk result (made.new.items ++ map symbol_made (new_symbols (knows known.new.keys) rest) ≡ made.old.items ++ map symbol_made (new_symbols (knows known.old.keys) (symbol.now ∷ rest))) }
 {
     if !insert_key(names_of(symbol), known)? {
         return Ok(());
@@ -147,7 +139,7 @@ fn unknown<'a>(
     symbols: &'a [Symbol],
     known: &mut Known<'a>,
 ) -> Result<Vec<Expr>, Memory>
-    ensures { IfOk result (λ made. made.items ≡ map symbol_made (new_symbols (knows (symbols_of_keys known.old.keys)) symbols.now)) }
+    ensures { IfOk result (λ made. made.items ≡ map symbol_made (new_symbols (knows known.old.keys) symbols.now)) }
 {
     let mut made = Vec::new(alloc);
     for symbol in symbols {
@@ -169,7 +161,7 @@ pub struct WithLoad {
 }
 
 /// The items for the symbols that are not loaded so yet, each once. Without a load from the path no symbol is.
-#[tactic(auto, using(crate::proofs::KnownSteps::unknown_symbols, crate::proofs::KnownSteps::all_unknown))]
+#[tactic(auto, using(crate::proofs::KnownSteps::all_known, crate::proofs::KnownSteps::none_known))]
 fn new_symbols(
     alloc: Global,
     path: &[u8],
@@ -213,27 +205,45 @@ fn are_none(exprs: &[Expr]) -> bool
     exprs.is_empty()
 }
 
+/// A load is put in after the last one, else after the leading comment blocks.
+#[tactic(auto, using(crate::proofs::PutSteps::other_new))]
+fn with_new(load: Item, items: Items<Item>) -> Result<WithLoad, Memory>
+    ensures items { IfOk result (λ made. made.items ≡ after_loads load items) }
+    ensures same { IfOk result (λ made. IsTrue made.same ↔ (made.items ≡ items)) }
+    ensures spliced { IfOk result (λ made. IsSpliced made.at made.gone 1 items made.items) }
+{
+    let mut all = items.into_vec();
+    let blocks = count_of_blocks(all.as_slice());
+    let at = place_after_loads(all.as_slice(), blocks);
+    all.insert(at, load)?;
+    Ok(WithLoad {
+        items: Items::from_vec(all),
+        same: false,
+        at,
+        gone: 0,
+    })
+}
+
 /// Puts the items of new symbols to the end of the first load from the path, or into a new load.
-#[tactic(auto, using(crate::proofs::PutSteps::there_within, crate::proofs::PutSteps::over_there, crate::proofs::PutSteps::put_new, crate::proofs::PutSteps::other_new))]
+#[tactic(auto, using(crate::proofs::PutSteps::there_within, crate::proofs::PutSteps::put_there, crate::proofs::PutSteps::over_there, crate::proofs::PutSteps::put_new))]
 fn put(
     alloc: Global,
     path: &[u8],
     more: &mut Vec<Expr>,
     place: Option<usize>,
-    items: Items<Item>,
+    mut items: Items<Item>,
 ) -> Result<WithLoad, Memory>
     requires { place ≡ position (is_from path.now) items }
     ensures items { IfOk result (λ made. made.items ≡ with_load path.now more.old.items items) }
     ensures same { IfOk result (λ made. IsTrue made.same ↔ (made.items ≡ items)) }
     ensures spliced { IfOk result (λ made. IsSpliced made.at made.gone 1 items made.items) }
 {
-    let mut all = items.into_vec();
     match place {
         Some(at) => {
             let same = are_none(more.as_slice());
-            append_to_item(more, &mut all[at])?;
+            append_to_item(more, items.at_mut(at))?;
             Ok(WithLoad {
-                items: Items::from_vec(all),
+                items,
                 same,
                 at,
                 gone: 1,
@@ -241,13 +251,8 @@ fn put(
         }
         None => {
             let load = load_of(alloc, path, more)?;
-            let at = insert_after_loads(load, &mut all)?;
-            Ok(WithLoad {
-                items: Items::from_vec(all),
-                same: false,
-                at,
-                gone: 0,
-            })
+            let made = with_new(load, items)?;
+            Ok(made)
         }
     }
 }

@@ -1,12 +1,12 @@
 //! A file mended: the package goes after the loads, and symbols that nothing uses are loaded no more.
-ghost use Rattle.std.specs.Prelude.{◌≡◌, ◌&&◌, IfOk, OnOk, codes, if◌then◌else◌, map, not};
+ghost use Rattle.std.specs.Prelude.{◌≡◌, ◌&&◌, ◌||◌, IfOk, OnOk, if◌then◌else◌, map, not};
 ghost use Rattle.std.specs.List.{filter, list_any, position};
 ghost use Rattle.bz_grammar.specs.declared.kind.Kind.TheVariants as k;
-ghost use Rattle.bz_rule.specs.Values.{on_rest, on_items};
+ghost use Rattle.bz_rule.specs.Values.{on_items, on_rest};
 ghost use Rattle.bz_value.specs.Empty.{is_empty};
-ghost use Rattle.bz_attribute.specs.Sets.{texts_of};
-ghost use Rattle.bz_load.specs.Fixes.{end_of, fix, has_own_comments, is_commented, is_emptied, is_package_call, is_used, move_package_to_top, operands, path_comments, symbol_stays, unused_loads, used_alone, with_operands};
-ghost use Rattle.bz_load.specs.private.Known.{and_name, and_names, and_operands, and_uses, knows_name};
+ghost use Rattle.bz_items.specs.Characters.{Bytes};
+ghost use Rattle.bz_load.specs.Fixes.{end_of, fix, has_own_comments, is_commented, is_emptied, is_package_call, is_used, move_package_to_top, has_operand, path_comments, symbol_stays, unused_loads, used_alone, with_operands};
+ghost use Rattle.bz_load.specs.private.Known.{knows_name};
 
 use crate::readings::{after_path, count_of_blocks, place_after_loads};
 use bz_attribute::{has_kind, has_text, insert_text, items_of};
@@ -31,10 +31,14 @@ fn place_of_package(items: &[Item]) -> Option<usize>
     items.iter().position(is_package)
 }
 
-/// The first rule of kind `package` goes right after the last load, else after the comment blocks that the items begin with.
-fn move_package(items: &mut Vec<Item>) -> Result<(), Memory>
-    ensures { OnOk result (items.new.items ≡ move_package_to_top items.old.items) }
+/// Where that is wanted, the first rule of kind `package` goes right after the last load, else after the comment blocks that
+/// the items begin with.
+fn move_package(wanted: bool, items: &mut Vec<Item>) -> Result<(), Memory>
+    ensures { OnOk result (items.new.items ≡ (if wanted then move_package_to_top items.old.items else items.old.items)) }
 {
+    if !wanted {
+        return Ok(());
+    }
     let Some(from) = place_of_package(items.as_slice()) else {
         return Ok(());
     };
@@ -48,24 +52,16 @@ fn move_package(items: &mut Vec<Item>) -> Result<(), Memory>
 /// Names, each once.
 type Names = BTreeSet<Vec<u8>>;
 
-/// The name is one of them from now on. The error: memory was refused.
-fn insert_name(alloc: Global, name: &[u8], names: &mut Names) -> Result<(), Memory>
-    ensures { OnOk result (knows_name (texts_of names.new) ≡ and_name name.now (knows_name (texts_of names.old))) }
-{
-    insert_text(alloc, names, name)?;
-    Ok(())
-}
-
 /// The names that are operands in an expression are used from now on. The error: memory was refused.
 #[cycle(uses)]
-#[tactic(auto, using(crate::proofs::UsesSteps::form_names))]
+#[tactic(auto, using(crate::proofs::ProperLoads::form_operands))]
 fn insert_operands(alloc: Global, x: &Expr, names: &mut Names) -> Result<(), Memory>
-    ensures { OnOk result (knows_name (texts_of names.new) ≡ and_names (operands x.now) (knows_name (texts_of names.old))) }
+    ensures { (text : Bytes) → OnOk result (knows_name names.new text ≡ (has_operand text x.now || knows_name names.old text)) }
 {
     match x {
         Expr::Token(token) => {
             if token.class == Class::Name {
-                insert_name(alloc, token.text.as_slice(), names)?;
+                insert_text(alloc, names, token.text.as_slice())?;
             }
             Ok(())
         }
@@ -80,7 +76,7 @@ fn insert_operands(alloc: Global, x: &Expr, names: &mut Names) -> Result<(), Mem
 /// The names among the parts of a node: not the name of an argument or of an alias, and none after a dot.
 #[cycle(uses)]
 fn insert_parts(alloc: Global, kind: Kind, parts: &[Expr], names: &mut Names) -> Result<(), Memory>
-    ensures { OnOk result (knows_name (texts_of names.new) ≡ and_operands (with_operands kind parts.now) (knows_name (texts_of names.old))) }
+    ensures { (text : Bytes) → OnOk result (knows_name names.new text ≡ (list_any (has_operand text) (with_operands kind parts.now) || knows_name names.old text)) }
 {
     match kind {
         Kind::Named | Kind::Alias => match parts {
@@ -97,7 +93,7 @@ fn insert_parts(alloc: Global, kind: Kind, parts: &[Expr], names: &mut Names) ->
 
 #[cycle(uses)]
 fn insert_each(alloc: Global, exprs: &[Expr], names: &mut Names) -> Result<(), Memory>
-    ensures { OnOk result (knows_name (texts_of names.new) ≡ and_operands exprs.now (knows_name (texts_of names.old))) }
+    ensures { (text : Bytes) → OnOk result (knows_name names.new text ≡ (list_any (has_operand text) exprs.now || knows_name names.old text)) }
 {
     for x in exprs {
         insert_operands(alloc, x, names)?;
@@ -105,24 +101,16 @@ fn insert_each(alloc: Global, exprs: &[Expr], names: &mut Names) -> Result<(), M
     Ok(())
 }
 
-fn insert_items(alloc: Global, items: &[Item], names: &mut Names) -> Result<(), Memory>
-    ensures { OnOk result (knows_name (texts_of names.new) ≡ and_uses items.now (knows_name (texts_of names.old))) }
-{
-    for item in items {
-        if let Item::Stmt(x) = item {
-            insert_operands(alloc, x, names)?;
-        }
-    }
-    Ok(())
-}
-
 /// The names that the items use. The error: memory was refused.
-#[tactic(auto, using(crate::proofs::UsesSteps::names_used))]
 fn used_names(alloc: Global, items: &[Item]) -> Result<Names, Memory>
-    ensures { IfOk result (λ names. knows_name (texts_of names) ≡ is_used items.now) }
+    ensures { IfOk result (λ names. knows_name names ≡ is_used items.now) }
 {
     let mut names = BTreeSet::new(alloc);
-    insert_items(alloc, items, &mut names)?;
+    for item in items {
+        if let Item::Stmt(x) = item {
+            insert_operands(alloc, x, &mut names)?;
+        }
+    }
     Ok(names)
 }
 
@@ -160,48 +148,41 @@ fn has_own_comments(x: &Expr) -> bool
 
 /// Whether a symbol stays: it has a comment, or its local name is used.
 fn stays(names: &Names, x: &Expr) -> bool
-    ensures { result ≡ symbol_stays (knows_name (texts_of names.now)) x.now }
+    ensures { result ≡ symbol_stays (knows_name names.now) x.now }
 {
     has_comments(x.comments()) || has_text(names, local_name(x))
 }
 
 fn any_stays(names: &Names, symbols: &[Expr]) -> bool
-    ensures { result ≡ list_any (symbol_stays (knows_name (texts_of names.now))) symbols.now }
+    ensures { result ≡ list_any (symbol_stays (knows_name names.now)) symbols.now }
 {
     symbols.iter().any(|x| stays(names, x))
 }
 
 fn keep_used(names: &Names, symbols: &mut Vec<Expr>)
-    ensures { symbols.new.items ≡ filter (symbol_stays (knows_name (texts_of names.now))) symbols.old.items }
+    ensures { symbols.new.items ≡ filter (symbol_stays (knows_name names.now)) symbols.old.items }
 {
     symbols.retain(|x| stays(names, x));
 }
 
 /// Of the items of a load the path stays, and of its symbols those that are to stay.
-fn keep_path_and_used(names: &Names, items: &mut Vec<Expr>) -> Result<(), Memory>
-    ensures { OnOk result (items.new.items ≡ on_rest (filter (symbol_stays (knows_name (texts_of names.now)))) items.old.items) }
+fn keep_in_items(names: &Names, items: &mut Items<Expr>) -> Result<(), Memory>
+    ensures { OnOk result (items.new ≡ on_rest (filter (symbol_stays (knows_name names.now))) items.old) }
 {
     if items.is_empty() {
         return Ok(());
     }
-    let path = items.remove(0);
-    keep_used(names, items);
-    items.insert(0, path)?;
-    Ok(())
-}
-
-fn keep_in_items(names: &Names, items: &mut Items<Expr>) -> Result<(), Memory>
-    ensures { OnOk result (items.new ≡ on_rest (filter (symbol_stays (knows_name (texts_of names.now)))) items.old) }
-{
     let alloc = items.alloc();
     let mut all = mem::replace(items, Items::new(alloc)).into_vec();
-    keep_path_and_used(names, &mut all)?;
+    let path = all.remove(0);
+    keep_used(names, &mut all);
+    all.insert(0, path)?;
     *items = Items::from_vec(all);
     Ok(())
 }
 
 fn keep_in_load(names: &Names, x: &mut Expr) -> Result<(), Memory>
-    ensures { OnOk result (x.new ≡ on_items k.Load (on_rest (filter (symbol_stays (knows_name (texts_of names.now))))) x.old) }
+    ensures { OnOk result (x.new ≡ on_items k.Load (on_rest (filter (symbol_stays (knows_name names.now)))) x.old) }
 {
     match x {
         Expr::Form(form) if form.kind == Kind::Load => keep_in_items(names, &mut form.seq.items),
@@ -211,7 +192,7 @@ fn keep_in_load(names: &Names, x: &mut Expr) -> Result<(), Memory>
 
 /// A load without comments of its own keeps the symbols that are to stay.
 fn keep_in_item(names: &Names, item: &mut Item) -> Result<(), Memory>
-    ensures { OnOk result (item.new ≡ used_alone (knows_name (texts_of names.now)) item.old) }
+    ensures { OnOk result (item.new ≡ used_alone (knows_name names.now) item.old) }
 {
     match item {
         Item::Block(_) => Ok(()),
@@ -225,7 +206,7 @@ fn keep_in_item(names: &Names, item: &mut Item) -> Result<(), Memory>
 }
 
 fn keep_in_each(names: &Names, items: &mut Vec<Item>) -> Result<(), Memory>
-    ensures { OnOk result (items.new.items ≡ map (used_alone (knows_name (texts_of names.now))) items.old.items) }
+    ensures { OnOk result (items.new.items ≡ map (used_alone (knows_name names.now)) items.old.items) }
 {
     for item in items.iter_mut() {
         keep_in_item(names, item)?;
@@ -233,37 +214,35 @@ fn keep_in_each(names: &Names, items: &mut Vec<Item>) -> Result<(), Memory>
     Ok(())
 }
 
-/// Whether none of these symbols, of which there are some, stays.
-fn loses_all(names: &Names, symbols: &[Expr]) -> bool
-    ensures { result ≡ (not (is_empty symbols.now) && not (list_any (symbol_stays (knows_name (texts_of names.now))) symbols.now)) }
-{
-    !symbols.is_empty() && !any_stays(names, symbols)
-}
-
 /// Whether the item is a load that loses its last symbol.
 fn is_emptied(names: &Names, item: &Item) -> bool
-    ensures { result ≡ is_emptied (knows_name (texts_of names.now)) item.now }
+    ensures { result ≡ is_emptied (knows_name names.now) item.now }
 {
     match item {
         Item::Block(_) => false,
         Item::Stmt(x) => {
+            let symbols = after_path(items_of(x));
             has_kind(Kind::Load, x)
                 && !has_own_comments(x)
-                && loses_all(names, after_path(items_of(x)))
+                && (!symbols.is_empty() && !any_stays(names, symbols))
         }
     }
 }
 
 fn drop_emptied(names: &Names, items: &mut Vec<Item>)
-    ensures { items.new.items ≡ filter (λ item. not (is_emptied (knows_name (texts_of names.now)) item)) items.old.items }
+    ensures { items.new.items ≡ filter (λ item. not (is_emptied (knows_name names.now) item)) items.old.items }
 {
     items.retain(|item| !is_emptied(names, item));
 }
 
-/// Symbols that nothing uses are loaded no more, and a load that loses its last one goes. After an error the items are lost.
-fn drop_unused(alloc: Global, items: &mut Vec<Item>) -> Result<(), Memory>
-    ensures { OnOk result (items.new.items ≡ unused_loads items.old.items) }
+/// Where that is wanted, symbols that nothing uses are loaded no more, and a load that loses its last one goes. After an error
+/// the items are lost.
+fn drop_unused(alloc: Global, wanted: bool, items: &mut Vec<Item>) -> Result<(), Memory>
+    ensures { OnOk result (items.new.items ≡ (if wanted then unused_loads items.old.items else items.old.items)) }
 {
+    if !wanted {
+        return Ok(());
+    }
     let names = used_names(alloc, items.as_slice())?;
     drop_emptied(&names, items);
     keep_in_each(&names, items)?;
@@ -281,31 +260,13 @@ fn copied(alloc: Global, items: &[Item]) -> Result<Vec<Item>, Memory>
     Ok(copied)
 }
 
-fn fix_package(wanted: bool, items: &mut Vec<Item>) -> Result<(), Memory>
-    ensures { OnOk result (items.new.items ≡ (if wanted then move_package_to_top items.old.items else items.old.items)) }
-{
-    if !wanted {
-        return Ok(());
-    }
-    move_package(items)
-}
-
-fn fix_loads(alloc: Global, wanted: bool, items: &mut Vec<Item>) -> Result<(), Memory>
-    ensures { OnOk result (items.new.items ≡ (if wanted then unused_loads items.old.items else items.old.items)) }
-{
-    if !wanted {
-        return Ok(());
-    }
-    drop_unused(alloc, items)
-}
-
 /// A copy of the items that is mended: first the package goes after the loads, then symbols that nothing uses go. The error:
 /// memory was refused.
 pub fn fix(alloc: Global, fixes: Fixes, items: &[Item]) -> Result<Items<Item>, Memory>
     ensures { IfOk result (λ new. new ≡ fix fixes items.now) }
 {
     let mut all = copied(alloc, items)?;
-    fix_package(fixes.move_package_to_top, &mut all)?;
-    fix_loads(alloc, fixes.unused_loads, &mut all)?;
+    move_package(fixes.move_package_to_top, &mut all)?;
+    drop_unused(alloc, fixes.unused_loads, &mut all)?;
     Ok(Items::from_vec(all))
 }

@@ -14,25 +14,25 @@ pub fn loads_stay_proper()
 {}
 
 /// Loading the same symbols once more changes nothing.
-#[tactic(auto, using(crate::proofs::LawLoaded::loaded_again))]
+#[tactic(auto, using(crate::proofs::LawAgain::loaded_again))]
 pub fn loading_again()
     ensures { LoadedAgain }
 {}
 
 /// Dropping unused symbols twice is dropping them once.
-#[tactic(auto, using(crate::proofs::LawFixed::unused_again))]
+#[tactic(auto, using(crate::proofs::LawAgain::unused_again))]
 pub fn dropping_again()
     ensures { UnusedAgain }
 {}
 
 /// Moving the only package twice is moving it once.
-#[tactic(auto, using(crate::proofs::LawFixed::moved_again))]
+#[tactic(auto, using(crate::proofs::LawAgain::moved_again))]
 pub fn moving_again()
     ensures { MovedAgain }
 {}
 
 /// Mending twice is mending once, where there is no second package and no load goes.
-#[tactic(auto, using(crate::proofs::LawFixed::fixed_again))]
+#[tactic(auto, using(crate::proofs::LawAgain::fixed_again))]
 pub fn fixing_again()
     ensures { FixedAgain }
 {}

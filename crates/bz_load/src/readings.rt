@@ -1,15 +1,13 @@
 //! Loads and what they load, read off values, and places among the items of a file.
-ghost use Rattle.std.specs.Prelude.{◌≡◌, ◌≤◌, bytes_eq, length, IfOk, OnOk};
-ghost use Rattle.std.specs.List.{insert};
+ghost use Rattle.std.specs.Prelude.{◌≡◌, ◌≤◌, bytes_eq, length};
 ghost use Rattle.std.specs.Option.{option_map};
 ghost use Rattle.bz_rule.specs.Rules.{inner, is_text};
 ghost use Rattle.bz_attribute.specs.Lists.{body_of};
 ghost use Rattle.bz_load.specs.private.Known.{symbol_of_key};
-ghost use Rattle.bz_load.specs.Loads.{after_loads, after_path, alias_in, is_block, is_load_from, is_load_item, leading_blocks, loads_end, path_in, symbol_in, symbols_of};
+ghost use Rattle.bz_load.specs.Loads.{after_path, alias_in, is_block, is_load_from, is_load_item, leading_blocks, loads_end, path_in, symbol_in, symbols_of};
 
 use bz_attribute::{body_of, first_text, has_kind, items_of, parts_of};
 use bz_grammar::{Class, Kind};
-use bz_items::Memory;
 use bz_rule::{body, is_text, text_in};
 use bz_value::{Expr, Item};
 
@@ -159,16 +157,4 @@ pub(crate) fn place_after_loads(items: &[Item], other: usize) -> usize
         }
     }
     place
-}
-
-/// Puts an item after the last load, else after the leading comment blocks. After how many items it is then.
-pub(crate) fn insert_after_loads(new: Item, items: &mut Vec<Item>) -> Result<usize, Memory>
-    ensures items { OnOk result (items.new.items ≡ after_loads new items.old.items) }
-    ensures within { IfOk result (λ at. at ≤ length items.old.items) }
-    ensures place { IfOk result (λ at. items.new.items ≡ insert items.old.items at new) }
-{
-    let blocks = count_of_blocks(items.as_slice());
-    let at = place_after_loads(items.as_slice(), blocks);
-    items.insert(at, new)?;
-    Ok(at)
 }
