@@ -5,5 +5,4 @@ pub mod Overfull
 pub mod ProperEffects
 pub mod RunningItems
 pub mod StatementRules
-pub mod Substituting
 pub mod TargetMarks

@@ -2,7 +2,6 @@ pub mod Effect
 pub mod Laws
 pub mod Overfull
 pub mod Renewed
-pub mod SmallValues
 pub mod Table
 pub mod Worked
 pub mod private
