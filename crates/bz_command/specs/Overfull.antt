@@ -26,12 +26,12 @@ marked_rules (mark ∷ marks) (item ∷ items) = (if mark && is_rule item then 1
 marked_rules _ _ = 0
 
 -- what putting a comment on a host makes of an item: on the rule itself, or on something in it
-abbrev pub on_host : Host → NewItem → NewItem → NewItem
-on_host Rule own inside = own
-on_host _ own inside = inside
+abbrev pub on_host_of_item : Host → NewItem → NewItem → NewItem
+on_host_of_item Rule own inside = own
+on_host_of_item _ own inside = inside
 
 abbrev pub commented : Bytes → Host → Bytes → Item → NewItem
-commented current host text item = on_host host (Ok (on_statement (with_comment text) item)) (on_arguments (comment current host text) item)
+commented current host text item = on_host_of_item host (Ok (on_statement (with_comment text) item)) (on_arguments (comment current host text) item)
 
 -- and of the items that are marked
 abbrev pub all_commented : Bytes → Host → Bytes → List Bool → List Item → Result (List Item) Refusal
