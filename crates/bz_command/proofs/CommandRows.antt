@@ -1,5 +1,6 @@
 -- What each command reads in its words is as the table says.
 use Rattle.std.proofs.Common.{◌≡◌, ℕ, false, List, [], ◌∷◌, get_or, Option, Some, None, refl}
+use Rattle.std.specs.Prelude.{IfOk}
 use Rattle.std.specs.Option.{option_and_then}
 use Rattle.bz_items.specs.Characters.{Bytes}
 use Rattle.bz_command_syntax.specs.Words.{is_nonempty}
@@ -14,15 +15,19 @@ use Rattle.bz_command_syntax.specs.declared.command.DictOperation.TheVariants as
 use Rattle.bz_command_syntax.specs.declared.command.LoadOperation.TheVariants as wl
 use Rattle.bz_command_syntax.specs.declared.command.CommentOperation.TheVariants as wc
 use Rattle.bz_rule.proofs.ProperChanges.{by_test}
-use Rattle.bz_command.specs.Table.{CommandRow, command_rows, IsAsListed, ReadsAsListed, CommandsAreListed}
+use Rattle.bz_command.specs.Table.{CommandRow, command_rows, IsAsListed, CommandsAreListed}
 
 -- a row of the table by its place
 abbrev row_at : ℕ → CommandRow
 row_at place = get_or command_rows place (record { name = []; subjects = []; is_printing = false; is_on_rules = false; is_keeping = false })
 
+-- what a command reads is as its row says
+abbrev ReadsAsListed : CommandRow → c.ReadCommand → Type 0
+ReadsAsListed row read = IfOk read (IsAsListed row)
+
 -- the row of a command before others; all of it is computed
-listed : {A B : Type 0} (row : CommandRow) → A → B → (row.name ≡ row.name) × A × B
-listed row first rest = (refl, first, rest)
+listed : {A B : Type 0} (row : CommandRow) → A → B → ((row.name ≡ row.name) × A) × B
+listed row first rest = ((refl, first), rest)
 
 made_listed : {X : Type 0} (row : CommandRow) (make : X → Operation) (o : Option X) → ((x : X) → IsAsListed row (make x)) → ReadsAsListed row (c.operation_of make o)
 made_listed row make (Some x) h = h x

@@ -1,12 +1,9 @@
 -- Commands that take nothing away lose no comment.
-use Rattle.std.proofs.Common.{◌≡◌, ◌≤◌, ◌+◌, ℕ, Bool, true, false, not, List, [], ◌∷◌, Option, Some, None, Result, Ok, Err, refl, sym, ap, ◌∙◌, subst, map, true≢false, arith}
-use Rattle.std.specs.Prelude.{if◌then◌else◌, is_some, IfOk, option_map, bytes_eq}
+use Rattle.std.proofs.Common.{◌≡◌, ◌≤◌, ◌+◌, ℕ, Bool, true, false, not, List, [], ◌∷◌, Option, Some, None, Result, Ok, Err, refl, sym, subst, map, true≢false, arith}
+use Rattle.std.specs.Prelude.{if◌then◌else◌, IfOk, bytes_eq}
 use Rattle.std.specs.List.{insert, list_any}
-use Rattle.std.specs.Option.{option_and_then, option_map_or}
+use Rattle.std.specs.Option.{option_map_or}
 use Rattle.bz_grammar.specs.declared.kind.Kind.TheVariants as k
-use Rattle.bz_grammar.specs.Shapes.{is_kind}
-use Rattle.bz_label.specs.declared.target.Target.{Target}
-use Rattle.bz_value.specs.declared.value.Form.{Form}
 use Rattle.bz_value.specs.declared.value.Expr.{Expr, Token, Form', items-the_row-Expr}
 use Rattle.bz_value.specs.declared.value.Item.{Item}
 use Rattle.bz_value.specs.declared.value.Item.TheVariants as i
@@ -25,8 +22,8 @@ use Rattle.bz_command_syntax.specs.declared.command.CommentOperation.TheVariants
 use Rattle.bz_command_syntax.specs.declared.command.RulePlace.{RulePlace}
 use Rattle.bz_command_syntax.specs.declared.command.Attributes.{Attributes}
 use Rattle.bz_command_syntax.specs.declared.command.Attributes.TheVariants as t
-use Rattle.bz_rule.specs.Rules.{Call, Rule as RuleRead, only, form_in, called, named, dotted_name, rule_of, attribute, has_name}
-use Rattle.bz_rule.specs.Values.{has_kind, parts_of, with_parts, with_items, with_text, on_row, on_first, first_text}
+use Rattle.bz_rule.specs.Rules.{Rule as RuleRead, rule_of, attribute, has_name}
+use Rattle.bz_rule.specs.Values.{parts_of, with_items, with_text, on_row, on_first, first_text}
 use Rattle.bz_rule.proofs.ProperChanges.{by_test, by_case}
 use Rattle.bz_value.specs.declared.refusal.Refusal.{Refusal}
 use Rattle.bz_value.specs.declared.refusal.Refusal.TheVariants.{NoTarget, NoAttribute, AttributeExists, NotAList, NoSource, NameTaken}
@@ -34,51 +31,25 @@ use Rattle.bz_attribute.specs.Attributes.{is_attribute, has_attribute, is_other_
 use Rattle.bz_attribute.specs.Attributes.{Arguments}
 use Rattle.bz_change.specs.Changes.{setting, is_set, set, set_if_absent, rename, copy, copy_no_overwrite}
 use Rattle.bz_list.specs.Changes.{with_items_added, add, in_value, in_attributes, replaced_item, replace, with_body, substituted_item, substitute}
-use Rattle.bz_command.specs.Effect.{NewItem, with_arguments, made_of, on_rule, on_arguments, with_item_first, on_meant, new_rule_place, with_rule, source, on_rules, lacks_rules, kept, on_statement, effect, printed_rules, meant, may_mean_none}
+use Rattle.bz_command.specs.Effect.{NewItem, with_arguments, made_of, on_rule, on_arguments, with_item_first, on_meant, new_rule_place, with_rule, source, on_rules, on_statement, meant}
 use Rattle.bz_command_syntax.specs.declared.command.Host.TheVariants.{Rule, Attribute, Item as ItemHost}
-use Rattle.bz_command_syntax.specs.Printing.{prints}
 use Rattle.bz_change.specs.Dicts.{dict_add}
 use Rattle.bz_change.proofs.ProperDicts.{dict_add_grows}
 use Rattle.bz_load.proofs.LawComments.{amount_answered, new_load_same, put_total}
 use Rattle.bz_comment.specs.Hosts.{with_comment, comment}
 use Rattle.bz_comment.proofs.LawBack.{own_grows, comment_grows}
 use Rattle.bz_command.specs.Laws.{keeps_comments, CommentsStay}
+use Rattle.bz_command.specs.declared.statements.CallPart.TheVariants.{Arguments as InBrackets}
+use Rattle.bz_command.specs.private.Looks.{before_in_call, before_in_row, before_in}
+use Rattle.bz_command.proofs.ProperEffects.{effect_by}
+use Rattle.bz_command.proofs.StatementRules.{Holds, in_item}
 use Rattle.bz_attribute.specs.Lists.{has_lists, items_in, is_no_list, with_more, body_of, is_item}
 use Rattle.bz_attribute.specs.Made.{list_of, string_text, plus, argument_of, rule_made}
 use Rattle.bz_attribute.proofs.AttributesAgain.{of_found}
-use Rattle.bz_attribute.proofs.FormsAgain.{if_true, if_false, then_if, made}
+use Rattle.bz_attribute.proofs.FormsAgain.{if_false, made}
 use Rattle.bz_attribute.proofs.Grown.{itself, in_turn, both_at_most, Grows, map_grows, first_grows, first_that_grows}
 use Rattle.bz_attribute.proofs.GrownArguments.{text_grows, on_row_grows, on_lists_grows, on_value_grows, more_grows, plus_grows, with_value_grows, inserted_grows, Grown}
 use Rattle.bz_list.proofs.LawAdded.{grown, strings_for}
-
--- ---- the arguments of a rule that is read
-
-abbrev call_from : List Expr → Expr → Call
-call_from arguments function = record { function = function; arguments = arguments }
-
-abbrev rule_from : List Expr → Bytes → RuleRead
-rule_from arguments kind = record { kind = kind; arguments = arguments }
-
-kind_arguments : (kind : Option Bytes) (arguments : List Expr) (rule : RuleRead) → option_map (rule_from arguments) kind ≡ Some rule → arguments ≡ rule.arguments
-kind_arguments None arguments rule e = cc
-kind_arguments (Some kind) arguments rule e = let same : rule_from arguments kind ≡ rule = cc in ap (λ (r : RuleRead). r.arguments) same
-
-call_arguments : (function : Option Expr) (arguments : List Expr) (rule : RuleRead) → option_and_then named (option_map (call_from arguments) function) ≡ Some rule → arguments ≡ rule.arguments
-call_arguments None arguments rule e = cc
-call_arguments (Some function) arguments rule e = kind_arguments (dotted_name function) arguments rule e
-
-form_arguments : (b : Bool) (f : Form) (rule : RuleRead) → option_and_then named (option_and_then called (if b then Some f else None)) ≡ Some rule → f.seq.items ≡ rule.arguments
-form_arguments true f rule e = call_arguments (only f.parts) f.seq.items rule e
-form_arguments false f rule e = cc
-
--- the expression of a statement, by its kind and its parts
-only_answered : (x : Expr) → option_and_then (λ (bare : Form). only bare.parts) (form_in k.Bare x) ≡ (if has_kind k.Bare x then only (parts_of x) else None)
-only_answered (Token t) = refl
-only_answered (Form' own s parts s' items end split open_break comments) =
-    then_if (is_kind own k.Bare) (λ (bare : Form). only bare.parts) (made own (items-the_row-Expr _ parts) (items-the_row-Expr _ items) end split open_break comments)
-
-abbrev rule_in : Option Expr → Option RuleRead
-rule_in x = option_and_then named (option_and_then called (option_and_then (form_in k.Call) x))
 
 module _ (number : Bytes → ℕ) where
   abbrev whole : Expr → ℕ
@@ -160,37 +131,33 @@ module _ (number : Bytes → ℕ) where
   abbrev size : Item → ℕ
   size = item_amount number
 
-  -- what an item weighs with other arguments: a call, a row of one call, a statement and a rule
-  call_exact : (y : Expr) (rule : RuleRead) (new : List Expr) → rule_in (Some y) ≡ Some rule → whole (with_items new y) + total whole rule.arguments ≡ whole y + total whole new
-  call_exact (Token t) rule new e = cc
-  call_exact (Form' own s parts s' items end split open_break comments) rule new e =
-      let ps : List Expr = items-the_row-Expr _ parts in
-      let same = ap (total whole) (form_arguments (is_kind own k.Call) (made own ps (items-the_row-Expr _ items) end split open_break comments) rule e) in
+  -- what a call, a row that begins with one and an item weigh with another list, by the one that it had
+  call_exact : (list : List Expr) (y : Expr) → whole (with_items list y) + total whole (before_in_call InBrackets list y) ≡ whole y + total whole list
+  call_exact list (Token t) = refl
+  call_exact list (Form' own s parts s' items end split open_break comments) =
       let before = amount_answered number (Form' own s parts s' items end split open_break comments) in
-      let after = form_amount number (made own ps new end split open_break comments) in
-      omega (arith, same, before, after)
-
-  row_exact : (ps : List Expr) (rule : RuleRead) (new : List Expr) → rule_in (only ps) ≡ Some rule → total whole (on_first (with_items new) ps) + total whole rule.arguments ≡ total whole ps + total whole new
-  row_exact [] rule new e = cc
-  row_exact (y ∷ []) rule new e = let call = call_exact y rule new e in omega (arith, call)
-  row_exact (y ∷ z ∷ ps) rule new e = absurd (true≢false (sym (ap (λ (found : Option RuleRead). is_some found) e)))
-
-  parts_exact : (ys : List Expr) (x : Expr) → has_kind k.Bare x ≡ true → whole (with_parts ys x) + total whole (parts_of x) ≡ whole x + total whole ys
-  parts_exact ys (Token t) h = absurd (true≢false (sym h))
-  parts_exact ys (Form' own s parts s' items end split open_break comments) h =
-      let before = amount_answered number (Form' own s parts s' items end split open_break comments) in
-      let after = form_amount number (made own ys (items-the_row-Expr _ items) end split open_break comments) in
+      let after = form_amount number (made own (items-the_row-Expr _ parts) list end split open_break comments) in
       omega (arith, before, after)
 
+  row_exact : (list ps : List Expr) → total whole (on_first (with_items list) ps) + total whole (before_in_row InBrackets list ps) ≡ total whole ps + total whole list
+  row_exact list [] = refl
+  row_exact list (y ∷ ps) = let call = call_exact list y in omega (arith, call)
+
+  item_exact : (list : List Expr) (item : Item) → size (with_arguments list item) + total whole (before_in InBrackets list item) ≡ size item + total whole list
+  item_exact list (i.Block lines) = refl
+  item_exact list (i.Stmt (Token t)) = refl
+  item_exact list (i.Stmt (Form' k.Bare s parts s' items end split open_break comments)) =
+      let row = row_exact list (items-the_row-Expr _ parts) in
+      let before = amount_answered number (Form' k.Bare s parts s' items end split open_break comments) in
+      let after = form_amount number (made k.Bare (on_first (with_items list) (items-the_row-Expr _ parts)) (items-the_row-Expr _ items) end split open_break comments) in
+      omega (arith, row, before, after)
+  item_exact list (i.Stmt (Form' _ s parts s' items end split open_break comments)) = refl
+
+  -- and a rule, by its arguments
   rule_exact : (item : Item) (rule : RuleRead) (new : List Expr) → rule_of item ≡ Some rule → size (with_arguments new item) + total whole rule.arguments ≡ size item + total whole new
-  rule_exact (i.Block lines) rule new e = cc
-  rule_exact (i.Stmt x) rule new e =
-      by_case (λ (y : Expr). whole y + total whole rule.arguments ≡ whole x + total whole new) (has_kind k.Bare x) (with_parts (on_first (with_items new) (parts_of x)) x) x
-      (λ is.
-      let row = row_exact (parts_of x) rule new (sym (ap rule_in (only_answered x ∙ if_true (has_kind k.Bare x) (only (parts_of x)) None is)) ∙ e) in
-      let statement = parts_exact (on_first (with_items new) (parts_of x)) x is in
-      omega (arith, row, statement))
-      (λ n. let none : rule_in None ≡ Some rule = sym (ap rule_in (only_answered x ∙ if_false (has_kind k.Bare x) (only (parts_of x)) None n)) ∙ e in absurd (true≢false (sym (ap (λ (found : Option RuleRead). is_some found) none))))
+  rule_exact item rule new e =
+      subst (λ (ys : List Expr). size (with_arguments new item) + total whole ys ≡ size item + total whole new)
+      (subst (Holds (before_in InBrackets new item)) e (in_item new item)) (item_exact new item)
 
   -- the arguments that are put in are in the item then
   pub rule_holds : (item : Item) (rule : RuleRead) (new : List Expr) → rule_of item ≡ Some rule → total whole new ≤ size (with_arguments new item)
@@ -262,23 +229,12 @@ module _ (number : Bytes → ℕ) where
   rules_keep (w.Comment (wc.Add Rule text)) current marks items h = meant_keeps (λ item. Ok (on_statement (with_comment text) item)) (statement_keeps text) marks items
   rules_keep (w.Comment (wc.Add (Attribute name) text)) current marks items h = by_arguments (comment current (Attribute name) text) (comment_grows number current (Attribute name) text) marks items
   rules_keep (w.Comment (wc.Add (ItemHost name word) text)) current marks items h = by_arguments (comment current (ItemHost name word) text) (comment_grows number current (ItemHost name word) text) marks items
-  rules_keep (w.Comment (wc.Print host)) current marks items h = meant_keeps (λ item. Ok item) (λ item. itself (size item)) marks items
+  rules_keep (w.Comment (wc.Print host)) current marks items h = by_arguments (λ arguments. Ok arguments) (λ xs. itself (total whole xs)) marks items
   rules_keep (w.Print fields) current marks items h = itself (total size items)
   rules_keep _ current marks items h = absurd (true≢false (sym h))
 
-  kept_keeps : (items : List Item) (text : Result Bytes Refusal) → MadeItems items (kept items text)
-  kept_keeps items (Err refusal) = tt
-  kept_keeps items (Ok text) = itself (total size items)
-
-  effect_keeps : (operation : Operation) (target : Target) (current : Bytes) (lines : List ℕ) (items : List Item) → keeps_comments operation ≡ true → MadeItems items (effect operation target current lines items)
-  effect_keeps operation target current lines items h =
-      let marks : List Bool = meant target.which lines items in
-      by_test (MadeItems items) (lacks_rules operation marks) (if may_mean_none target.which then Ok items else Err NoTarget)
-      (if prints operation then kept items (printed_rules operation current lines marks items) else on_rules operation current marks items)
-      (by_test (MadeItems items) (may_mean_none target.which) (Ok items) (Err NoTarget) (itself (total size items)) tt)
-      (by_test (MadeItems items) (prints operation) (kept items (printed_rules operation current lines marks items)) (on_rules operation current marks items)
-      (kept_keeps items (printed_rules operation current lines marks items))
-      (rules_keep operation current marks items h))
-
 pub comments_stay : CommentsStay
-comments_stay operation target current lines items new h e text = subst (MadeItems (one_if text) items) e (effect_keeps (one_if text) operation target current lines items h)
+comments_stay operation target current lines items new h e text =
+    subst (MadeItems (one_if text) items) e
+    (effect_by (MadeItems (one_if text) items) operation target current lines items (itself (total (item_amount (one_if text)) items)) (λ refusal. tt)
+    (rules_keep (one_if text) operation current (meant target.which lines items) items h))

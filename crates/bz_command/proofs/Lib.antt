@@ -6,5 +6,4 @@ pub mod Pieces
 pub mod ProperEffects
 pub mod RunningItems
 pub mod StatementRules
-pub mod Substituting
 pub mod TargetMarks

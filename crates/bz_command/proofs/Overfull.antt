@@ -84,7 +84,9 @@ over text count (Err refusal) made proper h l = absurd (true≢false (sym made))
 -- what a comment makes of a file is what it makes of the rules that its target means, where there are some
 made_of_meant : (text current : Bytes) (host : Host) (target : Target) (lines : List ℕ) (items : List Item) → list_any (λ mark. mark) (meant target.which lines items) ≡ true
     → effect (w.Comment (wc.Add host text)) target current lines items ≡ all_commented current host text (meant target.which lines items) items
-made_of_meant text current host target lines items some = rw some refl
+made_of_meant text current Rule target lines items some = rw some refl
+made_of_meant text current (Attribute name) target lines items some = rw some refl
+made_of_meant text current (ItemHost name word) target lines items some = rw some refl
 
 -- ---- the rules one after the other
 

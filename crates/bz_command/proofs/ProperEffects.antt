@@ -172,26 +172,28 @@ module _ (current : Bytes) (marks : List Bool) (items : List Item) (h : AreItems
   rules_made (w.Comment (wc.Add r.Rule text)) p = by_statement (with_comment text) (statement_keeps text p.1 p.2)
   rules_made (w.Comment (wc.Add (r.Attribute name) text)) p = by_arguments (comment current (r.Attribute name) text) (comment_keeps current (r.Attribute name) text p.0 p.1 p.2)
   rules_made (w.Comment (wc.Add (r.Item name word) text)) p = by_arguments (comment current (r.Item name word) text) (comment_keeps current (r.Item name word) text p.0 p.1 p.2)
-  rules_made (w.Comment (wc.Print host)) p = meant_changed (λ item. Ok item) (λ item p. p) marks items h
+  rules_made (w.Comment (wc.Print host)) p = by_arguments (λ arguments. Ok arguments) (λ xs p. p)
   rules_made (w.Comment (wc.Remove r.Rule)) p = by_statement without_comments remove_statement_keeps
   rules_made (w.Comment (wc.Remove (r.Attribute name))) p = by_arguments (remove_comment current (r.Attribute name)) (remove_comment_keeps current (r.Attribute name) p)
   rules_made (w.Comment (wc.Remove (r.Item name word))) p = by_arguments (remove_comment current (r.Item name word)) (remove_comment_keeps current (r.Item name word) p)
   rules_made (w.Print fields) p = h
 
-kept_items : (items : List Item) (text : Result Bytes Refusal) → AreItems items → MadeItems (kept items text)
-kept_items items (Err refusal) h = tt
-kept_items items (Ok text) h = h
-
-effect_made : (operation : Operation) (target : Target) (current : Bytes) (lines : List ℕ) (items : List Item) → IsProperCommand operation → AreItems items → MadeItems (effect operation target current lines items)
-effect_made operation target current lines items p h =
+-- What holds where the items stay, where a command is refused, and of what it makes of the rules that are meant, holds of its effect.
+pub effect_by : (P : Result (List Item) Refusal → Type 0) (operation : Operation) (target : Target) (current : Bytes) (lines : List ℕ) (items : List Item)
+    → P (Ok items) → ((refusal : Refusal) → P (Err refusal)) → P (on_rules operation current (meant target.which lines items) items) → P (effect operation target current lines items)
+effect_by P operation target current lines items stays refused made =
     let marks : List Bool = meant target.which lines items in
-    let others : Result (List Item) Refusal = if prints operation then kept items (printed_rules operation current lines marks items) else on_rules operation current marks items in
-    by_test MadeItems (lacks_rules operation marks) (if may_mean_none target.which then Ok items else Err NoTarget) others
-    (by_test MadeItems (may_mean_none target.which) (Ok items) (Err NoTarget) h tt)
-    (by_test MadeItems (prints operation) (kept items (printed_rules operation current lines marks items)) (on_rules operation current marks items)
-    (kept_items items (printed_rules operation current lines marks items) h)
-    (rules_made current marks items h operation p))
+    let texts : Result Bytes Refusal = printed_rules operation current lines marks items in
+    by_test P (lacks_rules operation marks) (if may_mean_none target.which then Ok items else Err NoTarget) (if prints operation then kept items texts else on_rules operation current marks items)
+    (by_test P (may_mean_none target.which) (Ok items) (Err NoTarget) stays (refused NoTarget))
+    (by_test P (prints operation) (kept items texts) (on_rules operation current marks items) (by_text texts) made)
+  where
+    by_text : (text : Result Bytes Refusal) → P (kept items text)
+    by_text (Err refusal) = refused refusal
+    by_text (Ok text) = stays
 
 pub effects_stay_proper : EffectsStayProper
 effects_stay_proper operation target current lines items new p h e =
-    All-from_recursion IsProperItem new (subst MadeItems e (effect_made operation target current lines items p (recursion_from_All IsProperItem items h)))
+    let proper : AreItems items = recursion_from_All IsProperItem items h in
+    All-from_recursion IsProperItem new
+    (subst MadeItems e (effect_by MadeItems operation target current lines items proper (λ refusal. tt) (rules_made current (meant target.which lines items) items proper operation p)))

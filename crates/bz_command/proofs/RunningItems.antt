@@ -1,16 +1,15 @@
 -- What commands make of the items of a file, item by item.
-use Rattle.std.proofs.Common.{◌≡◌, ◌≤◌, Bool, true, false, List, [], ◌∷◌, ◌++◌, length, refl, ap, arith, ◌&&◌, ◌∙◌, Err, Ok, sym, subst, ◌<◌, ◌+◌, ◌-◌, ℕ, zero, suc, true≢false, take, drop, get_or, set, append_assoc, inl, inr}
+use Rattle.std.proofs.Common.{◌≡◌, ◌≤◌, Bool, true, false, List, [], ◌∷◌, ◌++◌, length, refl, ap, arith, ◌&&◌, ◌∙◌, Err, Ok, sym, subst, ◌<◌, ◌+◌, ◌-◌, ℕ, zero, suc, true≢false, take, drop, get_or, set}
 use Rattle.std.specs.Prelude.{Result, IfOk, IfSome, Option, Some, None}
 use Rattle.bz_value.specs.declared.value.Item.{Item}
 use Rattle.bz_value.specs.declared.value.Item.TheVariants as i
 use Rattle.bz_value.specs.declared.refusal.Refusal.{Refusal}
 use Rattle.bz_command.specs.Effect.{unmarked, NewItem, with_item_first, on_meant}
-use Rattle.std.proofs.lemmas.Bool.{and_parts, cases_lt}
+use Rattle.std.proofs.lemmas.Bool.{and_parts}
 use Rattle.bz_value.specs.Exchanged.{is_bare, AreExchanged, IsSpliced}
 use Rattle.bz_command.specs.Renewed.{are_bare}
-use Rattle.std.specs.List.{position, swap}
-use Rattle.std.proofs.lemmas.List.{drop-set-lt, drop_more, length-append, length-drop, length-take-le, set-set, take-set-le, take_more_set}
-use Rattle.std.proofs.lemmas.List.Edits.{swap_is}
+use Rattle.std.specs.List.{position}
+use Rattle.std.proofs.lemmas.List.{length-append, length-drop, length-take-le}
 use Rattle.bz_attribute.proofs.ArgumentPlaces.{is_first}
 use Rattle.bz_load.proofs.PutSteps.{spliced}
 
@@ -91,57 +90,6 @@ pub exchanged_there :
 exchanged_there change marks before after known count k made both =
     let both_times = and_parts known (are_bare marks after) both in
     subst (Exchanges marks before) made (meant_exchanges change marks before count (sym k ∙ both_times.0)) both_times.1
-
--- ---- items that are left where the marked ones are taken out
-
--- ---- an item moved to the front
-
--- Two items exchanged: up to the first place and after the second one.
-module _ (kept at : ℕ) (old : List Item) (d : Item) (order : kept ≤ at) (there : at < length old) where
-  abbrev exchanged : List Item
-  exchanged = set (set old kept (get_or old at d)) at (get_or old kept d)
-
-  written : take (kept + 1) (set old kept (get_or old at d)) ≡ take kept old ++ get_or old at d ∷ []
-  written = take_more_set old kept (get_or old at d) (omega arith)
-
-  exchanged_front : take (kept + 1) exchanged ≡ take kept old ++ get_or old at d ∷ []
-  exchanged_front = elim (cases_lt kept at) [
-    | inl less ↦ take-set-le (kept + 1) (set old kept (get_or old at d)) at (get_or old kept d) (omega arith) ∙ written
-    | inr more ↦
-        let same : kept ≡ at = omega arith in
-        ap (λ n. take (kept + 1) (set (set old kept (get_or old at d)) n (get_or old kept d))) (sym same)
-        ∙ (ap (λ x. take (kept + 1) (set (set old kept (get_or old at d)) kept x)) (ap (λ n. get_or old n d) same)
-        ∙ (ap (take (kept + 1)) (set-set old kept (get_or old at d) (get_or old at d)) ∙ written))
-  ]
-
-  exchanged_after : drop (at + 1) exchanged ≡ drop (at + 1) old
-  exchanged_after =
-      drop-set-lt (at + 1) (set old kept (get_or old at d)) at (get_or old kept d) (omega arith)
-      ∙ drop-set-lt (at + 1) old kept (get_or old at d) (omega arith)
-
-  exchanged_kept : (marks : List Bool) (new : List Item) → new ≡ exchanged
-      → take (kept + 1) new ++ unmarked marks (drop (at + 1) new) ≡ take kept old ++ unmarked (false ∷ marks) (drop at old)
-  exchanged_kept marks new is =
-      ap (λ (xs : List Item). take (kept + 1) xs ++ unmarked marks (drop (at + 1) xs)) is
-      ∙ (ap (λ (xs : List Item). xs ++ unmarked marks (drop (at + 1) exchanged)) exchanged_front
-      ∙ (ap (λ (xs : List Item). (take kept old ++ get_or old at d ∷ []) ++ unmarked marks xs) exchanged_after
-      ∙ (append_assoc (take kept old) (get_or old at d ∷ []) (unmarked marks (drop (at + 1) old))
-      ∙ ap (λ (xs : List Item). take kept old ++ unmarked (false ∷ marks) xs) (sym (drop_more old at d there)))))
-
--- an item without a mark goes after those that are kept
-pub one_kept : (kept at : ℕ) (mark : Bool) (old new : List Item) → kept ≤ at → at < length old → mark ≡ false → new ≡ swap old kept at → (marks : List Bool)
-    → take (kept + 1) new ++ unmarked marks (drop (at + 1) new) ≡ take kept old ++ unmarked (mark ∷ marks) (drop at old)
-one_kept kept at mark [] new order there unset is marks = absurd (omega (arith, there))
-one_kept kept at true (d ∷ rest) new order there unset is marks = absurd (true≢false unset)
-one_kept kept at false (d ∷ rest) new order there unset is marks =
-    exchanged_kept kept at (d ∷ rest) d order there marks new (is ∙ sym (swap_is (d ∷ rest) kept at d (omega (arith, order, there)) there))
-
--- one with a mark is passed over
-pub one_passed : (kept at : ℕ) (mark : Bool) (old : List Item) → at < length old → mark ≡ true → (marks : List Bool)
-    → take kept old ++ unmarked marks (drop (at + 1) old) ≡ take kept old ++ unmarked (mark ∷ marks) (drop at old)
-one_passed kept at mark [] there is marks = absurd (omega (arith, there))
-one_passed kept at false (d ∷ rest) there is marks = absurd (true≢false (sym is))
-one_passed kept at true (d ∷ rest) there is marks = ap (λ (xs : List Item). take kept (d ∷ rest) ++ unmarked (true ∷ marks) xs) (sym (drop_more (d ∷ rest) at d there))
 
 -- ---- from the first marked item to the last one
 

@@ -13,7 +13,7 @@ use Rattle.bz_items.specs.Characters.{Bytes}
 use Rattle.bz_rule.specs.Rules.{Rule, only, form_in, called, named, rule_of, dotted_name}
 use Rattle.bz_rule.specs.Values.{has_kind, parts_of, with_parts, with_items, on_row, on_first}
 use Rattle.bz_command.specs.declared.statements.CallPart.TheVariants.{Arguments as InBrackets}
-use Rattle.bz_command.specs.private.Looks.{with_list_in, before_in_call, before_in_row, before_in_statement, before_in}
+use Rattle.bz_command.specs.private.Looks.{with_list_in, before_in_call, before_in_row, before_in}
 use Rattle.bz_command.specs.Effect.{is_rule, with_arguments, made_of, on_rule, on_arguments}
 use Rattle.bz_attribute.specs.Attributes.{Arguments}
 use Rattle.bz_attribute.proofs.FormsAgain.{made, parts_twice, items_twice, parts_kind, parts_filled, row_changed}
@@ -46,7 +46,7 @@ arguments_twice ys xs (i.Stmt x) = ap i.Stmt (row_twice k.Bare (on_first (with_i
 -- ---- what is in the brackets of a rule are its arguments
 
 -- a call's arguments are these, where it is a rule
-abbrev Holds : List Expr → Option Rule → Type 0
+abbrev pub Holds : List Expr → Option Rule → Type 0
 Holds list o = IfSome o (λ rule. list ≡ rule.arguments)
 
 by_name : (arguments : List Expr) (o : Option Bytes) → Holds arguments (option_map (λ kind. record { kind = kind; arguments = arguments }) o)
@@ -68,14 +68,11 @@ in_row list [] = tt
 in_row list (y ∷ []) = in_call list y
 in_row list (y ∷ z ∷ ps) = tt
 
-in_statement : (list : List Expr) (x : Expr) → Holds (before_in_statement InBrackets list x) (rule_of (i.Stmt x))
-in_statement list (Token t) = tt
-in_statement list (Form' k.Bare s parts s' items end split open_break comments) = in_row list (items-the_row-Expr _ parts)
-in_statement list (Form' _ s parts s' items end split open_break comments) = tt
-
-in_item : (list : List Expr) (item : Item) → Holds (before_in InBrackets list item) (rule_of item)
+pub in_item : (list : List Expr) (item : Item) → Holds (before_in InBrackets list item) (rule_of item)
 in_item list (i.Block lines) = tt
-in_item list (i.Stmt x) = in_statement list x
+in_item list (i.Stmt (Token t)) = tt
+in_item list (i.Stmt (Form' k.Bare s parts s' items end split open_break comments)) = in_row list (items-the_row-Expr _ parts)
+in_item list (i.Stmt (Form' _ s parts s' items end split open_break comments)) = tt
 
 -- ---- a rule by its arguments
 

@@ -117,14 +117,16 @@ printed_rules operation current lines _ _ = Ok []
 abbrev pub NewItem : Type 0
 NewItem = Result Item Refusal
 
--- a rule with other arguments, and with another function
+-- a statement, changed; so a rule with other arguments, and with another function
+abbrev pub on_statement : (Expr → Expr) → Item → Item
+on_statement change (i.Block lines) = i.Block lines
+on_statement change (i.Stmt x) = i.Stmt (change x)
+
 abbrev pub with_arguments : List Expr → Item → Item
-with_arguments arguments (i.Block lines) = i.Block lines
-with_arguments arguments (i.Stmt x) = i.Stmt (on_row k.Bare (on_first (with_items arguments)) x)
+with_arguments arguments item = on_statement (on_row k.Bare (on_first (with_items arguments))) item
 
 abbrev pub with_function : Expr → Item → Item
-with_function function (i.Block lines) = i.Block lines
-with_function function (i.Stmt x) = i.Stmt (on_row k.Bare (on_first (with_parts (function ∷ []))) x)
+with_function function item = on_statement (on_row k.Bare (on_first (with_parts (function ∷ [])))) item
 
 abbrev pub made_of : Item → Arguments → NewItem
 made_of item (Err refusal) = Err refusal
@@ -189,25 +191,13 @@ arguments_of (w.Comment (wc.Add host text)) current found arguments = comment cu
 arguments_of (w.Comment (wc.Remove host)) current found arguments = remove_comment current host arguments
 arguments_of _ current found arguments = Ok arguments
 
--- a statement, changed
-abbrev pub on_statement : (Expr → Expr) → Item → Item
-on_statement change (i.Block lines) = i.Block lines
-on_statement change (i.Stmt x) = i.Stmt (change x)
-
--- The comments of the rule itself are those of its statement; those of any other host are among its arguments.
-abbrev pub on_host_of_item : Host → (Expr → Expr) → NewItem → Item → NewItem
-on_host_of_item Rule change others item = Ok (on_statement change item)
-on_host_of_item _ change others item = others
-
--- what a command makes of a rule that it is meant for
+-- What a command makes of a rule that it is meant for. The comments of the rule itself are those of its statement, those of any other host are
+-- among its arguments.
 abbrev pub on_one : Operation → Bytes → Option Expr → Item → NewItem
 on_one (w.Rule (wr.SetKind kind)) current found item = Ok (if is_rule item then with_function (function_of kind) item else item)
-on_one (w.Attribute operation) current found item = on_arguments (attributes_changed operation current found) item
-on_one (w.Value operation) current found item = on_arguments (values_changed operation current) item
-on_one (w.Dict operation) current found item = on_arguments (dicts_changed operation current) item
-on_one (w.Comment (wc.Add host text)) current found item = on_host_of_item host (with_comment text) (on_arguments (comment current host text) item) item
-on_one (w.Comment (wc.Remove host)) current found item = on_host_of_item host without_comments (on_arguments (remove_comment current host) item) item
-on_one _ current found item = Ok item
+on_one (w.Comment (wc.Add Rule text)) current found item = Ok (on_statement (with_comment text) item)
+on_one (w.Comment (wc.Remove Rule)) current found item = Ok (on_statement without_comments item)
+on_one operation current found item = on_arguments (arguments_of operation current found) item
 
 -- the same of each rule that is marked
 abbrev pub on_each : Operation → Bytes → List Bool → List Item → Result (List Item) Refusal

@@ -3,7 +3,6 @@ pub mod Laws
 pub mod Overfull
 pub mod Prints
 pub mod Renewed
-pub mod SmallValues
 pub mod Table
 pub mod Worked
 pub mod private

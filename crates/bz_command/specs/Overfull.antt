@@ -7,8 +7,9 @@ use Rattle.bz_value.specs.Proper.{IsProper}
 use Rattle.bz_items.specs.Characters.{Bytes}
 use Rattle.bz_value.specs.declared.refusal.Refusal.{Refusal}
 use Rattle.bz_command_syntax.specs.declared.command.Host.{Host}
+use Rattle.bz_command_syntax.specs.declared.command.Host.TheVariants.{Rule}
 use Rattle.bz_comment.specs.Hosts.{comment, with_comment}
-use Rattle.bz_command.specs.Effect.{NewItem, on_arguments, on_host_of_item, on_meant, is_rule}
+use Rattle.bz_command.specs.Effect.{NewItem, on_arguments, on_meant, on_statement, is_rule}
 
 -- the copies of one comment are past the limit
 abbrev pub IsOverfull : List Item → Type 0
@@ -24,9 +25,13 @@ abbrev pub marked_rules : List Bool → List Item → ℕ
 marked_rules (mark ∷ marks) (item ∷ items) = (if mark && is_rule item then 1 else 0) + marked_rules marks items
 marked_rules _ _ = 0
 
--- what putting a comment on a host makes of an item
+-- what putting a comment on a host makes of an item: on the rule itself, or on something in it
+abbrev pub on_host_of_item : Host → NewItem → NewItem → NewItem
+on_host_of_item Rule own inside = own
+on_host_of_item _ own inside = inside
+
 abbrev pub commented : Bytes → Host → Bytes → Item → NewItem
-commented current host text item = on_host_of_item host (with_comment text) (on_arguments (comment current host text) item) item
+commented current host text item = on_host_of_item host (Ok (on_statement (with_comment text) item)) (on_arguments (comment current host text) item)
 
 -- and of the items that are marked
 abbrev pub all_commented : Bytes → Host → Bytes → List Bool → List Item → Result (List Item) Refusal

@@ -1,5 +1,6 @@
 -- In which items a value may differ from the one that it was.
-use Rattle.std.specs.Prelude.{Bool, true, not, ◌&&◌, ◌||◌, List, [], ◌∷◌}
+use Rattle.std.specs.Prelude.{Bool, not, ◌||◌, List}
+use Rattle.std.specs.List.{list_all, zip}
 use Rattle.bz_value.specs.declared.value.Item.{Item}
 use Rattle.bz_value.specs.Exchanged.{AreExchanged, IsSpliced, is_bare}
 use Rattle.bz_command.specs.declared.outcome.Extent.{Extent}
@@ -12,6 +13,4 @@ IsOfExtent e.Whole marks before after = Unit {0}
 
 -- the items that are marked are expressions alone, as rules are
 abbrev pub are_bare : List Bool → List Item → Bool
-are_bare marks [] = true
-are_bare [] (item ∷ items) = true
-are_bare (mark ∷ marks) (item ∷ items) = (not mark || is_bare item) && are_bare marks items
+are_bare marks items = list_all (λ pair. not pair.0 || is_bare pair.1) (zip marks items)

@@ -1,7 +1,7 @@
 -- The commands in one table, by their names: what each works on, whether it prints, whether it looks at the rules that its target means, and
 -- whether it leaves each comment at least as often as it occurred there.
-use Rattle.std.specs.Prelude.{◌≡◌, Bool, true, false, List, [], ◌∷◌, Ok, Err, bytes_eq, codes}
-use Rattle.std.specs.List.{list_any}
+use Rattle.std.specs.Prelude.{◌≡◌, Bool, true, false, List, [], ◌∷◌, IfOk, bytes_eq, codes}
+use Rattle.std.specs.List.{AllZip, list_any}
 use Rattle.bz_items.specs.Characters.{Bytes}
 use Rattle.bz_command_syntax.specs.Commands.{ReadCommand, commands}
 use Rattle.bz_command_syntax.specs.Printing.{prints}
@@ -64,18 +64,10 @@ IsAsListed row operation =
     (list_any (bytes_eq (subject_of operation)) row.subjects ≡ true)
     × (prints operation ≡ row.is_printing) × (looks_at_rules operation ≡ row.is_on_rules) × (keeps_comments operation ≡ row.is_keeping)
 
--- What a command reads in its words is, where it is an operation.
-abbrev pub ReadsAsListed : CommandRow → ReadCommand → Type 0
-ReadsAsListed row (Ok operation) = IsAsListed row operation
-ReadsAsListed row (Err fault) = Unit {0}
+-- What a command reads in the words after its name is as a row says, where it is an operation.
+abbrev pub IsListed : Bytes × (Bytes × (List Bytes → ReadCommand)) → CommandRow → Type 0
+IsListed command row = (command.0 ≡ row.name) × ((words : List Bytes) → IfOk (command.1.1 words) (IsAsListed row))
 
--- Commands, each with what it reads in the words after its name, have these rows, one by one.
-abbrev pub HaveRows : List (Bytes × (Bytes × (List Bytes → ReadCommand))) → List CommandRow → Type 0
-HaveRows [] [] = Unit {0}
-HaveRows [] (row ∷ rows) = ⊥
-HaveRows (command ∷ more) [] = ⊥
-HaveRows (command ∷ more) (row ∷ rows) = (command.0 ≡ row.name) × ((words : List Bytes) → ReadsAsListed row (command.1.1 words)) × HaveRows more rows
-
--- The commands by which texts are read are those of the table.
+-- The commands by which texts are read are those of the table, one by one.
 abbrev pub CommandsAreListed : Type 0
-CommandsAreListed = HaveRows commands command_rows
+CommandsAreListed = AllZip IsListed commands command_rows

@@ -1,6 +1,5 @@
 //! Whether what a command makes is past the limit of a text by the comments alone that it puts in, known before it is made.
 ghost use Rattle.std.specs.Prelude.{◌≡◌, ◌⊎◌, ◌<◌, ◌*◌, Err, IfErr, IfOk, IsOk, IsTrue, None, length, true};
-ghost use Rattle.std.specs.List.{list_any};
 ghost use Rattle.bz_grammar.specs.Spell.{limit};
 ghost use Rattle.bz_items.specs.Characters.{Bytes};
 ghost use Rattle.bz_comment.specs.Hosts.{comment_made};
@@ -105,7 +104,7 @@ pub fn overfills(
     if !are_past(items.len(), text.len().saturating_add(2)) {
         return Ok(false);
     }
-    let marks = meant(alloc, &target.which, lines, items)?;
+    let marks = meant(alloc, &target.which, lines, None, items)?;
     let marked = marks.as_slice();
     if !is_any(marked) || !are_copies_past(alloc, text.as_slice(), marked, items)? {
         return Ok(false);

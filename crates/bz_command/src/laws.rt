@@ -1,23 +1,16 @@
 //! Facts about the definitions, for readers: the functions do nothing.
 ghost use Rattle.bz_command.specs.Laws.{CommentsStay, EffectsStayProper, LinesMatter};
 ghost use Rattle.bz_command.specs.Table.{CommandsAreListed};
-ghost use Rattle.bz_command.specs.Worked.{WorkedAttributes, WorkedCommentCommands, WorkedDicts, WorkedEffects, WorkedLoadCommands, WorkedPrintCommands, WorkedRules, WorkedSubstitutes, WorkedValues};
+ghost use Rattle.bz_command.specs.Worked.{WorkedCommands, WorkedEffects};
 
-/// Worked rows: what commands make of small file values.
+/// Worked rows: which rules of a small file value a target means.
 pub fn worked_effects()
     ensures { WorkedEffects }
 {}
 
 /// Worked rows: what each command, as it is typed, makes of small file values and prints of them.
 pub fn worked_command_effects()
-    ensures rules { WorkedRules }
-    ensures attributes { WorkedAttributes }
-    ensures values { WorkedValues }
-    ensures substitutes { WorkedSubstitutes }
-    ensures dicts { WorkedDicts }
-    ensures loads { WorkedLoadCommands }
-    ensures comments { WorkedCommentCommands }
-    ensures prints { WorkedPrintCommands }
+    ensures { WorkedCommands }
 {}
 
 /// What a command that was read makes of a proper file value is a proper file value.

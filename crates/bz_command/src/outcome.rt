@@ -1,7 +1,7 @@
 //! What a command makes of a file value, and in which items that may differ from the one that it was.
-ghost use Rattle.std.specs.Prelude.{◌≡◌, ◌&&◌, Bool, List, drop, true};
+ghost use Rattle.std.specs.Prelude.{◌≡◌, ◌&&◌, ◌||◌, List, not, true};
 ghost use Rattle.bz_value.specs.declared.value.Item.{Item};
-ghost use Rattle.bz_value.specs.Exchanged.{AreExchanged, is_bare, is_bare_statement};
+ghost use Rattle.bz_value.specs.Exchanged.{AreExchanged, is_bare};
 ghost use Rattle.bz_command.specs.Renewed.{IsOfExtent, are_bare};
 
 use bz_grammar::Kind;
@@ -58,41 +58,31 @@ pub(crate) struct Changed {
     pub(crate) extent: Extent,
 }
 
-/// Whether a statement is an expression alone.
-fn is_bare_statement(x: &Expr) -> bool
-    ensures { result ≡ is_bare_statement x.now }
-{
-    match x {
-        Expr::Token(_) => false,
-        Expr::Form(form) => form.kind == Kind::Bare,
-    }
-}
-
 /// Whether an item is a statement that is an expression alone.
 fn is_bare(item: &Item) -> bool
     ensures { result ≡ is_bare item.now }
 {
     match item {
-        Item::Block(_) => false,
-        Item::Stmt(x) => is_bare_statement(x),
+        Item::Stmt(Expr::Form(form)) => form.kind == Kind::Bare,
+        _ => false,
     }
+}
+
+/// Whether an item is such a statement, where it is marked.
+fn stays_bare(mark: bool, item: &Item) -> bool
+    ensures { result ≡ (not mark || is_bare item.now) }
+{
+    !mark || is_bare(item)
 }
 
 /// Whether the items that are marked are such statements.
 pub(crate) fn are_bare(marks: &[bool], items: &[Item]) -> bool
     ensures { result ≡ are_bare marks.now items.now }
 {
-    let mut left = marks;
-    for item in items {
-        let Some((mark, rest)) = left.split_first() else {
-            return true;
-        };
-        if *mark && !is_bare(item) {
-            return false;
-        }
-        left = rest;
-    }
-    true
+    marks
+        .iter()
+        .zip(items)
+        .all(|(mark, item)| stays_bare(*mark, item))
 }
 
 /// In which items a value may differ from one of which those that are marked were changed; `before`: whether these were such statements.

@@ -2,7 +2,7 @@
 ghost use Rattle.std.specs.Prelude.{◌≡◌, ◌⊎◌, Ok, Err, OnOk, IfOk, IfErr, decimal, length, option_map};
 ghost use Rattle.std.specs.List.{list_any};
 ghost use Rattle.bz_command.specs.Effect.{before_rest, printed_comments_of, printed_one, printed_rules};
-ghost use Rattle.bz_command.specs.Laws.{is_by_line, looks_at_lines, prints_line, prints_lines};
+ghost use Rattle.bz_command.specs.Laws.{looks_at_lines, prints_line, prints_lines};
 
 use crate::fields::push_rule;
 use crate::targets::{arguments_of, line_at};
@@ -77,13 +77,6 @@ pub(crate) fn print_rules(
     Ok(Text::from_vec(all))
 }
 
-/// Whether a target names a line.
-fn is_by_line(which: &Which) -> bool
-    ensures { result ≡ is_by_line which.now }
-{
-    matches!(which, Which::Line(_))
-}
-
 /// Whether a field is the line on which the rule begins.
 fn prints_line(field: &Field) -> bool
     ensures { result ≡ prints_line field.now }
@@ -112,5 +105,5 @@ fn prints_lines(operation: &Operation) -> bool
 pub fn looks_at_lines(command: &Command, target: &Target) -> bool
     ensures { result ≡ looks_at_lines command.now target.now }
 {
-    prints_lines(&command.operation) || is_by_line(&target.which)
+    prints_lines(&command.operation) || matches!(target.which, Which::Line(_))
 }

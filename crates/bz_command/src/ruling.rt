@@ -1,8 +1,7 @@
 //! What a command makes of the items of a file: of the rules that are marked, with a new rule, without some, and of loads. Items
 //! that stay are moved.
-ghost use Rattle.std.specs.Prelude.{◌≡◌, ◌⊎◌, ◌↔◌, ◌≤◌, ◌<◌, ◌∷◌, ◌++◌, ◌+◌, ℕ, Bool, List, false, length, take, drop, get_or, Ok, Err, OnOk, IsTrue, IfOk, IfErr, IfSome, if◌then◌else◌};
+ghost use Rattle.std.specs.Prelude.{◌≡◌, ◌⊎◌, ◌↔◌, ◌≤◌, ◌<◌, ◌∷◌, ◌++◌, ◌+◌, ℕ, Bool, List, false, length, drop, get_or, Ok, Err, OnOk, IsTrue, IfOk, IfErr, IfSome, if◌then◌else◌};
 ghost use Rattle.std.specs.List.{insert, list_any, position};
-ghost use Rattle.std.specs.Option.{option_copied};
 ghost use Rattle.bz_value.specs.declared.value.Item.{Item};
 ghost use Rattle.bz_value.specs.Exchanged.{IsSpliced};
 ghost use Rattle.bz_rule.specs.Rules.{has_name};
@@ -14,65 +13,46 @@ ghost use Rattle.bz_command.specs.Renewed.{IsOfExtent};
 use crate::outcome::{Changed, Extent, Spliced, are_bare, extent_of};
 use crate::statements::{Work, on_one, source};
 use bz_attribute::rule_made;
-use bz_command_syntax::{
-    AttributeOperation, LoadOperation, Operation, RuleOperation, RulePlace, Symbol,
-};
+use bz_command_syntax::{AttributeOperation, LoadOperation, Operation, RuleOperation, RulePlace};
 use bz_items::{Items, Memory};
 use bz_load::{WithLoad, fix, new_load};
 use bz_rule::has_name;
 use bz_value::{Expr, Item, Refusal};
 use std::alloc::Global;
 
-/// Moves an item after the first `kept`, unless it is marked. How many are kept then.
-#[tactic(auto, using(crate::proofs::RunningItems::one_kept, crate::proofs::RunningItems::one_passed))]
-fn keep(mark: bool, kept: usize, at: usize, items: &mut [Item]) -> usize
-    requires there { (kept ≤ at) × (at < length items.old) }
-    ensures within { result ≤ at + 1 }
-    ensures count { length items.new ≡ length items.old }
-    ensures stay { (marks : List Bool) → take result items.new ++ unmarked marks (drop (at + 1) items.new) ≡ take kept items.old ++ unmarked (mark ∷ marks) (drop at items.old) }
+/// Appends an item, unless it is marked.
+fn push_unmarked(mark: bool, item: Item, kept: &mut Vec<Item>) -> Result<(), Memory>
+    ensures { (marks : List Bool) (rest : List Item) → OnOk result (kept.new.items ++ unmarked marks rest ≡ kept.old.items ++ unmarked (mark ∷ marks) (item ∷ rest)) }
 {
     if mark {
-        return kept;
+        drop(item);
+        return Ok(());
     }
-    items.swap(kept, at);
-    kept + 1
-}
-
-/// Moves the items without a mark to the front, in their order. How many they are.
-fn keep_unmarked(marks: &[bool], items: &mut [Item]) -> usize
-    requires { length marks.now ≡ length items.old }
-    ensures count { length items.new ≡ length items.old }
-    ensures stay { take result items.new ≡ unmarked marks.now items.old }
-{
-    let mut kept = 0;
-    for at in 0..items.len() {
-        kept = keep(marks[at], kept, at, items);
+    if let Err(fault) = kept.reserve(1) {
+        drop(item);
+        return Err(fault);
     }
-    kept
+    kept.push_reserved(item);
+    Ok(())
 }
 
 /// The items without a mark, in their order.
-fn unmarked(marks: &[bool], items: Items<Item>) -> Items<Item>
+fn unmarked(alloc: Global, marks: &[bool], items: Items<Item>) -> Result<Items<Item>, Memory>
     requires { length marks.now ≡ length items }
-    ensures { result ≡ unmarked marks.now items }
+    ensures { IfOk result (λ left. left ≡ unmarked marks.now items) }
 {
-    let mut all = items.into_vec();
-    let kept = keep_unmarked(marks, all.as_mut_slice());
-    all.truncate(kept);
-    Items::from_vec(all)
+    let mut kept = Vec::new(alloc);
+    for (mark, item) in marks.iter().zip(items.into_vec()) {
+        push_unmarked(*mark, item, &mut kept)?;
+    }
+    Ok(Items::from_vec(kept))
 }
 
-/// Before the first how many items no mark is set.
-fn count_to_first(marks: &[bool]) -> usize
-    ensures within { result ≤ length marks.now }
-    ensures unset { (k : ℕ) → k < result → get_or marks.now k false ≡ false }
+/// The place of the first item that is marked.
+fn first_marked(marks: &[bool]) -> Option<usize>
+    ensures { result ≡ position (λ mark. mark) marks.now }
 {
-    for at in 0..marks.len() {
-        if marks[at] {
-            return at;
-        }
-    }
-    marks.len()
+    marks.iter().position(|mark| *mark)
 }
 
 /// How many items there are up to the last one that is marked; none where no mark is set.
@@ -87,39 +67,44 @@ fn count_to_last(marks: &[bool]) -> usize
     count
 }
 
+/// The extent of a change that takes `gone` items out after the first `from`, and puts `come` in.
+fn spliced(from: usize, gone: usize, come: usize) -> Extent
+    ensures { (marks : List Bool) (old new : List Item) → IsSpliced from gone come old new → IsOfExtent result marks old new }
+{
+    Extent::Spliced(Spliced { from, gone, come })
+}
+
 /// The items from the first marked one to the last, and how many of them are left once the marked ones are taken out, where `left`
 /// is how many are left of all. Any where no mark is set.
 fn window(marks: &[bool], left: usize) -> Extent
     ensures { (items : List Item) → length marks.now ≡ length items → left ≡ length (unmarked marks.now items) → IsOfExtent result marks.now items (unmarked marks.now items) }
 {
-    let from = count_to_first(marks);
+    let Some(from) = first_marked(marks) else {
+        return Extent::Whole;
+    };
     let last = count_to_last(marks);
     if last <= from {
         return Extent::Whole;
     }
     let others = from + (marks.len() - last);
-    Extent::Spliced(Spliced {
-        from,
-        gone: last - from,
-        come: left.saturating_sub(others),
-    })
+    spliced(from, last - from, left.saturating_sub(others))
 }
 
 /// The items without a mark; they are the same where as many are left.
 #[tactic(auto, using(crate::proofs::RunningItems::all_kept))]
-fn delete(marks: &[bool], items: Items<Item>) -> Changed
+fn delete(alloc: Global, marks: &[bool], items: Items<Item>) -> Result<Changed, Memory>
     requires { length marks.now ≡ length items }
-    ensures items { result.items ≡ unmarked marks.now items }
-    ensures same { IsTrue result.same ↔ (result.items ≡ items) }
-    ensures extent { IsOfExtent result.extent marks.now items result.items }
+    ensures items { IfOk result (λ changed. changed.items ≡ unmarked marks.now items) }
+    ensures same { IfOk result (λ changed. IsTrue changed.same ↔ (changed.items ≡ items)) }
+    ensures extent { IfOk result (λ changed. IsOfExtent changed.extent marks.now items changed.items) }
 {
     let count = items.len();
-    let items = unmarked(marks, items);
-    Changed {
+    let items = unmarked(alloc, marks, items)?;
+    Ok(Changed {
         same: items.len() == count,
         extent: window(marks, items.len()),
         items,
-    }
+    })
 }
 
 /// What an operation makes of an item where it is marked. Whether the item is the same then.
@@ -189,30 +174,18 @@ fn is_taken(name: &[u8], items: &[Item]) -> bool
     items.iter().any(|item| has_name(name, item))
 }
 
-/// The extent of a change that takes `gone` items out after the first `from`, and puts `come` in.
-fn spliced(from: usize, gone: usize, come: usize) -> Extent
-    ensures { (marks : List Bool) (old new : List Item) → IsSpliced from gone come old new → IsOfExtent result marks old new }
-{
-    Extent::Spliced(Spliced { from, gone, come })
-}
-
-/// The items with a new one at this place, so others than they were.
-fn with_item(at: usize, new: Item, items: Items<Item>) -> Result<Changed, Memory>
+/// The items with a new one at this place.
+fn inserted(at: usize, new: Item, items: Items<Item>) -> Result<Items<Item>, Memory>
     requires { at ≤ length items }
-    ensures items { IfOk result (λ changed. changed.items ≡ insert items at new) }
-    ensures same { IfOk result (λ changed. IsTrue changed.same ↔ (changed.items ≡ items)) }
-    ensures extent { IfOk result (λ changed. (marks : List Bool) → IsOfExtent changed.extent marks items changed.items) }
+    ensures items { IfOk result (λ all. all ≡ insert items at new) }
+    ensures spliced { IfOk result (λ all. IsSpliced at 0 1 items all) }
 {
     let mut all = items.into_vec();
     all.insert(at, new)?;
-    Ok(Changed {
-        items: Items::from_vec(all),
-        same: false,
-        extent: spliced(at, 0, 1),
-    })
+    Ok(Items::from_vec(all))
 }
 
-/// The items with a new rule at its place.
+/// The items with a new rule at its place, so others than they were.
 fn with_rule(
     alloc: Global,
     kind: &[u8],
@@ -232,27 +205,25 @@ fn with_rule(
         return Err(Refusal::NameTaken);
     }
     let rule = rule_made(alloc, kind, name)?;
-    Ok(with_item(at, rule, items)?)
-}
-
-/// The value that is copied.
-fn source_of<'a>(operation: &Operation, items: &'a [Item]) -> Option<&'a Expr>
-    ensures { option_copied result ≡ source_of operation.now items.now }
-{
-    match operation {
-        Operation::Attribute(
-            AttributeOperation::Copy { attribute, rule }
-            | AttributeOperation::CopyNoOverwrite { attribute, rule },
-        ) => source(attribute.as_slice(), rule.as_slice(), items),
-        _ => None,
-    }
+    Ok(Changed {
+        items: inserted(at, rule, items)?,
+        same: false,
+        extent: spliced(at, 0, 1),
+    })
 }
 
 /// A copy of the value that is copied, as it is before anything changes.
 fn copied_source(operation: &Operation, items: &[Item]) -> Result<Option<Expr>, Memory>
     ensures { IfOk result (λ found. found ≡ source_of operation.now items.now) }
 {
-    match source_of(operation, items) {
+    let Operation::Attribute(
+        AttributeOperation::Copy { attribute, rule }
+        | AttributeOperation::CopyNoOverwrite { attribute, rule },
+    ) = operation
+    else {
+        return Ok(None);
+    };
+    match source(attribute.as_slice(), rule.as_slice(), items) {
         Some(value) => Ok(Some(value.copy()?)),
         None => Ok(None),
     }
@@ -311,30 +282,6 @@ fn are_same(a: &[Item], b: &[Item]) -> bool
     true
 }
 
-/// The items with these symbols loaded from the path too.
-fn load_too(
-    alloc: Global,
-    path: &[u8],
-    symbols: &[Symbol],
-    items: Items<Item>,
-) -> Result<Changed, Memory>
-    ensures items { IfOk result (λ changed. changed.items ≡ new_load path.now symbols.now items) }
-    ensures same { IfOk result (λ changed. IsTrue changed.same ↔ (changed.items ≡ items)) }
-    ensures extent { IfOk result (λ changed. (marks : List Bool) → IsOfExtent changed.extent marks items changed.items) }
-{
-    let WithLoad {
-        items,
-        same,
-        at,
-        gone,
-    } = new_load(alloc, path, symbols, items)?;
-    Ok(Changed {
-        items,
-        same,
-        extent: spliced(at, gone, 1),
-    })
-}
-
 /// What an operation on the symbols that the file loads makes of its items.
 fn change_loads(
     alloc: Global,
@@ -347,7 +294,17 @@ fn change_loads(
 {
     match operation {
         LoadOperation::New { path, symbols } => {
-            load_too(alloc, path.as_slice(), symbols.as_slice(), items)
+            let WithLoad {
+                items,
+                same,
+                at,
+                gone,
+            } = new_load(alloc, path.as_slice(), symbols.as_slice(), items)?;
+            Ok(Changed {
+                items,
+                same,
+                extent: spliced(at, gone, 1),
+            })
         }
         LoadOperation::Fix { fixes } => {
             let new = fix(alloc, *fixes, items.as_slice())?;
@@ -378,7 +335,7 @@ pub(crate) fn on_rules(
         Operation::Rule(RuleOperation::New { kind, name, place }) => {
             with_rule(alloc, kind.as_slice(), name.as_slice(), place, items)
         }
-        Operation::Rule(RuleOperation::Delete) => Ok(delete(marks, items)),
+        Operation::Rule(RuleOperation::Delete) => Ok(delete(alloc, marks, items)?),
         Operation::Rule(RuleOperation::SetKind { .. })
         | Operation::Attribute(_)
         | Operation::Value(_)

@@ -1,17 +1,16 @@
 //! The effect of a command on a file value.
-ghost use Rattle.std.specs.Prelude.{length, ◌≡◌, ◌⊎◌, ◌↔◌, [], true, false, None, Some, Ok, Err, IsOk, IfOk, IfErr, IfSome, IsTrue, OnOk, if◌then◌else◌};
-ghost use Rattle.std.specs.List.{list_any};
+ghost use Rattle.std.specs.Prelude.{length, ◌≡◌, ◌⊎◌, ◌↔◌, true, false, None, Some, Ok, Err, IsOk, IfOk, IfErr, IfSome, IsTrue, OnOk, if◌then◌else◌};
 ghost use Rattle.std.specs.Option.{unwrap_or};
 ghost use Rattle.bz_rule.specs.Index.{IsIndexOf};
 ghost use Rattle.bz_command.specs.Effect.{may_mean_none, meant, effect, lacks_rules, looks_at_rules, printed};
-ghost use Rattle.bz_command.specs.private.Looks.{IsLook, IsMarked, effect_by, printed_for};
+ghost use Rattle.bz_command.specs.private.Looks.{IsLook, effect_by, printed_for};
 ghost use Rattle.bz_command.specs.Renewed.{IsOfExtent};
 
 use crate::laws::effects_stay_proper;
 use crate::outcome::{Changed, Extent, Outcome, Ran};
 use crate::printing::print_rules;
 use crate::ruling::on_rules;
-use crate::targets::{is_any, meant, meant_by};
+use crate::targets::{is_any, meant};
 use bz_command_syntax::{Command, Operation, RuleOperation};
 use bz_items::{Items, Text};
 use bz_label::{Target, Which};
@@ -156,7 +155,7 @@ pub fn run_in(
         lines,
     };
     let items = file.items.as_slice();
-    let marks = meant(alloc, &target.which, lines, items)?;
+    let marks = meant(alloc, &target.which, lines, None, items)?;
     match look_at(instruction, marks, items)? {
         Look::Stays(printed) => Ok(Ran {
             same: true,
@@ -249,15 +248,12 @@ pub fn run_named(
         lines,
     };
     let items = file.items.as_slice();
-    let marks = meant_by(alloc, &target.which, lines, names, items)?;
+    let marks = meant(alloc, &target.which, lines, names, items)?;
     match look_at(instruction, marks, items)? {
         Look::Stays(printed) => Ok(Outcome {
             file: None,
             printed,
         }),
-        Look::Changes(marks) => {
-            let copy = file.copy()?;
-            change_copy(instruction, marks, copy)
-        }
+        Look::Changes(marks) => change_copy(instruction, marks, file.copy()?),
     }
 }

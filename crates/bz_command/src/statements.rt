@@ -1,12 +1,11 @@
 //! What a command makes of one rule.
-ghost use Rattle.std.specs.Prelude.{◌≡◌, ◌⊎◌, [], ◌∷◌, Ok, Err, OnOk, IfErr, if◌then◌else◌};
+ghost use Rattle.std.specs.Prelude.{◌≡◌, ◌⊎◌, Ok, Err, OnOk, IfErr, if◌then◌else◌};
 ghost use Rattle.std.specs.Option.{option_copied};
-ghost use Rattle.bz_grammar.specs.declared.kind.Kind.TheVariants as k;
-ghost use Rattle.bz_rule.specs.Values.{on_first, on_row};
+ghost use Rattle.bz_rule.specs.Values.{on_first};
 ghost use Rattle.bz_comment.specs.Changes.{changed_by};
-ghost use Rattle.bz_command.specs.private.Looks.{with_list, with_list_in, before_in_call, before_in_row, before_in_statement, before_in, arguments_by, made_by};
+ghost use Rattle.bz_command.specs.private.Looks.{with_list, with_list_in, before_in_call, before_in_row, before_in, arguments_by, made_by};
 ghost use Rattle.bz_attribute.specs.Made.{function_of};
-ghost use Rattle.bz_command.specs.Effect.{on_arguments, is_rule, on_host_of_item, on_one, on_statement, source, with_function};
+ghost use Rattle.bz_command.specs.Effect.{on_arguments, is_rule, on_one, on_statement, source, with_function};
 
 use crate::targets::{arguments_of, is_rule};
 use bz_attribute::function_of;
@@ -74,40 +73,24 @@ fn exchange_in_call(part: CallPart, list: &mut Items<Expr>, x: &mut Expr)
 }
 
 /// The same in the call that a row begins with.
-fn exchange_in_row(alloc: Global, part: CallPart, list: &mut Items<Expr>, row: &mut Items<Expr>)
+fn exchange_in_row(part: CallPart, list: &mut Items<Expr>, row: &mut Items<Expr>)
     ensures here { row.new ≡ on_first (with_list part list.old) row.old }
     ensures there { list.new ≡ before_in_row part list.old row.old }
 {
-    let mut all = mem::replace(row, Items::new(alloc)).into_vec();
-    if let Some(call) = all.first_mut() {
+    if let [call, ..] = row.as_mut_slice() {
         exchange_in_call(part, list, call);
-    }
-    *row = Items::from_vec(all);
-}
-
-/// The same in the call that a statement is.
-fn exchange_in_statement(alloc: Global, part: CallPart, list: &mut Items<Expr>, x: &mut Expr)
-    ensures here { x.new ≡ on_row k.Bare (on_first (with_list part list.old)) x.old }
-    ensures there { list.new ≡ before_in_statement part list.old x.old }
-{
-    match x {
-        Expr::Token(_) => {}
-        Expr::Form(form) => {
-            if form.kind == Kind::Bare {
-                exchange_in_row(alloc, part, list, &mut form.parts);
-            }
-        }
     }
 }
 
 /// The same in the call that an item is.
-fn exchange(alloc: Global, part: CallPart, list: &mut Items<Expr>, item: &mut Item)
+fn exchange(part: CallPart, list: &mut Items<Expr>, item: &mut Item)
     ensures here { item.new ≡ with_list_in part list.old item.old }
     ensures there { list.new ≡ before_in part list.old item.old }
 {
-    match item {
-        Item::Block(_) => {}
-        Item::Stmt(x) => exchange_in_statement(alloc, part, list, x),
+    if let Item::Stmt(Expr::Form(form)) = item {
+        if form.kind == Kind::Bare {
+            exchange_in_row(part, list, &mut form.parts);
+        }
     }
 }
 
@@ -150,11 +133,10 @@ fn change_rule(work: Work<'_>, item: &mut Item) -> Result<(), Refusal>
     if !is_rule(item) {
         return Ok(());
     }
-    let alloc = work.alloc;
-    let mut arguments = Items::new(alloc);
-    exchange(alloc, CallPart::Arguments, &mut arguments, item);
+    let mut arguments = Items::new(work.alloc);
+    exchange(CallPart::Arguments, &mut arguments, item);
     change(work, &mut arguments)?;
-    exchange(alloc, CallPart::Arguments, &mut arguments, item);
+    exchange(CallPart::Arguments, &mut arguments, item);
     Ok(())
 }
 
@@ -167,7 +149,7 @@ fn set_kind(alloc: Global, kind: &[u8], item: &mut Item) -> Result<(), Memory>
     }
     let mut parts = Items::new(alloc);
     parts.push(function_of(alloc, kind)?)?;
-    exchange(alloc, CallPart::Function, &mut parts, item);
+    exchange(CallPart::Function, &mut parts, item);
     Ok(())
 }
 
@@ -181,22 +163,6 @@ fn change_statement(alloc: Global, change: Change<'_>, item: &mut Item) -> Resul
     }
 }
 
-/// What an operation makes of the comments of a host in a rule: of the rule itself, or in its arguments.
-fn on_host_of_item(
-    work: Work<'_>,
-    host: &Host,
-    change: Change<'_>,
-    item: &mut Item,
-) -> Result<(), Refusal>
-    ensures ok { OnOk result (on_host_of_item host.now (changed_by change.entry) (on_arguments (arguments_by work.entry) item.old) item.old ≡ Ok item.new) }
-    ensures err { IfErr result (λ refusal. (on_host_of_item host.now (changed_by change.entry) (on_arguments (arguments_by work.entry) item.old) item.old ≡ Err refusal) ⊎ (refusal ≡ Refusal.Memory)) }
-{
-    match host {
-        Host::Rule => Ok(change_statement(work.alloc, change, item)?),
-        Host::Attribute(_) | Host::Item { .. } => change_rule(work, item),
-    }
-}
-
 /// What an operation makes of a rule that it is meant for.
 pub(crate) fn on_one(work: Work<'_>, item: &mut Item) -> Result<(), Refusal>
     ensures ok { OnOk result (made_by work.entry item.old ≡ Ok item.new) }
@@ -206,19 +172,31 @@ pub(crate) fn on_one(work: Work<'_>, item: &mut Item) -> Result<(), Refusal>
         Operation::Rule(RuleOperation::SetKind { kind }) => {
             Ok(set_kind(work.alloc, kind.as_slice(), item)?)
         }
-        Operation::Attribute(_) | Operation::Value(_) | Operation::Dict(_) => {
-            change_rule(work, item)
+        Operation::Comment(
+            CommentOperation::Add {
+                host: Host::Rule,
+                text,
+            },
+        ) => Ok(change_statement(work.alloc, Change::Add(text.as_slice()), item)?),
+        Operation::Comment(CommentOperation::Remove { host: Host::Rule }) => {
+            Ok(change_statement(work.alloc, Change::Remove, item)?)
         }
-        Operation::Comment(CommentOperation::Add { host, text }) => {
-            on_host_of_item(work, host, Change::Add(text.as_slice()), item)
-        }
-        Operation::Comment(CommentOperation::Remove { host }) => {
-            on_host_of_item(work, host, Change::Remove, item)
-        }
-        Operation::Rule(RuleOperation::New { .. } | RuleOperation::Delete)
-        | Operation::Comment(CommentOperation::Print { .. })
+        Operation::Comment(
+            CommentOperation::Add {
+                host: Host::Attribute(_) | Host::Item { .. },
+                ..
+            }
+            | CommentOperation::Remove {
+                host: Host::Attribute(_) | Host::Item { .. },
+            }
+            | CommentOperation::Print { .. },
+        )
+        | Operation::Rule(RuleOperation::New { .. } | RuleOperation::Delete)
+        | Operation::Attribute(_)
+        | Operation::Value(_)
+        | Operation::Dict(_)
         | Operation::Load(_)
-        | Operation::Print { .. } => Ok(()),
+        | Operation::Print { .. } => change_rule(work, item),
     }
 }
 

@@ -1,7 +1,6 @@
 //! The rules that a target means.
-ghost use Rattle.std.specs.Prelude.{◌≡◌, ◌&&◌, IfOk, IfSome, false, length, map, nat_eq};
+ghost use Rattle.std.specs.Prelude.{◌≡◌, IfOk, IfSome, length, map};
 ghost use Rattle.std.specs.List.{list_any};
-ghost use Rattle.std.specs.Option.{option_map_or};
 ghost use Rattle.bz_rule.specs.Rules.{has_name, is_rule_of_kind};
 ghost use Rattle.bz_rule.specs.Index.{IsIndexOf};
 ghost use Rattle.bz_command.specs.Effect.{first_mark, is_rule, item_line, lines_after_item, meant, on_line, rule_arguments};
@@ -71,20 +70,19 @@ fn all_of_kind(alloc: Global, kind: &[u8], items: &[Item]) -> Result<Vec<bool>, 
         .collect(alloc)
 }
 
-/// A mark for each item: whether it is a rule of this name.
-fn all_named(alloc: Global, name: &[u8], items: &[Item]) -> Result<Vec<bool>, Memory>
+/// A mark for each item: whether it is a rule of this name; by an index of their names, where there is one.
+fn all_named(
+    alloc: Global,
+    name: &[u8],
+    names: Option<&Names>,
+    items: &[Item],
+) -> Result<Vec<bool>, Memory>
+    requires { IfSome names (λ index. IsIndexOf index.now items.now) }
     ensures { IfOk result (λ marks. marks.items ≡ map (has_name name.now) items.now) }
 {
-    items.iter().map(|item| has_name(name, item)).collect(alloc)
-}
-
-/// Whether an item that begins on this line, where it begins on one, is a rule on the other line.
-fn is_on_line(line: u32, begins: Option<u32>, item: &Item) -> bool
-    ensures { result ≡ (option_map_or (nat_eq line) begins false && is_rule item.now) }
-{
-    match begins {
-        Some(first) => line == first && is_rule(item),
-        None => false,
+    match names {
+        Some(index) => index.marks(alloc, name),
+        None => items.iter().map(|item| has_name(name, item)).collect(alloc),
     }
 }
 
@@ -96,7 +94,7 @@ fn all_on_line(alloc: Global, line: u32, lines: &[u32], items: &[Item]) -> Resul
     let mut left = lines;
     for item in items {
         let (begins, following) = line_at(left, item);
-        marks.push(is_on_line(line, begins, item))?;
+        marks.push(begins == Some(line) && is_rule(item))?;
         left = following;
     }
     Ok(marks)
@@ -114,14 +112,16 @@ fn only_first(marks: &mut [bool])
     }
 }
 
-/// A mark for each item: whether the target means it.
+/// A mark for each item: whether the target means it. There may be an index of their names.
 #[tactic(auto, using(crate::proofs::TargetMarks::as_many))]
 pub(crate) fn meant(
     alloc: Global,
     which: &Which,
     lines: &[u32],
+    names: Option<&Names>,
     items: &[Item],
 ) -> Result<Vec<bool>, Memory>
+    requires { IfSome names (λ index. IsIndexOf index.now items.now) }
     ensures value { IfOk result (λ marks. marks.items ≡ meant which.now lines.now items.now) }
     ensures count { IfOk result (λ marks. length marks.items ≡ length items.now) }
 {
@@ -134,28 +134,7 @@ pub(crate) fn meant(
             only_first(marks.as_mut_slice());
             Ok(marks)
         }
-        Which::Name(name) => all_named(alloc, name.as_slice(), items),
-    }
-}
-
-/// The same by an index of the names of the items, where there is one and the target is a name.
-pub(crate) fn meant_by(
-    alloc: Global,
-    which: &Which,
-    lines: &[u32],
-    names: Option<&Names>,
-    items: &[Item],
-) -> Result<Vec<bool>, Memory>
-    requires { IfSome names (λ index. IsIndexOf index.now items.now) }
-    ensures value { IfOk result (λ marks. marks.items ≡ meant which.now lines.now items.now) }
-    ensures count { IfOk result (λ marks. length marks.items ≡ length items.now) }
-{
-    let Some(index) = names else {
-        return meant(alloc, which, lines, items);
-    };
-    match which {
-        Which::Name(name) => index.marks(alloc, name.as_slice()),
-        _ => meant(alloc, which, lines, items),
+        Which::Name(name) => all_named(alloc, name.as_slice(), names, items),
     }
 }
 

@@ -38,12 +38,9 @@ abbrev pub before_in_row : CallPart → List Expr → List Expr → List Expr
 before_in_row part list [] = list
 before_in_row part list (x ∷ xs) = before_in_call part list x
 
-abbrev pub before_in_statement : CallPart → List Expr → Expr → List Expr
-before_in_statement part list x = if has_kind k.Bare x then before_in_row part list (parts_of x) else list
-
 abbrev pub before_in : CallPart → List Expr → Item → List Expr
 before_in part list (i.Block lines) = list
-before_in part list (i.Stmt x) = before_in_statement part list x
+before_in part list (i.Stmt x) = if has_kind k.Bare x then before_in_row part list (parts_of x) else list
 
 -- ---- what is known of a command before it changes anything
 
