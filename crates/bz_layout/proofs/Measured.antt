@@ -1,14 +1,9 @@
 -- The steps of the loops that measure files, and what the limits say of them.
-use Rattle.std.proofs.Common.{ℕ, max, Option, ◌≡◌, ◌<◌, List, [], ◌∷◌, ◌++◌, ◌+◌, length, get_or, drop, ap, sym, ◌∙◌, arith, length-append}
+use Rattle.std.proofs.Common.{ℕ, max, ◌≡◌, ◌<◌, List, [], ◌∷◌, ◌++◌, ◌+◌, length, get_or, drop, ap, sym, ◌∙◌, arith, length-append}
 use Rattle.std.proofs.lemmas.List.{drop_more}
-use Rattle.bz_value.specs.declared.value.Expr.{Expr}
 use Rattle.bz_value.specs.declared.value.Item.{Item}
 use Rattle.bz_value.specs.declared.value.Item.TheVariants as i
-use Rattle.bz_items.specs.Characters.{Bytes, line_feed}
-use Rattle.bz_value.specs.Comments.{HostComments}
-use Rattle.bz_value.specs.Proper.{comments_of}
-use Rattle.bz_layout.specs.Layout.{suffix_text}
-use Rattle.bz_layout.specs.Written.{text_of, comment_lines, item_text, layout}
+use Rattle.bz_layout.specs.Written.{item_text, layout}
 use Rattle.bz_layout.specs.LaidOut.{before_next}
 use Rattle.bz_layout.specs.Depths.{depth_items}
 use Rattle.bz_layout.proofs.Spelled.{next_after}

@@ -7,7 +7,7 @@ use Rattle.bz_token.specs.declared.class.Class.TheVariants as c
 use Rattle.bz_token.specs.declared.state.State.{State}
 use Rattle.bz_token.specs.declared.state.State.TheVariants.{Start, Opened, Empty, Ended, Operator, Star}
 use Rattle.bz_token.specs.declared.state.Quote.TheVariants.{Single, Double}
-use Rattle.bz_token.specs.Bytes.{among, is_quote}
+use Rattle.bz_token.specs.Bytes.{is_quote}
 use Rattle.bz_token.specs.Lexemes.{IsLexeme, in_table, is_mark, marks}
 use Rattle.bz_token.specs.Tokens.{IsToken}
 use Rattle.bz_token.specs.private.Machine.{after, and_next}
@@ -16,7 +16,7 @@ use Rattle.bz_token.proofs.Laws.{state_of, not_quote, is_ended, ended_at, nothin
 pub use Rattle.bz_token.proofs.Laws.{is_stop, stop_before}
 use Rattle.bz_layout.proofs.Neighbours.{fronts, well_text}
 use Rattle.bz_layout.specs.Spaces.{brackets_and_separators, is_number}
-use Rattle.bz_token.proofs.Tables.{every, one_of, one_text, is_none_at}
+use Rattle.bz_token.proofs.Tables.{one_text, is_none_at}
 
 -- ---- before a dot
 

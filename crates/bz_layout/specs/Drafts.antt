@@ -1,5 +1,5 @@
 -- A text that is being written, up to a limit of bytes: where it is longer, that is all that is known of it.
-use Rattle.std.specs.Prelude.{ℕ, List, [], ◌∷◌, ◌++◌, Option, Some, None, length, nat_le, if◌then◌else◌}
+use Rattle.std.specs.Prelude.{ℕ, [], ◌∷◌, ◌++◌, Option, Some, None, length, nat_le, if◌then◌else◌}
 use Rattle.bz_items.specs.Characters.{Bytes}
 
 pub record Drafted : Type 0 where

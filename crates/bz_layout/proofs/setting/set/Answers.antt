@@ -1,8 +1,6 @@
-use Rattle.std.proofs.Common.{◌≤◌, [], length, ap, ◌∙◌, subst}
-use Rattle.bz_grammar.specs.Spell.{limit, depth_limit, depth_of}
+use Rattle.std.proofs.Common.{[], ap, ◌∙◌, subst}
 use Rattle.bz_value.specs.Proper.{IsProper}
-use Rattle.bz_layout.specs.LaidOut.{laid_out, lines_from}
-use Rattle.bz_layout.specs.Written.{layout}
+use Rattle.bz_layout.specs.LaidOut.{lines_from}
 use Rattle.bz_layout.proofs.Settings.{legal_file, text_of_file, view_of_file}
 use Rattle.bz_layout.proofs.setting.set.Goals as goal
 
