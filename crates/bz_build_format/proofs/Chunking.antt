@@ -1,11 +1,11 @@
 -- Chunk by chunk a text is formatted as a whole.
-use Rattle.std.proofs.Common.{◌≡◌, ◌≤◌, ◌<◌, ◌+◌, ◌-◌, ℕ, Bool, true, false, List, [], ◌∷◌, ◌++◌, ◌⊎◌, inl, inr, Option, None, Some, length, length-drop, length-take, min, take, drop, refl, sym, ap, ap₂, ◌∙◌, subst, append_assoc, arith}
+use Rattle.std.proofs.Common.{◌≡◌, ◌≤◌, ◌+◌, ◌-◌, ℕ, Bool, true, false, List, [], ◌∷◌, ◌++◌, ◌⊎◌, inl, inr, Option, None, Some, length, length-drop, length-take, min, take, drop, refl, sym, ap, ap₂, ◌∙◌, subst, append_assoc, arith}
 use Rattle.std.proofs.Math.Seq.{take-add, take-length}
 use Rattle.bz_token.proofs.Tokens.{whole_rest}
 use Rattle.bz_grammar.specs.Spell.{depth_of, depth_limit, limit}
 use Rattle.bz_value.specs.declared.value.Item.{Item}
 use Rattle.bz_items.specs.Characters.{Bytes}
-use Rattle.bz_hosts.specs.Joined.{EndsWithLine, EmptyReads, ViewsJoin}
+use Rattle.bz_hosts.specs.Joined.{EmptyReads, ViewsJoin}
 use Rattle.bz_hosts.specs.View.{view_of}
 use Rattle.bz_layout.specs.Appended.{gap_below, LayoutsJoin, DepthsJoin}
 use Rattle.bz_layout.specs.LaidOut.{laid_out}
@@ -14,7 +14,7 @@ use Rattle.bz_passes.specs.Joined.{TidiedApart}
 use Rattle.bz_passes.specs.Passes.{tidied}
 use Rattle.bz_passes.specs.Spliced.{begins_with_load}
 use Rattle.bz_build_format.specs.private.Chunks.{ReadsAs, IsLast, IsBegun, IsAppended}
-use Rattle.bz_build_format.specs.Meaning.{gives, written, Formats}
+use Rattle.bz_build_format.specs.Meaning.{gives, Formats}
 use Rattle.bz_build_format.proofs.Writes.{written_given}
 
 pub nothing_begun : EmptyReads → IsBegun [] [] None true

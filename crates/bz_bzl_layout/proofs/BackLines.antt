@@ -1,5 +1,5 @@
 -- The lines of the gaps that the layout of a .bzl file makes.
-use Rattle.std.proofs.Common.{◌≡◌, ℕ, zero, suc, true, false, ◌&&◌, List, [], ◌∷◌, ◌++◌, ◌+◌, if◌then◌else◌, refl, sym, ap, ◌∙◌, length, append_assoc, append-nil}
+use Rattle.std.proofs.Common.{◌≡◌, ℕ, zero, suc, true, false, ◌&&◌, List, [], ◌∷◌, ◌++◌, if◌then◌else◌, refl, sym, ap, ◌∙◌, length, append_assoc, append-nil}
 use Rattle.std.specs.Prelude.{None, Some, replicate}
 use Rattle.std.specs.List.{AllByRecursion}
 use Rattle.std.proofs.lemmas.List.{length-replicate}

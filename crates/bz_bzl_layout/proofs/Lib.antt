@@ -19,10 +19,9 @@ pub mod Headings
 pub mod Indented
 pub mod JoinedLayouts
 pub mod Keeping
-pub mod Lengths
 pub mod LevelLayout
 pub mod LevelProper
-pub mod Remaining
+pub mod Pushed
 pub mod Rows
 pub mod Settling
 pub mod Shaped

@@ -4,7 +4,6 @@
 mod depth;
 mod laws;
 mod leveling;
-mod measure;
 mod setting;
 mod writing;
 

@@ -4,7 +4,7 @@ use Rattle.std.proofs.Math.Seq.{take-suc, drop-cons}
 use Rattle.std.proofs.lemmas.List.{append-nil, length-map, length-take-le, map-append, take-append-drop}
 use Rattle.bz_items.specs.Characters.{Bytes}
 use Rattle.bz_command_line.specs.Refused.{IsFirstFault, IsFirstRefused, IsLineFault, IsOperandFault}
-use Rattle.bz_command_line.specs.Requested.{Requested, Usage, both, joined, joined_operands, nothing_requested, requested_by, requested_of}
+use Rattle.bz_command_line.specs.Requested.{Requested, Usage, both, joined_by, joined_operands, nothing_requested, requested_by, requested_of}
 use Rattle.bz_command_line.specs.Script.{in_front, line_group, operand_groups}
 use Rattle.bz_command_line.specs.declared.verb.OperandFault.{OperandFault}
 
@@ -35,24 +35,24 @@ texts_split items at within =
 -- ---- results, of which the first fault counts
 
 module _ {A E : Type 0} (join : A → A → A) where
-  joined-none : (none : A) → ((a : A) → join a none ≡ join none a) → (a : Result A E) → joined join a (Ok none) ≡ joined join (Ok none) a
-  joined-none none same (Err fault) = refl
-  joined-none none same (Ok a) = ap Ok (same a)
+  joined_by-none : (none : A) → ((a : A) → join a none ≡ join none a) → (a : Result A E) → joined_by join a (Ok none) ≡ joined_by join (Ok none) a
+  joined_by-none none same (Err fault) = refl
+  joined_by-none none same (Ok a) = ap Ok (same a)
 
-  joined-assoc : ((a b c : A) → join (join a b) c ≡ join a (join b c)) → (a b c : Result A E) → joined join (joined join a b) c ≡ joined join a (joined join b c)
-  joined-assoc same (Err fault) b c = refl
-  joined-assoc same (Ok a) (Err fault) c = refl
-  joined-assoc same (Ok a) (Ok b) (Err fault) = refl
-  joined-assoc same (Ok a) (Ok b) (Ok c) = ap Ok (same a b c)
+  joined_by-assoc : ((a b c : A) → join (join a b) c ≡ join a (join b c)) → (a b c : Result A E) → joined_by join (joined_by join a b) c ≡ joined_by join a (joined_by join b c)
+  joined_by-assoc same (Err fault) b c = refl
+  joined_by-assoc same (Ok a) (Err fault) c = refl
+  joined_by-assoc same (Ok a) (Ok b) (Err fault) = refl
+  joined_by-assoc same (Ok a) (Ok b) (Ok c) = ap Ok (same a b c)
 
 -- ---- operands
 
 requested_more : (front : List Bytes) (operand : Bytes) → requested_of (front ++ operand ∷ []) ≡ joined_operands (requested_of front) (requested_by operand)
 requested_more [] operand =
-    joined-none both nothing_requested (λ a. rw (append-nil a.commands, append-nil a.targets) refl) (requested_by operand)
+    joined_by-none both nothing_requested (λ a. rw (append-nil a.commands, append-nil a.targets) refl) (requested_by operand)
 requested_more (first ∷ front) operand =
     ap (joined_operands (requested_by first)) (requested_more front operand)
-    ∙ sym (joined-assoc both (λ a b c. rw (append_assoc a.commands b.commands c.commands, append_assoc a.targets b.targets c.targets) refl)
+    ∙ sym (joined_by-assoc both (λ a b c. rw (append_assoc a.commands b.commands c.commands, append_assoc a.targets b.targets c.targets) refl)
     (requested_by first) (requested_of front) (requested_by operand))
 
 -- one operand more is read
@@ -80,11 +80,11 @@ groups_more : (number : ℕ) (front : List Bytes) (line : Bytes)
     → operand_groups number (front ++ line ∷ []) ≡ in_front (operand_groups number front) (line_group (number + length front) line)
 groups_more number [] line =
     let same : number ≡ number + 0 = omega arith in
-    joined-none (λ a b. a ++ b) [] append-nil (line_group number line) ∙ ap (λ (n : ℕ). in_front (Ok []) (line_group n line)) same
+    joined_by-none (λ a b. a ++ b) [] append-nil (line_group number line) ∙ ap (λ (n : ℕ). in_front (Ok []) (line_group n line)) same
 groups_more number (first ∷ front) line =
     let same : number + 1 + length front ≡ number + suc (length front) = omega arith in
     ap (in_front (line_group number first)) (groups_more (number + 1) front line)
-    ∙ sym (joined-assoc (λ a b. a ++ b) append_assoc (line_group number first) (operand_groups (number + 1) front) (line_group (number + 1 + length front) line))
+    ∙ sym (joined_by-assoc (λ a b. a ++ b) append_assoc (line_group number first) (operand_groups (number + 1) front) (line_group (number + 1 + length front) line))
     ∙ ap (λ (n : ℕ). in_front (operand_groups number (first ∷ front)) (line_group n line)) same
 
 -- one line more is read

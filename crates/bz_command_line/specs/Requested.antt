@@ -35,17 +35,17 @@ abbrev pub requested_by : Bytes → Result Requested Refused
 requested_by operand = if is_target operand then aimed operand (operand_target operand) else wanted operand (verb_of operand)
 
 -- what both give together, or the first fault of them
-abbrev pub joined : {A E : Type 0} → (A → A → A) → Result A E → Result A E → Result A E
-joined join (Ok first) (Ok more) = Ok (join first more)
-joined join (Ok first) (Err fault) = Err fault
-joined join (Err fault) more = Err fault
+abbrev pub joined_by : {A E : Type 0} → (A → A → A) → Result A E → Result A E → Result A E
+joined_by join (Ok first) (Ok more) = Ok (join first more)
+joined_by join (Ok first) (Err fault) = Err fault
+joined_by join (Err fault) more = Err fault
 
 abbrev pub both : Requested → Requested → Requested
 both first more = record { commands = first.commands ++ more.commands; targets = first.targets ++ more.targets }
 
 -- The first refused operand, in order, is reported.
 abbrev pub joined_operands : Result Requested Refused → Result Requested Refused → Result Requested Refused
-joined_operands first more = joined both first more
+joined_operands first more = joined_by both first more
 
 abbrev pub requested_of : List Bytes → Result Requested Refused
 requested_of [] = Ok nothing_requested

@@ -5,7 +5,7 @@ use Rattle.std.specs.List.{list_any, slice_split}
 use Rattle.std.specs.Str.Lines.{lines}
 use Rattle.bz_items.specs.Characters.{Bytes, number_sign, vertical_bar}
 use Rattle.bz_command_line.specs.Operands.{begins_with}
-use Rattle.bz_command_line.specs.Requested.{Requested, Usage, no_line, nul, in_line, joined, operand_group}
+use Rattle.bz_command_line.specs.Requested.{Requested, Usage, no_line, nul, in_line, joined_by, operand_group}
 
 -- the bytes of U+FEFF
 abbrev pub byte_order_mark : Bytes
@@ -35,7 +35,7 @@ operands_in line = slice_split (λ byte. byte == vertical_bar) line
 
 -- The first fault, in order, is reported.
 abbrev pub in_front : Result (List Requested) Usage → Result (List Requested) Usage → Result (List Requested) Usage
-in_front first more = joined (λ groups later. groups ++ later) first more
+in_front first more = joined_by (λ groups later. groups ++ later) first more
 
 abbrev pub group_in_line : ℕ → Result Requested Usage → Result (List Requested) Usage
 group_in_line number (Ok requested) = Ok (requested ∷ [])

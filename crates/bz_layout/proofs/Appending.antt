@@ -1,12 +1,10 @@
 -- Items after others.
-use Rattle.std.proofs.Common.{ℕ, zero, suc, max, ◌≤◌, ◌≡◌, List, [], ◌∷◌, ◌++◌, refl, sym, ap, ◌∙◌, subst, append_assoc, append-nil, arith}
+use Rattle.std.proofs.Common.{ℕ, zero, suc, ◌≤◌, ◌≡◌, List, [], ◌∷◌, ◌++◌, sym, ap, ◌∙◌, append_assoc, append-nil, arith}
 use Rattle.bz_items.specs.Characters.{Bytes}
-use Rattle.bz_grammar.specs.Spell.{depth_of}
 use Rattle.bz_value.specs.declared.value.Item.{Item}
 use Rattle.bz_value.specs.declared.value.Item.TheVariants as i
 use Rattle.bz_layout.specs.Appended.{LayoutsJoin, DepthsJoin}
-use Rattle.bz_layout.specs.Depths.{depth_expr, depth_items}
-use Rattle.bz_layout.specs.LaidOut.{before_next, laid_out}
+use Rattle.bz_layout.specs.Depths.{depth_items}
 use Rattle.bz_layout.specs.Written.{item_text, gap_between, past_item, layout}
 use Rattle.bz_layout.proofs.Deep.{laid_out_depth}
 use Rattle.bz_layout.proofs.Spelled.{next_after}

@@ -21,16 +21,14 @@ pub mod Margins
 pub mod MarkSpaces
 pub mod Measured
 pub mod Neighbours
-pub mod PendingForms
 pub mod PlainRows
+pub mod Pushing
 pub mod PutParts
 pub mod ReadBack
 pub mod Readable
 pub mod RelaidLengths
-pub mod Rooms
 pub mod Rows
 pub mod Settings
-pub mod Sized
 pub mod Spacing
 pub mod Spelled
 pub mod Spots

@@ -7,51 +7,16 @@ use Rattle.bz_token.specs.declared.class.Class.TheVariants as c
 use Rattle.bz_token.specs.declared.state.State.{State}
 use Rattle.bz_token.specs.declared.state.State.TheVariants.{Start, Opened, Empty, Ended, Operator, Star}
 use Rattle.bz_token.specs.declared.state.Quote.TheVariants.{Single, Double}
-use Rattle.bz_token.specs.Bytes.{among, is_quote}
+use Rattle.bz_token.specs.Bytes.{is_quote}
 use Rattle.bz_token.specs.Lexemes.{IsLexeme, in_table, is_mark, marks}
 use Rattle.bz_token.specs.Tokens.{IsToken}
 use Rattle.bz_token.specs.private.Machine.{after, and_next}
 use Rattle.bz_token.specs.private.Scanner.{move, ends, keyword_or_name}
-use Rattle.bz_token.proofs.Laws.{state_of, Stops, longest_at, begins}
+use Rattle.bz_token.proofs.Laws.{state_of, not_quote, is_ended, ended_at, nothing_stops, longest_at, begins}
+pub use Rattle.bz_token.proofs.Laws.{is_stop, stop_before}
 use Rattle.bz_layout.proofs.Neighbours.{fronts, well_text}
 use Rattle.bz_layout.specs.Spaces.{brackets_and_separators, is_number}
-use Rattle.bz_token.proofs.Tables.{every, one_of, one_text, is_none_at}
-
--- a space, a newline, `,` `:` and brackets
-abbrev pub stops : List ℕ
-stops = 32 ∷ 10 ∷ 44 ∷ 58 ∷ 40 ∷ 41 ∷ 91 ∷ 93 ∷ 123 ∷ 125 ∷ []
-
-abbrev pub is_stop : ℕ → Bool
-is_stop b = among b stops
-
--- no state after a lexeme goes on with one of these
-fine_end : (q : State) → (is_none (ends q) || every (λ b. is_none (move q b)) stops) ≡ true
-fine_end Start = refl
-fine_end (Opened Single) = refl
-fine_end (Opened Double) = refl
-fine_end (Empty Single) = refl
-fine_end (Empty Double) = refl
-fine_end _ = refl
-
-stops_before : (q : State) (k : Class) (b : ℕ) (r : List ℕ) → ends q ≡ Some k → is_stop b ≡ true → Stops q (b ∷ r)
-stops_before q k b r e h =
-    elim (or_cases (is_none (ends q)) (every (λ x. is_none (move q x)) stops) (fine_end q)) [
-      | inl n ↦ absurd (both_ways false refl (rw e at n))
-      | inr n ↦ is_none_at (move q b) (one_of (λ x. is_none (move q x)) stops n b h)
-    ]
-
-not_quote : (b m : ℕ) (r back : List ℕ) → is_quote b ≡ false → is_quote m ≡ true → b ∷ r ≡ m ∷ back → ⊥
-not_quote b m r back h y e = let i : b ≡ m = cc in both_ways (is_quote m) (rw i at h) y
-
--- each lexeme is a token before such a byte
-pub stop_before : (class : Class) (t r : List ℕ) (b : ℕ) → IsLexeme class t → is_stop b ≡ true → IsToken class t (b ∷ r)
-stop_before class t r b h n =
-    let w = state_of class t h in
-    record {
-      lexeme = h;
-      longest = λ d u s is l. longest_at t (b ∷ r) w.0 w.2 (stops_before w.0 w.1 b r w.3 n) d u s is l;
-      no_third = λ p m s k y e i. not_quote b m r s (not-true (is_quote b) (one_of (λ x. not (is_quote x)) stops refl b n)) y i;
-    }
+use Rattle.bz_token.proofs.Tables.{one_text, is_none_at}
 
 -- ---- before a dot
 
@@ -121,18 +86,6 @@ mark_before t r b h n =
     }
 
 -- ---- a mark that no longer one begins with, before any text
-
-abbrev is_ended : Option State → Bool
-is_ended (Some Ended) = true
-is_ended _ = false
-
-ended_at : (o : Option State) → is_ended o ≡ true → o ≡ Some Ended
-ended_at (Some Ended) h = refl
-ended_at _ h = absurd (both_ways false refl h)
-
-nothing_stops : (r : List ℕ) → Stops Ended r
-nothing_stops [] = tt
-nothing_stops (b ∷ r) = refl
 
 pub lone_before : (t r : List ℕ) → in_table t brackets_and_separators ≡ true → IsToken c.Mark t r
 lone_before t r h =

@@ -1,27 +1,35 @@
 -- The steps of the loops that write rows and sequences as text, and the text of a form by its frame.
-use Rattle.std.proofs.Common.{ℕ, Bool, true, false, ◌&&◌, ◌≡◌, ◌<◌, ◌≤◌, List, [], ◌∷◌, ◌++◌, ◌+◌, if◌then◌else◌, length, get_or, drop, refl, sym, ap, ◌∙◌, append_assoc, arith}
+use Rattle.std.proofs.Common.{ℕ, suc, Bool, true, false, ◌&&◌, ◌≡◌, ◌<◌, ◌≤◌, List, [], ◌∷◌, ◌++◌, ◌+◌, if◌then◌else◌, length, get_or, take, drop, ◌-◌, refl, sym, ap, ◌∙◌, append_assoc, arith}
 use Rattle.std.specs.Prelude.{Option, None, Some, nat_eq}
 use Rattle.std.specs.List.{flat_map}
-use Rattle.std.proofs.lemmas.List.{drop_all, drop_more}
+use Rattle.std.proofs.lemmas.List.{drop_all, drop_more, take_all, length-drop}
 use Rattle.std.proofs.lemmas.Option.{same_Some}
 use Rattle.bz_grammar.specs.declared.kind.Kind.{Kind}
 use Rattle.bz_value.specs.declared.value.Form.{Form}
 use Rattle.bz_value.specs.declared.value.Expr.{Expr}
 use Rattle.bz_value.specs.declared.value.Expr.TheVariants as e
 use Rattle.bz_items.specs.Characters.{Bytes, comma}
-use Rattle.bz_value.specs.Comments.{HostComments}
 use Rattle.bz_value.specs.Frames.{Frame, row, sequence, frame}
 use Rattle.bz_value.specs.Proper.{comments_of}
 use Rattle.bz_layout.specs.declared.brackets.Brackets.{Brackets}
 use Rattle.bz_layout.specs.private.Brackets.{brackets_of}
-use Rattle.bz_layout.specs.Layout.{Piece, new_line_at, margin_lines, ended, suffix_text, stacked, joined, rowed, headed, laid_in, is_broken, is_tuple, gap_after, margin_after}
+use Rattle.bz_layout.specs.Layout.{Piece, new_line_at, margin_lines, ended, suffix_text, stacked, joined, rowed, headed, laid_in, is_broken, is_tuple, gap_after, margin_after, firsts}
 use Rattle.bz_value.specs.declared.value.Item.{Item}
 use Rattle.bz_layout.specs.Written.{piece_text, text_of, item_text, layout}
 use Rattle.bz_layout.specs.LaidOut.{before_next}
 use Rattle.bz_layout.specs.Writings.{writings, row_text, head_text, comma_text, joined_text, stacked_item_text, stacked_text, sequence_text}
+use Rattle.bz_layout.specs.Drafts.{Drafted, pushed}
 use Rattle.bz_layout.proofs.Made.{text_Form}
-use Rattle.bz_layout.proofs.Sized.{values_writings, length-writings}
+use Rattle.bz_layout.proofs.Pushing.{pushed_end, pushed_twice}
 use Rattle.bz_layout.proofs.Spelled.{next_after}
+
+values_writings : (xs : List Expr) → firsts (writings xs) ≡ xs
+values_writings [] = refl
+values_writings (x ∷ xs) = ap (λ ys. x ∷ ys) (values_writings xs)
+
+length-writings : (xs : List Expr) → length (writings xs) ≡ length xs
+length-writings [] = refl
+length-writings (x ∷ xs) = ap suc (length-writings xs)
 
 abbrev written : List (Piece (ℕ → Bytes)) → Bytes
 written ps = flat_map piece_text ps
@@ -40,18 +48,25 @@ row_first kind open_break m n x xs =
     ap (λ ys. text_of x n ++ written (rowed kind open_break m (gap_after kind open_break m x ys) (margin_after open_break m x) (writings xs))) (values_writings xs) ∙
     ap (λ t. text_of x n ++ t) (row_gap kind open_break m (margin_after open_break m x) x xs)
 
--- a turn of the loop over a row
-pub row_turn : (out there new : Bytes) (kind : Kind) (open_break : Bool) (m n : ℕ) (xs ys : List Expr) (k : ℕ) (y : Expr) (n' : ℕ) (all : Bytes) →
-    k < length xs → y ≡ get_or xs k y → there ≡ out ++ text_of y n → ys ≡ drop (k + 1) xs → new ≡ there ++ gap_after kind open_break m y ys → n' ≡ margin_after open_break m y →
-    out ++ row_text kind open_break m n (drop k xs) ≡ all → new ++ row_text kind open_break m n' (drop (k + 1) xs) ≡ all
-row_turn out there new kind open_break m n xs ys k y n' all h is written_ others following_ margin before =
-    let rest : List Expr = drop (k + 1) xs in
-    let tail : Bytes = row_text kind open_break m (margin_after open_break m y) rest in
-    let first : drop k xs ≡ y ∷ rest = drop_more xs k y h ∙ ap (λ z. z ∷ rest) (sym is) in
-    rw (following_, written_, margin, others)
-    (append_assoc (out ++ text_of y n) (gap_after kind open_break m y rest) tail ∙
-    (append_assoc out (text_of y n) (gap_after kind open_break m y rest ++ tail) ∙
-    (ap (λ t. out ++ t) (sym (ap (λ zs. row_text kind open_break m n zs) first ∙ row_first kind open_break m n y rest)) ∙ before)))
+pub row_next : (kind : Kind) (open_break : Bool) (m n : ℕ) (xs : List Expr) (k : ℕ) (d : Expr) → k < length xs →
+    row_text kind open_break m n (drop k xs) ≡
+    text_of (get_or xs k d) n ++ (gap_after kind open_break m (get_or xs k d) (drop (k + 1) xs) ++ row_text kind open_break m (margin_after open_break m (get_or xs k d)) (drop (k + 1) xs))
+row_next kind open_break m n xs k d h = ap (λ ys. row_text kind open_break m n ys) (drop_more xs k d h) ∙ row_first kind open_break m n (get_or xs k d) (drop (k + 1) xs)
+
+pub row_end : (d : Drafted) (kind : Kind) (open_break : Bool) (m n : ℕ) (xs : List Expr) (k : ℕ) → length xs ≤ k → pushed d (row_text kind open_break m n (drop k xs)) ≡ d
+row_end d kind open_break m n xs k l = pushed_end (row_text kind open_break m n) d xs k refl l
+
+-- a row of three parts, and three texts that are pushed
+pub three_of : (xs : List Expr) (a b d : Expr) → length xs ≡ 3 → a ≡ get_or xs 0 a → b ≡ get_or xs 1 b → d ≡ get_or xs 2 d → xs ≡ a ∷ b ∷ d ∷ []
+three_of [] a b d l e f g = absurd cc
+three_of (x ∷ []) a b d l e f g = absurd cc
+three_of (x ∷ y ∷ []) a b d l e f g = absurd cc
+three_of (x ∷ y ∷ z ∷ []) a b d l e f g = ap (λ w. w ∷ y ∷ z ∷ []) (sym e) ∙ (ap (λ w. a ∷ w ∷ z ∷ []) (sym f) ∙ ap (λ w. a ∷ b ∷ w ∷ []) (sym g))
+three_of (x ∷ y ∷ z ∷ w ∷ xs) a b d l e f g = absurd (omega (arith, l))
+
+pub three_pushed : (out one two : Drafted) (x y z all : Bytes) → one ≡ pushed out x → two ≡ pushed one y → all ≡ x ++ (y ++ z) → pushed two z ≡ pushed out all
+three_pushed out one two x y z all first second is =
+    ap (λ d. pushed d z) (second ∙ ap (λ d. pushed d y) first) ∙ (pushed_twice (pushed out x) y z ∙ (pushed_twice out x (y ++ z) ∙ ap (pushed out) (sym is)))
 
 -- ---- sequences
 
@@ -64,28 +79,12 @@ pub joined_next : (m closer : ℕ) (one : Bool) (xs : List Expr) (k : ℕ) (d : 
     joined_text m closer one (drop k xs) ≡ text_of (get_or xs k d) m ++ (comma_text one (drop (k + 1) xs) ++ joined_text m closer false (drop (k + 1) xs))
 joined_next m closer one xs k d h = ap (λ ys. joined_text m closer one ys) (drop_more xs k d h) ∙ joined_first m closer one (get_or xs k d) (drop (k + 1) xs)
 
--- a turn of the loop over what is before a bracket
-pub head_turn : (out new : Bytes) (m : ℕ) (xs : List Expr) (k : ℕ) (y : Expr) (all : Bytes) → k < length xs → y ≡ get_or xs k y → new ≡ out ++ text_of y m →
-    out ++ head_text m (drop k xs) ≡ all → new ++ head_text m (drop (k + 1) xs) ≡ all
-head_turn out new m xs k y all h is written_ before =
-    let rest : List Expr = drop (k + 1) xs in
-    let first : drop k xs ≡ y ∷ rest = drop_more xs k y h ∙ ap (λ z. z ∷ rest) (sym is) in
-    ap (λ t. t ++ head_text m rest) written_ ∙
-    (append_assoc out (text_of y m) (head_text m rest) ∙
-    (ap (λ zs. out ++ head_text m zs) (sym first) ∙ before))
+-- what is before a bracket
+pub head_next : (m : ℕ) (xs : List Expr) (k : ℕ) (d : Expr) → k < length xs → head_text m (drop k xs) ≡ text_of (get_or xs k d) m ++ head_text m (drop (k + 1) xs)
+head_next m xs k d h = ap (head_text m) (drop_more xs k d h)
 
--- a turn of the loop over items on one line
-pub joined_turn : (out there new : Bytes) (m closer : ℕ) (one : Bool) (xs ys : List Expr) (k : ℕ) (y : Expr) (all : Bytes) →
-    k < length xs → y ≡ get_or xs k y → there ≡ out ++ text_of y m → ys ≡ drop (k + 1) xs → new ≡ there ++ comma_text one ys →
-    out ++ joined_text m closer one (drop k xs) ≡ all → new ++ joined_text m closer false (drop (k + 1) xs) ≡ all
-joined_turn out there new m closer one xs ys k y all h is written_ others comma_ before =
-    let rest : List Expr = drop (k + 1) xs in
-    let tail : Bytes = joined_text m closer false rest in
-    let first : drop k xs ≡ y ∷ rest = drop_more xs k y h ∙ ap (λ z. z ∷ rest) (sym is) in
-    rw (comma_, written_, others)
-    (append_assoc (out ++ text_of y m) (comma_text one rest) tail ∙
-    (append_assoc out (text_of y m) (comma_text one rest ++ tail) ∙
-    (ap (λ t. out ++ t) (sym (ap (λ zs. joined_text m closer one zs) first ∙ joined_first m closer one y rest)) ∙ before)))
+pub head_end : (d : Drafted) (m : ℕ) (xs : List Expr) (k : ℕ) → length xs ≤ k → pushed d (head_text m (drop k xs)) ≡ d
+head_end d m xs k l = pushed_end (head_text m) d xs k refl l
 
 -- three texts after a first one
 after_first : (a b c d : Bytes) → ((a ++ b) ++ c) ++ d ≡ a ++ ((b ++ c) ++ d)
@@ -111,44 +110,12 @@ stacked_first m closer end x xs =
     (append_assoc start (comments ++ (text ++ (comma ∷ suffix))) rest ∙
     ap (λ t. start ++ t) (append_assoc comments (text ++ (comma ∷ suffix)) rest ∙ ap (λ t. comments ++ t) (append_assoc text (comma ∷ suffix) rest)))))
 
--- a turn of the loop over items on lines of their own
-pub stacked_turn : (out new : Bytes) (m closer : ℕ) (end : List Bytes) (xs : List Expr) (k : ℕ) (y : Expr) (all : Bytes) → k < length xs → y ≡ get_or xs k y → new ≡ out ++ stacked_item_text m y →
-    out ++ stacked_text m closer end (drop k xs) ≡ all → new ++ stacked_text m closer end (drop (k + 1) xs) ≡ all
-stacked_turn out new m closer end xs k y all h is written_ before =
-    let rest : List Expr = drop (k + 1) xs in
-    let first : drop k xs ≡ y ∷ rest = drop_more xs k y h ∙ ap (λ z. z ∷ rest) (sym is) in
-    ap (λ t. t ++ stacked_text m closer end rest) written_ ∙
-    (append_assoc out (stacked_item_text m y) (stacked_text m closer end rest) ∙
-    (ap (λ t. out ++ t) (sym (ap (λ zs. stacked_text m closer end zs) first ∙ stacked_first m closer end y rest)) ∙ before))
+pub stacked_next : (m closer : ℕ) (end : List Bytes) (xs : List Expr) (k : ℕ) (d : Expr) → k < length xs →
+    stacked_text m closer end (drop k xs) ≡ stacked_item_text m (get_or xs k d) ++ stacked_text m closer end (drop (k + 1) xs)
+stacked_next m closer end xs k d h = ap (stacked_text m closer end) (drop_more xs k d h) ∙ stacked_first m closer end (get_or xs k d) (drop (k + 1) xs)
 
--- ---- what is written one after the other
-
-six_written : (a b d x y z : Bytes) → ((((a ++ b) ++ d) ++ x) ++ y) ++ z ≡ a ++ (b ++ (d ++ (x ++ (y ++ z))))
-six_written a b d x y z = append_assoc (((a ++ b) ++ d) ++ x) y z ∙ (append_assoc ((a ++ b) ++ d) x (y ++ z) ∙ (append_assoc (a ++ b) d (x ++ (y ++ z)) ∙ append_assoc a b (d ++ (x ++ (y ++ z)))))
-
-pub item_written : (out out1 out2 out3 out4 : Bytes) (m n : ℕ) (x : Expr) (comments : HostComments) (texts : List Bytes) (suffix : Option Bytes) → comments ≡ comments_of x → n ≡ m + 4 → out1 ≡ out ++ new_line_at n →
-    texts ≡ comments.before → out2 ≡ out1 ++ margin_lines n texts → out3 ≡ out2 ++ text_of x n → out4 ≡ out3 ++ comma ∷ [] → suffix ≡ comments.suffix → out4 ++ suffix_text suffix ≡ out ++ stacked_item_text m x
-item_written out out1 out2 out3 out4 m n x comments texts suffix has deeper_ line_ texts_ above_ text_ comma_ suffix_ =
-    ap (λ t. t ++ suffix_text suffix) (comma_ ∙ ap (λ t. t ++ comma ∷ []) (text_ ∙ ap (λ t. t ++ text_of x n) (above_ ∙ ap (λ t. t ++ margin_lines n texts) line_))) ∙
-    (six_written out (new_line_at n) (margin_lines n texts) (text_of x n) (comma ∷ []) (suffix_text suffix) ∙
-    (ap (λ k. out ++ (new_line_at k ++ (margin_lines k texts ++ (text_of x k ++ (comma ∷ suffix_text suffix))))) deeper_ ∙
-    (ap (λ ts. out ++ (new_line_at (m + 4) ++ (margin_lines (m + 4) ts ++ (text_of x (m + 4) ++ (comma ∷ suffix_text suffix))))) (texts_ ∙ ap (λ z. z.before) has) ∙
-    ap (λ t. out ++ (new_line_at (m + 4) ++ (margin_lines (m + 4) (comments_of x).before ++ (text_of x (m + 4) ++ (comma ∷ suffix_text t))))) (suffix_ ∙ ap (λ z. z.suffix) has))))
-
-pub sequence_written : (out out1 out2 body : Bytes) (m opener : ℕ) (xs ys : List Expr) → xs ≡ ys → out1 ≡ out ++ head_text m xs → out2 ≡ out1 ++ opener ∷ [] → out2 ++ body ≡ out ++ (head_text m ys ++ (opener ∷ body))
-sequence_written out out1 out2 body m opener xs ys is head_ opener_ =
-    ap (λ t. t ++ body) (opener_ ∙ ap (λ t. t ++ opener ∷ []) (head_ ∙ ap (λ zs. out ++ head_text m zs) is)) ∙
-    (append_assoc (out ++ head_text m ys) (opener ∷ []) body ∙ append_assoc out (head_text m ys) (opener ∷ body))
-
-pub joined_end : (out new : Bytes) (m closer : ℕ) (one : Bool) (xs : List Expr) (k : ℕ) (all : Bytes) → length xs ≤ k → new ≡ out ++ closer ∷ [] → out ++ joined_text m closer one (drop k xs) ≡ all → new ≡ all
-joined_end out new m closer one xs k all l closer_ before = closer_ ∙ (ap (λ ys. out ++ joined_text m closer one ys) (sym (drop_all k xs l)) ∙ before)
-
-pub stacked_end : (out out1 new : Bytes) (m closer : ℕ) (end : List Bytes) (xs : List Expr) (k : ℕ) (all : Bytes) → length xs ≤ k → out1 ≡ out ++ ended m end → new ≡ out1 ++ closer ∷ [] →
-    out ++ stacked_text m closer end (drop k xs) ≡ all → new ≡ all
-stacked_end out out1 new m closer end xs k all l ended_ closer_ before =
-    closer_ ∙ (ap (λ t. t ++ closer ∷ []) ended_ ∙
-    (append_assoc out (ended m end) (closer ∷ []) ∙
-    (ap (λ t. out ++ t) (sym (append_assoc (ended m end) (closer ∷ []) [])) ∙ (ap (λ ys. out ++ stacked_text m closer end ys) (sym (drop_all k xs l)) ∙ before))))
+pub stacked_end : (m closer : ℕ) (end : List Bytes) (xs : List Expr) (k : ℕ) → length xs ≤ k → stacked_text m closer end (drop k xs) ≡ ended m end ++ (closer ∷ [])
+stacked_end m closer end xs k l = ap (stacked_text m closer end) (drop_all k xs l) ∙ append_assoc (ended m end) (closer ∷ []) []
 
 -- ---- forms by their frames
 
@@ -191,7 +158,25 @@ sequence_laid (sequence opener closer) b kind split open_break m hs xs end h =
 pub sequence_form : (f : Form) (b : Brackets) (m : ℕ) → brackets_of (frame f.kind) ≡ Some b → text_of (e.Form f) m ≡ sequence_text b f m
 sequence_form f b m h = text_Form f m ∙ sequence_laid (frame f.kind) b f.kind f.seq.split f.open_break m f.parts f.seq.items f.seq.end h
 
+-- ---- comments above an item and at the end of a sequence
+
+pub above_next : (m : ℕ) (ts : List Bytes) (k : ℕ) (d : Bytes) → k < length ts → margin_lines m (drop k ts) ≡ get_or ts k d ++ (new_line_at m ++ margin_lines m (drop (k + 1) ts))
+above_next m ts k d h = ap (margin_lines m) (drop_more ts k d h)
+
+pub above_end : (d : Drafted) (m : ℕ) (ts : List Bytes) (k : ℕ) → length ts ≤ k → pushed d (margin_lines m (drop k ts)) ≡ d
+above_end d m ts k l = pushed_end (margin_lines m) d ts k refl l
+
+pub ended_next : (m : ℕ) (ts : List Bytes) (k : ℕ) (d : Bytes) → k < length ts → ended m (drop k ts) ≡ new_line_at (m + 4) ++ (get_or ts k d ++ ended m (drop (k + 1) ts))
+ended_next m ts k d h = ap (ended m) (drop_more ts k d h)
+
 -- ---- files
+
+-- what is left of a list, as a slice to its end
+pub rest_here : (xs : List Item) (n : ℕ) → take (length xs - n) (drop n xs) ≡ drop n xs
+rest_here xs n = take_all (length xs - n) (drop n xs) (omega (arith, length-drop n xs))
+
+pub layout_end : (d : Drafted) (xs : List Item) (k : ℕ) → length xs ≤ k → pushed d (layout (drop k xs)) ≡ d
+layout_end d xs k l = pushed_end layout d xs k refl l
 
 pub layout_next : (xs : List Item) (k : ℕ) (d : Item) → k < length xs →
     layout (drop k xs) ≡ item_text (get_or xs k d) ++ (before_next (get_or xs k d) (drop (k + 1) xs) ++ layout (drop (k + 1) xs))

@@ -1,5 +1,6 @@
 pub mod Appended
 pub mod Depths
+pub mod Drafts
 pub mod Exchanged
 pub mod Flags
 pub mod LaidOut

@@ -1,14 +1,12 @@
 //! Gaps: lines at a margin, comments above, after and below.
-ghost use Rattle.std.specs.Prelude.{◌≡◌, ◌++◌, ◌+◌, OnOk, IfOk};
+ghost use Rattle.std.specs.Prelude.{◌≡◌, ◌++◌, ◌+◌, replicate, OnOk, IfOk};
 ghost use Rattle.std.specs.Option.{option_copied};
+ghost use Rattle.bz_items.specs.Characters.{space};
 ghost use Rattle.bz_layout.specs.Layout.{new_line_at, margin_lines, suffix_text, ended};
 ghost use Rattle.bz_layout.specs.Written.{comment_lines};
 
 use bz_items::{Gap, Memory, Text};
 use std::alloc::{AllocError, Global};
-
-/// A limit that no text reaches.
-pub const NO_LIMIT: usize = usize::MAX;
 
 /// The margin of what is inside a broken sequence. The error: no text is that wide.
 pub fn deeper_margin(margin: usize) -> Result<usize, Memory>
@@ -24,51 +22,44 @@ pub fn gap_from(alloc: Global, bytes: Vec<u8>) -> Result<Gap, Memory>
     Gap::from_slice(alloc, &bytes)
 }
 
-/// Appends a newline and the spaces of a margin. The error: a growth was refused, or there are more bytes than the limit already:
-/// margins make a layout longer than its value by far, so that the rest need not be written.
-pub fn push_new_line(out: &mut Vec<u8>, margin: usize, limit: usize) -> Result<(), Memory>
-    ensures { OnOk result (out.new.items ≡ out.old.items ++ new_line_at margin) }
+/// Appends the spaces of a margin. The error: a growth was refused.
+pub fn push_margin(out: &mut Vec<u8>, margin: usize) -> Result<(), Memory>
+    ensures { OnOk result (out.new.items ≡ out.old.items ++ replicate margin space) }
 {
-    if out.len() > limit {
-        return Err(AllocError);
-    }
-    out.push(b'\n')?;
     let end = out.len().checked_add(margin).ok_or(AllocError)?;
     out.resize(end, b' ')?;
     Ok(())
 }
 
+/// Appends a newline and the spaces of a margin. The error: a growth was refused.
+pub fn push_new_line(out: &mut Vec<u8>, margin: usize) -> Result<(), Memory>
+    ensures { OnOk result (out.new.items ≡ out.old.items ++ new_line_at margin) }
+{
+    out.push(b'\n')?;
+    push_margin(out, margin)
+}
+
 /// Appends comments, each on its own line at the margin, above an item.
-pub fn push_above(
-    out: &mut Vec<u8>,
-    texts: &[Text],
-    margin: usize,
-    limit: usize,
-) -> Result<(), Memory>
+pub fn push_above(out: &mut Vec<u8>, texts: &[Text], margin: usize) -> Result<(), Memory>
     ensures { OnOk result (out.new.items ≡ out.old.items ++ margin_lines margin texts.now) }
 {
     for text in texts {
         out.extend_from_slice(text.as_slice())?;
-        push_new_line(out, margin, limit)?;
+        push_new_line(out, margin)?;
     }
     Ok(())
 }
 
 /// Appends the end comments of a sequence, and the line of its closing bracket at the margin.
-pub fn push_ended(
-    out: &mut Vec<u8>,
-    texts: &[Text],
-    margin: usize,
-    limit: usize,
-) -> Result<(), Memory>
+pub fn push_ended(out: &mut Vec<u8>, texts: &[Text], margin: usize) -> Result<(), Memory>
     ensures { OnOk result (out.new.items ≡ out.old.items ++ ended margin texts.now) }
 {
     let inner = deeper_margin(margin)?;
     for text in texts {
-        push_new_line(out, inner, limit)?;
+        push_new_line(out, inner)?;
         out.extend_from_slice(text.as_slice())?;
     }
-    push_new_line(out, margin, limit)
+    push_new_line(out, margin)
 }
 
 /// Appends a suffix after two spaces. The error: a growth was refused.

@@ -6,9 +6,7 @@ ghost use Rattle.bz_layout.specs.LaidOut.{piece_part, part_of, parts_in, layouts
 
 use crate::brackets::brackets_of_kind;
 use crate::breaks::is_broken;
-use crate::gaps::{
-    NO_LIMIT, deeper_margin, gap_from, push_above, push_after, push_ended, push_new_line,
-};
+use crate::gaps::{deeper_margin, gap_from, push_above, push_after, push_ended, push_new_line};
 use crate::parts::room_for;
 use crate::row_gaps::{margin_after, others, text_after};
 use bz_grammar::{Class, Kind, Leaf, Node, Part};
@@ -178,13 +176,13 @@ fn lay_out_stacked(
     for item in items {
         let comments = item.comments();
         let inner = deeper_margin(margin)?;
-        push_new_line(&mut gap, inner, NO_LIMIT)?;
-        push_above(&mut gap, comments.before(), inner, NO_LIMIT)?;
+        push_new_line(&mut gap, inner)?;
+        push_above(&mut gap, comments.before(), inner)?;
         parts.push(lay_out(alloc, item, gap_from(alloc, gap)?, inner)?)?;
         parts.push(mark(alloc, Gap::none(alloc), b',')?)?;
         gap = Vec::new(alloc);
         push_after(&mut gap, comments.suffix())?;
     }
-    push_ended(&mut gap, end, margin, NO_LIMIT)?;
+    push_ended(&mut gap, end, margin)?;
     parts.push(mark(alloc, gap_from(alloc, gap)?, closer)?)
 }

@@ -4,15 +4,14 @@
 mod brackets;
 mod breaks;
 mod depth;
+mod draft;
 mod gaps;
 mod laws;
 mod laying_out;
 mod limits;
 mod lines;
 mod marked;
-mod measure;
 mod parts;
-mod room;
 mod row_gaps;
 mod setting;
 mod spaces;
@@ -22,7 +21,8 @@ mod texts;
 
 pub use breaks::is_broken;
 pub use depth::{are_within, is_within};
-pub use gaps::{deeper_margin, push_after, push_comments};
+pub use draft::Draft;
+pub use gaps::deeper_margin;
 pub use laws::{
     flags_keep_layout, layout_is_accepted, layout_reads_back, layouts_join, relaid_has_length,
     worked_rows,
@@ -30,8 +30,6 @@ pub use laws::{
 pub use limits::{are_marked_shallow, are_marked_short, is_window_shallow, is_window_short};
 pub use lines::is_close;
 pub use marked::{Relaid, relayout};
-pub use measure::{left_after, left_after_body, left_after_row};
-pub use room::{NoRoom, less, less_after};
 pub use setting::{SetFault, append_file, set, text_of_file};
 pub use spaces::is_spaced;
 pub use spliced::{Respliced, relayout_spliced};

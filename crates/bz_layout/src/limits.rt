@@ -1,69 +1,22 @@
-//! Whether a layout is within the limits of a text. Neither is the layout written for it, nor its tree made.
-ghost use Rattle.std.specs.Prelude.{ℕ, ◌≡◌, ◌+◌, ◌<◌, ◌≤◌, ◌↔◌, IsTrue, IfOk, ◌∷◌, [], length, take, drop, List, false, if◌then◌else◌};
+//! Whether a layout is within the limits of a text. No tree is made for it.
+ghost use Rattle.std.specs.Prelude.{ℕ, ◌≡◌, ◌+◌, ◌<◌, ◌≤◌, ◌↔◌, IsTrue, IfOk, OnOk, ◌∷◌, [], length, take, drop, List, false, if◌then◌else◌};
 ghost use Rattle.bz_grammar.specs.Spell.{depth_of, depth_limit, limit};
 ghost use Rattle.bz_layout.specs.Written.{item_text, layout};
-ghost use Rattle.bz_layout.specs.LaidOut.{before_next, laid_out};
+ghost use Rattle.bz_layout.specs.Drafts.{pushed};
+ghost use Rattle.bz_layout.specs.LaidOut.{laid_out};
 ghost use Rattle.bz_layout.specs.Depths.{depth_items};
 ghost use Rattle.bz_value.specs.Exchanged.{AreExchanged, IsSpliced};
 ghost use Rattle.bz_value.specs.declared.value.Item.{Item};
 ghost use Rattle.bz_layout.specs.Exchanged.{marked_length};
-ghost use Rattle.bz_layout.specs.private.Marks.{marked_items};
+ghost use Rattle.bz_layout.specs.private.Marks.{marked_items, marked_text};
 
 use crate::depth::is_within;
-use crate::lines::is_apart;
-use crate::measure::left_after;
-use crate::room::{NoRoom, less, less_after, less_comments};
+use crate::draft::Draft;
+use crate::texts::{push_item, push_items};
 use bz_grammar::{DEPTH_LIMIT, LENGTH_LIMIT};
 use bz_items::Memory;
-use bz_value::{Expr, Item};
-use std::alloc::{AllocError, Global};
-
-/// What is left of the room after the lines of a statement.
-#[tactic(auto, using(crate::proofs::Measured::statement_length))]
-fn less_statement(alloc: Global, expr: &Expr, room: usize) -> Result<usize, NoRoom>
-    ensures ok { IfOk result (λ left. length (item_text (Item.Stmt expr.now)) + left ≡ room) }
-    ensures longer { result ≡ Err NoRoom.Longer → room < length (item_text (Item.Stmt expr.now)) }
-{
-    let comments = expr.comments();
-    let left = less_comments(room, comments.before())?;
-    let left = left_after(alloc, expr, 0, left)?;
-    let left = less_after(left, comments.suffix())?;
-    less(left, 1)
-}
-
-/// What is left of the room after the lines of an item.
-fn less_item(alloc: Global, item: &Item, room: usize) -> Result<usize, NoRoom>
-    ensures ok { IfOk result (λ left. length (item_text item.now) + left ≡ room) }
-    ensures longer { result ≡ Err NoRoom.Longer → room < length (item_text item.now) }
-{
-    match item {
-        Item::Block(texts) => less_comments(room, texts.as_slice()),
-        Item::Stmt(expr) => less_statement(alloc, expr, room),
-    }
-}
-
-/// What is left of the room after what is between an item and those that follow.
-fn less_between(item: &Item, others: &[Item], room: usize) -> Result<usize, NoRoom>
-    ensures ok { IfOk result (λ left. length (before_next item.now others.now) + left ≡ room) }
-    ensures longer { result ≡ Err NoRoom.Longer → room < length (before_next item.now others.now) }
-{
-    less(room, usize::from(is_apart(item, others)))
-}
-
-/// What is left of so much room after the layout of the items. Errors: `Longer`: the layout is longer; `Memory`: a growth was
-/// refused.
-#[tactic(auto, using(crate::proofs::Measured::layout_next))]
-fn less_items(alloc: Global, items: &[Item], room: usize) -> Result<usize, NoRoom>
-    ensures ok { IfOk result (λ left. length (layout items.now) + left ≡ room) }
-    ensures longer { result ≡ Err NoRoom.Longer → room < length (layout items.now) }
-{
-    let mut left = room;
-    for (i, item) in items.iter().enumerate() {
-        left = less_item(alloc, item, left)?;
-        left = less_between(item, &items[i + 1..], left)?;
-    }
-    Ok(left)
-}
+use bz_value::Item;
+use std::alloc::Global;
 
 /// Whether the line of the item has at most this depth.
 fn is_item_within(item: &Item, depth: usize) -> bool
@@ -120,61 +73,43 @@ pub fn are_marked_shallow(marks: &[bool], items: &[Item]) -> bool
     are_marked_within(marks, items, DEPTH_LIMIT as usize - 1)
 }
 
-/// Whether the layout of the items has at most this many bytes. The error: a growth was refused.
-pub fn is_layout_within(alloc: Global, items: &[Item], limit: usize) -> Result<bool, Memory>
-    ensures { IfOk result (λ within. IsTrue within ↔ (length (layout items.now) ≤ limit)) }
-{
-    match less_items(alloc, items, limit) {
-        Ok(_left) => Ok(true),
-        Err(NoRoom::Longer) => Ok(false),
-        Err(NoRoom::Memory) => Err(AllocError),
-    }
-}
-
-/// What is left of the room after the lines of an item, if it is marked.
-fn less_marked(alloc: Global, is_marked: bool, item: &Item, room: usize) -> Result<usize, NoRoom>
-    ensures ok { IfOk result (λ left. (if is_marked then length (item_text item.now) else 0) + left ≡ room) }
-    ensures longer { result ≡ Err NoRoom.Longer → room < (if is_marked then length (item_text item.now) else 0) }
+/// Appends the lines of an item, if it is marked.
+#[tactic(auto, using(crate::proofs::Pushing::pushed_none))]
+fn push_if_marked(out: &mut Draft, is_marked: bool, item: &Item) -> Result<(), Memory>
+    ensures { OnOk result (out.new ≡ pushed out.old (if is_marked then item_text item.now else [])) }
 {
     if !is_marked {
-        return Ok(room);
+        return Ok(());
     }
-    less_item(alloc, item, room)
+    push_item(out, item)
 }
 
-/// What is left of so much room after the lines of the marked items. Errors: `Longer`: they are longer; `Memory`: a growth was
-/// refused.
-#[tactic(auto, using(crate::proofs::ExchangedLengths::marked_length_next))]
-fn less_all_marked(
-    alloc: Global,
-    marks: &[bool],
-    items: &[Item],
-    room: usize,
-) -> Result<usize, NoRoom>
+/// Appends the lines of the marked items, without what is between them and others.
+#[tactic(auto, using(crate::proofs::Pushing::pushed_twice, crate::proofs::ExchangedLengths::marked_next, crate::proofs::ExchangedLengths::marked_end))]
+fn push_marked(out: &mut Draft, marks: &[bool], items: &[Item]) -> Result<(), Memory>
     requires { length marks.now ≡ length items.now }
-    ensures ok { IfOk result (λ left. marked_length marks.now items.now + left ≡ room) }
-    ensures longer { result ≡ Err NoRoom.Longer → room < marked_length marks.now items.now }
+    ensures { OnOk result (out.new ≡ pushed out.old (marked_text marks.now items.now)) }
 {
-    let mut left = room;
     for (i, item) in items.iter().enumerate() {
-        left = less_marked(alloc, marks[i], item, left)?;
+        push_if_marked(out, marks[i], item)?;
     }
-    Ok(left)
+    Ok(())
 }
 
 /// Whether the own lines of the marked items are within the limit of a text, without what is between them and others. Where it
 /// says no, the layout of all items is past the limit; so no line that is longer need ever be laid out. The error: a growth was
 /// refused.
-#[tactic(auto, using(crate::proofs::ExchangedLengths::length_below))]
+#[tactic(auto, using(crate::proofs::ExchangedLengths::length_below, crate::proofs::ExchangedLengths::text_length))]
 pub fn are_marked_short(alloc: Global, marks: &[bool], items: &[Item]) -> Result<bool, Memory>
     requires { length marks.now ≡ length items.now }
     ensures short { IfOk result (λ short. IsTrue short ↔ (marked_length marks.now items.now ≤ limit)) }
     ensures long { IfOk result (λ short. short ≡ false → limit < length (layout items.now)) }
 {
-    match less_all_marked(alloc, marks, items, LENGTH_LIMIT) {
-        Ok(_left) => Ok(true),
-        Err(NoRoom::Longer) => Ok(false),
-        Err(NoRoom::Memory) => Err(AllocError),
+    let mut out = Draft::new(Vec::new(alloc), LENGTH_LIMIT);
+    push_marked(&mut out, marks, items)?;
+    match out.into_bytes() {
+        Some(_text) => Ok(true),
+        None => Ok(false),
     }
 }
 
@@ -213,5 +148,10 @@ pub fn is_window_short(
     ensures short { IfOk result (λ short. IsTrue short ↔ (length (layout (take come (drop from items.now))) ≤ limit)) }
     ensures long { IfOk result (λ short. short ≡ false → limit < length (layout items.now)) }
 {
-    is_layout_within(alloc, window(items, from, come), LENGTH_LIMIT)
+    let mut out = Draft::new(Vec::new(alloc), LENGTH_LIMIT);
+    push_items(&mut out, window(items, from, come))?;
+    match out.into_bytes() {
+        Some(_text) => Ok(true),
+        None => Ok(false),
+    }
 }

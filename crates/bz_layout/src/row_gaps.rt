@@ -3,6 +3,7 @@ ghost use Rattle.std.specs.Prelude.{◌≡◌, ◌<◌, ◌+◌, ◌++◌, ◌�
 ghost use Rattle.bz_grammar.specs.Shapes.{equals, has_token};
 ghost use Rattle.bz_items.specs.Characters.{Bytes};
 ghost use Rattle.bz_value.specs.Proper.{has_break};
+ghost use Rattle.bz_layout.specs.Drafts.{pushed};
 ghost use Rattle.bz_layout.specs.Layout as layout;
 ghost use Rattle.bz_layout.specs.Spaces.{is_prefix_mark};
 ghost use Rattle.bz_layout.specs.Written.{text_of};
@@ -10,7 +11,8 @@ ghost use Rattle.bz_layout.specs.Writings.{row_text};
 ghost use Rattle.bz_layout.specs.private.RowGaps.{written_gap};
 ghost use Rattle.bz_value.specs.Roots.{root};
 
-use crate::gaps::{NO_LIMIT, deeper_margin, gap_from, push_new_line};
+use crate::draft::Draft;
+use crate::gaps::{deeper_margin, gap_from, push_new_line};
 use crate::is_spaced;
 use crate::spaces::is_lone;
 use bz_grammar::{Class, Kind};
@@ -119,14 +121,15 @@ fn text_of_gap(alloc: Global, gap: RowGap) -> Result<Gap, Memory>
         RowGap::Space => Gap::from_slice(alloc, b" "),
         RowGap::Line(margin) => {
             let mut out = Vec::new(alloc);
-            push_new_line(&mut out, margin, NO_LIMIT)?;
+            push_new_line(&mut out, margin)?;
             gap_from(alloc, out)
         }
     }
 }
 
-fn push_gap(out: &mut Vec<u8>, gap: RowGap, limit: usize) -> Result<(), Memory>
-    ensures { OnOk result (out.new.items ≡ out.old.items ++ written_gap gap) }
+#[tactic(auto, using(crate::proofs::Pushing::pushed_none))]
+fn push_gap(out: &mut Draft, gap: RowGap) -> Result<(), Memory>
+    ensures { OnOk result (out.new ≡ pushed out.old (written_gap gap)) }
 {
     match gap {
         RowGap::Nothing => Ok(()),
@@ -134,22 +137,21 @@ fn push_gap(out: &mut Vec<u8>, gap: RowGap, limit: usize) -> Result<(), Memory>
             out.push(b' ')?;
             Ok(())
         }
-        RowGap::Line(margin) => push_new_line(out, margin, limit),
+        RowGap::Line(margin) => out.push_new_line(margin),
     }
 }
 
 /// Appends the gap after a part of a row, before the others. The error: a growth was refused.
 pub fn push_row_gap(
-    out: &mut Vec<u8>,
+    out: &mut Draft,
     form: &Form,
     margin: usize,
     part: &Expr,
     others: &[Expr],
-    limit: usize,
 ) -> Result<(), Memory>
-    ensures { OnOk result (out.new.items ≡ out.old.items ++ layout.gap_after form.now.kind form.now.open_break margin part.now others.now) }
+    ensures { OnOk result (out.new ≡ pushed out.old (layout.gap_after form.now.kind form.now.open_break margin part.now others.now)) }
 {
-    push_gap(out, gap_after(form, margin, part, others)?, limit)
+    push_gap(out, gap_after(form, margin, part, others)?)
 }
 
 /// The bytes of the gap after a part of a row, before the others. The error: a growth was refused.

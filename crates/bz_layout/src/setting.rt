@@ -6,13 +6,15 @@ ghost use Rattle.bz_layout.specs.LaidOut.{laid_out};
 ghost use Rattle.bz_layout.specs.Written.{layout};
 ghost use Rattle.bz_layout.specs.Flags.{flags};
 
-use crate::limits::{are_items_within, is_layout_within};
+use crate::draft::Draft;
+use crate::limits::are_items_within;
 use crate::lines::{lay_out_lines, push_between};
 use crate::texts::push_items;
 use bz_grammar::{DEPTH_LIMIT, Kind, LENGTH_LIMIT, Node, Tree};
 use bz_items::{Memory, Text};
 use bz_value::{File, Item};
 use std::alloc::{AllocError, Global};
+use std::mem;
 use thiserror::Error;
 
 /// Why a file value is not written.
@@ -49,24 +51,6 @@ fn is_shallow(items: &[Item]) -> bool
     are_items_within(items, DEPTH_LIMIT as usize - 1)
 }
 
-/// Whether the layout of the items and its tree are within the limits; neither is made for it. Errors: `TooLarge` and `TooDeep`
-/// as of `set`; `Memory`: a growth was refused.
-pub fn fits(alloc: Global, items: &[Item]) -> Result<(), SetFault>
-    ensures short { IfOk result (λ _. length (layout items.now) ≤ limit) }
-    ensures shallow { IfOk result (λ _. depth_of (laid_out items.now) ≤ depth_limit) }
-    ensures too_large { result ≡ Err SetFault.TooLarge → limit < length (layout items.now) }
-    ensures too_deep { result ≡ Err SetFault.TooDeep → (length (layout items.now) ≤ limit) × (depth_limit < depth_of (laid_out items.now)) }
-{
-    let short = is_layout_within(alloc, items, LENGTH_LIMIT)?;
-    if !short {
-        return Err(SetFault::TooLarge);
-    }
-    if !is_shallow(items) {
-        return Err(SetFault::TooDeep);
-    }
-    Ok(())
-}
-
 /// The tree whose spelling is the layout of the file value, and whose view is the value with its flags settled. Both limits
 /// are looked at on the value, before the tree is made. Errors: `TooLarge` exactly where the layout is past the limit of a
 /// text, else `TooDeep` exactly where the tree is past the limit of depth; `Memory`: a growth was refused.
@@ -77,31 +61,13 @@ pub fn set(alloc: Global, file: &File) -> Result<Tree, SetFault>
     ensures too_large { result ≡ Err SetFault.TooLarge → limit < length (layout file.now) }
     ensures too_deep { result ≡ Err SetFault.TooDeep → (length (layout file.now) ≤ limit) × (depth_limit < depth_of (laid_out file.now)) }
 {
-    let items = file.items.as_slice();
-    fits(alloc, items)?;
+    drop(text_of_file(alloc, file, 0)?);
     Ok(Tree {
         root: Node {
             kind: Kind::File,
-            parts: lay_out_lines(alloc, items)?,
+            parts: lay_out_lines(alloc, file.items.as_slice())?,
         },
     })
-}
-
-/// Appends the layout of the items, where what was written and the tree of the layout are within the limits; none where one is not, or
-/// a growth was refused. The depth is looked at first, since the walk that writes goes as deep as the items.
-fn append_within(out: &mut Vec<u8>, items: &[Item]) -> Option<()>
-    ensures text { IfSome result (λ _. out.new.items ≡ out.old.items ++ layout items.now) }
-    ensures short { IfSome result (λ _. length out.new.items ≤ limit) }
-    ensures shallow { IfSome result (λ _. depth_of (laid_out items.now) ≤ depth_limit) }
-{
-    if !is_shallow(items) {
-        return None;
-    }
-    push_items(out, items, LENGTH_LIMIT).ok()?;
-    if out.len() > LENGTH_LIMIT {
-        return None;
-    }
-    Some(())
 }
 
 fn push_below(out: &mut Vec<u8>, above: &Option<Item>, items: &[Item]) -> Result<(), Memory>
@@ -121,28 +87,20 @@ pub fn append_file(out: &mut Vec<u8>, above: &Option<Item>, file: &File) -> Opti
     ensures shallow { IfSome result (λ _. depth_of (laid_out file.now) ≤ depth_limit) }
 {
     let items = file.items.as_slice();
-    push_below(out, above, items).ok()?;
-    append_within(out, items)
-}
-
-/// The layout of the items as text, where it and its tree are within the limits; none where one is not, or a growth was refused. From
-/// the beginning there is room for `about` bytes and some more, since a text that doubles holds as much again.
-fn text_within(alloc: Global, items: &[Item], about: usize) -> Option<Text>
-    ensures text { IfSome result (λ text. text ≡ layout items.now) }
-    ensures short { IfSome result (λ _. length (layout items.now) ≤ limit) }
-    ensures shallow { IfSome result (λ _. depth_of (laid_out items.now) ≤ depth_limit) }
-{
-    let Ok(mut out) = Vec::with_capacity(alloc, about.saturating_add(about / 4)) else {
+    if !is_shallow(items) {
         return None;
-    };
-    append_within(&mut out, items)?;
-    Some(Text::from_vec(out))
+    }
+    push_below(out, above, items).ok()?;
+    let alloc = *out.allocator();
+    let mut draft = Draft::new(mem::replace(out, Vec::new(alloc)), LENGTH_LIMIT);
+    push_items(&mut draft, items).ok()?;
+    *out = draft.into_bytes()?;
+    Some(())
 }
 
 /// The layout of the file value, as text, with no tree made for it: `about` how many bytes it has, by estimate, is the room that it
-/// begins with. It is measured only where no text came of it, to know the fault.
-/// Errors: `TooLarge` exactly where the layout is past the limit of a text, else `TooDeep` exactly where its tree would be past the
-/// limit of depth; `Memory`: a growth was refused.
+/// begins with, and some more, since a text that doubles holds as much again. Errors: `TooLarge` exactly where the layout is past the
+/// limit of a text, else `TooDeep` exactly where its tree would be past the limit of depth; `Memory`: a growth was refused.
 pub fn text_of_file(alloc: Global, file: &File, about: usize) -> Result<Text, SetFault>
     ensures text { IfOk result (λ text. text ≡ layout file.now) }
     ensures short { IfOk result (λ _. length (layout file.now) ≤ limit) }
@@ -151,9 +109,14 @@ pub fn text_of_file(alloc: Global, file: &File, about: usize) -> Result<Text, Se
     ensures too_deep { result ≡ Err SetFault.TooDeep → (length (layout file.now) ≤ limit) × (depth_limit < depth_of (laid_out file.now)) }
 {
     let items = file.items.as_slice();
-    if let Some(text) = text_within(alloc, items, about) {
-        return Ok(text);
+    let room = Vec::with_capacity(alloc, about.saturating_add(about / 4))?;
+    let mut out = Draft::new(room, LENGTH_LIMIT);
+    push_items(&mut out, items)?;
+    let Some(bytes) = out.into_bytes() else {
+        return Err(SetFault::TooLarge);
+    };
+    if !is_shallow(items) {
+        return Err(SetFault::TooDeep);
     }
-    fits(alloc, items)?;
-    Err(SetFault::Memory)
+    Ok(Text::from_vec(bytes))
 }

@@ -9,7 +9,7 @@ ghost use Rattle.bz_layout.specs.private.Taken.{before_item};
 ghost use Rattle.bz_layout.specs.Written.{layout};
 
 use crate::lines::{end_after, lay_out_item, push_between};
-use crate::setting::{SetFault, fits};
+use crate::setting::{SetFault, text_of_file};
 use bz_grammar::{Kind, Node, Part, Tree};
 use bz_items::{Items, Memory};
 use bz_rule::take_apart;
@@ -28,7 +28,7 @@ pub fn set_from(alloc: Global, file: File) -> Result<Tree, SetFault>
     ensures too_large { result ≡ Err SetFault.TooLarge → limit < length (layout file) }
     ensures too_deep { result ≡ Err SetFault.TooDeep → (length (layout file) ≤ limit) × (depth_limit < depth_of (laid_out file)) }
 {
-    if let Err(fault) = fits(alloc, file.items.as_slice()) {
+    if let Err(fault) = text_of_file(alloc, &file, 0) {
         take_apart(file);
         return Err(fault);
     }

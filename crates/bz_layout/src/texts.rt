@@ -1,5 +1,7 @@
 //! The layout of an expression and of an item, as text.
-ghost use Rattle.std.specs.Prelude.{◌≡◌, ◌++◌, OnOk, IfOk};
+ghost use Rattle.std.specs.Prelude.{◌≡◌, OnOk, IfOk};
+ghost use Rattle.bz_layout.specs.Drafts.{pushed};
+ghost use Rattle.bz_layout.specs.LaidOut.{before_next};
 ghost use Rattle.bz_value.specs.declared.value.Expr.TheVariants as e;
 ghost use Rattle.bz_value.specs.declared.value.Item.TheVariants as i;
 ghost use Rattle.bz_layout.specs.Written as written;
@@ -7,74 +9,75 @@ ghost use Rattle.bz_layout.specs.Writings.{row_text, head_text, comma_text, join
 
 use crate::brackets::{Brackets, brackets_of_kind};
 use crate::breaks::is_broken;
-use crate::gaps::{
-    NO_LIMIT, deeper_margin, push_above, push_after, push_comments, push_ended, push_new_line,
-};
-use crate::lines::push_between;
+use crate::draft::Draft;
+use crate::gaps::deeper_margin;
+use crate::lines::is_apart;
 use crate::row_gaps::{is_assignment, margin_after, others, push_row_gap};
 use bz_grammar::Kind;
 use bz_items::{Memory, Text};
 use bz_value::{Expr, Form, Item};
-use std::alloc::Global;
+use std::alloc::{AllocError, Global};
 
-/// Appends the layout of an expression at a margin. The error: a growth was refused, or the text is past the limit.
+/// Appends the layout of an expression at a margin. The error: a growth was refused.
 #[cycle(push)]
 #[inline(always)]
-pub fn push_expr(out: &mut Vec<u8>, expr: &Expr, margin: usize, limit: usize) -> Result<(), Memory>
-    ensures { OnOk result (out.new.items ≡ out.old.items ++ written.text_of expr.now margin) }
+pub fn push_expr(out: &mut Draft, expr: &Expr, margin: usize) -> Result<(), Memory>
+    ensures { OnOk result (out.new ≡ pushed out.old (written.text_of expr.now margin)) }
 {
     match expr {
         Expr::Token(token) => {
-            out.extend_from_slice(token.text.as_slice())?;
+            out.push_bytes(token.text.as_slice())?;
             Ok(())
         }
-        Expr::Form(form) => push_form(out, form, margin, limit),
+        Expr::Form(form) => push_form(out, form, margin),
     }
 }
 
 #[cycle(push)]
-fn push_form(out: &mut Vec<u8>, form: &Form, margin: usize, limit: usize) -> Result<(), Memory>
-    ensures { OnOk result (out.new.items ≡ out.old.items ++ written.text_of (e.Form form.now) margin) }
+#[tactic(auto, using(crate::proofs::Writing::row_form, crate::proofs::Writing::sequence_form))]
+fn push_form(out: &mut Draft, form: &Form, margin: usize) -> Result<(), Memory>
+    ensures { OnOk result (out.new ≡ pushed out.old (written.text_of (e.Form form.now) margin)) }
 {
     match brackets_of_kind(form.kind) {
-        None => push_row(out, form, margin, limit),
-        Some(brackets) => push_sequence(out, form, margin, brackets, limit),
+        None => push_row(out, form, margin),
+        Some(brackets) => push_sequence(out, form, margin, brackets),
     }
 }
 
 /// Appends what is before a sequence, its brackets, and what is in them.
 #[cycle(push)]
+#[tactic(auto, using(crate::proofs::Pushing::pushed_twice))]
 fn push_sequence(
-    out: &mut Vec<u8>,
+    out: &mut Draft,
     form: &Form,
     margin: usize,
     brackets: Brackets,
-    limit: usize,
 ) -> Result<(), Memory>
-    ensures { OnOk result (out.new.items ≡ out.old.items ++ sequence_text brackets form.now margin) }
+    ensures { OnOk result (out.new ≡ pushed out.old (sequence_text brackets form.now margin)) }
 {
-    push_head(out, form.parts.as_slice(), margin, limit)?;
+    push_head(out, form.parts.as_slice(), margin)?;
     out.push(brackets.opener)?;
-    push_body(out, form, margin, brackets.closer, limit)
+    push_body(out, form, margin, brackets.closer)
 }
 
-/// Appends the row of the parts of a form at a margin. The error: a growth was refused, or the text is past the limit.
+/// Appends the row of the parts of a form at a margin. The error: a growth was refused.
 #[cycle(push)]
-pub fn push_row(out: &mut Vec<u8>, form: &Form, margin: usize, limit: usize) -> Result<(), Memory>
-    ensures { OnOk result (out.new.items ≡ out.old.items ++ row_text form.now.kind form.now.open_break margin margin form.now.parts) }
+#[tactic(auto, using(crate::proofs::Pushing::pushed_twice, crate::proofs::Writing::row_next, crate::proofs::Writing::row_end))]
+pub fn push_row(out: &mut Draft, form: &Form, margin: usize) -> Result<(), Memory>
+    ensures { OnOk result (out.new ≡ pushed out.old (row_text form.now.kind form.now.open_break margin margin form.now.parts)) }
 {
     let row = form.parts.as_slice();
     if let [name, sign, value] = row
         && is_assignment(form, name, sign, value)
     {
-        push_expr(out, name, margin, limit)?;
-        out.extend_from_slice(b" = ")?;
-        return push_expr(out, value, margin, limit);
+        push_expr(out, name, margin)?;
+        out.push_bytes(b" = ")?;
+        return push_expr(out, value, margin);
     }
     let mut inner = margin;
     for (i, part) in row.iter().enumerate() {
-        push_expr(out, part, inner, limit)?;
-        push_row_gap(out, form, margin, part, others(row, i), limit)?;
+        push_expr(out, part, inner)?;
+        push_row_gap(out, form, margin, part, others(row, i))?;
         inner = margin_after(form, margin, part)?;
     }
     Ok(())
@@ -82,63 +85,58 @@ pub fn push_row(out: &mut Vec<u8>, form: &Form, margin: usize, limit: usize) -> 
 
 /// Appends what is before the opening bracket of a sequence.
 #[cycle(push)]
-fn push_head(out: &mut Vec<u8>, head: &[Expr], margin: usize, limit: usize) -> Result<(), Memory>
-    ensures { OnOk result (out.new.items ≡ out.old.items ++ head_text margin head.now) }
+#[tactic(auto, using(crate::proofs::Pushing::pushed_twice, crate::proofs::Writing::head_next, crate::proofs::Writing::head_end))]
+fn push_head(out: &mut Draft, head: &[Expr], margin: usize) -> Result<(), Memory>
+    ensures { OnOk result (out.new ≡ pushed out.old (head_text margin head.now)) }
 {
     for expr in head {
-        push_expr(out, expr, margin, limit)?;
+        push_expr(out, expr, margin)?;
     }
     Ok(())
 }
 
-/// Appends what is in the sequence of a form at a margin, and this closing bracket. The error: a growth was refused, or the text
-/// is past the limit.
+/// Appends what is in the sequence of a form at a margin, and this closing bracket. The error: a growth was
+/// refused.
 #[cycle(push)]
-pub fn push_body(
-    out: &mut Vec<u8>,
-    form: &Form,
-    margin: usize,
-    closer: u8,
-    limit: usize,
-) -> Result<(), Memory>
-    ensures { OnOk result (out.new.items ≡ out.old.items ++ body_text form.now margin closer) }
+pub fn push_body(out: &mut Draft, form: &Form, margin: usize, closer: u8) -> Result<(), Memory>
+    ensures { OnOk result (out.new ≡ pushed out.old (body_text form.now margin closer)) }
 {
     let items = form.seq.items.as_slice();
     if is_broken(form) {
-        return push_stacked(out, items, form.seq.end.as_slice(), margin, closer, limit);
+        return push_stacked(out, items, form.seq.end.as_slice(), margin, closer);
     }
     let one = matches!(form.kind, Kind::Tuple) && items.len() == 1;
-    push_joined(out, items, margin, closer, one, limit)
+    push_joined(out, items, margin, closer, one)
 }
 
 /// Appends what is between an item on one line and the others that follow: a lone item may have a comma.
-fn push_comma(out: &mut Vec<u8>, others: &[Expr], one: bool) -> Result<(), Memory>
-    ensures { OnOk result (out.new.items ≡ out.old.items ++ comma_text one others.now) }
+#[tactic(auto, using(crate::proofs::Pushing::pushed_none))]
+fn push_comma(out: &mut Draft, others: &[Expr], one: bool) -> Result<(), Memory>
+    ensures { OnOk result (out.new ≡ pushed out.old (comma_text one others.now)) }
 {
     match others {
         [] if one => out.push(b',')?,
         [] => {}
-        _ => out.extend_from_slice(b", ")?,
+        _ => out.push_bytes(b", ")?,
     }
     Ok(())
 }
 
 /// Appends items joined by a comma and a space, and the closing bracket; after a lone item a comma where it is to have one.
 #[cycle(push)]
-#[tactic(auto, using(crate::proofs::Writing::joined_next))]
+#[tactic(auto, using(crate::proofs::Pushing::pushed_twice, crate::proofs::Writing::joined_next))]
 fn push_joined(
-    out: &mut Vec<u8>,
+    out: &mut Draft,
     items: &[Expr],
     margin: usize,
     closer: u8,
     one: bool,
-    limit: usize,
 ) -> Result<(), Memory>
-    ensures { OnOk result (out.new.items ≡ out.old.items ++ joined_text margin closer one items.now) }
+    ensures { OnOk result (out.new ≡ pushed out.old (joined_text margin closer one items.now)) }
 {
     let mut one = one;
     for (i, item) in items.iter().enumerate() {
-        push_expr(out, item, margin, limit)?;
+        push_expr(out, item, margin)?;
         push_comma(out, others(items, i), one)?;
         one = false;
     }
@@ -148,51 +146,48 @@ fn push_joined(
 
 /// Appends an item on lines of its own in a sequence at a margin: its comments above it, a comma, its suffix.
 #[cycle(push)]
-fn push_stacked_item(
-    out: &mut Vec<u8>,
-    item: &Expr,
-    margin: usize,
-    limit: usize,
-) -> Result<(), Memory>
-    ensures { OnOk result (out.new.items ≡ out.old.items ++ stacked_item_text margin item.now) }
+#[tactic(auto, using(crate::proofs::Pushing::pushed_twice))]
+fn push_stacked_item(out: &mut Draft, item: &Expr, margin: usize) -> Result<(), Memory>
+    ensures { OnOk result (out.new ≡ pushed out.old (stacked_item_text margin item.now)) }
 {
     let comments = item.comments();
     let inner = deeper_margin(margin)?;
-    push_new_line(out, inner, limit)?;
-    push_above(out, comments.before(), inner, limit)?;
-    push_expr(out, item, inner, limit)?;
+    out.push_new_line(inner)?;
+    out.push_above(comments.before(), inner)?;
+    push_expr(out, item, inner)?;
     out.push(b',')?;
-    push_after(out, comments.suffix())
+    out.push_after(comments.suffix())
 }
 
 /// Appends items on lines of their own, end comments, and the closing bracket.
 #[cycle(push)]
+#[tactic(auto, using(crate::proofs::Pushing::pushed_twice, crate::proofs::Writing::stacked_next, crate::proofs::Writing::stacked_end))]
 fn push_stacked(
-    out: &mut Vec<u8>,
+    out: &mut Draft,
     items: &[Expr],
     end: &[Text],
     margin: usize,
     closer: u8,
-    limit: usize,
 ) -> Result<(), Memory>
-    ensures { OnOk result (out.new.items ≡ out.old.items ++ stacked_text margin closer end.now items.now) }
+    ensures { OnOk result (out.new ≡ pushed out.old (stacked_text margin closer end.now items.now)) }
 {
     for item in items {
-        push_stacked_item(out, item, margin, limit)?;
+        push_stacked_item(out, item, margin)?;
     }
-    push_ended(out, end, margin, limit)?;
+    out.push_ended(end, margin)?;
     out.push(closer)?;
     Ok(())
 }
 
 /// Appends a statement on lines of its own: its comments above it, its suffix, a newline.
-fn push_statement(out: &mut Vec<u8>, expr: &Expr, limit: usize) -> Result<(), Memory>
-    ensures { OnOk result (out.new.items ≡ out.old.items ++ written.item_text (i.Stmt expr.now)) }
+#[tactic(auto, using(crate::proofs::Pushing::pushed_twice))]
+fn push_statement(out: &mut Draft, expr: &Expr) -> Result<(), Memory>
+    ensures { OnOk result (out.new ≡ pushed out.old (written.item_text (i.Stmt expr.now))) }
 {
     let comments = expr.comments();
-    push_comments(out, comments.before())?;
-    push_expr(out, expr, 0, limit)?;
-    push_after(out, comments.suffix())?;
+    out.push_comments(comments.before())?;
+    push_expr(out, expr, 0)?;
+    out.push_after(comments.suffix())?;
     out.push(b'\n')?;
     Ok(())
 }
@@ -201,18 +196,18 @@ fn push_statement(out: &mut Vec<u8>, expr: &Expr, limit: usize) -> Result<(), Me
 pub fn expr_text(alloc: Global, expr: &Expr) -> Result<Text, Memory>
     ensures { IfOk result (λ text. text ≡ written.text_of expr.now 0) }
 {
-    let mut out = Vec::new(alloc);
-    push_expr(&mut out, expr, 0, NO_LIMIT)?;
-    Ok(Text::from_vec(out))
+    let mut out = Draft::new(Vec::new(alloc), usize::MAX);
+    push_expr(&mut out, expr, 0)?;
+    Ok(Text::from_vec(out.into_bytes().ok_or(AllocError)?))
 }
 
 /// Appends an item of a file, with its newlines.
-fn push_item(out: &mut Vec<u8>, item: &Item, limit: usize) -> Result<(), Memory>
-    ensures { OnOk result (out.new.items ≡ out.old.items ++ written.item_text item.now) }
+pub fn push_item(out: &mut Draft, item: &Item) -> Result<(), Memory>
+    ensures { OnOk result (out.new ≡ pushed out.old (written.item_text item.now)) }
 {
     match item {
-        Item::Block(texts) => push_comments(out, texts.as_slice()),
-        Item::Stmt(expr) => push_statement(out, expr, limit),
+        Item::Block(texts) => out.push_comments(texts.as_slice()),
+        Item::Stmt(expr) => push_statement(out, expr),
     }
 }
 
@@ -220,18 +215,29 @@ fn push_item(out: &mut Vec<u8>, item: &Item, limit: usize) -> Result<(), Memory>
 pub fn item_text(alloc: Global, item: &Item) -> Result<Text, Memory>
     ensures { IfOk result (λ text. text ≡ written.item_text item.now) }
 {
-    let mut out = Vec::new(alloc);
-    push_item(&mut out, item, NO_LIMIT)?;
-    Ok(Text::from_vec(out))
+    let mut out = Draft::new(Vec::new(alloc), usize::MAX);
+    push_item(&mut out, item)?;
+    Ok(Text::from_vec(out.into_bytes().ok_or(AllocError)?))
 }
 
-/// Appends the layout of items. The error: a growth was refused, or the text is past the limit.
-#[tactic(auto, using(crate::proofs::Writing::layout_next))]
-pub fn push_items(out: &mut Vec<u8>, items: &[Item], limit: usize) -> Result<(), Memory>
-    ensures { OnOk result (out.new.items ≡ out.old.items ++ written.layout items.now) }
+/// Appends what is between an item and those that follow.
+#[tactic(auto, using(crate::proofs::Pushing::pushed_none))]
+fn push_between(out: &mut Draft, item: &Item, others: &[Item]) -> Result<(), Memory>
+    ensures { OnOk result (out.new ≡ pushed out.old (before_next item.now others.now)) }
+{
+    if is_apart(item, others) {
+        out.push(b'\n')?;
+    }
+    Ok(())
+}
+
+/// Appends the layout of items. The error: a growth was refused.
+#[tactic(auto, using(crate::proofs::Pushing::pushed_twice, crate::proofs::Writing::layout_next, crate::proofs::Writing::layout_end, crate::proofs::Writing::rest_here))]
+pub fn push_items(out: &mut Draft, items: &[Item]) -> Result<(), Memory>
+    ensures { OnOk result (out.new ≡ pushed out.old (written.layout items.now)) }
 {
     for (i, item) in items.iter().enumerate() {
-        push_item(out, item, limit)?;
+        push_item(out, item)?;
         push_between(out, item, &items[i + 1..])?;
     }
     Ok(())

@@ -9,7 +9,7 @@ ghost use Rattle.bz_attribute.specs.Attributes.{on_first_that};
 ghost use Rattle.bz_attribute.specs.Lists.{are_one, fresh, is_item as is_item_of, items_in, listed as as_listed, with_more};
 ghost use Rattle.bz_attribute.specs.Made.{list_of as list_made, string_of as string_made};
 ghost use Rattle.bz_list.specs.Changes.{with_items_added};
-ghost use Rattle.bz_list.specs.private.KnownValues.{knows};
+ghost use Rattle.bz_list.specs.private.KnownValues.{knows_word};
 ghost use Rattle.bz_list.specs.private.Listing.{added_by, added_to, is_item_ending, new_items, new_strings, value_with};
 ghost use Rattle.bz_rule.specs.Rules.{inner};
 
@@ -41,8 +41,8 @@ fn push_word(
     known: &mut Known,
     items: &mut Vec<Expr>,
 ) -> Result<(), Memory>
-    ensures { (rest : List Bytes) → OnOk result (items.new.items ++ new_strings slot.entry.current.now slot.entry.attribute.now (knows slot.entry.current.now slot.entry.attribute.now known.new) rest
-        ≡ items.old.items ++ new_strings slot.entry.current.now slot.entry.attribute.now (knows slot.entry.current.now slot.entry.attribute.now known.old) (word.now ∷ rest)) }
+    ensures { (rest : List Bytes) → OnOk result (items.new.items ++ new_strings slot.entry.current.now slot.entry.attribute.now (knows_word slot.entry.current.now slot.entry.attribute.now known.new) rest
+        ≡ items.old.items ++ new_strings slot.entry.current.now slot.entry.attribute.now (knows_word slot.entry.current.now slot.entry.attribute.now known.old) (word.now ∷ rest)) }
 {
     if known.insert(slot, Some(word))? {
         items.push(string_of(slot, word)?)?;
@@ -57,8 +57,8 @@ fn push_item(
     known: &mut Known,
     items: &mut Vec<Expr>,
 ) -> Result<(), Memory>
-    ensures { (rest : List Value) → OnOk result (items.new.items ++ new_items slot.entry.current.now slot.entry.attribute.now (knows slot.entry.current.now slot.entry.attribute.now known.new) rest
-        ≡ items.old.items ++ new_items slot.entry.current.now slot.entry.attribute.now (knows slot.entry.current.now slot.entry.attribute.now known.old) (x ∷ rest)) }
+    ensures { (rest : List Value) → OnOk result (items.new.items ++ new_items slot.entry.current.now slot.entry.attribute.now (knows_word slot.entry.current.now slot.entry.attribute.now known.new) rest
+        ≡ items.old.items ++ new_items slot.entry.current.now slot.entry.attribute.now (knows_word slot.entry.current.now slot.entry.attribute.now known.old) (x ∷ rest)) }
 {
     if known.insert(slot, body_of(&x))? {
         Change::Shorten.on_item(slot, &mut x)?;
@@ -69,7 +69,7 @@ fn push_item(
 
 /// The items that are added to those that are known, each once.
 fn added_items(slot: Slot<'_>, added: Added<'_>, mut known: Known) -> Result<Vec<Expr>, Memory>
-    ensures { IfOk result (λ items. items.items ≡ added_to slot.entry.current.now slot.entry.attribute.now added.entry (knows slot.entry.current.now slot.entry.attribute.now known)) }
+    ensures { IfOk result (λ items. items.items ≡ added_to slot.entry.current.now slot.entry.attribute.now added.entry (knows_word slot.entry.current.now slot.entry.attribute.now known)) }
 {
     let mut items = Vec::new(slot.alloc);
     match added {

@@ -5,7 +5,7 @@ ghost use Rattle.std.specs.Option.{option_copied, option_map, option_map_or};
 ghost use Rattle.bz_label.specs.Forms.{label_of};
 ghost use Rattle.bz_attribute.specs.Lists.{body_of as plain, items_in, is_some_item, listed as as_listed};
 ghost use Rattle.bz_list.specs.Changes.{is_moved};
-ghost use Rattle.bz_list.specs.private.KnownValues.{parts_of_key, word_key, label_meant, knows, is_known, with_known, with_all};
+ghost use Rattle.bz_list.specs.private.KnownValues.{parts_of_key, word_key, label_meant, knows_word, is_known, with_known, with_all};
 ghost use Rattle.bz_list.specs.private.Listing.{chooses};
 
 use bz_attribute::{Slot, body_of, has_kind, items_of, operands_of};
@@ -87,7 +87,7 @@ impl Known {
     /// No values of an attribute.
     #[tactic(auto, using(crate::proofs::KnownSteps::none_known))]
     pub(crate) fn new(slot: Slot<'_>) -> Known
-        ensures { knows slot.entry.current.now slot.entry.attribute.now result ≡ (λ word. false) }
+        ensures { knows_word slot.entry.current.now slot.entry.attribute.now result ≡ (λ word. false) }
     {
         Known {
             keys: BTreeSet::new(slot.alloc),
@@ -97,7 +97,7 @@ impl Known {
     /// Whether the item is a plain string that means one of them.
     #[tactic(auto, using(crate::proofs::KnownSteps::key_found))]
     fn has(&self, slot: Slot<'_>, x: &Expr) -> Result<bool, Memory>
-        ensures { IfOk result (λ found. found ≡ is_known plain (knows slot.entry.current.now slot.entry.attribute.now self.now) x.now) }
+        ensures { IfOk result (λ found. found ≡ is_known plain (knows_word slot.entry.current.now slot.entry.attribute.now self.now) x.now) }
     {
         let Some(text) = body_of(x) else {
             return Ok(false);
@@ -109,9 +109,9 @@ impl Known {
     /// The word is one of them from now on. The answer is whether it is a new one; where there is no word, it is.
     #[tactic(auto, using(crate::proofs::KnownSteps::key_found, crate::proofs::KnownSteps::key_inserted, crate::proofs::KnownSteps::key_again))]
     pub(crate) fn insert(&mut self, slot: Slot<'_>, word: Option<&[u8]>) -> Result<bool, Memory>
-        ensures is_new { IfOk result (λ is_new. is_new ≡ not (option_map_or (knows slot.entry.current.now slot.entry.attribute.now self.old) (option_copied word.entry) false)) }
-        ensures known { OnOk result (knows slot.entry.current.now slot.entry.attribute.now self.new ≡ with_known slot.entry.current.now slot.entry.attribute.now (option_copied word.entry) (knows slot.entry.current.now slot.entry.attribute.now self.old)) }
-        ensures again { IfOk result (λ is_new. OnFalse is_new (knows slot.entry.current.now slot.entry.attribute.now self.new ≡ knows slot.entry.current.now slot.entry.attribute.now self.old)) }
+        ensures is_new { IfOk result (λ is_new. is_new ≡ not (option_map_or (knows_word slot.entry.current.now slot.entry.attribute.now self.old) (option_copied word.entry) false)) }
+        ensures known { OnOk result (knows_word slot.entry.current.now slot.entry.attribute.now self.new ≡ with_known slot.entry.current.now slot.entry.attribute.now (option_copied word.entry) (knows_word slot.entry.current.now slot.entry.attribute.now self.old)) }
+        ensures again { IfOk result (λ is_new. OnFalse is_new (knows_word slot.entry.current.now slot.entry.attribute.now self.new ≡ knows_word slot.entry.current.now slot.entry.attribute.now self.old)) }
     {
         let Some(word) = word else {
             return Ok(true);
@@ -121,7 +121,7 @@ impl Known {
     }
 
     fn insert_words(&mut self, slot: Slot<'_>, words: &[Text]) -> Result<(), Memory>
-        ensures { OnOk result (knows slot.entry.current.now slot.entry.attribute.now self.new ≡ with_all slot.entry.current.now slot.entry.attribute.now (λ word. Some word) words.now (knows slot.entry.current.now slot.entry.attribute.now self.old)) }
+        ensures { OnOk result (knows_word slot.entry.current.now slot.entry.attribute.now self.new ≡ with_all slot.entry.current.now slot.entry.attribute.now (λ word. Some word) words.now (knows_word slot.entry.current.now slot.entry.attribute.now self.old)) }
     {
         for word in words {
             self.insert(slot, Some(word.as_slice()))?;
@@ -130,7 +130,7 @@ impl Known {
     }
 
     fn insert_items(&mut self, slot: Slot<'_>, items: &[Expr]) -> Result<(), Memory>
-        ensures { OnOk result (knows slot.entry.current.now slot.entry.attribute.now self.new ≡ with_all slot.entry.current.now slot.entry.attribute.now plain items.now (knows slot.entry.current.now slot.entry.attribute.now self.old)) }
+        ensures { OnOk result (knows_word slot.entry.current.now slot.entry.attribute.now self.new ≡ with_all slot.entry.current.now slot.entry.attribute.now plain items.now (knows_word slot.entry.current.now slot.entry.attribute.now self.old)) }
     {
         for x in items {
             self.insert(slot, body_of(x))?;
@@ -141,7 +141,7 @@ impl Known {
     /// The items of the lists of a value are some of them from now on.
     #[tactic(auto, using(crate::proofs::KnownSteps::lists_next))]
     pub(crate) fn insert_value(&mut self, slot: Slot<'_>, value: &Expr) -> Result<(), Memory>
-        ensures { OnOk result (knows slot.entry.current.now slot.entry.attribute.now self.new ≡ with_all slot.entry.current.now slot.entry.attribute.now plain (items_in value.now) (knows slot.entry.current.now slot.entry.attribute.now self.old)) }
+        ensures { OnOk result (knows_word slot.entry.current.now slot.entry.attribute.now self.new ≡ with_all slot.entry.current.now slot.entry.attribute.now plain (items_in value.now) (knows_word slot.entry.current.now slot.entry.attribute.now self.old)) }
     {
         for x in operands_of(value) {
             self.insert_items(slot, listed(x))?;

@@ -5,6 +5,7 @@ use Rattle.bz_value.specs.declared.value.Item.{Item}
 use Rattle.bz_value.specs.declared.value.Item.TheVariants as i
 use Rattle.bz_items.specs.Characters.{Bytes}
 use Rattle.bz_layout.specs.LaidOut.{own_lines, left_gap, before_next}
+use Rattle.bz_layout.specs.Written.{item_text}
 
 -- the place of an item's own line, where it is to be at this place
 abbrev pub own_places : ℕ → Item → List ℕ
@@ -33,3 +34,9 @@ abbrev pub marked_items : List Bool → List Item → List Item
 marked_items [] items = []
 marked_items (mark ∷ marks) [] = []
 marked_items (mark ∷ marks) (item ∷ items) = (if mark then (item ∷ []) else []) ++ marked_items marks items
+
+-- their own lines, as text
+abbrev pub marked_text : List Bool → List Item → Bytes
+marked_text [] items = []
+marked_text (mark ∷ marks) [] = []
+marked_text (mark ∷ marks) (item ∷ items) = (if mark then item_text item else []) ++ marked_text marks items

@@ -8,7 +8,7 @@ use Rattle.bz_list.specs.declared.known.Chosen.TheVariants as h
 use Rattle.bz_attribute.specs.Attributes.{with_value, is_other_attribute, on_value}
 use Rattle.bz_attribute.specs.Lists.{body_of, items_in, is_item, fresh, travelled, arriving, has_lists, with_more}
 use Rattle.bz_list.specs.Changes.{cleared, without_items, in_value, replaced_item, substituted_item}
-use Rattle.bz_list.specs.private.KnownValues.{knows, is_known, new_ones}
+use Rattle.bz_list.specs.private.KnownValues.{knows_word, is_known, new_ones}
 use Rattle.bz_list.specs.declared.adding.Added.{Added}
 use Rattle.bz_list.specs.declared.adding.Added.TheVariants as a
 use Rattle.bz_attribute.specs.Made.{list_of, plus, string_of}
@@ -20,7 +20,7 @@ use Rattle.bz_list.specs.declared.replacing.Change.TheVariants.{Replace, Substit
 -- whether a command is meant for an item of an attribute
 abbrev pub chooses : Bytes → Bytes → Chosen → Expr → Bool
 chooses current name h.All x = true
-chooses current name (h.These known) x = is_known body_of (knows current name known) x
+chooses current name (h.These known) x = is_known body_of (knows_word current name known) x
 
 abbrev pub is_left : Bytes → Bytes → Chosen → Expr → Bool
 is_left current name chosen x = not (chooses current name chosen x)

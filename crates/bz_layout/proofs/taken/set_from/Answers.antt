@@ -1,16 +1,14 @@
-use Rattle.std.proofs.Common.{◌≤◌, [], length, ap, ◌∙◌, subst}
-use Rattle.bz_grammar.specs.Spell.{limit, depth_limit, depth_of}
+use Rattle.std.proofs.Common.{[], ap, ◌∙◌, subst}
 use Rattle.bz_value.specs.Proper.{IsProper}
-use Rattle.bz_layout.specs.LaidOut.{laid_out, lines_from}
-use Rattle.bz_layout.specs.Written.{layout}
+use Rattle.bz_layout.specs.LaidOut.{lines_from}
 use Rattle.bz_layout.proofs.Settings.{legal_file, text_of_file, view_of_file}
 use Rattle.bz_layout.proofs.taken.set_from.Goals as goal
 
 pub invariant_of-result : goal.invariant_of-result
 invariant_of-result c =
     legal_file c.args.file c.in_ok-lay_out_each.field-0 (subst (λ xs. IsProper xs) c.file.view_is c.file.invariant) (c.in_ok-lay_out_each.ensures ∙ ap (lines_from []) c.file.view_is)
-    (subst (λ xs. length (layout xs) ≤ limit) (c.as_slice.ensures ∙ c.file.view_is) c.in_default.ensures.short)
-    (subst (λ xs. depth_of (laid_out xs) ≤ depth_limit) (c.as_slice.ensures ∙ c.file.view_is) c.in_default.ensures.shallow)
+    c.in_default.ensures.short
+    c.in_default.ensures.shallow
 
 pub returns-clause-text : goal.returns-clause-text
 returns-clause-text c = text_of_file c.args.file c.in_ok-lay_out_each.field-0 (subst (λ xs. IsProper xs) c.file.view_is c.file.invariant) (c.in_ok-lay_out_each.ensures ∙ ap (lines_from []) c.file.view_is)

@@ -1,6 +1,6 @@
 use Rattle.std.proofs.Common.{◌≡◌, ◌++◌, drop}
 use Rattle.std.specs.Vec.Iter.{into_iter_items}
-use Rattle.bz_list.specs.private.KnownValues.{knows}
+use Rattle.bz_list.specs.private.KnownValues.{knows_word}
 use Rattle.bz_list.specs.private.Listing.{added_to, new_items, new_strings}
 use Rattle.bz_list.proofs.adding.added_items.Given as goal
 
@@ -8,10 +8,10 @@ abbrev pub invariant-loop-word : goal.invariant-loop-word
 invariant-loop-word l =
     let current = l.fn.slot.current.now in
     let attribute = l.fn.slot.attribute.now in
-    l.items.items ++ new_strings current attribute (knows current attribute l.known) (drop l.word-index l.words) ≡ added_to current attribute l.fn.added (knows current attribute l.fn.known)
+    l.items.items ++ new_strings current attribute (knows_word current attribute l.known) (drop l.word-index l.words) ≡ added_to current attribute l.fn.added (knows_word current attribute l.fn.known)
 
 abbrev pub invariant-loop-x : goal.invariant-loop-x
 invariant-loop-x l =
     let current = l.fn.slot.current.now in
     let attribute = l.fn.slot.attribute.now in
-    l.items.items ++ new_items current attribute (knows current attribute l.known) (into_iter_items l.x-iterator) ≡ added_to current attribute l.fn.added (knows current attribute l.fn.known)
+    l.items.items ++ new_items current attribute (knows_word current attribute l.known) (into_iter_items l.x-iterator) ≡ added_to current attribute l.fn.added (knows_word current attribute l.fn.known)

@@ -2,7 +2,7 @@ use Rattle.std.proofs.Common.{◌≡◌, Option, sym, ap, ◌∙◌, rules}
 use Rattle.std.specs.Prelude.{Some}
 use Rattle.std.specs.Option.{option_copied}
 use Rattle.bz_items.specs.Characters.{Bytes}
-use Rattle.bz_list.specs.private.KnownValues.{knows, with_known}
+use Rattle.bz_list.specs.private.KnownValues.{knows_word, with_known}
 use Rattle.bz_list.proofs.KnownSteps.{key_inserted}
 use Rattle.bz_list.proofs.known.Known.insert.Goals as goal
 
@@ -12,4 +12,4 @@ returns-clause-known c =
     let attribute = c.args.slot.attribute.now in
     let own : option_copied c.args.word ≡ Some c.in-Some.word.now = search rules in
     key_inserted current attribute c.in-Some.word.now c.args.self.now.keys c.insert.new.self c.in_ok-key.key c.in_ok-key.ensures c.in_ok-insert.ensures.keys
-    ∙ ap (λ (word : Option Bytes). with_known current attribute word (knows current attribute c.args.self.now)) (sym own)
+    ∙ ap (λ (word : Option Bytes). with_known current attribute word (knows_word current attribute c.args.self.now)) (sym own)

@@ -1,10 +1,10 @@
 use Rattle.std.proofs.Common.{◌≡◌, drop}
 use Rattle.std.specs.Prelude.{Some}
-use Rattle.bz_list.specs.private.KnownValues.{knows, with_all}
+use Rattle.bz_list.specs.private.KnownValues.{knows_word, with_all}
 use Rattle.bz_list.proofs.known.Known.insert_words.Given as goal
 
 abbrev pub invariant-loop-word : goal.invariant-loop-word
 invariant-loop-word l =
     let current = l.fn.slot.current.now in
     let attribute = l.fn.slot.attribute.now in
-    with_all current attribute (λ word. Some word) (drop l.word-index l.words) (knows current attribute l.self) ≡ with_all current attribute (λ word. Some word) l.words (knows current attribute l.fn.self)
+    with_all current attribute (λ word. Some word) (drop l.word-index l.words) (knows_word current attribute l.self) ≡ with_all current attribute (λ word. Some word) l.words (knows_word current attribute l.fn.self)

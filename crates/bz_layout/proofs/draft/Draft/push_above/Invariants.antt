@@ -1,0 +1,7 @@
+use Rattle.std.proofs.Common.{◌≡◌, drop}
+use Rattle.bz_layout.specs.Drafts.{pushed}
+use Rattle.bz_layout.specs.Layout.{margin_lines}
+use Rattle.bz_layout.proofs.draft.Draft.push_above.Given as goal
+
+abbrev pub invariant-loop-text : goal.invariant-loop-text
+invariant-loop-text l = pushed l.self (margin_lines l.margin (drop l.text-index l.texts)) ≡ pushed l.fn.self (margin_lines l.margin l.texts)
