@@ -148,7 +148,11 @@ fn is_apart_from(item: &BzlItem, others: &[BzlItem]) -> bool
 
 /// Appends what is between an item and those that follow.
 #[tactic(auto, using(crate::proofs::Pushed::pushed_none))]
-pub fn push_between(out: &mut Draft, item: &BzlItem, others: &[BzlItem]) -> Result<(), Memory>
+pub(crate) fn push_between(
+    out: &mut Draft,
+    item: &BzlItem,
+    others: &[BzlItem],
+) -> Result<(), Memory>
     ensures { OnOk result (out.new ≡ pushed out.old (layout.before_others item.now others.now)) }
 {
     if is_apart_from(item, others) {
