@@ -12,6 +12,7 @@ pub mod FlaggedProper
 pub mod Framed
 pub mod Gapped
 pub mod Joined
+pub mod JoinedNames
 pub mod LegalFiles
 pub mod LegalParts
 pub mod LinesBack

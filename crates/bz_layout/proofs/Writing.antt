@@ -42,7 +42,7 @@ row_gap : (kind : Kind) (open_break : Bool) (m n : ℕ) (x : Expr) (xs : List Ex
 row_gap kind open_break m n x [] = refl
 row_gap kind open_break m n x (y ∷ ys) = append_assoc (gap_after kind open_break m x (y ∷ ys)) (text_of y n) _
 
-row_first : (kind : Kind) (open_break : Bool) (m n : ℕ) (x : Expr) (xs : List Expr) →
+pub row_first : (kind : Kind) (open_break : Bool) (m n : ℕ) (x : Expr) (xs : List Expr) →
     row_text kind open_break m n (x ∷ xs) ≡ text_of x n ++ (gap_after kind open_break m x xs ++ row_text kind open_break m (margin_after open_break m x) xs)
 row_first kind open_break m n x xs =
     ap (λ ys. text_of x n ++ written (rowed kind open_break m (gap_after kind open_break m x ys) (margin_after open_break m x) (writings xs))) (values_writings xs) ∙

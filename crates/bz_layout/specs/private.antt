@@ -2,5 +2,6 @@
 pub mod Brackets
 pub mod Marks
 pub mod RowGaps
+pub mod Spines
 pub mod Taken
 pub mod Windows

@@ -26,7 +26,7 @@ impl Model for Draft {
 }
 
 impl Draft {
-    /// A draft that begins with a text, up to a limit of so many bytes.
+    /// A draft that begins with a text, up to this many bytes.
     pub fn new(text: Vec<u8>, limit: usize) -> Draft
         ensures { result ≡ drafted limit text.items }
     {

@@ -4,6 +4,7 @@
 mod brackets;
 mod breaks;
 mod depth;
+mod dotted;
 mod draft;
 mod gaps;
 mod laws;

@@ -9,6 +9,7 @@ ghost use Rattle.bz_layout.specs.Writings.{row_text, head_text, comma_text, join
 
 use crate::brackets::{Brackets, brackets_of_kind};
 use crate::breaks::is_broken;
+use crate::dotted::{is_dot, push_dotted};
 use crate::draft::Draft;
 use crate::gaps::deeper_margin;
 use crate::lines::is_apart;
@@ -73,6 +74,9 @@ pub fn push_row(out: &mut Draft, form: &Form, margin: usize) -> Result<(), Memor
         push_expr(out, name, margin)?;
         out.push_bytes(b" = ")?;
         return push_expr(out, value, margin);
+    }
+    if is_dot(form) && push_dotted(out, form, margin)? {
+        return Ok(());
     }
     let mut inner = margin;
     for (i, part) in row.iter().enumerate() {

@@ -1,0 +1,15 @@
+use Rattle.std.proofs.Common.{arith}
+use Rattle.bz_layout.proofs.JoinedNames.{front_turn, next_turn, all_turned}
+use Rattle.bz_layout.proofs.dotted.push_dotted.Goals as goal
+
+pub loop-front-preserved : goal.loop-front-preserved
+loop-front-preserved c =
+    front_turn (λ f. f.now) c.args.margin c.args.form.now c.in-Some.front.now c.loop-front.outer.items c.push.new.self.items c.loop-front.at c.in_ok-push.ensures.items c.loop-front.invariant
+    (c.in-Some.ensures.row c.args.margin)
+
+pub loop-next-preserved : goal.loop-next-preserved
+loop-next-preserved c =
+    next_turn (λ f. f.now) c.args.margin _ _ _ c.loop-next.outer.items c.pop.new.self.items c.in-Some-pop.next c.in-Some-pop.ensures.items c.loop-next.invariant c.in_ok-push_after_first.ensures
+
+pub returns-clause-dotted : goal.returns-clause-dotted
+returns-clause-dotted c _ = all_turned (λ f. f.now) c.args.margin _ c.loop-next.out c.loop-next.outer.items (omega (arith, c.loop-next.outer.ok, c.in_default-pop.ensures.cases.0)) c.loop-next.invariant

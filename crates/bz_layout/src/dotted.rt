@@ -1,0 +1,131 @@
+//! Names joined by dots, as text: forms of which each is the first part of the next one. A text has room for 32,764 of them, so no call
+//! goes into them.
+ghost use Rattle.std.specs.Prelude.{◌≡◌, ◌<◌, ◌++◌, ℕ, Ok, true, false, IsTrue, IfSome, OnOk};
+ghost use Rattle.std.specs.List.{list_all};
+ghost use Rattle.bz_grammar.specs.declared.kind.Kind.TheVariants as kinds;
+ghost use Rattle.bz_value.specs.declared.value.Expr.TheVariants as e;
+ghost use Rattle.bz_rule.specs.private.Named.{fronts};
+ghost use Rattle.bz_layout.specs.Drafts.{pushed};
+ghost use Rattle.bz_layout.specs.private.Spines.{after_first, is_token as is_leaf, row_of, tokens_after};
+
+use crate::draft::Draft;
+use crate::row_gaps::push_row_gap;
+use bz_grammar::Kind;
+use bz_items::Memory;
+use bz_rule::text_of;
+use bz_value::{Expr, Form};
+
+fn is_token(part: &Expr) -> bool
+    ensures { result ≡ is_leaf part.now }
+{
+    matches!(part, Expr::Token(_))
+}
+
+fn are_tokens(parts: &[Expr]) -> bool
+    ensures { result ≡ list_all is_leaf parts.now }
+{
+    parts.iter().all(is_token)
+}
+
+/// Whether a form is of names joined by dots.
+pub fn is_dot(form: &Form) -> bool
+    ensures { IsTrue result → form.now.kind ≡ kinds.Dot }
+{
+    matches!(form.kind, Kind::Dot)
+}
+
+/// The form of names joined by dots that the expression is, where it is one.
+fn dot_in(part: &Expr) -> Option<&Form>
+    ensures { IfSome result (λ front. (part.now ≡ e.Form front.now) × (front.now.kind ≡ kinds.Dot)) }
+{
+    match part {
+        Expr::Form(front) if is_dot(front) => Some(front),
+        _ => None,
+    }
+}
+
+/// The form that a row begins with, where it is of names joined by dots and tokens alone follow.
+#[tactic(auto, using(crate::proofs::JoinedNames::front_row, crate::proofs::JoinedNames::front_is_less))]
+fn front_of(form: &Form) -> Option<&Form>
+    ensures row { IfSome result (λ front. (margin : ℕ) → row_of margin form.now ≡ row_of margin front.now ++ after_first margin form.now) }
+    ensures less { IfSome result (λ front. fronts (e.Form front.now) < fronts (e.Form form.now)) }
+{
+    let [first, tokens @ ..] = form.parts.as_slice() else {
+        return None;
+    };
+    let front = dot_in(first)?;
+    if !are_tokens(tokens) {
+        return None;
+    }
+    Some(front)
+}
+
+/// Appends tokens that follow a part of a row, each after its gap.
+#[tactic(auto, using(crate::proofs::Pushing::pushed_twice, crate::proofs::Pushing::pushed_none, crate::proofs::JoinedNames::tokens_next, crate::proofs::JoinedNames::tokens_end))]
+fn push_tokens(
+    out: &mut Draft,
+    form: &Form,
+    margin: usize,
+    first: &Expr,
+    tokens: &[Expr],
+) -> Result<(), Memory>
+    ensures { OnOk result (out.new ≡ pushed out.old (tokens_after form.now.kind form.now.open_break margin first.now tokens.now)) }
+{
+    let mut before = first;
+    for (i, token) in tokens.iter().enumerate() {
+        push_row_gap(out, form, margin, before, &tokens[i..])?;
+        out.push_bytes(text_of(token))?;
+        before = token;
+    }
+    Ok(())
+}
+
+/// Appends what follows the first part of a row, where that is tokens.
+#[tactic(auto, using(crate::proofs::JoinedNames::none_after))]
+fn push_after_first(out: &mut Draft, form: &Form, margin: usize) -> Result<(), Memory>
+    ensures { OnOk result (out.new ≡ pushed out.old (after_first margin form.now)) }
+{
+    match form.parts.as_slice() {
+        [first, tokens @ ..] => push_tokens(out, form, margin, first, tokens),
+        [] => Ok(()),
+    }
+}
+
+/// Appends a row of tokens, and says whether it is one; else nothing is appended.
+#[tactic(auto, using(crate::proofs::Pushing::pushed_twice, crate::proofs::JoinedNames::leaves_row))]
+fn push_leaves(out: &mut Draft, form: &Form, margin: usize) -> Result<bool, Memory>
+    ensures leaves { result ≡ Ok true → out.new ≡ pushed out.old (row_of margin form.now) }
+    ensures other { result ≡ Ok false → out.new ≡ out.old }
+{
+    let row = form.parts.as_slice();
+    let [first, ..] = row else {
+        return Ok(false);
+    };
+    if !are_tokens(row) {
+        return Ok(false);
+    }
+    out.push_bytes(text_of(first))?;
+    push_after_first(out, form, margin)?;
+    Ok(true)
+}
+
+/// Appends the row of names joined by dots, and says whether it is one; else nothing is appended. The error: a growth was refused.
+#[tactic(auto, using(crate::proofs::Pushing::pushed_twice, crate::proofs::JoinedNames::after_pushed))]
+pub fn push_dotted(out: &mut Draft, form: &Form, margin: usize) -> Result<bool, Memory>
+    ensures dotted { result ≡ Ok true → out.new ≡ pushed out.old (row_of margin form.now) }
+    ensures other { result ≡ Ok false → out.new ≡ out.old }
+{
+    let mut outer = Vec::new(form.parts.alloc());
+    let mut at = form;
+    while let Some(front) = front_of(at) {
+        outer.push(at)?;
+        at = front;
+    }
+    if !push_leaves(out, at, margin)? {
+        return Ok(false);
+    }
+    while let Some(next) = outer.pop() {
+        push_after_first(out, next, margin)?;
+    }
+    Ok(true)
+}
