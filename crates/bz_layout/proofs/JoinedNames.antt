@@ -18,32 +18,32 @@ use Rattle.bz_layout.specs.Layout.{gap_after, margin_after}
 use Rattle.bz_layout.specs.Written.{text_of}
 use Rattle.bz_layout.specs.Writings.{row_text}
 use Rattle.bz_layout.specs.private.Brackets.{brackets_of}
-use Rattle.bz_layout.specs.private.Spines.{is_token, row_of, tokens_after, after_first_of, after_first, after_all}
+use Rattle.bz_layout.specs.private.Spines.{is_lone_token, row_written, tokens_after, past_front_of, past_front, after_all}
 use Rattle.bz_layout.proofs.Pushing.{pushed_end, pushed_none, pushed_twice}
 use Rattle.bz_layout.proofs.Writing.{row_first, row_form}
 
-token_text : (x : Expr) (m : ℕ) → is_token x ≡ true → text_of x m ≡ v.text_of x
+token_text : (x : Expr) (m : ℕ) → is_lone_token x ≡ true → text_of x m ≡ v.text_of x
 token_text (Token t) m h = refl
 token_text (Form' kind s parts s' items end split open_break comments) m h = absurd cc
 
-pub row_tokens : (kind : Kind) (open_break : Bool) (m n : ℕ) (x : Expr) (xs : List Expr) → list_all is_token xs ≡ true →
+pub row_tokens : (kind : Kind) (open_break : Bool) (m n : ℕ) (x : Expr) (xs : List Expr) → list_all is_lone_token xs ≡ true →
     row_text kind open_break m n (x ∷ xs) ≡ text_of x n ++ tokens_after kind open_break m x xs
 row_tokens kind open_break m n x [] h = row_first kind open_break m n x []
 row_tokens kind open_break m n x (y ∷ ys) h =
-    let w = and_parts (is_token y) (list_all is_token ys) h in
+    let w = and_parts (is_lone_token y) (list_all is_lone_token ys) h in
     row_first kind open_break m n x (y ∷ ys) ∙
     ap (λ t. text_of x n ++ (gap_after kind open_break m x (y ∷ ys) ++ t))
     (row_tokens kind open_break m (margin_after open_break m x) y ys w.1 ∙ ap (λ t. t ++ tokens_after kind open_break m y ys) (token_text y (margin_after open_break m x) w.0))
 
 -- a row that begins with a form
-pub front_row : (form front : Form) (first : Expr) (tokens : List Expr) → form.parts ≡ first ∷ tokens → first ≡ e.Form front → front.kind ≡ k.Dot → list_all is_token tokens ≡ true → (m : ℕ) →
-    row_of m form ≡ row_of m front ++ after_first m form
+pub front_row : (form front : Form) (first : Expr) (tokens : List Expr) → form.parts ≡ first ∷ tokens → first ≡ e.Form front → front.kind ≡ k.Dot → list_all is_lone_token tokens ≡ true → (m : ℕ) →
+    row_written m form ≡ row_written m front ++ past_front m form
 front_row form front first tokens parts_are is dot all m =
     let parts : form.parts ≡ e.Form front ∷ tokens = parts_are ∙ ap (λ x. x ∷ tokens) is in
     ap (row_text form.kind form.open_break m m) parts ∙
     (row_tokens form.kind form.open_break m m (e.Form front) tokens all ∙
     (ap (λ t. t ++ tokens_after form.kind form.open_break m (e.Form front) tokens) (row_form front m (ap (λ kind. brackets_of (frame kind)) dot)) ∙
-    ap (λ xs. row_of m front ++ after_first_of form.kind form.open_break m xs) (sym parts)))
+    ap (λ xs. row_written m front ++ past_front_of form.kind form.open_break m xs) (sym parts)))
 
 pub front_is_less : (form front : Form) (first : Expr) (tokens : List Expr) → form.parts ≡ first ∷ tokens → first ≡ e.Form front → fronts (e.Form front) < fronts (e.Form form)
 front_is_less form front first tokens parts_are is =
@@ -60,25 +60,25 @@ first_of (y ∷ ys) x l is = ap (λ z. z ∷ ys) (sym is)
 
 -- the parts of a form as a list that is taken apart
 pub front_row_at : (form front : Form) (xs : List Expr) (first : Expr) → xs ≡ form.parts → 1 ≤ length xs → first ≡ get_or xs 0 first → (first ≡ e.Form front) × (front.kind ≡ k.Dot) →
-    true ≡ list_all is_token (take (length xs - 1) (drop 1 xs)) → (m : ℕ) → row_of m form ≡ row_of m front ++ after_first m form
+    true ≡ list_all is_lone_token (take (length xs - 1) (drop 1 xs)) → (m : ℕ) → row_written m form ≡ row_written m front ++ past_front m form
 front_row_at form front xs first same l is dot all m =
-    front_row form front first (drop 1 xs) (sym same ∙ first_of xs first l is) dot.0 dot.1 (sym (all ∙ ap (list_all is_token) (take_all (length xs - 1) (drop 1 xs) (all_left xs 1)))) m
+    front_row form front first (drop 1 xs) (sym same ∙ first_of xs first l is) dot.0 dot.1 (sym (all ∙ ap (list_all is_lone_token) (take_all (length xs - 1) (drop 1 xs) (all_left xs 1)))) m
 
 pub front_is_less_at : (form front : Form) (xs : List Expr) (first : Expr) → xs ≡ form.parts → 1 ≤ length xs → first ≡ get_or xs 0 first → first ≡ e.Form front → fronts (e.Form front) < fronts (e.Form form)
 front_is_less_at form front xs first same l is dot = front_is_less form front first (drop 1 xs) (sym same ∙ first_of xs first l is) dot
 
 -- a row of tokens
-pub leaves_row : (form : Form) (x : Expr) (xs : List Expr) (m : ℕ) → form.parts ≡ x ∷ xs → list_all is_token form.parts ≡ true → row_of m form ≡ v.text_of x ++ after_first m form
+pub leaves_row : (form : Form) (x : Expr) (xs : List Expr) (m : ℕ) → form.parts ≡ x ∷ xs → list_all is_lone_token form.parts ≡ true → row_written m form ≡ v.text_of x ++ past_front m form
 leaves_row form x xs m parts all =
-    let w = and_parts (is_token x) (list_all is_token xs) (ap (list_all is_token) (sym parts) ∙ all) in
+    let w = and_parts (is_lone_token x) (list_all is_lone_token xs) (ap (list_all is_lone_token) (sym parts) ∙ all) in
     ap (row_text form.kind form.open_break m m) parts ∙
     (row_tokens form.kind form.open_break m m x xs w.1 ∙
-    (ap (λ t. t ++ tokens_after form.kind form.open_break m x xs) (token_text x m w.0) ∙ ap (λ ys. v.text_of x ++ after_first_of form.kind form.open_break m ys) (sym parts)))
+    (ap (λ t. t ++ tokens_after form.kind form.open_break m x xs) (token_text x m w.0) ∙ ap (λ ys. v.text_of x ++ past_front_of form.kind form.open_break m ys) (sym parts)))
 
-pub none_after : (d : Drafted) (form : Form) (m : ℕ) → length form.parts < 1 → d ≡ pushed d (after_first m form)
+pub none_after : (d : Drafted) (form : Form) (m : ℕ) → length form.parts < 1 → d ≡ pushed d (past_front m form)
 none_after d form m l = none d form.kind form.open_break m form.parts l
   where
-    none : (d : Drafted) (kind : Kind) (open_break : Bool) (m : ℕ) (xs : List Expr) → length xs < 1 → d ≡ pushed d (after_first_of kind open_break m xs)
+    none : (d : Drafted) (kind : Kind) (open_break : Bool) (m : ℕ) (xs : List Expr) → length xs < 1 → d ≡ pushed d (past_front_of kind open_break m xs)
     none d kind open_break m [] l = sym (pushed_none d)
     none d kind open_break m (x ∷ xs) l = absurd (omega (arith, l))
 
@@ -105,28 +105,28 @@ tokens_turn d before_gap after_gap after_text kind open_break m x y text ys left
 pub tokens_end : (d : Drafted) (kind : Kind) (open_break : Bool) (m : ℕ) (x : Expr) (ys : List Expr) (i : ℕ) → length ys ≤ i → pushed d (tokens_after kind open_break m x (drop i ys)) ≡ d
 tokens_end d kind open_break m x ys i l = pushed_end (tokens_after kind open_break m x) d ys i refl l
 
-pub after_pushed : (m : ℕ) (forms : List Form) (form : Form) → after_all m (forms ++ form ∷ []) ≡ after_first m form ++ after_all m forms
-after_pushed m [] form = sym (append-nil (after_first m form))
-after_pushed m (outer ∷ forms) form = ap (λ t. t ++ after_first m outer) (after_pushed m forms form) ∙ append_assoc (after_first m form) (after_all m forms) (after_first m outer)
+pub after_pushed : (m : ℕ) (forms : List Form) (form : Form) → after_all m (forms ++ form ∷ []) ≡ past_front m form ++ after_all m forms
+after_pushed m [] form = sym (append-nil (past_front m form))
+after_pushed m (outer ∷ forms) form = ap (λ t. t ++ past_front m outer) (after_pushed m forms form) ∙ append_assoc (past_front m form) (after_all m forms) (past_front m outer)
 
 module _ {R : Type 0} (now : R → Form) (m : ℕ) where
   map_pushed : (xs : List R) (x : R) → map now (xs ++ x ∷ []) ≡ map now xs ++ now x ∷ []
   map_pushed [] x = refl
   map_pushed (y ∷ xs) x = ap (λ zs. now y ∷ zs) (map_pushed xs x)
 
-  all_pushed : (xs : List R) (x : R) → after_all m (map now (xs ++ x ∷ [])) ≡ after_first m (now x) ++ after_all m (map now xs)
+  all_pushed : (xs : List R) (x : R) → after_all m (map now (xs ++ x ∷ [])) ≡ past_front m (now x) ++ after_all m (map now xs)
   all_pushed xs x = ap (after_all m) (map_pushed xs x) ∙ after_pushed m (map now xs) (now x)
 
-  pub front_turn : (form front : Form) (old new : List R) (x : R) → new ≡ old ++ x ∷ [] → row_of m form ≡ row_of m (now x) ++ after_all m (map now old) →
-      row_of m (now x) ≡ row_of m front ++ after_first m (now x) → row_of m form ≡ row_of m front ++ after_all m (map now new)
+  pub front_turn : (form front : Form) (old new : List R) (x : R) → new ≡ old ++ x ∷ [] → row_written m form ≡ row_written m (now x) ++ after_all m (map now old) →
+      row_written m (now x) ≡ row_written m front ++ past_front m (now x) → row_written m form ≡ row_written m front ++ after_all m (map now new)
   front_turn form front old new x is so_far here =
-      so_far ∙ (ap (λ t. t ++ after_all m (map now old)) here ∙ (append_assoc (row_of m front) (after_first m (now x)) (after_all m (map now old)) ∙
-      ap (λ t. row_of m front ++ t) (sym (ap (λ xs. after_all m (map now xs)) is ∙ all_pushed old x))))
+      so_far ∙ (ap (λ t. t ++ after_all m (map now old)) here ∙ (append_assoc (row_written m front) (past_front m (now x)) (after_all m (map now old)) ∙
+      ap (λ t. row_written m front ++ t) (sym (ap (λ xs. after_all m (map now xs)) is ∙ all_pushed old x))))
 
   pub next_turn : (d before after : Drafted) (old new : List R) (x : R) → old ≡ new ++ x ∷ [] → pushed before (after_all m (map now old)) ≡ d →
-      after ≡ pushed before (after_first m (now x)) → pushed after (after_all m (map now new)) ≡ d
+      after ≡ pushed before (past_front m (now x)) → pushed after (after_all m (map now new)) ≡ d
   next_turn d before after old new x is so_far here =
-      ap (λ t. pushed t (after_all m (map now new))) here ∙ (pushed_twice before (after_first m (now x)) (after_all m (map now new)) ∙
+      ap (λ t. pushed t (after_all m (map now new))) here ∙ (pushed_twice before (past_front m (now x)) (after_all m (map now new)) ∙
       (ap (pushed before) (sym (ap (λ xs. after_all m (map now xs)) is ∙ all_pushed new x)) ∙ so_far))
 
   pub all_turned : (d out : Drafted) (left : List R) → length left ≡ 0 → pushed out (after_all m (map now left)) ≡ d → out ≡ d

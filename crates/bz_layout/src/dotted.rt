@@ -6,7 +6,7 @@ ghost use Rattle.bz_grammar.specs.declared.kind.Kind.TheVariants as kinds;
 ghost use Rattle.bz_value.specs.declared.value.Expr.TheVariants as e;
 ghost use Rattle.bz_rule.specs.private.Named.{fronts};
 ghost use Rattle.bz_layout.specs.Drafts.{pushed};
-ghost use Rattle.bz_layout.specs.private.Spines.{after_first, is_token as is_leaf, row_of, tokens_after};
+ghost use Rattle.bz_layout.specs.private.Spines.{past_front, is_lone_token, row_written, tokens_after};
 
 use crate::draft::Draft;
 use crate::row_gaps::push_row_gap;
@@ -16,13 +16,13 @@ use bz_rule::text_of;
 use bz_value::{Expr, Form};
 
 fn is_token(part: &Expr) -> bool
-    ensures { result ≡ is_leaf part.now }
+    ensures { result ≡ is_lone_token part.now }
 {
     matches!(part, Expr::Token(_))
 }
 
 fn are_tokens(parts: &[Expr]) -> bool
-    ensures { result ≡ list_all is_leaf parts.now }
+    ensures { result ≡ list_all is_lone_token parts.now }
 {
     parts.iter().all(is_token)
 }
@@ -47,7 +47,7 @@ fn dot_in(part: &Expr) -> Option<&Form>
 /// The form that a row begins with, where it is of names joined by dots and tokens alone follow.
 #[tactic(auto, using(crate::proofs::JoinedNames::front_row, crate::proofs::JoinedNames::front_is_less))]
 fn front_of(form: &Form) -> Option<&Form>
-    ensures row { IfSome result (λ front. (margin : ℕ) → row_of margin form.now ≡ row_of margin front.now ++ after_first margin form.now) }
+    ensures row { IfSome result (λ front. (margin : ℕ) → row_written margin form.now ≡ row_written margin front.now ++ past_front margin form.now) }
     ensures less { IfSome result (λ front. fronts (e.Form front.now) < fronts (e.Form form.now)) }
 {
     let [first, tokens @ ..] = form.parts.as_slice() else {
@@ -82,8 +82,8 @@ fn push_tokens(
 
 /// Appends what follows the first part of a row, where that is tokens.
 #[tactic(auto, using(crate::proofs::JoinedNames::none_after))]
-fn push_after_first(out: &mut Draft, form: &Form, margin: usize) -> Result<(), Memory>
-    ensures { OnOk result (out.new ≡ pushed out.old (after_first margin form.now)) }
+fn push_past_front(out: &mut Draft, form: &Form, margin: usize) -> Result<(), Memory>
+    ensures { OnOk result (out.new ≡ pushed out.old (past_front margin form.now)) }
 {
     match form.parts.as_slice() {
         [first, tokens @ ..] => push_tokens(out, form, margin, first, tokens),
@@ -94,7 +94,7 @@ fn push_after_first(out: &mut Draft, form: &Form, margin: usize) -> Result<(), M
 /// Appends a row of tokens, and says whether it is one; else nothing is appended.
 #[tactic(auto, using(crate::proofs::Pushing::pushed_twice, crate::proofs::JoinedNames::leaves_row))]
 fn push_leaves(out: &mut Draft, form: &Form, margin: usize) -> Result<bool, Memory>
-    ensures leaves { result ≡ Ok true → out.new ≡ pushed out.old (row_of margin form.now) }
+    ensures leaves { result ≡ Ok true → out.new ≡ pushed out.old (row_written margin form.now) }
     ensures other { result ≡ Ok false → out.new ≡ out.old }
 {
     let row = form.parts.as_slice();
@@ -105,14 +105,14 @@ fn push_leaves(out: &mut Draft, form: &Form, margin: usize) -> Result<bool, Memo
         return Ok(false);
     }
     out.push_bytes(text_of(first))?;
-    push_after_first(out, form, margin)?;
+    push_past_front(out, form, margin)?;
     Ok(true)
 }
 
 /// Appends the row of names joined by dots, and says whether it is one; else nothing is appended. The error: a growth was refused.
 #[tactic(auto, using(crate::proofs::Pushing::pushed_twice, crate::proofs::JoinedNames::after_pushed))]
 pub fn push_dotted(out: &mut Draft, form: &Form, margin: usize) -> Result<bool, Memory>
-    ensures dotted { result ≡ Ok true → out.new ≡ pushed out.old (row_of margin form.now) }
+    ensures dotted { result ≡ Ok true → out.new ≡ pushed out.old (row_written margin form.now) }
     ensures other { result ≡ Ok false → out.new ≡ out.old }
 {
     let mut outer = Vec::new(form.parts.alloc());
@@ -125,7 +125,7 @@ pub fn push_dotted(out: &mut Draft, form: &Form, margin: usize) -> Result<bool, 
         return Ok(false);
     }
     while let Some(next) = outer.pop() {
-        push_after_first(out, next, margin)?;
+        push_past_front(out, next, margin)?;
     }
     Ok(true)
 }

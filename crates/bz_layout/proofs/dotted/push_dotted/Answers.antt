@@ -9,7 +9,7 @@ loop-front-preserved c =
 
 pub loop-next-preserved : goal.loop-next-preserved
 loop-next-preserved c =
-    next_turn (λ f. f.now) c.args.margin _ _ _ c.loop-next.outer.items c.pop.new.self.items c.in-Some-pop.next c.in-Some-pop.ensures.items c.loop-next.invariant c.in_ok-push_after_first.ensures
+    next_turn (λ f. f.now) c.args.margin _ _ _ c.loop-next.outer.items c.pop.new.self.items c.in-Some-pop.next c.in-Some-pop.ensures.items c.loop-next.invariant c.in_ok-push_past_front.ensures
 
 pub returns-clause-dotted : goal.returns-clause-dotted
 returns-clause-dotted c _ = all_turned (λ f. f.now) c.args.margin _ c.loop-next.out c.loop-next.outer.items (omega (arith, c.loop-next.outer.ok, c.in_default-pop.ensures.cases.0)) c.loop-next.invariant
