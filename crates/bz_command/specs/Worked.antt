@@ -216,5 +216,5 @@ Prints =
     × (shown (codes "print") (Name (codes "z")) (x [] ∷ []) ≡ gives [])
     × (made (codes "print") (Name (codes "z")) (x [] ∷ []) ≡ refuses NoTarget)
 
-abbrev pub WorkedCommands : Type 0
-WorkedCommands = Rules × Attributes × Values × Dicts × Loads × Comments × Prints
+abbrev pub WorkedCommandEffects : Type 0
+WorkedCommandEffects = Rules × Attributes × Values × Dicts × Loads × Comments × Prints

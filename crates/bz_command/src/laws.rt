@@ -1,7 +1,7 @@
 //! Facts about the definitions, for readers: the functions do nothing.
 ghost use Rattle.bz_command.specs.Laws.{CommentsStay, EffectsStayProper, LinesMatter};
 ghost use Rattle.bz_command.specs.Table.{CommandsAreListed};
-ghost use Rattle.bz_command.specs.Worked.{WorkedCommands, WorkedEffects};
+ghost use Rattle.bz_command.specs.Worked.{WorkedCommandEffects, WorkedEffects};
 
 /// Worked rows: which rules of a small file value a target means.
 pub fn worked_effects()
@@ -10,7 +10,7 @@ pub fn worked_effects()
 
 /// Worked rows: what each command, as it is typed, makes of small file values and prints of them.
 pub fn worked_command_effects()
-    ensures { WorkedCommands }
+    ensures { WorkedCommandEffects }
 {}
 
 /// What a command that was read makes of a proper file value is a proper file value.
