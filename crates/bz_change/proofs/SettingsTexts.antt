@@ -26,7 +26,20 @@ attribute_there name xs read i at same =
 pub attribute_nowhere : (name : Bytes) (xs read : List Expr) → None ≡ position (is_attribute name) read → read ≡ xs → has_attribute name xs ≡ false
 attribute_nowhere name xs read none same = places.value_nowhere name xs (none ∙ ap (position (is_attribute name)) same)
 
--- what `rename` makes where nothing is refused
+-- what `rename` makes where there is no attribute of the name, and where there is one of the other name
+by_names : Bytes → Bytes → List Expr → Bool → Bool → Arguments
+by_names from to xs there taken =
+    if not there then Err NoAttribute else (if taken then Err AttributeExists else Ok (on_first_that (is_attribute from) (on_row k.Named (on_first (with_text to))) xs))
+
+pub nothing_renamed : (from to : Bytes) (xs read : List Expr) → None ≡ position (is_attribute from) read → read ≡ xs → rename from to xs ≡ Err NoAttribute
+nothing_renamed from to xs read none same = ap (λ there. by_names from to xs there (has_attribute to xs)) (attribute_nowhere from xs read none same)
+
+pub name_taken : (from to : Bytes) (xs read again : List Expr) (i : ℕ) → Some i ≡ position (is_attribute from) read → read ≡ xs → has_attribute to again ≡ true → again ≡ xs
+    → rename from to xs ≡ Err AttributeExists
+name_taken from to xs read again i at same taken clear =
+    ap (λ there. by_names from to xs there (has_attribute to xs)) (attribute_there from xs read i at same) ∙ ap (by_names from to xs true) (sym (ap (has_attribute to) clear) ∙ taken)
+
+-- what it makes where nothing is refused
 pub renamed : (from to text : Bytes) (xs read again : List Expr) (i : ℕ) (x new : Expr) → Some i ≡ position (is_attribute from) read → read ≡ xs → has_attribute to again ≡ false → again ≡ xs
     → slice_get xs i ≡ Some x → text ≡ to → new ≡ on_row k.Named (on_first (with_text text)) x → rename from to xs ≡ Ok (slice_set xs i new)
 renamed from to text xs read again i x new at same free clear there is made =
