@@ -1,10 +1,10 @@
 -- Tokens beside items; and an attribute that gets another name.
-use Rattle.std.proofs.Common.{◌≡◌, ◌&&◌, ℕ, Bool, true, false, List, [], length, ap, sym, ◌∙◌}
+use Rattle.std.proofs.Common.{◌≡◌, ◌&&◌, ℕ, Bool, true, false, List, [], ◌∷◌, length, refl, ap, sym, ◌∙◌, arith}
 use Rattle.std.specs.Prelude.{Some, None, Ok, Err, not, if◌then◌else◌, slice_get, slice_set}
 use Rattle.bz_grammar.specs.declared.kind.Kind.TheVariants as k
 use Rattle.bz_value.specs.declared.refusal.Refusal.TheVariants.{NoAttribute, AttributeExists}
 use Rattle.bz_rule.specs.Values.{with_text, on_row, on_first}
-use Rattle.std.specs.List.{list_all, position, zip}
+use Rattle.std.specs.List.{list_all, list_any, position, zip}
 use Rattle.std.proofs.lemmas.Bool.{eq-eqb}
 use Rattle.std.proofs.lemmas.List.Folds.{list_any_at}
 use Rattle.bz_value.specs.declared.value.Expr.{Expr}
@@ -23,23 +23,15 @@ attribute_there name xs read i at same =
     let first = places.is_first (is_attribute name) xs i (mark []) (at ∙ ap (position (is_attribute name)) same) in
     attribute_any name xs ∙ list_any_at (is_attribute name) xs i (mark []) first.within (first.passes (mark []))
 
+none_among : (test : Expr → Bool) (xs : List Expr) → places.NonePasses test xs → list_any test xs ≡ false
+none_among test [] h = refl
+none_among test (x ∷ xs) h = rw (h.all 0 x (omega arith)) (none_among test xs (places.none_later test x xs h))
+
 pub attribute_nowhere : (name : Bytes) (xs read : List Expr) → None ≡ position (is_attribute name) read → read ≡ xs → has_attribute name xs ≡ false
-attribute_nowhere name xs read none same = places.value_nowhere name xs (none ∙ ap (position (is_attribute name)) same)
+attribute_nowhere name xs read none same =
+    attribute_any name xs ∙ none_among (is_attribute name) xs (places.none_passes (is_attribute name) xs (none ∙ ap (position (is_attribute name)) same))
 
--- what `rename` makes where there is no attribute of the name, and where there is one of the other name
-by_names : Bytes → Bytes → List Expr → Bool → Bool → Arguments
-by_names from to xs there taken =
-    if not there then Err NoAttribute else (if taken then Err AttributeExists else Ok (on_first_that (is_attribute from) (on_row k.Named (on_first (with_text to))) xs))
-
-pub nothing_renamed : (from to : Bytes) (xs read : List Expr) → None ≡ position (is_attribute from) read → read ≡ xs → rename from to xs ≡ Err NoAttribute
-nothing_renamed from to xs read none same = ap (λ there. by_names from to xs there (has_attribute to xs)) (attribute_nowhere from xs read none same)
-
-pub name_taken : (from to : Bytes) (xs read again : List Expr) (i : ℕ) → Some i ≡ position (is_attribute from) read → read ≡ xs → has_attribute to again ≡ true → again ≡ xs
-    → rename from to xs ≡ Err AttributeExists
-name_taken from to xs read again i at same taken clear =
-    ap (λ there. by_names from to xs there (has_attribute to xs)) (attribute_there from xs read i at same) ∙ ap (by_names from to xs true) (sym (ap (has_attribute to) clear) ∙ taken)
-
--- what it makes where nothing is refused
+-- what `rename` makes where nothing is refused
 pub renamed : (from to text : Bytes) (xs read again : List Expr) (i : ℕ) (x new : Expr) → Some i ≡ position (is_attribute from) read → read ≡ xs → has_attribute to again ≡ false → again ≡ xs
     → slice_get xs i ≡ Some x → text ≡ to → new ≡ on_row k.Named (on_first (with_text text)) x → rename from to xs ≡ Ok (slice_set xs i new)
 renamed from to text xs read again i x new at same free clear there is made =

@@ -78,6 +78,7 @@ fn set_name(name: Text, argument: &mut Expr)
 }
 
 /// The attribute gets another name.
+#[tactic(auto, using(crate::proofs::SettingsTexts::attribute_there, crate::proofs::SettingsTexts::attribute_nowhere))]
 fn rename(alloc: Global, from: &[u8], to: &[u8], arguments: &mut Items<Expr>) -> Result<(), Refusal>
     ensures ok { OnOk result (rename from.now to.now arguments.old ≡ Ok arguments.new) }
     ensures err { IfErr result (λ refusal. (rename from.now to.now arguments.old ≡ Err refusal) ⊎ (refusal ≡ Refusal.Memory)) }
