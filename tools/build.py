@@ -45,8 +45,10 @@ RUNS = "rt: running out/"
 PAUSE = 0.2
 # whether what was proved of each function is kept
 KEEPS = os.environ.get("KEEP") == "yes"
-# what a crate costs whatever is in it, as bytes of its sources: a crate takes about 4 seconds for a thousand of them, and 50 more
+# what a crate costs whatever is in it, as bytes of its code: a crate takes about 4 seconds for a thousand of them, and 50 more
 CRATE = 13_000
+# how many bytes of proofs cost what a byte of code does
+PROOFS = 4
 # by this option of prctl, PR_SET_CHILD_SUBREAPER, what an ended rt leaves behind becomes a child of this run
 ADOPTS = 36
 
@@ -72,13 +74,23 @@ class Progress:
         print(f"{crate} {what}, {self.done} of {self.count}, {minutes} {unit}", flush=True)
 
 
+def room():
+    """For how many proofs there is memory."""
+    free = re.search(r"MemAvailable:\s+(\d+)", pathlib.Path("/proc/meminfo").read_text())
+    return 1024 * int(free[1]) // MEMORY
+
+
 def processors():
     """How many processors are used."""
     asked = os.environ.get("JOBS", "")
     if asked.isdigit():
         return max(int(asked), 1)
-    free = re.search(r"MemAvailable:\s+(\d+)", pathlib.Path("/proc/meminfo").read_text())
-    return max(min(len(os.sched_getaffinity(0)), 1024 * int(free[1]) // MEMORY), 1)
+    return max(min(len(os.sched_getaffinity(0)), room()), 1)
+
+
+def sources(crate, kind):
+    """How many bytes a crate has in its folder of this name."""
+    return sum(file.stat().st_size for file in (TOP / "crates" / crate / kind).rglob("*") if file.is_file())
 
 
 def content(file):
@@ -193,8 +205,8 @@ class Plan:
 
     @functools.cache
     def work(self, crate):
-        """What a crate costs, and the longest row of crates that follow one another above it, as bytes of sources."""
-        own = sum(file.stat().st_size for file in (TOP / "crates" / crate / "src").rglob("*.rt"))
+        """What a crate costs, and the longest row of crates that follow one another above it, as bytes of code."""
+        own = sources(crate, "src") + sources(crate, "proofs") // PROOFS
         return CRATE + own + max(map(self.work, self.above[crate]), default=0)
 
     def ready(self):
@@ -230,7 +242,8 @@ def start_ready(plan, running, free, at_once):
 
 def prove_all(plan, at_once, progress):
     running = []
-    with copies(at_once) as free:
+    # one more than processors: a proof has parts in which it waits, and parts that one processor does alone
+    with copies(max(min(at_once + 1, room()), at_once)) as free:
         try:
             while plan.left or running:
                 start_ready(plan, running, free, at_once)
