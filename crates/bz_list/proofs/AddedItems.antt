@@ -12,8 +12,8 @@ use Rattle.bz_attribute.proofs.FormsAgain.{if_true, if_false}
 use Rattle.bz_attribute.proofs.KeySets.{or_none}
 use Rattle.bz_attribute.specs.Lists.{body_of, are_one, is_item, fresh, travelled, is_there, arriving}
 use Rattle.bz_attribute.specs.Made.{string_of}
-use Rattle.bz_list.specs.declared.adding.Added.{Added}
-use Rattle.bz_list.specs.declared.adding.Added.TheVariants as a
+use Rattle.bz_list.specs.declared.listed.Added.{Added}
+use Rattle.bz_list.specs.declared.listed.Added.TheVariants as a
 use Rattle.bz_list.specs.private.KnownValues.{is_known, with_known, with_all, new_ones}
 use Rattle.bz_list.specs.private.Listing.{added_by, added_to, new_items, new_strings}
 use Rattle.bz_list.proofs.KnownSteps.{all_known, known_by}
