@@ -5,11 +5,11 @@ ghost use Rattle.bz_grammar.specs.declared.kind.Kind.TheVariants as kinds;
 ghost use Rattle.bz_value.specs.declared.value.Expr.{Expr};
 ghost use Rattle.bz_items.specs.Characters.{Bytes};
 ghost use Rattle.bz_rule.specs.Rules.{attribute, value_named};
-ghost use Rattle.bz_rule.specs.Values.{has_kind, on_row, on_third};
+ghost use Rattle.bz_rule.specs.Values.{on_row, on_third};
 ghost use Rattle.bz_attribute.specs.Attributes.{is_attribute, has_attribute, is_other_attribute, with_value, with_new, without, put};
 
 use crate::making::{argument_of, token};
-use crate::readings::has_kind;
+use crate::readings::{first_of_kind, has_kind};
 use bz_grammar::{Class, Kind};
 use bz_items::{Items, Memory, Text};
 use bz_rule::{attribute, value_named};
@@ -43,13 +43,6 @@ pub fn place_of(name: &[u8], arguments: &[Expr]) -> Option<usize>
     ensures { result ≡ position (is_attribute name.now) arguments.now }
 {
     arguments.iter().position(|x| is_attribute(name, x))
-}
-
-/// Where the first starred argument is.
-fn first_starred(arguments: &[Expr]) -> Option<usize>
-    ensures { result ≡ position (has_kind kinds.Star) arguments.now }
-{
-    arguments.iter().position(|x| has_kind(Kind::Star, x))
 }
 
 /// Exchanges an expression for the value of a node of this kind: of a named argument, or of an entry of a dict.
@@ -117,7 +110,7 @@ pub fn add_attribute(
 {
     let argument = argument_of(alloc, name, value)?;
     let mut all = mem::replace(arguments, Items::new(alloc)).into_vec();
-    let at = first_starred(all.as_slice()).unwrap_or(all.len());
+    let at = first_of_kind(Kind::Star, all.as_slice()).unwrap_or(all.len());
     all.insert(at, argument)?;
     *arguments = Items::from_vec(all);
     Ok(())

@@ -6,7 +6,7 @@ ghost use Rattle.bz_grammar.specs.declared.kind.Kind.TheVariants as k;
 ghost use Rattle.bz_grammar.specs.Shapes.{rank};
 ghost use Rattle.bz_items.specs.Characters.{full_stop};
 ghost use Rattle.bz_rule.specs.Values.{on_items, on_row, with_text};
-ghost use Rattle.bz_attribute.specs.Made.{token, node, sequence, name, mark, shortened_in, string_text, string_of, list_of, binds_looser, operand, plus, function_of, argument_of, rule_made};
+ghost use Rattle.bz_attribute.specs.Made.{token, node, sequence, name, mark, string_text, string_of, list_of, binds_looser, operand, plus, function_of, argument_of, rule_made};
 
 use crate::readings::has_kind;
 use bz_command_syntax::quoted;
@@ -98,23 +98,14 @@ fn joined(alloc: Global, kind: Kind, left: Expr, sign: &[u8], right: Expr) -> Re
     Ok(node(alloc, kind, row))
 }
 
-/// The word as it is put into an attribute: shortened where that is a label attribute.
-fn shortened_in<'a>(current: &[u8], attribute: &[u8], word: &'a [u8]) -> &'a [u8]
-    ensures { result.now ≡ shortened_in current.now attribute.now word.entry.now }
-{
-    if is_label_attribute(attribute) {
-        shortened(current, word)
-    } else {
-        word
-    }
-}
-
-/// The string that a word becomes in an attribute.
+/// The string that a word becomes in an attribute: that of its short form where that is a label attribute.
 pub fn string_text(slot: Slot<'_>, word: &[u8]) -> Result<Text, Memory>
     ensures { IfOk result (λ text. text ≡ string_text slot.entry.current.now slot.entry.attribute.now word.now) }
 {
-    let text = quoted(slot.alloc, shortened_in(slot.current, slot.attribute, word))?;
-    Ok(text)
+    if is_label_attribute(slot.attribute) {
+        return Ok(quoted(slot.alloc, shortened(slot.current, word))?);
+    }
+    Ok(quoted(slot.alloc, word)?)
 }
 
 /// The same, as an expression.

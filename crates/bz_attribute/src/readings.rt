@@ -1,6 +1,6 @@
 //! Readings of values: whether they are lists, and the bodies of plain strings.
 ghost use Rattle.std.specs.Prelude.{◌≡◌};
-ghost use Rattle.std.specs.List.{flat_map, list_any};
+ghost use Rattle.std.specs.List.{flat_map, list_any, position};
 ghost use Rattle.std.specs.Option.{option_copied};
 ghost use Rattle.bz_grammar.specs.declared.kind.Kind.TheVariants as kinds;
 ghost use Rattle.bz_rule.specs.Values.{has_kind as is_of, has_class as is_in, parts_of as parts, items_of as items};
@@ -17,6 +17,13 @@ pub fn has_kind(kind: Kind, x: &Expr) -> bool
     ensures { result ≡ is_of kind x.now }
 {
     matches!(x, Expr::Form(form) if form.kind == kind)
+}
+
+/// Where the first expression of this kind is.
+pub fn first_of_kind(kind: Kind, exprs: &[Expr]) -> Option<usize>
+    ensures { result ≡ position (is_of kind) exprs.now }
+{
+    exprs.iter().position(|x| has_kind(kind, x))
 }
 
 /// Whether the expression is a token of this class.
