@@ -68,9 +68,6 @@ module _ (current attribute : Bytes) where
       by (a.Words words) = words_new there test [] words.now all
       by (a.Moved items) = items_new test there items all
 
-  pub added_none : (added : Added) → added_to current attribute added (λ word. false) ≡ added_by current attribute added []
-  added_none added = added_there added []
-
 -- one word alone is added where it is no item that is there
 pub one_fresh : (current attribute : Bytes) (there : List Expr) (word : Bytes)
     → fresh current attribute there [] (word ∷ []) ≡ (if list_any (is_item current attribute word) there then [] else word ∷ [])

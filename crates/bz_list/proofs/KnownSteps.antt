@@ -1,5 +1,5 @@
 -- What is known, and what it becomes.
-use Rattle.std.proofs.Common.{◌≡◌, ℕ, ◌+◌, ◌<◌, length, drop, get_or, inl, inr, Bool, true, false, not, ◌||◌, ◌&&◌, List, [], ◌∷◌, ◌++◌, refl, sym, ap, ◌∙◌, true≢false}
+use Rattle.std.proofs.Common.{◌≡◌, ℕ, ◌+◌, ◌<◌, ◌≤◌, length, drop, get_or, inl, inr, Bool, true, false, not, ◌||◌, ◌&&◌, List, [], ◌∷◌, ◌++◌, refl, sym, ap, ◌∙◌, true≢false}
 use Rattle.std.specs.Prelude.{bytes_eq, Option, Some, None, if◌then◌else◌}
 use Rattle.std.specs.List.{list_any, flat_map}
 use Rattle.std.specs.Option.{option_map_or}
@@ -10,7 +10,7 @@ use Rattle.std.specs.Cmp.Lexicographic.{slice_cmp}
 use Rattle.std.specs.BTreeMap.{is_at}
 use Rattle.std.specs.BTreeSet.{BTreeSet, insert_key}
 use Rattle.std.proofs.lemmas.Bool.{cases_Bool, and_from, and_parts}
-use Rattle.std.proofs.lemmas.List.{drop_more}
+use Rattle.std.proofs.lemmas.List.{at_drop_all, drop_more}
 use Rattle.std.proofs.lemmas.List.Folds.{list_any_none}
 use Rattle.std.proofs.lemmas.Map.Text.{is_eq-slice_cmp}
 use Rattle.std.proofs.Math.Path.{fun_ext}
@@ -175,7 +175,10 @@ by_body current attribute words (Some other) =
     ∙ any_like (are_one current attribute other) (λ word. are_one current attribute word other)
     (λ word. alike_keys current attribute other word ∙ (key_alike (word_key current attribute other) (word_key current attribute word) ∙ sym (alike_keys current attribute word other))) words
 
-pub chosen_words : (current attribute : Bytes) (words : List Bytes) (known : BTreeSet Key) → knows_word current attribute known ≡ with_all current attribute (λ word. Some word) words (λ word. false)
+-- the set of some words, after the last of them
+pub chosen_words : (current attribute : Bytes) (words : List Bytes) (known : BTreeSet Key) (i : ℕ)
+    → with_all current attribute (λ word. Some word) (drop i words) (knows_word current attribute known) ≡ with_all current attribute (λ word. Some word) words (λ word. false) → length words ≤ i
     → chooses current attribute (Some known) ≡ is_some_item current attribute words
-chosen_words current attribute words known e =
-    fun_ext (λ x. ap (λ all. option_map_or all (body_of x) false) (e ∙ all_known current attribute (λ word. Some word) words (λ word. false)) ∙ by_body current attribute words (body_of x))
+chosen_words current attribute words known i e past =
+    let none = at_drop_all (λ rest. with_all current attribute (λ word. Some word) rest (knows_word current attribute known)) words i past in
+    fun_ext (λ x. ap (λ all. option_map_or all (body_of x) false) (sym none ∙ e ∙ all_known current attribute (λ word. Some word) words (λ word. false)) ∙ by_body current attribute words (body_of x))

@@ -73,7 +73,7 @@ fn key_of(slot: Slot<'_>, word: &[u8]) -> Result<Key, Memory>
     })
 }
 
-/// The word is one of them from now on. The answer is whether it is a new one; where there is no word, it is.
+/// The word is one of the known values from now on. The answer is whether it is a new one; where there is no word, it is.
 #[tactic(auto, using(crate::proofs::KnownSteps::key_found, crate::proofs::KnownSteps::key_inserted, crate::proofs::KnownSteps::key_again))]
 pub(crate) fn insert(known: &mut Known, slot: Slot<'_>, word: Option<&[u8]>) -> Result<bool, Memory>
     ensures is_new { IfOk result (λ is_new. is_new ≡ not (option_map_or (knows_word slot.entry.current.now slot.entry.attribute.now known.old) (option_copied word.entry) false)) }

@@ -1,6 +1,6 @@
 //! Items that are added to the lists of an attribute, removed from them and moved to another one, and the table of all commands on values.
 ghost use Rattle.std.specs.Prelude.{◌≡◌, ◌⊎◌, ◌++◌, ◌∷◌, [], List, Ok, Err, IfOk, OnOk, IfErr, map, nat_eq, not};
-ghost use Rattle.std.specs.List.{ends_with, filter, flat_map, list_any, position};
+ghost use Rattle.std.specs.List.{ends_with, filter, flat_map, list_any};
 ghost use Rattle.bz_grammar.specs.declared.kind.Kind.TheVariants as kinds;
 ghost use Rattle.bz_value.specs.declared.value.Expr.{Expr as Value};
 ghost use Rattle.bz_value.specs.Empty.{is_empty};
@@ -12,14 +12,14 @@ ghost use Rattle.bz_attribute.specs.Lists.{fresh, is_item as is_item_of, items_i
 ghost use Rattle.bz_attribute.specs.Made.{string_of as string_made};
 ghost use Rattle.bz_list.specs.Changes.{with_items_added, remove_values, move, values_changed};
 ghost use Rattle.bz_list.specs.private.KnownValues.{knows_word};
-ghost use Rattle.bz_list.specs.private.Listing.{added_by, added_to, chooses, chosen_in, is_item_ending, is_left, new_items, new_strings, put_back, value_with, without_chosen};
+ghost use Rattle.bz_list.specs.private.Listing.{added_by, added_to, chooses, chosen_in, is_item_ending, is_left, new_items, new_strings, put_back, without_chosen};
 
 use crate::known::{
     Chosen, Known, insert, is_chosen, items_known, listed, meaning, values_chosen, words_chosen,
 };
 use crate::replacing::Change;
 use bz_attribute::{
-    Slot, add_attribute, append_to, body_of, has_kind, has_lists, is_empty_list, is_item,
+    Slot, add_attribute, append_to, body_of, first_of_kind, has_lists, is_empty_list, is_item,
     is_no_list, list_of, operands_of, plus, remove_first, set_value, string_of, take_value,
 };
 use bz_command_syntax::{ValueOperation, Values};
@@ -145,19 +145,12 @@ fn added_beside(slot: Slot<'_>, added: Added<'_>, operands: &[Expr]) -> Result<V
     Ok(items)
 }
 
-/// Where the first list among the operands of a sum is.
-fn first_list(operands: &[Expr]) -> Option<usize>
-    ensures { result ≡ position (is_of kinds.List) operands.now }
-{
-    operands.iter().position(|x| has_kind(Kind::List, x))
-}
-
 /// Puts all of `more` after the items of the first list among the operands of a sum.
 #[tactic(auto, using(crate::proofs::ListedForms::changed_there, crate::proofs::ListedForms::changed_nowhere))]
 fn append_to_first(more: &mut Vec<Expr>, operands: &mut Items<Expr>) -> Done
     ensures { OnOk result (operands.new ≡ on_first_that (is_of kinds.List) (on_items kinds.List (λ items. items ++ more.old.items)) operands.old) }
 {
-    let Some(at) = first_list(operands.as_slice()) else {
+    let Some(at) = first_of_kind(Kind::List, operands.as_slice()) else {
         return Ok(());
     };
     append_to(Kind::List, more, operands.at_mut(at))?;
@@ -174,28 +167,13 @@ fn append_to_value(more: &mut Vec<Expr>, value: &mut Expr) -> Done
     }
 }
 
-/// A value with the items that are added: in its first list, else in a list after it.
-#[tactic(auto, using(crate::proofs::ListedForms::no_items))]
-fn value_with(slot: Slot<'_>, added: Added<'_>, mut value: Expr) -> Result<Expr, Memory>
-    ensures { IfOk result (λ new. new ≡ value_with (added_by slot.entry.current.now slot.entry.attribute.now added.entry) value) }
-{
-    let mut more = added_beside(slot, added, operands_of(&value))?;
-    if !has_lists(&value) {
-        let list = list_of(slot.alloc, Items::from_vec(more));
-        let sum = plus(slot.alloc, value, list)?;
-        return Ok(sum);
-    }
-    append_to_value(&mut more, &mut value)?;
-    Ok(value)
-}
-
 /// Adds items to the end of the first list of an attribute. A value that is no list becomes a sum with a new one.
-#[tactic(auto, using(crate::proofs::ListedForms::added_found))]
+#[tactic(auto, using(crate::proofs::ListedForms::added_found, crate::proofs::ListedForms::no_items))]
 fn add_items(slot: Slot<'_>, added: Added<'_>, mut arguments: Items<Expr>) -> Changed
     ensures ok { IfOk result (λ new. with_items_added slot.entry.attribute.now (added_by slot.entry.current.now slot.entry.attribute.now added.entry) arguments ≡ Ok new) }
     ensures err { IfErr result (λ refusal. (with_items_added slot.entry.attribute.now (added_by slot.entry.current.now slot.entry.attribute.now added.entry) arguments ≡ Err refusal) ⊎ (refusal ≡ Refusal.Memory)) }
 {
-    let Some(value) = take_value(slot.alloc, slot.attribute, &mut arguments) else {
+    let Some(mut value) = take_value(slot.alloc, slot.attribute, &mut arguments) else {
         let items = added_beside(slot, added, &[])?;
         let list = list_of(slot.alloc, Items::from_vec(items));
         add_attribute(slot.alloc, slot.attribute, list, &mut arguments)?;
@@ -205,8 +183,15 @@ fn add_items(slot: Slot<'_>, added: Added<'_>, mut arguments: Items<Expr>) -> Ch
         drop(value);
         return Err(Refusal::NotAList);
     }
-    let new = value_with(slot, added, value)?;
-    set_value(slot.attribute, new, &mut arguments);
+    let mut more = added_beside(slot, added, operands_of(&value))?;
+    if !has_lists(&value) {
+        let list = list_of(slot.alloc, Items::from_vec(more));
+        let sum = plus(slot.alloc, value, list)?;
+        set_value(slot.attribute, sum, &mut arguments);
+        return Ok(arguments);
+    }
+    append_to_value(&mut more, &mut value)?;
+    set_value(slot.attribute, value, &mut arguments);
     Ok(arguments)
 }
 
@@ -256,7 +241,7 @@ fn take_from_list(slot: Slot<'_>, chosen: &Chosen, x: &mut Expr, taken: &mut Vec
 }
 
 /// The same of the lists of a value.
-#[tactic(auto, using(crate::proofs::ListedForms::sum_items, crate::proofs::ListedForms::own_items_in))]
+#[tactic(auto, using(crate::proofs::ListedForms::sum_taken, crate::proofs::ListedForms::own_items_in))]
 fn take_from_lists(slot: Slot<'_>, chosen: &Chosen, value: &mut Expr, taken: &mut Vec<Expr>) -> Done
     ensures left { OnOk result (value.new ≡ on_lists (filter (is_left slot.entry.current.now slot.entry.attribute.now chosen.now)) value.old) }
     ensures taken { OnOk result (taken.new.items ≡ taken.old.items ++ filter (chooses slot.entry.current.now slot.entry.attribute.now chosen.now) (items_in value.old)) }

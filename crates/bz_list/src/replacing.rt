@@ -110,23 +110,15 @@ impl Change<'_> {
         }
     }
 
-    /// Changes a value, and the items of its lists.
-    fn on_value(self, slot: Slot<'_>, value: &mut Expr) -> Result<(), Memory>
-        ensures { OnOk result (value.new ≡ value_changed_by self.entry slot.entry.current.now slot.entry.attribute.now value.old) }
-    {
-        self.on_item(slot, value)?;
-        self.on_lists(slot, value)?;
-        Ok(())
-    }
-
-    /// Changes the value of a named argument; any other argument stays.
+    /// Changes the value of a named argument, and the items of its lists; any other argument stays.
     fn on_argument(self, slot: Slot<'_>, x: &mut Expr) -> Result<(), Memory>
         ensures { OnOk result (x.new ≡ on_value (value_changed_by self.entry slot.entry.current.now slot.entry.attribute.now) x.old) }
     {
         match x {
             Expr::Form(form) if form.kind == Kind::Named => {
                 if let [_, _, value, ..] = form.parts.as_mut_slice() {
-                    self.on_value(slot, value)?;
+                    self.on_item(slot, value)?;
+                    self.on_lists(slot, value)?;
                 }
                 Ok(())
             }
@@ -147,7 +139,7 @@ impl Change<'_> {
     }
 
     /// Changes the attributes that are meant.
-    #[tactic(auto, using(crate::proofs::ListedForms::changed_there, crate::proofs::ListedForms::changed_nowhere))]
+    #[tactic(auto, using(crate::proofs::ListedForms::named_there, crate::proofs::ListedForms::named_nowhere))]
     pub(crate) fn on_attributes(
         self,
         alloc: Global,
