@@ -1,15 +1,15 @@
 //! The arguments of a rule, changed. An attribute is a named argument; of several with one name the first is meant.
 ghost use Rattle.std.specs.Prelude.{◌≡◌, OnOk, None, Some, true};
-ghost use Rattle.std.specs.List.{position, slice_index_or};
+ghost use Rattle.std.specs.List.{position};
 ghost use Rattle.bz_grammar.specs.declared.kind.Kind.TheVariants as kinds;
 ghost use Rattle.bz_value.specs.declared.value.Expr.{Expr};
 ghost use Rattle.bz_items.specs.Characters.{Bytes};
 ghost use Rattle.bz_rule.specs.Rules.{attribute, value_named};
-ghost use Rattle.bz_rule.specs.Values.{has_kind, on_row, on_third};
-ghost use Rattle.bz_attribute.specs.Attributes.{is_attribute, has_attribute, is_other_attribute, inserted, with_value, with_new, without, put};
+ghost use Rattle.bz_rule.specs.Values.{on_row, on_third};
+ghost use Rattle.bz_attribute.specs.Attributes.{is_attribute, has_attribute, is_other_attribute, with_value, with_new, without, put};
 
 use crate::making::{argument_of, token};
-use crate::readings::has_kind;
+use crate::readings::{first_of_kind, has_kind};
 use bz_grammar::{Class, Kind};
 use bz_items::{Items, Memory, Text};
 use bz_rule::{attribute, value_named};
@@ -45,30 +45,17 @@ pub fn place_of(name: &[u8], arguments: &[Expr]) -> Option<usize>
     arguments.iter().position(|x| is_attribute(name, x))
 }
 
-/// Where the first starred argument is.
-fn first_starred(arguments: &[Expr]) -> Option<usize>
-    ensures { result ≡ position (has_kind kinds.Star) arguments.now }
-{
-    arguments.iter().position(|x| has_kind(Kind::Star, x))
-}
-
-/// Exchanges an expression for the operand after the sign.
-fn swap_third(other: &mut Expr, parts: &mut Items<Expr>)
-    ensures parts { parts.new ≡ on_third (λ _. other.old) parts.old }
-    ensures other { other.new ≡ slice_index_or parts.old 2 other.old }
-{
-    if let [_, _, third, ..] = parts.as_mut_slice() {
-        mem::swap(third, other);
-    }
-}
-
 /// Exchanges an expression for the value of a node of this kind: of a named argument, or of an entry of a dict.
 pub fn swap_value(kind: Kind, other: &mut Expr, x: &mut Expr)
     ensures there { x.new ≡ on_row kind (on_third (λ _. other.old)) x.old }
     ensures other { (name : Bytes) → kind ≡ kinds.Named → is_attribute name x.old ≡ true → Some other.new ≡ value_named name x.old }
 {
     match x {
-        Expr::Form(form) if form.kind == kind => swap_third(other, &mut form.parts),
+        Expr::Form(form) if form.kind == kind => {
+            if let [_, _, third, ..] = form.parts.as_mut_slice() {
+                mem::swap(third, other);
+            }
+        }
         _ => {}
     }
 }
@@ -111,17 +98,8 @@ pub fn set_value(name: &[u8], value: Expr, arguments: &mut Items<Expr>)
     swap_first(name, &mut old, arguments);
 }
 
-/// Puts an argument before the first starred one, else last.
-#[tactic(auto, using(crate::proofs::ArgumentPlaces::inserted_where))]
-fn insert_argument(argument: Expr, arguments: &mut Vec<Expr>) -> Result<(), Memory>
-    ensures { OnOk result (arguments.new.items ≡ inserted argument arguments.old.items) }
-{
-    let at = first_starred(arguments.as_slice()).unwrap_or(arguments.len());
-    arguments.insert(at, argument)?;
-    Ok(())
-}
-
 /// A new attribute, before the first starred argument, else last.
+#[tactic(auto, using(crate::proofs::ArgumentPlaces::inserted_where))]
 pub fn add_attribute(
     alloc: Global,
     name: &[u8],
@@ -132,28 +110,23 @@ pub fn add_attribute(
 {
     let argument = argument_of(alloc, name, value)?;
     let mut all = mem::replace(arguments, Items::new(alloc)).into_vec();
-    insert_argument(argument, &mut all)?;
+    let at = first_of_kind(Kind::Star, all.as_slice()).unwrap_or(all.len());
+    all.insert(at, argument)?;
     *arguments = Items::from_vec(all);
     Ok(())
 }
 
-/// Takes the first attribute of the name out of a list.
-#[tactic(auto, using(crate::proofs::ArgumentPlaces::removed_there, crate::proofs::ArgumentPlaces::removed_nowhere))]
-fn remove_in(name: &[u8], arguments: &mut Vec<Expr>)
-    ensures { arguments.new.items ≡ without name.now arguments.old.items }
-{
-    if let Some(at) = place_of(name, arguments.as_slice()) {
-        let _gone = arguments.remove(at);
-    }
-}
-
 /// The first attribute of the name goes.
+#[tactic(auto, using(crate::proofs::ArgumentPlaces::removed_there, crate::proofs::ArgumentPlaces::removed_nowhere))]
 pub fn remove_first(name: &[u8], arguments: &mut Items<Expr>)
     ensures { arguments.new ≡ without name.now arguments.old }
 {
+    let Some(at) = place_of(name, arguments.as_slice()) else {
+        return;
+    };
     let alloc = arguments.alloc();
     let mut all = mem::replace(arguments, Items::new(alloc)).into_vec();
-    remove_in(name, &mut all);
+    let _gone = all.remove(at);
     *arguments = Items::from_vec(all);
 }
 

@@ -6,7 +6,7 @@ ghost use Rattle.bz_grammar.specs.declared.kind.Kind.TheVariants as k;
 ghost use Rattle.bz_grammar.specs.Shapes.{rank};
 ghost use Rattle.bz_items.specs.Characters.{full_stop};
 ghost use Rattle.bz_rule.specs.Values.{on_items, on_row, with_text};
-ghost use Rattle.bz_attribute.specs.Made.{token, node, sequence, name, mark, shortened_in, string_text, string_of, list_of, binds_looser, operand, plus, function_of, argument_of, rule_made};
+ghost use Rattle.bz_attribute.specs.Made.{token, node, sequence, name, mark, string_text, string_of, list_of, binds_looser, operand, plus, function_of, argument_of, rule_made};
 
 use crate::readings::has_kind;
 use bz_command_syntax::quoted;
@@ -98,23 +98,14 @@ fn joined(alloc: Global, kind: Kind, left: Expr, sign: &[u8], right: Expr) -> Re
     Ok(node(alloc, kind, row))
 }
 
-/// The word as it is put into an attribute: shortened where that is a label attribute.
-fn shortened_in<'a>(current: &[u8], attribute: &[u8], word: &'a [u8]) -> &'a [u8]
-    ensures { result.now ≡ shortened_in current.now attribute.now word.entry.now }
-{
-    if is_label_attribute(attribute) {
-        shortened(current, word)
-    } else {
-        word
-    }
-}
-
-/// The string that a word becomes in an attribute.
+/// The string that a word becomes in an attribute: that of its short form where that is a label attribute.
 pub fn string_text(slot: Slot<'_>, word: &[u8]) -> Result<Text, Memory>
     ensures { IfOk result (λ text. text ≡ string_text slot.entry.current.now slot.entry.attribute.now word.now) }
 {
-    let text = quoted(slot.alloc, shortened_in(slot.current, slot.attribute, word))?;
-    Ok(text)
+    if is_label_attribute(slot.attribute) {
+        return Ok(quoted(slot.alloc, shortened(slot.current, word))?);
+    }
+    Ok(quoted(slot.alloc, word)?)
 }
 
 /// The same, as an expression.
@@ -163,11 +154,14 @@ pub fn list_of(alloc: Global, items: Items<Expr>) -> Expr
     sequence(alloc, Kind::List, Items::new(alloc), items)
 }
 
-/// Whether expressions of this kind bind looser than a sum.
-fn is_looser(kind: Kind) -> bool
-    ensures { result ≡ nat_lt (rank k.Sum) (rank kind) }
+/// Whether the expression binds looser than a sum.
+fn binds_looser(x: &Expr) -> bool
+    ensures { result ≡ binds_looser x.now }
 {
-    match kind {
+    let Expr::Form(form) = x else {
+        return false;
+    };
+    match form.kind {
         Kind::Shift
         | Kind::BitAnd
         | Kind::Xor
@@ -180,16 +174,6 @@ fn is_looser(kind: Kind) -> bool
         | Kind::Lambda
         | Kind::Row => true,
         _ => false,
-    }
-}
-
-/// Whether the expression binds looser than a sum.
-fn binds_looser(x: &Expr) -> bool
-    ensures { result ≡ binds_looser x.now }
-{
-    match x {
-        Expr::Token(_) => false,
-        Expr::Form(form) => is_looser(form.kind),
     }
 }
 
@@ -206,29 +190,20 @@ fn operand(alloc: Global, x: Expr) -> Result<Expr, Memory>
     Ok(node(alloc, Kind::Paren, row))
 }
 
-/// Puts a sign and a list after the parts of a sum; any other expression stays.
-fn add_operand(alloc: Global, list: Expr, x: &mut Expr) -> Result<(), Memory>
-    ensures { OnOk result (x.new ≡ on_row k.Sum (λ parts. parts ++ mark (codes "+") ∷ list ∷ []) x.old) }
-{
-    let sign = new_token(alloc, Class::Mark, b"+")?;
-    let mut more = Vec::from_array(alloc, [sign, list])?;
-    match x {
-        Expr::Form(form) if form.kind == Kind::Sum => append(&mut more, &mut form.parts),
-        _ => Ok(()),
-    }
-}
-
 /// A value and a list: a sum takes the list as a further operand.
-pub fn plus(alloc: Global, value: Expr, list: Expr) -> Result<Expr, Memory>
+pub fn plus(alloc: Global, mut value: Expr, list: Expr) -> Result<Expr, Memory>
     ensures { IfOk result (λ x. x ≡ plus value list) }
 {
     if !has_kind(Kind::Sum, &value) {
         let first = operand(alloc, value)?;
         return joined(alloc, Kind::Sum, first, b"+", list);
     }
-    let mut sum = value;
-    add_operand(alloc, list, &mut sum)?;
-    Ok(sum)
+    let sign = new_token(alloc, Class::Mark, b"+")?;
+    let mut more = Vec::from_array(alloc, [sign, list])?;
+    if let Expr::Form(sum) = &mut value {
+        append(&mut more, &mut sum.parts)?;
+    }
+    Ok(value)
 }
 
 /// Where the first dot is.
@@ -251,14 +226,6 @@ fn cut(text: &[u8]) -> (&[u8], Option<&[u8]>)
     }
 }
 
-/// A name after a dot.
-fn dotted(alloc: Global, front: Expr, text: &[u8]) -> Result<Expr, Memory>
-    ensures { IfOk result (λ x. x ≡ node k.Dot (front ∷ mark (codes ".") ∷ name text.now ∷ [])) }
-{
-    let name = new_token(alloc, Class::Name, text)?;
-    joined(alloc, Kind::Dot, front, b".", name)
-}
-
 /// The function of a call, by a kind: names joined by dots.
 pub fn function_of(alloc: Global, kind: &[u8]) -> Result<Expr, Memory>
     ensures { IfOk result (λ x. x ≡ function_of kind.now) }
@@ -267,7 +234,8 @@ pub fn function_of(alloc: Global, kind: &[u8]) -> Result<Expr, Memory>
     let mut function = new_token(alloc, Class::Name, first)?;
     while let Some(text) = rest {
         let (piece, following) = cut(text);
-        function = dotted(alloc, function, piece)?;
+        let name = new_token(alloc, Class::Name, piece)?;
+        function = joined(alloc, Kind::Dot, function, b".", name)?;
         rest = following;
     }
     Ok(function)

@@ -1,10 +1,10 @@
 //! Readings of values: whether they are lists, and the bodies of plain strings.
 ghost use Rattle.std.specs.Prelude.{◌≡◌};
-ghost use Rattle.std.specs.List.{flat_map, list_any};
+ghost use Rattle.std.specs.List.{flat_map, list_any, position};
 ghost use Rattle.std.specs.Option.{option_copied};
 ghost use Rattle.bz_grammar.specs.declared.kind.Kind.TheVariants as kinds;
 ghost use Rattle.bz_rule.specs.Values.{has_kind as is_of, has_class as is_in, parts_of as parts, items_of as items};
-ghost use Rattle.bz_attribute.specs.Lists.{has_lists as has_any, is_no_list as is_none, is_empty_list as is_empty, body_of as plain, are_one, is_item as item, items_in, listed};
+ghost use Rattle.bz_attribute.specs.Lists.{has_lists as has_any, is_no_list as is_none, is_empty_list as is_empty, body_of as plain, is_item as item, items_in, listed};
 
 use bz_grammar::{Class, Kind};
 use bz_label::bytes::{is_label_attribute, same};
@@ -16,20 +16,21 @@ use std::slice;
 pub fn has_kind(kind: Kind, x: &Expr) -> bool
     ensures { result ≡ is_of kind x.now }
 {
-    match x {
-        Expr::Token(_) => false,
-        Expr::Form(form) => form.kind == kind,
-    }
+    matches!(x, Expr::Form(form) if form.kind == kind)
+}
+
+/// Where the first expression of this kind is.
+pub fn first_of_kind(kind: Kind, exprs: &[Expr]) -> Option<usize>
+    ensures { result ≡ position (is_of kind) exprs.now }
+{
+    exprs.iter().position(|x| has_kind(kind, x))
 }
 
 /// Whether the expression is a token of this class.
 fn has_class(class: Class, x: &Expr) -> bool
     ensures { result ≡ is_in class x.now }
 {
-    match x {
-        Expr::Token(token) => token.class == class,
-        Expr::Form(_) => false,
-    }
+    matches!(x, Expr::Token(token) if token.class == class)
 }
 
 /// The row of a node.
@@ -75,7 +76,7 @@ fn is_any_list(operands: &[Expr]) -> bool
 pub fn has_lists(value: &Expr) -> bool
     ensures { result ≡ has_any value.now }
 {
-    has_kind(Kind::List, value) || (has_kind(Kind::Sum, value) && is_any_list(parts_of(value)))
+    has_kind(Kind::List, value) || has_kind(Kind::Sum, value) && is_any_list(parts_of(value))
 }
 
 /// Whether the value can't be taken as a list.
@@ -101,23 +102,13 @@ pub fn body_of(x: &Expr) -> Option<&[u8]>
     body(text_in(Class::String, x)?)
 }
 
-/// Whether two words mean one value of the attribute.
-fn are_one(current: &[u8], attribute: &[u8], word: &[u8], other: &[u8]) -> bool
-    ensures { result ≡ are_one current.now attribute.now word.now other.now }
-{
-    if is_label_attribute(attribute) {
-        same(current, word, other)
-    } else {
-        word == other
-    }
-}
-
 /// Whether the value is an item: a plain string that means the same.
 pub fn is_item(current: &[u8], attribute: &[u8], word: &[u8], x: &Expr) -> bool
     ensures { result ≡ item current.now attribute.now word.now x.now }
 {
     match body_of(x) {
-        Some(other) => are_one(current, attribute, word, other),
+        Some(other) if is_label_attribute(attribute) => same(current, word, other),
+        Some(other) => word == other,
         None => false,
     }
 }

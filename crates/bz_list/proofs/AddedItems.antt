@@ -12,8 +12,8 @@ use Rattle.bz_attribute.proofs.FormsAgain.{if_true, if_false}
 use Rattle.bz_attribute.proofs.KeySets.{or_none}
 use Rattle.bz_attribute.specs.Lists.{body_of, are_one, is_item, fresh, travelled, is_there, arriving}
 use Rattle.bz_attribute.specs.Made.{string_of}
-use Rattle.bz_list.specs.declared.adding.Added.{Added}
-use Rattle.bz_list.specs.declared.adding.Added.TheVariants as a
+use Rattle.bz_list.specs.declared.listed.Added.{Added}
+use Rattle.bz_list.specs.declared.listed.Added.TheVariants as a
 use Rattle.bz_list.specs.private.KnownValues.{is_known, with_known, with_all, new_ones}
 use Rattle.bz_list.specs.private.Listing.{added_by, added_to, new_items, new_strings}
 use Rattle.bz_list.proofs.KnownSteps.{all_known, known_by}
@@ -67,9 +67,6 @@ module _ (current attribute : Bytes) where
       by : (added : Added) → added_to current attribute added test ≡ added_by current attribute added there
       by (a.Words words) = words_new there test [] words.now all
       by (a.Moved items) = items_new test there items all
-
-  pub added_none : (added : Added) → added_to current attribute added (λ word. false) ≡ added_by current attribute added []
-  added_none added = added_there added []
 
 -- one word alone is added where it is no item that is there
 pub one_fresh : (current attribute : Bytes) (there : List Expr) (word : Bytes)

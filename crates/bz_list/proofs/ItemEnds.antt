@@ -3,7 +3,7 @@ use Rattle.std.proofs.Common.{◌≡◌, Bool, true, false, ◌||◌, ◌&&◌, 
 use Rattle.std.specs.Prelude.{nat_eq, bytes_eq, ◌⊎◌, if◌then◌else◌}
 use Rattle.std.specs.Cmp.{unsigned_Decides}
 use Rattle.std.specs.List.{ends_with, flat_map, list_any, suffix_len}
-use Rattle.std.specs.Option.{option_and_then, option_map, option_map_or}
+use Rattle.std.specs.Option.{option_and_then, option_map_or}
 use Rattle.std.proofs.lemmas.Slice.Eq.{ends_is}
 use Rattle.bz_token.specs.declared.class.Class.TheVariants as c
 use Rattle.bz_grammar.specs.Shapes.{is_class}
@@ -23,7 +23,7 @@ use Rattle.bz_attribute.specs.Lists.{are_one, body_of, is_item, listed}
 use Rattle.bz_attribute.proofs.FormsAgain.{found_if}
 use Rattle.bz_attribute.proofs.KeySets.{any_like, equal_texts}
 use Rattle.bz_attribute.proofs.ListsThere.{any_listed}
-use Rattle.bz_list.specs.private.KnownValues.{label_meant}
+use Rattle.bz_list.specs.private.KnownValues.{label_meant, key_by, word_key}
 use Rattle.bz_list.specs.private.Listing.{is_item_ending}
 
 -- ---- texts that mean one value end with one name
@@ -57,20 +57,15 @@ meant_ends : (b : Bool) (current word : Bytes) (label : Label) → (if b then la
 meant_ends true current word label h = label_ends current word label (read_label current word label (sym h))
 meant_ends false current word label h = absurd cc
 
-pub name_ends : (current attribute word other : Bytes) (parts : Parts) → option_map label_of (Some parts) ≡ label_meant current attribute word
-    → are_one current attribute word other ≡ true → ends_with nat_eq other parts.name.now ≡ true
-name_ends current attribute word other parts read h = elim (ends_by (is_label_attribute attribute) current word other h) [
-  | inl same ↦ ap (λ z. ends_with nat_eq z parts.name.now) (sym same) ∙ meant_ends (is_label_attribute attribute) current word (label_of parts) (sym read)
-  | inr both ↦
-      let one : Some (label_of parts) ≡ Some both.0 = read ∙ both.1 in
-      let own : label_of parts ≡ both.0 = cc in
-      ap (λ (label : Label). ends_with nat_eq other label.name) own ∙ label_ends current other both.0 both.2
-]
+own_end : (current attribute word : Bytes) (found : Option Label) → label_meant current attribute word ≡ found → ends_with nat_eq word (key_by word found).1.name ≡ true
+own_end current attribute word None e = ends word [] word refl
+own_end current attribute word (Some label) e = meant_ends (is_label_attribute attribute) current word label e
 
-pub word_ends : (current attribute word other : Bytes) → None ≡ label_meant current attribute word → are_one current attribute word other ≡ true → ends_with nat_eq other word ≡ true
-word_ends current attribute word other none h = elim (ends_by (is_label_attribute attribute) current word other h) [
-  | inl same ↦ ends other [] word (sym same)
-  | inr both ↦ let no : None ≡ Some both.0 = none ∙ both.1 in absurd cc
+-- what means the same as a word ends with the name in the word's key
+key_ends : (current attribute word other : Bytes) → are_one current attribute word other ≡ true → ends_with nat_eq other (word_key current attribute word).1.name ≡ true
+key_ends current attribute word other h = elim (ends_by (is_label_attribute attribute) current word other h) [
+  | inl same ↦ ap (λ z. ends_with nat_eq z (word_key current attribute word).1.name) (sym same) ∙ own_end current attribute word (label_meant current attribute word) refl
+  | inr both ↦ ap (λ found. ends_with nat_eq other (key_by word found).1.name) both.1 ∙ label_ends current other both.0 both.2
 ]
 
 -- ---- what is between the quotation marks of a plain string is its body
@@ -99,8 +94,10 @@ item_ending current attribute word end f x =
     implied (ends_with nat_eq (inner (text_of x)) end) (is_item current attribute word x)
     (λ h. let w = some_found (are_one current attribute word) (body_of x) h in ap (λ z. ends_with nat_eq z end) (item_inner x w.0 w.1) ∙ f w.0 w.2)
 
-pub in_lists : (current attribute word end : Bytes) (operands items : List Expr) → ((other : Bytes) → are_one current attribute word other ≡ true → ends_with nat_eq other end ≡ true)
-    → flat_map listed operands ≡ items → list_any (λ x. list_any (is_item_ending current attribute word end) (listed x)) operands ≡ list_any (is_item current attribute word) items
-in_lists current attribute word end operands items f are =
-    sym (any_listed (is_item_ending current attribute word end) operands) ∙ (ap (list_any (is_item_ending current attribute word end)) are
-    ∙ any_like (is_item_ending current attribute word end) (is_item current attribute word) (item_ending current attribute word end f) items)
+-- whether a word means an item of lists, by its end
+pub in_lists : (current attribute word : Bytes) (operands : List Expr) (is_label : Bool) (parts : Parts) → word_key current attribute word ≡ (is_label, label_of parts)
+    → list_any (λ x. list_any (is_item_ending current attribute word parts.name.now) (listed x)) operands ≡ list_any (is_item current attribute word) (flat_map listed operands)
+in_lists current attribute word operands is_label parts read =
+    sym (any_listed (is_item_ending current attribute word parts.name.now) operands)
+    ∙ any_like (is_item_ending current attribute word parts.name.now) (is_item current attribute word)
+    (item_ending current attribute word parts.name.now (λ other h. ap (λ key. ends_with nat_eq other key.1.name) (sym read) ∙ key_ends current attribute word other h)) (flat_map listed operands)

@@ -1,5 +1,5 @@
 -- What is known, and what it becomes.
-use Rattle.std.proofs.Common.{◌≡◌, ℕ, ◌+◌, ◌<◌, length, drop, get_or, inl, inr, Bool, true, false, not, ◌||◌, ◌&&◌, List, [], ◌∷◌, ◌++◌, refl, sym, ap, ◌∙◌, true≢false}
+use Rattle.std.proofs.Common.{◌≡◌, ℕ, ◌+◌, ◌<◌, ◌≤◌, length, drop, get_or, inl, inr, Bool, true, false, not, ◌||◌, ◌&&◌, List, [], ◌∷◌, ◌++◌, refl, sym, ap, ◌∙◌, true≢false}
 use Rattle.std.specs.Prelude.{bytes_eq, Option, Some, None, if◌then◌else◌}
 use Rattle.std.specs.List.{list_any, flat_map}
 use Rattle.std.specs.Option.{option_map_or}
@@ -10,7 +10,7 @@ use Rattle.std.specs.Cmp.Lexicographic.{slice_cmp}
 use Rattle.std.specs.BTreeMap.{is_at}
 use Rattle.std.specs.BTreeSet.{BTreeSet, insert_key}
 use Rattle.std.proofs.lemmas.Bool.{cases_Bool, and_from, and_parts}
-use Rattle.std.proofs.lemmas.List.{drop_more}
+use Rattle.std.proofs.lemmas.List.{at_drop_all, drop_more}
 use Rattle.std.proofs.lemmas.List.Folds.{list_any_none}
 use Rattle.std.proofs.lemmas.Map.Text.{is_eq-slice_cmp}
 use Rattle.std.proofs.Math.Path.{fun_ext}
@@ -23,11 +23,9 @@ use Rattle.bz_attribute.specs.Lists.{body_of, are_one, is_some_item, listed}
 use Rattle.bz_attribute.proofs.FormsAgain.{both}
 use Rattle.bz_attribute.proofs.KeySets.{any_like, equal_texts, or_group, or_none, any_inserted}
 use Rattle.bz_attribute.proofs.PlainWords.{equal_self}
-use Rattle.bz_list.specs.declared.known.Chosen.TheVariants as h
 use Rattle.bz_list.specs.declared.known.Key.{Key}
 use Rattle.bz_list.specs.contracts.known.KeyOrd.TheImpl as key_ord
 use Rattle.bz_list.specs.private.Listing.{chooses}
-use Rattle.bz_list.specs.declared.known.Known.{Known}
 use Rattle.bz_list.specs.private.KnownValues.{key_by, word_key, are_one_key, parts_of_key, knows_word, with_known, with_all}
 
 -- ---- equal keys
@@ -125,13 +123,13 @@ key_ties one other =
     ∙ and_turn (bytes_eq a b) (bytes_eq c d) (bytes_eq one.name.items other.name.items)))
 
 pub key_found : (current attribute word : Bytes) (set : BTreeSet Key) (key : Key) → parts_of_key key ≡ word_key current attribute word
-    → list_any (is_at (key_cmp key)) set.keys ≡ knows_word current attribute (record { keys = set }) word
+    → list_any (is_at (key_cmp key)) set.keys ≡ knows_word current attribute set word
 key_found current attribute word set key is =
     any_like (is_at (key_cmp key)) (λ other. are_one_key (word_key current attribute word) (parts_of_key other))
     (λ other. key_ties key other ∙ ap (λ parts. are_one_key parts (parts_of_key other)) is) set.keys
 
 pub key_inserted : (current attribute word : Bytes) (old new : BTreeSet Key) (key : Key) → parts_of_key key ≡ word_key current attribute word → new.keys ≡ insert_key key_cmp old.keys key
-    → knows_word current attribute (record { keys = new }) ≡ with_known current attribute (Some word) (knows_word current attribute (record { keys = old }))
+    → knows_word current attribute new ≡ with_known current attribute (Some word) (knows_word current attribute old)
 key_inserted current attribute word old new key is e = fun_ext (λ other.
     let test : Key → Bool = λ key. are_one_key (word_key current attribute other) (parts_of_key key) in
     ap (list_any test) e
@@ -139,10 +137,10 @@ key_inserted current attribute word old new key is e = fun_ext (λ other.
     (λ one two tie. ap (are_one_key (word_key current attribute other)) (equal_keys (parts_of_key one) (parts_of_key two) (sym (key_ties one two) ∙ ap is_eq tie))) old.keys key
     ∙ ap (λ z. z || list_any test old.keys) (ap (are_one_key (word_key current attribute other)) is ∙ sym (alike_keys current attribute other word))))
 
-pub key_again : (current attribute : Bytes) (old new : BTreeSet Key) → new.keys ≡ old.keys → knows_word current attribute (record { keys = new }) ≡ knows_word current attribute (record { keys = old })
+pub key_again : (current attribute : Bytes) (old new : BTreeSet Key) → new.keys ≡ old.keys → knows_word current attribute new ≡ knows_word current attribute old
 key_again current attribute old new e = ap (λ keys word. list_any (λ key. are_one_key (word_key current attribute word) (parts_of_key key)) keys) e
 
-pub none_known : (current attribute : Bytes) (set : BTreeSet Key) → set.keys ≡ [] → knows_word current attribute (record { keys = set }) ≡ (λ word. false)
+pub none_known : (current attribute : Bytes) (set : BTreeSet Key) → set.keys ≡ [] → knows_word current attribute set ≡ (λ word. false)
 none_known current attribute set none = ap (λ keys word. list_any (λ key. are_one_key (word_key current attribute word) (parts_of_key key)) keys) none
 
 -- ---- items and words
@@ -177,7 +175,10 @@ by_body current attribute words (Some other) =
     ∙ any_like (are_one current attribute other) (λ word. are_one current attribute word other)
     (λ word. alike_keys current attribute other word ∙ (key_alike (word_key current attribute other) (word_key current attribute word) ∙ sym (alike_keys current attribute word other))) words
 
-pub chosen_words : (current attribute : Bytes) (words : List Bytes) (known : Known) → knows_word current attribute known ≡ with_all current attribute (λ word. Some word) words (λ word. false)
-    → chooses current attribute (h.These known) ≡ is_some_item current attribute words
-chosen_words current attribute words known e =
-    fun_ext (λ x. ap (λ all. option_map_or all (body_of x) false) (e ∙ all_known current attribute (λ word. Some word) words (λ word. false)) ∙ by_body current attribute words (body_of x))
+-- the set of some words, after the last of them
+pub chosen_words : (current attribute : Bytes) (words : List Bytes) (known : BTreeSet Key) (i : ℕ)
+    → with_all current attribute (λ word. Some word) (drop i words) (knows_word current attribute known) ≡ with_all current attribute (λ word. Some word) words (λ word. false) → length words ≤ i
+    → chooses current attribute (Some known) ≡ is_some_item current attribute words
+chosen_words current attribute words known i e past =
+    let none = at_drop_all (λ rest. with_all current attribute (λ word. Some word) rest (knows_word current attribute known)) words i past in
+    fun_ext (λ x. ap (λ all. option_map_or all (body_of x) false) (sym none ∙ e ∙ all_known current attribute (λ word. Some word) words (λ word. false)) ∙ by_body current attribute words (body_of x))

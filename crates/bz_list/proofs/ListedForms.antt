@@ -1,37 +1,42 @@
 -- The lists of a value and their items.
-use Rattle.std.proofs.Common.{◌≡◌, false, List, [], ◌∷◌, refl, sym, ap, ◌∙◌, Bool, true, not, ◌&&◌, map, true≢false, ℕ}
-use Rattle.std.specs.Prelude.{IsTrue, ◌↔◌, if◌then◌else◌, Some, Option, Ok, Err, None, slice_get, slice_set}
+use Rattle.std.proofs.Common.{◌≡◌, false, List, [], ◌∷◌, ◌++◌, refl, sym, ap, ◌∙◌, Bool, true, not, ◌&&◌, map, true≢false, ℕ, ◌≤◌, drop, length}
+use Rattle.std.specs.Prelude.{IsTrue, ◌↔◌, if◌then◌else◌, Some, Option, Ok, Err, None, slice_get, slice_set, bytes_eq}
 use Rattle.std.specs.List.{flat_map, list_any, filter, position}
+use Rattle.std.specs.Option.{option_map_or}
 use Rattle.bz_grammar.specs.declared.kind.Kind.TheVariants as k
 use Rattle.bz_grammar.specs.Shapes.{is_kind}
 use Rattle.bz_value.specs.declared.value.Form.{Form}
 use Rattle.bz_value.specs.declared.value.Expr.TheVariants as e
-use Rattle.bz_attribute.proofs.ArgumentForms.{parts_Form}
-use Rattle.std.proofs.lemmas.List.{append-nil}
+use Rattle.std.proofs.lemmas.List.{append-nil, at_drop_all}
 use Rattle.bz_value.specs.declared.value.Expr.{Expr}
 use Rattle.bz_value.specs.Empty.{is_empty}
-use Rattle.bz_attribute.specs.Lists.{items_in, listed, lists_of, is_empty_list, is_no_list, has_lists, is_some_item, with_more}
+use Rattle.bz_attribute.specs.Lists.{items_in, listed, lists_of, is_empty_list, is_no_list, has_lists, is_some_item, with_more, body_of, are_one}
 use Rattle.bz_attribute.proofs.ListsThere.{in_sum, in_value, items_there, some_filtered}
 use Rattle.std.proofs.lemmas.Bool.{or_parts}
 use Rattle.std.proofs.lemmas.List.Folds.{list_any-append}
 use Rattle.bz_items.specs.Characters.{Bytes}
 use Rattle.bz_rule.specs.Rules.{attribute}
-use Rattle.bz_rule.specs.Values.{has_kind, parts_of, items_of, with_parts, with_items, on_row, on_items, on_lists}
-use Rattle.bz_attribute.specs.Attributes.{with_new, with_value, without, Arguments, by_value, on_first_that}
+use Rattle.bz_rule.specs.Values.{has_kind, parts_of, items_of, with_parts, with_items, with_text, on_row, on_items, on_lists}
+use Rattle.bz_attribute.specs.Attributes.{with_new, with_value, without, Arguments, by_value, on_first_that, on_value, is_attribute}
 use Rattle.bz_attribute.proofs.AttributesAgain.{by_there, with_value_same}
 use Rattle.bz_attribute.proofs.FormsAgain.{both, own_parts, own_items, if_true, if_false}
-use Rattle.bz_list.specs.Changes.{cleared, without_items, is_moved, items_moved, with_items_added, move, remove_values}
-use Rattle.bz_list.specs.private.Listing.{put_back, without_chosen, chosen_in, added_by, value_with}
+use Rattle.bz_list.specs.Changes.{cleared, without_items, is_moved, items_moved, with_items_added, move, remove_values, with_body, in_attributes}
+use Rattle.bz_list.specs.private.Listing.{put_back, without_chosen, chosen_in, added_by, value_with, item_changed_by}
+use Rattle.bz_list.specs.declared.replacing.Change.{Change}
+use Rattle.bz_list.specs.declared.replacing.Change.TheVariants.{Replace, Substitute, Shorten}
 use Rattle.bz_command_syntax.specs.declared.command.Values.{Values}
-use Rattle.bz_list.specs.declared.adding.Added.TheVariants as a
+use Rattle.bz_command_syntax.specs.declared.command.Attributes.{Attributes}
+use Rattle.bz_command_syntax.specs.declared.command.Attributes.TheVariants as t
+use Rattle.bz_list.specs.declared.listed.Added.TheVariants as a
 use Rattle.bz_value.specs.declared.refusal.Refusal.TheVariants.{NoAttribute, NotAList}
-use Rattle.bz_attribute.specs.Made.{list_of, plus}
+use Rattle.bz_attribute.specs.Made.{list_of, plus, string_text}
+use Rattle.bz_label.specs.Tables.{is_label_attribute}
+use Rattle.bz_label.specs.Read.{shortened}
+use Rattle.bz_command_syntax.specs.Patterns.{substituted}
+use Rattle.bz_command_syntax.specs.Quoted.{quoted_of}
 use Rattle.bz_attribute.proofs.ArgumentPlaces as places
 
--- the items of a sum, and of any other value
-pub sum_items : (f : Form) → is_kind f.kind k.Sum ≡ true → items_in (e.Form f) ≡ flat_map listed f.parts
-sum_items f h = sym (in_sum (e.Form f) h) ∙ ap (flat_map listed) (parts_Form f)
-
+-- the items of a value that is no sum
 pub own_items_in : (value : Expr) → has_kind k.Sum value ≡ false → items_in value ≡ listed value
 own_items_in value h = sym (in_value value h) ∙ append-nil (listed value)
 
@@ -175,3 +180,25 @@ changed_there test f xs read i x new at same = places.changed_there test f xs i 
 
 pub changed_nowhere : {X : Type 0} (test : X → Bool) (f : X → X) (xs read : List X) → None ≡ position test read → read ≡ xs → xs ≡ on_first_that test f xs
 changed_nowhere test f xs read none same = places.changed_nowhere test f xs (none ∙ ap (position test) same)
+
+-- what is no plain string stays
+pub no_body : (change : Change) (current name : Bytes) (x : Expr) → None ≡ body_of x → x ≡ item_changed_by change current name x
+no_body (Replace old new) current name x e = ap (λ found. if option_map_or (are_one current name old.now) found false then with_text (string_text current name new.now) x else x) e
+no_body (Substitute pattern template) current name x e = ap (λ found. option_map_or (λ body. with_body current name body (substituted pattern.now template.now body) x) found x) e
+no_body Shorten current name x e =
+    ap (λ found. option_map_or (λ text. if is_label_attribute name && not (bytes_eq (shortened current text) text) then with_text (quoted_of (shortened current text)) x else x) found x) e
+
+-- the attribute of a name that is meant, changed in its place; and where there is none
+module _ (attributes : Attributes) (name : Bytes) (change : Bytes → Expr → Expr) (xs : List Expr) (is : attributes ≡ t.Named name) where
+  pub named_there : (i : ℕ) (x new : Expr) → slice_get xs i ≡ Some x → Some i ≡ position (is_attribute name) xs → new ≡ on_value (change name) x → slice_set xs i new ≡ in_attributes attributes change xs
+  named_there i x new there at made = places.changed_there (is_attribute name) (on_value (change name)) xs i x new at there made ∙ sym (ap (λ attributes. in_attributes attributes change xs) is)
+
+  pub named_nowhere : None ≡ position (is_attribute name) xs → xs ≡ in_attributes attributes change xs
+  named_nowhere none = places.changed_nowhere (is_attribute name) (on_value (change name)) xs none ∙ sym (ap (λ attributes. in_attributes attributes change xs) is)
+
+-- what was taken from the operands of a sum, after the last of them
+pub sum_taken : (test : Expr → Bool) (value : Expr) (f : Form) (xs taken old : List Expr) (i : ℕ) → value ≡ e.Form f → is_kind f.kind k.Sum ≡ true
+    → taken ++ filter test (flat_map listed (drop i xs)) ≡ old ++ filter test (flat_map listed (parts_of value)) → length xs ≤ i → taken ≡ old ++ filter test (items_in value)
+sum_taken test value f xs taken old i is sum so_far past =
+    sym (append-nil taken) ∙ (sym (at_drop_all (λ rest. taken ++ filter test (flat_map listed rest)) xs i past)
+    ∙ (so_far ∙ ap (λ items. old ++ filter test items) (in_sum value (ap (has_kind k.Sum) is ∙ sum))))

@@ -1,7 +1,6 @@
 //! What the commands on the values of attributes, in lists or alone, make of the arguments of a rule.
 #![tactic(auto)]
 
-mod adding;
 mod known;
 mod laws;
 mod listed;

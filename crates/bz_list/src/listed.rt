@@ -1,28 +1,199 @@
-//! What each command on values makes of the arguments of a rule: items that are removed and moved, and the other commands.
-ghost use Rattle.std.specs.Prelude.{◌≡◌, ◌⊎◌, ◌++◌, ◌∷◌, List, Ok, Err, IfOk, OnOk, IfErr, map, not};
-ghost use Rattle.std.specs.List.{filter, flat_map};
+//! Items that are added to the lists of an attribute, removed from them and moved to another one, and the table of all commands on values.
+ghost use Rattle.std.specs.Prelude.{◌≡◌, ◌⊎◌, ◌++◌, ◌∷◌, [], List, Ok, Err, IfOk, OnOk, IfErr, map, nat_eq, not};
+ghost use Rattle.std.specs.List.{ends_with, filter, flat_map, list_any};
 ghost use Rattle.bz_grammar.specs.declared.kind.Kind.TheVariants as kinds;
 ghost use Rattle.bz_value.specs.declared.value.Expr.{Expr as Value};
-ghost use Rattle.bz_rule.specs.Rules.{attribute as value_there};
-ghost use Rattle.bz_rule.specs.Values.{on_items, on_lists};
 ghost use Rattle.bz_value.specs.Empty.{is_empty};
-ghost use Rattle.bz_attribute.specs.Lists.{items_in, listed};
-ghost use Rattle.bz_list.specs.Changes.{remove_values, move, values_changed};
-ghost use Rattle.bz_list.specs.private.Listing.{chooses, is_left, put_back, without_chosen, chosen_in};
+ghost use Rattle.bz_items.specs.Characters.{Bytes};
+ghost use Rattle.bz_rule.specs.Rules.{attribute as value_there};
+ghost use Rattle.bz_rule.specs.Values.{has_kind as is_of, on_items, on_lists};
+ghost use Rattle.bz_attribute.specs.Attributes.{on_first_that};
+ghost use Rattle.bz_attribute.specs.Lists.{fresh, is_item as is_item_of, items_in, listed as as_listed, with_more};
+ghost use Rattle.bz_attribute.specs.Made.{string_of as string_made};
+ghost use Rattle.bz_list.specs.Changes.{with_items_added, remove_values, move, values_changed};
+ghost use Rattle.bz_list.specs.private.KnownValues.{knows_word};
+ghost use Rattle.bz_list.specs.private.Listing.{added_by, added_to, chooses, chosen_in, is_item_ending, is_left, new_items, new_strings, put_back, without_chosen};
 
-use crate::adding::{Added, add_items};
-use crate::known::Chosen;
+use crate::known::{
+    Chosen, Known, insert, is_chosen, items_known, listed, meaning, values_chosen, words_chosen,
+};
 use crate::replacing::Change;
 use bz_attribute::{
-    Slot, has_lists, is_empty_list, is_no_list, remove_first, set_value, take_value,
+    Slot, add_attribute, append_to, body_of, first_of_kind, has_lists, is_empty_list, is_item,
+    is_no_list, list_of, operands_of, plus, remove_first, set_value, string_of, take_value,
 };
 use bz_command_syntax::{ValueOperation, Values};
 use bz_grammar::Kind;
 use bz_items::{Items, Memory, Text};
-use bz_rule::attribute;
+use bz_rule::{attribute, inside, text_of};
 use bz_value::{Expr, Refusal};
 use std::alloc::Global;
 use std::mem;
+
+/// Whether memory was given for a step.
+type Done = Result<(), Memory>;
+
+/// What a command made of the arguments, or its refusal.
+type Changed = Result<Items<Expr>, Refusal>;
+
+/// What is added to an attribute.
+#[derive(Drop)]
+enum Added<'a> {
+    /// Words that become strings.
+    Words(&'a [Text]),
+    /// Items that another attribute had.
+    Moved(Items<Expr>),
+}
+
+/// Adds the string of a word that is not known yet.
+#[tactic(auto, using(crate::proofs::AddedItems::one_more))]
+fn push_word(slot: Slot<'_>, word: &[u8], known: &mut Known, items: &mut Vec<Expr>) -> Done
+    ensures { (rest : List Bytes) → OnOk result (items.new.items ++ new_strings slot.entry.current.now slot.entry.attribute.now (knows_word slot.entry.current.now slot.entry.attribute.now known.new) rest
+        ≡ items.old.items ++ new_strings slot.entry.current.now slot.entry.attribute.now (knows_word slot.entry.current.now slot.entry.attribute.now known.old) (word.now ∷ rest)) }
+{
+    if insert(known, slot, Some(word))? {
+        items.push(string_of(slot, word)?)?;
+    }
+    Ok(())
+}
+
+/// Adds an item that is not known yet, as it comes to another attribute.
+fn push_item(slot: Slot<'_>, mut x: Expr, known: &mut Known, items: &mut Vec<Expr>) -> Done
+    ensures { (rest : List Value) → OnOk result (items.new.items ++ new_items slot.entry.current.now slot.entry.attribute.now (knows_word slot.entry.current.now slot.entry.attribute.now known.new) rest
+        ≡ items.old.items ++ new_items slot.entry.current.now slot.entry.attribute.now (knows_word slot.entry.current.now slot.entry.attribute.now known.old) (x ∷ rest)) }
+{
+    if insert(known, slot, body_of(&x))? {
+        Change::Shorten.on_item(slot, &mut x)?;
+        items.push(x)?;
+    }
+    Ok(())
+}
+
+/// The items that are added to those that are known, each once.
+fn added_items(slot: Slot<'_>, added: Added<'_>, mut known: Known) -> Result<Vec<Expr>, Memory>
+    ensures { IfOk result (λ items. items.items ≡ added_to slot.entry.current.now slot.entry.attribute.now added.entry (knows_word slot.entry.current.now slot.entry.attribute.now known)) }
+{
+    let mut items = Vec::new(slot.alloc);
+    match added {
+        Added::Words(words) => {
+            for word in words {
+                push_word(slot, word.as_slice(), &mut known, &mut items)?;
+            }
+        }
+        Added::Moved(moved) => {
+            for x in moved.into_vec() {
+                push_item(slot, x, &mut known, &mut items)?;
+            }
+        }
+    }
+    Ok(items)
+}
+
+/// Whether a word means an item. What the item ends with is looked at first: most others end otherwise.
+fn is_item_ending(slot: Slot<'_>, word: &[u8], end: &[u8], x: &Expr) -> bool
+    ensures { result ≡ is_item_ending slot.entry.current.now slot.entry.attribute.now word.now end.now x.now }
+{
+    inside(1, text_of(x)).ends_with(end) && is_item(slot.current, slot.attribute, word, x)
+}
+
+/// Whether a word means an item of a list.
+fn is_in_list(slot: Slot<'_>, word: &[u8], end: &[u8], x: &Expr) -> bool
+    ensures { result ≡ list_any (is_item_ending slot.entry.current.now slot.entry.attribute.now word.now end.now) (as_listed x.now) }
+{
+    let mut items = listed(x).iter();
+    items.any(|item| is_item_ending(slot, word, end, item))
+}
+
+/// The same of the lists among these expressions.
+fn is_in_lists(slot: Slot<'_>, word: &[u8], end: &[u8], operands: &[Expr]) -> bool
+    ensures { result ≡ list_any (λ x. list_any (is_item_ending slot.entry.current.now slot.entry.attribute.now word.now end.now) (as_listed x)) operands.now }
+{
+    operands.iter().any(|x| is_in_list(slot, word, end, x))
+}
+
+/// Whether a word means an item of the lists among these expressions. Each text that means the same ends with the name
+/// of the label that the word is, or with the word itself.
+fn is_there(slot: Slot<'_>, word: &[u8], operands: &[Expr]) -> bool
+    ensures { result ≡ list_any (is_item_of slot.entry.current.now slot.entry.attribute.now word.now) (flat_map as_listed operands.now) }
+{
+    let (_, parts) = meaning(slot, word);
+    is_in_lists(slot, word, parts.name, operands)
+}
+
+/// The string of a word that is added alone to the items of lists: no set of these is made.
+#[tactic(auto, using(crate::proofs::AddedItems::one_fresh))]
+fn one_beside(slot: Slot<'_>, word: &[u8], operands: &[Expr]) -> Result<Vec<Expr>, Memory>
+    ensures { IfOk result (λ items. items.items ≡ map (string_made slot.entry.current.now slot.entry.attribute.now) (fresh slot.entry.current.now slot.entry.attribute.now (flat_map as_listed operands.now) [] (word.now ∷ []))) }
+{
+    let mut items = Vec::new(slot.alloc);
+    if !is_there(slot, word, operands) {
+        items.push(string_of(slot, word)?)?;
+    }
+    Ok(items)
+}
+
+/// The items that are added to those of the lists among these expressions.
+#[tactic(auto, using(crate::proofs::AddedItems::added_there))]
+fn added_beside(slot: Slot<'_>, added: Added<'_>, operands: &[Expr]) -> Result<Vec<Expr>, Memory>
+    ensures { IfOk result (λ items. items.items ≡ added_by slot.entry.current.now slot.entry.attribute.now added.entry (flat_map as_listed operands.now)) }
+{
+    if let Added::Words([word]) = &added {
+        return one_beside(slot, word.as_slice(), operands);
+    }
+    let known = items_known(slot, operands)?;
+    let items = added_items(slot, added, known)?;
+    Ok(items)
+}
+
+/// Puts all of `more` after the items of the first list among the operands of a sum.
+#[tactic(auto, using(crate::proofs::ListedForms::changed_there, crate::proofs::ListedForms::changed_nowhere))]
+fn append_to_first(more: &mut Vec<Expr>, operands: &mut Items<Expr>) -> Done
+    ensures { OnOk result (operands.new ≡ on_first_that (is_of kinds.List) (on_items kinds.List (λ items. items ++ more.old.items)) operands.old) }
+{
+    let Some(at) = first_of_kind(Kind::List, operands.as_slice()) else {
+        return Ok(());
+    };
+    append_to(Kind::List, more, operands.at_mut(at))?;
+    Ok(())
+}
+
+/// The same for the first list of a value.
+fn append_to_value(more: &mut Vec<Expr>, value: &mut Expr) -> Done
+    ensures { OnOk result (value.new ≡ with_more more.old.items value.old) }
+{
+    match value {
+        Expr::Form(form) if form.kind == Kind::Sum => append_to_first(more, &mut form.parts),
+        _ => append_to(Kind::List, more, value),
+    }
+}
+
+/// Adds items to the end of the first list of an attribute. A value that is no list becomes a sum with a new one.
+#[tactic(auto, using(crate::proofs::ListedForms::added_found, crate::proofs::ListedForms::no_items))]
+fn add_items(slot: Slot<'_>, added: Added<'_>, mut arguments: Items<Expr>) -> Changed
+    ensures ok { IfOk result (λ new. with_items_added slot.entry.attribute.now (added_by slot.entry.current.now slot.entry.attribute.now added.entry) arguments ≡ Ok new) }
+    ensures err { IfErr result (λ refusal. (with_items_added slot.entry.attribute.now (added_by slot.entry.current.now slot.entry.attribute.now added.entry) arguments ≡ Err refusal) ⊎ (refusal ≡ Refusal.Memory)) }
+{
+    let Some(mut value) = take_value(slot.alloc, slot.attribute, &mut arguments) else {
+        let items = added_beside(slot, added, &[])?;
+        let list = list_of(slot.alloc, Items::from_vec(items));
+        add_attribute(slot.alloc, slot.attribute, list, &mut arguments)?;
+        return Ok(arguments);
+    };
+    if !has_lists(&value) && is_no_list(&value) {
+        drop(value);
+        return Err(Refusal::NotAList);
+    }
+    let mut more = added_beside(slot, added, operands_of(&value))?;
+    if !has_lists(&value) {
+        let list = list_of(slot.alloc, Items::from_vec(more));
+        let sum = plus(slot.alloc, value, list)?;
+        set_value(slot.attribute, sum, &mut arguments);
+        return Ok(arguments);
+    }
+    append_to_value(&mut more, &mut value)?;
+    set_value(slot.attribute, value, &mut arguments);
+    Ok(arguments)
+}
 
 /// Puts an item to those that are taken, where the command is meant for it, else to those that are left.
 fn put_apart(
@@ -31,11 +202,11 @@ fn put_apart(
     x: Expr,
     left: &mut Vec<Expr>,
     taken: &mut Vec<Expr>,
-) -> Result<(), Memory>
+) -> Done
     ensures left { (rest : List Value) → OnOk result (left.new.items ++ filter (is_left slot.entry.current.now slot.entry.attribute.now chosen.now) rest ≡ left.old.items ++ filter (is_left slot.entry.current.now slot.entry.attribute.now chosen.now) (x ∷ rest)) }
     ensures taken { (rest : List Value) → OnOk result (taken.new.items ++ filter (chooses slot.entry.current.now slot.entry.attribute.now chosen.now) rest ≡ taken.old.items ++ filter (chooses slot.entry.current.now slot.entry.attribute.now chosen.now) (x ∷ rest)) }
 {
-    if chosen.has(slot, &x)? {
+    if is_chosen(slot, chosen, &x)? {
         taken.push(x)?;
     } else {
         left.push(x)?;
@@ -44,19 +215,12 @@ fn put_apart(
 }
 
 /// Takes the items that the command is meant for.
-fn take_chosen(
-    slot: Slot<'_>,
-    chosen: &Chosen,
-    items: &mut Items<Expr>,
-    taken: &mut Vec<Expr>,
-) -> Result<(), Memory>
+fn take_in(slot: Slot<'_>, chosen: &Chosen, items: &mut Items<Expr>, taken: &mut Vec<Expr>) -> Done
     ensures left { OnOk result (items.new ≡ filter (is_left slot.entry.current.now slot.entry.attribute.now chosen.now) items.old) }
     ensures taken { OnOk result (taken.new.items ≡ taken.old.items ++ filter (chooses slot.entry.current.now slot.entry.attribute.now chosen.now) items.old) }
 {
-    let alloc = items.alloc();
-    let all = mem::replace(items, Items::new(alloc)).into_vec();
-    let mut left = Vec::new(alloc);
-    for x in all {
+    let mut left = Vec::new(slot.alloc);
+    for x in mem::replace(items, Items::new(slot.alloc)).into_vec() {
         put_apart(slot, chosen, x, &mut left, taken)?;
     }
     *items = Items::from_vec(left);
@@ -64,53 +228,30 @@ fn take_chosen(
 }
 
 /// The same of a list; any other expression stays.
-fn take_from_list(
-    slot: Slot<'_>,
-    chosen: &Chosen,
-    x: &mut Expr,
-    taken: &mut Vec<Expr>,
-) -> Result<(), Memory>
+fn take_from_list(slot: Slot<'_>, chosen: &Chosen, x: &mut Expr, taken: &mut Vec<Expr>) -> Done
     ensures left { OnOk result (x.new ≡ on_items kinds.List (filter (is_left slot.entry.current.now slot.entry.attribute.now chosen.now)) x.old) }
-    ensures taken { OnOk result (taken.new.items ≡ taken.old.items ++ filter (chooses slot.entry.current.now slot.entry.attribute.now chosen.now) (listed x.old)) }
+    ensures taken { OnOk result (taken.new.items ≡ taken.old.items ++ filter (chooses slot.entry.current.now slot.entry.attribute.now chosen.now) (as_listed x.old)) }
 {
     match x {
         Expr::Form(form) if form.kind == Kind::List => {
-            take_chosen(slot, chosen, &mut form.seq.items, taken)
+            take_in(slot, chosen, &mut form.seq.items, taken)
         }
         _ => Ok(()),
     }
 }
 
-/// The same of the lists among the operands of a sum.
-fn take_from_operands(
-    slot: Slot<'_>,
-    chosen: &Chosen,
-    operands: &mut Items<Expr>,
-    taken: &mut Vec<Expr>,
-) -> Result<(), Memory>
-    ensures left { OnOk result (operands.new ≡ map (on_items kinds.List (filter (is_left slot.entry.current.now slot.entry.attribute.now chosen.now))) operands.old) }
-    ensures taken { OnOk result (taken.new.items ≡ taken.old.items ++ filter (chooses slot.entry.current.now slot.entry.attribute.now chosen.now) (flat_map listed operands.old)) }
-{
-    for x in operands.as_mut_slice().iter_mut() {
-        take_from_list(slot, chosen, x, taken)?;
-    }
-    Ok(())
-}
-
 /// The same of the lists of a value.
-#[tactic(auto, using(crate::proofs::ListedForms::sum_items, crate::proofs::ListedForms::own_items_in))]
-fn take_from_lists(
-    slot: Slot<'_>,
-    chosen: &Chosen,
-    value: &mut Expr,
-    taken: &mut Vec<Expr>,
-) -> Result<(), Memory>
+#[tactic(auto, using(crate::proofs::ListedForms::sum_taken, crate::proofs::ListedForms::own_items_in))]
+fn take_from_lists(slot: Slot<'_>, chosen: &Chosen, value: &mut Expr, taken: &mut Vec<Expr>) -> Done
     ensures left { OnOk result (value.new ≡ on_lists (filter (is_left slot.entry.current.now slot.entry.attribute.now chosen.now)) value.old) }
     ensures taken { OnOk result (taken.new.items ≡ taken.old.items ++ filter (chooses slot.entry.current.now slot.entry.attribute.now chosen.now) (items_in value.old)) }
 {
     match value {
         Expr::Form(form) if form.kind == Kind::Sum => {
-            take_from_operands(slot, chosen, &mut form.parts, taken)
+            for x in form.parts.as_mut_slice().iter_mut() {
+                take_from_list(slot, chosen, x, taken)?;
+            }
+            Ok(())
         }
         _ => take_from_list(slot, chosen, value, taken),
     }
@@ -147,30 +288,25 @@ fn take_items(
 }
 
 /// Items that are one of the words go; the attribute goes where its whole value is then an empty list.
-fn remove_values(slot: Slot<'_>, words: &[Text], arguments: &mut Items<Expr>) -> Result<(), Refusal>
-    ensures ok { OnOk result (remove_values slot.entry.current.now slot.entry.attribute.now words.now arguments.old ≡ Ok arguments.new) }
-    ensures err { IfErr result (λ refusal. (remove_values slot.entry.current.now slot.entry.attribute.now words.now arguments.old ≡ Err refusal) ⊎ (refusal ≡ Refusal.Memory)) }
+fn remove_values(slot: Slot<'_>, words: &[Text], mut arguments: Items<Expr>) -> Changed
+    ensures ok { IfOk result (λ new. remove_values slot.entry.current.now slot.entry.attribute.now words.now arguments ≡ Ok new) }
+    ensures err { IfErr result (λ refusal. (remove_values slot.entry.current.now slot.entry.attribute.now words.now arguments ≡ Err refusal) ⊎ (refusal ≡ Refusal.Memory)) }
 {
     let Some(value) = attribute(slot.attribute, arguments.as_slice()) else {
-        return Ok(());
+        return Ok(arguments);
     };
     if is_no_list(value) {
         return Err(Refusal::NotAList);
     }
-    let chosen = Chosen::of_words(slot, words)?;
-    let _gone = take_items(slot, &chosen, arguments)?;
-    Ok(())
+    let chosen = words_chosen(slot, words)?;
+    let _gone = take_items(slot, &chosen, &mut arguments)?;
+    Ok(arguments)
 }
 
 /// Items leave one attribute and are added to another.
-fn move_values(
-    from: Slot<'_>,
-    to: &[u8],
-    values: &Values,
-    arguments: &mut Items<Expr>,
-) -> Result<(), Refusal>
-    ensures ok { OnOk result (move from.entry.current.now from.entry.attribute.now to.now values.now arguments.old ≡ Ok arguments.new) }
-    ensures err { IfErr result (λ refusal. (move from.entry.current.now from.entry.attribute.now to.now values.now arguments.old ≡ Err refusal) ⊎ (refusal ≡ Refusal.Memory)) }
+fn move_values(from: Slot<'_>, to: &[u8], values: &Values, mut arguments: Items<Expr>) -> Changed
+    ensures ok { IfOk result (λ new. move from.entry.current.now from.entry.attribute.now to.now values.now arguments ≡ Ok new) }
+    ensures err { IfErr result (λ refusal. (move from.entry.current.now from.entry.attribute.now to.now values.now arguments ≡ Err refusal) ⊎ (refusal ≡ Refusal.Memory)) }
 {
     let Some(value) = attribute(from.attribute, arguments.as_slice()) else {
         return Err(Refusal::NoAttribute);
@@ -178,10 +314,10 @@ fn move_values(
     if !has_lists(value) {
         return Err(Refusal::NotAList);
     }
-    let chosen = Chosen::of_values(from, values)?;
-    let taken = take_items(from, &chosen, arguments)?;
+    let chosen = values_chosen(from, values)?;
+    let taken = take_items(from, &chosen, &mut arguments)?;
     if taken.is_empty() {
-        return Ok(());
+        return Ok(arguments);
     }
     let to = Slot {
         attribute: to,
@@ -190,15 +326,16 @@ fn move_values(
     add_items(to, Added::Moved(taken), arguments)
 }
 
-// Changes the arguments in place; after a refusal part of them may be lost.
-fn change_in_place(
+/// What an operation on the values of attributes makes of the arguments of a rule, which are given up where it is refused. `current`
+/// is the path of the file's package. Errors: the refusal of the operation; `Memory`: a growth was refused.
+pub fn change_values(
     alloc: Global,
     operation: &ValueOperation,
     current: &[u8],
-    arguments: &mut Items<Expr>,
-) -> Result<(), Refusal>
-    ensures ok { OnOk result (values_changed operation.now current.now arguments.old ≡ Ok arguments.new) }
-    ensures err { IfErr result (λ refusal. (values_changed operation.now current.now arguments.old ≡ Err refusal) ⊎ (refusal ≡ Refusal.Memory)) }
+    arguments: Items<Expr>,
+) -> Result<Items<Expr>, Refusal>
+    ensures ok { IfOk result (λ new. values_changed operation.now current.now arguments ≡ Ok new) }
+    ensures err { IfErr result (λ refusal. (values_changed operation.now current.now arguments ≡ Err refusal) ⊎ (refusal ≡ Refusal.Memory)) }
 {
     match operation {
         ValueOperation::Add { attribute, values } => {
@@ -206,11 +343,8 @@ fn change_in_place(
             add_items(slot, Added::Words(values.as_slice()), arguments)
         }
         ValueOperation::Remove { attribute, values } => {
-            remove_values(
-                Slot::new(alloc, current, attribute.as_slice()),
-                values.as_slice(),
-                arguments,
-            )
+            let slot = Slot::new(alloc, current, attribute.as_slice());
+            remove_values(slot, values.as_slice(), arguments)
         }
         ValueOperation::Replace {
             attributes,
@@ -233,19 +367,4 @@ fn change_in_place(
             move_values(from, to.as_slice(), values, arguments)
         }
     }
-}
-
-/// What an operation on the values of attributes makes of the arguments of a rule, which are given up where it is refused. `current`
-/// is the path of the file's package. Errors: the refusal of the operation; `Memory`: a growth was refused.
-pub fn change_values(
-    alloc: Global,
-    operation: &ValueOperation,
-    current: &[u8],
-    mut arguments: Items<Expr>,
-) -> Result<Items<Expr>, Refusal>
-    ensures ok { IfOk result (λ new. values_changed operation.now current.now arguments ≡ Ok new) }
-    ensures err { IfErr result (λ refusal. (values_changed operation.now current.now arguments ≡ Err refusal) ⊎ (refusal ≡ Refusal.Memory)) }
-{
-    change_in_place(alloc, operation, current, &mut arguments)?;
-    Ok(arguments)
 }

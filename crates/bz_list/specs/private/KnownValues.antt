@@ -7,7 +7,7 @@ use Rattle.bz_label.specs.declared.label.Label.{Label}
 use Rattle.bz_label.specs.Tables.{is_label_attribute}
 use Rattle.bz_label.specs.Read.{label_in, is_equal}
 use Rattle.bz_list.specs.declared.known.Key.{Key}
-use Rattle.bz_list.specs.declared.known.Known.{Known}
+use Rattle.std.specs.BTreeSet.{BTreeSet}
 use Rattle.bz_value.specs.declared.value.Expr.{Expr}
 use Rattle.bz_items.specs.Characters.{Bytes}
 use Rattle.bz_attribute.specs.Lists.{are_one}
@@ -33,8 +33,8 @@ parts_of_key key = (key.is_label, record { repository = key.repository.items; «
 
 -- ---- what is known, as a test of words
 
-abbrev pub knows_word : Bytes → Bytes → Known → Bytes → Bool
-knows_word current attribute known word = list_any (λ key. are_one_key (word_key current attribute word) (parts_of_key key)) known.keys.keys
+abbrev pub knows_word : Bytes → Bytes → BTreeSet Key → Bytes → Bool
+knows_word current attribute known word = list_any (λ key. are_one_key (word_key current attribute word) (parts_of_key key)) known.keys
 
 -- A thing is known by its text: a word by itself, an item by the body of a plain string; any other item is never known.
 abbrev pub is_known : {X : Type 0} → (X → Option Bytes) → (Bytes → Bool) → X → Bool

@@ -3,26 +3,26 @@ use Rattle.std.specs.Prelude.{Bool, true, not, ◌&&◌, nat_eq, List, [], Optio
 use Rattle.std.specs.List.{ends_with, filter}
 use Rattle.bz_value.specs.declared.value.Expr.{Expr}
 use Rattle.bz_items.specs.Characters.{Bytes}
-use Rattle.bz_list.specs.declared.known.Chosen.{Chosen}
-use Rattle.bz_list.specs.declared.known.Chosen.TheVariants as h
+use Rattle.std.specs.BTreeSet.{BTreeSet}
+use Rattle.bz_list.specs.declared.known.Key.{Key}
 use Rattle.bz_attribute.specs.Attributes.{with_value, is_other_attribute, on_value}
 use Rattle.bz_attribute.specs.Lists.{body_of, items_in, is_item, fresh, travelled, arriving, has_lists, with_more}
 use Rattle.bz_list.specs.Changes.{cleared, without_items, in_value, replaced_item, substituted_item}
 use Rattle.bz_list.specs.private.KnownValues.{knows_word, is_known, new_ones}
-use Rattle.bz_list.specs.declared.adding.Added.{Added}
-use Rattle.bz_list.specs.declared.adding.Added.TheVariants as a
+use Rattle.bz_list.specs.declared.listed.Added.{Added}
+use Rattle.bz_list.specs.declared.listed.Added.TheVariants as a
 use Rattle.bz_attribute.specs.Made.{list_of, plus, string_of}
-use Rattle.bz_rule.specs.Rules.{inner}
+use Rattle.bz_rule.specs.QuoteMarks.{inside}
 use Rattle.bz_rule.specs.Values.{parts_of, first_text, text_of}
 use Rattle.bz_list.specs.declared.replacing.Change.{Change}
 use Rattle.bz_list.specs.declared.replacing.Change.TheVariants.{Replace, Substitute, Shorten}
 
 -- whether a command is meant for an item of an attribute
-abbrev pub chooses : Bytes → Bytes → Chosen → Expr → Bool
-chooses current name h.All x = true
-chooses current name (h.These known) x = is_known body_of (knows_word current name known) x
+abbrev pub chooses : Bytes → Bytes → Option (BTreeSet Key) → Expr → Bool
+chooses current name None x = true
+chooses current name (Some known) x = is_known body_of (knows_word current name known) x
 
-abbrev pub is_left : Bytes → Bytes → Chosen → Expr → Bool
+abbrev pub is_left : Bytes → Bytes → Option (BTreeSet Key) → Expr → Bool
 is_left current name chosen x = not (chooses current name chosen x)
 
 -- what is left of a value put back, where items were taken and where none was
@@ -58,7 +58,7 @@ added_to current name (a.Moved items) known = new_items current name known items
 
 -- whether a word means an item that ends so between its quotation marks
 abbrev pub is_item_ending : Bytes → Bytes → Bytes → Bytes → Expr → Bool
-is_item_ending current name word end x = ends_with nat_eq (inner (text_of x)) end && is_item current name word x
+is_item_ending current name word end x = ends_with nat_eq (inside 1 (text_of x)) end && is_item current name word x
 
 -- a value with items added
 abbrev pub value_with : (List Expr → List Expr) → Expr → Expr

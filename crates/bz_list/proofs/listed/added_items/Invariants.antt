@@ -2,7 +2,7 @@ use Rattle.std.proofs.Common.{◌≡◌, ◌++◌, drop}
 use Rattle.std.specs.Vec.Iter.{into_iter_items}
 use Rattle.bz_list.specs.private.KnownValues.{knows_word}
 use Rattle.bz_list.specs.private.Listing.{added_to, new_items, new_strings}
-use Rattle.bz_list.proofs.adding.added_items.Given as goal
+use Rattle.bz_list.proofs.listed.added_items.Given as goal
 
 abbrev pub invariant-loop-word : goal.invariant-loop-word
 invariant-loop-word l =

@@ -3,7 +3,7 @@ use Rattle.std.specs.List.{filter}
 use Rattle.std.specs.Vec.Iter.{into_iter_items}
 use Rattle.bz_value.specs.declared.value.Expr.{Expr}
 use Rattle.bz_list.specs.private.Listing.{chooses, is_left}
-use Rattle.bz_list.proofs.listed.take_chosen.Goals as goal
+use Rattle.bz_list.proofs.listed.take_in.Goals as goal
 
 pub loop-x-preserved : goal.loop-x-preserved
 loop-x-preserved c =

@@ -1,0 +1,10 @@
+use Rattle.std.proofs.Common.{◌≡◌, drop, false}
+use Rattle.std.specs.Prelude.{Some}
+use Rattle.bz_list.specs.private.KnownValues.{knows_word, with_all}
+use Rattle.bz_list.proofs.known.words_chosen.Given as goal
+
+abbrev pub invariant-loop-word : goal.invariant-loop-word
+invariant-loop-word l =
+    let current = l.fn.slot.current.now in
+    let attribute = l.fn.slot.attribute.now in
+    with_all current attribute (λ word. Some word) (drop l.word-index l.words) (knows_word current attribute l.known) ≡ with_all current attribute (λ word. Some word) l.words (λ word. false)

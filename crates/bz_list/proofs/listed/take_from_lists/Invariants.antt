@@ -1,0 +1,13 @@
+use Rattle.std.proofs.Common.{◌≡◌, ◌++◌, take, drop, map}
+use Rattle.std.specs.List.{filter, flat_map}
+use Rattle.bz_grammar.specs.declared.kind.Kind.TheVariants as k
+use Rattle.bz_rule.specs.Values.{on_items, parts_of}
+use Rattle.bz_attribute.specs.Lists.{listed}
+use Rattle.bz_list.specs.private.Listing.{chooses, is_left}
+use Rattle.bz_list.proofs.listed.take_from_lists.Given as goal
+
+abbrev pub invariant-loop-x : goal.invariant-loop-x
+invariant-loop-x l = record {
+  left : take l.x-index l.x-items ++ map (on_items k.List (filter (is_left l.fn.slot.current.now l.fn.slot.attribute.now l.fn.chosen))) (drop l.x-index l.x-items) ≡ map (on_items k.List (filter (is_left l.fn.slot.current.now l.fn.slot.attribute.now l.fn.chosen))) (parts_of l.fn.value);
+  taken : l.taken.items ++ filter (chooses l.fn.slot.current.now l.fn.slot.attribute.now l.fn.chosen) (flat_map listed (drop l.x-index l.x-items)) ≡ l.fn.taken.items ++ filter (chooses l.fn.slot.current.now l.fn.slot.attribute.now l.fn.chosen) (flat_map listed (parts_of l.fn.value));
+}
