@@ -1,0 +1,27 @@
+use Rattle.std.proofs.Common.{◌∙◌, arith, rules}
+use Rattle.bz_change.proofs.KeyPlaces.{entry_absent, place_within, entry_there, all_before, put_next}
+use Rattle.bz_change.proofs.dicts.put_entries.Goals as goal
+
+pub at_mut-requires : goal.at_mut-requires
+at_mut-requires c =
+    place_within c.args.change c.args.slot.current.now c.args.slot.attribute.now c.entry-item.result c.loop-entry.places c.loop-entry.items c.loop-entry.invariant.indexed c.in-Some.field-0.now (search rules)
+
+pub loop-entry-preserved-in-Some : goal.loop-entry-preserved-in-Some
+loop-entry-preserved-in-Some c =
+    let kept = entry_there c.args.change c.args.slot.current.now c.args.slot.attribute.now c.entry-item.result c.loop-entry.places c.loop-entry.items c.loop-entry.invariant.indexed c.in-Some.field-0.now (search rules) _ _
+    c.at_mut.ensures.value c.in_ok-change_entry.ensures in
+    record {
+      indexed = kept.1;
+      put = put_next c.args.change c.args.slot.current.now c.args.slot.attribute.now c.args.entries.now c.loop-entry.entry-index c.entry-item.result _ _ _ (omega arith) c.entry-item.is kept.0 c.loop-entry.invariant.put;
+    }
+
+pub index-requires-in-loop-entry : goal.index-requires-in-loop-entry
+index-requires-in-loop-entry c =
+    all_before c.loop-entry.places c.loop-entry.items _ c.in_ok-entry_made.field-0 _ c.loop-entry.invariant.indexed (c.as_slice-in-loop-entry-2.ensures ∙ c.in_ok-push.ensures.ok) c.len-from.ensures
+
+pub loop-entry-preserved : goal.loop-entry-preserved
+loop-entry-preserved c = record {
+  indexed = search rules;
+  put = put_next c.args.change c.args.slot.current.now c.args.slot.attribute.now c.args.entries.now c.loop-entry.entry-index c.entry-item.result _ _ _ (omega arith) c.entry-item.is
+      (search rules ∙ entry_absent c.args.change c.args.slot.current.now c.args.slot.attribute.now c.entry-item.result c.loop-entry.places c.loop-entry.items c.loop-entry.invariant.indexed (search rules)) c.loop-entry.invariant.put;
+}
