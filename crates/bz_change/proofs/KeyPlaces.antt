@@ -5,10 +5,10 @@ use Rattle.bz_grammar.specs.declared.kind.Kind.TheVariants as k
 use Rattle.bz_value.specs.declared.value.Expr.{Expr}
 use Rattle.bz_items.specs.Characters.{Bytes}
 use Rattle.bz_command_syntax.specs.declared.command.Entry.{Entry}
-use Rattle.bz_rule.specs.Values.{has_kind, parts_of, with_parts, on_third}
+use Rattle.bz_rule.specs.Values.{has_kind, parts_of, with_parts, on_row, on_third}
 use Rattle.bz_rule.proofs.ProperChanges.{by_case}
 use Rattle.bz_attribute.specs.Made.{string_of, mark}
-use Rattle.bz_attribute.proofs.FormsAgain.{both, if_true, parts_kind, parts_filled, if_false}
+use Rattle.bz_attribute.proofs.FormsAgain.{both, if_true, parts_kind, parts_filled, if_false, if_either}
 use Rattle.bz_change.specs.Dicts.{key_in, key_of, has_some_key, has_key, entry_made, entry_changed, entry_put, entries_put}
 use Rattle.std.specs.List.{list_any, position, position_from}
 use Rattle.std.specs.Option.{option_map_or, option_or}
@@ -140,6 +140,14 @@ same_found places own key same = ap (λ (text : Bytes). is_some (place_at places
 
 -- ---- an entry that is put, by what the map has at its key
 
+first_same : (test : Expr → Bool) (items : List Expr) → on_first_that test (λ x. x) items ≡ items
+first_same test [] = refl
+first_same test (x ∷ xs) = if_either (test x) (x ∷ xs) (x ∷ on_first_that test (λ y. y) xs) (x ∷ xs) refl (ap (λ ys. x ∷ ys) (first_same test xs))
+
+pub added_again : (current name : Bytes) (entry : Entry) (items : List Expr) → list_any (has_key entry.key) items ≡ true → entry_put Add current name entry items ≡ items
+added_again current name entry items h =
+    if_true (list_any (has_key entry.key) items) (on_first_that (has_key entry.key) (λ x. x) items) (items ++ entry_made current name entry ∷ []) h ∙ first_same (has_key entry.key) items
+
 module _ (change : Change) (current name : Bytes) (entry : Entry) (places : BTreeMap (Vec ℕ Global) ℕ) (items : List Expr) (all : AreIndexed places items) where
   where_found : (found : Option ℕ) → place_at places entry.key ≡ found → found ≡ position (has_key entry.key) items
   where_found found is = sym (position_from-zero (has_key entry.key) items ∙ (sym (all entry.key) ∙ is))
@@ -149,24 +157,31 @@ module _ (change : Change) (current name : Bytes) (entry : Entry) (places : BTre
       sym (if_false (list_any (has_key entry.key) items) (on_first_that (has_key entry.key) (entry_changed change current name entry) items) (items ++ entry_made current name entry ∷ [])
       (list_any_none (has_key entry.key) items (none_passes (has_key entry.key) items (where_found None none)).all))
 
-  module _ (at : ℕ) (is : place_at places entry.key ≡ Some at) where
+  module _ (at : ℕ) (is_there : place_at places entry.key ≡ Some at) where
     first : IsFirst (has_key entry.key) items at
-    first = is_first (has_key entry.key) items at (mark []) (where_found (Some at) is)
+    first = is_first (has_key entry.key) items at (mark []) (where_found (Some at) is_there)
 
     pub place_within : at < length items
     place_within = first.within
 
-    pub entry_there : (x new : Expr) → slice_get items at ≡ Some x → new ≡ entry_changed change current name entry x
+    there : list_any (has_key entry.key) items ≡ true
+    there = list_any_at (has_key entry.key) items at (mark []) first.within (first.passes (mark []))
+
+    pub entry_kept : change ≡ Add → items ≡ entry_put change current name entry items
+    entry_kept same = sym (ap (λ (own : Change). entry_put own current name entry items) same ∙ added_again current name entry items there)
+
+    pub entry_set : change ≡ Set → (x new value : Expr) → slice_get items at ≡ Some x → new ≡ on_row k.Entry (on_third (λ old. value)) x → value ≡ string_of current name entry.value
         → (set items at new ≡ entry_put change current name entry items) × AreIndexed places (set items at new)
-    entry_there x new there made = (
-      changed_there (has_key entry.key) (entry_changed change current name entry) items at x new (where_found (Some at) is) there made
-          ∙ sym (if_true (list_any (has_key entry.key) items) (on_first_that (has_key entry.key) (entry_changed change current name entry) items) (items ++ entry_made current name entry ∷ [])
-          (list_any_at (has_key entry.key) items at (mark []) first.within (first.passes (mark [])))),
-      λ key.
-          all key
-          ∙ sym (place_set (has_key key) 0 items at new x
-          (ap (has_key key) made ∙ (ap (is_text key) (key_kept change current name entry x) ∙ ap (has_key key) (sym (get_or_from_slice_get items at x x there))))),
-    )
+    entry_set same x new value read row is =
+        let made : new ≡ entry_changed change current name entry x =
+        row ∙ (ap (λ (v : Expr). on_row k.Entry (on_third (λ old. v)) x) is ∙ ap (λ (own : Change). entry_changed own current name entry x) (sym same)) in (
+          changed_there (has_key entry.key) (entry_changed change current name entry) items at x new (where_found (Some at) is_there) read made
+              ∙ sym (if_true (list_any (has_key entry.key) items) (on_first_that (has_key entry.key) (entry_changed change current name entry) items) (items ++ entry_made current name entry ∷ []) there),
+          λ key.
+              all key
+              ∙ sym (place_set (has_key key) 0 items at new x
+              (ap (has_key key) made ∙ (ap (is_text key) (key_kept change current name entry x) ∙ ap (has_key key) (sym (get_or_from_slice_get items at x x read))))),
+        )
 
 -- what is put of the entries that are left
 pub put_next : (change : Change) (current name : Bytes) (entries : List Entry) (i : ℕ) (entry : Entry) (items new all : List Expr) → i < length entries → entry ≡ get_or entries i entry

@@ -6,7 +6,7 @@ ghost use Rattle.bz_grammar.specs.declared.kind.Kind.TheVariants as kinds;
 ghost use Rattle.bz_rule.specs.Values.{has_kind as is_of, on_items};
 ghost use Rattle.bz_value.specs.declared.refusal.Refusal.TheVariants.{NotADict};
 ghost use Rattle.bz_attribute.specs.Sets.{texts_of};
-ghost use Rattle.bz_change.specs.Dicts.{key_of, dict_remove, dicts_changed, entries_put, entry_changed, entry_made, on_dict, without_entries};
+ghost use Rattle.bz_change.specs.Dicts.{key_of, dict_remove, dicts_changed, entries_put, entry_made, on_dict, without_entries};
 ghost use Rattle.bz_change.specs.private.Outcomes.{IsOutcome, AreIndexed};
 
 use bz_attribute::{
@@ -74,18 +74,8 @@ fn entry_made(slot: Slot<'_>, entry: &Entry) -> Result<Expr, Memory>
     Ok(node(alloc, Kind::Entry, Items::from_vec(parts)))
 }
 
-/// An entry whose key is there stays, or gets the new value.
-fn change_entry(slot: Slot<'_>, change: Change, entry: &Entry, x: &mut Expr) -> Result<(), Memory>
-    ensures { OnOk result (x.new ≡ entry_changed change slot.entry.current.now slot.entry.attribute.now entry.now x.old) }
-{
-    if let Change::Set = change {
-        let mut value = string_of(slot, entry.value.as_slice())?;
-        swap_value(Kind::Entry, &mut value, x);
-    }
-    Ok(())
-}
-
-/// Puts entries to those of a dict, one after the other: the first of a key that is there changes, one of another key goes last.
+/// Puts entries to those of a dict, one after the other: the first of a key that is there stays or gets the new value, one of another
+/// key goes last.
 fn put_entries(
     slot: Slot<'_>,
     change: Change,
@@ -97,13 +87,17 @@ fn put_entries(
     let mut places = BTreeMap::new(slot.alloc);
     index(slot.alloc, 0, items.as_slice(), &mut places)?;
     for entry in entries {
-        if let Some(&at) = places.get(entry.key.as_slice()) {
-            change_entry(slot, change, entry, items.at_mut(at))?;
+        let Some(&at) = places.get(entry.key.as_slice()) else {
+            let from = items.len();
+            items.push(entry_made(slot, entry)?)?;
+            index(slot.alloc, from, items.as_slice(), &mut places)?;
             continue;
-        }
-        let from = items.len();
-        items.push(entry_made(slot, entry)?)?;
-        index(slot.alloc, from, items.as_slice(), &mut places)?;
+        };
+        let Change::Set = change else {
+            continue;
+        };
+        let mut value = string_of(slot, entry.value.as_slice())?;
+        swap_value(Kind::Entry, &mut value, items.at_mut(at));
     }
     Ok(())
 }

@@ -212,9 +212,7 @@ pub fn change_attributes(
         AttributeOperation::Rename { from, to } => {
             rename(from.as_slice(), to.as_slice(), arguments)
         }
-        AttributeOperation::Copy { attribute, .. }
-        | AttributeOperation::CopyNoOverwrite { attribute, .. } => copy(
-            attribute, found, arguments,
-        ),
+        AttributeOperation::CopyNoOverwrite { attribute, .. }
+        | AttributeOperation::Copy { attribute, .. } => copy(attribute, found, arguments),
     }
 }
