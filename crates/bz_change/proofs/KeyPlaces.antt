@@ -43,18 +43,13 @@ third_key change (x ∷ []) = refl
 third_key change (x ∷ y ∷ []) = refl
 third_key change (x ∷ y ∷ z ∷ rest) = refl
 
--- the key of a form of these parts
-key_with : (ps : List Expr) (x : Expr) → has_kind k.Entry x ≡ true → key_of (with_parts ps x) ≡ key_in ps
-key_with ps x is =
-    if_true (has_kind k.Entry (with_parts ps x)) (key_in (parts_of (with_parts ps x))) None (parts_kind k.Entry ps x ∙ is)
-    ∙ ap key_in (parts_filled k.Entry ps x is)
-
 pub key_kept : (change : Change) (current name : Bytes) (entry : Entry) (x : Expr) → key_of (entry_changed change current name entry x) ≡ key_of x
 key_kept Add current name entry x = refl
 key_kept Set current name entry x =
     let new : List Expr = on_third (λ old. string_of current name entry.value) (parts_of x) in
     by_case (λ (y : Expr). key_of y ≡ key_of x) (has_kind k.Entry x) (with_parts new x) x
-    (λ is. key_with new x is ∙ (third_key (λ old. string_of current name entry.value) (parts_of x) ∙ sym (if_true (has_kind k.Entry x) (key_in (parts_of x)) None is)))
+    (λ is. if_true (has_kind k.Entry (with_parts new x)) (key_in (parts_of (with_parts new x))) None (parts_kind k.Entry new x ∙ is)
+    ∙ (ap key_in (parts_filled k.Entry new x is) ∙ (third_key (λ old. string_of current name entry.value) (parts_of x) ∙ sym (if_true (has_kind k.Entry x) (key_in (parts_of x)) None is))))
     (λ is. refl)
 
 -- ---- the entries of chosen keys
@@ -120,10 +115,6 @@ pub all_before : (places : BTreeMap (Vec ℕ Global) ℕ) (items more : List Exp
 all_before places items more x n all is count =
     subst (AreIndexed places) (sym (both (λ (k : ℕ) (xs : List Expr). take k xs) count is ∙ take-append_seam items (x ∷ []))) all
 
-pub or_none : (found : Option ℕ) → found ≡ option_or found None
-or_none None = refl
-or_none (Some i) = refl
-
 -- a key that is known, and one that is new
 pub known : (found : Option ℕ) (b : Bool) (at : ℕ) → (b ≡ true → is_some found ≡ true) → found ≡ option_or found (cond b (Some at) None)
 known None true at e = absurd (true≢false (sym (e refl)))
@@ -133,7 +124,7 @@ known (Some i) b at e = refl
 pub fresh : (found : Option ℕ) (b : Bool) (at : ℕ) → (b ≡ true → is_some found ≡ false) → cond b (Some at) found ≡ option_or found (cond b (Some at) None)
 fresh None true at e = refl
 fresh (Some i) true at e = absurd (true≢false (e refl))
-fresh found false at e = or_none found
+fresh found false at e = known found false at (λ h. absurd (true≢false (sym h)))
 
 pub same_found : (places : BTreeMap (Vec ℕ Global) ℕ) (own key : Bytes) → bytes_eq own key ≡ true → is_some (place_at places key) ≡ is_some (place_at places own)
 same_found places own key same = ap (λ (text : Bytes). is_some (place_at places text)) (sym (equal_texts own key same))
@@ -158,11 +149,8 @@ module _ (change : Change) (current name : Bytes) (entry : Entry) (places : BTre
       (list_any_none (has_key entry.key) items (none_passes (has_key entry.key) items (where_found None none)).all))
 
   module _ (at : ℕ) (is_there : place_at places entry.key ≡ Some at) where
-    first : IsFirst (has_key entry.key) items at
+    pub first : IsFirst (has_key entry.key) items at
     first = is_first (has_key entry.key) items at (mark []) (where_found (Some at) is_there)
-
-    pub place_within : at < length items
-    place_within = first.within
 
     there : list_any (has_key entry.key) items ≡ true
     there = list_any_at (has_key entry.key) items at (mark []) first.within (first.passes (mark []))

@@ -1,14 +1,14 @@
-use Rattle.std.proofs.Common.{◌≡◌, true, false, rules, ◌∙◌, arith, subst}
+use Rattle.std.proofs.Common.{◌≡◌, true, false, true≢false, sym, rules, ◌∙◌, arith, subst}
 use Rattle.std.specs.Prelude.{Some, None, is_some, bytes_eq}
 use Rattle.std.proofs.lemmas.List.{take_all}
 use Rattle.bz_change.specs.private.Outcomes.{place_at, AreIndexed}
-use Rattle.bz_change.proofs.KeyPlaces.{pushed, or_none, known, fresh, same_found, key_placed}
+use Rattle.bz_change.proofs.KeyPlaces.{pushed, known, fresh, same_found, key_placed}
 use Rattle.bz_change.proofs.dicts.index.Goals as goal
 
 pub loop-at-preserved-in_default : goal.loop-at-preserved-in_default
 loop-at-preserved-in_default c =
     pushed c.loop-at.places c.loop-at.places c.args.items.now c.index-items-at.result None c.loop-at.at (omega arith) c.index-items-at.is (search rules) c.loop-at.invariant
-    (λ key. or_none (place_at c.loop-at.places key))
+    (λ key. known (place_at c.loop-at.places key) false c.loop-at.at (λ h. absurd (true≢false (sym h))))
 
 pub loop-at-preserved-then-contains_key : goal.loop-at-preserved-then-contains_key
 loop-at-preserved-then-contains_key c =

@@ -1,11 +1,11 @@
 use Rattle.std.proofs.Common.{◌∙◌, arith, rules, ap}
 use Rattle.bz_attribute.specs.Made.{string_of}
-use Rattle.bz_change.proofs.KeyPlaces.{entry_absent, place_within, entry_kept, entry_set, all_before, put_next}
+use Rattle.bz_change.proofs.KeyPlaces.{entry_absent, first, entry_kept, entry_set, all_before, put_next}
 use Rattle.bz_change.proofs.dicts.put_entries.Goals as goal
 
 pub at_mut-requires : goal.at_mut-requires
 at_mut-requires c =
-    place_within c.args.change c.args.slot.current.now c.args.slot.attribute.now c.entry-item.result c.loop-entry.places c.loop-entry.items c.loop-entry.invariant.indexed c.in-Some.field-0.now (search rules)
+    (first c.args.change c.args.slot.current.now c.args.slot.attribute.now c.entry-item.result c.loop-entry.places c.loop-entry.items c.loop-entry.invariant.indexed c.in-Some.field-0.now (search rules)).within
 
 pub index-requires-in_default : goal.index-requires-in_default
 index-requires-in_default c =
