@@ -1,11 +1,9 @@
 //! What each command on dicts makes of the arguments of a rule: entries that are added, set and removed.
-ghost use Rattle.std.specs.Prelude.{◌≡◌, ◌⊎◌, take, Ok, Err, IfOk, OnOk, IfErr, true, false, bytes_eq};
-ghost use Rattle.std.specs.List.{list_any};
-ghost use Rattle.std.specs.Option.{option_copied, option_map_or};
+ghost use Rattle.std.specs.Prelude.{◌≡◌, ◌⊎◌, take, Ok, Err, IfOk, OnOk, IfErr, true, false};
+ghost use Rattle.std.specs.Option.{option_copied};
 ghost use Rattle.bz_grammar.specs.declared.kind.Kind.TheVariants as kinds;
 ghost use Rattle.bz_rule.specs.Values.{has_kind as is_of, on_items};
 ghost use Rattle.bz_value.specs.declared.refusal.Refusal.TheVariants.{NotADict};
-ghost use Rattle.bz_attribute.specs.Sets.{texts_of};
 ghost use Rattle.bz_change.specs.Dicts.{key_of, dict_remove, dicts_changed, entries_put, entry_made, on_dict, without_entries};
 ghost use Rattle.bz_change.specs.private.Outcomes.{IsOutcome, AreIndexed};
 
@@ -116,8 +114,7 @@ fn put_into(slot: Slot<'_>, change: Change, entries: &[Entry], x: &mut Expr) -> 
     }
 }
 
-/// Puts entries, as strings, into the dict of an attribute; where that is absent, it gets a dict of them. The first entry of a key that
-/// is there stays or gets the new value, as the change says; an entry whose key isn't there goes to the end.
+/// Puts entries, as strings, into the dict of an attribute; where that is absent, it gets a dict of them.
 fn change_dict(
     slot: Slot<'_>,
     change: Change,
@@ -138,13 +135,6 @@ fn change_dict(
     Ok(())
 }
 
-/// Whether the entry's key is in the set.
-fn is_chosen(chosen: &BTreeSet<Vec<u8>>, x: &Expr) -> bool
-    ensures { result ≡ option_map_or (λ key. list_any (bytes_eq key) (texts_of chosen.now)) (key_of x.now) false }
-{
-    key_of(x).is_some_and(|key| has_text(chosen, key))
-}
-
 /// Takes all entries of these keys from those of a dict.
 fn remove_entries(keys: &[Text], items: &mut Items<Expr>) -> Result<(), Memory>
     ensures { OnOk result (items.new ≡ without_entries keys.now items.old) }
@@ -155,7 +145,7 @@ fn remove_entries(keys: &[Text], items: &mut Items<Expr>) -> Result<(), Memory>
         insert_text(alloc, &mut chosen, key.as_slice())?;
     }
     let mut all = mem::replace(items, Items::new(alloc)).into_vec();
-    all.retain(|x| !is_chosen(&chosen, x));
+    all.retain(|x| !key_of(x).is_some_and(|key| has_text(&chosen, key)));
     *items = Items::from_vec(all);
     Ok(())
 }

@@ -7,7 +7,7 @@ ghost use Rattle.bz_grammar.specs.declared.kind.Kind.TheVariants as kinds;
 ghost use Rattle.bz_rule.specs.Rules.{attribute};
 ghost use Rattle.bz_rule.specs.Values.{on_first, on_row, with_text};
 ghost use Rattle.bz_attribute.specs.Attributes.{is_other_attribute};
-ghost use Rattle.bz_change.specs.Changes.{attributes_changed, is_constant, is_decimal, single_setting, setting, is_token, are_tokens, is_set, set, remove, rename, copy};
+ghost use Rattle.bz_change.specs.Changes.{attributes_changed, single_setting, setting, is_token, are_tokens, is_set, set, remove, rename, copy};
 ghost use Rattle.bz_change.specs.private.Outcomes.{IsOutcome};
 
 use bz_attribute::{
@@ -23,13 +23,6 @@ use bz_value::{Expr, Refusal};
 use std::alloc::Global;
 use std::mem;
 
-/// Whether the word is a constant: `True`, `False` or `None`.
-fn is_constant(word: &[u8]) -> bool
-    ensures { result ≡ is_constant word.now }
-{
-    word == b"True".as_slice() || word == b"False".as_slice() || word == b"None".as_slice()
-}
-
 /// Whether all bytes of the word are decimal digits.
 fn are_digits(word: &[u8]) -> bool
     ensures { result ≡ list_all is_ascii_digit word.now }
@@ -37,21 +30,14 @@ fn are_digits(word: &[u8]) -> bool
     word.iter().all(u8::is_ascii_digit)
 }
 
-/// Whether the word is one or more decimal digits.
-fn is_decimal(word: &[u8]) -> bool
-    ensures { result ≡ is_decimal word.now }
-{
-    !word.is_empty() && are_digits(word)
-}
-
 /// What `set` makes of one word, in an attribute that takes no list.
 fn single_setting(slot: Slot<'_>, word: &[u8]) -> Result<Expr, Memory>
     ensures { IfOk result (λ new. new ≡ single_setting slot.entry.current.now slot.entry.attribute.now word.now) }
 {
-    if is_constant(word) {
+    if word == b"True".as_slice() || word == b"False".as_slice() || word == b"None".as_slice() {
         return new_token(slot.alloc, Class::Name, word);
     }
-    if is_decimal(word) {
+    if !word.is_empty() && are_digits(word) {
         return new_token(slot.alloc, Class::Number, word);
     }
     string_of(slot, word)
@@ -77,12 +63,10 @@ fn setting_of(slot: Slot<'_>, words: &[Text]) -> Result<Expr, Memory>
 fn is_token(new: &Expr, x: &Expr) -> bool
     ensures { result ≡ is_token new.now x.now }
 {
-    match (new, x) {
-        (Expr::Token(new), Expr::Token(x)) => {
-            x.class == new.class && x.text.as_slice() == new.text.as_slice()
-        }
-        _ => false,
-    }
+    let (Expr::Token(new), Expr::Token(x)) = (new, x) else {
+        return false;
+    };
+    x.class == new.class && x.text.as_slice() == new.text.as_slice()
 }
 
 /// Whether each item is the token beside it.
@@ -95,22 +79,16 @@ fn each_is_token(tokens: &[Expr], items: &[Expr]) -> bool
         .all(|(token, x)| is_token(token, x))
 }
 
-/// Whether the items are these tokens.
-#[tactic(auto, using(crate::proofs::SettingsTexts::tokens_beside))]
-fn are_tokens(tokens: &[Expr], items: &[Expr]) -> bool
-    ensures { result ≡ are_tokens tokens.now items.now }
-{
-    tokens.len() == items.len() && each_is_token(tokens, items)
-}
-
 /// Whether the value differs from what is set only in comments and flags.
+#[tactic(auto, using(crate::proofs::SettingsTexts::tokens_beside))]
 fn is_set(new: &Expr, value: &Expr) -> bool
     ensures { result ≡ is_set new.now value.now }
 {
-    if has_kind(Kind::List, new) {
-        return has_kind(Kind::List, value) && are_tokens(items_of(new), items_of(value));
+    if !has_kind(Kind::List, new) {
+        return is_token(new, value);
     }
-    is_token(new, value)
+    let (tokens, items) = (items_of(new), items_of(value));
+    has_kind(Kind::List, value) && tokens.len() == items.len() && each_is_token(tokens, items)
 }
 
 /// The attribute's value becomes these words.
@@ -176,9 +154,7 @@ fn rename(from: &[u8], to: &[u8], arguments: &mut Items<Expr>) -> Result<(), Ref
 fn copy(name: &Text, found: Option<&Expr>, arguments: &mut Items<Expr>) -> Result<(), Refusal>
     ensures { IsOutcome result arguments.new (copy name.now (option_copied found.entry) arguments.old) }
 {
-    let Some(value) = found else {
-        return Err(Refusal::NoSource);
-    };
+    let value = found.ok_or(Refusal::NoSource)?;
     put(arguments.alloc(), name.as_slice(), value.copy()?, arguments)?;
     Ok(())
 }
