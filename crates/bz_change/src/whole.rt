@@ -7,7 +7,7 @@ ghost use Rattle.bz_grammar.specs.declared.kind.Kind.TheVariants as kinds;
 ghost use Rattle.bz_rule.specs.Rules.{attribute};
 ghost use Rattle.bz_rule.specs.Values.{on_first, on_row, with_text};
 ghost use Rattle.bz_attribute.specs.Attributes.{is_other_attribute};
-ghost use Rattle.bz_change.specs.Changes.{attributes_changed, single_setting, setting, is_token, are_tokens, is_set, set, remove, rename, copy};
+ghost use Rattle.bz_change.specs.Changes.{attributes_changed, setting, is_token, are_tokens, is_set, set, remove, rename};
 ghost use Rattle.bz_change.specs.private.Outcomes.{IsOutcome};
 
 use bz_attribute::{
@@ -30,19 +30,6 @@ fn are_digits(word: &[u8]) -> bool
     word.iter().all(u8::is_ascii_digit)
 }
 
-/// What `set` makes of one word, in an attribute that takes no list.
-fn single_setting(slot: Slot<'_>, word: &[u8]) -> Result<Expr, Memory>
-    ensures { IfOk result (λ new. new ≡ single_setting slot.entry.current.now slot.entry.attribute.now word.now) }
-{
-    if word == b"True".as_slice() || word == b"False".as_slice() || word == b"None".as_slice() {
-        return new_token(slot.alloc, Class::Name, word);
-    }
-    if !word.is_empty() && are_digits(word) {
-        return new_token(slot.alloc, Class::Number, word);
-    }
-    string_of(slot, word)
-}
-
 /// What `set` makes of these words in an attribute: a token, or a list of strings.
 fn setting_of(slot: Slot<'_>, words: &[Text]) -> Result<Expr, Memory>
     ensures { IfOk result (λ new. new ≡ setting slot.entry.current.now slot.entry.attribute.now words.now) }
@@ -50,7 +37,14 @@ fn setting_of(slot: Slot<'_>, words: &[Text]) -> Result<Expr, Memory>
     if let [word] = words
         && !is_list_attribute(slot.attribute)
     {
-        return single_setting(slot, word.as_slice());
+        let word = word.as_slice();
+        if word == b"True".as_slice() || word == b"False".as_slice() || word == b"None".as_slice() {
+            return new_token(slot.alloc, Class::Name, word);
+        }
+        if !word.is_empty() && are_digits(word) {
+            return new_token(slot.alloc, Class::Number, word);
+        }
+        return string_of(slot, word);
     }
     let mut strings = Vec::with_capacity(slot.alloc, words.len())?;
     for word in words {
@@ -139,23 +133,12 @@ fn set_name(name: Text, argument: &mut Expr)
 fn rename(from: &[u8], to: &[u8], arguments: &mut Items<Expr>) -> Result<(), Refusal>
     ensures { IsOutcome result arguments.new (rename from.now to.now arguments.old) }
 {
-    let Some(at) = place_of(from, arguments.as_slice()) else {
-        return Err(Refusal::NoAttribute);
-    };
+    let at = place_of(from, arguments.as_slice()).ok_or(Refusal::NoAttribute)?;
     if has_attribute(to, arguments.as_slice()) {
         return Err(Refusal::AttributeExists);
     }
     let name = Text::from_slice(arguments.alloc(), to)?;
     set_name(name, arguments.at_mut(at));
-    Ok(())
-}
-
-/// The attribute gets the value that was found.
-fn copy(name: &Text, found: Option<&Expr>, arguments: &mut Items<Expr>) -> Result<(), Refusal>
-    ensures { IsOutcome result arguments.new (copy name.now (option_copied found.entry) arguments.old) }
-{
-    let value = found.ok_or(Refusal::NoSource)?;
-    put(arguments.alloc(), name.as_slice(), value.copy()?, arguments)?;
     Ok(())
 }
 
@@ -189,6 +172,10 @@ pub fn change_attributes(
             rename(from.as_slice(), to.as_slice(), arguments)
         }
         AttributeOperation::CopyNoOverwrite { attribute, .. }
-        | AttributeOperation::Copy { attribute, .. } => copy(attribute, found, arguments),
+        | AttributeOperation::Copy { attribute, .. } => {
+            let value = found.ok_or(Refusal::NoSource)?;
+            put(alloc, attribute.as_slice(), value.copy()?, arguments)?;
+            Ok(())
+        }
     }
 }
