@@ -1,33 +1,33 @@
 -- The places of the keys of entries, while entries are put to them, and the entries of chosen keys.
-use Rattle.std.proofs.Common.{◌≡◌, true, List, [], ◌∷◌, refl, sym, ap, ◌∙◌, ℕ, false, subst, inl, inr, ◌<◌, ◌+◌, zero, suc, Bool, ◌++◌, length, get_or, set, cond, arith, true≢false}
-use Rattle.std.specs.Prelude.{None, Vec, Option, Some, bytes_eq, if◌then◌else◌, is_some, slice_get}
+use Rattle.std.proofs.Common.{◌≡◌, true, List, [], ◌∷◌, refl, sym, ap, ◌∙◌, ℕ, false, subst, ◌<◌, ◌≤◌, ◌+◌, ◌||◌, take, drop, zero, suc, Bool, ◌++◌, length, get_or, set, cond, arith, true≢false}
+use Rattle.std.specs.Prelude.{None, Vec, Option, Some, bytes_eq, is_some, slice_get}
 use Rattle.bz_grammar.specs.declared.kind.Kind.TheVariants as k
 use Rattle.bz_value.specs.declared.value.Expr.{Expr}
 use Rattle.bz_items.specs.Characters.{Bytes}
 use Rattle.bz_command_syntax.specs.declared.command.Entry.{Entry}
-use Rattle.bz_rule.specs.Values.{has_kind, parts_of, with_parts, on_third}
+use Rattle.bz_rule.specs.Values.{has_kind, parts_of, with_parts, on_row, on_third}
 use Rattle.bz_rule.proofs.ProperChanges.{by_case}
 use Rattle.bz_attribute.specs.Made.{string_of, mark}
-use Rattle.bz_attribute.proofs.FormsAgain.{both, if_true, parts_kind, parts_filled, if_false}
-use Rattle.bz_change.specs.Dicts.{key_in, key_of, has_some_key, has_key, entry_made, entry_changed, entry_put}
+use Rattle.bz_attribute.proofs.FormsAgain.{both, if_true, parts_kind, parts_filled, if_false, if_either}
+use Rattle.bz_change.specs.Dicts.{key_in, key_of, has_some_key, has_key, entry_made, entry_changed, entry_put, entries_put}
 use Rattle.std.specs.List.{list_any, position, position_from}
-use Rattle.std.specs.Map.{KeepsOthers}
 use Rattle.std.specs.Option.{option_map_or, option_or}
 use Rattle.std.specs.declared.alloc.Global.{Global}
-use Rattle.std.specs.Ordering.{nat_cmp}
+use Rattle.std.specs.Map.{KeepsOthers}
 use Rattle.std.specs.Cmp.{eq_by_cmp_equiv}
-use Rattle.std.specs.Cmp.Lexicographic.{slice_cmp, nat_list_cmp_total}
-use Rattle.std.specs.BTreeMap.{BTreeMap, Updates, is_at}
+use Rattle.std.specs.Cmp.Lexicographic.{nat_list_cmp_total}
+use Rattle.std.proofs.lemmas.Cmp.{nat_list_eq_equiv}
+use Rattle.std.specs.BTreeMap.{BTreeMap, Updates}
 use Rattle.std.specs.BTreeSet.{BTreeSet}
 use Rattle.std.proofs.Math.Path.{fun_ext}
-use Rattle.std.proofs.lemmas.Bool.{cases_Bool}
-use Rattle.std.proofs.lemmas.Cmp.{nat_list_eq_equiv}
 use Rattle.std.proofs.lemmas.List.Folds.{list_any_none, list_any_at}
+use Rattle.std.proofs.lemmas.List.{length-take-le, take_more, drop_more, drop_all}
+use Rattle.std.proofs.Math.Seq.{take-append_seam}
 use Rattle.std.proofs.lemmas.Map.Text.{is_eq-slice_cmp}
 use Rattle.std.proofs.lemmas.Option.{get_or_from_slice_get}
-use Rattle.bz_attribute.proofs.KeySets.{equal_texts, text_cmp}
+use Rattle.bz_attribute.proofs.KeySets.{equal_texts, text_cmp, or_none as or_false}
 use Rattle.bz_attribute.specs.Sets.{texts_of}
-use Rattle.bz_change.specs.private.Keys.{place_at, is_chosen, AreIndexed}
+use Rattle.bz_change.specs.private.Outcomes.{place_at, AreIndexed}
 use Rattle.std.proofs.lemmas.Iterator.Adapters.{position_from-zero}
 use Rattle.bz_rule.specs.Rules.{is_text}
 use Rattle.bz_attribute.specs.Attributes.{on_first_that}
@@ -43,49 +43,43 @@ third_key change (x ∷ []) = refl
 third_key change (x ∷ y ∷ []) = refl
 third_key change (x ∷ y ∷ z ∷ rest) = refl
 
--- the key of a form of these parts
-key_with : (ps : List Expr) (x : Expr) → has_kind k.Entry x ≡ true → key_of (with_parts ps x) ≡ key_in ps
-key_with ps x is =
-    if_true (has_kind k.Entry (with_parts ps x)) (key_in (parts_of (with_parts ps x))) None (parts_kind k.Entry ps x ∙ is)
-    ∙ ap key_in (parts_filled k.Entry ps x is)
-
 pub key_kept : (change : Change) (current name : Bytes) (entry : Entry) (x : Expr) → key_of (entry_changed change current name entry x) ≡ key_of x
 key_kept Add current name entry x = refl
 key_kept Set current name entry x =
     let new : List Expr = on_third (λ old. string_of current name entry.value) (parts_of x) in
     by_case (λ (y : Expr). key_of y ≡ key_of x) (has_kind k.Entry x) (with_parts new x) x
-    (λ is. key_with new x is ∙ (third_key (λ old. string_of current name entry.value) (parts_of x) ∙ sym (if_true (has_kind k.Entry x) (key_in (parts_of x)) None is)))
+    (λ is. if_true (has_kind k.Entry (with_parts new x)) (key_in (parts_of (with_parts new x))) None (parts_kind k.Entry new x ∙ is)
+    ∙ (ap key_in (parts_filled k.Entry new x is) ∙ (third_key (λ old. string_of current name entry.value) (parts_of x) ∙ sym (if_true (has_kind k.Entry x) (key_in (parts_of x)) None is))))
     (λ is. refl)
 
 -- ---- the entries of chosen keys
+
+-- whether an entry's key is in the set
+abbrev pub is_chosen : BTreeSet (Vec ℕ Global) → Expr → Bool
+is_chosen chosen x = option_map_or (λ key. list_any (bytes_eq key) (texts_of chosen)) (key_of x) false
 
 by_key : (set : BTreeSet (Vec ℕ Global)) (keys : List Bytes) (found : Option Bytes) → ((key : Bytes) → list_any (bytes_eq key) (texts_of set) ≡ list_any (bytes_eq key) keys)
     → option_map_or (λ key. list_any (bytes_eq key) (texts_of set)) found false ≡ list_any (λ key. is_text key found) keys
 by_key set keys None e = sym (list_any_none (λ (word : Bytes). false) keys (λ k d l. refl))
 by_key set keys (Some key) e = e key
 
-pub chosen_keys : (set : BTreeSet (Vec ℕ Global)) (keys : List Bytes) → ((key : Bytes) → list_any (bytes_eq key) (texts_of set) ≡ list_any (bytes_eq key) keys) → is_chosen set ≡ has_some_key keys
-chosen_keys set keys e = fun_ext (λ x. by_key set keys (key_of x) e)
+pub chosen_keys : (set : BTreeSet (Vec ℕ Global)) (keys : List Bytes) (n : ℕ) → length keys ≤ n
+    → ((key : Bytes) → (list_any (bytes_eq key) (texts_of set) || list_any (bytes_eq key) (drop n keys)) ≡ list_any (bytes_eq key) keys) → is_chosen set ≡ has_some_key keys
+chosen_keys set keys n all e = fun_ext (λ x. by_key set keys (key_of x) (λ key.
+    sym (or_false (list_any (bytes_eq key) (texts_of set)))
+    ∙ (ap (λ (rest : List Bytes). list_any (bytes_eq key) (texts_of set) || list_any (bytes_eq key) rest) (sym (drop_all n keys all)) ∙ e key)))
 
 -- ---- a map with one key more
 
--- no key is another word's
-apart : (text key : Vec ℕ Global) (word : Bytes) → bytes_eq text.items word ≡ false → is_at (text_cmp text) key ≡ true → is_at (λ (other : Vec ℕ Global). slice_cmp nat_cmp word other.items) key ≡ false
-apart text key word n y =
-    let same : text.items ≡ key.items = equal_texts text.items key.items (sym (is_eq-slice_cmp text.items key.items) ∙ y) in
-    is_eq-slice_cmp word key.items ∙ (nat_list_eq_equiv.symm word key.items ∙ (ap (λ (z : Bytes). bytes_eq z word) (sym same) ∙ n))
-
 pub key_placed : (old new : BTreeMap (Vec ℕ Global) ℕ) (text : Vec ℕ Global) (bytes word : Bytes) (at : ℕ) → text.items ≡ bytes → Updates text_cmp old new text (Some at)
-    → place_at new word ≡ (if bytes_eq bytes word then Some at else place_at old word)
+    → place_at new word ≡ cond (bytes_eq bytes word) (Some at) (place_at old word)
 unfolding KeepsOthers
-key_placed old new text bytes word at same h = elim (cases_Bool (bytes_eq bytes word)) [
-  | inl y ↦
-      subst (λ (z : Bytes). place_at new z ≡ Some at) (same ∙ equal_texts bytes word y) h.1
-      ∙ sym (if_true (bytes_eq bytes word) (Some at) (place_at old word) y)
-  | inr n ↦
-      h.3 _ (λ x y. (eq_by_cmp_equiv nat_list_cmp_total).congr word x.items y.items) (λ key. apart text key word (ap (λ (z : Bytes). bytes_eq z word) same ∙ n))
-      ∙ sym (if_false (bytes_eq bytes word) (Some at) (place_at old word) n)
-]
+key_placed old new text bytes word at same h =
+    by_case (λ (found : Option ℕ). place_at new word ≡ found) (bytes_eq bytes word) (Some at) (place_at old word)
+    (λ y. subst (λ (z : Bytes). place_at new z ≡ Some at) (same ∙ equal_texts bytes word y) h.1)
+    (λ n. h.3 _ (λ x y. (eq_by_cmp_equiv nat_list_cmp_total).congr word x.items y.items) (λ key y.
+    let one : key.items ≡ bytes = sym (equal_texts text.items key.items (sym (is_eq-slice_cmp text.items key.items) ∙ y)) ∙ same in
+    is_eq-slice_cmp word key.items ∙ (nat_list_eq_equiv.symm word key.items ∙ (ap (λ (z : Bytes). bytes_eq z word) one ∙ n))))
 
 -- ---- the first place, after one element more, and after a change of one
 
@@ -107,17 +101,19 @@ module _ {X : Type 0} (test : X → Bool) where
 
 -- ---- one entry more
 
-pub pushed : (places more : BTreeMap (Vec ℕ Global) ℕ) (items : List Expr) (x : Expr) (found : Option Bytes) (at : ℕ) → key_of x ≡ found → at ≡ length items → AreIndexed places items
-    → ((key : Bytes) → place_at more key ≡ option_or (place_at places key) (cond (is_text key found) (Some at) None)) → AreIndexed more (items ++ x ∷ [])
-pushed places more items x found at read here all e = λ key.
+pub pushed : (places more : BTreeMap (Vec ℕ Global) ℕ) (items : List Expr) (x : Expr) (found : Option Bytes) (at : ℕ) → at < length items → x ≡ get_or items at x → key_of x ≡ found → AreIndexed places (take at items)
+    → ((key : Bytes) → place_at more key ≡ option_or (place_at places key) (cond (is_text key found) (Some at) None)) → AreIndexed more (take (at + 1) items)
+pushed places more items x found at within is read all e = λ key.
     e key
     ∙ (ap (λ z. option_or z (cond (is_text key found) (Some at) None)) (all key)
-    ∙ (both (λ (own : Option Bytes) (n : ℕ). option_or (position_from (has_key key) 0 items) (cond (is_text key own) (Some n) None)) (sym read) here
-    ∙ sym (place_push (has_key key) 0 (length items) items x (omega arith))))
+    ∙ (ap (λ (own : Option Bytes). option_or (position_from (has_key key) 0 (take at items)) (cond (is_text key own) (Some at) None)) (sym read)
+    ∙ (sym (place_push (has_key key) 0 at (take at items) x (omega (arith, length-take-le at items (omega arith))))
+    ∙ ap (position_from (has_key key) 0) (sym (take_more items at x within ∙ ap (λ (y : Expr). take at items ++ y ∷ []) (sym is))))))
 
-pub or_none : (found : Option ℕ) → found ≡ option_or found None
-or_none None = refl
-or_none (Some i) = refl
+-- the places of the entries before the last one
+pub all_before : (places : BTreeMap (Vec ℕ Global) ℕ) (items more : List Expr) (x : Expr) (n : ℕ) → AreIndexed places items → more ≡ items ++ x ∷ [] → n ≡ length items → AreIndexed places (take n more)
+all_before places items more x n all is count =
+    subst (AreIndexed places) (sym (both (λ (k : ℕ) (xs : List Expr). take k xs) count is ∙ take-append_seam items (x ∷ []))) all
 
 -- a key that is known, and one that is new
 pub known : (found : Option ℕ) (b : Bool) (at : ℕ) → (b ≡ true → is_some found ≡ true) → found ≡ option_or found (cond b (Some at) None)
@@ -125,15 +121,23 @@ known None true at e = absurd (true≢false (sym (e refl)))
 known None false at e = refl
 known (Some i) b at e = refl
 
-pub fresh : (found : Option ℕ) (b : Bool) (at : ℕ) → (b ≡ true → is_some found ≡ false) → (if b then Some at else found) ≡ option_or found (cond b (Some at) None)
+pub fresh : (found : Option ℕ) (b : Bool) (at : ℕ) → (b ≡ true → is_some found ≡ false) → cond b (Some at) found ≡ option_or found (cond b (Some at) None)
 fresh None true at e = refl
 fresh (Some i) true at e = absurd (true≢false (e refl))
-fresh found false at e = or_none found
+fresh found false at e = known found false at (λ h. absurd (true≢false (sym h)))
 
 pub same_found : (places : BTreeMap (Vec ℕ Global) ℕ) (own key : Bytes) → bytes_eq own key ≡ true → is_some (place_at places key) ≡ is_some (place_at places own)
 same_found places own key same = ap (λ (text : Bytes). is_some (place_at places text)) (sym (equal_texts own key same))
 
 -- ---- an entry that is put, by what the map has at its key
+
+first_same : (test : Expr → Bool) (items : List Expr) → on_first_that test (λ x. x) items ≡ items
+first_same test [] = refl
+first_same test (x ∷ xs) = if_either (test x) (x ∷ xs) (x ∷ on_first_that test (λ y. y) xs) (x ∷ xs) refl (ap (λ ys. x ∷ ys) (first_same test xs))
+
+pub added_again : (current name : Bytes) (entry : Entry) (items : List Expr) → list_any (has_key entry.key) items ≡ true → entry_put Add current name entry items ≡ items
+added_again current name entry items h =
+    if_true (list_any (has_key entry.key) items) (on_first_that (has_key entry.key) (λ x. x) items) (items ++ entry_made current name entry ∷ []) h ∙ first_same (has_key entry.key) items
 
 module _ (change : Change) (current name : Bytes) (entry : Entry) (places : BTreeMap (Vec ℕ Global) ℕ) (items : List Expr) (all : AreIndexed places items) where
   where_found : (found : Option ℕ) → place_at places entry.key ≡ found → found ≡ position (has_key entry.key) items
@@ -144,21 +148,33 @@ module _ (change : Change) (current name : Bytes) (entry : Entry) (places : BTre
       sym (if_false (list_any (has_key entry.key) items) (on_first_that (has_key entry.key) (entry_changed change current name entry) items) (items ++ entry_made current name entry ∷ [])
       (list_any_none (has_key entry.key) items (none_passes (has_key entry.key) items (where_found None none)).all))
 
-  module _ (at : ℕ) (is : place_at places entry.key ≡ Some at) where
-    first : IsFirst (has_key entry.key) items at
-    first = is_first (has_key entry.key) items at (mark []) (where_found (Some at) is)
+  module _ (at : ℕ) (is_there : place_at places entry.key ≡ Some at) where
+    pub first : IsFirst (has_key entry.key) items at
+    first = is_first (has_key entry.key) items at (mark []) (where_found (Some at) is_there)
 
-    pub place_within : at < length items
-    place_within = first.within
+    there : list_any (has_key entry.key) items ≡ true
+    there = list_any_at (has_key entry.key) items at (mark []) first.within (first.passes (mark []))
 
-    pub entry_there : (x new : Expr) → slice_get items at ≡ Some x → new ≡ entry_changed change current name entry x
+    pub entry_kept : change ≡ Add → items ≡ entry_put change current name entry items
+    entry_kept same = sym (ap (λ (own : Change). entry_put own current name entry items) same ∙ added_again current name entry items there)
+
+    pub entry_set : change ≡ Set → (x new value : Expr) → slice_get items at ≡ Some x → new ≡ on_row k.Entry (on_third (λ old. value)) x → value ≡ string_of current name entry.value
         → (set items at new ≡ entry_put change current name entry items) × AreIndexed places (set items at new)
-    entry_there x new there made = (
-      changed_there (has_key entry.key) (entry_changed change current name entry) items at x new (where_found (Some at) is) there made
-          ∙ sym (if_true (list_any (has_key entry.key) items) (on_first_that (has_key entry.key) (entry_changed change current name entry) items) (items ++ entry_made current name entry ∷ [])
-          (list_any_at (has_key entry.key) items at (mark []) first.within (first.passes (mark [])))),
-      λ key.
-          all key
-          ∙ sym (place_set (has_key key) 0 items at new x
-          (ap (has_key key) made ∙ (ap (is_text key) (key_kept change current name entry x) ∙ ap (has_key key) (sym (get_or_from_slice_get items at x x there))))),
-    )
+    entry_set same x new value read row is =
+        let made : new ≡ entry_changed change current name entry x =
+        row ∙ (ap (λ (v : Expr). on_row k.Entry (on_third (λ old. v)) x) is ∙ ap (λ (own : Change). entry_changed own current name entry x) (sym same)) in (
+          changed_there (has_key entry.key) (entry_changed change current name entry) items at x new (where_found (Some at) is_there) read made
+              ∙ sym (if_true (list_any (has_key entry.key) items) (on_first_that (has_key entry.key) (entry_changed change current name entry) items) (items ++ entry_made current name entry ∷ []) there),
+          λ key.
+              all key
+              ∙ sym (place_set (has_key key) 0 items at new x
+              (ap (has_key key) made ∙ (ap (is_text key) (key_kept change current name entry x) ∙ ap (has_key key) (sym (get_or_from_slice_get items at x x read))))),
+        )
+
+-- what is put of the entries that are left
+pub put_next : (change : Change) (current name : Bytes) (entries : List Entry) (i : ℕ) (entry : Entry) (items new all : List Expr) → i < length entries → entry ≡ get_or entries i entry
+    → new ≡ entry_put change current name entry items → entries_put change current name (drop i entries) items ≡ all → entries_put change current name (drop (i + 1) entries) new ≡ all
+put_next change current name entries i entry items new all within is made before =
+    ap (entries_put change current name (drop (i + 1) entries)) made
+    ∙ (ap (λ (x : Entry). entries_put change current name (x ∷ drop (i + 1) entries) items) is
+    ∙ (ap (λ (xs : List Entry). entries_put change current name xs items) (sym (drop_more entries i entry within)) ∙ before))

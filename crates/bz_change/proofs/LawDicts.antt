@@ -25,10 +25,10 @@ use Rattle.bz_change.specs.Dicts.{key_in, key_of, has_key, has_some_key, entry_m
 use Rattle.bz_change.specs.Laws.{are_keys, has_keys, have_plain_keys, keys_of, EntriesAddedAgain, EntriesAddedAreThere, EntriesSetAreThere, EntriesRemovedAgain}
 use Rattle.bz_attribute.proofs.ArgumentForms.{any_same}
 use Rattle.bz_attribute.proofs.AttributesAgain.{by_there, by_absent, same_made, with_value_same, node_parts, attribute_new, without_new, attribute_changed}
-use Rattle.bz_attribute.proofs.FormsAgain.{if_true, if_false, if_either, items_filled, items_kind, items_changed, items_same}
+use Rattle.bz_attribute.proofs.FormsAgain.{if_true, if_false, items_filled, items_kind, items_changed, items_same}
 use Rattle.bz_attribute.proofs.ProperAttributes.{first_that_kept}
 use Rattle.bz_attribute.proofs.PlainWords.{IsPlain, equal_self, body_quoted}
-use Rattle.bz_change.proofs.KeyPlaces.{key_kept}
+use Rattle.bz_change.proofs.KeyPlaces.{added_again, key_kept}
 
 -- ---- by the value of the attribute
 
@@ -40,17 +40,11 @@ dict_items xs = items_hidden-the_row-Expr-0 xs
 
 -- ---- keys that are there
 
-first_same : (test : Expr → Bool) (items : List Expr) → on_first_that test (λ x. x) items ≡ items
-first_same test [] = refl
-first_same test (x ∷ xs) = if_either (test x) (x ∷ xs) (x ∷ on_first_that test (λ y. y) xs) (x ∷ xs) refl (ap (λ ys. x ∷ ys) (first_same test xs))
-
 known_again : (current name : Bytes) (entries : List Entry) (items : List Expr) → are_keys entries items ≡ true → entries_put Add current name entries items ≡ items
 known_again current name [] items h = refl
 known_again current name (entry ∷ entries) items h =
     let p = and_parts (list_any (has_key entry.key) items) (are_keys entries items) h in
-    ap (entries_put Add current name entries)
-    (if_true (list_any (has_key entry.key) items) (on_first_that (has_key entry.key) (λ x. x) items) (items ++ entry_made current name entry ∷ []) p.0 ∙ first_same (has_key entry.key) items)
-    ∙ known_again current name entries items p.1
+    ap (entries_put Add current name entries) (added_again current name entry items p.0) ∙ known_again current name entries items p.1
 
 pub adding_again : EntriesAddedAgain
 adding_again current name entries xs value own h =

@@ -12,8 +12,7 @@ use Rattle.bz_value.specs.declared.value.Expr.TheVariants as e
 use Rattle.bz_items.specs.Characters.{Bytes}
 use Rattle.bz_rule.specs.Rules.{text_in, is_text, value_after}
 use Rattle.bz_rule.specs.Values.{parts_of, with_text, on_row, on_first}
-use Rattle.bz_attribute.specs.Attributes.{is_attribute, has_attribute, on_first_that}
-use Rattle.bz_attribute.specs.Attributes.{Arguments}
+use Rattle.bz_attribute.specs.Attributes.{Arguments, is_attribute, has_attribute, on_first_that}
 use Rattle.bz_attribute.proofs.FormsAgain.{both, some_if, row_back, attribute_parts, value_changed, attribute_any}
 use Rattle.bz_attribute.proofs.PlainWords.{equal_self}
 use Rattle.bz_change.specs.Changes.{RenamedBack}

@@ -1,12 +1,12 @@
 -- Tokens beside items; and an attribute that gets another name.
-use Rattle.std.proofs.Common.{◌≡◌, ◌&&◌, ℕ, Bool, true, false, List, [], ◌∷◌, length, refl, ap, sym, ◌∙◌, arith}
+use Rattle.std.proofs.Common.{◌≡◌, ◌&&◌, ℕ, Bool, true, false, List, [], length, ap, sym, ◌∙◌}
 use Rattle.std.specs.Prelude.{Some, None, Ok, Err, not, if◌then◌else◌, slice_get, slice_set}
 use Rattle.bz_grammar.specs.declared.kind.Kind.TheVariants as k
 use Rattle.bz_value.specs.declared.refusal.Refusal.TheVariants.{NoAttribute, AttributeExists}
 use Rattle.bz_rule.specs.Values.{with_text, on_row, on_first}
-use Rattle.std.specs.List.{list_all, list_any, position, zip}
+use Rattle.std.specs.List.{list_all, position, zip}
 use Rattle.std.proofs.lemmas.Bool.{eq-eqb}
-use Rattle.std.proofs.lemmas.List.Folds.{list_any_at}
+use Rattle.std.proofs.lemmas.List.Folds.{list_any_at, list_any_none}
 use Rattle.bz_value.specs.declared.value.Expr.{Expr}
 use Rattle.bz_items.specs.Characters.{Bytes}
 use Rattle.bz_attribute.specs.Attributes.{Arguments, is_attribute, has_attribute, on_first_that}
@@ -23,13 +23,9 @@ attribute_there name xs read i at same =
     let first = places.is_first (is_attribute name) xs i (mark []) (at ∙ ap (position (is_attribute name)) same) in
     attribute_any name xs ∙ list_any_at (is_attribute name) xs i (mark []) first.within (first.passes (mark []))
 
-none_among : (test : Expr → Bool) (xs : List Expr) → places.NonePasses test xs → list_any test xs ≡ false
-none_among test [] h = refl
-none_among test (x ∷ xs) h = rw (h.all 0 x (omega arith)) (none_among test xs (places.none_later test x xs h))
-
 pub attribute_nowhere : (name : Bytes) (xs read : List Expr) → None ≡ position (is_attribute name) read → read ≡ xs → has_attribute name xs ≡ false
 attribute_nowhere name xs read none same =
-    attribute_any name xs ∙ none_among (is_attribute name) xs (places.none_passes (is_attribute name) xs (none ∙ ap (position (is_attribute name)) same))
+    attribute_any name xs ∙ list_any_none (is_attribute name) xs (places.none_passes (is_attribute name) xs (none ∙ ap (position (is_attribute name)) same)).all
 
 -- what `rename` makes where nothing is refused
 pub renamed : (from to text : Bytes) (xs read again : List Expr) (i : ℕ) (x new : Expr) → Some i ≡ position (is_attribute from) read → read ≡ xs → has_attribute to again ≡ false → again ≡ xs

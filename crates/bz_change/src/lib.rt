@@ -2,9 +2,7 @@
 #![tactic(auto)]
 
 mod dicts;
-mod keys;
 mod laws;
-mod settings;
 mod whole;
 
 pub use dicts::change_dicts;

@@ -1,41 +1,97 @@
 //! What each command on whole attributes makes of the arguments of a rule.
-ghost use Rattle.std.specs.Prelude.{◌≡◌, ◌⊎◌, Ok, Err, OnOk, IfErr, false, not};
-ghost use Rattle.std.specs.List.{filter};
+ghost use Rattle.std.specs.Prelude.{◌≡◌, ◌⊎◌, Ok, Err, OnOk, IfOk, IfErr, false, not, map};
+ghost use Rattle.std.specs.List.{filter, list_all, zip};
 ghost use Rattle.std.specs.Option.{option_copied, option_map_or};
+ghost use Rattle.std.specs.Char.{is_ascii_digit};
 ghost use Rattle.bz_grammar.specs.declared.kind.Kind.TheVariants as kinds;
 ghost use Rattle.bz_rule.specs.Rules.{attribute};
 ghost use Rattle.bz_rule.specs.Values.{on_first, on_row, with_text};
 ghost use Rattle.bz_attribute.specs.Attributes.{is_other_attribute};
-ghost use Rattle.bz_change.specs.Changes.{attributes_changed, set, is_set, remove, rename, copy};
+ghost use Rattle.bz_change.specs.Changes.{attributes_changed, setting, is_token, are_tokens, is_set, set, remove, rename};
+ghost use Rattle.bz_change.specs.private.Outcomes.{IsOutcome};
 
-use crate::settings::{is_set, setting_of};
 use bz_attribute::{
-    Slot, has_attribute, is_other_attribute, place_of, put, remove_first, set_text,
+    Slot, has_attribute, has_kind, is_other_attribute, items_of, list_of, new_token, place_of, put,
+    remove_first, set_text, string_of,
 };
 use bz_command_syntax::{AttributeOperation, Attributes};
-use bz_grammar::Kind;
+use bz_grammar::{Class, Kind};
 use bz_items::{Items, Memory, Text};
+use bz_label::bytes::is_list_attribute;
 use bz_rule::attribute;
 use bz_value::{Expr, Refusal};
 use std::alloc::Global;
 use std::mem;
 
-/// Whether the attribute is there with this value already.
-fn has_setting(new: &Expr, name: &[u8], arguments: &[Expr]) -> bool
-    ensures { result ≡ option_map_or (is_set new.now) (attribute name.now arguments.now) false }
+/// Whether all bytes of the word are decimal digits.
+fn are_digits(word: &[u8]) -> bool
+    ensures { result ≡ list_all is_ascii_digit word.now }
 {
-    match attribute(name, arguments) {
-        Some(value) => is_set(new, value),
-        None => false,
+    word.iter().all(u8::is_ascii_digit)
+}
+
+/// What `set` makes of these words in an attribute: a token, or a list of strings.
+fn setting_of(slot: Slot<'_>, words: &[Text]) -> Result<Expr, Memory>
+    ensures { IfOk result (λ new. new ≡ setting slot.entry.current.now slot.entry.attribute.now words.now) }
+{
+    if let [word] = words
+        && !is_list_attribute(slot.attribute)
+    {
+        let word = word.as_slice();
+        if word == b"True".as_slice() || word == b"False".as_slice() || word == b"None".as_slice() {
+            return new_token(slot.alloc, Class::Name, word);
+        }
+        if !word.is_empty() && are_digits(word) {
+            return new_token(slot.alloc, Class::Number, word);
+        }
+        return string_of(slot, word);
     }
+    let mut strings = Vec::with_capacity(slot.alloc, words.len())?;
+    for word in words {
+        strings.push(string_of(slot, word.as_slice())?)?;
+    }
+    Ok(list_of(slot.alloc, Items::from_vec(strings)))
+}
+
+/// Whether both expressions are tokens of one class and text.
+fn is_token(new: &Expr, x: &Expr) -> bool
+    ensures { result ≡ is_token new.now x.now }
+{
+    let (Expr::Token(new), Expr::Token(x)) = (new, x) else {
+        return false;
+    };
+    x.class == new.class && x.text.as_slice() == new.text.as_slice()
+}
+
+/// Whether each item is the token beside it.
+fn each_is_token(tokens: &[Expr], items: &[Expr]) -> bool
+    ensures { result ≡ list_all (λ pair. is_token pair.0 pair.1) (zip tokens.now items.now) }
+{
+    tokens
+        .iter()
+        .zip(items)
+        .all(|(token, x)| is_token(token, x))
+}
+
+/// Whether the value differs from what is set only in comments and flags.
+#[tactic(auto, using(crate::proofs::SettingsTexts::tokens_beside))]
+fn is_set(new: &Expr, value: &Expr) -> bool
+    ensures { result ≡ is_set new.now value.now }
+{
+    if !has_kind(Kind::List, new) {
+        return is_token(new, value);
+    }
+    let (tokens, items) = (items_of(new), items_of(value));
+    has_kind(Kind::List, value) && tokens.len() == items.len() && each_is_token(tokens, items)
 }
 
 /// The attribute's value becomes these words.
-fn set(slot: Slot<'_>, words: &[Text], arguments: &mut Items<Expr>) -> Result<(), Memory>
-    ensures { OnOk result (set slot.entry.current.now slot.entry.attribute.now words.now arguments.old ≡ Ok arguments.new) }
+fn set(slot: Slot<'_>, words: &[Text], arguments: &mut Items<Expr>) -> Result<(), Refusal>
+    ensures { IsOutcome result arguments.new (set slot.entry.current.now slot.entry.attribute.now words.now arguments.old) }
 {
     let new = setting_of(slot, words)?;
-    if has_setting(&new, slot.attribute, arguments.as_slice()) {
+    let value = attribute(slot.attribute, arguments.as_slice());
+    if value.is_some_and(|value| is_set(&new, value)) {
         drop(new);
         return Ok(());
     }
@@ -43,22 +99,17 @@ fn set(slot: Slot<'_>, words: &[Text], arguments: &mut Items<Expr>) -> Result<()
     Ok(())
 }
 
-/// All named arguments but `name` go.
-fn remove_all(arguments: &mut Items<Expr>)
-    ensures { arguments.new ≡ filter (λ x. not (is_other_attribute x)) arguments.old }
-{
-    let alloc = arguments.alloc();
-    let mut all = mem::replace(arguments, Items::new(alloc)).into_vec();
-    all.retain(|x| !is_other_attribute(x));
-    *arguments = Items::from_vec(all);
-}
-
 /// Whole attributes go.
 fn remove(attributes: &Attributes, arguments: &mut Items<Expr>)
     ensures { remove attributes.now arguments.old ≡ Ok arguments.new }
 {
     match attributes {
-        Attributes::All => remove_all(arguments),
+        Attributes::All => {
+            let alloc = arguments.alloc();
+            let mut all = mem::replace(arguments, Items::new(alloc)).into_vec();
+            all.retain(|x| !is_other_attribute(x));
+            *arguments = Items::from_vec(all);
+        }
         Attributes::Named(name) => remove_first(name.as_slice(), arguments),
     }
 }
@@ -79,35 +130,15 @@ fn set_name(name: Text, argument: &mut Expr)
 
 /// The attribute gets another name.
 #[tactic(auto, using(crate::proofs::SettingsTexts::attribute_there, crate::proofs::SettingsTexts::attribute_nowhere))]
-fn rename(alloc: Global, from: &[u8], to: &[u8], arguments: &mut Items<Expr>) -> Result<(), Refusal>
-    ensures ok { OnOk result (rename from.now to.now arguments.old ≡ Ok arguments.new) }
-    ensures err { IfErr result (λ refusal. (rename from.now to.now arguments.old ≡ Err refusal) ⊎ (refusal ≡ Refusal.Memory)) }
+fn rename(from: &[u8], to: &[u8], arguments: &mut Items<Expr>) -> Result<(), Refusal>
+    ensures { IsOutcome result arguments.new (rename from.now to.now arguments.old) }
 {
-    let Some(at) = place_of(from, arguments.as_slice()) else {
-        return Err(Refusal::NoAttribute);
-    };
+    let at = place_of(from, arguments.as_slice()).ok_or(Refusal::NoAttribute)?;
     if has_attribute(to, arguments.as_slice()) {
         return Err(Refusal::AttributeExists);
     }
-    let name = Text::from_slice(alloc, to)?;
+    let name = Text::from_slice(arguments.alloc(), to)?;
     set_name(name, arguments.at_mut(at));
-    Ok(())
-}
-
-/// The attribute gets the value that was found.
-fn copy(
-    alloc: Global,
-    name: &[u8],
-    found: Option<&Expr>,
-    arguments: &mut Items<Expr>,
-) -> Result<(), Refusal>
-    ensures ok { OnOk result (copy name.now (option_copied found.entry) arguments.old ≡ Ok arguments.new) }
-    ensures err { IfErr result (λ refusal. (copy name.now (option_copied found.entry) arguments.old ≡ Err refusal) ⊎ (refusal ≡ Refusal.Memory)) }
-{
-    let Some(value) = found else {
-        return Err(Refusal::NoSource);
-    };
-    put(alloc, name, value.copy()?, arguments)?;
     Ok(())
 }
 
@@ -125,34 +156,26 @@ pub fn change_attributes(
     ensures err { IfErr result (λ refusal. (attributes_changed operation.now current.now (option_copied found.entry) arguments.old ≡ Err refusal) ⊎ (refusal ≡ Refusal.Memory)) }
 {
     match operation {
-        AttributeOperation::Set { attribute, values } => {
+        AttributeOperation::SetIfAbsent { attribute, .. }
+        | AttributeOperation::CopyNoOverwrite { attribute, .. }
+            if has_attribute(attribute.as_slice(), arguments.as_slice()) => { Ok(()) }
+        AttributeOperation::Set { attribute, values }
+        | AttributeOperation::SetIfAbsent { attribute, values } => {
             let slot = Slot::new(alloc, current, attribute.as_slice());
-            set(slot, values.as_slice(), arguments)?;
-            Ok(())
-        }
-        AttributeOperation::SetIfAbsent { attribute, values } => {
-            let slot = Slot::new(alloc, current, attribute.as_slice());
-            if has_attribute(slot.attribute, arguments.as_slice()) {
-                return Ok(());
-            }
-            set(slot, values.as_slice(), arguments)?;
-            Ok(())
+            set(slot, values.as_slice(), arguments)
         }
         AttributeOperation::Remove { attributes } => {
             remove(attributes, arguments);
             Ok(())
         }
         AttributeOperation::Rename { from, to } => {
-            rename(alloc, from.as_slice(), to.as_slice(), arguments)
+            rename(from.as_slice(), to.as_slice(), arguments)
         }
-        AttributeOperation::Copy { attribute, rule: _ } => {
-            copy(alloc, attribute.as_slice(), found, arguments)
-        }
-        AttributeOperation::CopyNoOverwrite { attribute, rule: _ } => {
-            if has_attribute(attribute.as_slice(), arguments.as_slice()) {
-                return Ok(());
-            }
-            copy(alloc, attribute.as_slice(), found, arguments)
+        AttributeOperation::CopyNoOverwrite { attribute, .. }
+        | AttributeOperation::Copy { attribute, .. } => {
+            let value = found.ok_or(Refusal::NoSource)?;
+            put(alloc, attribute.as_slice(), value.copy()?, arguments)?;
+            Ok(())
         }
     }
 }

@@ -1,6 +1,6 @@
 use Rattle.std.proofs.Common.{◌≡◌, drop}
 use Rattle.bz_change.specs.Dicts.{entries_put}
-use Rattle.bz_change.specs.private.Keys.{AreIndexed}
+use Rattle.bz_change.specs.private.Outcomes.{AreIndexed}
 use Rattle.bz_change.proofs.dicts.put_entries.Given as goal
 
 abbrev pub invariant-loop-entry : goal.invariant-loop-entry

@@ -3,7 +3,7 @@ use Rattle.std.specs.Prelude.{bytes_eq}
 use Rattle.std.specs.List.{list_any}
 use Rattle.bz_items.specs.Characters.{Bytes}
 use Rattle.bz_attribute.specs.Sets.{texts_of}
-use Rattle.bz_change.proofs.keys.texts_of.Given as goal
+use Rattle.bz_change.proofs.dicts.remove_entries.Given as goal
 
 abbrev pub invariant-loop-key : goal.invariant-loop-key
-invariant-loop-key l = (other : Bytes) → (list_any (bytes_eq other) (texts_of l.texts) || list_any (bytes_eq other) (drop l.key-index l.keys)) ≡ list_any (bytes_eq other) l.keys
+invariant-loop-key l = (other : Bytes) → (list_any (bytes_eq other) (texts_of l.chosen) || list_any (bytes_eq other) (drop l.key-index l.keys)) ≡ list_any (bytes_eq other) l.keys

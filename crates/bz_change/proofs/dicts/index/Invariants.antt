@@ -1,6 +1,6 @@
 use Rattle.std.proofs.Common.{take}
-use Rattle.bz_change.specs.private.Keys.{AreIndexed}
-use Rattle.bz_change.proofs.keys.places_of.Given as goal
+use Rattle.bz_change.specs.private.Outcomes.{AreIndexed}
+use Rattle.bz_change.proofs.dicts.index.Given as goal
 
 abbrev pub invariant-loop-at : goal.invariant-loop-at
 invariant-loop-at l = AreIndexed l.places (take l.at l.items)

@@ -1,0 +1,15 @@
+use Rattle.std.proofs.Common.{◌∙◌, ap, rules, sym}
+use Rattle.std.specs.Prelude.{not, Ok}
+use Rattle.std.specs.List.{filter}
+use Rattle.std.proofs.lemmas.List.Elements.{filter_from_retain}
+use Rattle.bz_command_syntax.specs.declared.command.Attributes.{Attributes}
+use Rattle.bz_attribute.specs.Attributes.{is_other_attribute}
+use Rattle.bz_change.specs.Changes.{remove}
+use Rattle.bz_change.proofs.whole.remove.Goals as goal
+
+pub returns-in-All : goal.returns-in-All
+returns-in-All c =
+    ap (λ (attributes : Attributes). remove attributes c.args.arguments.now) c.in-All.is
+    ∙ ap Ok (sym (c.from_vec.ensures
+    ∙ (filter_from_retain _ (λ x. not (is_other_attribute x)) (λ p x b q h. search rules) _ _ _ c.retain.ensures.filtered
+    ∙ ap (filter (λ x. not (is_other_attribute x))) (c.into_vec-all.ensures ∙ c.replace.ensures.value))))
