@@ -27,14 +27,19 @@ use Rattle.bz_attribute.proofs.ArgumentPlaces as places
 
 pub found_any : {X : Type 0} (test : X → Bool) (xs : List X) → is_some (find test xs) ≡ list_any test xs
 found_any test [] = refl
-found_any test (x ∷ xs) = by_first (test x) x (find test xs) (list_any test xs) (found_any test xs)
-  where
-    by_first : {X : Type 0} (b : Bool) (x : X) (found : Option X) (c : Bool) → is_some found ≡ c → is_some (cond b (Some x) found) ≡ (b || c)
-    by_first true x found c h = refl
-    by_first false x found c h = h
+found_any test (x ∷ xs) = elim (cases_Bool (test x)) [
+  | inl e ↦ simp e refl
+  | inr e ↦ simp e (found_any test xs)
+]
 
 abbrev pub made_by : Bool → Bool → Expr → Result Expr Refusal
 made_by lists there x = if not lists then Err NotAList else (if there then Ok x else Err NoAttribute)
+
+-- what holds of the arguments with it, and of every refusal
+pub by_made : (P : Arguments → Type 0) (name : Bytes) (lists there : Bool) (x : Expr) (xs : List Expr) → (there ≡ true → P (Ok (with_value name x xs))) → ((refusal : Refusal) → P (Err refusal)) → P (put_value name (made_by lists there x) xs)
+by_made P name true true x xs h i = h refl
+by_made P name true false x xs h i = i NoAttribute
+by_made P name false there x xs h i = i NotAList
 
 -- ---- a host is changed where its comments can be printed, and refused as they are
 
@@ -116,15 +121,6 @@ by_comments Remove x = refl
 
 -- ---- the first element that passes a test, changed back
 
--- what is said of the first element that passes
-found_here : {X : Type 0} (P : X → Type 0) (b : Bool) (x : X) (rest : Option X) → IfSome (cond b (Some x) rest) P → b ≡ true → P x
-found_here P true x rest h e = h
-found_here P false x rest h e = absurd (true≢false (sym e))
-
-found_later : {X : Type 0} (P : X → Type 0) (b : Bool) (x : X) (rest : Option X) → IfSome (cond b (Some x) rest) P → b ≡ false → IfSome rest P
-found_later P true x rest h e = absurd (true≢false e)
-found_later P false x rest h e = h
-
 pub first_found : {X : Type 0} (P : X → Type 0) (b : Bool) (x : X) (rest : Option X) → (b ≡ true → P x) → (b ≡ false → IfSome rest P) → IfSome (cond b (Some x) rest) P
 first_found P true x rest h i = h refl
 first_found P false x rest h i = i refl
@@ -137,8 +133,8 @@ module _ {X : Type 0} (test : X → Bool) (f : X → X) where
   pub first_back : (g : X → X) → ((x : X) → test (f x) ≡ test x) → (xs : List X) → IfSome (find test xs) (λ x. g (f x) ≡ x) → on_first_that test g (on_first_that test f xs) ≡ xs
   first_back g same [] h = refl
   first_back g same (x ∷ xs) h = elim (cases_Bool (test x)) [
-    | inl t ↦ rw t (rw (same x ∙ t) (ap (λ y. y ∷ xs) (found_here (λ y. g (f y) ≡ y) (test x) x (find test xs) h t)))
-    | inr t ↦ rw (t, t) (ap (λ ys. x ∷ ys) (first_back g same xs (found_later (λ y. g (f y) ≡ y) (test x) x (find test xs) h t)))
+    | inl t ↦ rw t (rw (same x ∙ t) (ap (λ y. y ∷ xs) (simp t at h)))
+    | inr t ↦ rw (t, t) (ap (λ ys. x ∷ ys) (first_back g same xs (simp t at h)))
   ]
 
 -- ---- expressions with other comments
