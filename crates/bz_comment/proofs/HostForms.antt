@@ -1,6 +1,6 @@
 -- Whether an item is found, and whether a host is refused.
-use Rattle.std.proofs.Common.{◌≡◌, Bool, true, false, not, ◌||◌, List, [], ◌∷◌, refl, sym, ap, ◌∙◌, subst, Option, Some, None, inl, inr, true≢false, ℕ, ◌+◌, ◌<◌, length, drop, get_or}
-use Rattle.std.specs.Prelude.{Ok, Err, Result, IsOk, is_ok, is_some, cond, if◌then◌else◌, IfSome, slice_get, slice_set}
+use Rattle.std.proofs.Common.{◌≡◌, Bool, true, false, not, List, [], ◌∷◌, refl, sym, ap, ◌∙◌, subst, Option, Some, None, inl, inr, ℕ, ◌+◌, ◌<◌, length, drop, get_or}
+use Rattle.std.specs.Prelude.{Ok, Err, Result, IsOk, is_ok, is_some, if◌then◌else◌, IfSome, slice_get, slice_set}
 use Rattle.std.specs.List.{find, list_any, flat_map, position}
 use Rattle.bz_value.specs.declared.value.Expr.{Expr, Token, Form'}
 use Rattle.bz_value.specs.declared.refusal.Refusal.{Refusal}
@@ -121,10 +121,6 @@ by_comments Remove x = refl
 
 -- ---- the first element that passes a test, changed back
 
-pub first_found : {X : Type 0} (P : X → Type 0) (b : Bool) (x : X) (rest : Option X) → (b ≡ true → P x) → (b ≡ false → IfSome rest P) → IfSome (cond b (Some x) rest) P
-first_found P true x rest h i = h refl
-first_found P false x rest h i = i refl
-
 pub found_first : {X : Type 0} (P : X → Type 0) (found rest : Option X) → is_some found ≡ true → IfSome (option_or found rest) P → IfSome found P
 found_first P None rest h i = tt
 found_first P (Some x) rest h i = i
@@ -139,17 +135,10 @@ module _ {X : Type 0} (test : X → Bool) (f : X → X) where
 
 -- ---- expressions with other comments
 
-comments_twice : (x : Expr) (cs ds : HostComments) → with_comments (with_comments x cs) ds ≡ with_comments x ds
-comments_twice (Token t) cs ds = refl
-comments_twice (Form' kind s parts s' items end split open_break comments) cs ds = refl
-
-own_comments : (x : Expr) → with_comments x (comments_of x) ≡ x
-own_comments (Token t) = refl
-own_comments (Form' kind s parts s' items end split open_break comments) = refl
-
 -- where there were none, they are taken away again
 pub none_again : (x : Expr) (cs : HostComments) → comments_of x ≡ no_comments → with_comments (with_comments x cs) no_comments ≡ x
-none_again x cs h = comments_twice x cs no_comments ∙ (ap (with_comments x) (sym h) ∙ own_comments x)
+none_again (Token t) cs h = ap (with_comments (Token t)) (sym h)
+none_again (Form' kind s parts s' items end split open_break comments) cs h = ap (with_comments (Form' kind s parts s' items end split open_break comments)) (sym h)
 
 pub same_item : (current name word : Bytes) (cs : HostComments) (x : Expr) → is_item current name word (with_comments x cs) ≡ is_item current name word x
 same_item current name word cs (Token t) = refl

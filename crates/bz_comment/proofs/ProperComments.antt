@@ -33,7 +33,7 @@ use Rattle.bz_attribute.specs.Attributes.{is_attribute, has_attribute, on_first_
 use Rattle.bz_attribute.specs.Lists.{has_lists, items_in, is_item}
 use Rattle.bz_attribute.proofs.ProperAttributes.{AreArguments, Made, Keeps, with_value_kept, first_that_kept, first_that_stays}
 use Rattle.bz_attribute.proofs.ProperTexts.{one_ascii}
-use Rattle.bz_comment.specs.Hosts.{comment_made, with_comment, without_comments, has_item, on_first_item, put_value, on_named_item, on_host, comment, remove_comment}
+use Rattle.bz_comment.specs.Hosts.{comment_made, with_comment, without_comments, has_item, on_first_item, on_named_item, on_host, comment, remove_comment}
 use Rattle.bz_comment.proofs.HostForms.{by_made}
 
 -- ---- the comment that a text becomes

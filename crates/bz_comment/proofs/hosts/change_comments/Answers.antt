@@ -18,7 +18,6 @@ returns-in-Attribute-clause-ok c =
 
 pub returns-clause-ok : goal.returns-clause-ok
 returns-clause-ok c =
-    let name = c.as_slice-name.result.now in
     host_changed c.args.current.now c.args.host.now c.empty-own.result c.args.arguments.now c.args.change _ _ _ c.as_slice.ensures c.in_ok-comments_at.ensures
-    (c.set_value.ensures ∙ (c.in-Some.ensures.place c.on_value.new.value ∙ (ap (λ value. with_value name value c.args.arguments.now) c.in_ok-on_value-in-Item.ensures
-    ∙ item_changed c.args.current.now c.args.host.now c.empty-own.result c.args.arguments.now (changed_by c.args.change) name c.in-Item.value _ (c.in-Item.is ∙ ap (λ name. h.Item name c.in-Item.value) (sym c.as_slice-name.ensures)) c.in-Some.ensures.value)))
+    (c.set_value.ensures ∙ (c.in-Some.ensures.place c.on_value.new.value ∙ (ap (λ value. with_value c.as_slice-name.result.now value c.args.arguments.now) c.in_ok-on_value-in-Item.ensures
+    ∙ item_changed c.args.current.now c.args.host.now c.empty-own.result c.args.arguments.now (changed_by c.args.change) _ c.in-Item.value _ (c.in-Item.is ∙ ap (λ name. h.Item name c.in-Item.value) (sym c.as_slice-name.ensures)) c.in-Some.ensures.value)))
