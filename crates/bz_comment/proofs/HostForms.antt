@@ -1,57 +1,117 @@
 -- Whether an item is found, and whether a host is refused.
-use Rattle.std.proofs.Common.{◌≡◌, Bool, true, false, not, ◌||◌, List, [], ◌∷◌, refl, sym, ap, ◌∙◌, subst, Option, Some, None, inl, inr, true≢false, ℕ, ◌+◌, ◌<◌, length, drop, get_or}
-use Rattle.std.specs.Prelude.{Ok, Err, Result, is_some, cond, if◌then◌else◌, IfSome, slice_get, slice_set}
+use Rattle.std.proofs.Common.{◌≡◌, Bool, true, false, not, List, [], ◌∷◌, refl, sym, ap, ◌∙◌, subst, Option, Some, None, inl, inr, ℕ, ◌+◌, ◌<◌, length, drop, get_or}
+use Rattle.std.specs.Prelude.{Ok, Err, Result, IsOk, is_ok, is_some, if◌then◌else◌, IfSome, slice_get, slice_set}
 use Rattle.std.specs.List.{find, list_any, flat_map, position}
 use Rattle.bz_value.specs.declared.value.Expr.{Expr, Token, Form'}
 use Rattle.bz_value.specs.declared.refusal.Refusal.{Refusal}
 use Rattle.bz_value.specs.declared.refusal.Refusal.TheVariants.{NoAttribute, NotAList}
 use Rattle.bz_attribute.specs.Lists.{has_lists, items_in, is_item, listed}
-use Rattle.bz_comment.specs.declared.hosts.Sought.{Sought}
-use Rattle.bz_comment.specs.Changes.{is_sought, item_refused, value_refused, changed_by, comments_made}
+use Rattle.bz_comment.specs.Changes.{changed_by, changed_comments, comments_made, is_host}
+use Rattle.bz_comment.specs.Hosts.{comment, with_comment, print_comment, found_comments, item_comments, put_value, on_named_item, on_first_item, on_host}
+use Rattle.bz_command_syntax.specs.declared.command.Host.{Host}
+use Rattle.bz_command_syntax.specs.declared.command.Host.TheVariants as h
 use Rattle.bz_value.specs.Commented.{with_comments}
 use Rattle.bz_value.specs.Proper.{comments_of}
 use Rattle.bz_comment.specs.declared.changing.Change.{Change}
 use Rattle.bz_comment.specs.declared.changing.Change.TheVariants.{Add, Remove}
 use Rattle.std.specs.Option.{option_or}
 use Rattle.std.proofs.lemmas.Bool.{cases_Bool}
-use Rattle.bz_attribute.specs.Attributes.{on_first_that}
+use Rattle.bz_attribute.specs.Attributes.{is_attribute, on_first_that, with_value, Arguments}
 use Rattle.bz_value.specs.Comments.{HostComments, no_comments}
 use Rattle.bz_items.specs.Characters.{Bytes}
-use Rattle.bz_rule.specs.Rules.{value_named}
-use Rattle.bz_attribute.proofs.FormsAgain.{value_answered}
+use Rattle.bz_rule.specs.Rules.{value_named, attribute}
+use Rattle.bz_attribute.proofs.FormsAgain.{value_answered, attribute_any}
 use Rattle.std.proofs.lemmas.List.{drop_more}
 use Rattle.std.proofs.lemmas.List.Folds.{find-append}
 use Rattle.bz_attribute.proofs.ArgumentPlaces as places
 
 pub found_any : {X : Type 0} (test : X → Bool) (xs : List X) → is_some (find test xs) ≡ list_any test xs
 found_any test [] = refl
-found_any test (x ∷ xs) = by_first (test x) x (find test xs) (list_any test xs) (found_any test xs)
-  where
-    by_first : {X : Type 0} (b : Bool) (x : X) (found : Option X) (c : Bool) → is_some found ≡ c → is_some (cond b (Some x) found) ≡ (b || c)
-    by_first true x found c h = refl
-    by_first false x found c h = h
-
--- why an item is refused, and what is made of a value, by whether it has lists and whether the item is there
-abbrev refused_by : Bool → Bool → Option Refusal
-refused_by lists there = if not lists then Some NotAList else (if there then None else Some NoAttribute)
+found_any test (x ∷ xs) = elim (cases_Bool (test x)) [
+  | inl e ↦ simp e refl
+  | inr e ↦ simp e (found_any test xs)
+]
 
 abbrev pub made_by : Bool → Bool → Expr → Result Expr Refusal
 made_by lists there x = if not lists then Err NotAList else (if there then Ok x else Err NoAttribute)
 
-refused_answered : (sought : Sought) (value : Expr) (there : Bool) → true ≡ has_lists value → list_any (is_sought sought) (items_in value) ≡ there → value_refused sought value ≡ refused_by true there
-refused_answered sought value there h i =
-    ap (λ lists. refused_by lists (list_any (is_sought sought) (items_in value))) (sym h) ∙ ap (refused_by true) i
+-- what holds of the arguments with it, and of every refusal
+pub by_made : (P : Arguments → Type 0) (name : Bytes) (lists there : Bool) (x : Expr) (xs : List Expr) → (there ≡ true → P (Ok (with_value name x xs))) → ((refusal : Refusal) → P (Err refusal)) → P (put_value name (made_by lists there x) xs)
+by_made P name true true x xs h i = h refl
+by_made P name true false x xs h i = i NoAttribute
+by_made P name false there x xs h i = i NotAList
 
--- where an item is found, and where none is
-pub item_there : (sought : Sought) (found : Option Expr) (value x : Expr) → Some value ≡ found → true ≡ has_lists value → Some x ≡ find (is_sought sought) (items_in value) → None ≡ item_refused sought found
-item_there sought found value x e h i =
-    subst (λ (o : Option Expr). None ≡ item_refused sought o) e
-    (sym (refused_answered sought value true h (sym (found_any (is_sought sought) (items_in value)) ∙ ap is_some (sym i))))
+-- ---- a host is changed where its comments can be printed, and refused as they are
 
-pub item_absent : (sought : Sought) (found : Option Expr) (value : Expr) → Some value ≡ found → true ≡ has_lists value → None ≡ find (is_sought sought) (items_in value) → Some NoAttribute ≡ item_refused sought found
-item_absent sought found value e h i =
-    subst (λ (o : Option Expr). Some NoAttribute ≡ item_refused sought o) e
-    (sym (refused_answered sought value false h (sym (found_any (is_sought sought) (items_in value)) ∙ ap (λ (o : Option Expr). is_some o) (sym i))))
+abbrev pub Answers : Result Bytes Refusal → Arguments → List Expr → Type 0
+Answers (Ok text) made new = made ≡ Ok new
+Answers (Err refusal) made new = made ≡ Err refusal
+
+found_answers : (found : Option Expr) (new : List Expr) → Answers (found_comments found) (if is_some found then Ok new else Err NoAttribute) new
+found_answers None new = refl
+found_answers (Some x) new = refl
+
+value_answers : (name : Bytes) (lists : Bool) (found : Option Expr) (x : Expr) (xs : List Expr)
+    → Answers (if not lists then Err NotAList else found_comments found) (put_value name (made_by lists (is_some found) x) xs) (with_value name x xs)
+value_answers name false found x xs = refl
+value_answers name true None x xs = refl
+value_answers name true (Some y) x xs = refl
+
+-- what a change makes of the arguments, where the host is found
+abbrev item_new : Bytes → (Expr → Bool) → (Expr → Expr) → Option Expr → List Expr → List Expr
+item_new name test change None xs = xs
+item_new name test change (Some value) xs = with_value name (on_first_item test change value) xs
+
+abbrev host_new : Bytes → Host → (Expr → Expr) → List Expr → List Expr
+host_new current h.Rule change xs = xs
+host_new current (h.Attribute name) change xs = on_first_that (is_attribute name) change xs
+host_new current (h.Item name word) change xs = item_new name (is_item current name word) change (attribute name xs) xs
+
+item_answers : (name : Bytes) (test : Expr → Bool) (change : Expr → Expr) (found : Option Expr) (xs : List Expr) → Answers (item_comments test found) (on_named_item name test change found xs) (item_new name test change found xs)
+item_answers name test change None xs = refl
+item_answers name test change (Some value) xs =
+    let new : Expr = on_first_item test change value in
+    subst (λ there. Answers (item_comments test (Some value)) (put_value name (made_by (has_lists value) there new) xs) (with_value name new xs)) (found_any test (items_in value))
+    (value_answers name (has_lists value) (find test (items_in value)) new xs)
+
+module _ (current : Bytes) where
+  host_answers : (host : Host) (own : HostComments) (change : Expr → Expr) (xs : List Expr) → Answers (print_comment current host own xs) (on_host current host change xs) (host_new current host change xs)
+  host_answers h.Rule own change xs = refl
+  host_answers (h.Attribute name) own change xs =
+      let found : Option Expr = find (is_attribute name) xs in
+      let new : List Expr = on_first_that (is_attribute name) change xs in
+      subst (λ b. Answers (found_comments found) (if b then Ok new else Err NoAttribute) new) (found_any (is_attribute name) xs ∙ sym (attribute_any name xs)) (found_answers found new)
+  host_answers (h.Item name word) own change xs = item_answers name (is_item current name word) change (attribute name xs) xs
+
+  by_change : (change : Change) (host : Host) (xs : List Expr) → changed_comments change current host xs ≡ on_host current host (changed_by change) xs
+  by_change (Add text) host xs = refl
+  by_change Remove host xs = refl
+
+  module _ (host : Host) (own : HostComments) (xs : List Expr) where
+    told : (change : Expr → Expr) (r : Result Bytes Refusal) → r ≡ print_comment current host own xs → Answers r (on_host current host change xs) (host_new current host change xs)
+    told change r e = subst (λ r. Answers r (on_host current host change xs) (host_new current host change xs)) (sym e) (host_answers host own change xs)
+
+    pub comment_refused : (text : Bytes) (refusal : Refusal) → Err refusal ≡ print_comment current host own xs → comment current host text xs ≡ Err refusal
+    comment_refused text refusal e = told (with_comment text) (Err refusal) e
+
+    pub comment_there : (text there : Bytes) → Ok there ≡ print_comment current host own xs → IsOk (comment current host text xs)
+    comment_there text there e = ap is_ok (told (with_comment text) (Ok there) e)
+
+    pub host_refused : (change : Change) (read : List Expr) (refusal : Refusal) → read ≡ xs → Err refusal ≡ print_comment current host own read → changed_comments change current host xs ≡ Err refusal
+    host_refused change read refusal same e = by_change change host xs ∙ told (changed_by change) (Err refusal) (e ∙ ap (print_comment current host own) same)
+
+    pub host_changed : (change : Change) (read new : List Expr) (there : Bytes) → read ≡ xs → Ok there ≡ print_comment current host own read → new ≡ host_new current host (changed_by change) xs
+        → changed_comments change current host xs ≡ Ok new
+    host_changed change read new there same e made = by_change change host xs ∙ (told (changed_by change) (Ok there) (e ∙ ap (print_comment current host own) same) ∙ ap Ok (sym made))
+
+    pub attribute_changed : (change : Expr → Expr) (name : Bytes) → host ≡ h.Attribute name → on_first_that (is_host current host) change xs ≡ host_new current host change xs
+    attribute_changed change name is = subst (λ (other : Host). on_first_that (is_host current other) change xs ≡ host_new current other change xs) (sym is) refl
+
+    pub item_changed : (change : Expr → Expr) (name word : Bytes) (value : Expr) → host ≡ h.Item name word → Some value ≡ attribute name xs
+        → with_value name (on_first_item (is_host current host) change value) xs ≡ host_new current host change xs
+    item_changed change name word value is found =
+        subst (λ (other : Host). with_value name (on_first_item (is_host current other) change value) xs ≡ host_new current other change xs) (sym is)
+        (ap (λ (o : Option Expr). item_new name (is_item current name word) change o xs) found)
 
 -- ---- what a change makes of an expression is what it makes of its comments
 
@@ -61,19 +121,6 @@ by_comments Remove x = refl
 
 -- ---- the first element that passes a test, changed back
 
--- what is said of the first element that passes
-found_here : {X : Type 0} (P : X → Type 0) (b : Bool) (x : X) (rest : Option X) → IfSome (cond b (Some x) rest) P → b ≡ true → P x
-found_here P true x rest h e = h
-found_here P false x rest h e = absurd (true≢false (sym e))
-
-found_later : {X : Type 0} (P : X → Type 0) (b : Bool) (x : X) (rest : Option X) → IfSome (cond b (Some x) rest) P → b ≡ false → IfSome rest P
-found_later P true x rest h e = absurd (true≢false e)
-found_later P false x rest h e = h
-
-pub first_found : {X : Type 0} (P : X → Type 0) (b : Bool) (x : X) (rest : Option X) → (b ≡ true → P x) → (b ≡ false → IfSome rest P) → IfSome (cond b (Some x) rest) P
-first_found P true x rest h i = h refl
-first_found P false x rest h i = i refl
-
 pub found_first : {X : Type 0} (P : X → Type 0) (found rest : Option X) → is_some found ≡ true → IfSome (option_or found rest) P → IfSome found P
 found_first P None rest h i = tt
 found_first P (Some x) rest h i = i
@@ -82,23 +129,16 @@ module _ {X : Type 0} (test : X → Bool) (f : X → X) where
   pub first_back : (g : X → X) → ((x : X) → test (f x) ≡ test x) → (xs : List X) → IfSome (find test xs) (λ x. g (f x) ≡ x) → on_first_that test g (on_first_that test f xs) ≡ xs
   first_back g same [] h = refl
   first_back g same (x ∷ xs) h = elim (cases_Bool (test x)) [
-    | inl t ↦ rw t (rw (same x ∙ t) (ap (λ y. y ∷ xs) (found_here (λ y. g (f y) ≡ y) (test x) x (find test xs) h t)))
-    | inr t ↦ rw (t, t) (ap (λ ys. x ∷ ys) (first_back g same xs (found_later (λ y. g (f y) ≡ y) (test x) x (find test xs) h t)))
+    | inl t ↦ rw t (rw (same x ∙ t) (ap (λ y. y ∷ xs) (simp t at h)))
+    | inr t ↦ rw (t, t) (ap (λ ys. x ∷ ys) (first_back g same xs (simp t at h)))
   ]
 
 -- ---- expressions with other comments
 
-comments_twice : (x : Expr) (cs ds : HostComments) → with_comments (with_comments x cs) ds ≡ with_comments x ds
-comments_twice (Token t) cs ds = refl
-comments_twice (Form' kind s parts s' items end split open_break comments) cs ds = refl
-
-own_comments : (x : Expr) → with_comments x (comments_of x) ≡ x
-own_comments (Token t) = refl
-own_comments (Form' kind s parts s' items end split open_break comments) = refl
-
 -- where there were none, they are taken away again
 pub none_again : (x : Expr) (cs : HostComments) → comments_of x ≡ no_comments → with_comments (with_comments x cs) no_comments ≡ x
-none_again x cs h = comments_twice x cs no_comments ∙ (ap (with_comments x) (sym h) ∙ own_comments x)
+none_again (Token t) cs h = ap (with_comments (Token t)) (sym h)
+none_again (Form' kind s parts s' items end split open_break comments) cs h = ap (with_comments (Form' kind s parts s' items end split open_break comments)) (sym h)
 
 pub same_item : (current name word : Bytes) (cs : HostComments) (x : Expr) → is_item current name word (with_comments x cs) ≡ is_item current name word x
 same_item current name word cs (Token t) = refl

@@ -1,6 +1,6 @@
 -- A comment that was put where there was none, and is taken away again.
 use Rattle.std.proofs.Common.{◌≡◌, ℕ, Bool, true, false, not, ◌||◌, ◌&&◌, List, [], ◌∷◌, ◌++◌, Option, Some, None, Ok, Err, inl, inr, refl, sym, ap, ◌∙◌, subst, ◌≤◌, ◌+◌, arith, true≢false}
-use Rattle.std.specs.Prelude.{if◌then◌else◌, is_some, IfSome, Result, bytes_eq, IfOk}
+use Rattle.std.specs.Prelude.{if◌then◌else◌, is_some, IfSome, bytes_eq, IfOk}
 use Rattle.std.specs.List.{find, flat_map, list_any}
 use Rattle.std.specs.Option.{option_or}
 use Rattle.std.proofs.Math.Bool.{or-false}
@@ -18,7 +18,6 @@ use Rattle.bz_command_syntax.specs.declared.command.Host.TheVariants as h
 use Rattle.bz_rule.specs.Rules.{attribute, value_named, value_after}
 use Rattle.bz_rule.specs.Values.{has_kind, parts_of, items_of, with_parts, with_items, on_row, on_items}
 use Rattle.bz_rule.proofs.ProperChanges.{by_test, by_case}
-use Rattle.bz_value.specs.declared.refusal.Refusal.{Refusal}
 use Rattle.bz_value.specs.declared.refusal.Refusal.TheVariants.{NoAttribute, NotAList}
 use Rattle.bz_attribute.specs.Attributes.{is_attribute, has_attribute, on_first_that, with_value, Arguments}
 use Rattle.bz_attribute.specs.Lists.{has_lists, items_in, is_item, listed}
@@ -28,7 +27,7 @@ use Rattle.bz_attribute.proofs.FormsAgain.{if_true, if_false, both, parts_kind, 
 use Rattle.bz_attribute.proofs.KeySets.{any_like}
 use Rattle.bz_attribute.proofs.ListsThere.{any_alone, any_in_sum, in_sum as of_sum, in_value, lists_there, sum_no_list}
 use Rattle.bz_comment.specs.Hosts.{with_comment, without_comments, comment_text, comment_line, suffix_line, printed_comments, has_item, on_first_item, put_value, on_named_item, comment, remove_comment, found_comments, item_comments, print_comment, comment_made}
-use Rattle.bz_comment.proofs.HostForms.{first_back, first_found, found_first, made_by, found_any, none_again, same_item, same_value}
+use Rattle.bz_comment.proofs.HostForms.{by_made, first_back, found_first, made_by, found_any, none_again, same_item, same_value}
 use Rattle.bz_value.specs.Counted.{total, suffix_amount, host_amount, amount, row_amount, one_if}
 use Rattle.bz_value.proofs.Totals.{append_total}
 use Rattle.bz_attribute.proofs.Grown.{itself, both_at_most, Grows, first_that_grows}
@@ -115,7 +114,7 @@ module _ (test : Expr → Bool) (f g : Expr → Expr) (same : (x : Expr) → tes
   lists_back (x ∷ xs) h =
       let rest : Option Expr = find test (flat_map listed xs) in
       let split : IfSome (option_or (find test (listed x)) rest) IsBack = subst (λ (o : Option Expr). IfSome o IsBack) (find-append test (listed x) (flat_map listed xs)) h in
-      first_found (λ y. in_list g (in_list f y) ≡ y) (has_item test x) x (find (has_item test) xs)
+      by_case (λ (o : Option Expr). IfSome o (λ y. in_list g (in_list f y) ≡ y)) (has_item test x) (Some x) (find (has_item test) xs)
       (λ is.
       let p = and_parts (has_kind k.List x) (list_any test (items_of x)) is in
       list_back x (λ _.
@@ -183,14 +182,8 @@ none_printed (c ∷ cs) suffix e = absurd (never_empty (comment_text c) (flat_ma
 quiet : (cs : HostComments) → printed_comments cs ≡ [] → cs ≡ no_comments
 quiet cs e = let p = none_printed cs.before cs.suffix e in both (λ b s. record { before = b; suffix = s }) p.0 p.1
 
-abbrev printed_as : Bytes → Result Bytes Refusal
-printed_as text = Ok text
-
-same_text : (text : Bytes) → printed_as text ≡ printed_as [] → text ≡ []
-same_text text e = cc
-
 printed_none : (x : Expr) → found_comments (Some x) ≡ Ok [] → comments_of x ≡ no_comments
-printed_none x e = quiet (comments_of x) (same_text (printed_comments (comments_of x)) e)
+printed_none x e = quiet (comments_of x) (cc e)
 
 -- ---- the laws
 
@@ -275,17 +268,12 @@ module _ (number : Bytes → ℕ) where
       by_test (λ (y : Expr). whole number x ≤ whole number y) (has_kind k.Sum x) (on_row k.Sum (on_first_that (has_item test) within) x) (within x)
       (on_row_grows number k.Sum (on_first_that (has_item test) within) (first_that_grows (whole number) (has_item test) within grows) x) (grows x)
 
-  put_grows : (name : Bytes) (lists there : Bool) (x : Expr) (xs : List Expr) → Grown number xs (Ok (with_value name x xs)) → Grown number xs (put_value name (made_by lists there x) xs)
-  put_grows name true true x xs g = g
-  put_grows name true false x xs g = tt
-  put_grows name false there x xs g = tt
-
   on_item_grows : (name : Bytes) (test : Expr → Bool) (change : Expr → Expr) (found : Option Expr) (xs : List Expr) → Grows (whole number) change → attribute name xs ≡ found
       → Grown number xs (on_named_item name test change found xs)
   on_item_grows name test change None xs g a = tt
   on_item_grows name test change (Some v) xs g a =
-      put_grows name (has_lists v) (list_any test (items_in v)) (on_first_item test change v) xs
-      (with_value_grows number name v (on_first_item test change v) xs a (item_grows test change g v))
+      by_made (Grown number xs) name (has_lists v) (list_any test (items_in v)) (on_first_item test change v) xs
+      (λ is. with_value_grows number name v (on_first_item test change v) xs a (item_grows test change g v)) (λ refusal. tt)
 
   pub comment_grows : (current : Bytes) (host : Host) (text : Bytes) (xs : List Expr) → Grown number xs (comment current host text xs)
   comment_grows current h.Rule text xs = itself (total (whole number) xs)
@@ -405,17 +393,12 @@ module _ (text : Bytes) where
   abbrev pub Comes : Arguments → Type 0
   Comes result = IfOk result (λ new. 1 ≤ total copies new)
 
-  put_comes : (name : Bytes) (lists there : Bool) (x : Expr) (xs : List Expr) → (there ≡ true → 1 ≤ total copies (with_value name x xs)) → Comes (put_value name (made_by lists there x) xs)
-  put_comes name true true x xs g = g refl
-  put_comes name true false x xs g = tt
-  put_comes name false there x xs g = tt
-
   on_item_comes : (name : Bytes) (test : Expr → Bool) (found : Option Expr) (xs : List Expr) → attribute name xs ≡ found → Comes (on_named_item name test (with_comment text) found xs)
   on_item_comes name test None xs a = tt
   on_item_comes name test (Some v) xs a =
       let new : Expr = on_first_item test (with_comment text) v in
-      put_comes name (has_lists v) (list_any test (items_in v)) new xs
-      (λ is. let there = item_comes test v is in let within = attribute_within name new (with_value name new xs) (attribute_changed name v new xs a) in omega arith)
+      by_made Comes name (has_lists v) (list_any test (items_in v)) new xs
+      (λ is. let there = item_comes test v is in let within = attribute_within name new (with_value name new xs) (attribute_changed name v new xs a) in omega arith) (λ refusal. tt)
 
   -- of every host but the rule itself
   abbrev pub IsAmong : Host → Type 0

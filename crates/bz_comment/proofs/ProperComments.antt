@@ -33,8 +33,8 @@ use Rattle.bz_attribute.specs.Attributes.{is_attribute, has_attribute, on_first_
 use Rattle.bz_attribute.specs.Lists.{has_lists, items_in, is_item}
 use Rattle.bz_attribute.proofs.ProperAttributes.{AreArguments, Made, Keeps, with_value_kept, first_that_kept, first_that_stays}
 use Rattle.bz_attribute.proofs.ProperTexts.{one_ascii}
-use Rattle.bz_comment.specs.Hosts.{comment_made, with_comment, without_comments, has_item, on_first_item, put_value, on_named_item, on_host, comment, remove_comment}
-use Rattle.bz_comment.proofs.HostForms.{made_by}
+use Rattle.bz_comment.specs.Hosts.{comment_made, with_comment, without_comments, has_item, on_first_item, on_named_item, on_host, comment, remove_comment}
+use Rattle.bz_comment.proofs.HostForms.{by_made}
 
 -- ---- the comment that a text becomes
 
@@ -97,14 +97,10 @@ module _ (change : Expr → Expr) (keeps : KeepsItems change) where
       (by_test (InPlace x) (has_kind k.Sum x) (on_row k.Sum operands x) (on_items k.List within x)
       (row_stays k.Sum operands (first_that_stays (has_item test) (on_items k.List within) stays) x) (stays x)) v
 
-  put_keeps : (name : Bytes) (lists there : Bool) (x : Expr) (xs : List Expr) → IsValue x → AreArguments xs → Made (put_value name (made_by lists there x) xs)
-  put_keeps name true true x xs v h = with_value_kept name x xs v h
-  put_keeps name true false x xs v h = tt
-  put_keeps name false there x xs v h = tt
-
   item_keeps : (name : Bytes) (test : Expr → Bool) (found : Option Expr) (xs : List Expr) → IfSome found IsValue → AreArguments xs → Made (on_named_item name test change found xs)
   item_keeps name test None xs v h = tt
-  item_keeps name test (Some value) xs v h = put_keeps name (has_lists value) (list_any test (items_in value)) (on_first_item test change value) xs (value_keeps test value v) h
+  item_keeps name test (Some value) xs v h =
+      by_made Made name (has_lists value) (list_any test (items_in value)) (on_first_item test change value) xs (λ is. with_value_kept name (on_first_item test change value) xs (value_keeps test value v) h) (λ refusal. tt)
 
   host_keeps : (current : Bytes) (host : Host) → Keeps (on_host current host change)
   host_keeps current h.Rule xs h = h

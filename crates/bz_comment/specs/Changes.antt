@@ -1,20 +1,18 @@
 -- What is done to comments, in the steps in which it is.
-use Rattle.std.specs.Prelude.{Bool, not, List, [], ◌∷◌, ◌++◌, Option, Some, None, if◌then◌else◌}
-use Rattle.std.specs.List.{list_any}
+use denote.Ref.{Bor}
+use Rattle.std.specs.Prelude.{Bool, false, List, [], ◌∷◌, ◌++◌, Result, Ok, Err}
 use Rattle.bz_value.specs.declared.value.Expr.{Expr}
 use Rattle.bz_value.specs.Comments.{HostComments, no_comments}
 use Rattle.bz_items.specs.Characters.{Bytes}
 use Rattle.bz_command_syntax.specs.declared.command.Host.{Host}
 use Rattle.bz_command_syntax.specs.declared.command.Host.TheVariants as h
-use Rattle.bz_rule.specs.Rules.{attribute}
 use Rattle.bz_value.specs.declared.refusal.Refusal.{Refusal}
-use Rattle.bz_value.specs.declared.refusal.Refusal.TheVariants.{NoAttribute, NotAList}
-use Rattle.bz_attribute.specs.Attributes.{Arguments}
-use Rattle.bz_attribute.specs.Lists.{has_lists, items_in, is_item}
+use Rattle.bz_attribute.specs.Attributes.{Arguments, is_attribute}
+use Rattle.bz_attribute.specs.Lists.{is_item}
 use Rattle.bz_comment.specs.declared.changing.Change.{Change}
 use Rattle.bz_comment.specs.declared.changing.Change.TheVariants.{Add, Remove}
 use Rattle.bz_comment.specs.declared.hosts.Sought.{Sought}
-use Rattle.bz_comment.specs.Hosts.{comment_made, with_comment, without_comments, on_host, on_named_item, comment, remove_comment}
+use Rattle.bz_comment.specs.Hosts.{comment_made, with_comment, without_comments, printed_comments, comment, remove_comment}
 
 -- the change of an expression
 abbrev pub changed_by : Change → Expr → Expr
@@ -33,21 +31,16 @@ changed_comments Remove current host arguments = remove_comment current host arg
 
 -- ---- hosts
 
--- whether an item is the value that is sought
+-- whether an argument, or an item of an attribute's lists, is the host
+abbrev pub is_host : Bytes → Host → Expr → Bool
+is_host current h.Rule = λ x. false
+is_host current (h.Attribute name) = is_attribute name
+is_host current (h.Item name word) = is_item current name word
+
 abbrev pub is_sought : Sought → Expr → Bool
-is_sought sought = is_item sought.current.now sought.attribute.now sought.value.now
+is_sought sought = is_host sought.current.now sought.host.now
 
--- the arguments with an attribute's comments changed, which need no current package, and with those of an item
-abbrev pub changed_attribute : Bytes → Change → List Expr → Arguments
-changed_attribute name change arguments = on_host [] (h.Attribute name) (changed_by change) arguments
-
-abbrev pub changed_item : Sought → Change → List Expr → Arguments
-changed_item sought change arguments = on_named_item sought.attribute.now (is_sought sought) (changed_by change) (attribute sought.attribute.now arguments) arguments
-
--- why an item of a value is refused, where it is
-abbrev pub value_refused : Sought → Expr → Option Refusal
-value_refused sought value = if not (has_lists value) then Some NotAList else (if list_any (is_sought sought) (items_in value) then None else Some NoAttribute)
-
-abbrev pub item_refused : Sought → Option Expr → Option Refusal
-item_refused sought None = Some NoAttribute
-item_refused sought (Some value) = value_refused sought value
+-- the comments of a host as they are printed, or why there are none
+abbrev pub printed_as : Result (Bor HostComments) Refusal → Result Bytes Refusal
+printed_as (Ok comments) = Ok (printed_comments comments.now)
+printed_as (Err refusal) = Err refusal

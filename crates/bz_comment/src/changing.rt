@@ -1,7 +1,5 @@
 //! The comments of one expression, changed.
-ghost use Rattle.std.specs.Prelude.{◌≡◌, [], ◌∷◌, ◌++◌, IfOk, OnOk, IsErr};
-ghost use Rattle.std.specs.Option.{option_copied};
-ghost use Rattle.bz_value.specs.Commented.{with_comments};
+ghost use Rattle.std.specs.Prelude.{◌≡◌, IfOk, OnOk, IsErr};
 ghost use Rattle.bz_comment.specs.Changes.{changed_by, comments_made};
 ghost use Rattle.bz_comment.specs.Hosts.{comment_made};
 
@@ -28,55 +26,20 @@ pub fn comment_made(alloc: Global, text: &[u8]) -> Result<Text, Memory>
     Text::from_slice(alloc, trim_end(line.as_slice()))
 }
 
-/// Equal texts. The error: memory was refused.
-fn copied(alloc: Global, texts: &[Text]) -> Result<Vec<Text>, Memory>
-    ensures { IfOk result (λ copied. copied.items ≡ texts.now) }
-{
-    let mut copied = Vec::new(alloc);
-    for text in texts {
-        copied.push(text.copy()?)?;
-    }
-    Ok(copied)
-}
-
-/// An equal comment, where there is one. The error: memory was refused.
-fn copied_suffix(suffix: Option<&Text>) -> Result<Option<Text>, Memory>
-    ensures { IfOk result (λ copied. copied ≡ option_copied suffix.entry) }
-{
-    match suffix {
-        None => Ok(None),
-        Some(comment) => Ok(Some(comment.copy()?)),
-    }
-}
-
-/// These comments and the one that the text becomes, last above. The error: memory was refused.
-fn with_more(alloc: Global, text: &[u8], comments: &Comments) -> Result<Comments, Memory>
-    ensures { IfOk result (λ more. more ≡ record { before = comments.now.before ++ comment_made text.now ∷ []; suffix = comments.now.suffix }) }
-{
-    let mut before = copied(alloc, comments.before())?;
-    before.push(comment_made(alloc, text)?)?;
-    let suffix = copied_suffix(comments.suffix())?;
-    Comments::new(alloc, Items::from_vec(before), suffix)
-}
-
 /// The comments that a change makes of these. The error: memory was refused.
 fn comments_made(alloc: Global, change: Change<'_>, comments: &Comments) -> Result<Comments, Memory>
     ensures { IfOk result (λ made. made ≡ comments_made change.entry comments.now) }
 {
-    match change {
-        Change::Add(text) => with_more(alloc, text, comments),
-        Change::Remove => Ok(Comments::empty()),
+    let Change::Add(text) = change else {
+        return Ok(Comments::empty());
+    };
+    let mut before = Vec::new(alloc);
+    for comment in comments.before() {
+        before.push(comment.copy()?)?;
     }
-}
-
-/// The comments become the expression's.
-fn set_comments(comments: Comments, x: &mut Expr)
-    ensures { x.new ≡ with_comments x.old comments }
-{
-    match x {
-        Expr::Token(token) => token.comments = comments,
-        Expr::Form(form) => form.comments = comments,
-    }
+    before.push(comment_made(alloc, text)?)?;
+    let suffix = comments.suffix().map(Text::copy).transpose()?;
+    Comments::new(alloc, Items::from_vec(before), suffix)
 }
 
 /// Changes the comments of an expression: of a rule's statement, of a named argument or of an item. The error: memory was
@@ -87,6 +50,9 @@ pub fn change_own(alloc: Global, change: Change<'_>, x: &mut Expr) -> Result<(),
     ensures err { IsErr result → x.new ≡ x.old }
 {
     let comments = comments_made(alloc, change, x.comments())?;
-    set_comments(comments, x);
+    match x {
+        Expr::Token(token) => token.comments = comments,
+        Expr::Form(form) => form.comments = comments,
+    }
     Ok(())
 }

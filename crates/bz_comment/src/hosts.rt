@@ -1,99 +1,75 @@
-//! Hosts among the arguments of a rule: the items of an attribute's lists among which a value is sought, and comments changed there.
-ghost use Rattle.std.specs.Prelude.{◌≡◌, ◌⊎◌, Ok, Err, OnOk, IsOk, IfErr};
-ghost use Rattle.std.specs.List.{find, flat_map, list_any, position};
+//! Hosts among the arguments of a rule: an attribute, or an item of its lists, found, and its comments changed and printed.
+ghost use Rattle.std.specs.Prelude.{◌≡◌, ◌⊎◌, ◌++◌, Ok, Err, IfOk, OnOk, IsOk, IfErr};
+ghost use Rattle.std.specs.List.{find, list_any, position};
 ghost use Rattle.std.specs.Option.{option_copied};
 ghost use Rattle.bz_items.specs.Characters.{Bytes};
 ghost use Rattle.bz_grammar.specs.declared.kind.Kind.TheVariants as kinds;
-ghost use Rattle.bz_rule.specs.Rules.{attribute as value_there};
 ghost use Rattle.bz_rule.specs.Values.{on_items};
-ghost use Rattle.bz_attribute.specs.Attributes.{is_attribute, on_first_that};
+ghost use Rattle.bz_attribute.specs.Attributes.{on_first_that};
 ghost use Rattle.bz_attribute.specs.Lists.{items_in, listed};
-ghost use Rattle.bz_comment.specs.Changes.{changed_by, changed_comments, changed_attribute, changed_item, is_sought, item_refused};
-ghost use Rattle.bz_comment.specs.Hosts.{comment, has_item, on_first_item};
+ghost use Rattle.bz_comment.specs.Changes.{changed_by, changed_comments, is_sought, printed_as};
+ghost use Rattle.bz_comment.specs.Hosts.{comment, comment_line, comment_text as text_of, found_comments, has_item, on_first_item, print_comment, printed_comments};
 
 use crate::changing::{Change, change_own};
 use bz_attribute::{
-    has_attribute, has_kind, has_lists, is_item, items_of, operands_of, place_of, set_value,
-    take_value,
+    has_kind, has_lists, is_attribute, is_item, items_of, operands_of, set_value, take_value,
 };
 use bz_command_syntax::Host;
 use bz_grammar::Kind;
-use bz_items::{Items, Memory};
-use bz_rule::attribute;
-use bz_value::{Expr, Refusal};
+use bz_items::{Items, Memory, Text};
+use bz_value::{Comments, Expr, Refusal};
 use std::alloc::Global;
 
-/// A value that is sought among the items of an attribute, in the current package.
+/// A host that is sought, in the current package.
 #[derive(Clone, Copy)]
 pub(crate) struct Sought<'a> {
     pub(crate) current: &'a [u8],
-    pub(crate) attribute: &'a [u8],
-    pub(crate) value: &'a [u8],
+    pub(crate) host: &'a Host,
 }
 
-/// Whether the item is the value.
+/// Whether an argument, or an item of the attribute's lists, is the host.
 fn is_sought(sought: Sought<'_>, x: &Expr) -> bool
     ensures { result ≡ is_sought sought.entry x.now }
 {
-    is_item(sought.current, sought.attribute, sought.value, x)
-}
-
-/// Where the first item is that is the value.
-fn place_of_item(sought: Sought<'_>, items: &[Expr]) -> Option<usize>
-    ensures { result ≡ position (is_sought sought.entry) items.now }
-{
-    items.iter().position(|x| is_sought(sought, x))
-}
-
-/// Whether one of the items is the value.
-fn is_any_sought(sought: Sought<'_>, items: &[Expr]) -> bool
-    ensures { result ≡ list_any (is_sought sought.entry) items.now }
-{
-    items.iter().any(|x| is_sought(sought, x))
-}
-
-/// Whether the expression is a list with the value.
-fn has_item(sought: Sought<'_>, x: &Expr) -> bool
-    ensures { result ≡ has_item (is_sought sought.entry) x.now }
-{
-    has_kind(Kind::List, x) && is_any_sought(sought, items_of(x))
-}
-
-/// Where the first operand is that is a list with the value.
-fn place_of_list(sought: Sought<'_>, operands: &[Expr]) -> Option<usize>
-    ensures { result ≡ position (has_item (is_sought sought.entry)) operands.now }
-{
-    operands.iter().position(|x| has_item(sought, x))
-}
-
-/// The first item that is the value.
-fn first_item<'a>(sought: Sought<'_>, items: &'a [Expr]) -> Option<&'a Expr>
-    ensures { option_copied result ≡ find (is_sought sought.entry) items.now }
-{
-    for x in items {
-        if is_sought(sought, x) {
-            return Some(x);
+    match sought.host {
+        Host::Rule => false,
+        Host::Attribute(name) => is_attribute(name.as_slice(), x),
+        Host::Item { attribute, value } => {
+            is_item(sought.current, attribute.as_slice(), value.as_slice(), x)
         }
     }
-    None
 }
 
-/// The first item of a list that is the value; any other expression has none.
+/// The first of the expressions that is the host.
+fn first_in<'a>(sought: Sought<'_>, exprs: &'a [Expr]) -> Option<&'a Expr>
+    ensures { option_copied result ≡ find (is_sought sought.entry) exprs.now }
+{
+    exprs.iter().find(|x| is_sought(sought, x))
+}
+
+/// Where that is.
+fn place_in(sought: Sought<'_>, exprs: &[Expr]) -> Option<usize>
+    ensures { result ≡ position (is_sought sought.entry) exprs.now }
+{
+    exprs.iter().position(|x| is_sought(sought, x))
+}
+
+/// The first item of a list that is the host; any other expression has none.
 fn first_in_list<'a>(sought: Sought<'_>, x: &'a Expr) -> Option<&'a Expr>
     ensures { option_copied result ≡ find (is_sought sought.entry) (listed x.now) }
 {
-    if has_kind(Kind::List, x) {
-        return first_item(sought, items_of(x));
+    if !has_kind(Kind::List, x) {
+        return None;
     }
-    None
+    first_in(sought, items_of(x))
 }
 
-/// The first item of the lists among the operands of a sum that is the value.
+/// The first item of a value's lists that is the host.
 #[tactic(auto, using(crate::proofs::HostForms::sought_here, crate::proofs::HostForms::sought_later))]
-fn first_in_operands<'a>(sought: Sought<'_>, operands: &'a [Expr]) -> Option<&'a Expr>
-    ensures { option_copied result ≡ find (is_sought sought.entry) (flat_map listed operands.now) }
+fn first_in_lists<'a>(sought: Sought<'_>, value: &'a Expr) -> Option<&'a Expr>
+    ensures { option_copied result ≡ find (is_sought sought.entry) (items_in value.now) }
 {
-    for x in operands {
+    for x in operands_of(value) {
         if let Some(found) = first_in_list(sought, x) {
             return Some(found);
         }
@@ -101,46 +77,65 @@ fn first_in_operands<'a>(sought: Sought<'_>, operands: &'a [Expr]) -> Option<&'a
     None
 }
 
-/// The first item of a value's lists that is the value sought.
-pub(crate) fn first_sought<'a>(sought: Sought<'_>, value: &'a Expr) -> Option<&'a Expr>
-    ensures { option_copied result ≡ find (is_sought sought.entry) (items_in value.now) }
+/// Whether one of the expressions is the host.
+fn is_any_sought(sought: Sought<'_>, exprs: &[Expr]) -> bool
+    ensures { result ≡ list_any (is_sought sought.entry) exprs.now }
 {
-    first_in_operands(sought, operands_of(value))
+    exprs.iter().any(|x| is_sought(sought, x))
+}
+
+/// Whether the expression is a list with the host.
+fn has_item(sought: Sought<'_>, x: &Expr) -> bool
+    ensures { result ≡ has_item (is_sought sought.entry) x.now }
+{
+    has_kind(Kind::List, x) && is_any_sought(sought, items_of(x))
+}
+
+/// Where the first operand is that is a list with the host.
+fn place_of_list(sought: Sought<'_>, operands: &[Expr]) -> Option<usize>
+    ensures { result ≡ position (has_item (is_sought sought.entry)) operands.now }
+{
+    operands.iter().position(|x| has_item(sought, x))
+}
+
+/// The comments of what was found.
+fn comments_of(found: Option<&Expr>) -> Result<&Comments, Refusal>
+    ensures { printed_as result ≡ found_comments (option_copied found.entry) }
+{
+    match found {
+        Some(x) => Ok(x.comments()),
+        None => Err(Refusal::NoAttribute),
+    }
+}
+
+/// The comments of the host; `own` are those of the rule itself.
+fn comments_at<'a>(
+    sought: Sought<'_>,
+    own: &'a Comments,
+    arguments: &'a [Expr],
+) -> Result<&'a Comments, Refusal>
+    ensures { printed_as result ≡ print_comment sought.entry.current.now sought.entry.host.now own.now arguments.now }
+{
+    match sought.host {
+        Host::Rule => Ok(own),
+        Host::Attribute(_) => comments_of(first_in(sought, arguments)),
+        Host::Item { attribute, .. } => match bz_rule::attribute(attribute.as_slice(), arguments) {
+            Some(value) if has_lists(value) => comments_of(first_in_lists(sought, value)),
+            Some(_) => Err(Refusal::NotAList),
+            None => Err(Refusal::NoAttribute),
+        },
+    }
 }
 
 impl Change<'_> {
-    /// Changes the comments of the first argument of this name.
+    /// Changes the comments of the first of the expressions that is the host.
     #[tactic(auto, using(crate::proofs::HostForms::changed_there, crate::proofs::HostForms::changed_nowhere))]
-    fn on_named(self, name: &[u8], arguments: &mut Items<Expr>) -> Result<(), Memory>
-        ensures { OnOk result (arguments.new ≡ on_first_that (is_attribute name.now) (changed_by self.entry) arguments.old) }
+    fn on_first(self, sought: Sought<'_>, exprs: &mut Items<Expr>) -> Result<(), Memory>
+        ensures { OnOk result (exprs.new ≡ on_first_that (is_sought sought.entry) (changed_by self.entry) exprs.old) }
     {
-        if let Some(at) = place_of(name, arguments.as_slice()) {
-            let alloc = arguments.alloc();
-            change_own(alloc, self, arguments.at_mut(at))?;
-        }
-        Ok(())
-    }
-
-    /// The same, where the attribute is there.
-    fn on_attribute(self, name: &[u8], arguments: &mut Items<Expr>) -> Result<(), Refusal>
-        ensures ok { OnOk result (changed_attribute name.now self.entry arguments.old ≡ Ok arguments.new) }
-        ensures err { IfErr result (λ refusal. (changed_attribute name.now self.entry arguments.old ≡ Err refusal) ⊎ (refusal ≡ Refusal.Memory)) }
-    {
-        if !has_attribute(name, arguments.as_slice()) {
-            return Err(Refusal::NoAttribute);
-        }
-        self.on_named(name, arguments)?;
-        Ok(())
-    }
-
-    /// Changes the comments of the first item that is the value.
-    #[tactic(auto, using(crate::proofs::HostForms::changed_there, crate::proofs::HostForms::changed_nowhere))]
-    fn on_first(self, sought: Sought<'_>, items: &mut Items<Expr>) -> Result<(), Memory>
-        ensures { OnOk result (items.new ≡ on_first_that (is_sought sought.entry) (changed_by self.entry) items.old) }
-    {
-        if let Some(at) = place_of_item(sought, items.as_slice()) {
-            let alloc = items.alloc();
-            change_own(alloc, self, items.at_mut(at))?;
+        if let Some(at) = place_in(sought, exprs.as_slice()) {
+            let alloc = exprs.alloc();
+            change_own(alloc, self, exprs.at_mut(at))?;
         }
         Ok(())
     }
@@ -157,7 +152,7 @@ impl Change<'_> {
         }
     }
 
-    /// The same of the first operand that is a list with the value.
+    /// The same of the first operand that is a list with the host.
     #[tactic(auto, using(crate::proofs::HostForms::changed_there))]
     fn on_first_list(self, sought: Sought<'_>, operands: &mut Items<Expr>) -> Result<(), Memory>
         ensures { OnOk result (operands.new ≡ on_first_that (has_item (is_sought sought.entry)) (on_items kinds.List (on_first_that (is_sought sought.entry) (changed_by self.entry))) operands.old) }
@@ -168,7 +163,7 @@ impl Change<'_> {
         Ok(())
     }
 
-    /// Changes the comments of the first item of a value's lists that is the value sought.
+    /// Changes the comments of the first item of a value's lists that is the host.
     fn on_value(self, sought: Sought<'_>, value: &mut Expr) -> Result<(), Memory>
         ensures { OnOk result (value.new ≡ on_first_item (is_sought sought.entry) (changed_by self.entry) value.old) }
     {
@@ -179,43 +174,6 @@ impl Change<'_> {
             _ => self.on_list(sought, value),
         }
     }
-}
-
-/// Why the item's comments can't be changed, where they can't.
-fn refusal_of(sought: Sought<'_>, arguments: &[Expr]) -> Option<Refusal>
-    ensures { result ≡ item_refused sought.entry (value_there sought.entry.attribute.now arguments.now) }
-{
-    let Some(value) = attribute(sought.attribute, arguments) else {
-        return Some(Refusal::NoAttribute);
-    };
-    if !has_lists(value) {
-        return Some(Refusal::NotAList);
-    }
-    match first_sought(sought, value) {
-        Some(_) => None,
-        None => Some(Refusal::NoAttribute),
-    }
-}
-
-/// Changes the comments of the first item of the attribute's lists that is the value.
-fn change_item(
-    alloc: Global,
-    sought: Sought<'_>,
-    change: Change<'_>,
-    arguments: &mut Items<Expr>,
-) -> Result<(), Refusal>
-    ensures ok { OnOk result (changed_item sought.entry change.entry arguments.old ≡ Ok arguments.new) }
-    ensures err { IfErr result (λ refusal. (changed_item sought.entry change.entry arguments.old ≡ Err refusal) ⊎ (refusal ≡ Refusal.Memory)) }
-{
-    if let Some(refusal) = refusal_of(sought, arguments.as_slice()) {
-        return Err(refusal);
-    }
-    let Some(mut value) = take_value(alloc, sought.attribute, arguments) else {
-        return Err(Refusal::NoAttribute);
-    };
-    change.on_value(sought, &mut value)?;
-    set_value(sought.attribute, value, arguments);
-    Ok(())
 }
 
 /// Changes the comments of a host among the arguments of a rule; the rule itself is no part of them. The errors: the attribute isn't
@@ -231,43 +189,82 @@ pub fn change_comments(
     ensures ok { OnOk result (changed_comments change.entry current.now host.now arguments.old ≡ Ok arguments.new) }
     ensures err { IfErr result (λ refusal. (changed_comments change.entry current.now host.now arguments.old ≡ Err refusal) ⊎ (refusal ≡ Refusal.Memory)) }
 {
+    let sought = Sought { current, host };
+    let own = Comments::empty();
+    comments_at(sought, &own, arguments.as_slice())?;
     match host {
         Host::Rule => Ok(()),
-        Host::Attribute(name) => change.on_attribute(name.as_slice(), arguments),
-        Host::Item { attribute, value } => {
-            let sought = Sought {
-                current,
-                attribute: attribute.as_slice(),
-                value: value.as_slice(),
+        Host::Attribute(_) => Ok(change.on_first(sought, arguments)?),
+        Host::Item { attribute, .. } => {
+            let name = attribute.as_slice();
+            let Some(mut value) = take_value(alloc, name, arguments) else {
+                return Err(Refusal::NoAttribute);
             };
-            change_item(alloc, sought, change, arguments)
+            change.on_value(sought, &mut value)?;
+            set_value(name, value, arguments);
+            Ok(())
         }
     }
 }
 
 /// Whether a comment can be put on a host among the arguments of a rule. The errors: those of putting one there, but for memory.
+#[tactic(auto, using(crate::proofs::HostForms::comment_refused, crate::proofs::HostForms::comment_there))]
 pub fn find_host(current: &[u8], host: &Host, arguments: &[Expr]) -> Result<(), Refusal>
     ensures ok { IsOk result → (text : Bytes) → IsOk (comment current.now host.now text arguments.now) }
     ensures err { IfErr result (λ refusal. (text : Bytes) → comment current.now host.now text arguments.now ≡ Err refusal) }
 {
-    match host {
-        Host::Rule => Ok(()),
-        Host::Attribute(name) => {
-            if !has_attribute(name.as_slice(), arguments) {
-                return Err(Refusal::NoAttribute);
-            }
-            Ok(())
-        }
-        Host::Item { attribute, value } => {
-            let sought = Sought {
-                current,
-                attribute: attribute.as_slice(),
-                value: value.as_slice(),
-            };
-            match refusal_of(sought, arguments) {
-                Some(refusal) => Err(refusal),
-                None => Ok(()),
-            }
-        }
+    let own = Comments::empty();
+    comments_at(Sought { current, host }, &own, arguments)?;
+    Ok(())
+}
+
+/// A comment without its mark, and without one space after it.
+fn comment_text(comment: &[u8]) -> &[u8]
+    ensures { result.now ≡ text_of comment.now }
+{
+    match comment {
+        [_, b' ', rest @ ..] => rest,
+        [_, rest @ ..] => rest,
+        [] => &[],
     }
+}
+
+/// Appends the line of a comment. The error: memory was refused.
+fn push_line(comment: &[u8], text: &mut Vec<u8>) -> Result<(), Memory>
+    ensures { OnOk result (text.new.items ≡ text.old.items ++ comment_line comment.now) }
+{
+    text.extend_from_slice(comment_text(comment))?;
+    text.push(b'\n')?;
+    Ok(())
+}
+
+/// The lines of all comments. The error: memory was refused.
+fn printed(alloc: Global, comments: &Comments) -> Result<Text, Memory>
+    ensures { IfOk result (λ text. text ≡ printed_comments comments.now) }
+{
+    let mut text = Vec::new(alloc);
+    for comment in comments.before() {
+        push_line(comment.as_slice(), &mut text)?;
+    }
+    if let Some(comment) = comments.suffix() {
+        push_line(comment.as_slice(), &mut text)?;
+    }
+    Ok(Text::from_vec(text))
+}
+
+/// The comments of a host, one a line: those above, then the one on the last line; `own` are those of the rule itself. The
+/// errors: the attribute isn't there, or no item of it is the value (`NoAttribute`); its value is no list, and no sum with
+/// one (`NotAList`); memory was refused.
+pub fn print_comments(
+    alloc: Global,
+    current: &[u8],
+    host: &Host,
+    own: &Comments,
+    arguments: &[Expr],
+) -> Result<Text, Refusal>
+    ensures ok { IfOk result (λ text. print_comment current.now host.now own.now arguments.now ≡ Ok text) }
+    ensures err { IfErr result (λ refusal. (print_comment current.now host.now own.now arguments.now ≡ Err refusal) ⊎ (refusal ≡ Refusal.Memory)) }
+{
+    let comments = comments_at(Sought { current, host }, own, arguments)?;
+    Ok(printed(alloc, comments)?)
 }

@@ -5,12 +5,10 @@
 mod changing;
 mod hosts;
 mod laws;
-mod printing;
 
 pub use changing::{Change, change_own, comment_made};
-pub use hosts::{change_comments, find_host};
+pub use hosts::{change_comments, find_host, print_comments};
 pub use laws::{
     comment_loses_none, comment_taken_away, own_comment_loses_none, own_comment_taken_away,
     worked_comments,
 };
-pub use printing::print_comments;

@@ -5,15 +5,16 @@ use Rattle.std.proofs.lemmas.List.{take_at, drop_at, drop-drop, length-append, l
 use Rattle.std.proofs.lemmas.List.Edits.{length-insert}
 use Rattle.bz_value.specs.declared.value.Item.{Item}
 use Rattle.bz_value.specs.Exchanged.{IsSpliced}
-use Rattle.std.specs.Prelude.{◌&&◌, ◌||◌, Option, Some, None, IsTrue, bytes_eq, slice_get, slice_set}
+use Rattle.std.specs.Prelude.{◌==◌, ◌&&◌, ◌||◌, Option, Some, None, IsTrue, bytes_eq, slice_get, slice_set}
 use Rattle.std.proofs.lemmas.Option.{get_or_from_slice_get}
 use Rattle.std.proofs.Math.Bool.{and_self, and-false}
-use Rattle.std.proofs.lemmas.Bool.{and_parts}
+use Rattle.std.proofs.lemmas.Bool.{and_parts, eqb-true}
 use Rattle.bz_grammar.specs.declared.kind.Kind.TheVariants as k
 use Rattle.bz_value.specs.declared.value.Expr.{Expr}
 use Rattle.bz_value.specs.declared.value.Item.TheVariants as i
 use Rattle.bz_items.specs.Characters.{Bytes, apostrophe, quotation_mark}
 use Rattle.bz_rule.specs.Rules.{body, inner, is_plain_in, is_text}
+use Rattle.bz_rule.specs.QuoteMarks.{inside}
 use Rattle.bz_rule.specs.Values.{has_kind, items_of, on_items}
 use Rattle.bz_rule.proofs.ProperChanges.{by_test}
 use Rattle.bz_attribute.proofs.ArgumentPlaces.{IsFirst, is_first, none_passes, changed_there}
@@ -60,9 +61,9 @@ put_over at new before after there is = spliced at 1 1 (suc at) before (new ∷ 
 -- ---- the items of new symbols, put into their load
 
 -- a plain string of this body has it between its ends
-pub glanced_at : (text token : Bytes) → is_text text (body token) ≡ (bytes_eq (inner token) text && is_text text (body token))
+pub glanced_at : (text token : Bytes) → is_text text (body token) ≡ (bytes_eq (inside 1 token) text && is_text text (body token))
 glanced_at text token =
-    by_test (λ (found : Option Bytes). is_text text found ≡ (bytes_eq (inner token) text && is_text text found)) (is_plain_in quotation_mark token || is_plain_in apostrophe token) (Some (inner token)) None
+    by_test (λ (found : Option Bytes). is_text text found ≡ (bytes_eq (inside 1 token) text && is_text text found)) (is_plain_in quotation_mark token || is_plain_in apostrophe token) (Some (inner token)) None
     (sym (and_self (bytes_eq (inner token) text))) (sym (and-false (bytes_eq (inner token) text)))
 
 -- with no symbol more a load is the one that it was
@@ -79,6 +80,11 @@ none_added path more (i.Stmt x) from same =
     let all : items_of x ++ more ≡ items_of x =
     sym (items_filled k.Load (items_of x ++ more) x load) ∙ ap items_of (sym (items_changed k.Load (λ xs. xs ++ more) x load) ∙ stays) in
     append_cancel_left (items_of x) more [] (all ∙ sym (append-nil (items_of x)))
+
+-- whether there are none, by their number
+pub none_counted : (more : List Expr) (b : Bool) → b ≡ (length more == 0) → IsTrue b ↔ (more ≡ [])
+none_counted [] b e = (λ is. refl, λ none. e)
+none_counted (x ∷ more) b e = (λ is. let n = eqb-true (length (x ∷ more)) 0 (sym e ∙ is) in absurd (omega arith), λ none. absurd cc)
 
 -- ---- into the first load from the path
 
@@ -98,15 +104,14 @@ module _ (path : Bytes) (items : List Item) (place : Option ℕ) (at : ℕ) (is 
   over_there new = put_over at new items (slice_set items at new) first.within refl
 
   -- all items are the same where no symbol is added, and only there
-  pub same_there : (more read : List Expr) (x new : Item) (same : Bool) → slice_get items at ≡ Some x → new ≡ with_symbols more x → read ≡ more → IsTrue same ↔ (read ≡ [])
-      → IsTrue same ↔ (slice_set items at new ≡ items)
-  same_there more read x new same there e seen added =
+  pub same_there : (more : List Expr) (x new : Item) (same : Bool) → slice_get items at ≡ Some x → new ≡ with_symbols more x → IsTrue same ↔ (more ≡ []) → IsTrue same ↔ (slice_set items at new ≡ items)
+  same_there more x new same there e added =
       let found : get_or items at x ≡ x = get_or_from_slice_get items at x x there in
       let from : is_load_from path x ≡ true = ap (is_load_from path) (sym found) ∙ first.passes x in (
-        λ answered. ap (set items at) (e ∙ (ap (λ xs. with_symbols xs x) (sym seen ∙ added.0 answered) ∙ (with_none x ∙ sym found))) ∙ set-get_or items at x,
+        λ answered. ap (set items at) (e ∙ (ap (λ xs. with_symbols xs x) (added.0 answered) ∙ (with_none x ∙ sym found))) ∙ set-get_or items at x,
         λ equal.
             let stands : new ≡ x = sym (get_or-set_same items at new new first.within) ∙ (ap (λ xs. get_or xs at new) equal ∙ (get_or_default items at new x first.within ∙ found)) in
-            added.1 (seen ∙ none_added path more x from (sym e ∙ stands)),
+            added.1 (none_added path more x from (sym e ∙ stands)),
       )
 
 -- ---- into a new load

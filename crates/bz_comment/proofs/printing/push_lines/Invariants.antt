@@ -1,8 +1,0 @@
-use Rattle.std.proofs.Common.{◌≡◌, ◌++◌, drop}
-use Rattle.std.specs.List.{flat_map}
-use Rattle.bz_comment.specs.Hosts.{comment_line}
-use Rattle.bz_comment.proofs.printing.push_lines.Given as goal
-
--- the lines so far and those of the comments that are left are all lines
-abbrev pub invariant-loop-comment : goal.invariant-loop-comment
-invariant-loop-comment l = l.text.items ++ flat_map comment_line (drop l.comment-index l.comments) ≡ l.fn.text.items ++ flat_map comment_line l.comments

@@ -1,9 +1,0 @@
-use Rattle.std.proofs.Common.{rules}
-use Rattle.std.specs.Prelude.{not}
-use Rattle.std.proofs.lemmas.Fn.{filter_same}
-use Rattle.bz_load.specs.Fixes.{is_emptied}
-use Rattle.bz_load.specs.private.Known.{knows_name}
-use Rattle.bz_load.proofs.fixing.drop_emptied.Goals as goal
-
-pub returns : goal.returns
-returns c = filter_same _ (λ item. not (is_emptied (knows_name c.args.names.now) item)) _ (λ x b f h. search rules) _ _ c.retain.ensures.filtered

@@ -1,0 +1,10 @@
+use Rattle.std.proofs.Common.{rules}
+use Rattle.std.proofs.lemmas.Fn.{filter_same}
+use Rattle.bz_load.specs.Fixes.{symbol_stays}
+use Rattle.bz_load.specs.private.Known.{knows_name}
+use Rattle.bz_load.proofs.fixing.keep_in_items.Goals as goal
+
+pub returns : goal.returns
+returns c =
+    let kept = filter_same _ (symbol_stays (knows_name c.args.names.now)) _ (λ x b f h. search rules) _ _ c.retain.ensures.filtered in
+    search (rules, kept)

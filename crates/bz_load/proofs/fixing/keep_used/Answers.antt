@@ -1,8 +1,0 @@
-use Rattle.std.proofs.Common.{rules}
-use Rattle.std.proofs.lemmas.Fn.{filter_same}
-use Rattle.bz_load.specs.Fixes.{symbol_stays}
-use Rattle.bz_load.specs.private.Known.{knows_name}
-use Rattle.bz_load.proofs.fixing.keep_used.Goals as goal
-
-pub returns : goal.returns
-returns c = filter_same _ (symbol_stays (knows_name c.args.names.now)) _ (λ x b f h. search rules) _ _ c.retain.ensures.filtered
