@@ -1,5 +1,5 @@
 //! Identifiers and kinds, and the forms that the words of commands have.
-ghost use Rattle.std.specs.Prelude.{◌≡◌, ◌⊎◌, ◌∷◌, [], Some, None, IfOk, IsUtf8, bytes_eq, position, MatchOption, MatchResult, ◌==◌};
+ghost use Rattle.std.specs.Prelude.{◌≡◌, ◌⊎◌, ◌∷◌, [], Some, None, IsUtf8, bytes_eq, position, MatchOption, MatchResult, ◌==◌};
 ghost use Rattle.std.specs.List.{list_any};
 ghost use Rattle.bz_command_syntax.specs.Commands as c;
 ghost use Rattle.bz_command_syntax.specs.Identifiers.{is_identifier as is_identifier_in, is_rule_kind as is_kind_in};
@@ -9,7 +9,7 @@ use crate::command::{
     Attributes, Entries, Entry, Field, Fixes, Host, RulePlace, Symbol, Texts, Values,
 };
 use crate::fault::CommandFault;
-use bz_items::{Items, Memory, Text};
+use bz_items::{Items, Text};
 use bz_token::{Class, token};
 use std::alloc::Global;
 use std::str;
@@ -83,18 +83,11 @@ pub(crate) fn is_text(word: &Text, text: &[u8]) -> bool
     word.as_slice() == text
 }
 
-/// Whether the word is `*`.
-fn is_star(word: &Text) -> bool
-    ensures { result ≡ c.is_star word.now }
-{
-    is_text(word, b"*")
-}
-
 /// The attributes that the word names: all, or one.
 pub(crate) fn attributes_of(word: Text) -> Read<Attributes>
     ensures { MatchResult result (λ attributes. c.attributes_of word ≡ Some attributes) (λ fault. (c.attributes_of word ≡ None) × (fault ≡ CommandFault.Arguments)) }
 {
-    if is_star(&word) {
+    if is_text(&word, b"*") {
         return Ok(Attributes::All);
     }
     ensure!(is_attribute(&word));
@@ -171,7 +164,7 @@ pub(crate) fn new_rule(mut words: Vec<Text>) -> Read<(Text, Text, RulePlace)>
 fn has_star(words: &[Text]) -> bool
     ensures { result ≡ list_any c.is_star words.now }
 {
-    words.iter().any(is_star)
+    words.iter().any(|word| is_text(word, b"*"))
 }
 
 /// Two attributes, and the values that are moved, one or more.
@@ -351,22 +344,16 @@ impl FromWord for Field {
     }
 }
 
-// The name and the kind. The error: a growth was refused.
-fn name_and_kind(alloc: Global) -> Result<Items<Field>, Memory>
-    ensures { IfOk result (λ fields. c.fields_of [] ≡ Some fields) }
-{
-    let name = Text::from_slice(alloc, b"name")?;
-    let fields = Vec::from_array(alloc, [Field::Attribute(name), Field::Kind])?;
-    Ok(Items::from_vec(fields))
-}
-
 /// The fields that the words name; where there is no word, the name and the kind.
 pub(crate) fn fields_of(words: Vec<Text>) -> Read<Items<Field>>
     ensures { MatchResult result (λ fields. c.fields_of words.items ≡ Some fields) (λ fault. ((c.fields_of words.items ≡ None) × (fault ≡ CommandFault.Arguments)) ⊎ (fault ≡ CommandFault.Memory)) }
 {
     let alloc = *words.allocator();
     if words.is_empty() {
-        return Ok(name_and_kind(alloc)?);
+        let mut fields = Items::new(alloc);
+        fields.push(Field::Attribute(Text::from_slice(alloc, b"name")?))?;
+        fields.push(Field::Kind)?;
+        return Ok(fields);
     }
     each(alloc, &words)
 }

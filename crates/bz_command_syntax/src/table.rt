@@ -197,23 +197,12 @@ fn read_named(name: &str, words: Vec<Text>) -> Read<Operation>
     commands!(name words)
 }
 
-// What is reported of a text that is too long: an unknown name first. The further words are not read.
-#[tactic(auto, using(crate::proofs::Named::too_long))]
-fn too_long(name: &str) -> CommandFault
-    ensures { (words : _) → c.command_in false (name.now ∷ words) ≡ Err result }
-{
-    match command_form(name) {
-        Some(_) => CommandFault::Arguments,
-        None => CommandFault::Unknown,
-    }
-}
-
 /// The most bytes of a command's text.
 pub const TEXT_LIMIT: usize = 65_536;
 
 impl Command {
     /// The command of these words; `fits` says that their text is not too long. The errors are those of `read`.
-    #[tactic(auto, using(crate::proofs::ProperCommands::read_proper))]
+    #[tactic(auto, using(crate::proofs::ProperCommands::read_proper, crate::proofs::Named::too_long))]
     pub fn of_words(mut words: Vec<Text>, fits: bool) -> Result<Command, CommandFault>
         requires { AreUtf8 words.items }
         ensures ok { IfOk result (λ command. c.command_in fits words.items ≡ Ok command) }
@@ -223,7 +212,11 @@ impl Command {
             return Err(CommandFault::Unknown);
         };
         if !fits {
-            return Err(too_long(as_text(&name)));
+            // An unknown name is reported first; the further words are not read.
+            return match command_form(as_text(&name)) {
+                Some(_) => Err(CommandFault::Arguments),
+                None => Err(CommandFault::Unknown),
+            };
         }
         let operation = read_named(as_text(&name), words)?;
         Ok(Command { operation })

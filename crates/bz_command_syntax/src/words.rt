@@ -22,13 +22,6 @@ fn close(words: &mut Vec<Text>, word: Vec<u8>) -> Result<(), Memory>
     Ok(())
 }
 
-// A backslash right before a space goes.
-fn is_dropped(byte: u8, rest: &[u8]) -> bool
-    ensures { result ≡ (byte == backslash && begins_with_space rest.now) }
-{
-    byte == b'\\' && rest.first() == Some(&b' ')
-}
-
 /// The words of a text: runs of spaces separate them; a space right after a backslash belongs to the word and the
 /// backslash goes; other backslashes stay. The error: a growth was refused.
 #[tactic(auto, using(crate::proofs::Pieces::word_ended, crate::proofs::Pieces::words_at_backslash, crate::proofs::Pieces::words_at_byte, crate::proofs::Pieces::words_begin))]
@@ -48,7 +41,8 @@ pub fn read_words(alloc: Global, text: &[u8]) -> Result<Vec<Text>, Memory>
             close(&mut words, mem::replace(&mut word, Vec::new(alloc)))?;
             continue;
         }
-        if is_dropped(byte, rest) {
+        // A backslash right before a space goes.
+        if after_backslash && rest.first() == Some(&b' ') {
             continue;
         }
         word.push(byte)?;
