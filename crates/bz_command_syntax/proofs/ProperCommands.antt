@@ -22,7 +22,7 @@ use Rattle.bz_command_syntax.specs.declared.command.ValueOperation.TheVariants a
 use Rattle.bz_command_syntax.specs.declared.command.DictOperation.TheVariants as wd
 use Rattle.bz_command_syntax.specs.declared.command.LoadOperation.TheVariants as wl
 use Rattle.bz_command_syntax.specs.declared.command.CommentOperation.TheVariants as wc
-use Rattle.bz_command_syntax.specs.declared.fault.CommandFault.TheVariants.{Unknown, Arguments}
+use Rattle.bz_command_syntax.specs.declared.fault.CommandFault.TheVariants.{Unknown}
 use Rattle.bz_command_syntax.proofs.Utf8Texts.{cut_utf8}
 
 -- ---- what is there, where there is something

@@ -1,12 +1,12 @@
 //! The words of a command's text, and words as strings.
-ghost use Rattle.std.specs.Prelude.{◌≡◌, ◌==◌, [], ◌∷◌, ◌++◌, filter, not, OnOk, IfOk, IsUtf8, ◌&&◌, false};
+ghost use Rattle.std.specs.Prelude.{◌≡◌, [], ◌∷◌, ◌++◌, filter, OnOk, IfOk, IsUtf8, false};
 ghost use Rattle.std.specs.List.{list_any};
 ghost use Rattle.bz_token.specs.declared.class.Class.TheVariants as class;
 ghost use Rattle.bz_token.specs.Lexemes.{IsLexeme};
-ghost use Rattle.bz_items.specs.Characters.{backslash, quotation_mark, space};
+ghost use Rattle.bz_items.specs.Characters.{quotation_mark};
 ghost use Rattle.bz_command_syntax.specs.Proper.{AreUtf8};
 ghost use Rattle.bz_command_syntax.specs.Quoted.{is_escaped, escaped, quoted_of};
-ghost use Rattle.bz_command_syntax.specs.Words.{words_of, begins_with_space, is_nonempty};
+ghost use Rattle.bz_command_syntax.specs.Words.{words_of, is_nonempty};
 
 use bz_items::{Memory, Text};
 use std::alloc::Global;
