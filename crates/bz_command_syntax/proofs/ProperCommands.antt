@@ -22,7 +22,7 @@ use Rattle.bz_command_syntax.specs.declared.command.ValueOperation.TheVariants a
 use Rattle.bz_command_syntax.specs.declared.command.DictOperation.TheVariants as wd
 use Rattle.bz_command_syntax.specs.declared.command.LoadOperation.TheVariants as wl
 use Rattle.bz_command_syntax.specs.declared.command.CommentOperation.TheVariants as wc
-use Rattle.bz_command_syntax.specs.declared.fault.CommandFault.TheVariants.{Unknown, Arguments}
+use Rattle.bz_command_syntax.specs.declared.fault.CommandFault.TheVariants.{Unknown}
 use Rattle.bz_command_syntax.proofs.Utf8Texts.{cut_utf8}
 
 -- ---- what is there, where there is something
@@ -253,16 +253,13 @@ named_proper : (table : List (Bytes × (Bytes × Reader))) → AllReadProper tab
 named_proper [] h name = tt
 named_proper (command ∷ table) h name = either (λ command. IsProperReader command.1) (bytes_eq name command.0) _ _ (λ _. h.0) (named_proper table h.1 name)
 
-fitting : (fits : Bool) (words : List Bytes) → AreUtf8 words → (o : Option (Bytes × Reader)) → IfSome o (λ command. IsProperReader command.1)
-    → ReadsProper (option_map_or (λ command. if fits then command.1 words else Err Arguments) o (Err Unknown))
-fitting true words u (Some command) h = h words u
-fitting false words u (Some command) h = tt
-fitting fits words u None h = tt
+found_proper : (words : List Bytes) → AreUtf8 words → (o : Option (Bytes × Reader)) → IfSome o (λ command. IsProperReader command.1)
+    → ReadsProper (option_map_or (λ command. command.1 words) o (Err Unknown))
+found_proper words u (Some command) h = h words u
+found_proper words u None h = tt
 
 -- The operation that is read in words is proper.
-in_words : (fits : Bool) (words : List Bytes) → AreUtf8 words → ReadsProper (c.command_in fits words)
-in_words fits [] u = tt
-in_words fits (name ∷ words) u = fitting fits words u.1 (c.row_named c.commands name) (named_proper c.commands commands_proper name)
-
-pub read_proper : (fits : Bool) (words : List Bytes) (operation : Operation) → AreUtf8 words → c.command_in fits words ≡ Ok operation → IsProperCommand operation
-read_proper fits words operation u e = subst ReadsProper e (in_words fits words u)
+pub read_proper : (name : Bytes) (words all : List Bytes) (operation : Operation) → all ≡ name ∷ words → AreUtf8 all → c.command_in true (name ∷ words) ≡ Ok operation
+    → IsProperCommand operation
+read_proper name words all operation is u e =
+    subst ReadsProper e (found_proper words (subst AreUtf8 is u).1 (c.row_named c.commands name) (named_proper c.commands commands_proper name))

@@ -3,6 +3,10 @@ use crate::pattern::Pattern;
 use bz_items::{Items, Text};
 use std::marker::Model;
 
+pub(crate) type Texts = Items<Text>;
+
+pub(crate) type Entries = Items<Entry>;
+
 /// A command as it can be read: the attributes of its operation are identifiers, its kinds are kinds, where values are
 /// required there is one, and all its texts are UTF-8.
 #[derive(Debug, Drop)]
@@ -77,34 +81,17 @@ pub enum RuleOperation {
 #[derive(Debug, Drop)]
 pub enum AttributeOperation {
     /// The attribute's value becomes these, one or more.
-    Set {
-        attribute: Text,
-        values: Items<Text>,
-    },
+    Set { attribute: Text, values: Texts },
     /// The same where there is no such attribute.
-    SetIfAbsent {
-        attribute: Text,
-        values: Items<Text>,
-    },
+    SetIfAbsent { attribute: Text, values: Texts },
     /// Whole attributes go.
-    Remove {
-        attributes: Attributes,
-    },
+    Remove { attributes: Attributes },
     /// The attribute gets another name.
-    Rename {
-        from: Text,
-        to: Text,
-    },
+    Rename { from: Text, to: Text },
     /// The attribute gets the value that it has in the first rule of this name.
-    Copy {
-        attribute: Text,
-        rule: Text,
-    },
+    Copy { attribute: Text, rule: Text },
     /// The same where there is no such attribute.
-    CopyNoOverwrite {
-        attribute: Text,
-        rule: Text,
-    },
+    CopyNoOverwrite { attribute: Text, rule: Text },
 }
 
 /// What is done to the values of attributes.
@@ -113,12 +100,12 @@ pub enum ValueOperation {
     /// These values, one or more, go to the end of the attribute's list where they are no items of it.
     Add {
         attribute: Text,
-        values: Items<Text>,
+        values: Texts,
     },
     /// These values, one or more, go from the attribute's lists.
     Remove {
         attribute: Text,
-        values: Items<Text>,
+        values: Texts,
     },
     /// A value becomes another one, in lists or alone.
     Replace {
@@ -144,20 +131,11 @@ pub enum ValueOperation {
 #[derive(Debug, Drop)]
 pub enum DictOperation {
     /// Entries whose key isn't there, one or more, go to the end of the attribute's dict.
-    Add {
-        attribute: Text,
-        entries: Items<Entry>,
-    },
+    Add { attribute: Text, entries: Entries },
     /// The same, and the value of a key that is there becomes this one.
-    Set {
-        attribute: Text,
-        entries: Items<Entry>,
-    },
+    Set { attribute: Text, entries: Entries },
     /// The entries of these keys, one or more, go from the attribute's dict.
-    Remove {
-        attribute: Text,
-        keys: Items<Text>,
-    },
+    Remove { attribute: Text, keys: Texts },
 }
 
 /// What is done to the symbols that the file loads.

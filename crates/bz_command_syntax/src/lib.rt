@@ -5,9 +5,7 @@ mod command;
 mod fault;
 mod forms;
 mod laws;
-mod lists;
 mod pattern;
-mod reading;
 mod table;
 mod words;
 

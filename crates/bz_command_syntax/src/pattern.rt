@@ -1,8 +1,7 @@
 //! Patterns of `regex`, and what replacing their matches makes of a text. A contract sees a pattern as its text: what it matches is
 //! what `regex`'s grammar reads there.
-ghost use Rattle.std.specs.Prelude.{◌≡◌, ◌≢◌, ◌⊎◌, true};
+ghost use Rattle.std.specs.Prelude.{◌≡◌};
 ghost use Rattle.bz_command_syntax.specs.Patterns.{is_special as special, has_special as more_than_text};
-ghost use Rattle.regex.specs.declared.error.Error.TheVariants.{OutOfMemory};
 
 use crate::fault::CommandFault;
 use bz_items::{Memory, Text};
@@ -27,20 +26,6 @@ impl Model for Pattern {
     ghost view = { λ pattern. regex_source pattern.regex };
 
     ghost invariant = { λ pattern. (regex_config pattern.regex ≡ default_config) × IsReadFromSource pattern.regex };
-}
-
-// Why a text is not taken as a pattern, where `regex` gives this error for it. A text without special characters is a pattern:
-// it can only want memory.
-fn fault_of(error: Error, has_special: bool) -> CommandFault
-    ensures { ((result ≡ CommandFault.BadPattern) × (error ≢ OutOfMemory) × (has_special ≡ true)) ⊎ (result ≡ CommandFault.Memory) }
-{
-    if !has_special {
-        return CommandFault::Memory;
-    }
-    match error {
-        Error::OutOfMemory => CommandFault::Memory,
-        _ => CommandFault::BadPattern,
-    }
 }
 
 // Whether the character is one by which a pattern is more than a text.
@@ -74,7 +59,16 @@ impl Pattern {
     {
         match Regex::new(alloc, source) {
             Ok(regex) => Ok(Pattern { regex }),
-            Err(error) => Err(fault_of(error, has_special(source))),
+            Err(error) => {
+                // A text without special characters is a pattern: it can only want memory.
+                if !has_special(source) {
+                    return Err(CommandFault::Memory);
+                }
+                match error {
+                    Error::OutOfMemory => Err(CommandFault::Memory),
+                    _ => Err(CommandFault::BadPattern),
+                }
+            }
         }
     }
 

@@ -1,68 +1,164 @@
 //! The table of commands, and what each reads in the words after its name.
-ghost use Rattle.std.specs.Prelude.{◌≡◌, ◌⊎◌, ◌∷◌, true, false, Ok, Err, IfOk, IfErr, map, option_map};
+ghost use Rattle.std.specs.Prelude.{◌≡◌, ◌⊎◌, ◌∷◌, codes, true, Ok, IfOk, IfErr, map, option_map};
 ghost use Rattle.bz_command_syntax.specs.Commands as c;
 ghost use Rattle.bz_command_syntax.specs.Proper.{AreUtf8};
 ghost use Rattle.bz_command_syntax.specs.Refused.{IsCommandFault, IsReadAs, IsReadFault};
 
-use crate::command::Command;
-use crate::fault::CommandFault;
-use crate::forms::{Read, as_text, take_first};
-use crate::lists::{dict_add_of, dict_remove_of, dict_set_of, new_load_of, print_of};
-use crate::reading::{
-    add_of, comment_of, copy_no_overwrite_of, copy_of, delete_of, fix_of, move_of, new_of,
-    print_comment_of, remove_comment_of, remove_of, rename_of, replace_of, set_if_absent_of,
-    set_of, substitute_of,
+use crate::command::{
+    AttributeOperation, Command, CommentOperation, DictOperation, LoadOperation, Operation,
+    RuleOperation, ValueOperation,
 };
+use crate::fault::CommandFault;
+use crate::forms::{
+    Read, as_text, attribute_and_values, attribute_and_word, attributes_and_words, attributes_of,
+    ensure, entries_of, fields_of, fixes_of, has_values, host_of, is_attribute, is_kind_name,
+    is_text, moved_values, new_rule, path_symbols, take_first, two_attributes,
+};
+use crate::pattern::Pattern;
 use crate::words::read_words;
-use bz_items::Text;
+use bz_items::{Items, Text};
 use std::alloc::Global;
 
-// Hands the table to another macro: the name of each command, what reads the words after it, and the forms that these have.
+fn delete_of(words: Vec<Text>) -> Read<Operation>
+    ensures { result ≡ c.delete_of words.items }
+{
+    ensure!(words.is_empty());
+    Ok(Operation::Rule(RuleOperation::Delete))
+}
+
+fn begins_with_kind(words: &[Text]) -> bool
+    ensures { result ≡ c.begins_with_kind words.now }
+{
+    matches!(words, [word, ..] if is_text(word, b"kind"))
+}
+
+fn set_of(mut words: Vec<Text>) -> Read<Operation>
+    ensures { result ≡ c.set_of words.items }
+{
+    if !begins_with_kind(&words) {
+        let (attribute, values) = attribute_and_values(words)?;
+        return Ok(Operation::Attribute(AttributeOperation::Set { attribute, values }));
+    }
+    drop(take_first(&mut words)?);
+    let kind = take_first(&mut words)?;
+    ensure!(words.is_empty() && is_kind_name(kind.as_slice()));
+    Ok(Operation::Rule(RuleOperation::SetKind { kind }))
+}
+
+fn set_if_absent_of(words: Vec<Text>) -> Read<Operation>
+    ensures { result ≡ c.set_if_absent_of words.items }
+{
+    ensure!(!begins_with_kind(&words));
+    let (attribute, values) = attribute_and_values(words)?;
+    Ok(Operation::Attribute(AttributeOperation::SetIfAbsent { attribute, values }))
+}
+
+fn remove_of(mut words: Vec<Text>) -> Read<Operation>
+    ensures { result ≡ c.remove_of words.items }
+{
+    let attribute = take_first(&mut words)?;
+    if has_values(&words) {
+        ensure!(is_attribute(&attribute));
+        let values = Items::from_vec(words);
+        return Ok(Operation::Value(ValueOperation::Remove { attribute, values }));
+    }
+    let attributes = attributes_of(attribute)?;
+    Ok(Operation::Attribute(AttributeOperation::Remove { attributes }))
+}
+
+// The pattern is compiled last, so that what is wrong with the words is reported first.
+fn substitute_of(words: Vec<Text>) -> Read<Operation>
+    requires { AreUtf8 words.items }
+    ensures { IsReadAs (c.command_in true (codes "substitute" ∷ words.items)) result }
+{
+    let alloc = *words.allocator();
+    let (attributes, pattern, template) = attributes_and_words(words)?;
+    let pattern = Pattern::read(alloc, as_text(&pattern))?;
+    Ok(Operation::Value(ValueOperation::Substitute {
+        attributes,
+        pattern,
+        template,
+    }))
+}
+
+fn is_one_line(text: &Text) -> bool
+    ensures { result ≡ c.is_one_line text.now }
+{
+    !text.as_slice().contains(&b'\n')
+}
+
+#[tactic(auto, using(crate::proofs::CommentWords::comment_cut, crate::proofs::CommentWords::comment_refused))]
+fn comment_of(mut words: Vec<Text>) -> Read<Operation>
+    ensures { result ≡ c.command_in true (codes "comment" ∷ words.items) }
+{
+    let Some(text) = words.pop() else {
+        return Err(CommandFault::Arguments);
+    };
+    ensure!(is_one_line(&text));
+    let host = host_of(words)?;
+    Ok(Operation::Comment(CommentOperation::Add { host, text }))
+}
+
+// Hands the table to `made_of`: the name of each command, the forms that the words after it have, the parts that are read in them, what reads these,
+// and the operation that they make.
 macro_rules! commands {
-    ($with:ident $($argument:ident)*) => {
-        $with!(
-            ($($argument)*)
-            "new" => new_of, "'new KIND NAME [before RULE]' or 'new KIND NAME [after RULE]'";
-            "delete" => delete_of, "'delete'";
-            "set" => set_of, "'set ATTR VALUE..' or 'set kind KIND'";
-            "set_if_absent" => set_if_absent_of, "'set_if_absent ATTR VALUE..'";
-            "add" => add_of, "'add ATTR VALUE..'";
-            "remove" => remove_of, "'remove ATTR', 'remove *' or 'remove ATTR VALUE..'";
-            "replace" => replace_of, "'replace ATTR OLD NEW' or 'replace * OLD NEW'";
-            "substitute" => substitute_of, "'substitute ATTR PATTERN TEMPLATE' or 'substitute * PATTERN TEMPLATE'";
-            "move" => move_of, "'move FROM TO VALUE..' or 'move FROM TO *'";
-            "rename" => rename_of, "'rename OLD NEW'";
-            "copy" => copy_of, "'copy ATTR RULE'";
-            "copy_no_overwrite" => copy_no_overwrite_of, "'copy_no_overwrite ATTR RULE'";
-            "dict_add" => dict_add_of, "'dict_add ATTR KEY:VALUE..'";
-            "dict_set" => dict_set_of, "'dict_set ATTR KEY:VALUE..'";
-            "dict_remove" => dict_remove_of, "'dict_remove ATTR KEY..'";
-            "new_load" => new_load_of, "'new_load PATH [TO=]FROM..'";
-            "comment" => comment_of, "'comment [ATTR [VALUE]] TEXT'";
-            "print_comment" => print_comment_of, "'print_comment [ATTR [VALUE]]'";
-            "remove_comment" => remove_comment_of, "'remove_comment [ATTR [VALUE]]'";
-            "fix" => fix_of, "'fix [unusedLoads] [movePackageToTop]'";
-            "print" => print_of, "'print [FIELD..]'";
+    ($($wanted:ident)*) => {
+        made_of!(
+            ($($wanted)*)
+            "new" => "'new KIND NAME [before RULE]' or 'new KIND NAME [after RULE]'",
+                (kind, name, place) = new_rule => Operation::Rule(RuleOperation::New { kind, name, place });
+            "delete" => "'delete'", operation = delete_of => operation;
+            "set" => "'set ATTR VALUE..' or 'set kind KIND'", operation = set_of => operation;
+            "set_if_absent" => "'set_if_absent ATTR VALUE..'", operation = set_if_absent_of => operation;
+            "add" => "'add ATTR VALUE..'",
+                (attribute, values) = attribute_and_values => Operation::Value(ValueOperation::Add { attribute, values });
+            "remove" => "'remove ATTR', 'remove *' or 'remove ATTR VALUE..'", operation = remove_of => operation;
+            "replace" => "'replace ATTR OLD NEW' or 'replace * OLD NEW'",
+                (attributes, old, new) = attributes_and_words => Operation::Value(ValueOperation::Replace { attributes, old, new });
+            "substitute" => "'substitute ATTR PATTERN TEMPLATE' or 'substitute * PATTERN TEMPLATE'", operation = substitute_of => operation;
+            "move" => "'move FROM TO VALUE..' or 'move FROM TO *'",
+                (from, to, values) = moved_values => Operation::Value(ValueOperation::Move { from, to, values });
+            "rename" => "'rename OLD NEW'",
+                (from, to) = two_attributes => Operation::Attribute(AttributeOperation::Rename { from, to });
+            "copy" => "'copy ATTR RULE'",
+                (attribute, rule) = attribute_and_word => Operation::Attribute(AttributeOperation::Copy { attribute, rule });
+            "copy_no_overwrite" => "'copy_no_overwrite ATTR RULE'",
+                (attribute, rule) = attribute_and_word => Operation::Attribute(AttributeOperation::CopyNoOverwrite { attribute, rule });
+            "dict_add" => "'dict_add ATTR KEY:VALUE..'",
+                (attribute, entries) = entries_of => Operation::Dict(DictOperation::Add { attribute, entries });
+            "dict_set" => "'dict_set ATTR KEY:VALUE..'",
+                (attribute, entries) = entries_of => Operation::Dict(DictOperation::Set { attribute, entries });
+            "dict_remove" => "'dict_remove ATTR KEY..'",
+                (attribute, keys) = attribute_and_values => Operation::Dict(DictOperation::Remove { attribute, keys });
+            "new_load" => "'new_load PATH [TO=]FROM..'",
+                (path, symbols) = path_symbols => Operation::Load(LoadOperation::New { path, symbols });
+            "comment" => "'comment [ATTR [VALUE]] TEXT'", operation = comment_of => operation;
+            "print_comment" => "'print_comment [ATTR [VALUE]]'",
+                host = host_of => Operation::Comment(CommentOperation::Print { host });
+            "remove_comment" => "'remove_comment [ATTR [VALUE]]'",
+                host = host_of => Operation::Comment(CommentOperation::Remove { host });
+            "fix" => "'fix [unusedLoads] [movePackageToTop]'",
+                fixes = fixes_of => Operation::Load(LoadOperation::Fix { fixes });
+            "print" => "'print [FIELD..]'",
+                fields = fields_of => Operation::Print { fields };
         )
     };
 }
 
-macro_rules! names {
-    (() $($name:literal => $reader:ident, $forms:literal;)*) => {
+// What is made of the table: the names, the names with the forms, or what the command of the given name reads in the words after it.
+macro_rules! made_of {
+    ((names) $($name:literal => $forms:literal, $parts:pat = $reader:ident => $operation:expr;)*) => {
         &[$($name),*]
     };
-}
-
-macro_rules! names_and_forms {
-    (() $($name:literal => $reader:ident, $forms:literal;)*) => {
+    ((forms) $($name:literal => $forms:literal, $parts:pat = $reader:ident => $operation:expr;)*) => {
         &[$(($name, $forms)),*]
     };
-}
-
-macro_rules! read_by_name {
-    (($given:ident $words:ident) $($name:literal => $reader:ident, $forms:literal;)*) => {
+    (($given:ident $words:ident) $($name:literal => $forms:literal, $parts:pat = $reader:ident => $operation:expr;)*) => {
         match $given {
-            $($name => $reader($words),)*
+            $($name => {
+                let $parts = $reader($words)?;
+                Ok($operation)
+            })*
             _ => Err(CommandFault::Unknown),
         }
     };
@@ -71,7 +167,7 @@ macro_rules! read_by_name {
 /// The names of all commands.
 pub const COMMAND_NAMES: &[&str] = commands!(names);
 
-const COMMAND_FORMS: &[(&str, &str)] = commands!(names_and_forms);
+const COMMAND_FORMS: &[(&str, &str)] = commands!(forms);
 
 // What a table of texts has for this name.
 fn row_named(rows: &[(&'static str, &'static str)], name: &str) -> Option<&'static str>
@@ -94,37 +190,11 @@ pub fn command_form(name: &str) -> Option<&'static str>
 
 // What the command of this name reads in the words after it.
 #[tactic(auto, using(crate::proofs::Named::by_name))]
-fn read_named(name: &str, words: Vec<Text>) -> Read
+fn read_named(name: &str, words: Vec<Text>) -> Read<Operation>
     requires { AreUtf8 words.items }
     ensures { IsReadAs (c.command_in true (name.now ∷ words.items)) result }
 {
-    commands!(read_by_name name words)
-}
-
-// What is reported of a text that is too long: an unknown name first. The further words are not read.
-#[tactic(auto, using(crate::proofs::Named::too_long))]
-fn too_long(name: &str) -> CommandFault
-    ensures { (words : _) → c.command_in false (name.now ∷ words) ≡ Err result }
-{
-    match command_form(name) {
-        Some(_) => CommandFault::Arguments,
-        None => CommandFault::Unknown,
-    }
-}
-
-// An unknown name is reported first, then a text that is too long, then what is wrong with the words.
-fn command_in(mut words: Vec<Text>, fits: bool) -> Read
-    requires { AreUtf8 words.items }
-    ensures { IsReadAs (c.command_in fits words.items) result }
-{
-    let Ok(name) = take_first(&mut words) else {
-        return Err(CommandFault::Unknown);
-    };
-    if fits {
-        read_named(as_text(&name), words)
-    } else {
-        Err(too_long(as_text(&name)))
-    }
+    commands!(name words)
 }
 
 /// The most bytes of a command's text.
@@ -132,13 +202,23 @@ pub const TEXT_LIMIT: usize = 65_536;
 
 impl Command {
     /// The command of these words; `fits` says that their text is not too long. The errors are those of `read`.
-    #[tactic(auto, using(crate::proofs::ProperCommands::read_proper))]
-    pub fn of_words(words: Vec<Text>, fits: bool) -> Result<Command, CommandFault>
+    #[tactic(auto, using(crate::proofs::ProperCommands::read_proper, crate::proofs::Named::too_long))]
+    pub fn of_words(mut words: Vec<Text>, fits: bool) -> Result<Command, CommandFault>
         requires { AreUtf8 words.items }
         ensures ok { IfOk result (λ command. c.command_in fits words.items ≡ Ok command) }
         ensures err { IfErr result (λ fault. IsReadFault (c.command_in fits words.items) fault ⊎ (fault ≡ CommandFault.Memory)) }
     {
-        let operation = command_in(words, fits)?;
+        let Ok(name) = take_first(&mut words) else {
+            return Err(CommandFault::Unknown);
+        };
+        if !fits {
+            // An unknown name is reported first; the further words are not read.
+            return match command_form(as_text(&name)) {
+                Some(_) => Err(CommandFault::Arguments),
+                None => Err(CommandFault::Unknown),
+            };
+        }
+        let operation = read_named(as_text(&name), words)?;
         Ok(Command { operation })
     }
 

@@ -1,12 +1,12 @@
 //! The words of a command's text, and words as strings.
-ghost use Rattle.std.specs.Prelude.{◌≡◌, ◌==◌, [], ◌∷◌, ◌++◌, filter, not, OnOk, IfOk, IsUtf8, ◌&&◌, false};
+ghost use Rattle.std.specs.Prelude.{◌≡◌, [], ◌∷◌, ◌++◌, filter, OnOk, IfOk, IsUtf8, false};
 ghost use Rattle.std.specs.List.{list_any};
 ghost use Rattle.bz_token.specs.declared.class.Class.TheVariants as class;
 ghost use Rattle.bz_token.specs.Lexemes.{IsLexeme};
-ghost use Rattle.bz_items.specs.Characters.{backslash, quotation_mark, space};
+ghost use Rattle.bz_items.specs.Characters.{quotation_mark};
 ghost use Rattle.bz_command_syntax.specs.Proper.{AreUtf8};
 ghost use Rattle.bz_command_syntax.specs.Quoted.{is_escaped, escaped, quoted_of};
-ghost use Rattle.bz_command_syntax.specs.Words.{words_of, words_after, begins_with_space, is_nonempty};
+ghost use Rattle.bz_command_syntax.specs.Words.{words_of, is_nonempty};
 
 use bz_items::{Memory, Text};
 use std::alloc::Global;
@@ -22,39 +22,9 @@ fn close(words: &mut Vec<Text>, word: Vec<u8>) -> Result<(), Memory>
     Ok(())
 }
 
-// A backslash right before a space goes.
-fn is_dropped(byte: u8, rest: &[u8]) -> bool
-    ensures { result ≡ (byte == backslash && begins_with_space rest.now) }
-{
-    byte == b'\\' && rest.first() == Some(&b' ')
-}
-
-/// Reads a byte: a space that separates ends the word, a backslash that is dropped is passed over, and any other byte goes to the word.
-#[tactic(auto, using(crate::proofs::Pieces::word_ended, crate::proofs::Pieces::words_at_backslash, crate::proofs::Pieces::words_at_byte))]
-fn read_byte(
-    alloc: Global,
-    byte: u8,
-    after_backslash: bool,
-    rest: &[u8],
-    word: &mut Vec<u8>,
-    words: &mut Vec<Text>,
-) -> Result<(), Memory>
-    ensures { OnOk result (words.new.items ++ words_after word.new.items (byte == backslash) rest.now ≡ words.old.items ++ words_after word.old.items after_backslash (byte ∷ rest.now)) }
-{
-    if byte == b' ' && !after_backslash {
-        let whole = mem::replace(word, Vec::new(alloc));
-        close(words, whole)?;
-        return Ok(());
-    }
-    if !is_dropped(byte, rest) {
-        word.push(byte)?;
-    }
-    Ok(())
-}
-
 /// The words of a text: runs of spaces separate them; a space right after a backslash belongs to the word and the
 /// backslash goes; other backslashes stay. The error: a growth was refused.
-#[tactic(auto, using(crate::proofs::Pieces::words_begin, crate::proofs::Pieces::words_end))]
+#[tactic(auto, using(crate::proofs::Pieces::word_ended, crate::proofs::Pieces::words_at_backslash, crate::proofs::Pieces::words_at_byte, crate::proofs::Pieces::words_begin))]
 pub fn read_words(alloc: Global, text: &[u8]) -> Result<Vec<Text>, Memory>
     ensures words { IfOk result (λ words. words.items ≡ words_of text.now) }
     ensures utf8 { IsUtf8 text.now → IfOk result (λ words. AreUtf8 words.items) }
@@ -64,9 +34,18 @@ pub fn read_words(alloc: Global, text: &[u8]) -> Result<Vec<Text>, Memory>
     let mut after_backslash = false;
     let mut left = text;
     while let Some((&byte, rest)) = left.split_first() {
-        read_byte(alloc, byte, after_backslash, rest, &mut word, &mut words)?;
+        let separates = byte == b' ' && !after_backslash;
         after_backslash = byte == b'\\';
         left = rest;
+        if separates {
+            close(&mut words, mem::replace(&mut word, Vec::new(alloc)))?;
+            continue;
+        }
+        // A backslash right before a space goes.
+        if after_backslash && rest.first() == Some(&b' ') {
+            continue;
+        }
+        word.push(byte)?;
     }
     close(&mut words, word)?;
     Ok(words)
@@ -83,18 +62,6 @@ fn push_escaped(text: &mut Vec<u8>, byte: u8) -> Result<(), Memory>
     Ok(())
 }
 
-fn between_marks(alloc: Global, word: &[u8]) -> Result<Text, Memory>
-    ensures { IfOk result (λ text. text ≡ quoted_of word.now) }
-{
-    let mut text = Vec::new(alloc);
-    text.push(b'"')?;
-    for byte in word {
-        push_escaped(&mut text, *byte)?;
-    }
-    text.push(b'"')?;
-    Ok(Text::from_vec(text))
-}
-
 /// The word as a string, which is a lexeme: between quotation marks, with a backslash before each quotation mark and each
 /// backslash, and each newline as a backslash and `n`. The error: a growth was refused.
 pub fn quoted(alloc: Global, word: &[u8]) -> Result<Text, Memory>
@@ -103,6 +70,11 @@ pub fn quoted(alloc: Global, word: &[u8]) -> Result<Text, Memory>
     ensures utf8 { IsUtf8 word.now → IfOk result IsUtf8 }
     ensures plain { list_any is_escaped word.now ≡ false → IfOk result (λ text. text ≡ quotation_mark ∷ word.now ++ quotation_mark ∷ []) }
 {
-    let text = between_marks(alloc, word)?;
-    Ok(text)
+    let mut text = Vec::new(alloc);
+    text.push(b'"')?;
+    for byte in word {
+        push_escaped(&mut text, *byte)?;
+    }
+    text.push(b'"')?;
+    Ok(Text::from_vec(text))
 }

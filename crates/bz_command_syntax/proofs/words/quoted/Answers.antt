@@ -1,15 +1,18 @@
-use Rattle.std.proofs.Common.{sym, ◌∙◌, subst, IsUtf8}
+use Rattle.std.proofs.Common.{◌≡◌, sym, ◌∙◌, subst, IsUtf8, arith}
+use Rattle.std.proofs.lemmas.Grind.{common_steps}
 use Rattle.bz_token.specs.declared.class.Class.TheVariants as class
 use Rattle.bz_token.specs.Lexemes.{IsLexeme}
+use Rattle.bz_command_syntax.specs.Quoted.{quoted_of}
 use Rattle.bz_command_syntax.proofs.Strings.{quoted_lexeme, quoted_plain}
 use Rattle.bz_command_syntax.proofs.Utf8Texts.{quoted_utf8}
 use Rattle.bz_command_syntax.proofs.words.quoted.Goals as goal
 
-pub returns-clause-lexeme : goal.returns-clause-lexeme
-returns-clause-lexeme c = subst (IsLexeme class.String) (sym c.in_ok-text.ensures) (quoted_lexeme c.args.word.now)
-
-pub returns-clause-utf8 : goal.returns-clause-utf8
-returns-clause-utf8 c u = subst IsUtf8 (sym c.in_ok-text.ensures) (quoted_utf8 c.args.word.now u)
-
-pub returns-clause-plain : goal.returns-clause-plain
-returns-clause-plain c h = c.in_ok-text.ensures ∙ quoted_plain c.args.word.now h
+pub returns : goal.returns
+returns c =
+    let same : c.from_vec.result ≡ quoted_of c.args.word.now = grind (arith, common_steps) in
+    record {
+      value = same;
+      lexeme = subst (IsLexeme class.String) (sym same) (quoted_lexeme c.args.word.now);
+      utf8 = λ u. subst IsUtf8 (sym same) (quoted_utf8 c.args.word.now u);
+      plain = λ h. same ∙ quoted_plain c.args.word.now h;
+    }
