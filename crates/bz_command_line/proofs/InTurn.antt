@@ -1,11 +1,11 @@
 -- Operands of a line, and lines of a file, one after the other.
-use Rattle.std.proofs.Common.{◌≡◌, ◌<◌, ◌+◌, ◌++◌, ◌∷◌, [], ℕ, List, Bor, false, true, Result, Ok, Err, Option, Some, None, IfSome, option_map, map, take, drop, get_or, length, append_assoc, add-one, arith, suc, refl, ap, subst, sym, ◌∙◌}
+use Rattle.std.proofs.Common.{◌≡◌, ◌<◌, ◌+◌, ◌++◌, ◌∷◌, [], ℕ, List, Bor, true, Result, Ok, Err, Option, Some, None, IfSome, option_map, map, take, drop, get_or, length, append_assoc, add-one, arith, suc, refl, ap, subst, sym, ◌∙◌}
 use Rattle.std.proofs.Math.Seq.{take-suc, drop-cons}
 use Rattle.std.proofs.lemmas.List.{append-nil, length-map, length-take-le, map-append, take-append-drop}
 use Rattle.bz_items.specs.Characters.{Bytes}
 use Rattle.bz_command_line.specs.Refused.{IsFirstFault, IsFirstRefused, IsGroupFault, IsOperandFault}
-use Rattle.bz_command_line.specs.Requested.{Requested, Usage, both, in_line, joined_by, joined_operands, nothing_requested, operand_group, requested_by, requested_of}
-use Rattle.bz_command_line.specs.Script.{group_in_line, in_front, is_read, line_group, operand_groups, operands_in}
+use Rattle.bz_command_line.specs.Requested.{Requested, Usage, both, in_line, joined_by, joined_operands, nothing_requested, requested_by, requested_of}
+use Rattle.bz_command_line.specs.Script.{in_front, is_read, line_group, operand_groups, operands_in}
 use Rattle.bz_command_line.specs.declared.verb.OperandFault.{OperandFault}
 
 -- ---- texts after references, cut at a place
@@ -96,16 +96,6 @@ groups_turn items at groups more within before turn =
     ap (operand_groups 1) (texts_more items at within) ∙ groups_more 1 (texts_in (take at items)) (text_at items at)
     ∙ ap (λ (it : Result (List Requested) Usage). in_front it (line_group (1 + length (texts_in (take at items))) (text_at items at))) before
     ∙ ap (λ (n : ℕ). in_front (Ok groups) (line_group n (text_at items at))) number ∙ turn
-
--- a line that is passed over
-pub passed_over : (groups : List Requested) (number : ℕ) (line : Bytes) → is_read line ≡ false → in_front (Ok groups) (line_group number line) ≡ Ok groups
-passed_over groups number line over = rw over (ap Ok (append-nil groups))
-
--- a line that is read
-pub one_read : (groups : List Requested) (group : Requested) (number : ℕ) (line : Bytes) (operands : List Bytes) → is_read line ≡ true → operands ≡ operands_in line
-    → operand_group operands ≡ Ok group → in_front (Ok groups) (line_group number line) ≡ Ok (groups ++ group ∷ [])
-one_read groups group number line operands here same is =
-    rw here (ap (λ (found : Result Requested Usage). in_front (Ok groups) (group_in_line number found)) (ap operand_group (sym same) ∙ is))
 
 -- the fault of a line is the first one
 pub fault_turn : (items : List (Bor Bytes)) (at : ℕ) (groups : List Requested) (found : Option Usage) (operands : List Bytes) → at < length items

@@ -1,32 +1,26 @@
-use Rattle.std.proofs.Common.{◌≡◌, ◌∙◌, ◌+◌, ◌∷◌, ◌++◌, [], All, Bor, List, ℕ, Ok, ap, map, subst, sym}
-use Rattle.std.proofs.lemmas.List.{map-append}
+use Rattle.std.proofs.Common.{◌≡◌, ◌∙◌, ◌+◌, All, Ok, ap, arith, map, rules, sym}
+use Rattle.std.proofs.lemmas.Grind.{common_steps}
 use Rattle.std.proofs.lemmas.List.Elements.{All-push}
-use Rattle.bz_items.specs.Characters.{Bytes}
 use Rattle.bz_command_line.specs.Paths.{HasPath}
+use Rattle.bz_command_line.specs.Script.{in_front, line_group}
 use Rattle.bz_command_line.specs.Shown.{requested_in, usage_in}
 use Rattle.bz_command_line.specs.declared.requested.Requested.{Requested}
-use Rattle.bz_command_line.proofs.InTurn.{fault_turn, groups_turn, one_read, passed_over, text_at, texts_in}
+use Rattle.bz_command_line.proofs.InTurn.{fault_turn, groups_turn, text_at, texts_in}
 use Rattle.bz_command_line.proofs.script.read_groups.Goals as goal
 
 pub loop-at-preserved-then-not-is_read : goal.loop-at-preserved-then-not-is_read
 loop-at-preserved-then-not-is_read c =
     let groups = map requested_in c.loop-at.groups.items in
-    record {
-      answered = groups_turn c.args.lines.now c.loop-at.at groups groups c.loop-at-test.true c.loop-at.invariant.answered
-          (passed_over groups (c.loop-at.at + 1) (text_at c.args.lines.now c.loop-at.at) (sym c.is_read.ensures ∙ c.if-not-is_read.true));
-      paths = c.loop-at.invariant.paths;
-    }
+    let turn : in_front (Ok groups) (line_group (c.loop-at.at + 1) (text_at c.args.lines.now c.loop-at.at)) ≡ Ok groups = search rules in
+    record { answered = groups_turn c.args.lines.now c.loop-at.at groups groups c.loop-at-test.true c.loop-at.invariant.answered turn; paths = c.loop-at.invariant.paths }
 
 pub loop-at-preserved : goal.loop-at-preserved
 loop-at-preserved c =
     let groups = map requested_in c.loop-at.groups.items in
-    let line = text_at c.args.lines.now c.loop-at.at in
-    let operands = ap texts_in c.deref.ensures.value ∙ c.in_ok-operands.ensures in
-    let pushed = c.push_reserved.ensures.items ∙ ap (λ (items : List Requested). items ++ c.in-Ok.group ∷ []) c.reserve.ensures.items in
-    let turn = one_read groups (requested_in c.in-Ok.group) (c.loop-at.at + 1) line _ (sym c.is_read.ensures ∙ c.if-not-is_read.false) operands c.in-Ok.ensures.ok in
+    let more = map requested_in c.push_reserved.new.self.items in
+    let turn : in_front (Ok groups) (line_group (c.loop-at.at + 1) (text_at c.args.lines.now c.loop-at.at)) ≡ Ok more = grind (arith, common_steps) in
     record {
-      answered = groups_turn c.args.lines.now c.loop-at.at groups (map requested_in c.push_reserved.new.self.items) c.loop-at-test.true c.loop-at.invariant.answered
-          (turn ∙ ap Ok (sym (ap (map requested_in) pushed ∙ map-append requested_in c.loop-at.groups.items (c.in-Ok.group ∷ []))));
+      answered = groups_turn c.args.lines.now c.loop-at.at groups more c.loop-at-test.true c.loop-at.invariant.answered turn;
       paths = rw (c.push_reserved.ensures.items, c.reserve.ensures.items)
           (All-push (λ (requested : Requested). All HasPath requested.targets.items) c.loop-at.groups.items c.in-Ok.group c.loop-at.invariant.paths c.in-Ok.ensures.paths);
     }
