@@ -22,17 +22,6 @@ pub enum ScriptFault<'a> {
     Memory,
 }
 
-impl From<AllocError> for ScriptFault<'_> {
-    ghost use Rattle.std.specs.Prelude.{◌≡◌};
-    ghost use Rattle.bz_command_line.specs.declared.script.ScriptFault.TheVariants as fault;
-
-    ghost from_gives = { λ _ made. made ≡ fault.Memory };
-
-    fn from(_refused: AllocError) -> Self {
-        ScriptFault::Memory
-    }
-}
-
 // A line that is not passed over.
 fn is_read(line: &str) -> bool
     ensures { result ≡ is_read line.now }
@@ -89,8 +78,12 @@ fn read_groups<'a>(alloc: Global, lines: &[&'a str]) -> Result<Vec<Requested<'a>
         if !is_read(line) {
             continue;
         }
-        groups.reserve(1)?;
-        let operands = operands_in(alloc, line)?;
+        if groups.reserve(1).is_err() {
+            return Err(ScriptFault::Memory);
+        }
+        let Ok(operands) = operands_in(alloc, line) else {
+            return Err(ScriptFault::Memory);
+        };
         match read_group(alloc, &operands) {
             Ok(group) => groups.push_reserved(group),
             Err(fault) => return Err(ScriptFault::Line(at + 1, fault)),
@@ -112,7 +105,7 @@ pub fn read_script<'a>(
     ensures err { IfErr result (λ fault. IfSome (script_usage_in fault) (IsScriptFault script.entry.now)) }
     ensures paths { IfOk result (λ groups. All (λ requested. All HasPath requested.targets.items) groups.items) }
 {
-    let lines = script_lines(alloc, script)?;
+    let lines = script_lines(alloc, script).map_err(|_| ScriptFault::Memory)?;
     if let Some(line) = line_with_nul(&lines) {
         return Err(ScriptFault::Nul(line));
     }

@@ -86,20 +86,23 @@ pub struct Refused<'a> {
 
 const WRONG_ARGUMENTS: OperandFault = OperandFault::Command(CommandFault::Arguments);
 
+#[tactic(auto, using(crate::proofs::Counts::count_ends))]
 fn read_count(word: &[u8]) -> Option<u32>
     ensures { result ≡ count_of word.now }
 {
-    let mut count: u32 = 0;
+    let mut count: u64 = 0;
     let mut left = word;
     while let Some((&byte, rest)) = left.split_first() {
         if !byte.is_ascii_digit() {
             return None;
         }
-        let tens = count.checked_mul(10)?;
-        count = tens.checked_add(u32::from(byte - b'0'))?;
+        count = count * 10 + u64::from(byte - b'0');
+        if count > u64::from(u32::MAX) {
+            return None;
+        }
         left = rest;
     }
-    if count > 0 { Some(count) } else { None }
+    if count > 0 { Some(count as u32) } else { None }
 }
 
 // How many steps are requested.

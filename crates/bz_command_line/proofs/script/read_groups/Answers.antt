@@ -22,10 +22,10 @@ loop-at-preserved c =
     record {
       answered = groups_turn c.args.lines.now c.loop-at.at groups more c.loop-at-test.true c.loop-at.invariant.answered turn;
       paths = rw (c.push_reserved.ensures.items, c.reserve.ensures.items)
-          (All-push (λ (requested : Requested). All HasPath requested.targets.items) c.loop-at.groups.items c.in-Ok.group c.loop-at.invariant.paths c.in-Ok.ensures.paths);
+          (All-push (λ (requested : Requested). All HasPath requested.targets.items) c.loop-at.groups.items c.in-Ok-read_group.group c.loop-at.invariant.paths c.in-Ok-read_group.ensures.paths);
     }
 
 pub returns-in-Err-clause-err : goal.returns-in-Err-clause-err
 returns-in-Err-clause-err c =
     fault_turn c.args.lines.now c.loop-at.at (map requested_in c.loop-at.groups.items) (usage_in c.in-Err.fault) _ c.loop-at-test.true c.loop-at.invariant.answered
-    (sym c.is_read.ensures ∙ c.if-not-is_read.false) (ap texts_in c.deref.ensures.value ∙ c.in_ok-operands.ensures) c.in-Err.ensures.err
+    (sym c.is_read.ensures ∙ c.if-not-is_read.false) (ap texts_in c.deref.ensures.value ∙ c.in-Ok.ensures) c.in-Err.ensures.err
