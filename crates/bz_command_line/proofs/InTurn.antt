@@ -1,7 +1,7 @@
 -- Operands of a line, and lines of a file, one after the other.
 use Rattle.std.proofs.Common.{◌≡◌, ◌<◌, ◌+◌, ◌++◌, ◌∷◌, [], ℕ, List, Bor, true, Result, Ok, Err, Option, Some, None, IfSome, option_map, map, take, drop, get_or, length, append_assoc, add-one, arith, suc, refl, ap, subst, sym, ◌∙◌}
-use Rattle.std.proofs.Math.Seq.{take-suc, drop-cons}
-use Rattle.std.proofs.lemmas.List.{append-nil, length-map, length-take-le, map-append, take-append-drop}
+use Rattle.std.proofs.Math.Seq.{drop-cons}
+use Rattle.std.proofs.lemmas.List.{append-nil, map_more, length-map, length-take-le, map-append, take-append-drop}
 use Rattle.bz_items.specs.Characters.{Bytes}
 use Rattle.bz_command_line.specs.Refused.{IsFirstFault, IsFirstRefused, IsGroupFault, IsOperandFault}
 use Rattle.bz_command_line.specs.Requested.{Requested, Usage, both, in_line, joined_by, joined_operands, nothing_requested, requested_by, requested_of}
@@ -17,9 +17,7 @@ abbrev pub text_at : List (Bor Bytes) → ℕ → Bytes
 text_at items at = (get_or items at (record { ref_ptr = (0, 0); now = [] })).now
 
 texts_more : (items : List (Bor Bytes)) (at : ℕ) → at < length items → texts_in (take (at + 1) items) ≡ texts_in (take at items) ++ text_at items at ∷ []
-texts_more items at within =
-    let none : Bor Bytes = record { ref_ptr = (0, 0); now = [] } in
-    rw (add-one, take-suc items at none within) (map-append (λ s. s.now) (take at items) (get_or items at none ∷ []))
+texts_more items at within = map_more (λ s. s.now) items at (record { ref_ptr = (0, 0); now = [] }) within
 
 texts_before : (items : List (Bor Bytes)) (at : ℕ) → at < length items → length (texts_in (take at items)) ≡ at
 texts_before items at within = length-map (take at items) (λ s. s.now) ∙ length-take-le at items (omega (arith, within))

@@ -2,8 +2,9 @@
 ghost use Rattle.std.specs.Prelude.{◌≡◌, ◌⊎◌, ◌++◌, Ok, Err, IfOk, IfErr, map, option_map};
 ghost use Rattle.bz_command_syntax.specs.Commands.{row_named};
 ghost use Rattle.bz_command_syntax.specs.Proper.{AreUtf8};
+ghost use Rattle.bz_streams.specs.Near.{nearest};
 ghost use Rattle.bz_command_line.specs.Operands.{verb_of, of_command, count_of, history_verb_in, steps_of};
-ghost use Rattle.bz_command_line.specs.Hints.{verb_forms, did_you_mean, name_hint, is_fix, near_word, form_end, form_hint, words_hint, hint_for};
+ghost use Rattle.bz_command_line.specs.Hints.{verb_forms, fix_names, did_you_mean, name_hint, is_fix, near_word, form_end, form_hint, words_hint, hint_for};
 ghost use Rattle.bz_command_line.specs.Refused.{IsPatternFault};
 ghost use Rattle.bz_command_line.specs.Shown.{refused_in, hint_text};
 ghost use Rattle.bz_command_line.specs.Verbs.{prints, operand_fault_name, operand_fault_number};
@@ -208,6 +209,12 @@ fn is_fix(word: &str) -> bool
     word == "unusedLoads" || word == "movePackageToTop"
 }
 
+fn nearest_fix(alloc: Global, word: &str) -> Result<Option<&'static str>, AllocError>
+    ensures { IfOk result (λ near. option_map (λ s. s.now) near ≡ nearest word.now fix_names) }
+{
+    nearest(alloc, word, &["unusedLoads", "movePackageToTop"])
+}
+
 // What was meant by the first word after `fix` that is none of its own.
 fn near_word(alloc: Global, name: &str, words: &[Text]) -> Result<Option<&'static str>, AllocError>
     requires { AreUtf8 words.now }
@@ -219,7 +226,7 @@ fn near_word(alloc: Global, name: &str, words: &[Text]) -> Result<Option<&'stati
     for word in words {
         let word = as_text(word);
         if !is_fix(word) {
-            return nearest(alloc, word, &["unusedLoads", "movePackageToTop"]);
+            return Ok(nearest_fix(alloc, word)?);
         }
     }
     Ok(None)
