@@ -25,11 +25,11 @@ too_large word large =
     rw (le-ltb (number_after 0 word) (2 ^ 32) large, and-false (all_ascii_digits word && nat_lt 0 (number_after 0 word))) refl
 
 -- a digit with which the number passes the greatest one
-pub count-large : (word : List ℕ) (count : ℕ) (left : List ℕ) (byte : ℕ) (rest : List ℕ) → Counted word count left → left ≡ byte ∷ rest
+pub count_large : (word : List ℕ) (count : ℕ) (left : List ℕ) (byte : ℕ) (rest : List ℕ) → Counted word count left → left ≡ byte ∷ rest
     → 2 ^ 32 ≤ count * 10 + (byte - 48) → count_of word ≡ None
-count-large word count left byte rest so split large =
+count_large word count left byte rest so split large =
     too_large word (let e = so.number ∙ ap (number_after count) split in let grows = number_after-grows (count * 10 + (byte - 48)) rest in omega arith)
 
 -- nothing is left
-pub count-ends : (word : List ℕ) (count : ℕ) → Counted word count [] → 0 < count → count < 2 ^ 32 → count_of word ≡ Some count
-count-ends word count so some small = rw (so.digits, so.number, lt-ltb 0 count some, lt-ltb count (2 ^ 32) small) refl
+pub count_ends : (word : List ℕ) (count : ℕ) → Counted word count [] → 0 < count → count < 2 ^ 32 → count_of word ≡ Some count
+count_ends word count so some small = rw (so.digits, so.number, lt-ltb 0 count some, lt-ltb count (2 ^ 32) small) refl

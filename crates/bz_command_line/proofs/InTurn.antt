@@ -1,11 +1,11 @@
 -- Operands of a line, and lines of a file, one after the other.
-use Rattle.std.proofs.Common.{◌≡◌, ◌<◌, ◌+◌, ◌++◌, ◌∷◌, [], ℕ, List, Bor, Result, Ok, Err, Option, Some, None, IfSome, map, take, drop, get_or, length, append_assoc, add-one, arith, suc, refl, ap, sym, ◌∙◌}
-use Rattle.std.proofs.Math.Seq.{take-suc, drop-cons}
-use Rattle.std.proofs.lemmas.List.{append-nil, length-map, length-take-le, map-append, take-append-drop}
+use Rattle.std.proofs.Common.{◌≡◌, ◌<◌, ◌+◌, ◌++◌, ◌∷◌, [], ℕ, List, Bor, true, Result, Ok, Err, Option, Some, None, IfSome, option_map, map, take, drop, get_or, length, append_assoc, add-one, arith, suc, refl, ap, subst, sym, ◌∙◌}
+use Rattle.std.proofs.Math.Seq.{drop-cons}
+use Rattle.std.proofs.lemmas.List.{append-nil, map_more, length-map, length-take-le, map-append, take-append-drop}
 use Rattle.bz_items.specs.Characters.{Bytes}
-use Rattle.bz_command_line.specs.Refused.{IsFirstFault, IsFirstRefused, IsLineFault, IsOperandFault}
-use Rattle.bz_command_line.specs.Requested.{Requested, Usage, both, joined_by, joined_operands, nothing_requested, requested_by, requested_of}
-use Rattle.bz_command_line.specs.Script.{in_front, line_group, operand_groups}
+use Rattle.bz_command_line.specs.Refused.{IsFirstFault, IsFirstRefused, IsGroupFault, IsOperandFault}
+use Rattle.bz_command_line.specs.Requested.{Requested, Usage, both, in_line, joined_by, joined_operands, nothing_requested, requested_by, requested_of}
+use Rattle.bz_command_line.specs.Script.{in_front, is_read, line_group, operand_groups, operands_in}
 use Rattle.bz_command_line.specs.declared.verb.OperandFault.{OperandFault}
 
 -- ---- texts after references, cut at a place
@@ -17,9 +17,7 @@ abbrev pub text_at : List (Bor Bytes) → ℕ → Bytes
 text_at items at = (get_or items at (record { ref_ptr = (0, 0); now = [] })).now
 
 texts_more : (items : List (Bor Bytes)) (at : ℕ) → at < length items → texts_in (take (at + 1) items) ≡ texts_in (take at items) ++ text_at items at ∷ []
-texts_more items at within =
-    let none : Bor Bytes = record { ref_ptr = (0, 0); now = [] } in
-    rw (add-one, take-suc items at none within) (map-append (λ s. s.now) (take at items) (get_or items at none ∷ []))
+texts_more items at within = map_more (λ s. s.now) items at (record { ref_ptr = (0, 0); now = [] }) within
 
 texts_before : (items : List (Bor Bytes)) (at : ℕ) → at < length items → length (texts_in (take at items)) ≡ at
 texts_before items at within = length-map (take at items) (λ s. s.now) ∙ length-take-le at items (omega (arith, within))
@@ -98,15 +96,16 @@ groups_turn items at groups more within before turn =
     ∙ ap (λ (n : ℕ). in_front (Ok groups) (line_group n (text_at items at))) number ∙ turn
 
 -- the fault of a line is the first one
-pub fault_turn : (items : List (Bor Bytes)) (at : ℕ) (groups : List Requested) (found : Option Usage) → at < length items
-    → operand_groups 1 (texts_in (take at items)) ≡ Ok groups → IfSome found (IsLineFault (at + 1) (text_at items at)) → IfSome found (IsFirstFault (texts_in items))
-fault_turn items at groups None within before is = tt
-fault_turn items at groups (Some usage) within before is = record {
+pub fault_turn : (items : List (Bor Bytes)) (at : ℕ) (groups : List Requested) (found : Option Usage) (operands : List Bytes) → at < length items
+    → operand_groups 1 (texts_in (take at items)) ≡ Ok groups → is_read (text_at items at) ≡ true → operands ≡ operands_in (text_at items at)
+    → IfSome found (IsGroupFault operands) → IfSome (option_map (in_line (at + 1)) found) (IsFirstFault (texts_in items))
+fault_turn items at groups None operands within before here same is = tt
+fault_turn items at groups (Some usage) operands within before here same is = record {
   front = texts_in (take at items);
   line = text_at items at;
   rest = texts_in (drop (at + 1) items);
   groups = groups;
   split = texts_split items at within;
   before = before;
-  fault = rw (texts_before items at within) is;
+  fault = rw (texts_before items at within) (here, usage, subst (λ (all : List Bytes). IsGroupFault all usage) same is, refl);
 }

@@ -3,7 +3,7 @@ use Rattle.std.specs.Prelude.{map, option_map, ◌++◌, Option, Some, None}
 use Rattle.bz_items.specs.Characters.{Bytes}
 use Rattle.bz_command_line.specs.Requested as a
 use Rattle.bz_command_line.specs.Line as l
-use Rattle.bz_command_line.specs.declared.{requested.Requested.Requested, requested.Request.Request, requested.Refused.Refused, requested.UsageFault.UsageFault, script.ScriptFault.ScriptFault, hint.Hint.Hint, line.Given.Given, line.CommandLine.CommandLine, line.LineFault.LineFault}
+use Rattle.bz_command_line.specs.declared.{requested.Requested.Requested, requested.Request.Request, verb.Refused.Refused, requested.UsageFault.UsageFault, script.ScriptFault.ScriptFault, verb.Hint.Hint, line.Given.Given, line.CommandLine.CommandLine, line.LineFault.LineFault}
 use Rattle.bz_command_line.specs.declared.requested.UsageFault.TheVariants as u
 use Rattle.bz_command_line.specs.declared.script.ScriptFault.TheVariants as s
 use Rattle.bz_command_line.specs.declared.line.Given.TheVariants as g

@@ -4,6 +4,7 @@ ghost use Rattle.clap.specs.Words.{app_of, rule_of, found_of, fault_of, matches_
 ghost use Rattle.bz_command_line.specs.App.{buildozer_app, lines_app, flag_rule, keep_going_rule, script_rule, operand_rule};
 ghost use Rattle.bz_command_line.specs.Line.{is_flag_set, options_of, given_of, command_line_of};
 ghost use Rattle.bz_command_line.specs.Shown.{given_in, line_in, line_usage_in};
+ghost use Rattle.bz_command_line.specs.Worked.{WorkedCommandLines};
 
 use bz_streams::{VERSION, argument_text, argument_texts};
 use clap::error::ErrorKind;
@@ -54,6 +55,10 @@ pub enum LineFault {
 }
 
 const ABOUT: &str = "Applies commands to the rules of BUILD files.";
+
+const STDOUT_HELP: &str = "Writes changed files to standard output instead of replacing them";
+
+const JOURNAL_HELP: &str = "Keeps FILE.journal beside each file, so that a later run can undo";
 
 const EXAMPLES: &str =
     "An operand without a space that has a colon or begins with // is a target: //pkg:rule, //pkg:all,
@@ -126,17 +131,9 @@ fn buildozer_command<'a>(alloc: Global) -> Result<Command<'a>, AllocError>
     ensures { IfOk result (λ command. app_of command ≡ buildozer_app) }
 {
     lines_command(alloc)?
-        .arg(flag(
-            alloc,
-            "stdout",
-            "Writes changed files to standard output instead of replacing them",
-        ))?
+        .arg(flag(alloc, "stdout", STDOUT_HELP))?
         .arg(flag(alloc, "quiet", "Does not report which files were written"))?
-        .arg(flag(
-            alloc,
-            "journal",
-            "Keeps FILE.journal beside each file, so that a later run can undo",
-        ))
+        .arg(flag(alloc, "journal", JOURNAL_HELP))
 }
 
 fn parse<'a, S: AsStr>(alloc: Global, words: &'a [S]) -> Result<ArgMatches<'a>, LineFault>
@@ -157,10 +154,7 @@ fn parse<'a, S: AsStr>(alloc: Global, words: &'a [S]) -> Result<ArgMatches<'a>, 
 fn is_flag_set(matches: &ArgMatches<'_>, id: &str) -> bool
     ensures { result ≡ is_flag_set id.now (rows_of (found_of matches.now)) }
 {
-    match argument_text(matches, id) {
-        Some(text) => text == "true",
-        None => false,
-    }
+    matches!(argument_text(matches, id), Some("true"))
 }
 
 fn options_of(matches: &ArgMatches<'_>) -> Options
@@ -178,9 +172,7 @@ fn given_of<'a>(alloc: Global, matches: &ArgMatches<'a>) -> Result<Given<'a>, Li
     ensures ok { IfOk result (λ given. given_of (rows_of (found_of matches.now)) ≡ Ok (given_in given)) }
     ensures err { IfErr result (λ fault. IfSome (line_usage_in fault) (λ usage. given_of (rows_of (found_of matches.now)) ≡ Err usage)) }
 {
-    let Ok(operands) = argument_texts(alloc, matches, "operand") else {
-        return Err(LineFault::Memory);
-    };
+    let operands = argument_texts(alloc, matches, "operand").map_err(|_| LineFault::Memory)?;
     let Some(file) = argument_text(matches, "file") else {
         return Ok(Given::Operands(operands));
     };
@@ -206,3 +198,8 @@ pub fn read_line<'a, S: AsStr>(alloc: Global, words: &'a [S]) -> Result<CommandL
     }
     Ok(CommandLine { options, given })
 }
+
+/// A fact about the definitions, for readers: what lines of words and files of lines say, worked out by hand. It does nothing.
+pub fn worked_command_lines()
+    ensures { WorkedCommandLines }
+{}

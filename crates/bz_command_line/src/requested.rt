@@ -8,9 +8,9 @@ ghost use Rattle.bz_command_line.specs.Refused.{IsGroupFault, IsOperandFault};
 ghost use Rattle.bz_command_line.specs.Shown.{requested_in, usage_in};
 ghost use Rattle.bz_command_line.specs.declared.verb.OperandFault.{OperandFault};
 
-use crate::verb::{OperandFault, Verb, read_verb};
+use crate::verb::{OperandFault, Refused, Verb, read_verb};
 use bz_label::{Target, TargetFault};
-use std::alloc::{AllocError, Global};
+use std::alloc::Global;
 
 /// A command, and its text.
 #[derive(Debug, Drop)]
@@ -26,13 +26,6 @@ pub struct Requested<'a> {
     pub targets: Vec<Target>,
 }
 
-/// An operand that is refused.
-#[derive(Debug, Drop)]
-pub struct Refused<'a> {
-    pub operand: &'a str,
-    pub fault: OperandFault,
-}
-
 /// Why operands request nothing.
 #[derive(Debug, Drop)]
 pub enum UsageFault<'a> {
@@ -44,17 +37,6 @@ pub enum UsageFault<'a> {
     NoTarget,
     /// A growth was refused.
     Memory,
-}
-
-impl From<AllocError> for UsageFault<'_> {
-    ghost use Rattle.std.specs.Prelude.{◌≡◌};
-    ghost use Rattle.bz_command_line.specs.declared.requested.UsageFault.TheVariants as fault;
-
-    ghost from_gives = { λ _ made. made ≡ fault.Memory };
-
-    fn from(_refused: AllocError) -> Self {
-        UsageFault::Memory
-    }
 }
 
 // Whether an operand is a target: it has no space, and it holds a colon or begins with two slashes. Every other
@@ -79,39 +61,34 @@ fn read_target(alloc: Global, text: &str) -> Result<Target, OperandFault>
     }
 }
 
-// Appends what the operand requests. The room comes first: a push that fails gives its value back, and the proof that it is dropped
-// is long.
-fn add<'a>(
-    alloc: Global,
-    requested: &mut Requested<'a>,
-    operand: &'a str,
-) -> Result<(), OperandFault>
-    ensures ok { OnOk result (a.joined_operands (Ok (requested_in requested.old)) (a.requested_by operand.entry.now) ≡ Ok (requested_in requested.new)) }
-    ensures err { IfErr result (λ fault. IsOperandFault operand.entry.now fault ⊎ (fault ≡ OperandFault.Memory)) }
+// Appends what the operand of this text requests. The room comes first: a push that fails gives its value back, and the proof that
+// it is dropped is long.
+fn add<'a>(alloc: Global, requested: &mut Requested<'a>, text: &'a str) -> Result<(), OperandFault>
+    ensures ok { OnOk result (a.joined_operands (Ok (requested_in requested.old)) (a.requested_by text.entry.now) ≡ Ok (requested_in requested.new)) }
+    ensures err { IfErr result (λ fault. IsOperandFault text.entry.now fault ⊎ (fault ≡ OperandFault.Memory)) }
     ensures paths { All HasPath requested.old.targets.items → OnOk result (All HasPath requested.new.targets.items) }
 {
-    if is_target(operand.as_bytes()) {
+    if is_target(text.as_bytes()) {
         if requested.targets.reserve(1).is_err() {
             return Err(OperandFault::Memory);
         }
-        let target = read_target(alloc, operand)?;
+        let target = read_target(alloc, text)?;
         requested.targets.push_reserved(target);
         return Ok(());
     }
     if requested.commands.reserve(1).is_err() {
         return Err(OperandFault::Memory);
     }
-    let verb = read_verb(alloc, operand)?;
-    requested.commands.push_reserved(Request {
-        verb,
-        text: operand,
-    });
+    let verb = read_verb(alloc, text)?;
+    requested.commands.push_reserved(Request { verb, text });
     Ok(())
 }
 
-// What the operands request. The error is the first operand that is refused, in order, or memory.
-fn read_requested<'a>(alloc: Global, operands: &[&'a str]) -> Result<Requested<'a>, UsageFault<'a>>
-    ensures ok { IfOk result (λ requested. a.requested_of (map (λ s. s.now) operands.now) ≡ Ok (requested_in requested)) }
+/// What the operands of one line request: commands and targets, at least one of each, in order. The package of each target
+/// is text in UTF-8, of at most 65,536 bytes. Errors, in this order: `Operand` where one is refused, which is the first
+/// such; `NoCommand`; `NoTarget`; and `Memory` where a growth was refused.
+pub fn read_group<'a>(alloc: Global, operands: &[&'a str]) -> Result<Requested<'a>, UsageFault<'a>>
+    ensures ok { IfOk result (λ requested. a.operand_group (map (λ s. s.now) operands.now) ≡ Ok (requested_in requested)) }
     ensures err { IfErr result (λ fault. IfSome (usage_in fault) (IsGroupFault (map (λ s. s.now) operands.now))) }
     ensures paths { IfOk result (λ requested. All HasPath requested.targets.items) }
 {
@@ -128,18 +105,6 @@ fn read_requested<'a>(alloc: Global, operands: &[&'a str]) -> Result<Requested<'
             },
         }
     }
-    Ok(requested)
-}
-
-/// What the operands of one line request: commands and targets, at least one of each, in order. The package of each target
-/// is text in UTF-8, of at most 65,536 bytes. Errors, in this order: `Operand` where one is refused, which is the first
-/// such; `NoCommand`; `NoTarget`; and `Memory` where a growth was refused.
-pub fn read_group<'a>(alloc: Global, operands: &[&'a str]) -> Result<Requested<'a>, UsageFault<'a>>
-    ensures ok { IfOk result (λ requested. a.operand_group (map (λ s. s.now) operands.now) ≡ Ok (requested_in requested)) }
-    ensures err { IfErr result (λ fault. IfSome (usage_in fault) (IsGroupFault (map (λ s. s.now) operands.now))) }
-    ensures paths { IfOk result (λ requested. All HasPath requested.targets.items) }
-{
-    let requested = read_requested(alloc, operands)?;
     if requested.commands.is_empty() {
         return Err(UsageFault::NoCommand);
     }

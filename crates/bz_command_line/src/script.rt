@@ -1,10 +1,9 @@
 //! A file of lines.
-ghost use Rattle.std.specs.Prelude.{◌≡◌, ◌<◌, length, position, Ok, IfOk, OnOk, IfErr, IfSome, map};
+ghost use Rattle.std.specs.Prelude.{◌≡◌, ◌<◌, length, position, Ok, IfOk, IfErr, IfSome, map};
 ghost use Rattle.std.specs.List.{All};
-ghost use Rattle.std.specs.Str.Lines.{lines};
 ghost use Rattle.bz_command_line.specs.Paths.{HasPath};
-ghost use Rattle.bz_command_line.specs.Refused.{IsFirstFault, IsLineFault, IsScriptFault};
-ghost use Rattle.bz_command_line.specs.Script.{has_nul, in_front, is_read, line_group, line_with_nul, operands_in, operand_groups, script_of, without_mark};
+ghost use Rattle.bz_command_line.specs.Refused.{IsFirstFault, IsScriptFault};
+ghost use Rattle.bz_command_line.specs.Script.{has_nul, is_read, line_with_nul, operands_in, operand_groups, script_lines, script_of};
 ghost use Rattle.bz_command_line.specs.Shown.{requested_in, script_usage_in};
 
 use crate::requested::{Requested, UsageFault, read_group};
@@ -23,17 +22,6 @@ pub enum ScriptFault<'a> {
     Memory,
 }
 
-impl From<AllocError> for ScriptFault<'_> {
-    ghost use Rattle.std.specs.Prelude.{◌≡◌};
-    ghost use Rattle.bz_command_line.specs.declared.script.ScriptFault.TheVariants as fault;
-
-    ghost from_gives = { λ _ made. made ≡ fault.Memory };
-
-    fn from(_refused: AllocError) -> Self {
-        ScriptFault::Memory
-    }
-}
-
 // A line that is not passed over.
 fn is_read(line: &str) -> bool
     ensures { result ≡ is_read line.now }
@@ -41,16 +29,11 @@ fn is_read(line: &str) -> bool
     matches!(line.as_bytes(), [first, ..] if *first != b'#')
 }
 
-// What is after a byte order mark.
-fn without_mark(script: &str) -> &str
-    ensures { result.now ≡ without_mark script.now }
-{
-    script.strip_prefix("\u{feff}").unwrap_or(script)
-}
-
+// The lines of a text, after a byte order mark.
 fn script_lines<'a>(alloc: Global, script: &'a str) -> Result<Vec<&'a str>, AllocError>
-    ensures { IfOk result (λ all. map (λ s. s.now) all.items ≡ lines script.entry.now) }
+    ensures { IfOk result (λ all. map (λ s. s.now) all.items ≡ script_lines script.entry.now) }
 {
+    let script = script.strip_prefix("\u{feff}").unwrap_or(script);
     script.lines().collect(alloc)
 }
 
@@ -84,32 +67,7 @@ fn operands_in<'a>(alloc: Global, line: &'a str) -> Result<Vec<&'a str>, AllocEr
     line.split('|').collect(alloc)
 }
 
-// Appends what the line of this number requests, unless it is passed over.
-fn add_line<'a>(
-    alloc: Global,
-    groups: &mut Vec<Requested<'a>>,
-    number: usize,
-    line: &'a str,
-) -> Result<(), ScriptFault<'a>>
-    ensures ok { OnOk result (in_front (Ok (map requested_in groups.old.items)) (line_group number line.entry.now) ≡ Ok (map requested_in groups.new.items)) }
-    ensures err { IfErr result (λ fault. IfSome (script_usage_in fault) (IsLineFault number line.entry.now)) }
-    ensures paths { All (λ requested. All HasPath requested.targets.items) groups.old.items
-        → OnOk result (All (λ requested. All HasPath requested.targets.items) groups.new.items) }
-{
-    if !is_read(line) {
-        return Ok(());
-    }
-    groups.reserve(1)?;
-    let operands = operands_in(alloc, line)?;
-    match read_group(alloc, &operands) {
-        Ok(group) => {
-            groups.push_reserved(group);
-            Ok(())
-        }
-        Err(fault) => Err(ScriptFault::Line(number, fault)),
-    }
-}
-
+// What the lines request that are not passed over.
 fn read_groups<'a>(alloc: Global, lines: &[&'a str]) -> Result<Vec<Requested<'a>>, ScriptFault<'a>>
     ensures ok { IfOk result (λ groups. operand_groups 1 (map (λ s. s.now) lines.now) ≡ Ok (map requested_in groups.items)) }
     ensures err { IfErr result (λ fault. IfSome (script_usage_in fault) (IsFirstFault (map (λ s. s.now) lines.now))) }
@@ -117,9 +75,18 @@ fn read_groups<'a>(alloc: Global, lines: &[&'a str]) -> Result<Vec<Requested<'a>
 {
     let mut groups = Vec::new(alloc);
     for (at, &line) in lines.iter().enumerate() {
-        match add_line(alloc, &mut groups, at + 1, line) {
-            Ok(()) => {}
-            Err(fault) => return Err(fault),
+        if !is_read(line) {
+            continue;
+        }
+        if groups.reserve(1).is_err() {
+            return Err(ScriptFault::Memory);
+        }
+        let Ok(operands) = operands_in(alloc, line) else {
+            return Err(ScriptFault::Memory);
+        };
+        match read_group(alloc, &operands) {
+            Ok(group) => groups.push_reserved(group),
+            Err(fault) => return Err(ScriptFault::Line(at + 1, fault)),
         }
     }
     Ok(groups)
@@ -138,7 +105,7 @@ pub fn read_script<'a>(
     ensures err { IfErr result (λ fault. IfSome (script_usage_in fault) (IsScriptFault script.entry.now)) }
     ensures paths { IfOk result (λ groups. All (λ requested. All HasPath requested.targets.items) groups.items) }
 {
-    let lines = script_lines(alloc, without_mark(script))?;
+    let lines = script_lines(alloc, script).map_err(|_| ScriptFault::Memory)?;
     if let Some(line) = line_with_nul(&lines) {
         return Err(ScriptFault::Nul(line));
     }

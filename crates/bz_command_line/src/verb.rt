@@ -1,15 +1,20 @@
-//! What a command's text requests.
-ghost use Rattle.std.specs.Prelude.{◌≡◌, ◌⊎◌, Ok, Err, IfOk, IfErr};
-ghost use Rattle.bz_command_syntax.specs.Commands.{command_in};
+//! What a command's text requests, and what is printed after the line of an operand that is refused.
+ghost use Rattle.std.specs.Prelude.{◌≡◌, ◌⊎◌, ◌++◌, Ok, Err, IfOk, IfErr, map, option_map};
+ghost use Rattle.bz_command_syntax.specs.Commands.{row_named};
 ghost use Rattle.bz_command_syntax.specs.Proper.{AreUtf8};
-ghost use Rattle.bz_command_syntax.specs.Refused.{HasBadPattern};
-ghost use Rattle.bz_command_line.specs.Operands.{verb_of, by_command, count_of, history_verb_in, journal_of, steps_of};
+ghost use Rattle.bz_streams.specs.Near.{nearest};
+ghost use Rattle.bz_command_line.specs.Operands.{verb_of, of_command, count_of, history_verb_in, steps_of};
+ghost use Rattle.bz_command_line.specs.Hints.{verb_forms, fix_names, did_you_mean, name_hint, is_fix, near_word, form_end, form_hint, words_hint, hint_for};
 ghost use Rattle.bz_command_line.specs.Refused.{IsPatternFault};
+ghost use Rattle.bz_command_line.specs.Shown.{refused_in, hint_text};
 ghost use Rattle.bz_command_line.specs.Verbs.{prints, operand_fault_name, operand_fault_number};
 
-use bz_command_syntax::{Command, CommandFault, TEXT_LIMIT, read_words};
+use bz_command_syntax::{
+    COMMAND_NAMES, Command, CommandFault, TEXT_LIMIT, as_text, command_form, read_words,
+};
 use bz_items::Text;
-use std::alloc::Global;
+use bz_streams::nearest;
+use std::alloc::{AllocError, Global};
 
 /// What a command requests.
 #[derive(Debug, Drop)]
@@ -73,36 +78,32 @@ impl OperandFault {
     }
 }
 
-impl From<CommandFault> for OperandFault {
-    ghost use Rattle.std.specs.Prelude.{◌≡◌};
-    ghost use Rattle.bz_command_line.specs.Operands.{of_command};
-
-    ghost from_gives = { λ fault made. made ≡ of_command fault };
-
-    fn from(fault: CommandFault) -> OperandFault {
-        match fault {
-            CommandFault::Memory => OperandFault::Memory,
-            _ => OperandFault::Command(fault),
-        }
-    }
+/// An operand that is refused.
+#[derive(Debug, Drop)]
+pub struct Refused<'a> {
+    pub operand: &'a str,
+    pub fault: OperandFault,
 }
 
 const WRONG_ARGUMENTS: OperandFault = OperandFault::Command(CommandFault::Arguments);
 
+#[tactic(auto, using(crate::proofs::Counts::count_ends))]
 fn read_count(word: &[u8]) -> Option<u32>
     ensures { result ≡ count_of word.now }
 {
-    let mut count: u32 = 0;
+    let mut count: u64 = 0;
     let mut left = word;
     while let Some((&byte, rest)) = left.split_first() {
         if !byte.is_ascii_digit() {
             return None;
         }
-        let tens = count.checked_mul(10)?;
-        count = tens.checked_add(u32::from(byte - b'0'))?;
+        count = count * 10 + u64::from(byte - b'0');
+        if count > u64::from(u32::MAX) {
+            return None;
+        }
         left = rest;
     }
-    if count > 0 { Some(count) } else { None }
+    if count > 0 { Some(count as u32) } else { None }
 }
 
 // How many steps are requested.
@@ -116,16 +117,6 @@ fn read_steps(arguments: &[Text]) -> Result<u32, OperandFault>
     }
 }
 
-fn journal_of(arguments: &[Text]) -> Result<Verb, OperandFault>
-    ensures { result ≡ journal_of arguments.now }
-{
-    if arguments.is_empty() {
-        Ok(Verb::Journal)
-    } else {
-        Err(WRONG_ARGUMENTS)
-    }
-}
-
 // What `undo`, `redo` or `journal` reads, where the words begin with one of them.
 fn history_verb_in(words: &[Text]) -> Option<Result<Verb, OperandFault>>
     ensures { result ≡ history_verb_in words.now }
@@ -134,18 +125,21 @@ fn history_verb_in(words: &[Text]) -> Option<Result<Verb, OperandFault>>
     match name.as_slice() {
         b"undo" => Some(read_steps(arguments).map(|count| Verb::Undo(count))),
         b"redo" => Some(read_steps(arguments).map(|count| Verb::Redo(count))),
-        b"journal" => Some(journal_of(arguments)),
+        b"journal" => match arguments {
+            [] => Some(Ok(Verb::Journal)),
+            _ => Some(Err(WRONG_ARGUMENTS)),
+        },
         _ => None,
     }
 }
 
-fn read_command(words: Vec<Text>, fits: bool) -> Result<Verb, OperandFault>
-    requires { AreUtf8 words.items }
-    ensures ok { IfOk result (λ verb. by_command (command_in fits words.items) ≡ Ok verb) }
-    ensures err { IfErr result (λ fault. (by_command (command_in fits words.items) ≡ Err fault)
-        ⊎ ((fault ≡ OperandFault.Command CommandFault.BadPattern) × HasBadPattern (command_in fits words.items)) ⊎ (fault ≡ OperandFault.Memory)) }
+fn of_command(fault: CommandFault) -> OperandFault
+    ensures { result ≡ of_command fault }
 {
-    Ok(Verb::Do(Command::of_words(words, fits)?))
+    match fault {
+        CommandFault::Memory => OperandFault::Memory,
+        _ => OperandFault::Command(fault),
+    }
 }
 
 /// What the command of this text requests. Errors: `Command`: there is no command of that name, its arguments are wrong,
@@ -161,6 +155,141 @@ pub(crate) fn read_verb(alloc: Global, text: &str) -> Result<Verb, OperandFault>
     match history_verb_in(&words) {
         Some(verb) if fits => verb,
         Some(_) => Err(WRONG_ARGUMENTS),
-        None => read_command(words, fits),
+        None => match Command::of_words(words, fits) {
+            Ok(command) => Ok(Verb::Do(command)),
+            Err(fault) => Err(of_command(fault)),
+        },
+    }
+}
+
+/// What is printed after the line of a refused operand, a line or two, in three pieces. All of them are empty where nothing is printed.
+#[derive(Clone, Copy, Debug)]
+pub struct Hint {
+    pub front: &'static str,
+    pub word: &'static str,
+    pub back: &'static str,
+}
+
+const HELP_HINT: &str = "buildozer: see buildozer --help, or man buildozer\n";
+
+const LENGTH_HINT: &str = "buildozer: a command has at most 65,536 bytes\n";
+
+const NAME_ALONE: &str =
+    "\nbuildozer: on a command line, put a command and its words in one pair of quotation marks\n";
+
+fn hint_of(front: &'static str, word: &'static str, back: &'static str) -> Hint
+    ensures { hint_text result ≡ front.now ++ word.now ++ back.now }
+{
+    Hint { front, word, back }
+}
+
+fn did_you_mean(near: Option<&'static str>) -> Hint
+    ensures { hint_text result ≡ did_you_mean (option_map (λ s. s.now) near.entry) }
+{
+    match near {
+        Some(word) => hint_of("buildozer: did you mean '", word, "'?\n"),
+        None => hint_of("", "", ""),
+    }
+}
+
+fn name_hint(alloc: Global, name: &str) -> Result<Hint, AllocError>
+    ensures { IfOk result (λ hint. hint_text hint ≡ name_hint name.now) }
+{
+    if name == "help" {
+        return Ok(hint_of("", "", HELP_HINT));
+    }
+    let mut names = Vec::from_slice(alloc, COMMAND_NAMES)?;
+    names.extend_from_slice(&["undo", "redo", "journal"])?;
+    Ok(did_you_mean(nearest(alloc, name, &names)?))
+}
+
+fn is_fix(word: &str) -> bool
+    ensures { result ≡ is_fix word.now }
+{
+    word == "unusedLoads" || word == "movePackageToTop"
+}
+
+fn nearest_fix(alloc: Global, word: &str) -> Result<Option<&'static str>, AllocError>
+    ensures { IfOk result (λ near. option_map (λ s. s.now) near ≡ nearest word.now fix_names) }
+{
+    nearest(alloc, word, &["unusedLoads", "movePackageToTop"])
+}
+
+// What was meant by the first word after `fix` that is none of its own.
+fn near_word(alloc: Global, name: &str, words: &[Text]) -> Result<Option<&'static str>, AllocError>
+    requires { AreUtf8 words.now }
+    ensures { IfOk result (λ near. option_map (λ s. s.now) near ≡ near_word name.now words.now) }
+{
+    if name != "fix" {
+        return Ok(None);
+    }
+    for word in words {
+        let word = as_text(word);
+        if !is_fix(word) {
+            return Ok(nearest_fix(alloc, word)?);
+        }
+    }
+    Ok(None)
+}
+
+// The forms of the command of this name, or of the step of a history.
+fn forms_of(name: &str) -> Option<&'static str>
+    ensures { option_map (λ s. s.now) result ≡ row_named verb_forms name.now }
+{
+    match name {
+        "undo" => Some("'undo [N]'"),
+        "redo" => Some("'redo [N]'"),
+        "journal" => Some("'journal'"),
+        _ => command_form(name),
+    }
+}
+
+fn form_end(words: &[Text]) -> &'static str
+    ensures { result.now ≡ form_end words.now }
+{
+    if words.is_empty() { NAME_ALONE } else { "\n" }
+}
+
+fn form_hint(name: &str, words: &[Text]) -> Hint
+    ensures { hint_text result ≡ form_hint name.now words.now }
+{
+    match forms_of(name) {
+        Some(forms) => hint_of("buildozer: the form is ", forms, form_end(words)),
+        None => hint_of("", "", ""),
+    }
+}
+
+fn words_hint(alloc: Global, name: &str, words: &[Text]) -> Result<Hint, AllocError>
+    requires { AreUtf8 words.now }
+    ensures { IfOk result (λ hint. hint_text hint ≡ words_hint name.now words.now) }
+{
+    match near_word(alloc, name, words)? {
+        Some(word) => Ok(did_you_mean(Some(word))),
+        None => Ok(form_hint(name, words)),
+    }
+}
+
+/// What is printed after the line of an operand that is refused. Of a name that no command has: the command that is nearest, where
+/// one is near, and where help is for `help`. Of words that don't fit: the one of `fix` that is nearest to a word that it doesn't
+/// know, else the forms of the command, and where it has no words, that they go with it in one pair of quotation marks. Of a command
+/// that is too long: how long one may be. The error: memory was refused.
+pub fn hint_for(alloc: Global, refused: &Refused<'_>) -> Result<Hint, AllocError>
+    ensures { IfOk result (λ answered. hint_text answered ≡ hint_for (refused_in refused.now)) }
+{
+    let OperandFault::Command(fault) = refused.fault else {
+        return Ok(hint_of("", "", ""));
+    };
+    let words = read_words(alloc, refused.operand.as_bytes())?;
+    let Some((name, words)) = words.split_first() else {
+        return Ok(hint_of("", "", ""));
+    };
+    let name = as_text(name);
+    match fault {
+        CommandFault::Unknown => Ok(name_hint(alloc, name)?),
+        CommandFault::Arguments if refused.operand.len() <= TEXT_LIMIT => {
+            Ok(words_hint(alloc, name, words)?)
+        }
+        CommandFault::Arguments => Ok(hint_of("", "", LENGTH_HINT)),
+        CommandFault::BadPattern | CommandFault::Memory => Ok(hint_of("", "", "")),
     }
 }

@@ -3,7 +3,7 @@ use Rattle.bz_command_line.specs.Requested.{requested_of}
 use Rattle.bz_command_line.specs.Paths.{HasPath}
 use Rattle.bz_command_line.specs.Shown.{requested_in}
 use Rattle.bz_command_line.proofs.InTurn.{texts_in}
-use Rattle.bz_command_line.proofs.requested.read_requested.Given as goal
+use Rattle.bz_command_line.proofs.requested.read_group.Given as goal
 
 abbrev pub invariant-loop-operand : goal.invariant-loop-operand
 invariant-loop-operand l = record {

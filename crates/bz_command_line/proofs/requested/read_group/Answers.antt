@@ -1,7 +1,7 @@
 use Rattle.std.proofs.Common.{inl, inr}
 use Rattle.bz_command_line.specs.Shown.{requested_in}
 use Rattle.bz_command_line.proofs.InTurn.{refused_turn, requested_turn}
-use Rattle.bz_command_line.proofs.requested.read_requested.Goals as goal
+use Rattle.bz_command_line.proofs.requested.read_group.Goals as goal
 
 pub loop-operand-preserved : goal.loop-operand-preserved
 loop-operand-preserved c = record {

@@ -1,6 +1,6 @@
 use Rattle.std.proofs.Common.{refl}
 use Rattle.clap.proofs.OnLiterals.{clap_on_literals}
-use Rattle.bz_command_line.proofs.laws.worked_command_lines.Goals as goal
+use Rattle.bz_command_line.proofs.line.worked_command_lines.Goals as goal
 
 pub returns : goal.returns
 unfolding clap_on_literals
