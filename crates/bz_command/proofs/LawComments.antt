@@ -39,7 +39,7 @@ use Rattle.bz_load.proofs.LawComments.{amount_answered, new_load_same, put_total
 use Rattle.bz_comment.specs.Hosts.{with_comment, comment}
 use Rattle.bz_comment.proofs.LawBack.{own_grows, comment_grows}
 use Rattle.bz_command.specs.Laws.{keeps_comments, CommentsStay}
-use Rattle.bz_command.specs.declared.statements.CallPart.TheVariants.{Arguments as InBrackets}
+use Rattle.bz_command.specs.declared.ruling.CallPart.TheVariants.{Arguments as InBrackets}
 use Rattle.bz_command.specs.private.Looks.{before_in_call, before_in_row, before_in}
 use Rattle.bz_command.proofs.ProperEffects.{effect_by}
 use Rattle.bz_command.proofs.StatementRules.{Holds, in_item}

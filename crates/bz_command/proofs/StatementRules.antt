@@ -12,7 +12,7 @@ use Rattle.bz_value.specs.Comments.{HostComments}
 use Rattle.bz_items.specs.Characters.{Bytes}
 use Rattle.bz_rule.specs.Rules.{Rule, only, form_in, called, named, rule_of, dotted_name}
 use Rattle.bz_rule.specs.Values.{has_kind, parts_of, with_parts, with_items, on_row, on_first}
-use Rattle.bz_command.specs.declared.statements.CallPart.TheVariants.{Arguments as InBrackets}
+use Rattle.bz_command.specs.declared.ruling.CallPart.TheVariants.{Arguments as InBrackets}
 use Rattle.bz_command.specs.private.Looks.{with_list_in, before_in_call, before_in_row, before_in}
 use Rattle.bz_command.specs.Effect.{is_rule, with_arguments, made_of, on_rule, on_arguments}
 use Rattle.bz_attribute.specs.Attributes.{Arguments}

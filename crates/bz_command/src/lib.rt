@@ -1,15 +1,12 @@
 //! Commands: which rules of a BUILD file a target means, and what each command makes of a file value.
 #![tactic(auto)]
 
-mod fields;
 mod filling;
 mod laws;
 mod outcome;
 mod printing;
-mod rules;
 mod ruling;
 mod running;
-mod statements;
 mod targets;
 
 pub use bz_command_syntax::{Command, CommandFault};

@@ -1,47 +1,218 @@
-//! What commands print of the rules that they are meant for, and which commands depend on the lines on which statements begin.
-ghost use Rattle.std.specs.Prelude.{◌≡◌, ◌⊎◌, Ok, Err, OnOk, IfOk, IfErr, decimal, length, option_map};
-ghost use Rattle.std.specs.List.{list_any};
-ghost use Rattle.bz_command.specs.Effect.{before_rest, printed_comments_of, printed_one, printed_rules};
+//! What commands print of the rules that they are meant for: comments, or fields on one line and the values of attributes among them. And
+//! which commands depend on the lines on which statements begin.
+ghost use Rattle.std.specs.Prelude.{◌≡◌, ◌⊎◌, ◌++◌, Ok, Err, OnOk, IfOk, IfErr, decimal, is_some, length, map, option_map};
+ghost use Rattle.std.specs.List.{list_all, list_any};
+ghost use Rattle.bz_token.specs.declared.class.Class.TheVariants as c;
+ghost use Rattle.bz_rule.specs.Rules as r;
+ghost use Rattle.bz_rule.specs.private.Named.{each_named};
+ghost use Rattle.bz_command.specs.Effect.{before_rest, printed_one, printed_rules};
 ghost use Rattle.bz_command.specs.Laws.{looks_at_lines, prints_line, prints_lines};
+ghost use Rattle.bz_command.specs.Prints.{in_brackets, is_string, printed_body, printed_field, printed_item, printed_value, spaced};
+ghost use Rattle.bz_command.specs.private.Steps.{seen_rule, space_between, text_or_nothing};
 
-use crate::fields::push_rule;
+use crate::ruling::Work;
 use crate::targets::{arguments_of, line_at};
-use bz_command_syntax::{Command, CommentOperation, Field, Host, Operation};
+use bz_attribute::{body_of, has_kind, items_of};
+use bz_command_syntax::{Command, CommentOperation, Field, Operation};
 use bz_comment::print_comments;
-use bz_items::Text;
+use bz_grammar::{Class, Kind};
+use bz_items::{Memory, Text};
 use bz_label::{Target, Which};
-use bz_value::{Item, Refusal};
+use bz_layout::{expr_text, item_text};
+use bz_rule::{attribute, call_of, text_in};
+use bz_value::{Expr, Item, Refusal};
+use itoa::Buffer;
 use std::alloc::Global;
 
-/// The comments of a host in a rule.
-fn print_host(alloc: Global, current: &[u8], host: &Host, item: &Item) -> Result<Text, Refusal>
-    ensures ok { IfOk result (λ text. printed_comments_of current.now host.now item.now ≡ Ok text) }
-    ensures err { IfErr result (λ refusal. (printed_comments_of current.now host.now item.now ≡ Err refusal) ⊎ (refusal ≡ Refusal.Memory)) }
+/// Appends a space, where others follow.
+fn push_space<T>(out: &mut Vec<u8>, others: &[T]) -> Result<(), Memory>
+    ensures { OnOk result (out.new.items ≡ out.old.items ++ space_between others.now) }
 {
-    match item {
-        Item::Block(_) => Ok(Text::from_vec(Vec::new(alloc))),
-        Item::Stmt(x) => print_comments(alloc, current, host, x.comments(), arguments_of(item)),
+    if !others.is_empty() {
+        out.push(b' ')?;
+    }
+    Ok(())
+}
+
+fn is_string(item: &Expr) -> bool
+    ensures { result ≡ is_string item.now }
+{
+    body_of(item).is_some()
+}
+
+/// Whether all items are plain strings.
+fn are_strings(items: &[Expr]) -> bool
+    ensures { result ≡ list_all is_string items.now }
+{
+    items.iter().all(|item| is_string(item))
+}
+
+/// Appends a list of plain strings: their bodies in square brackets, with a space between two of them.
+#[tactic(auto, using(crate::proofs::Pieces::bodies_next))]
+fn push_strings(out: &mut Vec<u8>, items: &[Expr]) -> Result<(), Memory>
+    ensures { OnOk result (out.new.items ≡ out.old.items ++ in_brackets (map printed_body items.now)) }
+{
+    out.push(b'[')?;
+    for (i, item) in items.iter().enumerate() {
+        out.extend_from_slice(body_of(item).unwrap_or(&[]))?;
+        push_space(out, &items[i + 1..])?;
+    }
+    out.push(b']')?;
+    Ok(())
+}
+
+/// Appends what a value prints: a plain string its body, a list of plain strings their bodies in square brackets, any other
+/// value its layout. The error: a growth was refused.
+#[tactic(auto, using(crate::proofs::Pieces::string_printed, crate::proofs::Pieces::strings_printed, crate::proofs::Pieces::layout_printed))]
+fn push_value(alloc: Global, value: &Expr, out: &mut Vec<u8>) -> Result<(), Memory>
+    ensures { OnOk result (out.new.items ≡ out.old.items ++ printed_value value.now) }
+{
+    if let Some(body) = body_of(value) {
+        out.extend_from_slice(body)?;
+        return Ok(());
+    }
+    let items = items_of(value);
+    if has_kind(Kind::List, value) && are_strings(items) {
+        return push_strings(out, items);
+    }
+    out.extend_from_slice(expr_text(alloc, value)?.as_slice())?;
+    Ok(())
+}
+
+/// A rule that is printed: the line on which it begins, where it is on one, its item, and its kind as a text without blanks.
+#[derive(Clone, Copy)]
+struct Subject<'a> {
+    alloc: Global,
+    line: Option<u32>,
+    item: &'a Item,
+    kind: &'a [u8],
+    arguments: &'a [Expr],
+}
+
+/// What is printed where a field has no value.
+const MISSING: &[u8] = b"(missing)";
+
+/// Appends a field.
+fn push_field(subject: Subject<'_>, field: &Field, out: &mut Vec<u8>) -> Result<(), Memory>
+    ensures { OnOk result (out.new.items ≡ out.old.items ++ printed_field (option_map decimal subject.entry.line) subject.entry.item.now (seen_rule subject.entry) field.now) }
+{
+    match field {
+        Field::Kind => Ok(out.extend_from_slice(subject.kind)?),
+        Field::StartLine => match subject.line {
+            Some(line) => Ok(out.extend_from_slice(Buffer::new().format(line).as_bytes())?),
+            None => Ok(out.extend_from_slice(MISSING)?),
+        },
+        Field::Rule => {
+            let text = item_text(subject.alloc, subject.item)?;
+            let bytes = text.as_slice();
+            let end = bytes.len().saturating_sub(1);
+            Ok(out.extend_from_slice(&bytes[..end])?)
+        }
+        Field::Attribute(name) => match attribute(name.as_slice(), subject.arguments) {
+            Some(value) => push_value(subject.alloc, value, out),
+            None => Ok(out.extend_from_slice(MISSING)?),
+        },
     }
 }
 
-/// Appends what an operation prints of one rule, which begins on this line.
-fn push_one(
+/// Appends the fields, with a space between two of them.
+#[tactic(auto, using(crate::proofs::Pieces::fields_next))]
+fn push_fields(subject: Subject<'_>, fields: &[Field], out: &mut Vec<u8>) -> Result<(), Memory>
+    ensures { OnOk result (out.new.items ≡ out.old.items ++ spaced (map (printed_field (option_map decimal subject.entry.line) subject.entry.item.now (seen_rule subject.entry)) fields.now)) }
+{
+    for (i, field) in fields.iter().enumerate() {
+        push_field(subject, field, out)?;
+        push_space(out, &fields[i + 1..])?;
+    }
+    Ok(())
+}
+
+/// Appends the text of a name, or of names joined by dots, and returns whether the expression is one; else it appends nothing.
+/// The error: a growth was refused.
+#[cycle(dotted)]
+#[tactic(auto, using(crate::proofs::Pieces::dotted_Form))]
+fn push_dotted(out: &mut Vec<u8>, expr: &Expr) -> Result<bool, Memory>
+    ensures named { IfOk result (λ named. named ≡ is_some (r.dotted_name expr.now)) }
+    ensures text { OnOk result (out.new.items ≡ out.old.items ++ text_or_nothing (r.dotted_name expr.now)) }
+{
+    match expr {
+        Expr::Token(_) => {
+            let Some(name) = text_in(Class::Name, expr) else {
+                return Ok(false);
+            };
+            out.extend_from_slice(name)?;
+            Ok(true)
+        }
+        Expr::Form(form) if form.kind == Kind::Dot => push_joined(out, form.parts.as_slice()),
+        Expr::Form(_) => Ok(false),
+    }
+}
+
+/// Appends the text of names joined by dots that has these parts, and returns whether they are such parts.
+#[cycle(dotted)]
+fn push_joined(out: &mut Vec<u8>, parts: &[Expr]) -> Result<bool, Memory>
+    ensures named { IfOk result (λ named. named ≡ is_some (r.joined (each_named parts.now))) }
+    ensures text { OnOk result (out.new.items ≡ out.old.items ++ text_or_nothing (r.joined (each_named parts.now))) }
+{
+    let [front, _, last] = parts else {
+        return Ok(false);
+    };
+    let Some(name) = text_in(Class::Name, last) else {
+        return Ok(false);
+    };
+    if !push_dotted(out, front)? {
+        return Ok(false);
+    }
+    out.push(b'.')?;
+    out.extend_from_slice(name)?;
+    Ok(true)
+}
+
+/// Appends what a rule prints for these fields: one line, with one space between two fields. An item that is no rule prints nothing.
+fn push_rule(
     alloc: Global,
-    operation: &Operation,
-    current: &[u8],
     line: Option<u32>,
     item: &Item,
+    fields: &[Field],
     out: &mut Vec<u8>,
-) -> Result<(), Refusal>
-    ensures ok { OnOk result (before_rest (Ok out.old.items) (printed_one operation.now current.now (option_map decimal line) item.now) ≡ Ok out.new.items) }
-    ensures err { IfErr result (λ refusal. (printed_one operation.now current.now (option_map decimal line) item.now ≡ Err refusal) ⊎ (refusal ≡ Refusal.Memory)) }
+) -> Result<(), Memory>
+    ensures { OnOk result (out.new.items ≡ out.old.items ++ printed_item (option_map decimal line) item.now fields.now) }
 {
-    match operation {
+    let Some(call) = call_of(item) else {
+        return Ok(());
+    };
+    let mut kind = Vec::new(alloc);
+    if !push_dotted(&mut kind, call.function)? {
+        return Ok(());
+    }
+    let subject = Subject {
+        alloc,
+        line,
+        item,
+        kind: kind.as_slice(),
+        arguments: call.arguments,
+    };
+    push_fields(subject, fields, out)?;
+    out.push(b'\n')?;
+    Ok(())
+}
+
+/// Appends what a command prints of one rule, which begins on this line.
+fn push(work: Work<'_, '_>, at: Option<u32>, item: &Item, out: &mut Vec<u8>) -> Result<(), Refusal>
+    ensures ok { OnOk result (before_rest (Ok out.old.items) (printed_one work.entry.command.now work.entry.current.now (option_map decimal at) item.now) ≡ Ok out.new.items) }
+    ensures err { IfErr result (λ refusal. (printed_one work.entry.command.now work.entry.current.now (option_map decimal at) item.now ≡ Err refusal) ⊎ (refusal ≡ Refusal.Memory)) }
+{
+    let (alloc, command) = (work.alloc, work.command);
+    match &command.operation {
         Operation::Comment(CommentOperation::Print { host }) => {
-            let text = print_host(alloc, current, host, item)?;
+            let Item::Stmt(x) = item else {
+                return Ok(());
+            };
+            let own = x.comments();
+            let text = print_comments(alloc, work.current, host, own, arguments_of(item))?;
             out.extend_from_slice(text.as_slice())?;
         }
-        Operation::Print { fields } => push_rule(alloc, out, line, item, fields.as_slice())?,
+        Operation::Print { fields } => push_rule(alloc, at, item, fields.as_slice(), out)?,
         Operation::Comment(CommentOperation::Add { .. } | CommentOperation::Remove { .. })
         | Operation::Rule(_)
         | Operation::Attribute(_)
@@ -52,25 +223,18 @@ fn push_one(
     Ok(())
 }
 
-/// What an operation prints of the rules that are marked. The first that refuses decides.
-pub(crate) fn print_rules(
-    alloc: Global,
-    operation: &Operation,
-    current: &[u8],
-    lines: &[u32],
-    marks: &[bool],
-    items: &[Item],
-) -> Result<Text, Refusal>
+/// What a command prints of the rules that are marked. The first that refuses decides.
+pub fn print_rules(work: Work<'_, '_>, marks: &[bool], items: &[Item]) -> Result<Text, Refusal>
     requires { length marks.now ≡ length items.now }
-    ensures ok { IfOk result (λ text. printed_rules operation.now current.now lines.now marks.now items.now ≡ Ok text) }
-    ensures err { IfErr result (λ refusal. (printed_rules operation.now current.now lines.now marks.now items.now ≡ Err refusal) ⊎ (refusal ≡ Refusal.Memory)) }
+    ensures ok { IfOk result (λ text. printed_rules work.entry.command.now work.entry.current.now work.entry.lines.now marks.now items.now ≡ Ok text) }
+    ensures err { IfErr result (λ refusal. (printed_rules work.entry.command.now work.entry.current.now work.entry.lines.now marks.now items.now ≡ Err refusal) ⊎ (refusal ≡ Refusal.Memory)) }
 {
-    let mut all = Vec::new(alloc);
-    let mut left = lines;
+    let mut all = Vec::new(work.alloc);
+    let mut left = work.lines;
     for (mark, item) in marks.iter().zip(items) {
         let (line, following) = line_at(left, item);
         if *mark {
-            push_one(alloc, operation, current, line, item, &mut all)?;
+            push(work, line, item, &mut all)?;
         }
         left = following;
     }

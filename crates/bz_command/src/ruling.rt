@@ -1,24 +1,318 @@
-//! What a command makes of the items of a file: of the rules that are marked, with a new rule, without some, and of loads. Items
-//! that stay are moved.
-ghost use Rattle.std.specs.Prelude.{◌≡◌, ◌⊎◌, ◌↔◌, ◌≤◌, ◌<◌, ◌∷◌, ◌++◌, ◌+◌, ℕ, Bool, List, false, length, drop, get_or, Ok, Err, OnOk, IsTrue, IfOk, IfErr, IfSome, if◌then◌else◌};
+//! What a command makes of a rule, and of the items of a file: of the rules that are marked, with a new rule, without some, and of loads.
+//! Items that stay are moved.
+ghost use Rattle.std.specs.Prelude.{◌≡◌, ◌⊎◌, ◌↔◌, ◌≤◌, ◌<◌, ◌∷◌, ◌++◌, ◌&&◌, ℕ, Bool, List, true, false, length, get_or, Ok, Err, OnOk, IsTrue, IfOk, IfErr, IfSome, if◌then◌else◌};
 ghost use Rattle.std.specs.List.{insert, list_any, position};
+ghost use Rattle.std.specs.Option.{option_copied};
 ghost use Rattle.bz_value.specs.declared.value.Item.{Item};
-ghost use Rattle.bz_value.specs.Exchanged.{IsSpliced};
+ghost use Rattle.bz_value.specs.Exchanged.{AreExchanged, IsSpliced, is_bare};
 ghost use Rattle.bz_rule.specs.Rules.{has_name};
-ghost use Rattle.bz_load.specs.NewLoad.{new_load};
-ghost use Rattle.bz_command.specs.Effect.{loads_changed, on_each, on_meant, on_rules, new_rule_place, source_of, unmarked, with_rule};
-ghost use Rattle.bz_command.specs.private.Looks.{made_by, one_made_by};
-ghost use Rattle.bz_command.specs.Renewed.{IsOfExtent};
+ghost use Rattle.bz_attribute.specs.Made.{function_of};
+ghost use Rattle.bz_comment.specs.Changes.{changed_by};
+ghost use Rattle.bz_command.specs.Effect.{is_rule, loads_changed, on_arguments, on_meant, on_rules, on_each, on_statement, new_rule_place, source, source_of, unmarked, with_function};
+ghost use Rattle.bz_command.specs.private.Looks.{arguments_by, before_in, before_in_call, made_by, one_made_by, with_list, with_list_in};
+ghost use Rattle.bz_command.specs.Renewed.{IsOfExtent, are_bare};
 
-use crate::outcome::{Changed, Extent, Spliced, are_bare, extent_of};
-use crate::statements::{Work, on_one, source};
-use bz_attribute::rule_made;
-use bz_command_syntax::{AttributeOperation, LoadOperation, Operation, RuleOperation, RulePlace};
-use bz_items::{Items, Memory};
-use bz_load::{WithLoad, fix, new_load};
-use bz_rule::has_name;
+use crate::outcome::{Extent, Spliced};
+use crate::targets::{arguments_of, is_rule};
+use bz_attribute::{function_of, rule_made};
+use bz_change::{change_attributes, change_dicts};
+use bz_command_syntax::{
+    AttributeOperation, Command, CommentOperation, Host, LoadOperation, Operation, RuleOperation,
+    RulePlace,
+};
+use bz_comment::{Change, change_comments, change_own};
+use bz_grammar::Kind;
+use bz_items::{Items, Memory, Text};
+use bz_label::Target;
+use bz_list::change_values;
+use bz_load::{fix, new_load};
+use bz_rule::{attribute, has_name};
 use bz_value::{Expr, Item, Refusal};
 use std::alloc::Global;
+use std::mem;
+
+/// A command that is run on a file.
+#[derive(Clone, Copy)]
+pub struct Work<'a, 'f> {
+    pub alloc: Global,
+    pub command: &'a Command,
+    pub target: &'a Target,
+    /// The path of the file's package.
+    pub current: &'a [u8],
+    /// The lines on which its statements begin.
+    pub lines: &'a [u32],
+    /// The value that is copied, once it is known.
+    pub found: Option<&'f Expr>,
+}
+
+/// The items that a command makes of those of a file, whether they are the same, and in which they may be others.
+#[derive(Drop)]
+pub struct Changed {
+    pub items: Items<Item>,
+    pub same: bool,
+    pub extent: Extent,
+}
+
+/// A list of the call that a rule is.
+#[derive(Clone, Copy)]
+enum CallPart {
+    /// The function that is called, alone.
+    Function,
+    /// The arguments.
+    Arguments,
+}
+
+/// Exchanges a list of a call with this one. A token has none, and the list stays.
+fn exchange_in_call(part: CallPart, list: &mut Items<Expr>, x: &mut Expr)
+    ensures here { x.new ≡ with_list part list.old x.old }
+    ensures there { list.new ≡ before_in_call part list.old x.old }
+{
+    if let Expr::Form(form) = x {
+        match part {
+            CallPart::Function => mem::swap(list, &mut form.parts),
+            CallPart::Arguments => mem::swap(list, &mut form.seq.items),
+        }
+    }
+}
+
+/// The same in the call that an item is.
+fn exchange(part: CallPart, list: &mut Items<Expr>, item: &mut Item)
+    ensures here { item.new ≡ with_list_in part list.old item.old }
+    ensures there { list.new ≡ before_in part list.old item.old }
+{
+    if let Item::Stmt(Expr::Form(form)) = item {
+        if form.kind == Kind::Bare {
+            if let [call, ..] = form.parts.as_mut_slice() {
+                exchange_in_call(part, list, call);
+            }
+        }
+    }
+}
+
+/// What a command makes of the arguments of a rule that it is meant for.
+fn change(work: Work<'_, '_>, operation: &Operation, list: &mut Items<Expr>) -> Result<(), Refusal>
+    ensures ok { OnOk result (arguments_by operation.now work.entry list.old ≡ Ok list.new) }
+    ensures err { IfErr result (λ refusal. (arguments_by operation.now work.entry list.old ≡ Err refusal) ⊎ (refusal ≡ Refusal.Memory)) }
+{
+    let (alloc, current) = (work.alloc, work.current);
+    match operation {
+        Operation::Attribute(operation) => {
+            change_attributes(alloc, operation, current, work.found, list)
+        }
+        Operation::Value(operation) => {
+            let given = mem::replace(list, Items::new(alloc));
+            *list = change_values(alloc, operation, current, given)?;
+            Ok(())
+        }
+        Operation::Dict(operation) => change_dicts(alloc, operation, current, list),
+        Operation::Comment(CommentOperation::Add { host, text }) => {
+            change_comments(alloc, current, host, Change::Add(text.as_slice()), list)
+        }
+        Operation::Comment(CommentOperation::Remove { host }) => {
+            change_comments(alloc, current, host, Change::Remove, list)
+        }
+        Operation::Comment(CommentOperation::Print { .. })
+        | Operation::Rule(_)
+        | Operation::Load(_)
+        | Operation::Print { .. } => Ok(()),
+    }
+}
+
+/// What a command makes of a rule by changing its arguments; what is no rule stays.
+#[tactic(auto, using(crate::proofs::StatementRules::rule_changed))]
+fn change_rule(work: Work<'_, '_>, operation: &Operation, item: &mut Item) -> Result<(), Refusal>
+    ensures ok { OnOk result (on_arguments (arguments_by operation.now work.entry) item.old ≡ Ok item.new) }
+    ensures err { IfErr result (λ refusal. (on_arguments (arguments_by operation.now work.entry) item.old ≡ Err refusal) ⊎ (refusal ≡ Refusal.Memory)) }
+{
+    if !is_rule(item) {
+        return Ok(());
+    }
+    let mut arguments = Items::new(work.alloc);
+    exchange(CallPart::Arguments, &mut arguments, item);
+    change(work, operation, &mut arguments)?;
+    exchange(CallPart::Arguments, &mut arguments, item);
+    Ok(())
+}
+
+/// The rule's kind becomes this one; what is no rule stays.
+fn set_kind(alloc: Global, kind: &Text, item: &mut Item) -> Result<(), Refusal>
+    ensures ok { OnOk result (item.new ≡ (if is_rule item.old then with_function (function_of kind.now) item.old else item.old)) }
+    ensures err { IfErr result (λ refusal. refusal ≡ Refusal.Memory) }
+{
+    if !is_rule(item) {
+        return Ok(());
+    }
+    let mut parts = Items::new(alloc);
+    parts.push(function_of(alloc, kind.as_slice())?)?;
+    exchange(CallPart::Function, &mut parts, item);
+    Ok(())
+}
+
+/// The comments of a statement, changed.
+fn change_statement(alloc: Global, change: Change<'_>, item: &mut Item) -> Result<(), Refusal>
+    ensures ok { OnOk result (item.new ≡ on_statement (changed_by change.entry) item.old) }
+    ensures err { IfErr result (λ refusal. refusal ≡ Refusal.Memory) }
+{
+    match item {
+        Item::Block(_) => Ok(()),
+        Item::Stmt(x) => Ok(change_own(alloc, change, x)?),
+    }
+}
+
+/// What a command makes of a rule that it is meant for.
+fn on_one(work: Work<'_, '_>, operation: &Operation, item: &mut Item) -> Result<(), Refusal>
+    ensures ok { OnOk result (made_by operation.now work.entry item.old ≡ Ok item.new) }
+    ensures err { IfErr result (λ refusal. (made_by operation.now work.entry item.old ≡ Err refusal) ⊎ (refusal ≡ Refusal.Memory)) }
+{
+    let alloc = work.alloc;
+    match operation {
+        Operation::Rule(RuleOperation::SetKind { kind }) => set_kind(alloc, kind, item),
+        Operation::Comment(CommentOperation::Add { host, text }) => match host {
+            Host::Rule => change_statement(alloc, Change::Add(text.as_slice()), item),
+            Host::Attribute(_) | Host::Item { .. } => change_rule(work, operation, item),
+        },
+        Operation::Comment(CommentOperation::Remove { host }) => match host {
+            Host::Rule => change_statement(alloc, Change::Remove, item),
+            Host::Attribute(_) | Host::Item { .. } => change_rule(work, operation, item),
+        },
+        Operation::Rule(RuleOperation::New { .. } | RuleOperation::Delete)
+        | Operation::Comment(CommentOperation::Print { .. })
+        | Operation::Attribute(_)
+        | Operation::Value(_)
+        | Operation::Dict(_)
+        | Operation::Load(_)
+        | Operation::Print { .. } => change_rule(work, operation, item),
+    }
+}
+
+/// What a command makes of an item where it is marked. Whether the item is the same then.
+#[tactic(auto, unfolding(crate::specs::private::Looks::one_made))]
+fn change_item(work: Work<'_, '_>, mark: bool, item: &mut Item) -> Result<bool, Refusal>
+    ensures ok { OnOk result ((if mark then one_made_by work.entry item.old else Ok item.old) ≡ Ok item.new) }
+    ensures same { IfOk result (λ same. IsTrue same ↔ (item.new ≡ item.old)) }
+    ensures err { IfErr result (λ refusal. ((if mark then one_made_by work.entry item.old else Ok item.old) ≡ Err refusal) ⊎ (refusal ≡ Refusal.Memory)) }
+{
+    if !mark {
+        return Ok(true);
+    }
+    let command = work.command;
+    let before = item.copy()?;
+    let answer = match on_one(work, &command.operation, item) {
+        Ok(()) => Ok(item.equals(&before)),
+        Err(refusal) => Err(refusal),
+    };
+    // By a call: by the end of its scope, each form of the item would be a path of this proof.
+    drop(before);
+    answer
+}
+
+/// What a command makes of the items that are marked. Whether all are the same then. The first that refuses decides.
+fn on_meant(work: Work<'_, '_>, marks: &[bool], items: &mut [Item]) -> Result<bool, Refusal>
+    requires { length marks.now ≡ length items.old }
+    ensures ok { OnOk result (on_meant (one_made_by work.entry) marks.now items.old ≡ Ok items.new) }
+    ensures same { IfOk result (λ same. IsTrue same ↔ (items.new ≡ items.old)) }
+    ensures err { IfErr result (λ refusal. (on_meant (one_made_by work.entry) marks.now items.old ≡ Err refusal) ⊎ (refusal ≡ Refusal.Memory)) }
+{
+    let mut same = true;
+    for at in 0..items.len() {
+        let stays = change_item(work, marks[at], &mut items[at])?;
+        same = same && stays;
+    }
+    Ok(same)
+}
+
+/// Whether an item is a statement that is an expression alone.
+fn is_bare(item: &Item) -> bool
+    ensures { result ≡ is_bare item.now }
+{
+    matches!(item, Item::Stmt(Expr::Form(form)) if form.kind == Kind::Bare)
+}
+
+/// Whether the items that are marked are such statements.
+fn are_bare(marks: &[bool], items: &[Item]) -> bool
+    ensures { result ≡ are_bare marks.now items.now }
+{
+    marks
+        .iter()
+        .zip(items)
+        .all(|(mark, item)| !*mark || is_bare(item))
+}
+
+/// In which items a value may differ from one of which those that are marked were changed; `before`: whether these were such statements.
+fn extent_of(before: bool, marks: &[bool], items: &[Item]) -> Extent
+    ensures { (old : List Item) → ((before && are_bare marks.now items.now) ≡ true → AreExchanged marks.now old items.now) → IsOfExtent result marks.now old items.now }
+{
+    if before && are_bare(marks, items) {
+        Extent::Marked
+    } else {
+        Extent::Whole
+    }
+}
+
+/// The value that an attribute has in the first rule of a name.
+fn source<'a>(name: &[u8], rule: &[u8], items: &'a [Item]) -> Option<&'a Expr>
+    ensures { option_copied result ≡ source name.now rule.now items.now }
+{
+    for item in items {
+        if has_name(rule, item) {
+            return attribute(name, arguments_of(item));
+        }
+    }
+    None
+}
+
+/// A copy of the value that is copied, as it is before anything changes.
+fn copied_source(operation: &Operation, items: &[Item]) -> Result<Option<Expr>, Memory>
+    ensures { IfOk result (λ found. found ≡ source_of operation.now items.now) }
+{
+    let Operation::Attribute(
+        AttributeOperation::Copy { attribute, rule }
+        | AttributeOperation::CopyNoOverwrite { attribute, rule },
+    ) = operation
+    else {
+        return Ok(None);
+    };
+    match source(attribute.as_slice(), rule.as_slice(), items) {
+        Some(value) => Ok(Some(value.copy()?)),
+        None => Ok(None),
+    }
+}
+
+/// What a command makes of each of the items that are marked.
+#[tactic(auto, unfolding(crate::specs::private::Looks::one_made))]
+fn on_found(work: Work<'_, '_>, marks: &[bool], mut items: Items<Item>) -> Result<Changed, Refusal>
+    requires { length marks.now ≡ length items }
+    ensures ok { IfOk result (λ changed. on_meant (made_by work.entry.command.now work.entry) marks.now items ≡ Ok changed.items) }
+    ensures same { IfOk result (λ changed. IsTrue changed.same ↔ (changed.items ≡ items)) }
+    ensures extent { IfOk result (λ changed. IsOfExtent changed.extent marks.now items changed.items) }
+    ensures err { IfErr result (λ refusal. (on_meant (made_by work.entry.command.now work.entry) marks.now items ≡ Err refusal) ⊎ (refusal ≡ Refusal.Memory)) }
+{
+    let before = are_bare(marks, items.as_slice());
+    let same = on_meant(work, marks, items.as_mut_slice())?;
+    let extent = extent_of(before, marks, items.as_slice());
+    Ok(Changed {
+        items,
+        same,
+        extent,
+    })
+}
+
+/// The same by the value that is copied, as it is before anything changes.
+fn on_each(work: Work<'_, '_>, marks: &[bool], items: Items<Item>) -> Result<Changed, Refusal>
+    requires { length marks.now ≡ length items }
+    ensures ok { IfOk result (λ changed. on_each work.entry.command.now work.entry.current.now marks.now items ≡ Ok changed.items) }
+    ensures same { IfOk result (λ changed. IsTrue changed.same ↔ (changed.items ≡ items)) }
+    ensures extent { IfOk result (λ changed. IsOfExtent changed.extent marks.now items changed.items) }
+    ensures err { IfErr result (λ refusal. (on_each work.entry.command.now work.entry.current.now marks.now items ≡ Err refusal) ⊎ (refusal ≡ Refusal.Memory)) }
+{
+    let command = work.command;
+    let found = copied_source(&command.operation, items.as_slice())?;
+    let work = Work {
+        found: found.as_ref(),
+        ..work
+    };
+    on_found(work, marks, items)
+}
 
 /// Appends an item, unless it is marked.
 fn push_unmarked(mark: bool, item: Item, kept: &mut Vec<Item>) -> Result<(), Memory>
@@ -107,41 +401,6 @@ fn delete(alloc: Global, marks: &[bool], items: Items<Item>) -> Result<Changed, 
     })
 }
 
-/// What an operation makes of an item where it is marked. Whether the item is the same then.
-#[tactic(auto, unfolding(crate::specs::private::Looks::one_made))]
-fn change_item(work: Work<'_>, mark: bool, item: &mut Item) -> Result<bool, Refusal>
-    ensures ok { OnOk result ((if mark then one_made_by work.entry item.old else Ok item.old) ≡ Ok item.new) }
-    ensures same { IfOk result (λ same. IsTrue same ↔ (item.new ≡ item.old)) }
-    ensures err { IfErr result (λ refusal. ((if mark then one_made_by work.entry item.old else Ok item.old) ≡ Err refusal) ⊎ (refusal ≡ Refusal.Memory)) }
-{
-    if !mark {
-        return Ok(true);
-    }
-    let before = item.copy()?;
-    let answer = match on_one(work, item) {
-        Ok(()) => Ok(item.equals(&before)),
-        Err(refusal) => Err(refusal),
-    };
-    // By a call: by the end of its scope, each form of the item would be a path of this proof.
-    drop(before);
-    answer
-}
-
-/// What an operation makes of the items that are marked. Whether all are the same then. The first that refuses decides.
-fn on_meant(work: Work<'_>, marks: &[bool], items: &mut [Item]) -> Result<bool, Refusal>
-    requires { length marks.now ≡ length items.old }
-    ensures ok { OnOk result (on_meant (one_made_by work.entry) marks.now items.old ≡ Ok items.new) }
-    ensures same { IfOk result (λ same. IsTrue same ↔ (items.new ≡ items.old)) }
-    ensures err { IfErr result (λ refusal. (on_meant (one_made_by work.entry) marks.now items.old ≡ Err refusal) ⊎ (refusal ≡ Refusal.Memory)) }
-{
-    let mut same = true;
-    for at in 0..items.len() {
-        let stays = change_item(work, marks[at], &mut items[at])?;
-        same = same && stays;
-    }
-    Ok(same)
-}
-
 /// The place of the first rule of this name.
 #[tactic(auto, using(crate::proofs::RunningItems::rule_within))]
 fn place_of_rule(name: &[u8], items: &[Item]) -> Option<usize>
@@ -185,88 +444,6 @@ fn inserted(at: usize, new: Item, items: Items<Item>) -> Result<Items<Item>, Mem
     Ok(Items::from_vec(all))
 }
 
-/// The items with a new rule at its place, so others than they were.
-fn with_rule(
-    alloc: Global,
-    kind: &[u8],
-    name: &[u8],
-    place: &RulePlace,
-    items: Items<Item>,
-) -> Result<Changed, Refusal>
-    ensures ok { IfOk result (λ changed. with_rule kind.now name.now place.now items ≡ Ok changed.items) }
-    ensures same { IfOk result (λ changed. IsTrue changed.same ↔ (changed.items ≡ items)) }
-    ensures extent { IfOk result (λ changed. (marks : List Bool) → IsOfExtent changed.extent marks items changed.items) }
-    ensures err { IfErr result (λ refusal. (with_rule kind.now name.now place.now items ≡ Err refusal) ⊎ (refusal ≡ Refusal.Memory)) }
-{
-    let Some(at) = place_of_new(place, items.as_slice()) else {
-        return Err(Refusal::NoTarget);
-    };
-    if is_taken(name, items.as_slice()) {
-        return Err(Refusal::NameTaken);
-    }
-    let rule = rule_made(alloc, kind, name)?;
-    Ok(Changed {
-        items: inserted(at, rule, items)?,
-        same: false,
-        extent: spliced(at, 0, 1),
-    })
-}
-
-/// A copy of the value that is copied, as it is before anything changes.
-fn copied_source(operation: &Operation, items: &[Item]) -> Result<Option<Expr>, Memory>
-    ensures { IfOk result (λ found. found ≡ source_of operation.now items.now) }
-{
-    let Operation::Attribute(
-        AttributeOperation::Copy { attribute, rule }
-        | AttributeOperation::CopyNoOverwrite { attribute, rule },
-    ) = operation
-    else {
-        return Ok(None);
-    };
-    match source(attribute.as_slice(), rule.as_slice(), items) {
-        Some(value) => Ok(Some(value.copy()?)),
-        None => Ok(None),
-    }
-}
-
-/// What an operation makes of each of the items that are marked.
-#[tactic(auto, unfolding(crate::specs::private::Looks::one_made))]
-fn on_found(work: Work<'_>, marks: &[bool], mut items: Items<Item>) -> Result<Changed, Refusal>
-    requires { length marks.now ≡ length items }
-    ensures ok { IfOk result (λ changed. on_meant (made_by work.entry) marks.now items ≡ Ok changed.items) }
-    ensures same { IfOk result (λ changed. IsTrue changed.same ↔ (changed.items ≡ items)) }
-    ensures extent { IfOk result (λ changed. IsOfExtent changed.extent marks.now items changed.items) }
-    ensures err { IfErr result (λ refusal. (on_meant (made_by work.entry) marks.now items ≡ Err refusal) ⊎ (refusal ≡ Refusal.Memory)) }
-{
-    let before = are_bare(marks, items.as_slice());
-    let same = on_meant(work, marks, items.as_mut_slice())?;
-    let extent = extent_of(before, marks, items.as_slice());
-    Ok(Changed {
-        items,
-        same,
-        extent,
-    })
-}
-
-/// The same by the value that is copied, as it is before anything changes.
-fn on_each(
-    alloc: Global,
-    operation: &Operation,
-    current: &[u8],
-    marks: &[bool],
-    items: Items<Item>,
-) -> Result<Changed, Refusal>
-    requires { length marks.now ≡ length items }
-    ensures ok { IfOk result (λ changed. on_each operation.now current.now marks.now items ≡ Ok changed.items) }
-    ensures same { IfOk result (λ changed. IsTrue changed.same ↔ (changed.items ≡ items)) }
-    ensures extent { IfOk result (λ changed. IsOfExtent changed.extent marks.now items changed.items) }
-    ensures err { IfErr result (λ refusal. (on_each operation.now current.now marks.now items ≡ Err refusal) ⊎ (refusal ≡ Refusal.Memory)) }
-{
-    let found = copied_source(operation, items.as_slice())?;
-    let work = Work::new(alloc, operation, current, found.as_ref());
-    on_found(work, marks, items)
-}
-
 /// Whether both lists have the same items in the same places.
 fn are_same(a: &[Item], b: &[Item]) -> bool
     ensures { IsTrue result ↔ (a.now ≡ b.now) }
@@ -283,27 +460,18 @@ fn are_same(a: &[Item], b: &[Item]) -> bool
 }
 
 /// What an operation on the symbols that the file loads makes of its items.
-fn change_loads(
-    alloc: Global,
-    operation: &LoadOperation,
-    items: Items<Item>,
-) -> Result<Changed, Memory>
+fn on_loads(alloc: Global, operation: &LoadOperation, items: Items<Item>) -> Result<Changed, Memory>
     ensures items { IfOk result (λ changed. changed.items ≡ loads_changed operation.now items) }
     ensures same { IfOk result (λ changed. IsTrue changed.same ↔ (changed.items ≡ items)) }
     ensures extent { IfOk result (λ changed. (marks : List Bool) → IsOfExtent changed.extent marks items changed.items) }
 {
     match operation {
         LoadOperation::New { path, symbols } => {
-            let WithLoad {
-                items,
-                same,
-                at,
-                gone,
-            } = new_load(alloc, path.as_slice(), symbols.as_slice(), items)?;
+            let made = new_load(alloc, path.as_slice(), symbols.as_slice(), items)?;
             Ok(Changed {
-                items,
-                same,
-                extent: spliced(at, gone, 1),
+                extent: spliced(made.at, made.gone, 1),
+                items: made.items,
+                same: made.same,
             })
         }
         LoadOperation::Fix { fixes } => {
@@ -317,31 +485,37 @@ fn change_loads(
     }
 }
 
-/// What an operation makes of the items, of which those that it is meant for are marked.
-pub(crate) fn on_rules(
-    alloc: Global,
-    operation: &Operation,
-    current: &[u8],
-    marks: &[bool],
-    items: Items<Item>,
-) -> Result<Changed, Refusal>
+/// What a command makes of the items, of which those that it is meant for are marked.
+pub fn on_rules(work: Work<'_, '_>, marks: &[bool], items: Items<Item>) -> Result<Changed, Refusal>
     requires { length marks.now ≡ length items }
-    ensures ok { IfOk result (λ changed. on_rules operation.now current.now marks.now items ≡ Ok changed.items) }
+    ensures ok { IfOk result (λ changed. on_rules work.entry.command.now work.entry.current.now marks.now items ≡ Ok changed.items) }
     ensures same { IfOk result (λ changed. IsTrue changed.same ↔ (changed.items ≡ items)) }
     ensures extent { IfOk result (λ changed. IsOfExtent changed.extent marks.now items changed.items) }
-    ensures err { IfErr result (λ refusal. (on_rules operation.now current.now marks.now items ≡ Err refusal) ⊎ (refusal ≡ Refusal.Memory)) }
+    ensures err { IfErr result (λ refusal. (on_rules work.entry.command.now work.entry.current.now marks.now items ≡ Err refusal) ⊎ (refusal ≡ Refusal.Memory)) }
 {
-    match operation {
+    let (alloc, command) = (work.alloc, work.command);
+    match &command.operation {
         Operation::Rule(RuleOperation::New { kind, name, place }) => {
-            with_rule(alloc, kind.as_slice(), name.as_slice(), place, items)
+            let Some(at) = place_of_new(place, items.as_slice()) else {
+                return Err(Refusal::NoTarget);
+            };
+            if is_taken(name.as_slice(), items.as_slice()) {
+                return Err(Refusal::NameTaken);
+            }
+            let rule = rule_made(alloc, kind.as_slice(), name.as_slice())?;
+            Ok(Changed {
+                items: inserted(at, rule, items)?,
+                same: false,
+                extent: spliced(at, 0, 1),
+            })
         }
         Operation::Rule(RuleOperation::Delete) => Ok(delete(alloc, marks, items)?),
+        Operation::Load(operation) => Ok(on_loads(alloc, operation, items)?),
         Operation::Rule(RuleOperation::SetKind { .. })
         | Operation::Attribute(_)
         | Operation::Value(_)
         | Operation::Dict(_)
-        | Operation::Comment(_) => on_each(alloc, operation, current, marks, items),
-        Operation::Load(load) => Ok(change_loads(alloc, load, items)?),
+        | Operation::Comment(_) => on_each(work, marks, items),
         Operation::Print { .. } => Ok(Changed {
             items,
             same: true,

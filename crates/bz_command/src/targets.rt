@@ -26,12 +26,9 @@ pub(crate) fn is_rule(item: &Item) -> bool
 pub(crate) fn arguments_of(item: &Item) -> &[Expr]
     ensures { result.now ≡ rule_arguments item.now }
 {
-    if !is_rule(item) {
-        return &[];
-    }
     match call_of(item) {
-        Some(call) => call.arguments,
-        None => &[],
+        Some(call) if is_named(call.function) => call.arguments,
+        _ => &[],
     }
 }
 
@@ -70,20 +67,11 @@ fn all_of_kind(alloc: Global, kind: &[u8], items: &[Item]) -> Result<Vec<bool>, 
         .collect(alloc)
 }
 
-/// A mark for each item: whether it is a rule of this name; by an index of their names, where there is one.
-fn all_named(
-    alloc: Global,
-    name: &[u8],
-    names: Option<&Names>,
-    items: &[Item],
-) -> Result<Vec<bool>, Memory>
-    requires { IfSome names (λ index. IsIndexOf index.now items.now) }
+/// A mark for each item: whether it is a rule of this name.
+fn all_of_name(alloc: Global, name: &[u8], items: &[Item]) -> Result<Vec<bool>, Memory>
     ensures { IfOk result (λ marks. marks.items ≡ map (has_name name.now) items.now) }
 {
-    match names {
-        Some(index) => index.marks(alloc, name),
-        None => items.iter().map(|item| has_name(name, item)).collect(alloc),
-    }
+    items.iter().map(|item| has_name(name, item)).collect(alloc)
 }
 
 /// A mark for each item: whether it is a rule on this line.
@@ -134,7 +122,10 @@ pub(crate) fn meant(
             only_first(marks.as_mut_slice());
             Ok(marks)
         }
-        Which::Name(name) => all_named(alloc, name.as_slice(), names, items),
+        Which::Name(name) => match names {
+            Some(index) => index.marks(alloc, name.as_slice()),
+            None => all_of_name(alloc, name.as_slice(), items),
+        },
     }
 }
 

@@ -1,21 +1,18 @@
 -- What the code does with a rule that a command is meant for: the lists of its call, exchanged for others; and what is known of a
 -- command before it changes anything.
-use Rattle.std.specs.Prelude.{List, [], ◌∷◌, if◌then◌else◌, ◌≡◌, Bool, Result, Ok, Option, length}
+use Rattle.std.specs.Prelude.{List, [], ◌∷◌, if◌then◌else◌, ◌≡◌, Bool, Result, Ok, Option, Some, None, length}
 use Rattle.bz_grammar.specs.declared.kind.Kind.TheVariants as k
 use Rattle.bz_value.specs.declared.value.Expr.{Expr, Token, Form', items-the_row-Expr}
 use Rattle.bz_value.specs.declared.value.Item.{Item}
 use Rattle.bz_value.specs.declared.value.Item.TheVariants as i
 use Rattle.bz_rule.specs.Values.{has_kind, parts_of, with_parts, with_items, on_row, on_first}
-use Rattle.bz_command.specs.declared.statements.CallPart.{CallPart}
-use Rattle.bz_command.specs.declared.statements.CallPart.TheVariants as p
+use Rattle.bz_command.specs.declared.ruling.CallPart.{CallPart}
+use Rattle.bz_command.specs.declared.ruling.CallPart.TheVariants as p
 use Rattle.std.specs.Option.{option_copied}
 use Rattle.bz_value.specs.declared.refusal.Refusal.{Refusal}
 use Rattle.bz_items.specs.Characters.{Bytes}
 use Rattle.bz_command_syntax.specs.declared.command.Operation.{Operation}
-use Rattle.bz_command.specs.declared.running.Instruction.{Instruction}
-use Rattle.bz_command.specs.declared.running.Look.{Look}
-use Rattle.bz_command.specs.declared.running.Look.TheVariants as l
-use Rattle.bz_command.specs.declared.statements.Work.{Work}
+use Rattle.bz_command.specs.declared.ruling.Work.{Work}
 use Rattle.bz_attribute.specs.Attributes.{Arguments}
 use Rattle.bz_command.specs.Effect.{NewItem, arguments_of, effect, on_one, on_rules, printed}
 
@@ -45,31 +42,27 @@ before_in part list (i.Stmt x) = if has_kind k.Bare x then before_in_row part li
 -- ---- what is known of a command before it changes anything
 
 -- what is made of the arguments of a rule, and of a rule
-abbrev pub arguments_by : Work → List Expr → Arguments
-arguments_by work = arguments_of work.operation.now work.current.now (option_copied work.found)
+abbrev pub arguments_by : Operation → Work → List Expr → Arguments
+arguments_by operation work = arguments_of operation work.current.now (option_copied work.found)
 
-abbrev pub made_by : Work → Item → NewItem
-made_by work = on_one work.operation.now work.current.now (option_copied work.found)
+abbrev pub made_by : Operation → Work → Item → NewItem
+made_by operation work = on_one operation work.current.now (option_copied work.found)
 
 -- the same, where what that is need not be known
 unfoldable pub one_made : Operation → Bytes → Option Expr → Item → NewItem
 one_made operation current found item = on_one operation current found item
 
 abbrev pub one_made_by : Work → Item → NewItem
-one_made_by work = one_made work.operation.now work.current.now (option_copied work.found)
+one_made_by work = one_made work.command.now work.current.now (option_copied work.found)
 
 -- what a command that is run makes of a file, and what it prints
-abbrev pub effect_by : Instruction → List Item → Result (List Item) Refusal
-effect_by instruction = effect instruction.command.now instruction.target.now instruction.current.now instruction.lines.now
+abbrev pub effect_by : Work → List Item → Result (List Item) Refusal
+effect_by work = effect work.command.now work.target.now work.current.now work.lines.now
 
-abbrev pub printed_for : Instruction → List Item → Result Bytes Refusal
-printed_for instruction = printed instruction.command.now instruction.target.now instruction.current.now instruction.lines.now
+abbrev pub printed_for : Work → List Item → Result Bytes Refusal
+printed_for work = printed work.command.now work.target.now work.current.now work.lines.now
 
--- The items that a command changes are marked: it makes of the items what it makes of those.
-abbrev pub IsMarked : Instruction → List Item → List Bool → Type 0
-IsMarked instruction items marks = (length marks ≡ length items) × (effect_by instruction items ≡ on_rules instruction.command.now instruction.current.now marks items)
-
--- Where the items stay it is known what is printed; where they may change nothing is, and they are marked.
-abbrev pub IsLook : Instruction → List Item → Look → Type 0
-IsLook instruction items (l.Stays text) = (effect_by instruction items ≡ Ok items) × (printed_for instruction items ≡ Ok text)
-IsLook instruction items (l.Changes marks) = IsMarked instruction items marks.items × (printed_for instruction items ≡ Ok [])
+-- Where something is printed the items stay; else they may change, and the command makes of them what it makes of those that are marked.
+abbrev pub IsLook : Work → List Item → List Bool → Option Bytes → Type 0
+IsLook work items marks (Some text) = (effect_by work items ≡ Ok items) × (printed_for work items ≡ Ok text)
+IsLook work items marks None = (length marks ≡ length items) × (effect_by work items ≡ on_rules work.command.now work.current.now marks items) × (printed_for work items ≡ Ok [])

@@ -6,7 +6,7 @@ use Rattle.bz_command.proofs.printing.print_rules.Given as goal
 abbrev pub invariant-loop-mark : goal.invariant-loop-mark
 invariant-loop-mark l = record {
   printed :
-      printed_rules l.operation l.current l.lines l.marks l.items
-      ≡ before_rest (Ok l.all.items) (printed_rules l.operation l.current l.left l.mark-iterator.a.rest.now l.mark-iterator.b.rest.now);
+      printed_rules l.work.command.now l.work.current.now l.work.lines.now l.marks l.items
+      ≡ before_rest (Ok l.all.items) (printed_rules l.work.command.now l.work.current.now l.left l.mark-iterator.a.rest.now l.mark-iterator.b.rest.now);
   count : length l.mark-iterator.a.rest.now ≡ length l.mark-iterator.b.rest.now;
 }

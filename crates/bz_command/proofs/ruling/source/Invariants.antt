@@ -1,6 +1,6 @@
 use Rattle.std.proofs.Common.{◌≡◌, drop}
 use Rattle.bz_command.specs.Effect.{source}
-use Rattle.bz_command.proofs.statements.source.Given as goal
+use Rattle.bz_command.proofs.ruling.source.Given as goal
 
 -- what the items that are left say is what all say
 abbrev pub invariant-loop-item : goal.invariant-loop-item

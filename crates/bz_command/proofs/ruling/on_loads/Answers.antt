@@ -2,9 +2,9 @@ use Rattle.std.proofs.Common.{◌∙◌, ap, ap₂, sym}
 use Rattle.bz_command_syntax.specs.declared.command.LoadOperation.{LoadOperation}
 use Rattle.bz_load.specs.NewLoad.{new_load}
 use Rattle.bz_command.specs.Effect.{loads_changed}
-use Rattle.bz_command.proofs.ruling.change_loads.Goals as goal
+use Rattle.bz_command.proofs.ruling.on_loads.Goals as goal
 
-pub returns-in_ok-items-in-New-clause-items : goal.returns-in_ok-items-in-New-clause-items
-returns-in_ok-items-in-New-clause-items c =
-    c.in_ok-items-in-New.ensures.items
+pub returns-in_ok-made-in-New-clause-items : goal.returns-in_ok-made-in-New-clause-items
+returns-in_ok-made-in-New-clause-items c =
+    c.in_ok-made-in-New.ensures.items
     ∙ (ap₂ (λ path symbols. new_load path symbols c.args.items) c.as_slice.ensures c.as_slice-in-New.ensures ∙ ap (λ (operation : LoadOperation). loads_changed operation c.args.items) (sym c.in-New.is))
