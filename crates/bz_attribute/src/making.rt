@@ -1,11 +1,9 @@
 //! New parts of a file value: no comments, no sequence split, no break.
-ghost use Rattle.std.specs.Prelude.{◌≡◌, IfOk, OnOk, [], ◌∷◌, ◌++◌, nat_eq, nat_lt, codes, position, length, ◌<◌, IfSome};
+ghost use Rattle.std.specs.Prelude.{◌≡◌, IfOk, OnOk, [], ◌∷◌, ◌++◌, nat_eq, position, length, ◌<◌, IfSome};
 ghost use Rattle.std.specs.List.{slice_split};
 ghost use Rattle.std.specs.Option.{option_map_or};
-ghost use Rattle.bz_grammar.specs.declared.kind.Kind.TheVariants as k;
-ghost use Rattle.bz_grammar.specs.Shapes.{rank};
 ghost use Rattle.bz_items.specs.Characters.{full_stop};
-ghost use Rattle.bz_rule.specs.Values.{on_items, on_row, with_text};
+ghost use Rattle.bz_rule.specs.Values.{on_items, with_text};
 ghost use Rattle.bz_attribute.specs.Made.{token, node, sequence, name, mark, string_text, string_of, list_of, binds_looser, operand, plus, function_of, argument_of, rule_made};
 
 use crate::readings::has_kind;

@@ -1,5 +1,5 @@
 -- What is added is what is not known yet.
-use Rattle.std.proofs.Common.{◌≡◌, Bool, true, false, not, ◌||◌, List, [], ◌∷◌, ◌++◌, refl, sym, ap, ◌∙◌, map, true≢false, append_assoc}
+use Rattle.std.proofs.Common.{◌≡◌, Bool, true, false, not, ◌||◌, List, [], ◌∷◌, ◌++◌, refl, sym, ap, ◌∙◌, map, true≢false}
 use Rattle.std.specs.Prelude.{Option, Some, if◌then◌else◌}
 use Rattle.std.specs.Bool.{OnFalse}
 use Rattle.std.specs.List.{list_any}
@@ -8,7 +8,6 @@ use Rattle.std.proofs.Math.Bool.{or_assoc}
 use Rattle.std.proofs.Math.Path.{fun_ext}
 use Rattle.bz_value.specs.declared.value.Expr.{Expr}
 use Rattle.bz_items.specs.Characters.{Bytes}
-use Rattle.bz_attribute.proofs.FormsAgain.{if_true, if_false}
 use Rattle.bz_attribute.proofs.KeySets.{or_none}
 use Rattle.bz_attribute.specs.Lists.{body_of, are_one, is_item, fresh, travelled, is_there, arriving}
 use Rattle.bz_attribute.specs.Made.{string_of}
@@ -86,16 +85,3 @@ one_more current attribute text made x xs old new is_new is all again = by (is_k
     by false true e same = ap (λ known. made x ∷ new_ones current attribute text made known xs) (sym all)
     by true true e same = absurd (true≢false e)
     by false false e same = absurd (true≢false (sym e))
-
-module _ {X : Type 0} (current attribute : Bytes) (text : X → Option Bytes) (made : X → Expr) (x : X) (xs : List X) (old new : Bytes → Bool) (is_new : Bool) (found : Option Bytes) (own : found ≡ text x)
-    (is : is_new ≡ not (option_map_or old found false)) (all : new ≡ with_known current attribute found old) (again : OnFalse is_new (new ≡ old)) where
-  more : new_ones current attribute text made old (x ∷ xs) ≡ (if is_new then made x ∷ new_ones current attribute text made new xs else new_ones current attribute text made new xs)
-  more = one_more current attribute text made x xs old new is_new (is ∙ ap (λ found. not (option_map_or old found false)) own) (all ∙ ap (λ found. with_known current attribute found old) own) again
-
-  pub pushed : is_new ≡ true → (items items' : List Expr) → items' ≡ items ++ made x ∷ [] → items' ++ new_ones current attribute text made new xs ≡ items ++ new_ones current attribute text made old (x ∷ xs)
-  pushed fresh_one items items' e =
-      ap (λ zs. zs ++ new_ones current attribute text made new xs) e
-      ∙ (append_assoc items (made x ∷ []) (new_ones current attribute text made new xs) ∙ ap (λ zs. items ++ zs) (sym (more ∙ if_true is_new _ _ fresh_one)))
-
-  pub passed : is_new ≡ false → (items : List Expr) → items ++ new_ones current attribute text made new xs ≡ items ++ new_ones current attribute text made old (x ∷ xs)
-  passed known items = ap (λ zs. items ++ zs) (sym (more ∙ if_false is_new _ _ known))

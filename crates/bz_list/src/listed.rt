@@ -1,10 +1,8 @@
 //! Items that are added to the lists of an attribute, removed from them and moved to another one, and the table of all commands on values.
-ghost use Rattle.std.specs.Prelude.{◌≡◌, ◌⊎◌, ◌++◌, ◌∷◌, [], List, Ok, Err, IfOk, OnOk, IfErr, map, nat_eq, not};
-ghost use Rattle.std.specs.List.{ends_with, filter, flat_map, list_any};
+ghost use Rattle.std.specs.Prelude.{◌≡◌, ◌⊎◌, ◌++◌, ◌∷◌, [], Ok, Err, IfOk, OnOk, IfErr, map, not};
+ghost use Rattle.std.specs.List.{filter, flat_map, list_any};
 ghost use Rattle.bz_grammar.specs.declared.kind.Kind.TheVariants as kinds;
-ghost use Rattle.bz_value.specs.declared.value.Expr.{Expr as Value};
 ghost use Rattle.bz_value.specs.Empty.{is_empty};
-ghost use Rattle.bz_items.specs.Characters.{Bytes};
 ghost use Rattle.bz_rule.specs.Rules.{attribute as value_there};
 ghost use Rattle.bz_rule.specs.Values.{has_kind as is_of, on_items, on_lists};
 ghost use Rattle.bz_attribute.specs.Attributes.{on_first_that};
@@ -12,7 +10,7 @@ ghost use Rattle.bz_attribute.specs.Lists.{fresh, is_item as is_item_of, items_i
 ghost use Rattle.bz_attribute.specs.Made.{string_of as string_made};
 ghost use Rattle.bz_list.specs.Changes.{with_items_added, remove_values, move, values_changed};
 ghost use Rattle.bz_list.specs.private.KnownValues.{knows_word};
-ghost use Rattle.bz_list.specs.private.Listing.{added_by, added_to, chooses, chosen_in, is_item_ending, is_left, new_items, new_strings, put_back, without_chosen};
+ghost use Rattle.bz_list.specs.private.Listing.{added_by, added_to, chooses, chosen_in, is_item_ending, is_left, put_back, without_chosen};
 
 use crate::known::{
     Chosen, Known, insert, is_chosen, items_known, listed, meaning, values_chosen, words_chosen,
@@ -45,31 +43,8 @@ enum Added<'a> {
     Moved(Items<Expr>),
 }
 
-/// Adds the string of a word that is not known yet.
+/// The items that are added to those that are known, each once and as it comes to the attribute.
 #[tactic(auto, using(crate::proofs::AddedItems::one_more))]
-fn push_word(slot: Slot<'_>, word: &[u8], known: &mut Known, items: &mut Vec<Expr>) -> Done
-    ensures { (rest : List Bytes) → OnOk result (items.new.items ++ new_strings slot.entry.current.now slot.entry.attribute.now (knows_word slot.entry.current.now slot.entry.attribute.now known.new) rest
-        ≡ items.old.items ++ new_strings slot.entry.current.now slot.entry.attribute.now (knows_word slot.entry.current.now slot.entry.attribute.now known.old) (word.now ∷ rest)) }
-{
-    if insert(known, slot, Some(word))? {
-        items.push(string_of(slot, word)?)?;
-    }
-    Ok(())
-}
-
-/// Adds an item that is not known yet, as it comes to another attribute.
-fn push_item(slot: Slot<'_>, mut x: Expr, known: &mut Known, items: &mut Vec<Expr>) -> Done
-    ensures { (rest : List Value) → OnOk result (items.new.items ++ new_items slot.entry.current.now slot.entry.attribute.now (knows_word slot.entry.current.now slot.entry.attribute.now known.new) rest
-        ≡ items.old.items ++ new_items slot.entry.current.now slot.entry.attribute.now (knows_word slot.entry.current.now slot.entry.attribute.now known.old) (x ∷ rest)) }
-{
-    if insert(known, slot, body_of(&x))? {
-        Change::Shorten.on_item(slot, &mut x)?;
-        items.push(x)?;
-    }
-    Ok(())
-}
-
-/// The items that are added to those that are known, each once.
 fn added_items(slot: Slot<'_>, added: Added<'_>, mut known: Known) -> Result<Vec<Expr>, Memory>
     ensures { IfOk result (λ items. items.items ≡ added_to slot.entry.current.now slot.entry.attribute.now added.entry (knows_word slot.entry.current.now slot.entry.attribute.now known)) }
 {
@@ -77,12 +52,17 @@ fn added_items(slot: Slot<'_>, added: Added<'_>, mut known: Known) -> Result<Vec
     match added {
         Added::Words(words) => {
             for word in words {
-                push_word(slot, word.as_slice(), &mut known, &mut items)?;
+                if insert(&mut known, slot, Some(word.as_slice()))? {
+                    items.push(string_of(slot, word.as_slice())?)?;
+                }
             }
         }
         Added::Moved(moved) => {
-            for x in moved.into_vec() {
-                push_item(slot, x, &mut known, &mut items)?;
+            for mut x in moved.into_vec() {
+                if insert(&mut known, slot, body_of(&x))? {
+                    Change::Shorten.on_item(slot, &mut x)?;
+                    items.push(x)?;
+                }
             }
         }
     }
@@ -195,25 +175,6 @@ fn add_items(slot: Slot<'_>, added: Added<'_>, mut arguments: Items<Expr>) -> Ch
     Ok(arguments)
 }
 
-/// Puts an item to those that are taken, where the command is meant for it, else to those that are left.
-fn put_apart(
-    slot: Slot<'_>,
-    chosen: &Chosen,
-    x: Expr,
-    left: &mut Vec<Expr>,
-    taken: &mut Vec<Expr>,
-) -> Done
-    ensures left { (rest : List Value) → OnOk result (left.new.items ++ filter (is_left slot.entry.current.now slot.entry.attribute.now chosen.now) rest ≡ left.old.items ++ filter (is_left slot.entry.current.now slot.entry.attribute.now chosen.now) (x ∷ rest)) }
-    ensures taken { (rest : List Value) → OnOk result (taken.new.items ++ filter (chooses slot.entry.current.now slot.entry.attribute.now chosen.now) rest ≡ taken.old.items ++ filter (chooses slot.entry.current.now slot.entry.attribute.now chosen.now) (x ∷ rest)) }
-{
-    if is_chosen(slot, chosen, &x)? {
-        taken.push(x)?;
-    } else {
-        left.push(x)?;
-    }
-    Ok(())
-}
-
 /// Takes the items that the command is meant for.
 fn take_in(slot: Slot<'_>, chosen: &Chosen, items: &mut Items<Expr>, taken: &mut Vec<Expr>) -> Done
     ensures left { OnOk result (items.new ≡ filter (is_left slot.entry.current.now slot.entry.attribute.now chosen.now) items.old) }
@@ -221,7 +182,11 @@ fn take_in(slot: Slot<'_>, chosen: &Chosen, items: &mut Items<Expr>, taken: &mut
 {
     let mut left = Vec::new(slot.alloc);
     for x in mem::replace(items, Items::new(slot.alloc)).into_vec() {
-        put_apart(slot, chosen, x, &mut left, taken)?;
+        if is_chosen(slot, chosen, &x)? {
+            taken.push(x)?;
+        } else {
+            left.push(x)?;
+        }
     }
     *items = Items::from_vec(left);
     Ok(())
