@@ -1,8 +1,8 @@
 -- The sets of the code: the symbols that are loaded already, what is found among them, what they are with one more, and the
 -- symbols that are none of them; and the names that are used.
-use Rattle.std.proofs.Common.{◌≡◌, ◌≤◌, ℕ, length, drop, Bool, true, false, ◌||◌, List, [], ◌∷◌, ◌++◌, refl, sym, ap, ◌∙◌}
-use Rattle.std.specs.Prelude.{bytes_eq, not, Vec}
-use Rattle.std.specs.List.{list_any}
+use Rattle.std.proofs.Common.{◌≡◌, ◌≤◌, ℕ, length, drop, Bool, true, false, ◌||◌, ◌&&◌, List, [], ◌∷◌, ◌++◌, refl, sym, ap, ◌∙◌, arith}
+use Rattle.std.specs.Prelude.{bytes_eq, not, None, Vec}
+use Rattle.std.specs.List.{list_any, position}
 use Rattle.std.proofs.lemmas.Bool.{and_parts, not-false, not-true}
 use Rattle.std.proofs.Math.Path.{fun_ext}
 use Rattle.std.proofs.lemmas.List.{at_drop_all}
@@ -20,7 +20,8 @@ use Rattle.std.specs.BTreeSet.{BTreeSet}
 use Rattle.std.specs.declared.alloc.Global.{Global}
 use Rattle.bz_value.specs.declared.value.Item.{Item}
 use Rattle.bz_rule.proofs.ProperChanges.{by_case}
-use Rattle.bz_load.specs.Loads.{is_symbol, is_loaded}
+use Rattle.bz_attribute.proofs.ArgumentPlaces.{NonePasses, none_later, none_passes}
+use Rattle.bz_load.specs.Loads.{is_symbol, loads_symbol, is_load_from, symbols_of, is_loaded}
 
 pub same_symbol : (one other : Symbol) → is_symbol one other ≡ true → one ≡ other
 same_symbol one other h =
@@ -51,9 +52,22 @@ symbol_inserted old new key other e =
 
 -- ---- the symbols that are not known
 
-pub all_known : (path : Bytes) (items : List Item) (symbols : List Symbol) (keys : List Loaded) → ((other : Symbol) → knows keys other ≡ (is_loaded path items other || knows [] other))
+pub all_known : (path : Bytes) (items : List Item) (symbols : List Symbol) (keys : List Loaded) → ((other : Symbol) → knows keys other ≡ is_loaded path items other)
     → new_symbols (knows keys) symbols ≡ new_symbols (is_loaded path items) symbols
-all_known path items symbols keys h = ap (λ (test : Symbol → Bool). new_symbols test symbols) (fun_ext (λ other. h other ∙ or_none (is_loaded path items other)))
+all_known path items symbols keys h = ap (λ (test : Symbol → Bool). new_symbols test symbols) (fun_ext h)
+
+pub loaded_alone : (path : Bytes) (items : List Item) (keys : List Loaded) (other : Symbol) → knows keys other ≡ (is_loaded path items other || knows [] other) → knows keys other ≡ is_loaded path items other
+loaded_alone path items keys other h = h ∙ or_none (is_loaded path items other)
+
+-- where there is no load from the path none is known
+none_loads : (path : Bytes) (items : List Item) (other : Symbol) → NonePasses (is_load_from path) items → is_loaded path items other ≡ false
+none_loads path [] other h = refl
+none_loads path (item ∷ items) other h =
+    ap (λ z. (z && list_any (loads_symbol other) (symbols_of item)) || is_loaded path items other) (h.all 0 item (omega arith))
+    ∙ none_loads path items other (none_later (is_load_from path) item items h)
+
+pub none_loaded : (path : Bytes) (items : List Item) (other : Symbol) → None ≡ position (is_load_from path) items → knows [] other ≡ is_loaded path items other
+none_loaded path items other none = sym (none_loads path items other (none_passes (is_load_from path) items none))
 
 -- one symbol more, by whether it is new
 module _ (old new : List Loaded) (key : Loaded) (first : Symbol) (same : symbol_of_key key ≡ first)

@@ -87,18 +87,38 @@ fn insert_loads<'a>(path: &[u8], items: &'a [Item], known: &mut Known<'a>) -> Re
     Ok(())
 }
 
+/// The symbols that the items load from the path, of which the first load is at this place: without one none are looked at.
+#[tactic(auto, using(crate::proofs::KnownSteps::none_loaded, crate::proofs::KnownSteps::loaded_alone))]
+fn known_loads<'a>(
+    alloc: Global,
+    path: &[u8],
+    place: Option<usize>,
+    items: &'a [Item],
+) -> Result<Known<'a>, Memory>
+    requires { place ≡ position (is_from path.now) items.now }
+    ensures { (other : Symbol) → IfOk result (λ known. knows known.keys other ≡ is_loaded path.now items.now other) }
+{
+    let mut known = IndexSet::new(alloc);
+    let Some(_) = place else {
+        return Ok(known);
+    };
+    insert_loads(path, items, &mut known)?;
+    Ok(known)
+}
+
 /// New items of a load for the symbols that are not loaded so yet, each once.
 #[tactic(auto, using(crate::proofs::KnownSteps::all_known))]
 fn new_symbols(
     alloc: Global,
     path: &[u8],
     symbols: &[Symbol],
+    place: Option<usize>,
     items: &[Item],
 ) -> Result<Vec<Expr>, Memory>
+    requires { place ≡ position (is_from path.now) items.now }
     ensures { IfOk result (λ made. made.items ≡ map symbol_made (new_symbols (is_loaded path.now items.now) symbols.now)) }
 {
-    let mut known = IndexSet::new(alloc);
-    insert_loads(path, items, &mut known)?;
+    let mut known = known_loads(alloc, path, place, items)?;
     let mut made = Vec::new(alloc);
     for symbol in symbols {
         let (to, from) = (symbol.to.as_slice(), symbol.from.as_slice());
@@ -153,8 +173,9 @@ pub fn new_load(
     ensures same { IfOk result (λ made. IsTrue made.same ↔ (made.items ≡ items)) }
     ensures spliced { IfOk result (λ made. IsSpliced made.at made.gone 1 items made.items) }
 {
-    let mut more = new_symbols(alloc, path, symbols, items.as_slice())?;
-    let Some(at) = place_of_load(path, items.as_slice()) else {
+    let place = place_of_load(path, items.as_slice());
+    let mut more = new_symbols(alloc, path, symbols, place, items.as_slice())?;
+    let Some(at) = place else {
         let load = load_of(alloc, path, &mut more)?;
         let mut all = items.into_vec();
         let at = place_after_loads(all.as_slice(), count_of_blocks(all.as_slice()));

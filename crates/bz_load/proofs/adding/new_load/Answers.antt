@@ -12,6 +12,6 @@ returns-in_default-clause-spliced c =
 
 pub returns-clause-same : goal.returns-clause-same
 returns-clause-same c =
-    same_there c.args.path.now c.args.items (Some c.in-Some.at) c.in-Some.at (c.in-Some.ensures ∙ ap (position (is_load_from c.args.path.now)) c.as_slice-2.ensures) refl
+    same_there c.args.path.now c.args.items c.place_of_load-place.result c.in-Some.at (c.place_of_load-place.ensures ∙ ap (position (is_load_from c.args.path.now)) c.as_slice.ensures) c.in-Some.is
     c.in_ok-more.more.items c.at_mut.result.now c.append_to_item.new.item c.is_empty-same.result c.at_mut.ensures.value c.in_ok-append_to_item.ensures
     (none_counted c.in_ok-more.more.items c.is_empty-same.result (c.is_empty-same.ensures ∙ ap (λ n. n == 0) (omega (arith, c.in_ok-more.more.ok))))
