@@ -2,7 +2,6 @@
 ghost use Rattle.std.specs.Prelude.{◌≡◌, ◌⊎◌, ◌<◌, ◌*◌, Err, IfErr, IfOk, IsOk, IsTrue, None, length, true};
 ghost use Rattle.bz_grammar.specs.Spell.{limit};
 ghost use Rattle.bz_items.specs.Characters.{Bytes};
-ghost use Rattle.bz_comment.specs.Hosts.{comment_made};
 ghost use Rattle.bz_command.specs.Effect.{effect, on_meant, meant};
 ghost use Rattle.bz_command.specs.Overfull.{Overfills, commented, marked_rules};
 
@@ -11,7 +10,6 @@ use crate::targets::{arguments_of, is_any, is_rule, meant};
 use bz_command_syntax::{Command, CommentOperation, Host, Operation};
 use bz_comment::{comment_made, find_host};
 use bz_grammar::LENGTH_LIMIT;
-use bz_items::Memory;
 use bz_label::Target;
 use bz_value::{File, Item, Refusal};
 use std::alloc::Global;
@@ -35,20 +33,6 @@ fn marked_rules(marks: &[bool], items: &[Item]) -> usize
         }
     }
     count
-}
-
-/// Whether a comment on this many rules as a target means is past the limit by its copies. The error: memory was refused.
-fn are_copies_past(
-    alloc: Global,
-    text: &[u8],
-    marks: &[bool],
-    items: &[Item],
-) -> Result<bool, Memory>
-    requires { length marks.now ≡ length items.now }
-    ensures { IfOk result (λ past. IsTrue past → limit < marked_rules marks.now items.now * length (comment_made text.now)) }
-{
-    let comment = comment_made(alloc, text)?;
-    Ok(are_past(marked_rules(marks, items), comment.len()))
 }
 
 /// Whether a comment can be put on a host in an item. The errors: those of putting it there, but for memory.
@@ -106,7 +90,8 @@ pub fn overfills(
     }
     let marks = meant(alloc, &target.which, lines, None, items)?;
     let marked = marks.as_slice();
-    if !is_any(marked) || !are_copies_past(alloc, text.as_slice(), marked, items)? {
+    let comment = comment_made(alloc, text.as_slice())?;
+    if !is_any(marked) || !are_past(marked_rules(marked, items), comment.len()) {
         return Ok(false);
     }
     match find_in_all(current, host, marked, items) {
