@@ -59,6 +59,7 @@ DELETE = "delete"
 COMMENT = "comment deps why\\ not"
 RENAME = "rename deps data"
 PRINT = "print name deps"
+REPLACE = "replace deps :base :other"
 # how many lines a rule takes, with the blank one behind it
 TALL = RULE.count("\n") + 1
 THOUSAND = spread(ADD, 1000, 100)
@@ -95,6 +96,7 @@ LONG = [
     *((f"{count:,} `add` to one list", 1, spread(ADD, count, 1), CHANGED) for count in (1000, 2000)),
     *((f"{count:,} `new_load` of other files", 1, of_file(LOAD, count), CHANGED) for count in (1000, 2000)),
     *((f"{count:,} `print` by `%LINE`", count, by_line(PRINT, count), SAME) for count in (2000, 4000)),
+    *((f"{count:,} `replace` by `%LINE`", count, by_line(REPLACE, count), CHANGED) for count in (1000, 2000)),
     *((f"{count:,} `print`", 400, spread(PRINT, count, 400), SAME) for count in (2000, 4000)),
 ]
 

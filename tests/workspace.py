@@ -283,24 +283,34 @@ def a_usage_fault_leaves_all(w):
 REFUSED_WITHIN = 1 << 30
 
 
+def refuses_within(w, command, text, refusal):
+    """A command on all rules of a file is refused within this memory, and the file stays. What it says of others goes to `wrong`."""
+    (w.path / "d").mkdir(exist_ok=True)
+    (w.path / "d/BUILD").write_bytes(text)
+    limit = (REFUSED_WITHIN, REFUSED_WITHIN)
+    how = {"cwd": w.path, "capture_output": True, "timeout": 60, "preexec_fn": lambda: resource.setrlimit(resource.RLIMIT_AS, limit)}
+    run = subprocess.run([w.program, command, "//d:all"], **how)
+    told = b"buildozer: d/BUILD: %s: %s\n" % (command.encode(), refusal)
+    if (run.returncode, run.stdout, run.stderr) != (2, b"", told) or (w.path / "d/BUILD").read_bytes() != text:
+        w.wrong.append(f"{command[:20]}: {run.returncode}, {run.stderr[-60:]}, and not {refusal}")
+
+
 def copies_of_a_comment_past_the_limit(w):
     """They are counted and not built: 4.5 GB of them are refused within 1 GB. A rule that refuses comes first, also behind many that don't."""
     rules = b"".join(b'f(name = "r%06d", k = [])\n' % number for number in range(75_000))
     long = "c" * 60_000
-    runs = [
-        (f"comment {long}", rules, b"TooLarge (21)"),
-        (f"comment k {long}", rules, b"TooLarge (21)"),
-        (f"comment k {long}", rules + b'f(name = "z")\n', b"NoAttribute (42)"),
-    ]
-    for command, text, refusal in runs:
-        (w.path / "d").mkdir(exist_ok=True)
-        (w.path / "d/BUILD").write_bytes(text)
-        limit = (REFUSED_WITHIN, REFUSED_WITHIN)
-        how = {"cwd": w.path, "capture_output": True, "timeout": 60, "preexec_fn": lambda: resource.setrlimit(resource.RLIMIT_AS, limit)}
-        run = subprocess.run([w.program, command, "//d:all"], **how)
-        told = b"buildozer: d/BUILD: %s: %s\n" % (command.encode(), refusal)
-        if (run.returncode, run.stdout, run.stderr) != (2, b"", told) or (w.path / "d/BUILD").read_bytes() != text:
-            w.wrong.append(f"{command[:20]}: {run.returncode}, {run.stderr[-60:]}, and not {refusal}")
+    refuses_within(w, f"comment {long}", rules, b"TooLarge (21)")
+    refuses_within(w, f"comment k {long}", rules, b"TooLarge (21)")
+    refuses_within(w, f"comment k {long}", rules + b'f(name = "z")\n', b"NoAttribute (42)")
+    return not w.wrong
+
+
+def matches_that_grow_past_the_limit(w):
+    """One string becomes 406 MB long, or a thousand become 700 MB in all: both are refused within 1 GB."""
+    command = "substitute srcs a+ " + "$0" * 14_000
+    refuses_within(w, command, b'f(name = "r", srcs = ["%s"])\n' % (b"a" * 29_000), b"TooLarge (21)")
+    many = b", ".join(b'"%d%s"' % (number, b"a" * 50) for number in range(1000))
+    refuses_within(w, command, b'f(name = "r", srcs = [%s])\n' % many, b"TooLarge (21)")
     return not w.wrong
 
 
@@ -312,6 +322,7 @@ FUNCTIONS = [
     a_hundred_lines, an_unchanged_file_is_not_written, permission_bits_stay, a_closed_folder_is_told, an_unreadable_file_is_told,
     a_folder_for_the_first_name_is_told, a_folder_for_the_second_name_is_told, a_link_becomes_a_file, a_left_file_is_written_over,
     a_file_by_a_second_path_keeps_the_first_edit, a_refused_text_is_told, a_usage_fault_leaves_all, copies_of_a_comment_past_the_limit,
+    matches_that_grow_past_the_limit,
 ]  # fmt: skip
 
 # Each scene by its name; each has a workspace of its own.
