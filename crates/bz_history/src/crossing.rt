@@ -87,8 +87,23 @@ fn cross_each(root: &mut Node, steps: &mut [Step]) -> Result<(), Memory>
     Ok(())
 }
 
-/// Over steps, the first one first. Even ones take no memory. Others are crossed on one copy of the tree and of the steps, which
-/// are then put in place. The error: a growth was refused; tree and steps are then as before.
+/// Over steps, the first one first, on one copy of the tree and of the steps, which are then put in place. The error: a growth was
+/// refused; tree and steps are then as before.
+fn cross_copies(tree: &mut Tree, steps: &mut [Step]) -> Result<(), Memory>
+    requires { LeadOn tree.old steps.old }
+    ensures tree { OnOk result (tree.new ≡ reached tree.old steps.old) }
+    ensures steps { OnOk result (steps.new ≡ crossed tree.old steps.old) }
+    ensures err { OnErr result ((tree.new ≡ tree.old) × (steps.new ≡ steps.old)) }
+{
+    let mut root = tree.root.copy()?;
+    let mut turned = copy_steps(tree.root.parts.alloc(), steps)?;
+    cross_each(&mut root, turned.as_mut_slice())?;
+    *tree = Tree { root };
+    steps.swap_with_slice(turned.as_mut_slice());
+    Ok(())
+}
+
+/// Over steps, the first one first. Even ones take no memory. The error: a growth was refused; tree and steps are then as before.
 fn cross_all(tree: &mut Tree, steps: &mut [Step]) -> Result<(), Memory>
     requires { LeadOn tree.old steps.old }
     ensures tree { OnOk result (tree.new ≡ reached tree.old steps.old) }
@@ -103,12 +118,7 @@ fn cross_all(tree: &mut Tree, steps: &mut [Step]) -> Result<(), Memory>
         cross_even(tree, steps);
         return Ok(());
     }
-    let mut root = tree.root.copy()?;
-    let mut turned = copy_steps(tree.root.parts.alloc(), steps)?;
-    cross_each(&mut root, turned.as_mut_slice())?;
-    *tree = Tree { root };
-    steps.swap_with_slice(turned.as_mut_slice());
-    Ok(())
+    cross_copies(tree, steps)
 }
 
 /// Over the steps of a part of the list, the first one first.

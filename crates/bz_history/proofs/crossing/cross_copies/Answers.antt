@@ -2,7 +2,7 @@ use Rattle.std.proofs.Common.{◌∙◌, subst}
 use Rattle.bz_grammar.specs.declared.tree.Node.{Node}
 use Rattle.bz_history.specs.Trails.{IsTree}
 use Rattle.bz_history.proofs.Turn.{tree_there}
-use Rattle.bz_history.proofs.crossing.cross_all.Goals as goal
+use Rattle.bz_history.proofs.crossing.cross_copies.Goals as goal
 
 pub invariant_of-tree : goal.invariant_of-tree
 invariant_of-tree c =
