@@ -48,7 +48,6 @@ impl Part {
 }
 
 #[cycle(append)]
-#[tactic(auto, using(crate::proofs::Spells::front_of_front))]
 fn append_all(parts: &[Part], out: &mut Vec<u8>) -> Result<(), Memory>
     ensures ok { OnOk result (out.new.items ≡ out.old.items ++ flat_map spell_part parts.now) }
     ensures err { OnErr result (take (length out.old.items) out.new.items ≡ out.old.items) }
