@@ -1,5 +1,5 @@
 -- The lines in front of a part of a legal file are a legal file, and so is what is after them.
-use Rattle.std.proofs.Common.{◌≡◌, ℕ, ◌≤◌, max, true, false, List, [], ◌∷◌, ◌++◌, inl, inr, refl, sym, ap, ◌∙◌, subst, arith, append_assoc}
+use Rattle.std.proofs.Common.{◌≡◌, ℕ, true, List, [], ◌∷◌, ◌++◌, inl, inr, refl, sym, ap, ◌∙◌, subst, arith, append_assoc}
 use Rattle.std.proofs.lemmas.Str.{IsUtf8-nil}
 use Rattle.std.proofs.lemmas.List.{append-nil}
 use Rattle.std.specs.List.{AllByRecursion, flat_map}
@@ -9,15 +9,13 @@ use Rattle.bz_token.specs.Tokens.{IsToken}
 use Rattle.bz_lex.specs.declared.leaf.Leaf.{Leaf}
 use Rattle.bz_lex.specs.Gaps.{nothing}
 use Rattle.bz_lex.specs.Leaves.{spell_leaves, IsCodedLeaf}
-use Rattle.bz_grammar.specs.declared.kind.Kind.{Kind}
 use Rattle.bz_grammar.specs.declared.kind.Kind.TheVariants as k
-use Rattle.bz_grammar.specs.declared.tree.Node.{Node}
 use Rattle.bz_grammar.specs.declared.tree.Part.{Part, Node'}
 use Rattle.bz_grammar.specs.declared.tree.Part.TheVariants as p
-use Rattle.bz_grammar.specs.Spell.{leaves_part, leaves_of, deepest}
+use Rattle.bz_grammar.specs.Spell.{leaves_part}
 use Rattle.bz_grammar.specs.Shapes.{Several, Fits, line, end, tok, done}
 use Rattle.bz_grammar.specs.Spots.{Begins, AtParts, Stands, TokenStands, AreTokens, after_part}
-use Rattle.bz_grammar.specs.Legal.{IsNonterminal, IsFile, Legal, LegalPart}
+use Rattle.bz_grammar.specs.Legal.{IsNonterminal, Legal, LegalPart}
 use Rattle.bz_grammar.specs.Joined.{file_with}
 use Rattle.bz_grammar.specs.Split.{bare_end, LinesSplit}
 use Rattle.bz_grammar.proofs.Spells.{spell_leaves-append}

@@ -48,7 +48,6 @@ impl Part {
 }
 
 #[cycle(append)]
-#[tactic(auto, using(crate::proofs::Spells::front_of_front))]
 fn append_all(parts: &[Part], out: &mut Vec<u8>) -> Result<(), Memory>
     ensures ok { OnOk result (out.new.items ≡ out.old.items ++ flat_map spell_part parts.now) }
     ensures err { OnErr result (take (length out.old.items) out.new.items ≡ out.old.items) }
@@ -146,11 +145,13 @@ impl Node {
 pub fn copy_all(alloc: Global, parts: &[Part]) -> Result<Items<Part>, Memory>
     ensures { IfOk result (λ copied. copied ≡ parts.now) }
 {
-    let mut copied = Items::from_vec(Vec::with_capacity(alloc, parts.len())?);
+    let mut copied = Vec::with_capacity(alloc, parts.len())?;
     for part in parts {
-        copied.push(part.copy()?)?;
+        // there is room: a push that may be refused has a part to drop
+        copied.reserve(1)?;
+        copied.push_reserved(part.copy()?);
     }
-    Ok(copied)
+    Ok(Items::from_vec(copied))
 }
 
 /// A legal tree whose spelling is within the limit. Contracts see it as its root.

@@ -22,10 +22,12 @@ fn drop_all(exprs: Vec<Expr>, depth: usize) {
 
 #[cycle(apart)]
 fn drop_form(form: Form, depth: usize) {
-    if depth > 0 {
-        drop_all(form.parts.into_vec(), depth - 1);
-        drop_all(form.seq.items.into_vec(), depth - 1);
+    if depth == 0 {
+        drop(form);
+        return;
     }
+    drop_all(form.parts.into_vec(), depth - 1);
+    drop_all(form.seq.items.into_vec(), depth - 1);
 }
 
 /// The first of some parts; the others are dropped.
@@ -61,9 +63,11 @@ fn take_statement_apart(x: Expr) {
 /// Drops a file value whose statements may begin with any number of forms, each in the next.
 pub fn take_apart(file: File) {
     let File { items } = file;
-    for item in items.into_vec() {
-        if let Item::Stmt(x) = item {
-            take_statement_apart(x);
+    let mut left = items.into_vec();
+    while let Some(item) = left.pop() {
+        match item {
+            Item::Block(_block) => {}
+            Item::Stmt(x) => take_statement_apart(x),
         }
     }
 }
