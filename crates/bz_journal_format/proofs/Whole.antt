@@ -24,7 +24,7 @@ use Rattle.bz_journal_format.specs.Laws.{IsExact}
 use Rattle.bz_journal_format.specs.Readers.{after_mark, counted_at, digest_at, listed_at, number_at, repeated, tested, up_to, ◌>>=◌}
 use Rattle.bz_journal_format.specs.Spellings.{IsDigest, counted_text, number_limit}
 use Rattle.bz_items.specs.Characters.{line_feed, space}
-use Rattle.bz_journal_format.specs.private.Reading.{digest_line_at, edit_at, entry_at, held_at, is_short_text, lines_at, note_at, record_at}
+use Rattle.bz_journal_format.specs.private.Reading.{digest_line_at, edit_at, entry_at, held_at, is_short_text, counted_lines_at, lines_at, note_at, record_at, record_of}
 use Rattle.bz_journal_format.specs.Texts.{IsEdit, IsNotedStep, IsHeld, IsNote, IsRecord, counts_text, digest_text, edit_text, end_line, entry_text, last_number, lines_text, note_line, part_text, record_text, short_limit, spaced_number, step_limit, version_line}
 
 abbrev IsPath : List ℕ → Type 0
@@ -125,9 +125,6 @@ digest_line_exact : IsExact (List ℕ) digest_text IsDigest digest_line_at
 unfolding digest_line_at
 digest_line_exact = so (λ d. digest_lines (codes "digest ") (encode_lower d) (line_feed ∷ [])) (λ d h. h) (λ d h. h) (mark_exact (codes "digest ") _ _ digest_at digest_exact)
 
-abbrev record_of : List ℕ → List ℕ → ℕ → ℕ → List (List ℕ) → List RecordedStep → Record
-record_of name text cursor before digests steps = record { «package» = name; text = text; cursor = cursor; before = before; digests = digests; steps = steps }
-
 abbrev UpTo : ℕ → ℕ → Type 0
 UpTo limit n = (n < number_limit) × (nat_le n limit ≡ true)
 
@@ -195,9 +192,10 @@ module _ (v : Version) (depth : ℕ) where
       then_exact (λ r. length r.steps) spaced_number (UpTo step_limit) (up_to step_limit space) (λ r. codes "now " ++ A4 r) (λ n r. R4 name text n r) (λ n s. after_mark (codes "now ") s >>= λ now. up_to n space now >>= λ cursor. after_mark (codes "before ") cursor.1 >>= λ was. up_to n line_feed was >>= λ before. repeated digest_line_at (n + 1) before.1 >>= λ digests. repeated (entry_at v depth) n digests.1 >>= λ steps. Some (record_of name text cursor.0 before.0 digests.0 steps.0, steps.1))
       (λ n r h. h.1.1.1.0.0) (up_to_exact space refl step_limit) (λ n. mark_exact (codes "now ") A4 (R4 name text n) _ (cursor_part name text n))
 
-  text_part : (name : List ℕ) → IsExact Record A6 (R6 name) (λ s. counted_at line_feed s >>= λ text. after_mark (codes "\nsteps ") text.1 >>= λ third. up_to step_limit space third >>= λ count. after_mark (codes "now ") count.1 >>= λ now. up_to count.0 space now >>= λ cursor. after_mark (codes "before ") cursor.1 >>= λ was. up_to count.0 line_feed was >>= λ before. repeated digest_line_at (count.0 + 1) before.1 >>= λ digests. repeated (entry_at v depth) count.0 digests.1 >>= λ steps. Some (record_of name text.0 cursor.0 before.0 digests.0 steps.0, steps.1))
+  text_part : (name : List ℕ) → IsExact Record A6 (R6 name) (λ s. counted_at line_feed s >>= λ text. counted_lines_at v depth name text.0 text.1)
+  unfolding counted_lines_at
   text_part name =
-      then_exact (λ r. r.text) (counted_text line_feed) (λ t. length t < number_limit) (counted_at line_feed) (λ r. codes "\nsteps " ++ A5 r) (λ text r. R5 name text r) (λ text s. after_mark (codes "\nsteps ") s >>= λ third. up_to step_limit space third >>= λ count. after_mark (codes "now ") count.1 >>= λ now. up_to count.0 space now >>= λ cursor. after_mark (codes "before ") cursor.1 >>= λ was. up_to count.0 line_feed was >>= λ before. repeated digest_line_at (count.0 + 1) before.1 >>= λ digests. repeated (entry_at v depth) count.0 digests.1 >>= λ steps. Some (record_of name text cursor.0 before.0 digests.0 steps.0, steps.1))
+      then_exact (λ r. r.text) (counted_text line_feed) (λ t. length t < number_limit) (counted_at line_feed) (λ r. codes "\nsteps " ++ A5 r) (λ text r. R5 name text r) (counted_lines_at v depth name)
       (λ text r h. ap (λ y. y.text) h.1.1.1.1.1) (counted_exact line_feed refl) (λ text. mark_exact (codes "\nsteps ") A5 (R5 name text) _ (count_part name text))
 
   fits : (r : Record) → IsName r.package × R6 r.package r → IsRecord v depth r
@@ -229,7 +227,7 @@ module _ (v : Version) (depth : ℕ) where
   pub lines_exact : IsExact Record (lines_text v) (IsRecord v depth) (lines_at v depth)
   unfolding lines_at
   lines_exact =
-      let names = then_exact (λ r. r.package) (counted_text space) IsName (tested is_short_text (counted_at space)) (λ r. codes "\ntext " ++ A6 r) R6 (λ name s. after_mark (codes "\ntext ") s >>= λ second. counted_at line_feed second >>= λ text. after_mark (codes "\nsteps ") text.1 >>= λ third. up_to step_limit space third >>= λ count. after_mark (codes "now ") count.1 >>= λ now. up_to count.0 space now >>= λ cursor. after_mark (codes "before ") cursor.1 >>= λ was. up_to count.0 line_feed was >>= λ before. repeated digest_line_at (count.0 + 1) before.1 >>= λ digests. repeated (entry_at v depth) count.0 digests.1 >>= λ steps. Some (record_of name text.0 cursor.0 before.0 digests.0 steps.0, steps.1))
+      let names = then_exact (λ r. r.package) (counted_text space) IsName (tested is_short_text (counted_at space)) (λ r. codes "\ntext " ++ A6 r) R6 (λ name s. after_mark (codes "\ntext ") s >>= λ second. counted_at line_feed second >>= λ text. counted_lines_at v depth name text.0 text.1)
       (λ name r h. ap (λ y. y.package) h.1.1.1.1.1.1) (tested_exact is_short_text (counted_text space) (λ t. length t < number_limit) (counted_at space) (counted_exact space refl)) (λ name. mark_exact (codes "\ntext ") A6 (R6 name) _ (text_part name)) in
       so (λ r. whole_lines (version_line v) (codes "package ") (counted_text space r.package) (line_feed ∷ []) (codes "text ") (counted_text line_feed r.text) (codes "steps ") (spaced_number (length r.steps)) (codes "now ") (spaced_number r.cursor) (codes "before ") (last_number r.before) (flat_map digest_text r.digests) (flat_map (entry_text v) r.steps))
       fits fitting (mark_exact (version_line v) _ _ _ (mark_exact (codes "package ") _ _ _ names))

@@ -53,6 +53,9 @@ module _ (standing journal : Text) (stored : List ℕ) (file : Text) (text : Lis
 pub never_err : {T E : Type 0} (x : T) (y : E) → IsErrOf {T = T} {E = E} (Ok x) y → ⊥
 never_err x y is = cc
 
+pub same_err : {T E : Type 0} {x y : E} → IsErrOf {T = T} {E = E} (Err x) y → x ≡ y
+same_err is = cc
+
 module _ {T : Type 0} where
   -- the errors of what keeps both
   abbrev IsKept : Result T PairFault → Type 0

@@ -1,5 +1,5 @@
 //! A file and its journal, replaced so that a stop at any moment leaves a pair that goes on.
-ghost use Rattle.std.specs.Prelude.{◌≡◌, ◌≢◌, ◌⊎◌, ◌≤◌, List, true, Some, IfOk, IfErr, OnOk, IsOk, IsErrOf, string_bytes};
+ghost use Rattle.std.specs.Prelude.{◌≡◌, ◌≢◌, ◌⊎◌, ◌≤◌, ◌↔◌, List, true, Some, IfOk, IfErr, OnOk, IsOk, IsErrOf, string_bytes};
 ghost use Rattle.std.specs.FinMap.{get};
 ghost use Rattle.bz_files.specs.Folder.{Folder, SameBut, Elapses};
 ghost use Rattle.bz_files.specs.Faults.{Rises};
@@ -31,6 +31,33 @@ pub fn journal_name(alloc: Global, file: &str) -> Result<String, Memory>
     format!(in alloc; "{file}.journal")
 }
 
+// Compares what was read of a file with the text that it is to hold. The error, `Changed`: it is another.
+fn compare(read: &[u8], standing: &[u8]) -> Result<(), PairFault>
+    ensures ok { OnOk result (read.now ≡ standing.now) }
+    ensures changed { IsErrOf result PairFault.Changed → read.now ≡ standing.now → ⊥ }
+    ensures kinds { IfErr result (λ fault. fault ≢ PairFault.Write) }
+    ensures no_open { IsErrOf result PairFault.Open → ⊥ }
+{
+    if read == standing {
+        return Ok(());
+    }
+    Err(PairFault::Changed)
+}
+
+// What a fault of a read is to the pair.
+fn fault_of(fault: FileFault) -> PairFault
+    ensures changed { result ≡ PairFault.Changed → fault ≡ FileFault.Absent }
+    ensures open { (result ≡ PairFault.Open) ↔ (fault ≡ FileFault.Open) }
+    ensures kind { result ≢ PairFault.Write }
+{
+    match fault {
+        FileFault::Absent => PairFault::Changed,
+        FileFault::Open => PairFault::Open,
+        FileFault::Write => PairFault::Memory,
+        FileFault::Memory => PairFault::Memory,
+    }
+}
+
 // Reads a file, which is to hold this text: of a longer one no more than the byte that shows it. Errors: `Changed`: it holds another or
 // isn't there; `Open`: it could not be read; `Memory`: a growth was refused.
 fn check_file<F: Files>(
@@ -51,11 +78,8 @@ fn check_file<F: Files>(
 {
     let mut held = Vec::new(alloc);
     match files.read_most(file, standing.len() + 1, &mut held) {
-        Ok(()) if held.as_slice() == standing => Ok(()),
-        Ok(()) => Err(PairFault::Changed),
-        Err(FileFault::Absent) => Err(PairFault::Changed),
-        Err(FileFault::Open) => Err(PairFault::Open),
-        Err(_) => Err(PairFault::Memory),
+        Ok(()) => compare(held.as_slice(), standing),
+        Err(fault) => Err(fault_of(fault)),
     }
 }
 

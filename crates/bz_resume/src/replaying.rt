@@ -140,31 +140,41 @@ fn place_taken(way: Way, i: usize, count: usize) -> usize
     }
 }
 
-/// Whether the steps, taken this way, lead from a tree to texts with these digests. The error: a growth was refused.
-fn lead(way: Way, tree: Tree, steps: &[Step], digests: &[[u8; 32]]) -> Result<bool, Memory>
-    requires { length steps.now ≡ length digests.now }
-    ensures { IfOk result (λ agrees. IsTrue agrees ↔ StepsAgree tree (as_taken way steps.now) (as_taken way digests.now)) }
+/// Whether the steps, taken this way, lead from a tree with this text to texts with these digests; what the tree and the text are
+/// then is not said. The error: a growth was refused.
+fn lead_on(
+    way: Way,
+    node: &mut Node,
+    text: &mut Vec<u8>,
+    steps: &[Step],
+    digests: &[[u8; 32]],
+) -> Result<bool, Memory>
+    requires tree { IsTree node.old }
+    requires text { text.old.items ≡ spell_node node.old }
+    requires same { length steps.now ≡ length digests.now }
+    ensures { IfOk result (λ agrees. IsTrue agrees ↔ StepsAgree node.old (as_taken way steps.now) (as_taken way digests.now)) }
 {
     let count = steps.len();
-    let alloc = tree.root.parts.alloc();
-    let mut text = Vec::new(alloc);
-    tree.spell_into(&mut text)?;
-    let mut next = Vec::new(alloc);
-    let Tree { root } = tree;
-    let mut node = root;
+    let mut next = Vec::new(node.parts.alloc());
     for i in 0..count {
         let place = place_taken(way, i, count);
-        if !goes_on(
-            &mut node,
-            &mut text,
-            &mut next,
-            &steps[place],
-            &digests[place],
-        )? {
+        if !goes_on(node, text, &mut next, &steps[place], &digests[place])? {
             return Ok(false);
         }
     }
     Ok(true)
+}
+
+/// The same from a tree.
+fn lead(way: Way, tree: Tree, steps: &[Step], digests: &[[u8; 32]]) -> Result<bool, Memory>
+    requires { length steps.now ≡ length digests.now }
+    ensures { IfOk result (λ agrees. IsTrue agrees ↔ StepsAgree tree (as_taken way steps.now) (as_taken way digests.now)) }
+{
+    let mut text = Vec::new(tree.root.parts.alloc());
+    tree.spell_into(&mut text)?;
+    let Tree { root } = tree;
+    let mut node = root;
+    lead_on(way, &mut node, &mut text, steps, digests)
 }
 
 /// Whether the steps, taken this way, lead from the tree of a text to texts with these digests. The tree is read here and used up,

@@ -48,10 +48,11 @@ pub(crate) fn split(
     let mut notes = Vec::new(alloc);
     let mut steps = Vec::new(alloc);
     'entries: for entry in entries {
+        notes.reserve(1)?;
+        steps.reserve(1)?;
         let RecordedStep { note, edits } = entry;
-        let step = step_of(edits)?;
-        notes.push(note)?;
-        steps.push(step)?;
+        notes.push_reserved(note);
+        steps.push_reserved(step_of(edits)?);
     }
     Ok((notes, steps))
 }

@@ -114,14 +114,13 @@ digest_line_at s = do
 
 -- ---- all lines but the last
 
-unfoldable pub lines_at : Version → ℕ → Reader Record
-lines_at v depth s = do
-  first ← after_mark (version_line v) s
-  begun ← after_mark (codes "package ") first
-  name ← tested is_short_text (counted_at space) begun
-  second ← after_mark (codes "\ntext ") name.1
-  text ← counted_at line_feed second
-  third ← after_mark (codes "\nsteps ") text.1
+abbrev pub record_of : List ℕ → List ℕ → ℕ → ℕ → List (List ℕ) → List RecordedStep → Record
+record_of name text cursor before digests steps = record { «package» = name; text = text; cursor = cursor; before = before; digests = digests; steps = steps }
+
+-- the lines after those of the texts
+unfoldable pub counted_lines_at : Version → ℕ → List ℕ → List ℕ → Reader Record
+counted_lines_at v depth name text s = do
+  third ← after_mark (codes "\nsteps ") s
   count ← up_to step_limit space third
   now ← after_mark (codes "now ") count.1
   cursor ← up_to count.0 space now
@@ -129,7 +128,16 @@ lines_at v depth s = do
   before ← up_to count.0 line_feed was
   digests ← repeated digest_line_at (count.0 + 1) before.1
   steps ← repeated (entry_at v depth) count.0 digests.1
-  Some (record { «package» = name.0; text = text.0; cursor = cursor.0; before = before.0; digests = digests.0; steps = steps.0 }, steps.1)
+  Some (record_of name text cursor.0 before.0 digests.0 steps.0, steps.1)
+
+unfoldable pub lines_at : Version → ℕ → Reader Record
+lines_at v depth s = do
+  first ← after_mark (version_line v) s
+  begun ← after_mark (codes "package ") first
+  name ← tested is_short_text (counted_at space) begun
+  second ← after_mark (codes "\ntext ") name.1
+  text ← counted_at line_feed second
+  counted_lines_at v depth name.0 text.0 text.1
 
 -- the whole of the bytes: the last line is that of all lines before it
 unfoldable pub record_at : Version → ℕ → List ℕ → Option Record

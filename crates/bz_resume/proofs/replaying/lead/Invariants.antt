@@ -1,6 +1,0 @@
-use Rattle.bz_resume.specs.private.Agreement.{as_taken}
-use Rattle.bz_resume.proofs.Loops.{IsGoing}
-use Rattle.bz_resume.proofs.replaying.lead.Given as goal
-
-abbrev pub invariant-loop-i : goal.invariant-loop-i
-invariant-loop-i l = IsGoing l.fn.tree (as_taken l.fn.way l.fn.steps) (as_taken l.fn.way l.fn.digests) l.i l.node l.text.items
