@@ -16,7 +16,7 @@ use std::slice;
 pub fn has_kind(kind: Kind, x: &Expr) -> bool
     ensures { result ≡ is_of kind x.now }
 {
-    matches!(x, Expr::Form(form) if form.kind == kind)
+    matches!(x, Expr::Form(form) if form.kind.number() == kind.number())
 }
 
 /// Where the first expression of this kind is.
