@@ -71,6 +71,8 @@ pub fn quoted(alloc: Global, word: &[u8]) -> Result<Text, Memory>
     ensures plain { list_any is_escaped word.now ≡ false → IfOk result (λ text. text ≡ quotation_mark ∷ word.now ++ quotation_mark ∷ []) }
 {
     let mut text = Vec::new(alloc);
+    // As much as a word without escapes takes: one that grew by doubling would keep twice of it.
+    text.reserve(word.len().saturating_add(2))?;
     text.push(b'"')?;
     for byte in word {
         push_escaped(&mut text, *byte)?;

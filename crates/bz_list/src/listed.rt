@@ -1,16 +1,16 @@
 //! Items that are added to the lists of an attribute, removed from them and moved to another one, and the table of all commands on values.
-ghost use Rattle.std.specs.Prelude.{◌≡◌, ◌⊎◌, ◌++◌, ◌∷◌, [], Ok, Err, IfOk, OnOk, IfErr, map, not};
+ghost use Rattle.std.specs.Prelude.{◌≡◌, ◌⊎◌, ◌&&◌, ◌++◌, ◌∷◌, [], ℕ, List, Ok, Err, IfOk, OnOk, IfErr, map, not};
 ghost use Rattle.std.specs.List.{filter, flat_map, list_any};
 ghost use Rattle.bz_grammar.specs.declared.kind.Kind.TheVariants as kinds;
 ghost use Rattle.bz_value.specs.Empty.{is_empty};
 ghost use Rattle.bz_rule.specs.Rules.{attribute as value_there};
 ghost use Rattle.bz_rule.specs.Values.{has_kind as is_of, on_items, on_lists};
 ghost use Rattle.bz_attribute.specs.Attributes.{on_first_that};
-ghost use Rattle.bz_attribute.specs.Lists.{fresh, is_item as is_item_of, items_in, listed as as_listed, with_more};
+ghost use Rattle.bz_attribute.specs.Lists.{fresh, has_lists as has_lists_in, is_item as is_item_of, is_no_list as is_no_list_there, items_in, listed as as_listed, with_more};
 ghost use Rattle.bz_attribute.specs.Made.{string_of as string_made};
 ghost use Rattle.bz_list.specs.Changes.{with_items_added, remove_values, move, values_changed};
 ghost use Rattle.bz_list.specs.private.KnownValues.{knows_word};
-ghost use Rattle.bz_list.specs.private.Listing.{added_by, added_to, chooses, chosen_in, is_item_ending, is_left, put_back, without_chosen};
+ghost use Rattle.bz_list.specs.private.Listing.{added_by, added_to, chooses, chosen_in, is_item_ending, is_left, new_items, new_strings, put_back, value_with, without_chosen};
 
 use crate::known::{
     Chosen, Known, insert, is_chosen, items_known, listed, meaning, values_chosen, words_chosen,
@@ -43,8 +43,35 @@ enum Added<'a> {
     Moved(Items<Expr>),
 }
 
-/// The items that are added to those that are known, each once and as it comes to the attribute.
+/// Puts the string of a word after the others, unless the word is known.
 #[tactic(auto, using(crate::proofs::AddedItems::one_more))]
+fn push_string(slot: Slot<'_>, word: &[u8], known: &mut Known, items: &mut Vec<Expr>) -> Done
+    ensures { (rest : List (List ℕ)) → OnOk result (items.new.items ++ new_strings slot.entry.current.now slot.entry.attribute.now (knows_word slot.entry.current.now slot.entry.attribute.now known.new) rest ≡ items.old.items ++ new_strings slot.entry.current.now slot.entry.attribute.now (knows_word slot.entry.current.now slot.entry.attribute.now known.old) (word.now ∷ rest)) }
+{
+    items.reserve(1)?;
+    if !insert(known, slot, Some(word))? {
+        return Ok(());
+    }
+    items.push_reserved(string_of(slot, word)?);
+    Ok(())
+}
+
+/// Puts an item after the others as it comes to the attribute, unless it is known.
+#[tactic(auto, using(crate::proofs::AddedItems::one_more))]
+fn push_moved(slot: Slot<'_>, mut x: Expr, known: &mut Known, items: &mut Vec<Expr>) -> Done
+    ensures { (rest : List Expr) → OnOk result (items.new.items ++ new_items slot.entry.current.now slot.entry.attribute.now (knows_word slot.entry.current.now slot.entry.attribute.now known.new) rest ≡ items.old.items ++ new_items slot.entry.current.now slot.entry.attribute.now (knows_word slot.entry.current.now slot.entry.attribute.now known.old) (x ∷ rest)) }
+{
+    items.reserve(1)?;
+    if !insert(known, slot, body_of(&x))? {
+        drop(x);
+        return Ok(());
+    }
+    Change::Shorten.on_item(slot, &mut x)?;
+    items.push_reserved(x);
+    Ok(())
+}
+
+/// The items that are added to those that are known, each once and as it comes to the attribute.
 fn added_items(slot: Slot<'_>, added: Added<'_>, mut known: Known) -> Result<Vec<Expr>, Memory>
     ensures { IfOk result (λ items. items.items ≡ added_to slot.entry.current.now slot.entry.attribute.now added.entry (knows_word slot.entry.current.now slot.entry.attribute.now known)) }
 {
@@ -52,17 +79,12 @@ fn added_items(slot: Slot<'_>, added: Added<'_>, mut known: Known) -> Result<Vec
     match added {
         Added::Words(words) => {
             for word in words {
-                if insert(&mut known, slot, Some(word.as_slice()))? {
-                    items.push(string_of(slot, word.as_slice())?)?;
-                }
+                push_string(slot, word.as_slice(), &mut known, &mut items)?;
             }
         }
         Added::Moved(moved) => {
-            for mut x in moved.into_vec() {
-                if insert(&mut known, slot, body_of(&x))? {
-                    Change::Shorten.on_item(slot, &mut x)?;
-                    items.push(x)?;
-                }
+            for x in moved.into_vec() {
+                push_moved(slot, x, &mut known, &mut items)?;
             }
         }
     }
@@ -147,30 +169,45 @@ fn append_to_value(more: &mut Vec<Expr>, value: &mut Expr) -> Done
     }
 }
 
-/// Adds items to the end of the first list of an attribute. A value that is no list becomes a sum with a new one.
-#[tactic(auto, using(crate::proofs::ListedForms::added_found, crate::proofs::ListedForms::no_items))]
+/// A value with items at the end of its first list; one that is no list becomes a sum with a new one.
+#[tactic(auto, using(crate::proofs::ListedForms::no_items))]
+fn grown(slot: Slot<'_>, mut more: Vec<Expr>, mut value: Expr) -> Result<Expr, Memory>
+    ensures { (added : List Expr → List Expr) → more.items ≡ added (items_in value) → IfOk result (λ new. new ≡ value_with added value) }
+{
+    if has_lists(&value) {
+        append_to_value(&mut more, &mut value)?;
+        return Ok(value);
+    }
+    let list = list_of(slot.alloc, Items::from_vec(more));
+    let sum = plus(slot.alloc, value, list)?;
+    Ok(sum)
+}
+
+/// Whether a value takes no items.
+fn is_refused(value: &Expr) -> bool
+    ensures { result ≡ (not (has_lists_in value.now) && is_no_list_there value.now) }
+{
+    !has_lists(value) && is_no_list(value)
+}
+
+/// Adds items to an attribute.
+#[tactic(auto, using(crate::proofs::ListedForms::added_found))]
 fn add_items(slot: Slot<'_>, added: Added<'_>, mut arguments: Items<Expr>) -> Changed
     ensures ok { IfOk result (λ new. with_items_added slot.entry.attribute.now (added_by slot.entry.current.now slot.entry.attribute.now added.entry) arguments ≡ Ok new) }
     ensures err { IfErr result (λ refusal. (with_items_added slot.entry.attribute.now (added_by slot.entry.current.now slot.entry.attribute.now added.entry) arguments ≡ Err refusal) ⊎ (refusal ≡ Refusal.Memory)) }
 {
-    let Some(mut value) = take_value(slot.alloc, slot.attribute, &mut arguments) else {
+    let Some(value) = take_value(slot.alloc, slot.attribute, &mut arguments) else {
         let items = added_beside(slot, added, &[])?;
         let list = list_of(slot.alloc, Items::from_vec(items));
         add_attribute(slot.alloc, slot.attribute, list, &mut arguments)?;
         return Ok(arguments);
     };
-    if !has_lists(&value) && is_no_list(&value) {
+    if is_refused(&value) {
         drop(value);
         return Err(Refusal::NotAList);
     }
-    let mut more = added_beside(slot, added, operands_of(&value))?;
-    if !has_lists(&value) {
-        let list = list_of(slot.alloc, Items::from_vec(more));
-        let sum = plus(slot.alloc, value, list)?;
-        set_value(slot.attribute, sum, &mut arguments);
-        return Ok(arguments);
-    }
-    append_to_value(&mut more, &mut value)?;
+    let more = added_beside(slot, added, operands_of(&value))?;
+    let value = grown(slot, more, value)?;
     set_value(slot.attribute, value, &mut arguments);
     Ok(arguments)
 }

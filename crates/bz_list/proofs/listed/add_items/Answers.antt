@@ -1,0 +1,21 @@
+use Rattle.std.proofs.Common.{◌≡◌, List, sym, ap, ◌∙◌, rules}
+use Rattle.std.specs.Prelude.{Some, Ok, Err}
+use Rattle.bz_value.specs.declared.value.Expr.{Expr}
+use Rattle.bz_value.specs.declared.refusal.Refusal.TheVariants.{NotAList}
+use Rattle.bz_rule.specs.Rules.{attribute}
+use Rattle.bz_attribute.specs.Attributes.{with_value}
+use Rattle.bz_attribute.proofs.FormsAgain.{if_false}
+use Rattle.bz_list.specs.private.Listing.{added_by}
+use Rattle.bz_list.proofs.ListedForms.{added_found}
+use Rattle.bz_list.proofs.listed.add_items.Goals as goal
+
+pub returns-clause-ok : goal.returns-clause-ok
+returns-clause-ok c =
+    let name = c.args.slot.attribute.now in
+    let value = c.in-Some.value in
+    let added : List Expr → List Expr = added_by c.args.slot.current.now name c.args.added in
+    let own : attribute name c.args.arguments ≡ Some value = search rules in
+    added_found name added c.args.arguments value own
+    ∙ (if_false _ (Err NotAList) _ (sym c.if-is_refused.ensures)
+    ∙ ap Ok (sym (c.set_value.ensures
+    ∙ (ap (λ (x : Expr). with_value name x c.take_value.new.arguments) (c.in_ok-value.ensures added (c.in_ok-more.ensures ∙ ap added c.operands_of.ensures)) ∙ c.in-Some.ensures.place _))))
