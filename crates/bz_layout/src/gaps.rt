@@ -73,6 +73,39 @@ pub fn push_after(out: &mut Vec<u8>, suffix: Option<&Text>) -> Result<(), Memory
     Ok(())
 }
 
+/// The gap before an item on lines of its own: the suffix of the item before it, a new line at a margin, and its comments. The error: a
+/// growth was refused.
+pub fn gap_above(
+    alloc: Global,
+    suffix: Option<&Text>,
+    texts: &[Text],
+    margin: usize,
+) -> Result<Gap, Memory>
+    ensures { IfOk result (λ gap. gap ≡ suffix_text (option_copied suffix.entry) ++ (new_line_at margin ++ margin_lines margin texts.now)) }
+{
+    let mut out = Vec::new(alloc);
+    push_after(&mut out, suffix)?;
+    push_new_line(&mut out, margin)?;
+    push_above(&mut out, texts, margin)?;
+    gap_from(alloc, out)
+}
+
+/// The gap before the closing bracket of a broken sequence: the suffix of its last item, its end comments, and the line of the
+/// bracket at a margin. The error: a growth was refused.
+pub fn gap_ended(
+    alloc: Global,
+    suffix: Option<&Text>,
+    texts: &[Text],
+    margin: usize,
+) -> Result<Gap, Memory>
+    ensures { IfOk result (λ gap. gap ≡ suffix_text (option_copied suffix.entry) ++ ended margin texts.now) }
+{
+    let mut out = Vec::new(alloc);
+    push_after(&mut out, suffix)?;
+    push_ended(&mut out, texts, margin)?;
+    gap_from(alloc, out)
+}
+
 /// Appends comment lines, each with its newline. The error: a growth was refused.
 pub fn push_comments(out: &mut Vec<u8>, texts: &[Text]) -> Result<(), Memory>
     ensures { OnOk result (out.new.items ≡ out.old.items ++ comment_lines texts.now) }
