@@ -15,7 +15,7 @@ use Rattle.bz_value.specs.Frames.{Frame, row, sequence, frame}
 use Rattle.bz_value.specs.Proper.{comments_of}
 use Rattle.bz_layout.specs.declared.brackets.Brackets.{Brackets}
 use Rattle.bz_layout.specs.private.Brackets.{brackets_of}
-use Rattle.bz_layout.specs.Layout.{Piece, mark, part, new_line_at, margin_lines, ended, suffix_text, stacked, joined, rowed, headed, laid_in, is_broken, is_tuple, gap_after, margin_after, firsts}
+use Rattle.bz_layout.specs.Layout.{Piece, mark, new_line_at, margin_lines, suffix_text, stacked, joined, rowed, headed, laid_in, is_broken, is_tuple, gap_after, margin_after, firsts}
 use Rattle.bz_value.specs.Empty.{is_empty}
 use Rattle.bz_layout.specs.LaidOut.{piece_part, part_of, parts_in, layouts, laid_out_body, comma_after, own_lines, left_gap, before_next, lines_from}
 
@@ -31,7 +31,7 @@ joined_first m gap closer one x xs =
     let more : List (Piece (Bytes → ℕ → Part)) = joined m (space ∷ []) closer false (layouts xs) in
     ap (λ b. part_of x gap m ∷ map piece_part (comma_after b one ++ more)) (empty_layouts xs) ∙ ap (λ ps. part_of x gap m ∷ ps) (map-append piece_part (comma_after (is_empty xs) one) more)
 
-pub joined_next : (parts : List Part) (m : ℕ) (gap : Bytes) (closer : ℕ) (one : Bool) (xs : List Expr) (k : ℕ) (d : Expr) → k < length xs →
+joined_next : (parts : List Part) (m : ℕ) (gap : Bytes) (closer : ℕ) (one : Bool) (xs : List Expr) (k : ℕ) (d : Expr) → k < length xs →
     parts ++ map piece_part (joined m gap closer one (layouts (drop k xs))) ≡
     ((parts ++ part_of (get_or xs k d) gap m ∷ []) ++ map piece_part (comma_after (is_empty (drop (k + 1) xs)) one)) ++ map piece_part (joined m (space ∷ []) closer false (layouts (drop (k + 1) xs)))
 joined_next parts m gap closer one xs k d h =

@@ -150,7 +150,6 @@ fn push_comma(
 
 /// Items joined by a comma and a space; after a lone item a comma where it is to have one.
 #[cycle(lay_out)]
-#[tactic(auto, using(crate::proofs::Loops::joined_next))]
 fn lay_out_joined(
     alloc: Global,
     items: &[Expr],
