@@ -1,8 +1,8 @@
-//! Gaps: lines at a margin, comments above, after and below.
+//! Gaps: lines at a margin, suffixes and comments.
 ghost use Rattle.std.specs.Prelude.{◌≡◌, ◌++◌, ◌+◌, replicate, OnOk, IfOk};
 ghost use Rattle.std.specs.Option.{option_copied};
 ghost use Rattle.bz_items.specs.Characters.{space};
-ghost use Rattle.bz_layout.specs.Layout.{new_line_at, margin_lines, suffix_text, ended};
+ghost use Rattle.bz_layout.specs.Layout.{new_line_at, suffix_text};
 ghost use Rattle.bz_layout.specs.Written.{comment_lines};
 
 use bz_items::{Gap, Memory, Text};
@@ -39,29 +39,6 @@ pub fn push_new_line(out: &mut Vec<u8>, margin: usize) -> Result<(), Memory>
     push_margin(out, margin)
 }
 
-/// Appends comments, each on its own line at the margin, above an item.
-pub fn push_above(out: &mut Vec<u8>, texts: &[Text], margin: usize) -> Result<(), Memory>
-    ensures { OnOk result (out.new.items ≡ out.old.items ++ margin_lines margin texts.now) }
-{
-    for text in texts {
-        out.extend_from_slice(text.as_slice())?;
-        push_new_line(out, margin)?;
-    }
-    Ok(())
-}
-
-/// Appends the end comments of a sequence, and the line of its closing bracket at the margin.
-pub fn push_ended(out: &mut Vec<u8>, texts: &[Text], margin: usize) -> Result<(), Memory>
-    ensures { OnOk result (out.new.items ≡ out.old.items ++ ended margin texts.now) }
-{
-    let inner = deeper_margin(margin)?;
-    for text in texts {
-        push_new_line(out, inner)?;
-        out.extend_from_slice(text.as_slice())?;
-    }
-    push_new_line(out, margin)
-}
-
 /// Appends a suffix after two spaces. The error: a growth was refused.
 pub fn push_after(out: &mut Vec<u8>, suffix: Option<&Text>) -> Result<(), Memory>
     ensures { OnOk result (out.new.items ≡ out.old.items ++ suffix_text (option_copied suffix.entry)) }
@@ -71,39 +48,6 @@ pub fn push_after(out: &mut Vec<u8>, suffix: Option<&Text>) -> Result<(), Memory
         out.extend_from_slice(text.as_slice())?;
     }
     Ok(())
-}
-
-/// The gap before an item on lines of its own: the suffix of the item before it, a new line at a margin, and its comments. The error: a
-/// growth was refused.
-pub fn gap_above(
-    alloc: Global,
-    suffix: Option<&Text>,
-    texts: &[Text],
-    margin: usize,
-) -> Result<Gap, Memory>
-    ensures { IfOk result (λ gap. gap ≡ suffix_text (option_copied suffix.entry) ++ (new_line_at margin ++ margin_lines margin texts.now)) }
-{
-    let mut out = Vec::new(alloc);
-    push_after(&mut out, suffix)?;
-    push_new_line(&mut out, margin)?;
-    push_above(&mut out, texts, margin)?;
-    gap_from(alloc, out)
-}
-
-/// The gap before the closing bracket of a broken sequence: the suffix of its last item, its end comments, and the line of the
-/// bracket at a margin. The error: a growth was refused.
-pub fn gap_ended(
-    alloc: Global,
-    suffix: Option<&Text>,
-    texts: &[Text],
-    margin: usize,
-) -> Result<Gap, Memory>
-    ensures { IfOk result (λ gap. gap ≡ suffix_text (option_copied suffix.entry) ++ ended margin texts.now) }
-{
-    let mut out = Vec::new(alloc);
-    push_after(&mut out, suffix)?;
-    push_ended(&mut out, texts, margin)?;
-    gap_from(alloc, out)
 }
 
 /// Appends comment lines, each with its newline. The error: a growth was refused.

@@ -1,18 +1,20 @@
 //! What the layout makes of an expression.
 ghost use Rattle.std.specs.Prelude.{◌≡◌, ◌++◌, ◌∷◌, [], map, None, OnOk, IfOk};
+ghost use Rattle.std.specs.Option.{option_copied};
 ghost use Rattle.bz_value.specs.Empty.{is_empty};
 ghost use Rattle.bz_layout.specs.Layout as layout;
 ghost use Rattle.bz_layout.specs.LaidOut.{piece_part, part_of, parts_in, layouts, laid_out_body, comma_after};
 
 use crate::brackets::brackets_of_kind;
 use crate::breaks::is_broken;
-use crate::gaps::{deeper_margin, gap_above, gap_ended};
+use crate::draft::Draft;
+use crate::gaps::{deeper_margin, gap_from};
 use crate::parts::room_for;
 use crate::row_gaps::{margin_after, others, text_after};
 use bz_grammar::{Class, Kind, Leaf, Node, Part};
 use bz_items::{Gap, Items, Memory, Text};
 use bz_value::{Expr, Form};
-use std::alloc::Global;
+use std::alloc::{AllocError, Global};
 
 /// Appends a bracket or a comma after a gap.
 fn push_mark(alloc: Global, gap: Gap, byte: u8, parts: &mut Items<Part>) -> Result<(), Memory>
@@ -24,6 +26,41 @@ fn push_mark(alloc: Global, gap: Gap, byte: u8, parts: &mut Items<Part>) -> Resu
         gap,
         token,
     }))
+}
+
+/// The gap before an item on lines of its own: the suffix of the item before it, a new line at a margin, and its comments. The error: a
+/// growth was refused.
+#[tactic(auto, using(crate::proofs::Pushing::pushed_twice))]
+fn gap_above(
+    alloc: Global,
+    suffix: Option<&Text>,
+    texts: &[Text],
+    margin: usize,
+) -> Result<Gap, Memory>
+    ensures { IfOk result (λ gap. gap ≡ layout.suffix_text (option_copied suffix.entry) ++ (layout.new_line_at margin ++ layout.margin_lines margin texts.now)) }
+{
+    let mut out = Draft::new(Vec::new(alloc), usize::MAX);
+    out.push_after(suffix)?;
+    out.push_new_line(margin)?;
+    out.push_above(texts, margin)?;
+    gap_from(alloc, out.into_bytes().ok_or(AllocError)?)
+}
+
+/// The gap before the closing bracket of a broken sequence: the suffix of its last item, its end comments, and the line of the
+/// bracket at a margin. The error: a growth was refused.
+#[tactic(auto, using(crate::proofs::Pushing::pushed_twice))]
+fn gap_ended(
+    alloc: Global,
+    suffix: Option<&Text>,
+    texts: &[Text],
+    margin: usize,
+) -> Result<Gap, Memory>
+    ensures { IfOk result (λ gap. gap ≡ layout.suffix_text (option_copied suffix.entry) ++ layout.ended margin texts.now) }
+{
+    let mut out = Draft::new(Vec::new(alloc), usize::MAX);
+    out.push_after(suffix)?;
+    out.push_ended(texts, margin)?;
+    gap_from(alloc, out.into_bytes().ok_or(AllocError)?)
 }
 
 /// Appends what is laid out of an expression after a gap, at a margin. The error: a growth was refused.
