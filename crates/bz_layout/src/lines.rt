@@ -152,7 +152,6 @@ pub fn end_after(alloc: Global, gap: Vec<u8>) -> Result<Part, Memory>
 }
 
 /// The lines of a file's items, and its end. The error: a growth was refused.
-#[tactic(auto, using(crate::proofs::Loops::lines_next))]
 pub fn lay_out_lines(alloc: Global, items: &[Item]) -> Result<Items<Part>, Memory>
     ensures { IfOk result (λ parts. parts ≡ lines_from [] items.now) }
 {

@@ -100,7 +100,6 @@ fn lay_out_first(
 }
 
 /// The lines of this many of the items, and the next one after them, the first of all after a gap.
-#[tactic(auto, using(crate::proofs::Loops::lines_next))]
 fn lay_out_window(
     alloc: Global,
     items: &[Item],
