@@ -1,5 +1,5 @@
 -- Names joined by dots: a row by its first part and the tokens that follow, and what follows the innermost of forms.
-use Rattle.std.proofs.Common.{ℕ, suc, Bool, true, false, ◌≡◌, ◌<◌, ◌≤◌, List, [], ◌∷◌, ◌++◌, ◌+◌, length, get_or, take, drop, ◌-◌, map, refl, sym, ap, ◌∙◌, append_assoc, append-nil, arith}
+use Rattle.std.proofs.Common.{ℕ, suc, Bool, true, ◌≡◌, ◌<◌, ◌≤◌, List, [], ◌∷◌, ◌++◌, ◌+◌, length, get_or, take, drop, ◌-◌, map, refl, sym, ap, ◌∙◌, append_assoc, append-nil, arith}
 use Rattle.std.specs.List.{list_all}
 use Rattle.std.proofs.lemmas.Bool.{and_parts}
 use Rattle.std.proofs.lemmas.List.{drop_more, take_all, length-drop}
@@ -36,7 +36,7 @@ row_tokens kind open_break m n x (y ∷ ys) h =
     (row_tokens kind open_break m (margin_after open_break m x) y ys w.1 ∙ ap (λ t. t ++ tokens_after kind open_break m y ys) (token_text y (margin_after open_break m x) w.0))
 
 -- a row that begins with a form
-pub front_row : (form front : Form) (first : Expr) (tokens : List Expr) → form.parts ≡ first ∷ tokens → first ≡ e.Form front → front.kind ≡ k.Dot → list_all is_lone_token tokens ≡ true → (m : ℕ) →
+front_row : (form front : Form) (first : Expr) (tokens : List Expr) → form.parts ≡ first ∷ tokens → first ≡ e.Form front → front.kind ≡ k.Dot → list_all is_lone_token tokens ≡ true → (m : ℕ) →
     row_written m form ≡ row_written m front ++ past_front m form
 front_row form front first tokens parts_are is dot all m =
     let parts : form.parts ≡ e.Form front ∷ tokens = parts_are ∙ ap (λ x. x ∷ tokens) is in
@@ -45,7 +45,7 @@ front_row form front first tokens parts_are is dot all m =
     (ap (λ t. t ++ tokens_after form.kind form.open_break m (e.Form front) tokens) (row_form front m (ap (λ kind. brackets_of (frame kind)) dot)) ∙
     ap (λ xs. row_written m front ++ past_front_of form.kind form.open_break m xs) (sym parts)))
 
-pub front_is_less : (form front : Form) (first : Expr) (tokens : List Expr) → form.parts ≡ first ∷ tokens → first ≡ e.Form front → fronts (e.Form front) < fronts (e.Form form)
+front_is_less : (form front : Form) (first : Expr) (tokens : List Expr) → form.parts ≡ first ∷ tokens → first ≡ e.Form front → fronts (e.Form front) < fronts (e.Form form)
 front_is_less form front first tokens parts_are is =
     let parts : form.parts ≡ e.Form front ∷ tokens = parts_are ∙ ap (λ x. x ∷ tokens) is in
     let all : fronts (e.Form form) ≡ suc (fronts (e.Form front)) = fronts_Form form ∙ ap (λ xs. suc (fronts_among xs)) parts in
@@ -84,7 +84,7 @@ none_after d form m l = none d form.kind form.open_break m form.parts l
 
 -- ---- the loops
 
-pub tokens_next : (kind : Kind) (open_break : Bool) (m : ℕ) (x : Expr) (ys : List Expr) (i : ℕ) (d : Expr) → i < length ys →
+tokens_next : (kind : Kind) (open_break : Bool) (m : ℕ) (x : Expr) (ys : List Expr) (i : ℕ) (d : Expr) → i < length ys →
     tokens_after kind open_break m x (drop i ys) ≡ gap_after kind open_break m x (drop i ys) ++ (v.text_of (get_or ys i d) ++ tokens_after kind open_break m (get_or ys i d) (drop (i + 1) ys))
 tokens_next kind open_break m x ys i d h =
     ap (tokens_after kind open_break m x) (drop_more ys i d h) ∙
@@ -105,7 +105,7 @@ tokens_turn d before_gap after_gap after_text kind open_break m x y text ys left
 pub tokens_end : (d : Drafted) (kind : Kind) (open_break : Bool) (m : ℕ) (x : Expr) (ys : List Expr) (i : ℕ) → length ys ≤ i → pushed d (tokens_after kind open_break m x (drop i ys)) ≡ d
 tokens_end d kind open_break m x ys i l = pushed_end (tokens_after kind open_break m x) d ys i refl l
 
-pub after_pushed : (m : ℕ) (forms : List Form) (form : Form) → after_all m (forms ++ form ∷ []) ≡ past_front m form ++ after_all m forms
+after_pushed : (m : ℕ) (forms : List Form) (form : Form) → after_all m (forms ++ form ∷ []) ≡ past_front m form ++ after_all m forms
 after_pushed m [] form = sym (append-nil (past_front m form))
 after_pushed m (outer ∷ forms) form = ap (λ t. t ++ past_front m outer) (after_pushed m forms form) ∙ append_assoc (past_front m form) (after_all m forms) (past_front m outer)
 

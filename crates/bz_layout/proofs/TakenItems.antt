@@ -16,7 +16,7 @@ before_none : (above : Option Item) → before_item above [] ≡ []
 before_none None = refl
 before_none (Some y) = refl
 
-pub lines_turn : (parts : List Part) (gap : Bytes) (above : Option Item) (x : Item) (xs : List Item) →
+lines_turn : (parts : List Part) (gap : Bytes) (above : Option Item) (x : Item) (xs : List Item) →
     parts ++ lines_from (gap ++ before_item above (x ∷ xs)) (x ∷ xs) ≡
     (parts ++ own_lines (gap ++ before_item above (x ∷ [])) x) ++ lines_from (left_gap (gap ++ before_item above (x ∷ [])) x ++ before_item (Some x) xs) xs
 lines_turn parts gap above x xs =

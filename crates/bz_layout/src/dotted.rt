@@ -45,7 +45,6 @@ fn dot_in(part: &Expr) -> Option<&Form>
 }
 
 /// The form that a row begins with, where it is of names joined by dots and tokens alone follow.
-#[tactic(auto, using(crate::proofs::JoinedNames::front_row, crate::proofs::JoinedNames::front_is_less))]
 fn front_of(form: &Form) -> Option<&Form>
     ensures row { IfSome result (λ front. (margin : ℕ) → row_written margin form.now ≡ row_written margin front.now ++ past_front margin form.now) }
     ensures less { IfSome result (λ front. fronts (e.Form front.now) < fronts (e.Form form.now)) }
@@ -61,7 +60,7 @@ fn front_of(form: &Form) -> Option<&Form>
 }
 
 /// Appends tokens that follow a part of a row, each after its gap.
-#[tactic(auto, using(crate::proofs::Pushing::pushed_twice, crate::proofs::Pushing::pushed_none, crate::proofs::JoinedNames::tokens_next, crate::proofs::JoinedNames::tokens_end))]
+#[tactic(auto, using(crate::proofs::JoinedNames::tokens_end))]
 fn push_tokens(
     out: &mut Draft,
     form: &Form,
@@ -110,7 +109,7 @@ fn push_leaves(out: &mut Draft, form: &Form, margin: usize) -> Result<bool, Memo
 }
 
 /// Appends the row of names joined by dots, and says whether it is one; else nothing is appended. The error: a growth was refused.
-#[tactic(auto, using(crate::proofs::Pushing::pushed_twice, crate::proofs::JoinedNames::after_pushed))]
+#[tactic(auto, using(crate::proofs::Pushing::pushed_twice))]
 pub fn push_dotted(out: &mut Draft, form: &Form, margin: usize) -> Result<bool, Memory>
     ensures dotted { result ≡ Ok true → out.new ≡ pushed out.old (row_written margin form.now) }
     ensures other { result ≡ Ok false → out.new ≡ out.old }

@@ -1,8 +1,8 @@
-//! Gaps: lines at a margin, comments above, after and below.
+//! Gaps: lines at a margin, suffixes and comments.
 ghost use Rattle.std.specs.Prelude.{◌≡◌, ◌++◌, ◌+◌, replicate, OnOk, IfOk};
 ghost use Rattle.std.specs.Option.{option_copied};
 ghost use Rattle.bz_items.specs.Characters.{space};
-ghost use Rattle.bz_layout.specs.Layout.{new_line_at, margin_lines, suffix_text, ended};
+ghost use Rattle.bz_layout.specs.Layout.{new_line_at, suffix_text};
 ghost use Rattle.bz_layout.specs.Written.{comment_lines};
 
 use bz_items::{Gap, Memory, Text};
@@ -37,29 +37,6 @@ pub fn push_new_line(out: &mut Vec<u8>, margin: usize) -> Result<(), Memory>
 {
     out.push(b'\n')?;
     push_margin(out, margin)
-}
-
-/// Appends comments, each on its own line at the margin, above an item.
-pub fn push_above(out: &mut Vec<u8>, texts: &[Text], margin: usize) -> Result<(), Memory>
-    ensures { OnOk result (out.new.items ≡ out.old.items ++ margin_lines margin texts.now) }
-{
-    for text in texts {
-        out.extend_from_slice(text.as_slice())?;
-        push_new_line(out, margin)?;
-    }
-    Ok(())
-}
-
-/// Appends the end comments of a sequence, and the line of its closing bracket at the margin.
-pub fn push_ended(out: &mut Vec<u8>, texts: &[Text], margin: usize) -> Result<(), Memory>
-    ensures { OnOk result (out.new.items ≡ out.old.items ++ ended margin texts.now) }
-{
-    let inner = deeper_margin(margin)?;
-    for text in texts {
-        push_new_line(out, inner)?;
-        out.extend_from_slice(text.as_slice())?;
-    }
-    push_new_line(out, margin)
 }
 
 /// Appends a suffix after two spaces. The error: a growth was refused.

@@ -1,46 +1,96 @@
 //! What the layout makes of an expression.
 ghost use Rattle.std.specs.Prelude.{◌≡◌, ◌++◌, ◌∷◌, [], map, None, OnOk, IfOk};
+ghost use Rattle.std.specs.Option.{option_copied};
 ghost use Rattle.bz_value.specs.Empty.{is_empty};
 ghost use Rattle.bz_layout.specs.Layout as layout;
 ghost use Rattle.bz_layout.specs.LaidOut.{piece_part, part_of, parts_in, layouts, laid_out_body, comma_after};
 
 use crate::brackets::brackets_of_kind;
 use crate::breaks::is_broken;
-use crate::gaps::{deeper_margin, gap_from, push_above, push_after, push_ended, push_new_line};
+use crate::draft::Draft;
+use crate::gaps::{deeper_margin, gap_from};
 use crate::parts::room_for;
 use crate::row_gaps::{margin_after, others, text_after};
 use bz_grammar::{Class, Kind, Leaf, Node, Part};
 use bz_items::{Gap, Items, Memory, Text};
 use bz_value::{Expr, Form};
-use std::alloc::Global;
+use std::alloc::{AllocError, Global};
 
-/// A bracket or a comma after a gap.
-fn mark(alloc: Global, gap: Gap, byte: u8) -> Result<Part, Memory>
-    ensures { IfOk result (λ part. part ≡ piece_part (layout.mark gap (byte ∷ []))) }
+/// Appends a bracket or a comma after a gap.
+fn push_mark(alloc: Global, gap: Gap, byte: u8, parts: &mut Items<Part>) -> Result<(), Memory>
+    ensures { OnOk result (parts.new ≡ parts.old ++ piece_part (layout.mark gap (byte ∷ [])) ∷ []) }
 {
-    Ok(Part::Leaf(Leaf {
+    let token = Text::from_slice(alloc, &[byte])?;
+    parts.push(Part::Leaf(Leaf {
         class: Class::Mark,
         gap,
-        token: Text::from_slice(alloc, &[byte])?,
+        token,
     }))
 }
 
-/// What is laid out of an expression after a gap, at a margin. The error: a growth was refused.
+/// The gap before an item on lines of its own: the suffix of the item before it, a new line at a margin, and its comments. The error: a
+/// growth was refused.
+#[tactic(auto, using(crate::proofs::Pushing::pushed_twice))]
+fn gap_above(
+    alloc: Global,
+    suffix: Option<&Text>,
+    texts: &[Text],
+    margin: usize,
+) -> Result<Gap, Memory>
+    ensures { IfOk result (λ gap. gap ≡ layout.suffix_text (option_copied suffix.entry) ++ (layout.new_line_at margin ++ layout.margin_lines margin texts.now)) }
+{
+    let mut out = Draft::new(Vec::new(alloc), usize::MAX);
+    out.push_after(suffix)?;
+    out.push_new_line(margin)?;
+    out.push_above(texts, margin)?;
+    gap_from(alloc, out.into_bytes().ok_or(AllocError)?)
+}
+
+/// The gap before the closing bracket of a broken sequence: the suffix of its last item, its end comments, and the line of the
+/// bracket at a margin. The error: a growth was refused.
+#[tactic(auto, using(crate::proofs::Pushing::pushed_twice))]
+fn gap_ended(
+    alloc: Global,
+    suffix: Option<&Text>,
+    texts: &[Text],
+    margin: usize,
+) -> Result<Gap, Memory>
+    ensures { IfOk result (λ gap. gap ≡ layout.suffix_text (option_copied suffix.entry) ++ layout.ended margin texts.now) }
+{
+    let mut out = Draft::new(Vec::new(alloc), usize::MAX);
+    out.push_after(suffix)?;
+    out.push_ended(texts, margin)?;
+    gap_from(alloc, out.into_bytes().ok_or(AllocError)?)
+}
+
+/// Appends what is laid out of an expression after a gap, at a margin. The error: a growth was refused.
 #[cycle(lay_out)]
 #[tactic(auto, using(crate::proofs::Made::part_Form))]
-pub fn lay_out(alloc: Global, expr: &Expr, gap: Gap, margin: usize) -> Result<Part, Memory>
-    ensures { IfOk result (λ part. part ≡ part_of expr.now gap margin) }
+pub fn lay_out(
+    alloc: Global,
+    expr: &Expr,
+    gap: Gap,
+    margin: usize,
+    parts: &mut Items<Part>,
+) -> Result<(), Memory>
+    ensures { OnOk result (parts.new ≡ parts.old ++ part_of expr.now gap margin ∷ []) }
 {
     match expr {
-        Expr::Token(token) => Ok(Part::Leaf(Leaf {
-            class: token.class,
-            gap,
-            token: token.text.copy()?,
-        })),
-        Expr::Form(form) => Ok(Part::Node(Node {
-            kind: form.kind,
-            parts: lay_out_form(alloc, form, gap, margin)?,
-        })),
+        Expr::Token(token) => {
+            let text = token.text.copy()?;
+            parts.push(Part::Leaf(Leaf {
+                class: token.class,
+                gap,
+                token: text,
+            }))
+        }
+        Expr::Form(form) => {
+            let inner = lay_out_form(alloc, form, gap, margin)?;
+            parts.push(Part::Node(Node {
+                kind: form.kind,
+                parts: inner,
+            }))
+        }
     }
 }
 
@@ -74,9 +124,9 @@ fn lay_out_row(
     let mut gap = gap;
     let mut inner = margin;
     for (i, part) in row.iter().enumerate() {
-        parts.push(lay_out(alloc, part, gap, inner)?)?;
-        gap = text_after(alloc, form, margin, part, others(row, i))?;
+        lay_out(alloc, part, gap, inner, parts)?;
         inner = margin_after(form, margin, part)?;
+        gap = text_after(alloc, form, margin, part, others(row, i))?;
     }
     Ok(())
 }
@@ -95,10 +145,10 @@ fn lay_out_head(
 {
     let mut gap = gap;
     for expr in head {
-        parts.push(lay_out(alloc, expr, gap, margin)?)?;
+        lay_out(alloc, expr, gap, margin, parts)?;
         gap = Gap::none(alloc);
     }
-    parts.push(mark(alloc, gap, opener)?)
+    push_mark(alloc, gap, opener, parts)
 }
 
 /// What is in a sequence, and its closing bracket.
@@ -132,12 +182,11 @@ fn push_comma(
     if others.is_empty() && !one {
         return Ok(());
     }
-    parts.push(mark(alloc, Gap::none(alloc), b',')?)
+    push_mark(alloc, Gap::none(alloc), b',', parts)
 }
 
 /// Items joined by a comma and a space; after a lone item a comma where it is to have one.
 #[cycle(lay_out)]
-#[tactic(auto, using(crate::proofs::Loops::joined_next))]
 fn lay_out_joined(
     alloc: Global,
     items: &[Expr],
@@ -148,20 +197,20 @@ fn lay_out_joined(
 ) -> Result<(), Memory>
     ensures { OnOk result (parts.new ≡ parts.old ++ map piece_part (layout.joined margin [] closer one (layouts items.now))) }
 {
-    let mut gap = Gap::none(alloc);
+    let mut gap: &[u8] = b"";
     let mut one = one;
     for (i, item) in items.iter().enumerate() {
-        parts.push(lay_out(alloc, item, gap, margin)?)?;
+        let before = Gap::from_slice(alloc, gap)?;
+        lay_out(alloc, item, before, margin, parts)?;
         push_comma(alloc, others(items, i), one, parts)?;
         one = false;
-        gap = Gap::from_slice(alloc, b" ")?;
+        gap = b" ";
     }
-    parts.push(mark(alloc, Gap::none(alloc), closer)?)
+    push_mark(alloc, Gap::none(alloc), closer, parts)
 }
 
 /// Each item on lines of its own: its comments above it, a comma, its suffix.
 #[cycle(lay_out)]
-#[tactic(auto, using(crate::proofs::Loops::stacked_start))]
 fn lay_out_stacked(
     alloc: Global,
     items: &[Expr],
@@ -172,17 +221,15 @@ fn lay_out_stacked(
 ) -> Result<(), Memory>
     ensures { OnOk result (parts.new ≡ parts.old ++ map piece_part (layout.stacked margin None closer end.now (layouts items.now))) }
 {
-    let mut gap = Vec::new(alloc);
+    let inner = deeper_margin(margin)?;
+    let mut suffix: Option<&Text> = None;
     for item in items {
         let comments = item.comments();
-        let inner = deeper_margin(margin)?;
-        push_new_line(&mut gap, inner)?;
-        push_above(&mut gap, comments.before(), inner)?;
-        parts.push(lay_out(alloc, item, gap_from(alloc, gap)?, inner)?)?;
-        parts.push(mark(alloc, Gap::none(alloc), b',')?)?;
-        gap = Vec::new(alloc);
-        push_after(&mut gap, comments.suffix())?;
+        let gap = gap_above(alloc, suffix, comments.before(), inner)?;
+        lay_out(alloc, item, gap, inner, parts)?;
+        push_mark(alloc, Gap::none(alloc), b',', parts)?;
+        suffix = comments.suffix();
     }
-    push_ended(&mut gap, end, margin)?;
-    parts.push(mark(alloc, gap_from(alloc, gap)?, closer)?)
+    let gap = gap_ended(alloc, suffix, end, margin)?;
+    push_mark(alloc, gap, closer, parts)
 }

@@ -1,13 +1,15 @@
 //! The lines of a file as parts of its tree.
 ghost use Rattle.std.specs.Prelude.{◌≡◌, ◌++◌, ◌∷◌, [], OnOk, IfOk, if◌then◌else◌};
 ghost use Rattle.bz_items.specs.Characters.{line_feed};
+ghost use Rattle.std.specs.Option.{option_copied};
+ghost use Rattle.bz_layout.specs.Layout.{suffix_text};
 ghost use Rattle.bz_layout.specs.Written as written;
 ghost use Rattle.bz_layout.specs.LaidOut.{line_part, own_lines, left_gap, before_next, lines_from};
 
 use crate::gaps::{gap_from, push_after, push_comments};
 use crate::laying_out::lay_out;
 use bz_grammar::{Class, Kind, Leaf, Node, Part};
-use bz_items::{Items, Memory, Text};
+use bz_items::{Gap, Items, Memory, Text};
 use bz_value::{Expr, Item};
 use std::alloc::Global;
 
@@ -60,27 +62,42 @@ pub fn push_between(gap: &mut Vec<u8>, item: &Item, others: &[Item]) -> Result<(
     Ok(())
 }
 
+/// Appends the newline of a statement, after its suffix.
+fn push_newline(alloc: Global, suffix: Option<&Text>, parts: &mut Items<Part>) -> Result<(), Memory>
+    ensures { OnOk result (parts.new ≡ parts.old ++ Part.Leaf (record { class = Class.Newline; gap = suffix_text (option_copied suffix.entry); token = line_feed ∷ [] }) ∷ []) }
+{
+    let mut following = Vec::new(alloc);
+    push_after(&mut following, suffix)?;
+    let gap = gap_from(alloc, following)?;
+    let token = Text::from_slice(alloc, b"\n")?;
+    parts.push(Part::Leaf(Leaf {
+        class: Class::Newline,
+        gap,
+        token,
+    }))
+}
+
+/// The bytes with comment lines after them, as a gap.
+fn gap_of_comments(alloc: Global, bytes: Vec<u8>, texts: &[Text]) -> Result<Gap, Memory>
+    ensures { IfOk result (λ gap. gap ≡ bytes.items ++ written.comment_lines texts.now) }
+{
+    let mut out = bytes;
+    push_comments(&mut out, texts)?;
+    gap_from(alloc, out)
+}
+
 /// The line of a statement after a gap.
 pub fn lay_out_line(alloc: Global, expr: &Expr, gap: Vec<u8>) -> Result<Part, Memory>
     ensures { IfOk result (λ part. part ≡ line_part gap.items expr.now) }
 {
     let comments = expr.comments();
-    let mut following = Vec::new(alloc);
-    push_after(&mut following, comments.suffix())?;
-    let following = gap_from(alloc, following)?;
-    let token = Text::from_slice(alloc, b"\n")?;
-    let mut gap = gap;
-    push_comments(&mut gap, comments.before())?;
-    // The statement comes last: what is there when memory is refused is dropped at each place where that can be.
-    let statement = lay_out(alloc, expr, gap_from(alloc, gap)?, 0)?;
-    let newline = Part::Leaf(Leaf {
-        class: Class::Newline,
-        gap: following,
-        token,
-    });
+    let above = gap_of_comments(alloc, gap, comments.before())?;
+    let mut parts = Items::from_vec(Vec::with_capacity(alloc, 2)?);
+    lay_out(alloc, expr, above, 0, &mut parts)?;
+    push_newline(alloc, comments.suffix(), &mut parts)?;
     Ok(Part::Node(Node {
         kind: Kind::Line,
-        parts: Items::from_vec(Vec::from_array(alloc, [statement, newline])?),
+        parts,
     }))
 }
 
@@ -107,6 +124,22 @@ pub fn lay_out_item(
     }
 }
 
+/// Appends the line of an item before others, and gives the gap that is before those.
+#[tactic(auto, using(crate::proofs::Loops::lines_turn))]
+pub fn lay_out_before(
+    alloc: Global,
+    item: &Item,
+    others: &[Item],
+    gap: Vec<u8>,
+    parts: &mut Items<Part>,
+) -> Result<Vec<u8>, Memory>
+    ensures { IfOk result (λ left. parts.new ++ lines_from left.items others.now ≡ parts.old ++ lines_from gap.items (item.now ∷ others.now)) }
+{
+    let mut left = lay_out_item(alloc, item, gap, parts)?;
+    push_between(&mut left, item, others)?;
+    Ok(left)
+}
+
 /// The end of a file after a gap. The error: a growth was refused.
 pub fn end_after(alloc: Global, gap: Vec<u8>) -> Result<Part, Memory>
     ensures { IfOk result (λ end. end ∷ [] ≡ lines_from gap.items []) }
@@ -119,15 +152,13 @@ pub fn end_after(alloc: Global, gap: Vec<u8>) -> Result<Part, Memory>
 }
 
 /// The lines of a file's items, and its end. The error: a growth was refused.
-#[tactic(auto, using(crate::proofs::Loops::lines_next))]
 pub fn lay_out_lines(alloc: Global, items: &[Item]) -> Result<Items<Part>, Memory>
     ensures { IfOk result (λ parts. parts ≡ lines_from [] items.now) }
 {
     let mut parts = Items::new(alloc);
     let mut gap = Vec::new(alloc);
     for (i, item) in items.iter().enumerate() {
-        gap = lay_out_item(alloc, item, gap, &mut parts)?;
-        push_between(&mut gap, item, &items[i + 1..])?;
+        gap = lay_out_before(alloc, item, &items[i + 1..], gap, &mut parts)?;
     }
     parts.push(end_after(alloc, gap)?)?;
     Ok(parts)

@@ -6,7 +6,7 @@ ghost use Rattle.bz_layout.specs.LaidOut.{laid_out, lines_from};
 ghost use Rattle.bz_layout.specs.private.Windows as windows;
 
 use crate::gaps::push_comments;
-use crate::lines::{end_after, lay_out_item, lay_out_line, push_between};
+use crate::lines::{end_after, lay_out_before, lay_out_line, push_between};
 use crate::marked::{pass_over, place_after};
 use bz_grammar::Part;
 use bz_items::{Items, Memory};
@@ -100,7 +100,6 @@ fn lay_out_first(
 }
 
 /// The lines of this many of the items, and the next one after them, the first of all after a gap.
-#[tactic(auto, using(crate::proofs::Loops::lines_next))]
 fn lay_out_window(
     alloc: Global,
     items: &[Item],
@@ -113,9 +112,7 @@ fn lay_out_window(
     let mut lines = Items::new(alloc);
     let mut gap = first;
     for at in 0..come {
-        let item = &items[at];
-        gap = lay_out_item(alloc, item, gap, &mut lines)?;
-        push_between(&mut gap, item, &items[at + 1..])?;
+        gap = lay_out_before(alloc, &items[at], &items[at + 1..], gap, &mut lines)?;
     }
     lay_out_first(alloc, items.split_at(come).1, gap, &mut lines)?;
     Ok(lines)

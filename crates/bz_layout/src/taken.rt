@@ -43,7 +43,7 @@ pub fn set_from(alloc: Global, file: File) -> Result<Tree, SetFault>
 
 /// The lines of a file's items, and its end, as `lay_out_lines` lays them out; each item is dropped when the next one is laid out. The
 /// error: a growth was refused.
-#[tactic(auto, using(crate::proofs::TakenItems::lines_turn, crate::proofs::TakenItems::lines_end))]
+#[tactic(auto, using(crate::proofs::TakenItems::lines_end))]
 fn lay_out_each(alloc: Global, items: Items<Item>) -> Result<Items<Part>, Memory>
     ensures { IfOk result (λ parts. parts ≡ lines_from [] items) }
 {

@@ -1,7 +1,7 @@
 use Rattle.std.proofs.Common.{◌≡◌, ◌++◌, [], None, drop, map}
+use Rattle.std.specs.Option.{option_copied}
 use Rattle.bz_layout.specs.Layout.{rowed, headed, joined, stacked}
 use Rattle.bz_layout.specs.LaidOut.{piece_part, layouts}
-use Rattle.bz_layout.proofs.Loops.{stacked_after}
 use Rattle.bz_layout.proofs.laying_out.+lay_out.Given as goal
 
 abbrev pub invariant-lay_out_row-loop-i : goal.invariant-lay_out_row-loop-i
@@ -19,4 +19,4 @@ invariant-lay_out_joined-loop-i l =
 
 abbrev pub invariant-lay_out_stacked-loop-item : goal.invariant-lay_out_stacked-loop-item
 invariant-lay_out_stacked-loop-item l =
-    l.parts ++ map piece_part (stacked_after l.margin l.gap.items l.closer l.end (layouts (drop l.item-index l.items))) ≡ l.fn.parts ++ map piece_part (stacked l.margin None l.closer l.end (layouts l.items))
+    l.parts ++ map piece_part (stacked l.margin (option_copied l.suffix) l.closer l.end (layouts (drop l.item-index l.items))) ≡ l.fn.parts ++ map piece_part (stacked l.margin None l.closer l.end (layouts l.items))
