@@ -5,7 +5,7 @@ use Rattle.bz_grammar.specs.declared.kind.Kind.TheVariants as k
 use Rattle.bz_value.specs.declared.value.Expr.{Expr}
 use Rattle.bz_items.specs.Characters.{Bytes}
 use Rattle.bz_command_syntax.specs.declared.command.Entry.{Entry}
-use Rattle.bz_rule.specs.Values.{has_kind, parts_of, with_parts, on_row, on_third}
+use Rattle.bz_rule.specs.Values.{has_kind, parts_of, with_parts, on_third}
 use Rattle.bz_rule.proofs.ProperChanges.{by_case}
 use Rattle.bz_attribute.specs.Made.{string_of, mark}
 use Rattle.bz_attribute.proofs.FormsAgain.{both, if_true, parts_kind, parts_filled, if_false, if_either}
@@ -158,11 +158,9 @@ module _ (change : Change) (current name : Bytes) (entry : Entry) (places : BTre
     pub entry_kept : change ≡ Add → items ≡ entry_put change current name entry items
     entry_kept same = sym (ap (λ (own : Change). entry_put own current name entry items) same ∙ added_again current name entry items there)
 
-    pub entry_set : change ≡ Set → (x new value : Expr) → slice_get items at ≡ Some x → new ≡ on_row k.Entry (on_third (λ old. value)) x → value ≡ string_of current name entry.value
-        → (set items at new ≡ entry_put change current name entry items) × AreIndexed places (set items at new)
-    entry_set same x new value read row is =
-        let made : new ≡ entry_changed change current name entry x =
-        row ∙ (ap (λ (v : Expr). on_row k.Entry (on_third (λ old. v)) x) is ∙ ap (λ (own : Change). entry_changed own current name entry x) (sym same)) in (
+    pub entry_set : change ≡ Set → (x new : Expr) → slice_get items at ≡ Some x → new ≡ entry_changed Set current name entry x → (set items at new ≡ entry_put change current name entry items) × AreIndexed places (set items at new)
+    entry_set same x new read set_new =
+        let made : new ≡ entry_changed change current name entry x = set_new ∙ ap (λ (own : Change). entry_changed own current name entry x) (sym same) in (
           changed_there (has_key entry.key) (entry_changed change current name entry) items at x new (where_found (Some at) is_there) read made
               ∙ sym (if_true (list_any (has_key entry.key) items) (on_first_that (has_key entry.key) (entry_changed change current name entry) items) (items ++ entry_made current name entry ∷ []) there),
           λ key.

@@ -1,15 +1,16 @@
 //! What each command on dicts makes of the arguments of a rule: entries that are added, set and removed.
-ghost use Rattle.std.specs.Prelude.{◌≡◌, ◌⊎◌, take, Ok, Err, IfOk, OnOk, IfErr, true, false};
+ghost use Rattle.std.specs.Prelude.{◌≡◌, ◌⊎◌, [], take, Ok, Err, IfOk, OnOk, IfErr, true, false};
 ghost use Rattle.std.specs.Option.{option_copied};
 ghost use Rattle.bz_grammar.specs.declared.kind.Kind.TheVariants as kinds;
 ghost use Rattle.bz_rule.specs.Values.{has_kind as is_of, on_items};
 ghost use Rattle.bz_value.specs.declared.refusal.Refusal.TheVariants.{NotADict};
-ghost use Rattle.bz_change.specs.Dicts.{key_of, dict_remove, dicts_changed, entries_put, entry_made, on_dict, without_entries};
+ghost use Rattle.bz_change.specs.Dicts.{key_of, dict_of, dict_remove, dicts_changed, entries_put, entry_changed, entry_made, on_dict, without_entries};
+ghost use Rattle.bz_change.specs.declared.dicts.Change.TheVariants.{Set};
 ghost use Rattle.bz_change.specs.private.Outcomes.{IsOutcome, AreIndexed};
 
 use bz_attribute::{
-    Slot, add_attribute, body_of, has_kind, has_text, insert_text, items_of, node, parts_of,
-    remove_first, sequence, set_value, string_of, swap_value, take_value, token,
+    Slot, add_attribute, body_of, has_kind, has_text, insert_text, items_of, new_token, node,
+    parts_of, remove_first, sequence, set_value, string_of, swap_value, take_value, token,
 };
 use bz_command_syntax::{DictOperation, Entry, quoted};
 use bz_grammar::{Class, Kind};
@@ -64,12 +65,21 @@ fn entry_made(slot: Slot<'_>, entry: &Entry) -> Result<Expr, Memory>
     ensures { IfOk result (λ x. x ≡ entry_made slot.entry.current.now slot.entry.attribute.now entry.now) }
 {
     let alloc = slot.alloc;
-    let key = quoted(alloc, entry.key.as_slice())?;
-    let colon = Text::from_slice(alloc, b":")?;
-    let value = string_of(slot, entry.value.as_slice())?;
-    let key = token(Class::String, key);
-    let parts = Vec::from_array(alloc, [key, token(Class::Mark, colon), value])?;
+    let mut parts = Vec::with_capacity(alloc, 3)?;
+    parts.push_reserved(token(Class::String, quoted(alloc, entry.key.as_slice())?));
+    parts.push_reserved(new_token(alloc, Class::Mark, b":")?);
+    parts.push_reserved(string_of(slot, entry.value.as_slice())?);
     Ok(node(alloc, Kind::Entry, Items::from_vec(parts)))
+}
+
+/// An entry that is there gets the new value.
+fn set_entry(slot: Slot<'_>, entry: &Entry, x: &mut Expr) -> Result<(), Memory>
+    ensures { OnOk result (x.new ≡ entry_changed Set slot.entry.current.now slot.entry.attribute.now entry.now x.old) }
+{
+    let mut value = string_of(slot, entry.value.as_slice())?;
+    swap_value(Kind::Entry, &mut value, x);
+    drop(value);
+    Ok(())
 }
 
 /// Puts entries to those of a dict, one after the other: the first of a key that is there stays or gets the new value, one of another
@@ -94,8 +104,7 @@ fn put_entries(
         let Change::Set = change else {
             continue;
         };
-        let mut value = string_of(slot, entry.value.as_slice())?;
-        swap_value(Kind::Entry, &mut value, items.at_mut(at));
+        set_entry(slot, entry, items.at_mut(at))?;
     }
     Ok(())
 }
@@ -114,6 +123,16 @@ fn put_into(slot: Slot<'_>, change: Change, entries: &[Entry], x: &mut Expr) -> 
     }
 }
 
+/// A dict of entries, as strings.
+fn new_dict(slot: Slot<'_>, change: Change, entries: &[Entry]) -> Result<Expr, Memory>
+    ensures { IfOk result (λ dict. dict ≡ dict_of (entries_put change slot.entry.current.now slot.entry.attribute.now entries.now [])) }
+{
+    let alloc = slot.alloc;
+    let mut items = Items::new(alloc);
+    put_entries(slot, change, entries, &mut items)?;
+    Ok(sequence(alloc, Kind::Dict, Items::new(alloc), items))
+}
+
 /// Puts entries, as strings, into the dict of an attribute; where that is absent, it gets a dict of them.
 fn change_dict(
     slot: Slot<'_>,
@@ -124,13 +143,14 @@ fn change_dict(
     ensures { IsOutcome result arguments.new (on_dict slot.entry.attribute.now (entries_put change slot.entry.current.now slot.entry.attribute.now entries.now) arguments.old) }
 {
     let Some(mut value) = take_value(slot.alloc, slot.attribute, arguments) else {
-        let alloc = slot.alloc;
-        let mut dict = sequence(alloc, Kind::Dict, Items::new(alloc), Items::new(alloc));
-        put_into(slot, change, entries, &mut dict)?;
-        add_attribute(alloc, slot.attribute, dict, arguments)?;
+        let dict = new_dict(slot, change, entries)?;
+        add_attribute(slot.alloc, slot.attribute, dict, arguments)?;
         return Ok(());
     };
-    put_into(slot, change, entries, &mut value)?;
+    if let Err(refusal) = put_into(slot, change, entries, &mut value) {
+        drop(value);
+        return Err(refusal);
+    }
     set_value(slot.attribute, value, arguments);
     Ok(())
 }
@@ -172,7 +192,10 @@ fn dict_remove(name: &[u8], keys: &[Text], arguments: &mut Items<Expr>) -> Resul
         return Ok(());
     };
     let was_empty = items_of(&value).is_empty();
-    remove_from(keys, &mut value)?;
+    if let Err(refusal) = remove_from(keys, &mut value) {
+        drop(value);
+        return Err(refusal);
+    }
     if items_of(&value).is_empty() && !was_empty {
         drop(value);
         remove_first(name, arguments);

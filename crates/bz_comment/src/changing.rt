@@ -6,6 +6,7 @@ ghost use Rattle.bz_comment.specs.Hosts.{comment_made};
 use bz_items::{Items, Memory, Text};
 use bz_value::{Comments, Expr, trim_end};
 use std::alloc::Global;
+use std::mem;
 
 /// What is done to comments.
 #[derive(Clone, Copy, Debug)]
@@ -35,9 +36,11 @@ fn comments_made(alloc: Global, change: Change<'_>, comments: &Comments) -> Resu
     };
     let mut before = Vec::new(alloc);
     for comment in comments.before() {
-        before.push(comment.copy()?)?;
+        before.reserve(1)?;
+        before.push_reserved(comment.copy()?);
     }
-    before.push(comment_made(alloc, text)?)?;
+    before.reserve(1)?;
+    before.push_reserved(comment_made(alloc, text)?);
     let suffix = comments.suffix().map(Text::copy).transpose()?;
     Comments::new(alloc, Items::from_vec(before), suffix)
 }
@@ -51,8 +54,8 @@ pub fn change_own(alloc: Global, change: Change<'_>, x: &mut Expr) -> Result<(),
 {
     let comments = comments_made(alloc, change, x.comments())?;
     match x {
-        Expr::Token(token) => token.comments = comments,
-        Expr::Form(form) => form.comments = comments,
+        Expr::Token(token) => drop(mem::replace(&mut token.comments, comments)),
+        Expr::Form(form) => drop(mem::replace(&mut form.comments, comments)),
     }
     Ok(())
 }

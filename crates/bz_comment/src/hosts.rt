@@ -176,6 +176,36 @@ impl Change<'_> {
     }
 }
 
+/// Changes the comments of a host among the arguments of a rule, of which `own` are the comments.
+fn change_host(
+    alloc: Global,
+    sought: Sought<'_>,
+    own: &Comments,
+    change: Change<'_>,
+    arguments: &mut Items<Expr>,
+) -> Result<(), Refusal>
+    ensures ok { OnOk result (changed_comments change.entry sought.entry.current.now sought.entry.host.now arguments.old ≡ Ok arguments.new) }
+    ensures err { IfErr result (λ refusal. (changed_comments change.entry sought.entry.current.now sought.entry.host.now arguments.old ≡ Err refusal) ⊎ (refusal ≡ Refusal.Memory)) }
+{
+    comments_at(sought, own, arguments.as_slice())?;
+    match sought.host {
+        Host::Rule => Ok(()),
+        Host::Attribute(_) => Ok(change.on_first(sought, arguments)?),
+        Host::Item { attribute, .. } => {
+            let name = attribute.as_slice();
+            let Some(mut value) = take_value(alloc, name, arguments) else {
+                return Err(Refusal::NoAttribute);
+            };
+            if let Err(_) = change.on_value(sought, &mut value) {
+                drop(value);
+                return Err(Refusal::Memory);
+            }
+            set_value(name, value, arguments);
+            Ok(())
+        }
+    }
+}
+
 /// Changes the comments of a host among the arguments of a rule; the rule itself is no part of them. The errors: the attribute isn't
 /// there, or no item of it is the value (`NoAttribute`); its value is no list, and no sum with one (`NotAList`); memory was refused, and
 /// part of the arguments may be lost.
@@ -189,22 +219,10 @@ pub fn change_comments(
     ensures ok { OnOk result (changed_comments change.entry current.now host.now arguments.old ≡ Ok arguments.new) }
     ensures err { IfErr result (λ refusal. (changed_comments change.entry current.now host.now arguments.old ≡ Err refusal) ⊎ (refusal ≡ Refusal.Memory)) }
 {
-    let sought = Sought { current, host };
     let own = Comments::empty();
-    comments_at(sought, &own, arguments.as_slice())?;
-    match host {
-        Host::Rule => Ok(()),
-        Host::Attribute(_) => Ok(change.on_first(sought, arguments)?),
-        Host::Item { attribute, .. } => {
-            let name = attribute.as_slice();
-            let Some(mut value) = take_value(alloc, name, arguments) else {
-                return Err(Refusal::NoAttribute);
-            };
-            change.on_value(sought, &mut value)?;
-            set_value(name, value, arguments);
-            Ok(())
-        }
-    }
+    let changed = change_host(alloc, Sought { current, host }, &own, change, arguments);
+    drop(own);
+    changed
 }
 
 /// Whether a comment can be put on a host among the arguments of a rule. The errors: those of putting one there, but for memory.

@@ -1,5 +1,5 @@
 //! Symbols that are loaded too: those that aren't loaded so yet, put into a load.
-ghost use Rattle.std.specs.Prelude.{◌≡◌, ◌↔◌, ◌||◌, map, not, IfOk, IsTrue, OnOk};
+ghost use Rattle.std.specs.Prelude.{◌≡◌, ◌↔◌, ◌||◌, ◌++◌, ◌∷◌, [], map, not, IfOk, IsTrue, OnOk};
 ghost use Rattle.std.specs.List.{list_any, position};
 ghost use Rattle.bz_token.specs.declared.class.Class.TheVariants as c;
 ghost use Rattle.bz_value.specs.Exchanged.{IsSpliced};
@@ -30,13 +30,14 @@ fn string(alloc: Global, word: &[u8]) -> Result<Expr, Memory>
 fn symbol_made(alloc: Global, symbol: &Symbol) -> Result<Expr, Memory>
     ensures { IfOk result (λ x. x ≡ symbol_made symbol.now) }
 {
-    let from = string(alloc, symbol.from.as_slice())?;
-    if symbol.to.as_slice() == symbol.from.as_slice() {
-        return Ok(from);
+    let (to, from) = (symbol.to.as_slice(), symbol.from.as_slice());
+    if to == from {
+        return string(alloc, from);
     }
-    let to = new_token(alloc, Class::Name, symbol.to.as_slice())?;
-    let sign = new_token(alloc, Class::Mark, b"=")?;
-    let parts = Vec::from_array(alloc, [to, sign, from])?;
+    let mut parts = Vec::with_capacity(alloc, 3)?;
+    parts.push_reserved(new_token(alloc, Class::Name, to)?);
+    parts.push_reserved(new_token(alloc, Class::Mark, b"=")?);
+    parts.push_reserved(string(alloc, from)?);
     Ok(node(alloc, Kind::Alias, Items::from_vec(parts)))
 }
 
@@ -44,11 +45,13 @@ fn symbol_made(alloc: Global, symbol: &Symbol) -> Result<Expr, Memory>
 fn load_of(alloc: Global, path: &[u8], symbols: &mut Vec<Expr>) -> Result<Item, Memory>
     ensures { IfOk result (λ item. item ≡ load_made path.now symbols.old.items) }
 {
-    let word = new_token(alloc, Class::Keyword, b"load")?;
-    let parts = Items::from_vec(Vec::from_array(alloc, [word])?);
-    let mut items = Vec::from_array(alloc, [string(alloc, path)?])?;
+    let mut parts = Vec::with_capacity(alloc, 1)?;
+    parts.push_reserved(new_token(alloc, Class::Keyword, b"load")?);
+    let mut items = Vec::with_capacity(alloc, 1)?;
+    items.push_reserved(string(alloc, path)?);
     items.append(symbols)?;
-    Ok(Item::Stmt(sequence(alloc, Kind::Load, parts, Items::from_vec(items))))
+    let (parts, items) = (Items::from_vec(parts), Items::from_vec(items));
+    Ok(Item::Stmt(sequence(alloc, Kind::Load, parts, items)))
 }
 
 /// Symbols that are loaded from one path.
@@ -106,6 +109,15 @@ fn known_loads<'a>(
     Ok(known)
 }
 
+/// Appends the item of a load that loads the symbol.
+fn push_symbol(alloc: Global, symbol: &Symbol, made: &mut Vec<Expr>) -> Result<(), Memory>
+    ensures { OnOk result (made.new.items ≡ made.old.items ++ symbol_made symbol.now ∷ []) }
+{
+    made.reserve(1)?;
+    made.push_reserved(symbol_made(alloc, symbol)?);
+    Ok(())
+}
+
 /// New items of a load for the symbols that are not loaded so yet, each once.
 #[tactic(auto, using(crate::proofs::KnownSteps::all_known))]
 fn new_symbols(
@@ -123,7 +135,7 @@ fn new_symbols(
     for symbol in symbols {
         let (to, from) = (symbol.to.as_slice(), symbol.from.as_slice());
         if insert_key(Loaded { to, from }, &mut known)? {
-            made.push(symbol_made(alloc, symbol)?)?;
+            push_symbol(alloc, symbol, &mut made)?;
         }
     }
     Ok(made)

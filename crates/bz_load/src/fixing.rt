@@ -215,7 +215,8 @@ pub fn fix(alloc: Global, fixes: Fixes, items: &[Item]) -> Result<Items<Item>, M
 {
     let mut all = Vec::with_capacity(alloc, items.len())?;
     for item in items {
-        all.push(item.copy()?)?;
+        all.reserve(1)?;
+        all.push_reserved(item.copy()?);
     }
     move_package(fixes.move_package_to_top, &mut all)?;
     drop_unused(alloc, fixes.unused_loads, &mut all)?;

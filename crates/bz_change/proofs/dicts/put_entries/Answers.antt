@@ -1,5 +1,4 @@
-use Rattle.std.proofs.Common.{◌∙◌, arith, rules, ap}
-use Rattle.bz_attribute.specs.Made.{string_of}
+use Rattle.std.proofs.Common.{◌∙◌, arith, rules}
 use Rattle.bz_change.proofs.KeyPlaces.{entry_absent, first, entry_kept, entry_set, all_before, put_next}
 use Rattle.bz_change.proofs.dicts.put_entries.Goals as goal
 
@@ -28,7 +27,7 @@ loop-entry-preserved-in_default-change c = record {
 pub loop-entry-preserved : goal.loop-entry-preserved
 loop-entry-preserved c =
     let kept = entry_set c.args.change c.args.slot.current.now c.args.slot.attribute.now c.entry-item.result c.loop-entry.places c.loop-entry.items c.loop-entry.invariant.indexed c.in-Some.field-0.now (search rules) c.in-Set.is
-    _ _ _ c.at_mut.ensures.value c.swap_value.ensures.there (c.in_ok-value.ensures ∙ ap (string_of c.args.slot.current.now c.args.slot.attribute.now) c.as_slice-in-loop-entry-2.ensures) in
+    _ _ c.at_mut.ensures.value c.in_ok-set_entry.ensures in
     record {
       indexed = kept.1;
       put = put_next c.args.change c.args.slot.current.now c.args.slot.attribute.now c.args.entries.now c.loop-entry.entry-index c.entry-item.result _ _ _ (omega arith) c.entry-item.is kept.0 c.loop-entry.invariant.put;

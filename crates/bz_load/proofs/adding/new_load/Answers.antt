@@ -1,5 +1,5 @@
-use Rattle.std.proofs.Common.{◌≤◌, ◌∙◌, ap, arith, length, refl, subst}
-use Rattle.std.specs.Prelude.{Some, ◌==◌}
+use Rattle.std.proofs.Common.{◌≤◌, ◌∙◌, ap, arith, length, subst}
+use Rattle.std.specs.Prelude.{◌==◌}
 use Rattle.std.specs.List.{position}
 use Rattle.bz_load.specs.Loads.{is_load_from}
 use Rattle.bz_load.proofs.PutSteps.{none_counted, put_at, same_there}

@@ -7,7 +7,7 @@ use Rattle.bz_load.specs.Loads.{symbol_named}
 use Rattle.bz_load.specs.NewLoad.{new_symbols, symbol_made}
 use Rattle.bz_load.proofs.KnownSteps.{next_known, next_new}
 use Rattle.bz_load.proofs.adding.new_symbols.Goals as goal
-use Rattle.bz_load.proofs.adding.new_symbols.Goals.{then-branch+in_ok-symbol_made+in_ok-push, else-branch}
+use Rattle.bz_load.proofs.adding.new_symbols.Goals.{then-branch+in_ok-push_symbol, else-branch}
 
 pub loop-symbol-preserved : goal.loop-symbol-preserved
 loop-symbol-preserved c =
@@ -22,8 +22,8 @@ loop-symbol-preserved c =
     let same : symbol_named c.as_slice-to.result.now c.as_slice-from.result.now ≡ symbol =
     ap (λ to. symbol_named to c.as_slice-from.result.now) c.as_slice-to.ensures ∙ ap (symbol_named symbol.to) c.as_slice-from.ensures in
     elim c.if-branch.branch [
-      | then-branch+in_ok-symbol_made+in_ok-push w ↦
-          let more : c.if-branch.made.items ≡ made ++ symbol_made symbol ∷ [] = ap (λ made. made.items) w.made-is ∙ (w.in_ok-push.ensures.items ∙ ap (λ x. made ++ x ∷ []) w.in_ok-symbol_made.ensures) in
+      | then-branch+in_ok-push_symbol w ↦
+          let more : c.if-branch.made.items ≡ made ++ symbol_made symbol ∷ [] = ap (λ made. made.items) w.made-is ∙ w.in_ok-push_symbol.ensures in
           ap (λ xs. xs ++ map symbol_made (new_symbols (knows new) rest)) more
           ∙ (append_assoc made (symbol_made symbol ∷ []) (map symbol_made (new_symbols (knows new) rest))
           ∙ (ap (λ xs. made ++ map symbol_made xs) (next_new old new key symbol same c.in_ok-insert_key.ensures.known rest (sym w.if-branch.true ∙ c.in_ok-insert_key.ensures.new)) ∙ before))
