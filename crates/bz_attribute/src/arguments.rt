@@ -50,13 +50,13 @@ pub fn swap_value(kind: Kind, other: &mut Expr, x: &mut Expr)
     ensures there { x.new ≡ on_row kind (on_third (λ _. other.old)) x.old }
     ensures other { (name : Bytes) → kind ≡ kinds.Named → is_attribute name x.old ≡ true → Some other.new ≡ value_named name x.old }
 {
-    match x {
-        Expr::Form(form) if form.kind == kind => {
-            if let [_, _, third, ..] = form.parts.as_mut_slice() {
-                mem::swap(third, other);
-            }
+    if !has_kind(kind, x) {
+        return;
+    }
+    if let Expr::Form(form) = x {
+        if let [_, _, third, ..] = form.parts.as_mut_slice() {
+            mem::swap(third, other);
         }
-        _ => {}
     }
 }
 
