@@ -7,6 +7,7 @@ pub mod Hashes
 pub mod Kept
 pub mod Layouts
 pub mod Meant
+pub mod MovedLines
 pub mod Digested
 pub mod Edited
 pub mod PutLines

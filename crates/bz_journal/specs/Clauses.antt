@@ -16,6 +16,7 @@ pub use Rattle.bz_journal.specs.History.{Acts, Answer, History, IsFormat, IsKept
 pub use Rattle.bz_journal.specs.Keeping.{HasActed, IsRefused, IsWriteOrOpen, IsWrittenSince, Keeps, KeepsFile, KeepsPair}
 pub use Rattle.bz_journal.specs.Lasting.{AlikeActs, AlikeGoesOn, GoesOn, IsAgain, IsKnownSession, IsResumedSession, IsSavedSession, saved}
 pub use Rattle.bz_journal.specs.private.Lines.{AreIn, AreLinesOf, AreSpliced, tree_with}
+pub use Rattle.bz_journal.specs.private.Moving.{AreMoved, IsLike, IsLineOfOne, moved, moved_from}
 pub use Rattle.bz_journal.specs.Listing.{lines_of_texts, listing, noted, text_line, text_lines_from}
 pub use Rattle.bz_journal.specs.Lookups.{AreLookupsOf}
 pub use Rattle.bz_journal.specs.Meaning.{Means, gives, refuses, printed_answer, written}
@@ -39,7 +40,7 @@ pub use Rattle.bz_grammar.specs.Faults.{IsOfText}
 pub use Rattle.bz_grammar.specs.Legal.{Accepted}
 pub use Rattle.bz_grammar.specs.Places.{Ascend, put_all}
 pub use Rattle.bz_grammar.specs.Spell.{limit, spell_leaf, spell_node, spell_part}
-pub use Rattle.bz_grammar.specs.Statements.{lines_of}
+pub use Rattle.bz_grammar.specs.Statements.{fronts, fronts_in, is_node, lines_of, newlines, node_parts}
 pub use Rattle.bz_grammar.specs.declared.tree.Node.{Node}
 pub use Rattle.bz_value.specs.declared.value.Item.{Item}
 pub use Rattle.bz_hosts.specs.View.{view_of}

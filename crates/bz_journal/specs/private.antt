@@ -2,3 +2,4 @@
 pub mod Alone
 pub mod Doing
 pub mod Lines
+pub mod Moving

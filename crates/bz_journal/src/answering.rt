@@ -91,6 +91,24 @@ fn answer_of(
     }
 }
 
+/// Looks up the lines on which statements begin, where a command or its target looks at them and they aren't there yet. The error: memory
+/// was refused.
+pub(crate) fn look_up_lines(
+    alloc: Global,
+    command: &Command,
+    target: &Target,
+    lookups: &mut Lookups,
+    tree: &Tree,
+) -> Result<(), Memory>
+    requires { AreLookupsOf lookups.old tree.now }
+    ensures { AreLookupsOf lookups.new tree.now }
+{
+    if lookups.lines.is_none() && looks_at_lines(command, target) {
+        lookups.lines = Some(Items::from_vec(tree.lines(alloc)?));
+    }
+    Ok(())
+}
+
 /// Looks up what a command and its target need of a tree and its value, and isn't there yet. The error: memory was refused.
 fn look_up(
     alloc: Global,
@@ -104,9 +122,7 @@ fn look_up(
     requires value { file.now ≡ view_of tree.now }
     ensures { AreLookupsOf lookups.new tree.now }
 {
-    if lookups.lines.is_none() && looks_at_lines(command, target) {
-        lookups.lines = Some(Items::from_vec(tree.lines(alloc)?));
-    }
+    look_up_lines(alloc, command, target, lookups, tree)?;
     if lookups.names.is_none() && matches!(target.which, Which::Name(_)) {
         lookups.names = Some(Names::of(alloc, file.items.as_slice())?);
     }

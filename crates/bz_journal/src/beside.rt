@@ -5,11 +5,12 @@ ghost use Rattle.bz_journal.specs.Clauses.{AreLinesOf, EndsAt, EndsKeeping, HasA
 ghost use Rattle.bz_journal.specs.Actions as a;
 
 use crate::action::{Action, Reply};
-use crate::answering::{Lookups, answer};
+use crate::answering::{Lookups, answer, look_up_lines};
 use crate::course::{Course, MOST_NOTE, unchanged};
 use crate::laws::written_is_laid_out;
 use crate::lines::Lines;
 use crate::meaning::{printed_answer, run_on_tree, value_of};
+use crate::moving::begins_after;
 use bz_build_format::{comments_fill, reads_back, written};
 use bz_command::{Extent, Spliced};
 use bz_command_syntax::Command;
@@ -155,11 +156,17 @@ fn take_up_value(
     ensures beside { IsBeside course.new.tree beside.new }
 {
     written_is_laid_out();
-    let _before = course.present();
+    let before = course.present();
+    reads_back(before);
     let _items = &file.items;
+    let begins = begins_after(beside.lookups.lines.take(), &lines, before);
     match take_up_tidied(course, file, lines, printed, note) {
         Ok((reply, kept)) => {
             reads_back(course.present());
+            beside.lookups = Lookups {
+                names: None, // those of the text before
+                lines: begins,
+            };
             beside.written = true;
             beside.length_bound = most;
             beside.value = kept;
@@ -224,10 +231,11 @@ fn edit(
     let here = course.present();
     reads_back(here);
     comments_fill();
-    beside.lookups = Lookups::none(); // those of the text before
+    look_up_lines(alloc, command, target, &mut beside.lookups, here)?;
     let mut file = value_of(alloc, beside.value.take(), here)?;
     let current = course.own_package().as_bytes();
-    match run_on_tree(alloc, command, target, current, here, &mut file) {
+    let lookups = &beside.lookups;
+    match run_on_tree(alloc, command, target, current, here, lookups, &mut file) {
         Ok(ran) => {
             let printed = printed_answer(command, ran.printed);
             if ran.same {

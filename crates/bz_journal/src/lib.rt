@@ -14,6 +14,7 @@ mod laws;
 mod lines;
 mod listing;
 mod meaning;
+mod moving;
 mod revisions;
 mod session;
 mod texts;

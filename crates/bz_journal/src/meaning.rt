@@ -2,6 +2,7 @@
 ghost use Rattle.std.specs.Prelude.{◌≡◌, ◌⊎◌, List, Ok, IfOk, IfErr, IfSome};
 ghost use Rattle.bz_journal.specs.Clauses.{Bytes, Item, Means, Refusal, RunsIn, effect, gives, lines_of, printed, printed_answer, refuses, spell_node, text_or, view_of};
 
+use crate::answering::Lookups;
 use bz_build_format::{comments_fill, reads_back, written_text};
 use bz_command::{Ran, lines_matter, looks_at_lines, overfills, run_in};
 use bz_command_syntax::Command;
@@ -66,18 +67,23 @@ fn run_by_lines(
     run_in(alloc, command, target, current, lines, file)
 }
 
-/// The same on the value of a tree.
+/// The same on the value of a tree, by the lines that were looked up in it.
 pub(crate) fn run_on_tree(
     alloc: Global,
     command: &Command,
     target: &Target,
     current: &[u8],
     tree: &Tree,
+    lookups: &Lookups,
     file: &mut File,
 ) -> Result<Ran, Refusal>
+    requires { IfSome lookups.now.lines (λ lines. lines ≡ lines_of tree.now) }
     ensures { RunsIn (effect command.now target.now current.now (lines_of tree.now) file.old) (printed command.now target.now current.now (lines_of tree.now) file.old) file.old result file.new }
 {
-    let lines = lines_for(alloc, command, target, tree)?;
+    let Some(lines) = &lookups.lines else {
+        let lines = lines_for(alloc, command, target, tree)?;
+        return run_by_lines(alloc, command, target, current, lines.as_slice(), file);
+    };
     run_by_lines(alloc, command, target, current, lines.as_slice(), file)
 }
 

@@ -14,7 +14,6 @@ use Rattle.bz_journal.specs.declared.action.Reply.{Reply}
 use Rattle.bz_journal.specs.declared.beside.Beside.{Beside}
 use Rattle.bz_journal.specs.Editing.{IsBeside}
 use Rattle.bz_journal.specs.History.{Answer, History, MakesOrWants, note_limit}
-use Rattle.bz_journal.specs.Lookups.{AreLookupsOf}
 use Rattle.bz_journal.specs.Shown.{session_history}
 use Rattle.bz_journal.specs.State.{SessionState, session_trail}
 
@@ -50,9 +49,8 @@ pub record HasMade (action : Action) (note : Bytes) (s : SessionState) (answer :
   pub unmoved : OnErr answer (t ≡ s)
   pub small : IsSmall (session_trail s) → IsSmall (session_trail t)
 
--- The note isn't too long, no value is kept beside the session, and nothing was looked up.
+-- The note isn't too long, and no value is kept beside the session.
 pub record IsReady (note : Bytes) (tree : Node) (beside : Beside) : Type 0 where
   pub short : length note ≤ note_limit
   pub none : beside.value ≡ None
   pub own : IsBeside tree beside
-  pub looked : (other : Node) → AreLookupsOf beside.lookups other

@@ -1,7 +1,6 @@
 use Rattle.std.proofs.Common.{◌∙◌, ⊎_elim, ap, inl, inr, subst}
 use Rattle.bz_command.specs.Effect.{effect, printed}
 use Rattle.bz_grammar.specs.Spell.{spell_node}
-use Rattle.bz_grammar.specs.Statements.{lines_of}
 use Rattle.bz_journal.specs.Meaning.{Meaning, Means}
 use Rattle.bz_journal.proofs.Meant.{meant_made, meant_not}
 use Rattle.bz_journal.proofs.Overfull.{overfull_is_refused}

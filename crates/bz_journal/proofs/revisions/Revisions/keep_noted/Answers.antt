@@ -1,4 +1,4 @@
-use Rattle.std.proofs.Common.{◌∙◌, ◌≡◌, ap, subst, sym}
+use Rattle.std.proofs.Common.{◌∙◌, ap, subst, sym}
 use Rattle.bz_journal.specs.Actions.{action_in}
 use Rattle.bz_journal.specs.Forms.{revisions_history}
 use Rattle.bz_journal.specs.History.{History}

@@ -1,0 +1,209 @@
+-- The lines on which statements begin, where one part of a file takes the place of another.
+use Rattle.std.proofs.Common.{◌≡◌, ◌<◌, ◌≤◌, ◌+◌, ◌∙◌, ℕ, suc, Bool, Bor, true, false, List, [], ◌∷◌, ◌++◌, Option, None, Some, if◌then◌else◌, is_some, length, map, take, drop, get_or, slice_get, refl, sym, ap, subst, arith, append_assoc}
+use Rattle.std.specs.List.{flat_map}
+use Rattle.std.specs.Option.{option_copied}
+use Rattle.std.specs.Prelude.{IfSome, MatchOption, slice_set}
+use Rattle.std.proofs.Math.Seq.{drop-append_seam, take-append_seam}
+use Rattle.std.proofs.lemmas.Bool.{false≢true}
+use Rattle.std.proofs.lemmas.Grind.{flat_map-append}
+use Rattle.std.proofs.lemmas.List.{append-nil, drop_all, drop_more, length-append, length-map, length-take-le, map-append, set_split, take-append-drop, take_more}
+use Rattle.bz_lex.specs.declared.leaf.Leaf.{Leaf}
+use Rattle.bz_grammar.specs.declared.tree.Node.{Node}
+use Rattle.bz_grammar.specs.declared.tree.Part.{Part}
+use Rattle.bz_grammar.specs.declared.tree.Part.TheVariants as p
+use Rattle.bz_grammar.specs.Legal.{Legal}
+use Rattle.bz_grammar.specs.Places.{Ascend, put_all}
+use Rattle.bz_grammar.specs.Spell.{leaves_part, spell_node, spell_part}
+use Rattle.bz_grammar.specs.Statements.{first_gap, fronts, fronts_in, gap_of, is_node, line_following, lines_of, newlines, node_parts}
+use Rattle.bz_grammar.proofs.AllLines.{lines_among, lines_in}
+use Rattle.bz_grammar.proofs.Nested.{items_of_row}
+use Rattle.bz_grammar.proofs.Spells.{spell_Node}
+use Rattle.bz_grammar.proofs.Statements.{newlines_append, text_more, text_to}
+use Rattle.bz_value.specs.declared.value.Item.{Item}
+use Rattle.bz_layout.specs.LaidOut.{laid_out}
+use Rattle.bz_layout.specs.declared.marked.Relaid.{Relaid}
+use Rattle.bz_journal.specs.declared.lines.Lines.{Lines}
+use Rattle.bz_journal.specs.declared.lines.Lines.TheVariants as l
+use Rattle.bz_journal.specs.private.Lines.{AreIn, AreLinesOf, tree_with}
+use Rattle.bz_journal.specs.private.Moving.{AreMoved, IsLike, IsLineOfOne, moved}
+use Rattle.bz_journal.proofs.PutLines.{tree_with_lines}
+
+pub spelled : (n : Node) → spell_part (p.Node n) ≡ spell_node n
+spelled n = spell_Node n
+
+-- ---- lines with one statement
+
+of_two : (front : List ℕ) (s e : Part) → is_node s ≡ true → is_node e ≡ false → fronts_in front (s ∷ e ∷ []) ≡ (front ++ gap_of s) ∷ []
+of_two front s e node leaf = rw (node, leaf) refl
+
+two_front : (xs : List Part) (s e : Part) (front : List ℕ) → length xs ≡ 2 → s ≡ get_or xs 0 s → e ≡ get_or xs 1 e → true ≡ is_node s → false ≡ is_node e
+    → fronts_in front xs ≡ (front ++ first_gap (flat_map leaves_part (take 1 xs))) ∷ []
+two_front [] s e front count is next node leaf = absurd (omega arith)
+two_front (a ∷ []) s e front count is next node leaf = absurd (omega arith)
+two_front (a ∷ b ∷ []) s e front count is next node leaf =
+    of_two front a b (ap is_node (sym is) ∙ sym node) (ap is_node (sym next) ∙ sym leaf) ∙ ap (λ (ls : List Leaf). (front ++ first_gap ls) ∷ []) (sym (append-nil (leaves_part a)))
+two_front (a ∷ b ∷ c ∷ xs) s e front count is next node leaf = absurd (omega arith)
+
+pub line_of_one : (line : Node) (x : Part) (xs : List Part) (s e : Part) → x ≡ p.Node line → xs ≡ line.parts → length xs ≡ 2 → s ≡ get_or xs 0 s → e ≡ get_or xs 1 e
+    → true ≡ is_node s → false ≡ is_node e → IsLineOfOne x xs
+line_of_one line x xs s e is own size at_first at_end node leaf = record {
+  count = size;
+  begun = λ front. ap (λ (y : Part). fronts_in front (node_parts y)) is ∙ ap (fronts_in front) (items_of_row line ∙ sym own) ∙ two_front xs s e front size at_first at_end node leaf;
+}
+
+first_is : (ls : List Leaf) (first : Leaf) → Some first ≡ slice_get ls 0 → first_gap ls ≡ first.gap
+first_is [] first e = absurd (let none : Some first ≡ None = e in cc)
+first_is (l ∷ ls) first e = let same : first ≡ l = (let some : Some first ≡ Some l = e in cc) in ap (λ (x : Leaf). x.gap) (sym same)
+
+-- the gap in front of the first leaf of such a line
+pub opening : (x : Part) (xs : List Part) (first : Leaf) (front : List ℕ) → IsLineOfOne x xs → Some first ≡ slice_get (flat_map leaves_part (take 1 xs)) 0
+    → fronts_in front (node_parts x) ≡ (front ++ first.gap) ∷ []
+opening x xs first front one is = one.begun front ∙ ap (λ (gap : List ℕ). (front ++ gap) ∷ []) (first_is _ first is)
+
+-- the first parts have one statement each
+abbrev pub OneEach : List Part → ℕ → Type 0
+OneEach xs i = (front : List ℕ) → length (fronts front xs) ≡ i + length (fronts (text_to front xs i) (drop i xs))
+
+copied_some : {T : Type 0} (o : Option (Bor T)) → is_some o ≡ true → is_some (option_copied o) ≡ true
+copied_some None e = e
+copied_some (Some b) e = refl
+
+one_more : (xs : List Part) (i : ℕ) (d : Part) (found : Option (List Part)) → i < length xs → d ≡ get_or xs i d → is_some found ≡ true → IfSome found (λ parts. IsLineOfOne d parts)
+    → OneEach xs i → OneEach xs (i + 1)
+one_more xs i d None within is some one so_far = absurd (false≢true some)
+one_more xs i d (Some parts) within is some one so_far = λ front.
+    let here : List ℕ = text_to front xs i in
+    let rest : List Part = drop (i + 1) xs in
+    let gap : List ℕ = first_gap (flat_map leaves_part (take 1 parts)) in
+    let next : drop i xs ≡ d ∷ rest = drop_more xs i d within ∙ ap (λ (y : Part). y ∷ rest) (sym is) in
+    let begun : fronts here (drop i xs) ≡ (here ++ gap) ∷ fronts (text_to front xs (i + 1)) rest =
+    ap (fronts here) next ∙ ap (λ (ts : List (List ℕ)). ts ++ fronts (here ++ spell_part d) rest) (one.begun here) ∙ ap (λ (t : List ℕ). (here ++ gap) ∷ fronts t rest) (text_more front xs i d within is) in
+    omega (arith, so_far front, ap length begun)
+
+pub found_more : (xs : List Part) (i : ℕ) (d : Part) (found : Option (Bor (List Part))) → i < length xs → d ≡ get_or xs i d → is_some found ≡ true
+    → IfSome (option_copied found) (λ parts. IsLineOfOne d parts) → OneEach xs i → OneEach xs (i + 1)
+found_more xs i d found within is some one so_far = one_more xs i d (option_copied found) within is (copied_some found some) one so_far
+
+pub all_one : (xs : List Part) (i : ℕ) → length xs ≤ i → i ≤ length xs → OneEach xs i → (front : List ℕ) → length (fronts front xs) ≡ length xs
+all_one xs i past within each = λ front. omega (arith, each front, ap (λ (ys : List Part). length (fronts (text_to front xs i) ys)) (drop_all i xs past), past, within)
+
+-- ---- after a text with fewer or more newlines
+
+further : (f g t : List ℕ) (gone come : ℕ) → newlines g + gone ≡ newlines f + come → newlines (g ++ t) + gone ≡ newlines (f ++ t) + come
+further f g t gone come e = omega (arith, e, newlines_append g t, newlines_append f t)
+
+line_moved : (f g t : List ℕ) (gone come : ℕ) → newlines g + gone ≡ newlines f + come → line_following (g ++ t) ≡ moved gone come (line_following (f ++ t))
+line_moved f g t gone come e = omega (arith, e, newlines_append g t, newlines_append f t)
+
+first_moved : (b : Bool) (t u : List ℕ) (ts us : List (List ℕ)) (gone come : ℕ) → line_following u ≡ moved gone come (line_following t) → map line_following us ≡ map (moved gone come) (map line_following ts)
+    → map line_following (if b then u ∷ us else us) ≡ map (moved gone come) (map line_following (if b then t ∷ ts else ts))
+first_moved true t u ts us gone come e rest = ap (λ (line : ℕ). line ∷ map line_following us) e ∙ ap (λ (lines : List ℕ). moved gone come (line_following t) ∷ lines) rest
+first_moved false t u ts us gone come e rest = rest
+
+in_moved : (f g : List ℕ) (xs : List Part) (gone come : ℕ) → newlines g + gone ≡ newlines f + come → lines_in g xs ≡ map (moved gone come) (lines_in f xs)
+in_moved f g [] gone come e = refl
+in_moved f g (x ∷ xs) gone come e =
+    first_moved (is_node x) (f ++ gap_of x) (g ++ gap_of x) _ _ gone come (line_moved f g (gap_of x) gone come e) (in_moved (f ++ spell_part x) (g ++ spell_part x) xs gone come (further f g (spell_part x) gone come e))
+
+both_moved : (a b c d : List (List ℕ)) (gone come : ℕ) → map line_following c ≡ map (moved gone come) (map line_following a) → map line_following d ≡ map (moved gone come) (map line_following b)
+    → map line_following (c ++ d) ≡ map (moved gone come) (map line_following (a ++ b))
+both_moved a b c d gone come e f =
+    map-append line_following c d ∙ ap (λ (lines : List ℕ). lines ++ map line_following d) e ∙ ap (λ (lines : List ℕ). map (moved gone come) (map line_following a) ++ lines) f
+    ∙ sym (ap (map (moved gone come)) (map-append line_following a b) ∙ map-append (moved gone come) (map line_following a) (map line_following b))
+
+among_moved : (f g : List ℕ) (xs : List Part) (gone come : ℕ) → newlines g + gone ≡ newlines f + come → lines_among g xs ≡ map (moved gone come) (lines_among f xs)
+among_moved f g [] gone come e = refl
+among_moved f g (x ∷ xs) gone come e =
+    both_moved (fronts_in f (node_parts x)) (fronts (f ++ spell_part x) xs) (fronts_in g (node_parts x)) (fronts (g ++ spell_part x) xs) gone come (in_moved f g (node_parts x) gone come e)
+    (among_moved (f ++ spell_part x) (g ++ spell_part x) xs gone come (further f g (spell_part x) gone come e))
+
+-- ---- one part in the place of another
+
+parted : (here : List ℕ) (xs ys : List Part) → fronts here (xs ++ ys) ≡ fronts here xs ++ fronts (here ++ flat_map spell_part xs) ys
+parted here [] ys = ap (λ (t : List ℕ). fronts t ys) (sym (append-nil here))
+parted here (x ∷ xs) ys =
+    let next : List ℕ = here ++ spell_part x in
+    ap (λ (ts : List (List ℕ)). fronts_in here (node_parts x) ++ ts) (parted next xs ys ∙ ap (λ (t : List ℕ). fronts next xs ++ fronts t ys) (append_assoc here (spell_part x) (flat_map spell_part xs)))
+    ∙ sym (append_assoc (fronts_in here (node_parts x)) (fronts next xs) (fronts (here ++ flat_map spell_part (x ∷ xs)) ys))
+
+moved_there : (a b now next : List ℕ) (n gone come : ℕ) → length a ≡ n → now ≡ a ++ b → next ≡ a ++ map (moved gone come) b → AreMoved n gone come now next
+moved_there a b now next n gone come size is after =
+    let front : take n now ≡ a = ap (λ (k : ℕ). take k now) (sym size) ∙ ap (take (length a)) is ∙ take-append_seam a b in
+    let rest : drop n now ≡ b = ap (λ (k : ℕ). drop k now) (sym size) ∙ ap (drop (length a)) is ∙ drop-append_seam a b in
+    record {
+      within = omega (arith, size, ap length is, length-append a b);
+      are = after ∙ sym (ap (λ (xs : List ℕ). xs ++ map (moved gone come) (drop n now)) front ∙ ap (λ (xs : List ℕ). a ++ map (moved gone come) xs) rest);
+    }
+
+module _ (t q : List Part) (old new : Part) (n gone come : ℕ) (like : IsLike old new gone come) (each : length (fronts [] (t ++ old ∷ [])) ≡ n) where
+  abbrev Text : Part → List ℕ
+  Text x = flat_map spell_part (t ++ x ∷ [])
+
+  abbrev begins : List ℕ
+  begins = map line_following (fronts [] (t ++ old ∷ []))
+
+  same : fronts [] (t ++ new ∷ []) ≡ fronts [] (t ++ old ∷ [])
+  same = parted [] t (new ∷ []) ∙ ap (λ (ts : List (List ℕ)). fronts [] t ++ (ts ++ [])) (like.begun (flat_map spell_part t)) ∙ sym (parted [] t (old ∷ []))
+
+  counted : (x : Part) → newlines (Text x) ≡ newlines (flat_map spell_part t) + newlines (spell_part x)
+  counted x =
+      ap newlines (flat_map-append spell_part t (x ∷ []) ∙ ap (λ (s : List ℕ). flat_map spell_part t ++ s) (append-nil (spell_part x))) ∙ newlines_append (flat_map spell_part t) (spell_part x)
+
+  lines_with : (x : Part) → lines_among [] (t ++ x ∷ q) ≡ lines_among [] (t ++ x ∷ []) ++ lines_among (Text x) q
+  lines_with x =
+      ap (lines_among []) (sym (append_assoc t (x ∷ []) q)) ∙ ap (map line_following) (parted [] (t ++ x ∷ []) q) ∙ map-append line_following (fronts [] (t ++ x ∷ [])) (fronts (Text x) q)
+
+  at_place : AreMoved n gone come (lines_among [] (t ++ old ∷ q)) (lines_among [] (t ++ new ∷ q))
+  at_place =
+      let rest = among_moved (Text old) (Text new) q gone come (omega (arith, counted old, counted new, like.gone_is, like.come_is)) in
+      moved_there begins (lines_among (Text old) q) _ _ n gone come (length-map (fronts [] (t ++ old ∷ [])) line_following ∙ each) (lines_with old)
+      (lines_with new ∙ ap (λ (ts : List (List ℕ)). map line_following ts ++ lines_among (Text new) q) same ∙ ap (λ (lines : List ℕ). begins ++ lines) rest)
+
+-- the parts so far have one statement each, and the last of them is exchanged
+pub exchanged : (parts : List Part) (place : ℕ) (old new : Part) (gone come : ℕ) → place < length parts → old ≡ get_or parts place old → IsLike old new gone come
+    → length (fronts [] (take (place + 1) parts)) ≡ place + 1 → AreMoved (place + 1) gone come (lines_among [] parts) (lines_among [] (slice_set parts place new))
+exchanged parts place old new gone come within is like each =
+    let t : List Part = take place parts in
+    let q : List Part = drop (place + 1) parts in
+    let step : suc place ≡ place + 1 = omega arith in
+    let own : parts ≡ t ++ old ∷ q = sym (take-append-drop place parts) ∙ ap (λ (xs : List Part). t ++ xs) (drop_more parts place old within) ∙ ap (λ (x : Part). t ++ x ∷ q) (sym is) in
+    let put : slice_set parts place new ≡ t ++ new ∷ q = set_split parts place new within ∙ ap (λ (k : ℕ). t ++ new ∷ drop k parts) step in
+    let first : take (place + 1) parts ≡ t ++ old ∷ [] = take_more parts place old within ∙ ap (λ (x : Part). t ++ x ∷ []) (sym is) in
+    let moves : AreMoved (place + 1) gone come (lines_among [] (t ++ old ∷ q)) (lines_among [] (t ++ new ∷ q)) =
+    at_place t q old new (place + 1) gone come like (ap (λ (xs : List Part). length (fronts [] xs)) (sym first) ∙ each) in
+    subst (λ (xs : List Part). AreMoved (place + 1) gone come (lines_among [] xs) (lines_among [] (slice_set parts place new))) (sym own)
+    (subst (λ (xs : List Part). AreMoved (place + 1) gone come (lines_among [] (t ++ old ∷ q)) (lines_among [] xs)) (sym put) moves)
+
+-- ---- lines in the place of parts of a tree
+
+one_of : {X : Type 0} (xs : List X) (d : X) → 1 ≤ length xs → length xs < 2 → xs ≡ get_or xs 0 d ∷ []
+one_of [] d some few = absurd (omega (arith, some))
+one_of (x ∷ []) d some few = refl
+one_of (x ∷ y ∷ xs) d some few = absurd (omega (arith, few))
+
+-- one line in the place of one part
+pub shifts : (lines : Lines) (relaid : Relaid) (tree : Node) (places : List ℕ) (held parts : List Part) (line old : Part) (gone come : ℕ) → lines ≡ l.Exchanged relaid → AreIn lines tree
+    → places ≡ relaid.places → held ≡ relaid.lines → parts ≡ tree.parts → 1 ≤ length places → length places < 2 → 1 ≤ length held → length held < 2
+    → line ≡ get_or held 0 line → old ≡ get_or parts (get_or places 0 0) old → IsLike old line gone come
+    → length (fronts [] (take (get_or places 0 0 + 1) parts)) ≡ length (take (get_or places 0 0 + 1) parts)
+    → AreMoved (get_or places 0 0 + 1) gone come (lines_of tree) (lines_of (tree_with lines tree))
+shifts lines relaid tree places held parts line old gone come is within own mine all some few some_held few_held first there like each =
+    let place : ℕ = get_or places 0 0 in
+    let one : relaid.places ≡ place ∷ [] = sym own ∙ one_of places 0 some few in
+    let put : relaid.lines ≡ line ∷ [] = sym mine ∙ one_of held line some_held few_held ∙ ap (λ (x : Part). x ∷ []) (sym first) in
+    let placed : AreIn (l.Exchanged relaid) tree = subst (λ (x : Lines). AreIn x tree) is within in
+    let ascend : Ascend 0 (length tree.parts) (place ∷ []) = subst (Ascend 0 (length tree.parts)) one placed.1 in
+    let inside : place < length parts = subst (λ (xs : List Part). place < length xs) (sym all) ascend.1 in
+    let next : (tree_with lines tree).parts ≡ slice_set parts place line =
+    ap (λ (x : Lines). (tree_with x tree).parts) is ∙ ap (λ (ps : List ℕ). put_all ps relaid.lines tree.parts) one ∙ ap (λ (ls : List Part). put_all (place ∷ []) ls tree.parts) put
+    ∙ ap (λ (xs : List Part). slice_set xs place line) (sym all) in
+    let moves = exchanged parts place old line gone come inside there like (each ∙ length-take-le (place + 1) parts (omega (arith, inside))) in
+    subst (λ (xs : List Part). AreMoved (place + 1) gone come (lines_among [] xs) (lines_of (tree_with lines tree))) all
+    (subst (λ (xs : List Part). AreMoved (place + 1) gone come (lines_among [] parts) (lines_among [] xs)) (sym next) moves)
+
+-- the lines that moved, of the tree that was laid out
+pub begun_next : (lines : Option Lines) (found : Option (List ℕ)) (tree next : Node) (items : List Item) → Legal tree → IfSome lines (λ new. AreLinesOf new tree items) → laid_out items ≡ next
+    → MatchOption lines (found ≡ None) (λ new. IfSome found (λ own. own ≡ lines_of (tree_with new tree))) → IfSome found (λ own. own ≡ lines_of next)
+begun_next None found tree next items legal are laid none = subst (λ (known : Option (List ℕ)). IfSome known (λ own. own ≡ lines_of next)) (sym none) tt
+begun_next (Some lines) found tree next items legal are laid after =
+    subst (λ (n : Node). IfSome found (λ own. own ≡ lines_of n)) (tree_with_lines lines tree items legal are ∙ laid) after

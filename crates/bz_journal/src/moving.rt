@@ -1,0 +1,173 @@
+//! The lines on which the statements of a file begin, where one of its parts is exchanged: those after it move.
+ghost use Rattle.std.specs.Prelude.{◌≡◌, ◌≤◌, ◌++◌, ◌∷◌, [], List, None, ℕ, IfSome, IsTrue, MatchOption, length, map};
+ghost use Rattle.std.specs.Option.{option_copied};
+ghost use Rattle.bz_journal.specs.Clauses.{AreIn, AreMoved, IsLike, IsLineOfOne, fronts, fronts_in, is_node, lines_of, moved, moved_from, newlines, node_parts, spell_part, tree_with};
+
+use crate::lines::Lines;
+use bz_grammar::{LENGTH_LIMIT, Part, Tree, first_of};
+use bz_items::{Gap, Items};
+
+/// How many newlines are in a text; none where this is longer than a text may be.
+fn newlines_in(text: &[u8]) -> Option<u32>
+    ensures { IfSome result (λ count. count ≡ newlines text.now) }
+{
+    if text.len() > LENGTH_LIMIT {
+        return None;
+    }
+    Some(text.iter().filter(|byte| **byte == b'\n').count() as u32)
+}
+
+/// How many newlines are in a line of a file; none of a leaf, or where memory is refused for the text.
+#[tactic(auto, using(crate::proofs::MovedLines::spelled))]
+fn newlines_of(part: &Part) -> Option<u32>
+    ensures { IfSome result (λ count. count ≡ newlines (spell_part part.now)) }
+{
+    let Part::Node(line) = part else {
+        return None;
+    };
+    let mut text = Vec::new(line.parts.alloc());
+    if line.spell_into(&mut text).is_err() {
+        return None;
+    }
+    newlines_in(text.as_slice())
+}
+
+fn is_node(part: &Part) -> bool
+    ensures { result ≡ is_node part.now }
+{
+    matches!(part, Part::Node(_))
+}
+
+/// The parts of a line of a file that has one statement, and its end after it; none of any other part.
+fn line_of_one(part: &Part) -> Option<&[Part]>
+    ensures { IfSome (option_copied result) (λ parts. IsLineOfOne part.now parts) }
+{
+    let Part::Node(line) = part else {
+        return None;
+    };
+    let parts = line.parts.as_slice();
+    if parts.len() != 2 || !is_node(&parts[0]) || is_node(&parts[1]) {
+        return None;
+    }
+    Some(parts)
+}
+
+/// Whether each of these parts of a file is such a line.
+fn hold_one_each(parts: &[Part]) -> bool
+    ensures { IsTrue result → (front : List ℕ) → length (fronts front parts.now) ≡ length parts.now }
+{
+    for part in parts {
+        if line_of_one(part).is_none() {
+            return false;
+        }
+    }
+    true
+}
+
+/// The gap in front of the statement of such a line; none of any other part.
+fn opening(part: &Part) -> Option<&Gap>
+    ensures { IfSome (option_copied result) (λ gap. (front : List ℕ) → fronts_in front (node_parts part.now) ≡ (front ++ gap) ∷ []) }
+{
+    let parts = line_of_one(part)?;
+    match first_of(&parts[..1]) {
+        Some(leaf) => Some(&leaf.gap),
+        None => None,
+    }
+}
+
+/// How many newlines are in each of two lines of a file that have one statement each, if both begin alike; else none.
+fn alike(old: &Part, new: &Part) -> Option<(u32, u32)>
+    ensures { IfSome result (λ counts. IsLike old.now new.now counts.0 counts.1) }
+{
+    let before = opening(old)?;
+    let after = opening(new)?;
+    if before.as_slice() != after.as_slice() {
+        return None;
+    }
+    Some((newlines_of(old)?, newlines_of(new)?))
+}
+
+/// From which statement of a tree on lines move, and by what.
+#[derive(Clone, Copy)]
+struct Shift {
+    from: usize,
+    gone: u32,
+    come: u32,
+}
+
+/// How the lines of the statements move, from the present tree to the one with these lines; none where that isn't seen at once.
+fn shift_of(lines: &Lines, tree: &Tree) -> Option<Shift>
+    requires { AreIn lines.now tree.now }
+    ensures { IfSome result (λ shift. AreMoved shift.from shift.gone shift.come (lines_of tree.now) (lines_of (tree_with lines.now tree.now))) }
+{
+    let Lines::Exchanged(relaid) = lines else {
+        return None;
+    };
+    let [place] = relaid.places.as_slice() else {
+        return None;
+    };
+    let [line] = relaid.lines.as_slice() else {
+        return None;
+    };
+    let parts = tree.root.parts.as_slice();
+    let place = *place;
+    if !hold_one_each(&parts[..place + 1]) {
+        return None;
+    }
+    let (gone, come) = alike(&parts[place], line)?;
+    Some(Shift {
+        from: place + 1,
+        gone,
+        come,
+    })
+}
+
+/// A line, moved; none where it would be past what a line may be.
+fn moved(line: u32, gone: u32, come: u32) -> Option<u32>
+    ensures { IfSome result (λ next. next ≡ moved gone come line) }
+{
+    line.checked_add(come)?.checked_sub(gone)
+}
+
+/// Moves all lines. False where one would be past what a line may be; some are moved then.
+fn move_all(lines: &mut [u32], gone: u32, come: u32) -> bool
+    ensures { IsTrue result → lines.new ≡ map (moved gone come) lines.old }
+{
+    for line in lines.iter_mut() {
+        let Some(next) = moved(*line, gone, come) else {
+            return false;
+        };
+        *line = next;
+    }
+    true
+}
+
+/// Moves the lines from a place on. False where one would be past what a line may be; some are moved then.
+fn move_from(lines: &mut [u32], from: usize, gone: u32, come: u32) -> bool
+    requires { from ≤ length lines.old }
+    ensures { IsTrue result → lines.new ≡ moved_from from gone come lines.old }
+{
+    let later = &mut lines[from..];
+    move_all(later, gone, come)
+}
+
+/// The lines on which the statements of the tree with these lines begin, by those of the present one; none where they are to be counted anew.
+pub(crate) fn begins_after(
+    begins: Option<Items<u32>>,
+    lines: &Option<Lines>,
+    tree: &Tree,
+) -> Option<Items<u32>>
+    requires begins { IfSome begins (λ begins. begins ≡ lines_of tree.now) }
+    requires placed { IfSome lines.now (λ lines. AreIn lines tree.now) }
+    ensures { MatchOption lines.now (result ≡ None) (λ lines. IfSome result (λ next. next ≡ lines_of (tree_with lines tree.now))) }
+{
+    let Some(lines) = lines else {
+        return None;
+    };
+    let mut begins = begins?;
+    let shift = shift_of(lines, tree)?;
+    if !move_from(begins.as_mut_slice(), shift.from, shift.gone, shift.come) {
+        return None;
+    }
+    Some(begins)
+}
