@@ -1,5 +1,5 @@
 -- What commands make of the items of a file, item by item.
-use Rattle.std.proofs.Common.{◌≡◌, ◌≤◌, Bool, true, false, List, [], ◌∷◌, ◌++◌, length, refl, ap, arith, ◌&&◌, ◌∙◌, Err, Ok, sym, subst, ◌<◌, ◌+◌, ◌-◌, ℕ, zero, suc, true≢false, take, drop, get_or, set}
+use Rattle.std.proofs.Common.{◌≡◌, ◌≤◌, Bool, true, false, List, [], ◌∷◌, ◌++◌, length, refl, ap, arith, ◌&&◌, ◌∙◌, Err, Ok, sym, subst, ◌<◌, ◌+◌, ◌-◌, ℕ, zero, suc, true≢false, take, drop, get_or}
 use Rattle.std.specs.Prelude.{Result, IfOk, IfSome, Option, Some, None}
 use Rattle.bz_value.specs.declared.value.Item.{Item}
 use Rattle.bz_value.specs.declared.value.Item.TheVariants as i

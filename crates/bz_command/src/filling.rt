@@ -2,6 +2,7 @@
 ghost use Rattle.std.specs.Prelude.{◌≡◌, ◌⊎◌, ◌<◌, ◌*◌, Err, IfErr, IfOk, IsOk, IsTrue, None, length, true};
 ghost use Rattle.bz_grammar.specs.Spell.{limit};
 ghost use Rattle.bz_items.specs.Characters.{Bytes};
+ghost use Rattle.bz_comment.specs.Hosts.{comment_made};
 ghost use Rattle.bz_command.specs.Effect.{effect, on_meant, meant};
 ghost use Rattle.bz_command.specs.Overfull.{Overfills, commented, marked_rules};
 
@@ -10,6 +11,7 @@ use crate::targets::{arguments_of, is_any, is_rule, meant};
 use bz_command_syntax::{Command, CommentOperation, Host, Operation};
 use bz_comment::{comment_made, find_host};
 use bz_grammar::LENGTH_LIMIT;
+use bz_items::Memory;
 use bz_label::Target;
 use bz_value::{File, Item, Refusal};
 use std::alloc::Global;
@@ -65,6 +67,16 @@ fn find_in_all(current: &[u8], host: &Host, marks: &[bool], items: &[Item]) -> R
     Ok(())
 }
 
+/// How long the comment is that a text becomes.
+fn comment_len(alloc: Global, text: &[u8]) -> Result<usize, Memory>
+    ensures { IfOk result (λ long. long ≡ length (comment_made text.now)) }
+{
+    let comment = comment_made(alloc, text)?;
+    let long = comment.len();
+    drop(comment);
+    Ok(long)
+}
+
 /// Whether what a command makes of a file is past the limit of a text by the comments alone that it puts in: then it need not be
 /// made. `false` says nothing. `current` is the path of the file's package, `lines` the lines on which its statements begin, from 1.
 /// Errors: the effect's refusal; `Memory`: a growth was refused.
@@ -90,8 +102,8 @@ pub fn overfills(
     }
     let marks = meant(alloc, &target.which, lines, None, items)?;
     let marked = marks.as_slice();
-    let comment = comment_made(alloc, text.as_slice())?;
-    if !is_any(marked) || !are_past(marked_rules(marked, items), comment.len()) {
+    let long = comment_len(alloc, text.as_slice())?;
+    if !is_any(marked) || !are_past(marked_rules(marked, items), long) {
         return Ok(false);
     }
     match find_in_all(current, host, marked, items) {

@@ -3,11 +3,12 @@
 ghost use Rattle.std.specs.Prelude.{◌≡◌, ◌⊎◌, ◌++◌, Ok, Err, OnOk, IfOk, IfErr, decimal, is_some, length, map, option_map};
 ghost use Rattle.std.specs.List.{list_all, list_any};
 ghost use Rattle.bz_token.specs.declared.class.Class.TheVariants as c;
+ghost use Rattle.bz_layout.specs.Written.{item_text};
 ghost use Rattle.bz_rule.specs.Rules as r;
 ghost use Rattle.bz_rule.specs.private.Named.{each_named};
 ghost use Rattle.bz_command.specs.Effect.{before_rest, printed_one, printed_rules};
 ghost use Rattle.bz_command.specs.Laws.{looks_at_lines, prints_line, prints_lines};
-ghost use Rattle.bz_command.specs.Prints.{in_brackets, is_string, printed_body, printed_field, printed_item, printed_value, spaced};
+ghost use Rattle.bz_command.specs.Prints.{in_brackets, is_string, printed_body, printed_field, printed_item, printed_value, spaced, without_last};
 ghost use Rattle.bz_command.specs.private.Steps.{seen_rule, space_between, text_or_nothing};
 
 use crate::ruling::Work;
@@ -75,8 +76,22 @@ fn push_value(alloc: Global, value: &Expr, out: &mut Vec<u8>) -> Result<(), Memo
     if has_kind(Kind::List, value) && are_strings(items) {
         return push_strings(out, items);
     }
-    out.extend_from_slice(expr_text(alloc, value)?.as_slice())?;
-    Ok(())
+    let text = expr_text(alloc, value)?;
+    let appended = out.extend_from_slice(text.as_slice());
+    drop(text);
+    Ok(appended?)
+}
+
+/// Appends the text of an item without its last newline.
+fn push_item(alloc: Global, item: &Item, out: &mut Vec<u8>) -> Result<(), Memory>
+    ensures { OnOk result (out.new.items ≡ out.old.items ++ without_last (item_text item.now)) }
+{
+    let text = item_text(alloc, item)?;
+    let bytes = text.as_slice();
+    let end = bytes.len().saturating_sub(1);
+    let appended = out.extend_from_slice(&bytes[..end]);
+    drop(text);
+    Ok(appended?)
 }
 
 /// A rule that is printed: the line on which it begins, where it is on one, its item, and its kind as a text without blanks.
@@ -102,12 +117,7 @@ fn push_field(subject: Subject<'_>, field: &Field, out: &mut Vec<u8>) -> Result<
             Some(line) => Ok(out.extend_from_slice(Buffer::new().format(line).as_bytes())?),
             None => Ok(out.extend_from_slice(MISSING)?),
         },
-        Field::Rule => {
-            let text = item_text(subject.alloc, subject.item)?;
-            let bytes = text.as_slice();
-            let end = bytes.len().saturating_sub(1);
-            Ok(out.extend_from_slice(&bytes[..end])?)
-        }
+        Field::Rule => push_item(subject.alloc, subject.item, out),
         Field::Attribute(name) => match attribute(name.as_slice(), subject.arguments) {
             Some(value) => push_value(subject.alloc, value, out),
             None => Ok(out.extend_from_slice(MISSING)?),
@@ -210,7 +220,9 @@ fn push(work: Work<'_, '_>, at: Option<u32>, item: &Item, out: &mut Vec<u8>) -> 
             };
             let own = x.comments();
             let text = print_comments(alloc, work.current, host, own, arguments_of(item))?;
-            out.extend_from_slice(text.as_slice())?;
+            let appended = out.extend_from_slice(text.as_slice());
+            drop(text);
+            appended?;
         }
         Operation::Print { fields } => push_rule(alloc, at, item, fields.as_slice(), out)?,
         Operation::Comment(CommentOperation::Add { .. } | CommentOperation::Remove { .. })

@@ -311,7 +311,10 @@ fn on_each(work: Work<'_, '_>, marks: &[bool], items: Items<Item>) -> Result<Cha
         found: found.as_ref(),
         ..work
     };
-    on_found(work, marks, items)
+    let changed = on_found(work, marks, items);
+    // By a call: by the end of its scope, each form of the value would be a path of this proof.
+    drop(found);
+    changed
 }
 
 /// Appends an item, unless it is marked.
