@@ -5,12 +5,12 @@ use Rattle.std.proofs.lemmas.List.{append-nil}
 use Rattle.bz_items.specs.Characters.{Bytes}
 use Rattle.bz_value.specs.declared.refusal.Refusal.{Refusal}
 use Rattle.bz_value.specs.declared.refusal.Refusal.TheVariants.{Memory}
-use Rattle.bz_workspace.specs.Sessions.{Action, Reply, History, Acts, Leads}
+use Rattle.bz_buildozer.specs.Sessions.{Action, Reply, History, Acts, Leads}
 use Rattle.bz_streams.specs.Faults.{AppendsUnlessFailed}
 use Rattle.bz_streams.specs.Outputs.{Reports}
-use Rattle.bz_workspace.specs.Packages.{Opened, Used, file_at, with_opened}
-use Rattle.bz_workspace.specs.Shown.{used_in}
-use Rattle.bz_workspace.specs.declared.used.Used as d
+use Rattle.bz_buildozer.specs.Packages.{Opened, Used, file_at, with_opened}
+use Rattle.bz_buildozer.specs.private.ShownFiles.{used_in}
+use Rattle.bz_buildozer.specs.declared.used.Used as d
 use Rattle.bz_buildozer.specs.Run.{Progress, answered, reported_of}
 use Rattle.bz_buildozer.specs.Reported.{refusal_line}
 

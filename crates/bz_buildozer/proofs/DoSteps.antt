@@ -6,8 +6,8 @@ use Rattle.std.specs.Option.{option_map}
 use Rattle.std.proofs.lemmas.List.{append-nil}
 use Rattle.bz_items.specs.Characters.{Bytes}
 use Rattle.bz_files.specs.Folder.{Folder}
-use Rattle.bz_workspace.specs.Packages.{Opened, Used, file_at, with_opened}
-use Rattle.bz_workspace.specs.Sessions.{Action, Answer, History, Leads, Reply, Printed, listing}
+use Rattle.bz_buildozer.specs.Packages.{Opened, Used, file_at, with_opened}
+use Rattle.bz_buildozer.specs.Sessions.{Action, Answer, History, Leads, Reply, Printed, listing}
 use Rattle.bz_buildozer.specs.Keeping.{AnswersBeside, DoesBeside, FolderAfter, UsesBeside, file_after, state_after}
 use Rattle.bz_buildozer.specs.Run.{Answers, Does, LeadsBy, Progress, Uses, World, answered, reported_of}
 use Rattle.bz_buildozer.specs.Steps.{RunStep, action_of}

@@ -6,8 +6,8 @@ use Rattle.std.proofs.lemmas.Grind.{flat_map-append}
 use Rattle.std.proofs.lemmas.List.{append-nil, map-append}
 use Rattle.bz_items.specs.Characters.{Bytes}
 use Rattle.bz_files.specs.Folder.{Folder}
-use Rattle.bz_workspace.specs.Sessions.{present}
-use Rattle.bz_workspace.specs.Packages.{Opened, Used}
+use Rattle.bz_buildozer.specs.Sessions.{present}
+use Rattle.bz_buildozer.specs.Packages.{Opened, Used}
 use Rattle.bz_buildozer.specs.Ending.{differs, is_input, is_written, Writing, writing_of, WritesFiles, fixed_lines}
 use Rattle.bz_buildozer.specs.Reported.{fixed_line}
 

@@ -4,7 +4,7 @@ use Rattle.bz_grammar.specs.Laws.{OneReading}
 use Rattle.bz_items.specs.Characters.{Bytes}
 use Rattle.bz_value.specs.declared.value.Item.{Item}
 use Rattle.bz_value.specs.declared.refusal.Refusal.{Refusal}
-use Rattle.bz_workspace.specs.Sessions.{Action, Do, Format, Undo, Redo, Meaning, EffectMeans, Formats, History, Answer, Makes, Leads, after_meaning, present}
+use Rattle.bz_buildozer.specs.Sessions.{Action, Do, Format, Undo, Redo, Meaning, EffectMeans, Formats, History, Answer, Makes, Leads, after_meaning, present}
 use Rattle.bz_buildozer.specs.Run.{LeadsBy}
 
 one_effect : (effect : Result (List Item) Refusal) (answer : Option Bytes) (items : List Item) (text : Bytes) (m n : Meaning)

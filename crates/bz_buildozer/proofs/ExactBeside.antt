@@ -8,12 +8,12 @@ use Rattle.bz_items.specs.Characters.{Bytes}
 use Rattle.bz_files.specs.Folder.{Folder, IsAside}
 use Rattle.bz_resume.specs.Pair.{journal_name}
 use Rattle.bz_command_line.specs.declared.line.Options.{Options}
-use Rattle.bz_workspace.specs.Found.{IsNameOf, PackagesFound, first_name, found_at, found_in, second_name}
-use Rattle.bz_workspace.specs.Journals.{OpensBeside, TakesBeside, file_of_journal, lines_of_journal}
-use Rattle.bz_workspace.specs.Packages.{Opened, Used, file_at, package_number, with_opened}
-use Rattle.bz_workspace.specs.Sessions.{Answer, History}
-use Rattle.bz_workspace.proofs.JournalSteps.{one_given}
-use Rattle.bz_workspace.proofs.NameSteps.{apart as packages_apart, journal_not_new, not_new}
+use Rattle.bz_buildozer.specs.Found.{IsNameOf, PackagesFound, first_name, found_at, found_in, second_name}
+use Rattle.bz_buildozer.specs.Journals.{OpensBeside, TakesBeside, file_of_journal, lines_of_journal}
+use Rattle.bz_buildozer.specs.Packages.{Opened, Used, file_at, package_number, with_opened}
+use Rattle.bz_buildozer.specs.Sessions.{Answer, History}
+use Rattle.bz_buildozer.proofs.JournalSteps.{one_given}
+use Rattle.bz_buildozer.proofs.NameSteps.{apart as packages_apart, journal_not_new, not_new}
 use Rattle.bz_buildozer.specs.Ending.{Left, all_kept, fixed_lines, status_of, texts_out}
 use Rattle.bz_buildozer.specs.Exact.{IsLeftOpen, SameLeft, SameLines}
 use Rattle.bz_buildozer.specs.Keeping.{AllAreKept, AnswersBeside, DoesBeside, IsApart, PerformsBeside, RunsBeside, UsesBeside, file_after, state_after}

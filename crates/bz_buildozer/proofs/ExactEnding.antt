@@ -12,8 +12,8 @@ use Rattle.bz_files.specs.Folder.{Folder, SameBut, SameFolders, with_file, new_n
 use Rattle.bz_label.specs.declared.target.Target.{Target}
 use Rattle.bz_command_line.specs.Requested.{Requested, Request}
 use Rattle.bz_command_line.specs.declared.line.Options.{Options}
-use Rattle.bz_workspace.specs.Found.{PackagesFound}
-use Rattle.bz_workspace.specs.Packages.{Used}
+use Rattle.bz_buildozer.specs.Found.{PackagesFound}
+use Rattle.bz_buildozer.specs.Packages.{Used}
 use Rattle.bz_buildozer.specs.Ending.{Left, Performs, WritesFiles, Writing, texts_out, all_writings, fixed_lines, status_of}
 use Rattle.bz_buildozer.specs.Exact.{SameLeft}
 use Rattle.bz_buildozer.specs.Run.{World, Progress, Finds, Uses, Does, RunsSteps, nothing_done}

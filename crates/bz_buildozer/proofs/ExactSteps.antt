@@ -4,10 +4,10 @@ use Rattle.bz_grammar.specs.Laws.{OneReading}
 use Rattle.bz_items.specs.Characters.{Bytes}
 use Rattle.bz_streams.specs.Ports.{IsInput}
 use Rattle.bz_streams.specs.Reported.{stdin, fault_line}
-use Rattle.bz_workspace.specs.Sessions.{History, Answer}
-use Rattle.bz_workspace.specs.Found.{PackagesFound}
-use Rattle.bz_workspace.specs.Opens.{Opens, Takes}
-use Rattle.bz_workspace.specs.Packages.{Opened, Used, file_at, package_number}
+use Rattle.bz_buildozer.specs.Sessions.{History, Answer}
+use Rattle.bz_buildozer.specs.Found.{PackagesFound}
+use Rattle.bz_buildozer.specs.Opens.{Opens, Takes}
+use Rattle.bz_buildozer.specs.Packages.{Opened, Used, file_at, package_number}
 use Rattle.bz_buildozer.specs.Exact.{SameLines}
 use Rattle.bz_buildozer.specs.Run.{World, Progress, Finds, Uses, Answers, Does, RunsSteps, answered, reported_of}
 use Rattle.bz_buildozer.specs.Steps.{RunStep, action_of}

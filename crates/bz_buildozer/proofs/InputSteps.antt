@@ -5,7 +5,7 @@ use Rattle.std.proofs.lemmas.List.Elements.{All-head, All-tail}
 use Rattle.bz_items.specs.Characters.{Bytes}
 use Rattle.bz_label.specs.declared.target.Target.{Target}
 use Rattle.bz_command_line.specs.Requested.{Requested, Request}
-use Rattle.bz_workspace.specs.Packages.{Opened, Used, with_opened, file_at}
+use Rattle.bz_buildozer.specs.Packages.{Opened, Used, with_opened, file_at}
 use Rattle.bz_buildozer.specs.Ending.{Writing, file_writing, all_writings}
 use Rattle.bz_buildozer.specs.Outcome.{AreOfInput}
 use Rattle.bz_buildozer.specs.Run.{World, Progress, nothing_done, Uses, Answers, Does, RunsSteps}

@@ -6,9 +6,9 @@ use Rattle.bz_items.specs.Characters.{Bytes}
 use Rattle.bz_journal.specs.declared.keeping.KeepFault.{KeepFault}
 use Rattle.bz_journal.specs.declared.keeping.KeepFault.TheVariants.{Pair}
 use Rattle.bz_resume.specs.Resuming.{Holds}
-use Rattle.bz_workspace.specs.Keeps.{KeepsAt, KeepsFile, after_keeping}
-use Rattle.bz_workspace.specs.Packages.{Opened, Used, file_at, with_opened}
-use Rattle.bz_workspace.specs.Sessions.{Action, Reply, History, Answer, present}
+use Rattle.bz_buildozer.specs.Keeps.{KeepsAt, KeepsFile, after_keeping}
+use Rattle.bz_buildozer.specs.Packages.{Opened, Used, file_at, with_opened}
+use Rattle.bz_buildozer.specs.Sessions.{Action, Reply, History, Answer, present}
 use Rattle.bz_resume.specs.declared.pair_fault.PairFault.{PairFault}
 use Rattle.bz_resume.specs.declared.pair_fault.PairFault.TheVariants as f
 use Rattle.bz_streams.specs.declared.exit.Cut.{Cut}

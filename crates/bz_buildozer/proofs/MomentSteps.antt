@@ -8,7 +8,7 @@ use Rattle.bz_files.proofs.Elapsing.{each_since, elapsed_on, weakened}
 use Rattle.bz_command_line.specs.Requested.{Requested, operand_group}
 use Rattle.bz_command_line.specs.Line.{CommandLine, Given, LineUsage, operands, script, command_line_of}
 use Rattle.bz_command_line.specs.Script.{script_of}
-use Rattle.bz_workspace.specs.Keeps.{KeepsFolder}
+use Rattle.bz_buildozer.specs.Keeps.{KeepsFolder}
 use Rattle.bz_buildozer.specs.Calls.{PassesBy}
 use Rattle.bz_buildozer.specs.Moments.{IsMeanwhile, IsMomentOfRun, IsMomentOfSteps}
 use Rattle.bz_buildozer.specs.Outcome.{IsScript}

@@ -6,13 +6,14 @@ use Rattle.std.proofs.lemmas.Slice.Eq.{bytes_eq-Decides}
 use Rattle.bz_grammar.specs.Spell.{limit}
 use Rattle.bz_items.specs.Characters.{Bytes}
 use Rattle.bz_streams.specs.Reported.{stdin}
-use Rattle.bz_workspace.specs.Found.{found_in}
+use Rattle.bz_buildozer.specs.Found.{found_in}
 use Rattle.bz_files.specs.Folder.{Folder}
-use Rattle.bz_workspace.specs.Journals.{Adds, IsOpenedIn}
-use Rattle.bz_workspace.specs.Opens.{Opens, Takes}
-use Rattle.bz_workspace.specs.Packages.{Opened, Used, file_at, package_number, with_opened}
-use Rattle.bz_workspace.specs.declared.opening.Opening.{Opening}
-use Rattle.bz_workspace.proofs.FrontSteps.{front_takes}
+use Rattle.bz_buildozer.specs.Journals.{Adds, IsOpenedIn}
+use Rattle.bz_buildozer.specs.Opens.{Opens, Takes}
+use Rattle.bz_buildozer.specs.Packages.{Opened, Used, file_at, package_number, with_opened}
+use Rattle.bz_buildozer.specs.declared.reading.Opening.{Opening}
+use Rattle.bz_buildozer.proofs.FileSteps.{last_none, last_put}
+use Rattle.bz_buildozer.proofs.FrontSteps.{front_takes}
 use Rattle.bz_streams.specs.declared.exit.Cut.{Cut}
 use Rattle.bz_buildozer.specs.Cuts.{IsLeft}
 use Rattle.bz_buildozer.specs.Run.{Answers, Progress, Uses, World}
@@ -30,11 +31,6 @@ input_takes (Some all) current name front file lines read takes =
 
 -- ---- the package that was used last
 
-file_put_last : (used : List Used) (one : Used) (file : Option Opened)
-    → with_opened (length used) file (used ++ one ∷ []) ≡ used ++ record one { file = file } ∷ []
-file_put_last [] one file = refl
-file_put_last (first ∷ more) one file = ap (λ (rest : List Used). first ∷ rest) (file_put_last more one file)
-
 pub opened_last : (place : ℕ) (used mid new : List Used) (text current : Bytes) (file : Option Opened) → place ≡ length used → text ≡ current
     → mid ≡ used ++ record { «package» = text; file = None } ∷ [] → new ≡ with_opened place file mid
     → new ≡ used ++ record { «package» = current; file = file } ∷ []
@@ -42,19 +38,15 @@ opened_last place used mid new text current file at same is put =
     put
     ∙ (ap (λ (n : ℕ). with_opened n file mid) at
     ∙ (ap (with_opened (length used) file) is
-    ∙ (file_put_last used (record { «package» = text; file = None }) file
+    ∙ (last_put used (record { «package» = text; file = None }) file
     ∙ ap (λ (name : Bytes). used ++ record { «package» = name; file = file } ∷ []) same)))
 
 pub place_last : (place : ℕ) (used : List Used) (file : Option Opened) (found : Option ℕ) → place ≡ length used → found ≡ option_map (λ _. place) file
     → found ≡ option_map (λ _. length used) file
 place_last place used file found at is = is ∙ ap (λ (n : ℕ). option_map (λ (_ : Opened). n) file) at
 
-file_of_last : (used : List Used) (one : Used) → file_at (length used) (used ++ one ∷ []) ≡ one.file
-file_of_last [] one = refl
-file_of_last (first ∷ more) one = file_of_last more one
-
 pub last_file : (used new : List Used) (one : Used) → new ≡ used ++ one ∷ [] → file_at (length used) new ≡ one.file
-last_file used new one is = ap (file_at (length used)) is ∙ file_of_last used one
+last_file used new one is = ap (file_at (length used)) is ∙ last_none used one
 
 -- ---- a package that is used stays so
 

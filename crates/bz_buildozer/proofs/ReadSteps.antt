@@ -4,7 +4,7 @@ use Rattle.std.specs.Io.KnownBytes.{Appends}
 use Rattle.std.specs.Option.{option_map}
 use Rattle.std.proofs.Math.Seq.{take-nil}
 use Rattle.bz_items.specs.Characters.{Bytes}
-use Rattle.bz_workspace.specs.Packages.{Opened, Used, file_at, package_number}
+use Rattle.bz_buildozer.specs.Packages.{Opened, Used, file_at, package_number}
 use Rattle.bz_streams.specs.Exits.{first_cut}
 use Rattle.bz_streams.specs.Faults.{AppendsSome}
 use Rattle.bz_streams.specs.declared.exit.Cut.{Cut}

@@ -20,7 +20,7 @@ use Rattle.bz_buildozer.specs.Keeping.{AllAreKept, DoesBeside, RunsBeside}
 use Rattle.bz_buildozer.specs.Moments.{AllAreSafe, IsMeanwhile, IsMomentOfSteps}
 use Rattle.bz_buildozer.specs.Run.{World, Progress, Does, RunsSteps, ends_run}
 use Rattle.bz_buildozer.specs.Steps.{RunStep}
-use Rattle.bz_workspace.specs.Packages.{Used}
+use Rattle.bz_buildozer.specs.Packages.{Used}
 
 -- ---- steps
 

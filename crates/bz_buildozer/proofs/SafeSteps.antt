@@ -14,13 +14,13 @@ use Rattle.bz_journal.specs.declared.keeping.KeepFault.TheVariants.{Refused, Pai
 use Rattle.bz_journal.specs.Keeping.{Keeps}
 use Rattle.bz_resume.specs.Pair.{journal_name}
 use Rattle.bz_resume.specs.Resuming.{Holds, OthersStay, Resumes, Survives}
-use Rattle.bz_workspace.specs.Found.{IsApartFrom, IsNameOf}
-use Rattle.bz_workspace.specs.Journals.{IsOpenedIn, TakesBeside}
-use Rattle.bz_workspace.specs.Keeps.{KeepsAt, KeepsFile, KeepsFolder, after_keeping}
-use Rattle.bz_workspace.specs.Packages.{Opened, Used, file_at, package_number, with_opened}
-use Rattle.bz_workspace.specs.Sessions.{Action, History, Reply, present}
-use Rattle.bz_workspace.proofs.LeaveSteps.{acts_leaves}
-use Rattle.bz_workspace.proofs.NameSteps.{apart as packages_apart, journal_not_new, not_new}
+use Rattle.bz_buildozer.specs.Found.{IsApartFrom, IsNameOf}
+use Rattle.bz_buildozer.specs.Journals.{IsOpenedIn, TakesBeside}
+use Rattle.bz_buildozer.specs.Keeps.{KeepsAt, KeepsFile, KeepsFolder, after_keeping}
+use Rattle.bz_buildozer.specs.Packages.{Opened, Used, file_at, package_number, with_opened}
+use Rattle.bz_buildozer.specs.Sessions.{Action, History, Reply, present}
+use Rattle.bz_buildozer.proofs.LeaveSteps.{acts_leaves}
+use Rattle.bz_buildozer.proofs.NameSteps.{apart as packages_apart, journal_not_new, not_new}
 use Rattle.bz_buildozer.specs.Calls.{KeepsStep, UsesSome}
 use Rattle.bz_buildozer.specs.Keeping.{IsApart}
 use Rattle.bz_buildozer.specs.Moments.{AllAreSafe, IsBetween, IsMeanwhile, IsMomentOfSteps, IsSafe, Joins, MayAct}

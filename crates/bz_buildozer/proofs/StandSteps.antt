@@ -12,15 +12,15 @@ use Rattle.bz_journal.specs.Meaning.{Meaning, gives, refuses}
 use Rattle.bz_resume.specs.Pair.{journal_name}
 use Rattle.bz_resume.specs.Resuming.{Holds, IsRecordedBy, OthersStay}
 use Rattle.bz_resume.specs.Journals.{stands, text_at}
-use Rattle.bz_workspace.specs.Found.{PackagesFound, IsNameOf, first_name, found_at, found_in, second_name}
-use Rattle.bz_workspace.specs.Journals.{JournalFault, JournalGives, OpensBeside, TakesBeside, file_of_journal}
-use Rattle.bz_workspace.specs.Packages.{Opened, Used, file_at, package_number, with_opened}
-use Rattle.bz_workspace.specs.Sessions.{Action, Do, Format, Undo, Redo, Reply, Changed, Moved, History, Answer, Leads, present}
+use Rattle.bz_buildozer.specs.Found.{PackagesFound, IsNameOf, first_name, found_at, found_in, second_name}
+use Rattle.bz_buildozer.specs.Journals.{JournalFault, JournalGives, OpensBeside, TakesBeside, file_of_journal}
+use Rattle.bz_buildozer.specs.Packages.{Opened, Used, file_at, package_number, with_opened}
+use Rattle.bz_buildozer.specs.Sessions.{Action, Do, Format, Undo, Redo, Reply, Changed, Moved, History, Answer, Leads, present}
 use Rattle.bz_buildozer.specs.Keeping.{AllAreKept, AnswersBeside, DoesBeside, FolderAfter, IsApart, RunsBeside, IsKeptIn, UsesBeside, file_after}
 use Rattle.bz_buildozer.specs.Run.{LeadsBy, Progress}
 use Rattle.bz_buildozer.specs.Steps.{RunStep, action_of}
-use Rattle.bz_workspace.proofs.HeldSteps.{stands_text}
-use Rattle.bz_workspace.proofs.NameSteps.{apart as packages_apart}
+use Rattle.bz_buildozer.proofs.HeldSteps.{stands_text}
+use Rattle.bz_buildozer.proofs.NameSteps.{apart as packages_apart}
 
 -- ---- packages
 

@@ -8,7 +8,7 @@ use Rattle.std.specs.Fmt.{digits}
 use Rattle.clap.proofs.OnLiterals.{clap_on_literals}
 use Rattle.bz_value.specs.declared.refusal.Refusal.TheVariants.{TooFar}
 use Rattle.bz_files.specs.Folder.{Folder, with_file}
-use Rattle.bz_workspace.specs.Sessions.{History, Answer, changed, undone, opened, note_limit, gives, Changed, Moved}
+use Rattle.bz_buildozer.specs.Sessions.{History, Answer, changed, undone, opened, note_limit, gives, Changed, Moved}
 use Rattle.bz_label.specs.declared.target.Target.{Target}
 use Rattle.bz_label.specs.declared.target.Which.TheVariants.{Name}
 use Rattle.bz_command_line.specs.Requested.{Requested, Request, Usage, nothing_requested, operand_group, no_command, no_target, no_line, in_line, of_operand}
@@ -24,9 +24,9 @@ use Rattle.bz_command_syntax.specs.declared.command.AttributeOperation.TheVarian
 use Rattle.bz_command_syntax.specs.declared.command.Operation.TheVariants as w
 use Rattle.bz_command_syntax.specs.declared.command.RuleOperation.TheVariants as wr
 use Rattle.bz_command_syntax.specs.declared.fault.CommandFault.TheVariants.{Unknown, Arguments}
-use Rattle.bz_workspace.specs.Found.{found_in, found_at, first_name, second_name}
-use Rattle.bz_workspace.specs.Opens.{opened_fresh}
-use Rattle.bz_workspace.specs.Packages.{opened_with, Opened, Used, package_number, file_at}
+use Rattle.bz_buildozer.specs.Found.{found_in, found_at, first_name, second_name}
+use Rattle.bz_buildozer.specs.Opens.{opened_fresh}
+use Rattle.bz_buildozer.specs.Packages.{opened_with, Opened, Used, package_number, file_at}
 use Rattle.bz_buildozer.specs.Ending.{Left, Performs}
 use Rattle.bz_buildozer.specs.Outcome.{WordsOutcome, LineOutcome, ScriptOutcome, unused}
 use Rattle.bz_buildozer.specs.Run.{World, Progress, Finds, Uses, Answers, Does, RunsSteps, nothing_done, reported_of, answered, ends_run}

@@ -14,10 +14,10 @@ use Rattle.bz_streams.specs.declared.exit.Exit.{Exit}
 use Rattle.bz_streams.specs.declared.sink.Sink.{Ghosts as SinkOf}
 use Rattle.bz_streams.specs.declared.source.Source.{Ghosts as SourceOf}
 use Rattle.bz_journal.specs.declared.keeping.KeepFault.{KeepFault}
-use Rattle.bz_workspace.specs.Journals.{Adds, IsOpenedIn}
-use Rattle.bz_workspace.specs.Keeps.{KeepsAt}
-use Rattle.bz_workspace.specs.Packages.{Used, file_at, package_number}
-use Rattle.bz_workspace.specs.Sessions.{Action, Reply}
+use Rattle.bz_buildozer.specs.Journals.{Adds, IsOpenedIn}
+use Rattle.bz_buildozer.specs.Keeps.{KeepsAt}
+use Rattle.bz_buildozer.specs.Packages.{Used, file_at, package_number}
+use Rattle.bz_buildozer.specs.Sessions.{Action, Reply}
 use Rattle.bz_buildozer.specs.Cuts.{AreCutBy, IsEndedBy, IsLeft, CutsFiles, ReadsOnce}
 use Rattle.bz_buildozer.specs.Ending.{Left, LeftStands}
 use Rattle.bz_buildozer.specs.Keeping.{AllAreKept, is_left_at}

@@ -4,7 +4,7 @@ use Rattle.bz_items.specs.Characters.{Bytes}
 use Rattle.bz_streams.specs.Faults.{Rises}
 use Rattle.bz_streams.specs.declared.exit.Cut.{Cut}
 use Rattle.bz_streams.specs.declared.exit.Cut.TheVariants as c
-use Rattle.bz_workspace.specs.Packages.{Used, package_number}
+use Rattle.bz_buildozer.specs.Packages.{Used, package_number}
 use Rattle.bz_buildozer.specs.Run.{Progress}
 use Rattle.bz_buildozer.specs.Steps.{input_package}
 

@@ -6,10 +6,10 @@ use Rattle.std.specs.Option.{option_map_or}
 use Rattle.std.specs.Io.KnownBytes.{Appends}
 use Rattle.bz_items.specs.Characters.{Bytes}
 use Rattle.bz_files.specs.Folder.{Folder, SameBut, new_name, with_file}
-use Rattle.bz_workspace.specs.Sessions.{present}
+use Rattle.bz_buildozer.specs.Sessions.{present}
 use Rattle.bz_command_line.specs.declared.line.Options.{Options}
 use Rattle.bz_streams.specs.Outputs.{Reports}
-use Rattle.bz_workspace.specs.Packages.{Opened, Used}
+use Rattle.bz_buildozer.specs.Packages.{Opened, Used}
 use Rattle.bz_buildozer.specs.Run.{World, Progress, nothing_done, RunsSteps}
 use Rattle.bz_buildozer.specs.Steps.{RunStep, input_package, shows_input}
 use Rattle.bz_buildozer.specs.Reported.{fixed_line}

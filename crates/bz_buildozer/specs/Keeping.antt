@@ -9,11 +9,11 @@ use Rattle.bz_files.specs.Folder.{Folder}
 use Rattle.bz_resume.specs.Pair.{journal_name}
 use Rattle.bz_resume.specs.Resuming.{Holds, OthersStay}
 use Rattle.bz_command_line.specs.declared.line.Options.{Options}
-use Rattle.bz_workspace.specs.Found.{IsNameOf, found_in}
-use Rattle.bz_workspace.specs.Journals.{OpensBeside}
-use Rattle.bz_workspace.specs.Keeps.{after_keeping}
-use Rattle.bz_workspace.specs.Packages.{Opened, Used, package_number, file_at, with_opened}
-use Rattle.bz_workspace.specs.Sessions.{History, Answer, present}
+use Rattle.bz_buildozer.specs.Found.{IsNameOf, found_in}
+use Rattle.bz_buildozer.specs.Journals.{OpensBeside}
+use Rattle.bz_buildozer.specs.Keeps.{after_keeping}
+use Rattle.bz_buildozer.specs.Packages.{Opened, Used, package_number, file_at, with_opened}
+use Rattle.bz_buildozer.specs.Sessions.{History, Answer, present}
 use Rattle.bz_buildozer.specs.Ending.{Left, all_kept, texts_out, fixed_lines, status_of}
 use Rattle.bz_buildozer.specs.Run.{World, Progress, LeadsBy, ends_run, nothing_done, printed_by, reported_of}
 use Rattle.bz_buildozer.specs.Steps.{RunStep, action_of, shows_input}

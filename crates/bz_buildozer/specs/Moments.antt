@@ -12,11 +12,11 @@ use Rattle.bz_resume.specs.Resuming.{Holds}
 use Rattle.bz_command_line.specs.Requested.{Requested, operand_group}
 use Rattle.bz_command_line.specs.Line.{Given, operands, script}
 use Rattle.bz_command_line.specs.Script.{script_of}
-use Rattle.bz_workspace.specs.Found.{IsNameOf}
-use Rattle.bz_workspace.specs.Journals.{IsOpenedIn}
-use Rattle.bz_workspace.specs.Keeps.{after_keeping}
-use Rattle.bz_workspace.specs.Packages.{Opened, Used, package_number, file_at, with_opened}
-use Rattle.bz_workspace.specs.Sessions.{Action, History, Reply, present}
+use Rattle.bz_buildozer.specs.Found.{IsNameOf}
+use Rattle.bz_buildozer.specs.Journals.{IsOpenedIn}
+use Rattle.bz_buildozer.specs.Keeps.{after_keeping}
+use Rattle.bz_buildozer.specs.Packages.{Opened, Used, package_number, file_at, with_opened}
+use Rattle.bz_buildozer.specs.Sessions.{Action, History, Reply, present}
 use Rattle.bz_buildozer.specs.Keeping.{IsApart}
 use Rattle.bz_buildozer.specs.Outcome.{IsScript}
 use Rattle.bz_buildozer.specs.Run.{World}

@@ -2,12 +2,12 @@
 use Rattle.std.specs.Prelude.{◌≡◌, ◌≢◌, ◌⊎◌, ◌&&◌, ◌||◌, not, Bool, true, false, ℕ, List, [], ◌∷◌, ◌++◌, length, is_err, Option, Some, None, Ok, Err}
 use Rattle.bz_items.specs.Characters.{Bytes}
 use Rattle.bz_files.specs.Folder.{Folder}
-use Rattle.bz_workspace.specs.Sessions.{Action, Reply, Changed, Same, Printed, Moved, History, Answer, Leads, listing}
+use Rattle.bz_buildozer.specs.Sessions.{Action, Reply, Changed, Same, Printed, Moved, History, Answer, Leads, listing}
 use Rattle.bz_streams.specs.Ports.{IsInput}
 use Rattle.bz_streams.specs.Reported.{stdin}
-use Rattle.bz_workspace.specs.Found.{PackagesFound, found_in}
-use Rattle.bz_workspace.specs.Opens.{Opens}
-use Rattle.bz_workspace.specs.Packages.{Opened, Used, package_number, file_at, with_opened}
+use Rattle.bz_buildozer.specs.Found.{PackagesFound, found_in}
+use Rattle.bz_buildozer.specs.Opens.{Opens}
+use Rattle.bz_buildozer.specs.Packages.{Opened, Used, package_number, file_at, with_opened}
 use Rattle.bz_buildozer.specs.Steps.{RunStep, action_of, input_package}
 use Rattle.bz_buildozer.specs.Reported.{refusal_line}
 

@@ -3,13 +3,13 @@ use Rattle.std.specs.Prelude.{◌≡◌, ℕ, Bool, true, false, List, [], ◌�
 use Rattle.std.specs.FinMap.{get}
 use Rattle.bz_value.specs.declared.refusal.Refusal.TheVariants.{NotAList, TooFar}
 use Rattle.bz_files.specs.Folder.{Folder}
-use Rattle.bz_workspace.specs.Sessions.{changed, undone, redone, Changed, Same, Printed, Moved}
+use Rattle.bz_buildozer.specs.Sessions.{changed, undone, redone, Changed, Same, Printed, Moved}
 use Rattle.bz_command_line.specs.Requested.{Requested, Usage, operand_group}
 use Rattle.bz_streams.specs.Reported.{stdin}
 use Rattle.bz_items.specs.Characters.{Bytes}
-use Rattle.bz_workspace.specs.Found.{found_in, first_name, second_name}
-use Rattle.bz_workspace.specs.Opens.{opened_fresh}
-use Rattle.bz_workspace.specs.Packages.{Opened, Used, package_number}
+use Rattle.bz_buildozer.specs.Found.{found_in, first_name, second_name}
+use Rattle.bz_buildozer.specs.Opens.{opened_fresh}
+use Rattle.bz_buildozer.specs.Packages.{Opened, Used, package_number}
 use Rattle.bz_buildozer.specs.Ending.{differs, texts_out, all_writings, fixed_lines, status_of}
 use Rattle.bz_buildozer.specs.Run.{Progress, Finds, reported_of, printed_by, answered, ends_run}
 use Rattle.bz_buildozer.specs.Steps.{RunStep, all_steps, shows_input}

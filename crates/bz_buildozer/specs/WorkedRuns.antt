@@ -2,13 +2,13 @@
 use Rattle.std.specs.Prelude.{◌≡◌, ℕ, true, List, [], ◌∷◌, ◌++◌, codes, Some, None}
 use Rattle.std.specs.FinMap.{get}
 use Rattle.bz_files.specs.Folder.{Folder, with_file}
-use Rattle.bz_workspace.specs.Sessions.{gives, Means}
+use Rattle.bz_buildozer.specs.Sessions.{gives, Means}
 use Rattle.bz_label.specs.declared.target.Which.TheVariants.{Name}
 use Rattle.bz_command_line.specs.Line.{command_line_of}
 use Rattle.bz_items.specs.Characters.{Bytes}
 use Rattle.bz_command_syntax.specs.declared.command.AttributeOperation.TheVariants as wa
 use Rattle.bz_command_syntax.specs.declared.command.Operation.TheVariants as w
-use Rattle.bz_workspace.specs.Found.{found_in}
+use Rattle.bz_buildozer.specs.Found.{found_in}
 use Rattle.bz_buildozer.specs.Outcome.{WordsOutcome}
 use Rattle.bz_buildozer.specs.Run.{World}
 use Rattle.bz_buildozer.specs.Usage.{LineReports}

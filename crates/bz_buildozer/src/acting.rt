@@ -1,12 +1,12 @@
 //! One step.
 ghost use Rattle.std.specs.Prelude.{◌≡◌, ◌≢◌, ◌⊎◌, ◌&&◌, ◌++◌, [], ◌∷◌, ℕ, List, Some, None, Ok, Err, true, false, IsSome, OnOk, OnErr};
-ghost use Rattle.bz_workspace.specs.Sessions.{action_in, History, Answer, Leads, listing};
-ghost use Rattle.bz_workspace.specs.Sessions as Reply;
+ghost use Rattle.bz_buildozer.specs.Sessions.{action_in, History, Answer, Leads, listing};
+ghost use Rattle.bz_buildozer.specs.Sessions as Reply;
 ghost use Rattle.bz_command_line.specs.Paths.{HasPath};
 ghost use Rattle.bz_command_line.specs.Shown.{request_in};
-ghost use Rattle.bz_workspace.specs.Packages as p;
-ghost use Rattle.bz_workspace.specs.Packages.{file_at};
-ghost use Rattle.bz_workspace.specs.Shown.{opened_in, used_in};
+ghost use Rattle.bz_buildozer.specs.Packages as p;
+ghost use Rattle.bz_buildozer.specs.Packages.{file_at};
+ghost use Rattle.bz_buildozer.specs.private.ShownFiles.{opened_in, used_in};
 ghost use Rattle.bz_buildozer.specs.Calls.{KeepsSome, KeepsStep, ReportsLines, WorksOn, spot, Proceeds};
 ghost use Rattle.bz_buildozer.specs.Keeping.{AllAreKept, AnswersBeside, DoesBeside, FolderAfter, is_left_at, state_after};
 ghost use Rattle.bz_buildozer.specs.Run.{Answers, Does, printed_in, answered, reported_of};
@@ -17,14 +17,16 @@ use crate::opening::open_package;
 use crate::reported::{fail, report_refusal};
 use crate::run::Run;
 use crate::step::{action_of, package_of};
+use crate::used::{Opened, Used};
+use crate::workspace::Workspace;
 use bz_command_line::Request;
 use bz_files::Files;
 use bz_items::at;
+use bz_journal::{Action, KeepFault, Reply};
 use bz_label::Target;
 use bz_resume::PairFault;
 use bz_streams::{Cut, Sink, Source, first_cut};
 use bz_value::Refusal;
-use bz_workspace::{Action, KeepFault, Opened, Reply, Used, Workspace};
 use std::alloc::{AllocError, Global};
 
 // The file of a package, which is open.

@@ -1,10 +1,10 @@
 //! What a run leaves after its steps.
 ghost use Rattle.std.specs.Prelude.{◌≡◌, ◌≢◌, ◌⊎◌, ◌++◌, [], ◌∷◌, ℕ, true, false, map, if◌then◌else◌, IfOk, IfErr};
 ghost use Rattle.std.specs.List.{list_any};
-ghost use Rattle.bz_workspace.specs.Sessions.{present};
+ghost use Rattle.bz_buildozer.specs.Sessions.{present};
 ghost use Rattle.bz_streams.specs.Faults.{Rises};
 ghost use Rattle.bz_streams.specs.Outputs.{Counts};
-ghost use Rattle.bz_workspace.specs.Shown.{opened_in, used_in};
+ghost use Rattle.bz_buildozer.specs.private.ShownFiles.{opened_in, used_in};
 ghost use Rattle.bz_buildozer.specs.Calls.{ReportsLines, PrintsAll, PrintsSome, WorksOn};
 ghost use Rattle.bz_buildozer.specs.Ending.{differs, has_changed, is_input, goes_out, text_out, texts_out, writing_of, all_writings, WritesFiles, fixed_of, all_fixed, fixed_lines, status_of};
 ghost use Rattle.bz_buildozer.specs.private.Shown.{progress_in};
@@ -13,11 +13,11 @@ ghost use Rattle.bz_buildozer.specs.Reported.{fixed_line};
 use crate::reported::{FAILED, fail};
 use crate::run::Run;
 use crate::script::INPUT;
+use crate::used::{Opened, Used};
 use bz_command_line::Options;
 use bz_files::Files;
 use bz_items::Memory;
 use bz_streams::{Cut, Exit, Sink, first_cut, report, write_whole};
-use bz_workspace::{Opened, Used};
 use std::alloc::Global;
 
 const CHANGED: u8 = 0;

@@ -8,7 +8,7 @@ ghost use Rattle.bz_command_line.specs.Line.{operands as words_given, script};
 ghost use Rattle.bz_command_line.specs.Paths.{HasPath};
 ghost use Rattle.bz_command_line.specs.Script.{script_of};
 ghost use Rattle.bz_command_line.specs.Shown.{requested_in};
-ghost use Rattle.bz_workspace.specs.Keeps.{KeepsFolder};
+ghost use Rattle.bz_buildozer.specs.Keeps.{KeepsFolder};
 ghost use Rattle.bz_buildozer.specs.Calls.{ReportsLines, PrintsAll, IsStill, ReadsNothing, world_with, world_of, PassesBy, IsEndedOver, LeavesOutcome};
 ghost use Rattle.bz_buildozer.specs.Moments.{IsMomentOfRun, IsMomentOfSteps};
 ghost use Rattle.bz_buildozer.specs.Outcome.{LinesLeave, WordsOutcome, OperandsOutcome, TextOutcome, ScriptOutcome, AreOfInput, AreOfInputAndSome, IsOfInput, GivesNothing, KeepsJournals, LineGivesNothing, NamesNoFile, TakesNoFile, TakesNoInput, TakesScript};

@@ -7,12 +7,18 @@ mod ending;
 mod engine;
 mod laws;
 mod opening;
+mod reading;
 mod reported;
 mod run;
 mod running;
 mod script;
 mod step;
+mod used;
+mod workspace;
 
 pub use bz_streams::{Cut, Exit};
 pub use engine::buildozer;
-pub use laws::{outcomes_are_exact, worked_refusals, worked_runs};
+pub use laws::{
+    fronts_are_reported_alike, held_files_go_on, one_thing_comes_of_a_journal, outcomes_are_exact,
+    packages_are_apart, still_is_same, worked_refusals, worked_runs,
+};

@@ -2,9 +2,9 @@
 ghost use Rattle.std.specs.Prelude.{◌≡◌, ◌≢◌, ◌⊎◌, ◌≤◌, ◌++◌, [], ◌∷◌, ℕ, List, Option, Some, None, true, false, length, option_map, IfSome, IsSome};
 ghost use Rattle.bz_streams.specs.Outputs.{Counts};
 ghost use Rattle.bz_streams.specs.Reported.{stdin};
-ghost use Rattle.bz_workspace.specs.Keeps.{KeepsFolder};
-ghost use Rattle.bz_workspace.specs.Opens.{Extends, Opens};
-ghost use Rattle.bz_workspace.specs.Packages.{package_number, file_at};
+ghost use Rattle.bz_buildozer.specs.Keeps.{KeepsFolder};
+ghost use Rattle.bz_buildozer.specs.Opens.{Extends, Opens};
+ghost use Rattle.bz_buildozer.specs.Packages.{package_number, file_at};
 ghost use Rattle.bz_buildozer.specs.Calls.{ReportsLines, ReadsNothing, UsesSome, world_with, AreCutOver};
 ghost use Rattle.bz_buildozer.specs.Cuts.{AreCutBy, IsLeft, OpensInput};
 ghost use Rattle.bz_buildozer.specs.Keeping.{UsesBeside};
@@ -12,10 +12,11 @@ ghost use Rattle.bz_buildozer.specs.Run.{Uses};
 ghost use Rattle.bz_streams.specs.Ports.{IsInput};
 ghost use Rattle.bz_buildozer.specs.Steps.{input_package};
 
+use crate::reading::Opening;
 use crate::script::INPUT;
+use crate::workspace::Workspace;
 use bz_files::Files;
 use bz_streams::{Cut, InputFault, MOST, STDIN, Sink, Source, read_most, report_named};
-use bz_workspace::{Opening, Workspace};
 use std::alloc::Global;
 
 // Standard input was not read, which is reported.

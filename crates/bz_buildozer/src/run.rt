@@ -3,7 +3,7 @@ ghost use Rattle.std.specs.Prelude.{◌≡◌};
 ghost use Rattle.bz_buildozer.specs.Run.{nothing_done};
 ghost use Rattle.bz_buildozer.specs.private.Shown.{progress_in};
 
-use bz_workspace::Workspace;
+use crate::workspace::Workspace;
 use std::alloc::Global;
 
 /// The packages used, what was printed, and whether a step has failed.

@@ -2,7 +2,7 @@
 ghost use Rattle.std.specs.Prelude.{◌≡◌, ◌≢◌, ℕ, Some, None, true, IfOk, IfErr};
 ghost use Rattle.bz_streams.specs.Outputs.{Counts};
 ghost use Rattle.bz_buildozer.specs.Calls.{world_of, AreCutOver};
-ghost use Rattle.bz_workspace.specs.Keeps.{KeepsFolder};
+ghost use Rattle.bz_buildozer.specs.Keeps.{KeepsFolder};
 ghost use Rattle.bz_buildozer.specs.Outcome.{IsScript, reported_name};
 ghost use Rattle.bz_buildozer.specs.Steps.{input_package};
 

@@ -2,15 +2,15 @@
 ghost use Rattle.std.specs.Prelude.{◌≡◌, option_map};
 ghost use Rattle.std.specs.List.{list_any};
 ghost use Rattle.bz_command_line.specs.Paths.{HasPath};
-ghost use Rattle.bz_workspace.specs.Sessions.{action_in};
+ghost use Rattle.bz_buildozer.specs.Sessions.{action_in};
 ghost use Rattle.bz_buildozer.specs.Steps as s;
 ghost use Rattle.bz_buildozer.specs.private.Shown.{targets_input_in, prints_nothing_in, shown_in};
 ghost use Rattle.bz_buildozer.specs.Steps.{is_of_input};
 
 use crate::script::INPUT;
 use bz_command_line::{Request, Requested, Verb};
+use bz_journal::Action;
 use bz_label::Target;
-use bz_workspace::Action;
 
 /// What the session of the target's file is to do; to list its texts is no action.
 pub(crate) fn action_of<'a>(verb: &'a Verb, target: &'a Target) -> Option<Action<'a>>

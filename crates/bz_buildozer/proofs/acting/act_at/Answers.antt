@@ -1,7 +1,7 @@
 use Rattle.std.proofs.Common.{Ok, Err}
-use Rattle.bz_workspace.specs.Sessions.{action_in}
-use Rattle.bz_workspace.specs.Opens.{ActsAt}
-use Rattle.bz_workspace.specs.Packages.{Opened}
+use Rattle.bz_buildozer.specs.Sessions.{action_in}
+use Rattle.bz_buildozer.specs.Opens.{ActsAt}
+use Rattle.bz_buildozer.specs.Packages.{Opened}
 use Rattle.bz_buildozer.specs.private.Shown.{progress_in}
 use Rattle.bz_buildozer.proofs.ActSteps.{file_put, led_to, still_open, was_refused}
 use Rattle.bz_buildozer.proofs.acting.act_at.Goals as goal

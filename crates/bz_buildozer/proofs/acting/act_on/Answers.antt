@@ -1,9 +1,9 @@
 use Rattle.std.proofs.Common.{inl, refl, ◌∙◌, ◌&&◌, [], Bool, Option, false, true≢false, ap, sym, true}
 use Rattle.std.specs.Option.{option_map_or}
 use Rattle.std.specs.Prelude.{option_map}
-use Rattle.bz_workspace.specs.Sessions.{action_in}
+use Rattle.bz_buildozer.specs.Sessions.{action_in}
 use Rattle.bz_command_line.specs.Shown.{request_in}
-use Rattle.bz_workspace.specs.Packages.{Opened, file_at}
+use Rattle.bz_buildozer.specs.Packages.{Opened, file_at}
 use Rattle.bz_buildozer.specs.Keeping.{is_left_at}
 use Rattle.bz_buildozer.specs.Run.{reported_of}
 use Rattle.bz_buildozer.specs.private.Shown.{progress_in}

@@ -3,7 +3,7 @@ use Rattle.bz_command_line.specs.Shown.{request_in}
 use Rattle.bz_streams.proofs.Outputs.{counts_more, reports_more}
 use Rattle.bz_files.specs.Folder.{Folder}
 use Rattle.bz_items.specs.Characters.{Bytes}
-use Rattle.bz_workspace.specs.Packages.{file_at}
+use Rattle.bz_buildozer.specs.Packages.{file_at}
 use Rattle.bz_buildozer.specs.Calls.{UsesSome}
 use Rattle.bz_buildozer.specs.Keeping.{AllAreKept}
 use Rattle.bz_buildozer.specs.private.Shown.{progress_in}

@@ -1,9 +1,9 @@
 use Rattle.std.proofs.Common.{Ok, Err, ap, refl, subst}
 use Rattle.bz_journal.specs.declared.keeping.KeepFault.{KeepFault}
 use Rattle.bz_journal.specs.declared.keeping.KeepFault.TheVariants.{Refused, Pair}
-use Rattle.bz_workspace.specs.Keeps.{KeepsAt}
-use Rattle.bz_workspace.specs.Packages.{Opened}
-use Rattle.bz_workspace.specs.Sessions.{action_in}
+use Rattle.bz_buildozer.specs.Keeps.{KeepsAt}
+use Rattle.bz_buildozer.specs.Packages.{Opened}
+use Rattle.bz_buildozer.specs.Sessions.{action_in}
 use Rattle.bz_buildozer.specs.private.Shown.{progress_in}
 use Rattle.bz_buildozer.proofs.ActSteps.{file_put, led_on, led_to, was_refused}
 use Rattle.bz_buildozer.specs.Run.{Progress}

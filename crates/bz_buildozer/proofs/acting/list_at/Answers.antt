@@ -1,6 +1,6 @@
 use Rattle.std.proofs.Common.{refl}
-use Rattle.bz_workspace.specs.Sessions.{listing}
-use Rattle.bz_workspace.specs.Shown.{opened_in}
+use Rattle.bz_buildozer.specs.Sessions.{listing}
+use Rattle.bz_buildozer.specs.private.ShownFiles.{opened_in}
 use Rattle.bz_buildozer.specs.private.Shown.{progress_in}
 use Rattle.bz_buildozer.proofs.ActSteps.{was_listed}
 use Rattle.bz_buildozer.proofs.acting.list_at.Goals as goal

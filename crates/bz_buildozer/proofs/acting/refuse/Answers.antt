@@ -1,5 +1,5 @@
 use Rattle.std.proofs.Common.{◌∙◌, sym}
-use Rattle.bz_workspace.specs.Shown.{opened_in}
+use Rattle.bz_buildozer.specs.private.ShownFiles.{opened_in}
 use Rattle.bz_buildozer.proofs.ActSteps.{named_by, reported_by}
 use Rattle.bz_buildozer.proofs.acting.refuse.Goals as goal
 

@@ -1,6 +1,6 @@
 use Rattle.std.proofs.Common.{◌≡◌, ◌||◌, ◌++◌, map, drop}
 use Rattle.std.specs.List.{list_any}
-use Rattle.bz_workspace.specs.Shown.{used_in}
+use Rattle.bz_buildozer.specs.private.ShownFiles.{used_in}
 use Rattle.bz_buildozer.specs.Ending.{has_changed, texts_out}
 use Rattle.bz_buildozer.proofs.ending.put_texts.Given as goal
 

@@ -1,7 +1,7 @@
 use Rattle.std.proofs.Common.{◌∙◌, ◌++◌, List, ℕ, ap, refl, sym, subst}
-use Rattle.bz_workspace.specs.Sessions.{present}
+use Rattle.bz_buildozer.specs.Sessions.{present}
 use Rattle.std.specs.Option.{option_map}
-use Rattle.bz_workspace.specs.Shown.{opened_in, used_in}
+use Rattle.bz_buildozer.specs.private.ShownFiles.{opened_in, used_in}
 use Rattle.bz_buildozer.specs.Ending.{WritesFiles}
 use Rattle.bz_buildozer.proofs.EndingSteps.{one, writing_is, written_alone}
 use Rattle.bz_buildozer.proofs.ending.write_file.Goals as goal

@@ -1,8 +1,8 @@
 use Rattle.std.proofs.Common.{◌≡◌, ◌⊎◌, inl, inr, ◌∙◌, ◌++◌, ◌∷◌, [], ◌+◌, true, map, take, ap, sym}
 use Rattle.std.proofs.lemmas.List.{map_more}
 use Rattle.bz_streams.proofs.Outputs.{reports_more}
-use Rattle.bz_workspace.specs.Shown.{used_in}
-use Rattle.bz_workspace.specs.declared.used.Used.{Used}
+use Rattle.bz_buildozer.specs.private.ShownFiles.{used_in}
+use Rattle.bz_buildozer.specs.declared.used.Used.{Used}
 use Rattle.bz_buildozer.specs.Ending.{writing_of, all_fixed, all_writings, fixed_lines, fixed_of}
 use Rattle.bz_buildozer.proofs.CutSteps.{whole_before, whole_after}
 use Rattle.bz_buildozer.proofs.EndingSteps.{flat_map-last, nothing_at, writes_more, fixed_lines-append}

@@ -1,6 +1,6 @@
 use Rattle.std.proofs.Common.{◌≡◌, ◌⊎◌, true, false, [], map, take}
 use Rattle.bz_streams.specs.declared.exit.Cut.TheVariants as c
-use Rattle.bz_workspace.specs.Shown.{used_in}
+use Rattle.bz_buildozer.specs.private.ShownFiles.{used_in}
 use Rattle.bz_buildozer.specs.Calls.{ReportsLines, WorksOn}
 use Rattle.bz_buildozer.specs.Ending.{all_fixed, all_writings, WritesFiles, fixed_lines}
 use Rattle.bz_buildozer.proofs.ending.write_files.Given as goal

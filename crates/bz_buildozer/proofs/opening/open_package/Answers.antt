@@ -1,13 +1,14 @@
 use Rattle.std.proofs.Common.{◌≡◌, ◌∙◌, List, [], length, inl, inr, ap, refl, sym, subst, Bool, Option, true≢false}
 use Rattle.bz_items.specs.Characters.{Bytes}
-use Rattle.bz_workspace.specs.Found.{found_in}
-use Rattle.bz_workspace.specs.Journals.{OpensBeside}
-use Rattle.bz_workspace.specs.Packages.{Used, package_number}
-use Rattle.bz_workspace.specs.declared.opening.Opening.{Opening}
+use Rattle.bz_buildozer.specs.Found.{found_in}
+use Rattle.bz_buildozer.specs.Journals.{OpensBeside}
+use Rattle.bz_buildozer.specs.Packages.{Used, package_number}
+use Rattle.bz_buildozer.specs.declared.reading.Opening.{Opening}
 use Rattle.bz_streams.specs.declared.exit.Cut.TheVariants as cut
 use Rattle.bz_buildozer.specs.Cuts.{IsLeft}
 use Rattle.bz_streams.specs.Ports.{IsInput}
 use Rattle.bz_buildozer.specs.Steps.{input_package}
+use Rattle.bz_buildozer.proofs.FoundSteps.{plain_opens}
 use Rattle.bz_buildozer.proofs.OpenSteps.{adds_more, is_found, last_place, left_after_use, left_after_input, place_again, uses_found, uses_input}
 use Rattle.bz_buildozer.proofs.ReadSteps.{opens_first, opens_again, uses_so}
 use Rattle.bz_buildozer.proofs.opening.open_package.Goals as goal
@@ -40,10 +41,12 @@ returns-clause-uses g c = λ plain can whole known left.
           c.wants_input.ensures.other c.if-wants_input.false plain is (sym (ap (λ (n : Bytes). package_number n old) is) ∙ none) in
           elim can [
             | inl honest ↦
-                let done = c.open.ensures.first plain honest whole none in (
+                let folder = g.F.Files.folder c.args.files.now in
+                let done = c.open.ensures.opens honest whole none in (
                   length old,
                   done.1,
-                  uses_found (record { folder = g.F.Files.folder c.args.files.now; known = known }) name old new done.0 done.1 other none done.2 done.3,
+                  uses_found (record { folder = folder; known = known }) name old new done.0 done.1 other none
+                      (plain_opens c.args.journals name folder (found_in folder name) done.0 done.1 plain done.2) done.3,
                   last_place old new name done.0 c.open.result.place done.3 done.4,
                   left_after_use known remaining old new (record { «package» = name; file = done.0 }) done.3 left,
                   done.5,

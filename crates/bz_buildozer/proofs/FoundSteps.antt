@@ -1,0 +1,62 @@
+-- Which file of a package is opened, by what its names and its journal hold.
+use Rattle.std.proofs.Common.{◌≡◌, ◌+◌, Bool, false, List, [], ◌∷◌, Option, Some, None, refl, sym, ap, subst, ◌∙◌, take, codes}
+use Rattle.std.specs.FinMap.{get}
+use Rattle.bz_grammar.specs.Spell.{limit}
+use Rattle.bz_items.specs.Characters.{Bytes}
+use Rattle.bz_files.specs.Folder.{Folder}
+use Rattle.bz_streams.specs.Reported.{named_line}
+use Rattle.bz_buildozer.specs.Found.{PackagesFound, first_name, found_at, found_in, found_second, second_name}
+use Rattle.bz_buildozer.specs.Journals.{OpensBeside, TakesBeside, journal_beside}
+use Rattle.bz_buildozer.specs.Opens.{Opens}
+use Rattle.bz_buildozer.specs.Packages.{Opened}
+use Rattle.bz_buildozer.proofs.JournalSteps.{front_beside}
+
+-- a file that is there, of which these first bytes were read; the folder is still the same
+there_opens : (journals : Bool) (current wanted name front text : Bytes) (folder now : Folder) (other : Option PackagesFound) (file : Option Opened) (lines : List Bytes)
+    → name ≡ wanted → get folder name ≡ Some text → front ≡ take (limit + 1) text → now ≡ folder
+    → TakesBeside (journal_beside journals now name) current name front file lines
+    → OpensBeside journals folder current (found_at wanted (get folder wanted) other) file lines
+there_opens journals current wanted name front text folder now other file lines is held cut same takes =
+    let whole = front_beside (journal_beside journals now name) current name front text file lines cut takes in
+    let here : TakesBeside (journal_beside journals folder name) current name text file lines =
+    subst (λ (f : Folder). TakesBeside (journal_beside journals f name) current name text file lines) same whole in
+    subst (λ (bytes : Option Bytes). OpensBeside journals folder current (found_at wanted bytes other) file lines) (sym (ap (get folder) (sym is) ∙ held))
+    (subst (λ (n : Bytes). TakesBeside (journal_beside journals folder n) current n text file lines) is here)
+
+-- a file that is not there
+absent_opens : (journals : Bool) (current wanted name : Bytes) (folder : Folder) (other : Option PackagesFound) (file : Option Opened) (lines : List Bytes) → name ≡ wanted
+    → get folder name ≡ None → OpensBeside journals folder current other file lines
+    → OpensBeside journals folder current (found_at wanted (get folder wanted) other) file lines
+absent_opens journals current wanted name folder other file lines is held opens =
+    subst (λ (bytes : Option Bytes). OpensBeside journals folder current (found_at wanted bytes other) file lines) (sym (ap (get folder) (sym is) ∙ held)) opens
+
+pub second_opens : (journals : Bool) (current name front text : Bytes) (folder now : Folder) (file : Option Opened) (lines : List Bytes) → name ≡ second_name current
+    → get folder name ≡ Some text → front ≡ take (limit + 1) text → now ≡ folder → TakesBeside (journal_beside journals now name) current name front file lines
+    → OpensBeside journals folder current (found_second folder current) file lines
+second_opens journals current name front text folder now file lines = there_opens journals current (second_name current) name front text folder now None file lines
+
+pub neither_opens : (journals : Bool) (current name : Bytes) (folder : Folder) → name ≡ second_name current → get folder name ≡ None
+    → OpensBeside journals folder current (found_second folder current) None (named_line name (codes "cannot open") ∷ [])
+neither_opens journals current name folder is held =
+    absent_opens journals current (second_name current) name folder None None (named_line name (codes "cannot open") ∷ []) is held
+    (refl, ap (λ (n : Bytes). named_line n (codes "cannot open") ∷ []) is)
+
+pub first_opens : (journals : Bool) (current name front text : Bytes) (folder now : Folder) (file : Option Opened) (lines : List Bytes) → name ≡ first_name current
+    → get folder name ≡ Some text → front ≡ take (limit + 1) text → now ≡ folder → TakesBeside (journal_beside journals now name) current name front file lines
+    → OpensBeside journals folder current (found_in folder current) file lines
+first_opens journals current name front text folder now file lines =
+    there_opens journals current (first_name current) name front text folder now (found_second folder current) file lines
+
+pub first_absent : (journals : Bool) (current name : Bytes) (folder now : Folder) (file : Option Opened) (lines : List Bytes) → name ≡ first_name current
+    → get folder name ≡ None → now ≡ folder → OpensBeside journals now current (found_second now current) file lines
+    → OpensBeside journals folder current (found_in folder current) file lines
+first_absent journals current name folder now file lines is held same opens =
+    absent_opens journals current (first_name current) name folder (found_second folder current) file lines is held
+    (subst (λ (f : Folder). OpensBeside journals f current (found_second f current) file lines) same opens)
+
+-- without journals a file is opened as its text says
+pub plain_opens : (journals : Bool) (current : Bytes) (folder : Folder) (found : Option PackagesFound) (file : Option Opened) (lines : List Bytes) → journals ≡ false
+    → OpensBeside journals folder current found file lines → Opens current found file lines
+plain_opens journals current folder (Some found) file lines is opens =
+    subst (λ (b : Bool). TakesBeside (journal_beside b folder found.0) current found.0 found.1 file lines) is opens
+plain_opens journals current folder None file lines is opens = opens

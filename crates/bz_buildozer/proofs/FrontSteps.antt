@@ -1,0 +1,59 @@
+-- The first bytes of a text, one more than a text may have, decide what becomes of it.
+use Rattle.std.proofs.Common.{◌≡◌, ◌⊎◌, ◌↔◌, ◌≤◌, ◌<◌, ◌+◌, inl, inr, List, length, take, Option, arith, subst, sym, length-take}
+use Rattle.std.proofs.lemmas.List.{take_all}
+use Rattle.std.proofs.lemmas.Bool.{cases_lt}
+use Rattle.bz_lex.specs.declared.fault.ReadFault.{ReadFault}
+use Rattle.bz_lex.specs.declared.fault.ReadFault.TheVariants as f
+use Rattle.bz_grammar.specs.Spell.{limit}
+use Rattle.bz_grammar.specs.Legal.{Accepted}
+use Rattle.bz_items.specs.Characters.{Bytes}
+use Rattle.bz_grammar.specs.Faults.{IsFaultOf}
+use Rattle.bz_buildozer.specs.Opens.{FrontsAreReportedAlike, Takes}
+use Rattle.bz_buildozer.specs.Packages.{Opened}
+
+fits_limit : (text : Bytes) → Accepted text → length text ≤ limit
+fits_limit text accepted = accepted.1.2
+
+-- one fault of two texts that are both too large
+same_fault : (one other : Bytes) (fault : ReadFault) → limit < length one → limit < length other → IsFaultOf one fault → IsFaultOf other fault
+same_fault one other fault long past of_one =
+    let large : fault ≡ f.TooLarge = of_one.too_large.1 long in
+    record {
+      too_large = (λ _. past, λ _. large);
+      not_utf8 = λ at. (λ is. absurd (cc), λ short. let fits = short.0 in absurd (omega arith));
+      other = of_one.other;
+    }
+
+long_takes : (current name one other : Bytes) (file : Option Opened) (lines : List Bytes) → limit < length one → limit < length other
+    → Takes current name one file lines → Takes current name other file lines
+long_takes current name one other file lines long past (inl opened) =
+    let le = fits_limit one opened.0 in absurd (omega arith)
+long_takes current name one other file lines long past (inr refused) =
+    inr (
+      (λ accepted. let le = fits_limit other accepted in omega arith),
+      (refused.1.0, same_fault one other refused.1.0 long past refused.1.1, refused.1.2, refused.1.3),
+    )
+
+front_long : (text : Bytes) → limit < length text → limit < length (take (limit + 1) text)
+front_long text long = let len = length-take (limit + 1) text in omega arith
+
+pub fronts_alike : FrontsAreReportedAlike
+fronts_alike current name text file lines = go (cases_lt limit (length text))
+  where
+    go : (limit < length text) ⊎ (length text ≤ limit)
+        → (Takes current name (take (limit + 1) text) file lines ↔ Takes current name text file lines)
+    go (inl long) = (
+      long_takes current name (take (limit + 1) text) text file lines (front_long text long) long,
+      long_takes current name text (take (limit + 1) text) file lines long (front_long text long),
+    )
+    go (inr short) =
+        let same : take (limit + 1) text ≡ text = take_all (limit + 1) text (omega arith) in (
+          subst (λ (it : Bytes). Takes current name it file lines) same,
+          subst (λ (it : Bytes). Takes current name it file lines) (sym same),
+        )
+
+-- what becomes of the first bytes becomes of the text
+pub front_takes : (current name front text : Bytes) (file : Option Opened) (lines : List Bytes) → front ≡ take (limit + 1) text
+    → Takes current name front file lines → Takes current name text file lines
+front_takes current name front text file lines is takes =
+    (fronts_alike current name text file lines).0 (subst (λ (it : Bytes). Takes current name it file lines) is takes)

@@ -1,0 +1,54 @@
+use Rattle.std.proofs.Common.{◌∙◌, ap, refl, Err, sym, subst, inl}
+use Rattle.bz_buildozer.specs.declared.reading.Opening.{Opening}
+use Rattle.bz_buildozer.proofs.FoundSteps.{first_opens, first_absent}
+use Rattle.bz_files.specs.Folder.{Folder}
+use Rattle.bz_buildozer.specs.Journals.{IsOpenedIn}
+use Rattle.bz_buildozer.proofs.OpenedSteps.{fills_more, nothing_put, puts_more, read_put, reads_on}
+use Rattle.bz_buildozer.proofs.workspace.Workspace.open_first.Goals as goal
+
+pub returns-in-Ok-bytes_of-clause-first : goal.returns-in-Ok-bytes_of-clause-first
+returns-in-Ok-bytes_of-clause-first g c = λ honest cut.
+    let read = c.in-Ok-bytes_of.ensures in
+    let held = read.found honest in
+    fills_more g.E.Sink c.args.place _ _ _ c.args.self.now c.open_found.new.self c.args.err.now c.open_found.new.err
+    (λ file lines. first_opens c.args.journals c.args.package.now c.as_str-name.result.now c.in-Ok-bytes_of.text.items held.0 (g.F.Files.folder c.args.files.now)
+    (g.F.Files.folder c.bytes_of.new.files) file lines (c.as_str-name.ensures.value ∙ c.in-Ok.ensures) held.1 held.2 (read.folder honest))
+    (c.open_found.ensures.whole (read.honest ∙ honest) cut)
+
+pub returns-in-Err-Absent-clause-first : goal.returns-in-Err-Absent-clause-first
+returns-in-Err-Absent-clause-first g c = λ honest cut.
+    let read = c.in-Err-Absent.ensures in
+    fills_more g.E.Sink c.args.place _ _ _ c.args.self.now c.open_second.new.self c.args.err.now c.open_second.new.err
+    (λ file lines. first_absent c.args.journals c.args.package.now c.as_str-name.result.now (g.F.Files.folder c.args.files.now) (g.F.Files.folder c.bytes_of.new.files) file lines
+    (c.as_str-name.ensures.value ∙ c.in-Ok.ensures) (read.absent honest (ap Err c.in-Err-Absent.field-0-is)) (read.folder honest))
+    (c.open_second.ensures.second (read.honest ∙ honest) cut)
+
+pub returns-in-Ok-bytes_of-clause-puts : goal.returns-in-Ok-bytes_of-clause-puts
+returns-in-Ok-bytes_of-clause-puts g c =
+    let read = c.in-Ok-bytes_of.ensures in
+    read_put g.F.Files c.args.journals c.args.package.now c.as_str-name.result.now c.in-Ok-bytes_of.text.items c.args.place _ c.args.self.now c.open_found.new.self
+    c.args.files.now c.bytes_of.new.files (inl (c.as_str-name.ensures.value ∙ c.in-Ok.ensures)) read.found read.folder read.honest c.open_found.ensures.puts
+
+pub returns-in-Ok-bytes_of-clause-files : goal.returns-in-Ok-bytes_of-clause-files
+returns-in-Ok-bytes_of-clause-files g c =
+    let read = c.in-Ok-bytes_of.ensures in
+    reads_on g.F.Files c.open_found.result.cut c.args.files.now c.bytes_of.new.files c.open_found.new.files read.folder read.time (read.kept (λ failed. absurd (cc failed))) read.honest
+    c.open_found.ensures.files
+
+pub returns-in-Err-Absent-clause-puts : goal.returns-in-Err-Absent-clause-puts
+returns-in-Err-Absent-clause-puts g c =
+    let read = c.in-Err-Absent.ensures in
+    puts_more c.args.place _ _ _ c.args.self.now c.open_second.new.self (λ file is honest.
+    subst (λ (f : Folder). IsOpenedIn c.args.journals f c.args.package.now file) (read.folder honest) (is (read.honest ∙ honest))) c.open_second.ensures.puts
+
+pub returns-in-Err-Absent-clause-files : goal.returns-in-Err-Absent-clause-files
+returns-in-Err-Absent-clause-files g c =
+    let read = c.in-Err-Absent.ensures in
+    reads_on g.F.Files c.open_second.result.cut c.args.files.now c.bytes_of.new.files c.open_second.new.files read.folder read.time (read.kept (λ failed. absurd (cc (sym (ap Err c.in-Err-Absent.field-0-is) ∙ failed)))) read.honest
+    c.open_second.ensures.files
+
+pub returns-in_default-clause-puts : goal.returns-in_default-clause-puts
+returns-in_default-clause-puts g c = nothing_put c.args.place _ _ c.args.self.now c.args.self.now c.requires.closed (ap (λ (o : Opening). o.place) c.unnamed.ensures) refl
+
+pub returns-in-Err-Memory-clause-puts : goal.returns-in-Err-Memory-clause-puts
+returns-in-Err-Memory-clause-puts g c = nothing_put c.args.place _ _ c.args.self.now c.args.self.now c.requires.closed (ap (λ (o : Opening). o.place) c.fail.ensures.opening) refl

@@ -1,0 +1,59 @@
+use Rattle.std.proofs.Common.{◌≡◌, ◌∙◌, ap, refl, true, Err}
+use Rattle.bz_buildozer.specs.Journals.{journal_beside}
+use Rattle.bz_buildozer.specs.declared.reading.Opening.{Opening}
+use Rattle.bz_buildozer.proofs.JournalSteps.{none_beside, plain_beside, read_beside}
+use Rattle.bz_buildozer.proofs.OpenedSteps.{fills_more, nothing_put, whole_put}
+use Rattle.bz_buildozer.proofs.workspace.Workspace.open_found.Goals as goal
+
+pub returns-in-Ok-bytes_of-clause-whole : goal.returns-in-Ok-bytes_of-clause-whole
+returns-in-Ok-bytes_of-clause-whole g c = λ honest cut.
+    let folder = g.F.Files.folder c.args.files.now in
+    let held = c.in-Ok-bytes_of.ensures.found honest in
+    fills_more g.E.Sink c.args.place _ _ _ c.args.self.now c.open_resumed.new.self c.args.err.now c.open_resumed.new.err
+    (λ file lines. read_beside c.args.journals folder c.args.package.now c.args.name.now c.as_str-journal.result.now held.0 c.as_slice.result.now c.args.text.items
+    c.in-Ok-bytes_of.bytes file lines c.if-not-journals.false (c.as_str-journal.ensures.value ∙ c.in-Ok.ensures) c.as_slice.ensures.value held.1 held.2)
+    (c.open_resumed.ensures.whole cut)
+
+pub returns-in-Ok-bytes_of-clause-puts : goal.returns-in-Ok-bytes_of-clause-puts
+returns-in-Ok-bytes_of-clause-puts g c =
+    let folder = g.F.Files.folder c.args.files.now in
+    whole_put g.E.Sink (g.F.Files.honest c.args.files.now ≡ true) (journal_beside c.args.journals folder c.args.name.now) c.args.package.now c.args.name.now c.args.text.items
+    _ c.args.place _ _ c.args.self.now c.open_resumed.new.self c.args.err.now c.open_resumed.new.err c.requires.closed
+    (λ honest file lines. let held = c.in-Ok-bytes_of.ensures.found honest in
+    read_beside c.args.journals folder c.args.package.now c.args.name.now c.as_str-journal.result.now held.0 c.as_slice.result.now c.args.text.items
+    c.in-Ok-bytes_of.bytes file lines c.if-not-journals.false (c.as_str-journal.ensures.value ∙ c.in-Ok.ensures) c.as_slice.ensures.value held.1 held.2)
+    c.open_resumed.ensures.whole c.open_resumed.ensures.cut
+
+pub returns-in-Err-Absent-clause-whole : goal.returns-in-Err-Absent-clause-whole
+returns-in-Err-Absent-clause-whole g c = λ honest cut.
+    let folder = g.F.Files.folder c.args.files.now in
+    fills_more g.E.Sink c.args.place _ _ _ c.args.self.now c.open_text-in-Err-Absent.new.self c.args.err.now c.open_text-in-Err-Absent.new.err
+    (λ file lines. none_beside c.args.journals folder c.args.package.now c.args.name.now c.as_str-journal.result.now c.args.text.items file lines
+    c.if-not-journals.false (c.as_str-journal.ensures.value ∙ c.in-Ok.ensures) (c.in-Err-Absent.ensures.absent honest (ap Err c.in-Err-Absent.field-0-is)))
+    (c.open_text-in-Err-Absent.ensures.whole cut)
+
+pub returns-in-Err-Absent-clause-puts : goal.returns-in-Err-Absent-clause-puts
+returns-in-Err-Absent-clause-puts g c =
+    let folder = g.F.Files.folder c.args.files.now in
+    whole_put g.E.Sink (g.F.Files.honest c.args.files.now ≡ true) (journal_beside c.args.journals folder c.args.name.now) c.args.package.now c.args.name.now c.args.text.items
+    _ c.args.place _ _ c.args.self.now c.open_text-in-Err-Absent.new.self c.args.err.now c.open_text-in-Err-Absent.new.err c.requires.closed
+    (λ honest file lines. none_beside c.args.journals folder c.args.package.now c.args.name.now c.as_str-journal.result.now c.args.text.items file lines
+    c.if-not-journals.false (c.as_str-journal.ensures.value ∙ c.in-Ok.ensures) (c.in-Err-Absent.ensures.absent honest (ap Err c.in-Err-Absent.field-0-is)))
+    c.open_text-in-Err-Absent.ensures.whole c.open_text-in-Err-Absent.ensures.cut
+
+pub returns-in_default-clause-puts : goal.returns-in_default-clause-puts
+returns-in_default-clause-puts g c = nothing_put c.args.place _ _ c.args.self.now c.args.self.now c.requires.closed (ap (λ (o : Opening). o.place) c.fail.ensures.opening) refl
+
+pub returns-in-Err-Memory-clause-puts : goal.returns-in-Err-Memory-clause-puts
+returns-in-Err-Memory-clause-puts g c = nothing_put c.args.place _ _ c.args.self.now c.args.self.now c.requires.closed (ap (λ (o : Opening). o.place) c.fail-in-Err-Memory.ensures.opening) refl
+
+pub returns-in-Err-clause-puts : goal.returns-in-Err-clause-puts
+returns-in-Err-clause-puts g c = nothing_put c.args.place _ _ c.args.self.now c.args.self.now c.requires.closed (ap (λ (o : Opening). o.place) c.fail-in-Err.ensures.opening) refl
+
+pub returns-then-not-journals-clause-puts : goal.returns-then-not-journals-clause-puts
+returns-then-not-journals-clause-puts g c =
+    let folder = g.F.Files.folder c.args.files.now in
+    whole_put g.E.Sink (g.F.Files.honest c.args.files.now ≡ true) (journal_beside c.args.journals folder c.args.name.now) c.args.package.now c.args.name.now c.args.text.items
+    _ c.args.place _ _ c.args.self.now c.open_text.new.self c.args.err.now c.open_text.new.err c.requires.closed
+    (λ honest file lines. plain_beside c.args.journals folder c.args.package.now c.args.name.now c.args.text.items file lines c.if-not-journals.true)
+    c.open_text.ensures.whole c.open_text.ensures.cut

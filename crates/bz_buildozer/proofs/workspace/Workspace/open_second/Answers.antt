@@ -1,0 +1,52 @@
+use Rattle.std.proofs.Common.{◌∙◌, ap, sym, refl, Err, None, [], ◌∷◌, codes, inr}
+use Rattle.bz_streams.specs.Reported.{named_line}
+use Rattle.bz_buildozer.specs.declared.reading.Opening.{Opening}
+use Rattle.bz_buildozer.proofs.FileSteps.{none_stays}
+use Rattle.bz_buildozer.proofs.FoundSteps.{second_opens, neither_opens}
+use Rattle.bz_buildozer.proofs.OpenedSteps.{fills_more, nothing_put, read_put, reads_on}
+use Rattle.bz_buildozer.proofs.workspace.Workspace.open_second.Goals as goal
+
+pub returns-in-Ok-bytes_of-clause-second : goal.returns-in-Ok-bytes_of-clause-second
+returns-in-Ok-bytes_of-clause-second g c = λ honest cut.
+    let read = c.in-Ok-bytes_of.ensures in
+    let held = read.found honest in
+    fills_more g.E.Sink c.args.place _ _ _ c.args.self.now c.open_found.new.self c.args.err.now c.open_found.new.err
+    (λ file lines. second_opens c.args.journals c.args.package.now c.as_str-name.result.now c.in-Ok-bytes_of.text.items held.0 (g.F.Files.folder c.args.files.now)
+    (g.F.Files.folder c.bytes_of.new.files) file lines (c.as_str-name.ensures.value ∙ c.in-Ok.ensures) held.1 held.2 (read.folder honest))
+    (c.open_found.ensures.whole (read.honest ∙ honest) cut)
+
+pub returns-in-Err-Absent-clause-second : goal.returns-in-Err-Absent-clause-second
+returns-in-Err-Absent-clause-second g c = λ honest cut.
+    let name = c.as_str-name.result.now in (
+      None,
+      named_line name (codes "cannot open") ∷ [],
+      neither_opens c.args.journals c.args.package.now name (g.F.Files.folder c.args.files.now) (c.as_str-name.ensures.value ∙ c.in-Ok.ensures)
+          (c.in-Err-Absent.ensures.absent honest (ap Err c.in-Err-Absent.field-0-is)),
+      sym (none_stays c.args.place c.args.self.now c.requires.closed),
+      ap (λ (o : Opening). o.place) c.fail.ensures.opening,
+      (g.E.Sink.faults c.fail.new.err, g.E.Sink.contents c.fail.new.err, c.fail.ensures.reported, (refl, refl)),
+    )
+
+pub returns-in-Ok-bytes_of-clause-puts : goal.returns-in-Ok-bytes_of-clause-puts
+returns-in-Ok-bytes_of-clause-puts g c =
+    let read = c.in-Ok-bytes_of.ensures in
+    read_put g.F.Files c.args.journals c.args.package.now c.as_str-name.result.now c.in-Ok-bytes_of.text.items c.args.place _ c.args.self.now c.open_found.new.self
+    c.args.files.now c.bytes_of.new.files (inr (c.as_str-name.ensures.value ∙ c.in-Ok.ensures)) read.found read.folder read.honest c.open_found.ensures.puts
+
+pub returns-in-Ok-bytes_of-clause-files : goal.returns-in-Ok-bytes_of-clause-files
+returns-in-Ok-bytes_of-clause-files g c =
+    let read = c.in-Ok-bytes_of.ensures in
+    reads_on g.F.Files c.open_found.result.cut c.args.files.now c.bytes_of.new.files c.open_found.new.files read.folder read.time (read.kept (λ failed. absurd (cc failed))) read.honest
+    c.open_found.ensures.files
+
+pub returns-in_default-clause-puts : goal.returns-in_default-clause-puts
+returns-in_default-clause-puts g c = nothing_put c.args.place _ _ c.args.self.now c.args.self.now c.requires.closed (ap (λ (o : Opening). o.place) c.unnamed.ensures) refl
+
+pub returns-in-Err-Absent-clause-puts : goal.returns-in-Err-Absent-clause-puts
+returns-in-Err-Absent-clause-puts g c = nothing_put c.args.place _ _ c.args.self.now c.args.self.now c.requires.closed (ap (λ (o : Opening). o.place) c.fail.ensures.opening) refl
+
+pub returns-in-Err-Memory-clause-puts : goal.returns-in-Err-Memory-clause-puts
+returns-in-Err-Memory-clause-puts g c = nothing_put c.args.place _ _ c.args.self.now c.args.self.now c.requires.closed (ap (λ (o : Opening). o.place) c.fail-in-Err-Memory.ensures.opening) refl
+
+pub returns-clause-puts : goal.returns-clause-puts
+returns-clause-puts g c = nothing_put c.args.place _ _ c.args.self.now c.args.self.now c.requires.closed (ap (λ (o : Opening). o.place) c.fail-in-Err.ensures.opening) refl

@@ -1,0 +1,10 @@
+use Rattle.std.proofs.Common.{◌∙◌, ap, map}
+use Rattle.bz_buildozer.specs.Packages.{package_number}
+use Rattle.bz_buildozer.specs.private.ShownFiles.{used_in}
+use Rattle.bz_buildozer.proofs.PlaceSteps.{place_found}
+use Rattle.bz_buildozer.proofs.workspace.Workspace.place.Goals as goal
+
+pub returns : goal.returns
+returns c = c.get_index_of.ensures.index
+    ∙ place_found c.self.inside.names.keys c.args.package.now (map used_in c.self.inside.used.items) c.self.invariant
+    ∙ ap (package_number c.args.package.now) c.self.view_is

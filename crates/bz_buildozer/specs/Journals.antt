@@ -1,0 +1,111 @@
+-- How a file is opened that has a journal.
+use Rattle.std.specs.Prelude.{◌≡◌, ◌≢◌, ◌⊎◌, ◌++◌, ℕ, Bool, true, List, [], ◌∷◌, codes, length, if◌then◌else◌, Option, Some, None, IfSome, Result, Ok, Err}
+use Rattle.std.specs.List.{concat}
+use Rattle.std.specs.Option.{option_map}
+use Rattle.std.specs.FinMap.{get}
+use Rattle.bz_edit.specs.declared.edit.Edit.{Edit}
+use Rattle.bz_journal_format.specs.Texts.{IsOtherVersion}
+use Rattle.bz_resume.specs.declared.fault.ResumeFault.{ResumeFault}
+use Rattle.bz_resume.specs.declared.fault.ResumeFault.TheVariants as f
+use Rattle.bz_resume.specs.Journals.{Journal, NoJournal, stands}
+use Rattle.bz_resume.specs.Resumed.{IsStale}
+use Rattle.bz_items.specs.Characters.{Bytes}
+use Rattle.bz_grammar.specs.Legal.{Accepted}
+use Rattle.bz_files.specs.Folder.{Folder}
+use Rattle.bz_resume.specs.Pair.{journal_name}
+use Rattle.bz_resume.specs.Resuming.{Holds}
+use Rattle.bz_streams.specs.Reported.{named_line}
+use Rattle.bz_journal.specs.History.{History, present}
+use Rattle.bz_buildozer.specs.Found.{IsNameOf, PackagesFound}
+use Rattle.bz_buildozer.specs.Opens.{Opens, Takes}
+use Rattle.bz_buildozer.specs.Packages.{Opened, Used, opened_with, with_opened}
+
+-- the bytes are a journal of this history, which matches the text at this number
+abbrev pub StandsAt : Bytes → Bytes → History → ℕ → Type 0
+StandsAt bytes text h at = ((es : List (List Edit)) × Journal bytes h es) × (stands h text ≡ Some at)
+
+-- why no history goes on with a journal: a fault of resuming it, or it is the journal of another package, which has this path
+pub data JournalFault : Type 0 where
+  of_resuming : ResumeFault → JournalFault
+  of_package : Bytes → JournalFault
+
+-- What comes of a journal for a file of this package that holds this text: the history that goes on at the number where it is
+-- for the text; or why none does: the journal names another version, it matches the text nowhere, it is the journal of another
+-- package, or none at all.
+abbrev pub JournalGives : Bytes → Bytes → Bytes → Result History JournalFault → Type 0
+JournalGives current bytes text (Ok history) =
+    (h : History) × (at : ℕ) × StandsAt bytes text h at × (h.package ≡ current) × (history ≡ record h { cursor = at; before = at })
+JournalGives current bytes text (Err (of_package other)) =
+    (h : History) × (at : ℕ) × StandsAt bytes text h at × (h.package ≡ other) × (other ≢ current)
+JournalGives current bytes text (Err (of_resuming f.Version)) = IsOtherVersion bytes
+JournalGives current bytes text (Err (of_resuming f.Stale)) = IsStale bytes text
+JournalGives current bytes text (Err (of_resuming f.Damaged)) = (IsOtherVersion bytes → ⊥) × NoJournal bytes
+JournalGives current bytes text (Err (of_resuming f.Memory)) = ⊥
+
+abbrev pub file_of_journal : Bytes → Bytes → Result History JournalFault → Option Opened
+file_of_journal name text (Ok history) = Some (opened_with name text history)
+file_of_journal name text (Err fault) = None
+
+-- What is reported of the journal with this name: the name and the number of the fault, and after it what may be done, where a file
+-- holds no text that its journal matches, and where the journal is of another package.
+abbrev pub fault_lines : Bytes → JournalFault → List Bytes
+fault_lines journal (of_resuming f.Memory) = named_line journal (codes "Memory (8)") ∷ []
+fault_lines journal (of_resuming f.Damaged) = named_line journal (codes "Damaged (71)") ∷ []
+fault_lines journal (of_resuming f.Version) = named_line journal (codes "Version (72)") ∷ []
+fault_lines journal (of_resuming f.Stale) = named_line journal (codes "Stale (73)")
+    ∷ (codes "buildozer: the file changed since the last run with --journal: restore it, or delete " ++ journal ++ codes " to begin a new history\n") ∷ []
+fault_lines journal (of_package other) = named_line journal (codes "Damaged (71)")
+    ∷ concat (codes "buildozer: " ∷ journal ∷ codes " was written for //" ∷ other ∷ codes ": move it back there, or delete it to begin a new history\n" ∷ []) ∷ []
+
+abbrev pub lines_of_journal : Bytes → Result History JournalFault → List Bytes
+lines_of_journal name (Ok history) = []
+lines_of_journal name (Err fault) = fault_lines (journal_name name) fault
+
+-- A file without a journal is opened as its text says. One with a journal goes on with its history, or its fault is reported by the
+-- journal's name.
+abbrev pub TakesBeside : Option Bytes → Bytes → Bytes → Bytes → Option Opened → List Bytes → Type 0
+TakesBeside None current name text file lines = Takes current name text file lines
+TakesBeside (Some bytes) current name text file lines = (given : Result History JournalFault) × JournalGives current bytes text given
+    × (file ≡ file_of_journal name text given) × (lines ≡ lines_of_journal name given)
+
+-- the journal that is read beside a file: none where journals are not kept
+abbrev pub journal_beside : Bool → Folder → Bytes → Option Bytes
+journal_beside journals folder name = if journals then get folder (journal_name name) else None
+
+-- The file that is found for a package is opened, with its journal where journals are kept.
+abbrev pub OpensBeside : Bool → Folder → Bytes → Option PackagesFound → Option Opened → List Bytes → Type 0
+OpensBeside journals folder current (Some found) file lines = TakesBeside (journal_beside journals folder found.0) current found.0 found.1 file lines
+OpensBeside journals folder current None file lines = Opens current None file lines
+
+-- ---- what an opening leaves, whatever comes
+
+-- an open file of this package: it has one of the two names and the text that the folder has there, and its history is what its
+-- journal says, where journals are kept and there is one, else it begins with that text
+pub record IsOpenedIn (journals : Bool) (folder : Folder) (current : Bytes) (file : Opened) : Type 0 where
+  pub named : IsNameOf current file.name
+  pub there : get folder file.name ≡ Some file.read
+  pub opens : TakesBeside (journal_beside journals folder file.name) current file.name file.read (Some file) []
+
+-- The package with this number has such a file from now on, or none. (Its number, where its file is open.)
+abbrev pub Puts : ℕ → (Opened → Type 0) → Option ℕ → List Used → List Used → Type 0
+Puts place Is number before after =
+    (file : Option Opened) × (after ≡ with_opened place file before) × (number ≡ option_map (λ _. place) file) × IfSome file Is
+
+-- A package is the last one from now on, with such a file or none; or memory was refused, and nothing changes.
+abbrev pub Adds : Bytes → (Opened → Type 0) → Option ℕ → List Used → List Used → Type 0
+Adds current Is number before after = ((after ≡ before) × (number ≡ None))
+    ⊎ ((file : Option Opened) × (after ≡ before ++ record { «package» = current; file = file } ∷ [])
+    × (number ≡ option_map (λ _. length before) file) × IfSome file Is)
+
+-- ---- laws
+
+-- One thing comes of a journal.
+abbrev pub JournalGivesOne : Type 0
+JournalGivesOne = (current bytes text : Bytes) (one other : Result History JournalFault) → JournalGives current bytes text one
+    → JournalGives current bytes text other → one ≡ other
+
+-- A file that goes on and holds an accepted text is opened, in its package and with its journal, at that text, and with all of its texts.
+abbrev pub HeldFilesGoOn : Type 0
+HeldFilesGoOn = (folder : Folder) (name current text : Bytes) (texts : List Bytes) (file : Option Opened) (lines : List Bytes)
+    → Holds folder name current text texts → Accepted text → TakesBeside (journal_beside true folder name) current name text file lines
+    → (opened : Opened) × (file ≡ Some opened) × (present opened.history ≡ text) × (opened.history.texts ≡ texts)

@@ -1,0 +1,54 @@
+-- What keeping an action does to the packages of a run and to the files.
+use Rattle.std.specs.Prelude.{◌≡◌, ◌⊎◌, ◌==◌, ◌||◌, not, ℕ, true, List, Some, Result, Ok, Err}
+use Rattle.bz_files.specs.declared.files.Files.{Ghosts as FilesOf}
+use Rattle.bz_files.specs.Faults.{Rises}
+use Rattle.bz_files.specs.Folder.{Elapses}
+use Rattle.bz_items.specs.Characters.{Bytes}
+use Rattle.bz_journal.specs.Actions.{Action}
+use Rattle.bz_journal.specs.declared.action.Reply.{Reply}
+use Rattle.bz_journal.specs.declared.keeping.KeepFault.{KeepFault}
+use Rattle.bz_journal.specs.declared.keeping.KeepFault.TheVariants.{Refused, Pair}
+use Rattle.bz_journal.specs.History.{Acts, Answer, History}
+use Rattle.bz_journal.specs.Keeping.{Keeps}
+pub use Rattle.bz_journal.specs.Keeping.{KeepsFile}
+use Rattle.bz_streams.specs.Outputs.{Counts}
+use Rattle.bz_streams.specs.declared.exit.Cut.{Cut}
+use Rattle.bz_streams.specs.declared.exit.Cut.TheVariants as c
+use Rattle.bz_buildozer.specs.Packages.{Opened, Used, file_at, with_opened}
+
+-- A folder of honest files was the same at each moment of the call.
+abbrev pub KeepsFolder : {F : Type 0} → FilesOf F → F → F → Type 0
+KeepsFolder files old new = Elapses (files.moment old) (files.moment new) (files.since old) (files.since new) (λ now. now ≡ files.folder old)
+
+-- Files are read: a folder of honest ones stays the same, and a fault of theirs is counted and cuts what is opened. (Why it is cut.)
+pub record ReadsFiles {F : Type 0} (files : FilesOf F) (why : Cut) (old new : F) : Type 0 where
+  pub folder : files.honest old ≡ true → files.folder new ≡ files.folder old
+  pub time : files.honest old ≡ true → KeepsFolder files old new
+  pub cut : (why ≡ c.Whole) ⊎ (why ≡ c.Memory) ⊎ ((why ≡ c.Files) × Rises (files.faults old) (files.faults new))
+  pub steady : why ≡ c.Whole → files.faults new ≡ files.faults old
+  pub counts : Counts (files.faults old) (files.faults new)
+  pub honest : files.honest new ≡ files.honest old
+
+-- the file after an answer that left it this history: its pair was written where the present text is another one, and it is left
+-- alone from then on where the pair could not be written
+abbrev pub after_keeping : Result Reply KeepFault → History → Opened → Opened
+after_keeping (Ok reply) after file = record file { history = after; written = file.written || not (after.cursor == file.history.cursor) }
+after_keeping (Err (Refused refusal)) after file = record file { history = after }
+after_keeping (Err (Pair fault)) after file = record file { history = after; left = true }
+
+-- An action with a note is done in the open file of the package with this number, and its journal and it are kept, or not.
+pub record KeepsAt {F : Type 0} (files : FilesOf F) (place : ℕ) (action : Action) (note : Bytes) (before : List Used) (answer : Result Reply KeepFault) (after : List Used)
+    (old new : F) : Type 0 where
+  pub file : Opened
+  pub history : History
+  pub there : file_at place before ≡ Some file
+  pub keeps : Keeps action note file.history answer history
+  pub kept : after ≡ with_opened place (Some (after_keeping answer history file)) before
+  pub pair : KeepsFile files file.name file.history history answer old new
+
+-- ---- laws
+
+-- An action leaves the package of a history, and where it leaves the number of the present text it leaves the history.
+abbrev pub StillIsSame : Type 0
+StillIsSame = (action : Action) (note : Bytes) (h after : History) (answer : Answer) → Acts action note h answer after
+    → (after.«package» ≡ h.«package») × (after.cursor ≡ h.cursor → after ≡ h)

@@ -1,0 +1,62 @@
+-- How a package is opened, and what an action does in one.
+use Rattle.std.specs.Prelude.{◌≡◌, ◌⊎◌, ◌↔◌, ◌≤◌, ◌<◌, ◌+◌, ◌++◌, ℕ, List, [], ◌∷◌, length, take, codes, Option, Some, None}
+use Rattle.std.specs.Option.{option_map}
+use Rattle.bz_lex.specs.declared.fault.ReadFault.{ReadFault}
+use Rattle.bz_grammar.specs.Legal.{Accepted}
+use Rattle.bz_grammar.specs.Spell.{limit}
+use Rattle.bz_items.specs.Characters.{Bytes}
+use Rattle.bz_journal.specs.Actions.{Action}
+use Rattle.bz_grammar.specs.Faults.{IsFaultOf}
+use Rattle.bz_journal.specs.History.{History, Answer, opened, Acts}
+use Rattle.bz_streams.specs.Outputs.{Reports}
+use Rattle.bz_streams.specs.Reported.{named_line, fault_line}
+use Rattle.bz_streams.specs.declared.sink.Sink.{Ghosts as SinkOf}
+use Rattle.bz_buildozer.specs.Packages.{Opened, Used, file_at, opened_with, with_opened}
+use Rattle.bz_buildozer.specs.Found.{PackagesFound, second_name}
+
+-- a package of this path has this number, and its file isn't open
+pub record IsUnopened (place : ℕ) (current : Bytes) (used : List Used) : Type 0 where
+  pub short : length current ≤ 65536
+  pub within : place < length used
+  pub closed : file_at place used ≡ None
+
+-- a text of this name, as it was read, with the history that begins with it
+abbrev pub opened_fresh : Bytes → Bytes → Bytes → Opened
+opened_fresh current name text = opened_with name text (opened current text)
+
+-- An accepted text is opened; of every other text its fault is reported.
+abbrev pub Takes : Bytes → Bytes → Bytes → Option Opened → List Bytes → Type 0
+Takes current name text file lines =
+    (Accepted text × (file ≡ Some (opened_fresh current name text)) × (lines ≡ []))
+    ⊎ ((Accepted text → ⊥) × ((fault : ReadFault) × IsFaultOf text fault × (file ≡ None) × (lines ≡ fault_line name fault ∷ [])))
+
+-- A text and its first bytes, one more than a text may have, are opened or reported alike: both are too large, or they are the same.
+abbrev pub FrontsAreReportedAlike : Type 0
+FrontsAreReportedAlike = (current name text : Bytes) (file : Option Opened) (lines : List Bytes)
+    → (Takes current name (take (limit + 1) text) file lines ↔ Takes current name text file lines)
+
+-- The file that is found for a package is opened; where none is, that is reported of `BUILD`.
+abbrev pub Opens : Bytes → Option PackagesFound → Option Opened → List Bytes → Type 0
+Opens current (Some found) file lines = Takes current found.0 found.1 file lines
+Opens current None file lines = (file ≡ None) × (lines ≡ named_line (second_name current) (codes "cannot open") ∷ [])
+
+-- The package with this number has a file from now on, or none, of which this is so, and the lines were printed. (Its number, where
+-- its file is open; the packages, and standard error, before and after.)
+abbrev pub Fills : {E : Type 0} → SinkOf E → (Option Opened → List Bytes → Type 0) → ℕ → Option ℕ → List Used → List Used → E → E → Type 0
+Fills sink Is place number before after old new = (file : Option Opened) × (lines : List Bytes) × Is file lines
+    × (after ≡ with_opened place file before) × (number ≡ option_map (λ _. place) file)
+    × Reports (sink.faults old) (sink.faults new) (sink.contents old) (sink.contents new) lines
+
+-- The same of a package that is the last one from now on.
+abbrev pub Extends : {E : Type 0} → SinkOf E → (Option Opened → List Bytes → Type 0) → Bytes → Option ℕ → List Used → List Used → E → E → Type 0
+Extends sink Is current number before after old new = (file : Option Opened) × (lines : List Bytes) × Is file lines
+    × (after ≡ before ++ record { «package» = current; file = file } ∷ []) × (number ≡ option_map (λ _. length before) file)
+    × Reports (sink.faults old) (sink.faults new) (sink.contents old) (sink.contents new) lines
+
+-- An action with a note is done in the open file of the package with this number.
+pub record ActsAt (place : ℕ) (action : Action) (note : Bytes) (before : List Used) (answer : Answer) (after : List Used) : Type 0 where
+  pub file : Opened
+  pub history : History
+  pub there : file_at place before ≡ Some file
+  pub acts : Acts action note file.history answer history
+  pub kept : after ≡ with_opened place (Some (record file { history = history })) before

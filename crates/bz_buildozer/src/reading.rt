@@ -1,0 +1,155 @@
+//! What opening a file takes: its name, its bytes and its session.
+ghost use Rattle.std.specs.Prelude.{◌≡◌, ◌≢◌, ◌⊎◌, ◌≤◌, [], ◌∷◌, length, map, take, true, Some, None, IfOk, IfErr, IsErrOf, string_bytes};
+ghost use Rattle.std.specs.List.{concat};
+ghost use Rattle.std.specs.FinMap.{get};
+ghost use Rattle.bz_grammar.specs.Legal.{Accepted};
+ghost use Rattle.bz_items.specs.Characters.{Bytes};
+ghost use Rattle.bz_grammar.specs.Faults.{IsFaultOf};
+ghost use Rattle.bz_streams.specs.Faults.{Rises, AppendsUnlessFailed};
+ghost use Rattle.bz_streams.specs.Outputs.{Reports};
+ghost use Rattle.bz_streams.specs.Reported.{named_line};
+ghost use Rattle.bz_buildozer.specs.Found.{in_package};
+ghost use Rattle.bz_buildozer.specs.Journals.{fault_lines, of_resuming};
+ghost use Rattle.bz_buildozer.specs.Keeps.{KeepsFolder};
+ghost use Rattle.bz_buildozer.specs.Opens.{opened_fresh};
+ghost use Rattle.bz_buildozer.specs.private.ShownFiles.{opened_in};
+
+use crate::used::Opened;
+use bz_files::{FileFault, Files};
+use bz_items::{Memory, Text};
+use bz_journal::{Editor, ResumeFault};
+use bz_lex::ReadFault;
+use bz_streams::{Cut, Sink, report, report_named};
+use std::alloc::Global;
+
+/// What came of opening a package.
+#[derive(Clone, Copy)]
+pub(crate) struct Opening {
+    /// The number of the package, where its file is open.
+    pub(crate) place: Option<usize>,
+    /// The first failure, or that there was none.
+    pub(crate) cut: Cut,
+}
+
+impl Opening {
+    /// What came of opening the package with this number, where its file is open.
+    pub(crate) fn new(place: Option<usize>, cut: Cut) -> Opening
+        ensures { result ≡ record { place = place; cut = cut } }
+    {
+        Opening { place, cut }
+    }
+}
+
+/// A file of a package, by its path below the current folder. The error: memory was refused.
+pub(crate) fn name_in(alloc: Global, package: &str, base: &str) -> Result<String, Memory>
+    ensures { IfOk result (λ name. string_bytes name ≡ in_package «package».now base.now) }
+{
+    if package.is_empty() {
+        return String::from_str(alloc, base);
+    }
+    let mut name = String::from_str(alloc, package)?;
+    name.push_str("/")?;
+    name.push_str(base)?;
+    Ok(name)
+}
+
+/// The first bytes of a file: all, or `most` of them where it has more. Errors: those of the read.
+pub(crate) fn bytes_of<F: Files>(
+    alloc: Global,
+    files: &mut F,
+    name: &str,
+    most: usize,
+) -> Result<Vec<u8>, FileFault>
+    ensures found { F.honest files.old ≡ true → IfOk result (λ text. (bytes : Bytes)
+        × (get (F.folder files.old) name.now ≡ Some bytes) × (text.items ≡ take most bytes)) }
+    ensures absent { F.honest files.old ≡ true → IsErrOf result FileFault.Absent → get (F.folder files.old) name.now ≡ None }
+    ensures folder { F.honest files.old ≡ true → F.folder files.new ≡ F.folder files.old }
+    ensures time { F.honest files.old ≡ true → KeepsFolder F.Files files.old files.new }
+    ensures kinds { IfErr result (λ fault. fault ≢ FileFault.Write) }
+    ensures cause { IsErrOf result FileFault.Open → Rises (F.faults files.old) (F.faults files.new) }
+    ensures kept { (IsErrOf result FileFault.Open → ⊥) → F.faults files.new ≡ F.faults files.old }
+    ensures count { F.faults files.old ≤ F.faults files.new }
+    ensures honest { F.honest files.new ≡ F.honest files.old }
+{
+    let mut text = Vec::new(alloc);
+    files.read_most(name, most, &mut text)?;
+    Ok(text)
+}
+
+/// The open file of a text that was read. Errors: those of reading the text; `Memory` where a growth was refused.
+pub(crate) fn opened(
+    alloc: Global,
+    package: &str,
+    name: &str,
+    text: Vec<u8>,
+) -> Result<Opened, ReadFault>
+    requires { length «package».now ≤ 65536 }
+    ensures ok { IfOk result (λ file. (opened_in file ≡ opened_fresh «package».now name.now text.items) × Accepted text.items) }
+    ensures err { IfErr result (λ fault. (fault ≡ ReadFault.Memory) ⊎ ((Accepted text.items → ⊥) × IsFaultOf text.items fault)) }
+{
+    let name = String::from_str(alloc, name)?;
+    match Editor::open(alloc, package, text.as_slice()) {
+        Ok(editor) => Ok(Opened::new(name, Text::from_vec(text), editor)),
+        Err(fault) => Err(fault),
+    }
+}
+
+/// Reports a word on a file, and no file is open.
+pub(crate) fn fail<E: Sink>(err: &mut E, name: &str, word: &str, cut: Cut) -> Opening
+    ensures opening { result ≡ record { place = None; cut = cut } }
+    ensures reported { AppendsUnlessFailed (E.faults err.old) (E.faults err.new) (E.contents err.old) (E.contents err.new)
+        (named_line name.now word.now) }
+{
+    report_named(err, name, word);
+    Opening::new(None, cut)
+}
+
+/// Reports a word on a journal, and by these pieces what may be done; no file is open.
+pub(crate) fn fail_with_hint<E: Sink>(
+    err: &mut E,
+    journal: &str,
+    word: &str,
+    hint: &[&str],
+) -> Opening
+    ensures opening { result ≡ record { place = None; cut = Cut.Whole } }
+    ensures reported { Reports (E.faults err.old) (E.faults err.new) (E.contents err.old) (E.contents err.new)
+        (named_line journal.now word.now ∷ concat (map (λ piece. piece.now) hint.now) ∷ []) }
+{
+    let opening = fail(err, journal, word, Cut::Whole);
+    report(err, hint);
+    opening
+}
+
+/// Reports why a journal is not resumed, and after that what may be done; no file is open.
+pub(crate) fn unresumed<E: Sink>(err: &mut E, journal: &str, fault: &ResumeFault) -> Opening
+    ensures place { result.place ≡ None }
+    ensures whole { result.cut ≡ Cut.Whole → fault.now ≢ ResumeFault.Memory }
+    ensures cut { (result.cut ≡ Cut.Whole) ⊎ (result.cut ≡ Cut.Memory) }
+    ensures reported { Reports (E.faults err.old) (E.faults err.new) (E.contents err.old) (E.contents err.new)
+        (fault_lines journal.now (of_resuming fault.now)) }
+{
+    match fault {
+        ResumeFault::Memory => fail(err, journal, "Memory (8)", Cut::Memory),
+        ResumeFault::Damaged => fail(err, journal, "Damaged (71)", Cut::Whole),
+        ResumeFault::Version => fail(err, journal, "Version (72)", Cut::Whole),
+        ResumeFault::Stale => fail_with_hint(
+            err,
+            journal,
+            "Stale (73)",
+            &[
+                "buildozer: the file changed since the last run with --journal: restore it, or delete ",
+                journal,
+                " to begin a new history\n",
+            ],
+        ),
+    }
+}
+
+/// Reports that memory was refused before a file of the package had its name, and no file is open.
+pub(crate) fn unnamed<E: Sink>(err: &mut E, package: &str) -> Opening
+    ensures { result ≡ record { place = None; cut = Cut.Memory } }
+{
+    let slash = if package.is_empty() { "" } else { "/" };
+    report(err, &[package, slash, "BUILD", ": Memory\n"]);
+    Opening::new(None, Cut::Memory)
+}

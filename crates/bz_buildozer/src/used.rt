@@ -1,0 +1,102 @@
+//! The packages that a run has used, and their files.
+ghost use Rattle.std.specs.Prelude.{◌≡◌, ◌<◌, map, length, string_bytes};
+ghost use Rattle.std.specs.Option.{option_map};
+ghost use Rattle.bz_journal.specs.Actions.{action_in};
+ghost use Rattle.bz_journal.specs.History.{History};
+ghost use Rattle.bz_journal.specs.Keeping.{Keeps};
+ghost use Rattle.bz_journal.specs.Shown.{session_history};
+ghost use Rattle.bz_buildozer.specs.Keeps.{KeepsFile, after_keeping};
+ghost use Rattle.bz_buildozer.specs.Packages.{opened_with, with_opened};
+ghost use Rattle.bz_buildozer.specs.private.ShownFiles.{opened_in, used_in};
+
+use bz_files::Files;
+use bz_items::Text;
+use bz_journal::{Action, Editor, KeepFault, Reply, Revisions};
+
+/// A file that is open.
+#[derive(Drop)]
+pub(crate) struct Opened {
+    /// The path of the file below the current folder.
+    pub(crate) name: String,
+    /// The text that was read.
+    pub(crate) read: Text,
+    /// What became of it: its texts so far.
+    pub(crate) revisions: Revisions,
+    /// Whether its journal and it were written in this run.
+    pub(crate) written: bool,
+    /// Whether it is left alone: the two could not both be written.
+    pub(crate) left: bool,
+}
+
+impl Opened {
+    /// A file of this name as it was read, with its editor.
+    pub(crate) fn new(name: String, read: Text, editor: Editor) -> Opened
+        ensures { opened_in result ≡ opened_with (string_bytes name) read (session_history editor) }
+    {
+        Opened {
+            name,
+            read,
+            revisions: Revisions::new(editor),
+            written: false,
+            left: false,
+        }
+    }
+
+    /// Does an action with a note, and keeps the journal and the file where the text is another one then. What became of the two is not
+    /// marked yet.
+    fn keep_pair<F: Files>(
+        &mut self,
+        action: &Action<'_>,
+        note: &str,
+        files: &mut F,
+    ) -> Result<Reply, KeepFault>
+        ensures keeps { Keeps (action_in action.now) note.now (opened_in self.old).history result (opened_in self.new).history }
+        ensures same { opened_in self.new ≡ record (opened_in self.old) { history = (opened_in self.new).history } }
+        ensures pair { KeepsFile F.Files (opened_in self.old).name (opened_in self.old).history (opened_in self.new).history result files.old files.new }
+    {
+        self.revisions
+            .keep_noted(action, note, self.name.as_str(), files)
+    }
+
+    /// The same, and what became of the two is marked.
+    pub(crate) fn keep<F: Files>(
+        &mut self,
+        action: &Action<'_>,
+        note: &str,
+        files: &mut F,
+    ) -> Result<Reply, KeepFault>
+        ensures { (history : History) × Keeps (action_in action.now) note.now (opened_in self.old).history result history
+            × (opened_in self.new ≡ after_keeping result history (opened_in self.old))
+            × KeepsFile F.Files (opened_in self.old).name (opened_in self.old).history history result files.old files.new }
+    {
+        let from = self.revisions.cursor();
+        match self.keep_pair(action, note, files) {
+            Ok(reply) => {
+                self.written |= self.revisions.cursor() != from;
+                Ok(reply)
+            }
+            Err(KeepFault::Refused(refusal)) => Err(KeepFault::Refused(refusal)),
+            Err(KeepFault::Pair(fault)) => {
+                self.left = true;
+                Err(KeepFault::Pair(fault))
+            }
+        }
+    }
+}
+
+/// A package that a run has used.
+#[derive(Drop)]
+pub(crate) struct Used {
+    /// The path of the package.
+    pub(crate) package: Text,
+    /// Its file; none where it could not be opened.
+    pub(crate) file: Option<Opened>,
+}
+
+/// The package with this number has this file from now on.
+pub(crate) fn put_file(used: &mut Vec<Used>, place: usize, file: Option<Opened>)
+    requires { place < length used.old.items }
+    ensures { map used_in used.new.items ≡ with_opened place (option_map opened_in file) (map used_in used.old.items) }
+{
+    used[place].file = file;
+}

@@ -1,0 +1,385 @@
+//! The packages of a run, each found by its path in one step.
+ghost use Rattle.std.specs.Prelude.{◌≡◌, ◌⊎◌, ◌≤◌, ◌<◌, ℕ, [], ◌∷◌, ◌++◌, List, Option, map, length, take, true, false, Some, None, IsSome, IfSome, OnOk, OnErr, IfOk};
+ghost use Rattle.std.specs.Option.{option_map};
+ghost use Rattle.bz_resume.specs.Pair.{journal_name};
+ghost use Rattle.bz_items.specs.Characters.{Bytes};
+ghost use Rattle.bz_streams.specs.Faults.{Rises};
+ghost use Rattle.bz_buildozer.specs.Found.{found_in, found_second};
+ghost use Rattle.bz_buildozer.specs.private.ShownFiles.{texts_of_keys, packages_of, opened_in, used_in};
+ghost use Rattle.bz_journal.specs.Actions.{action_in};
+ghost use Rattle.bz_journal.specs.Keeping.{IsWriteOrOpen};
+ghost use Rattle.bz_buildozer.specs.Journals.{Adds, IsOpenedIn, OpensBeside, Puts, TakesBeside, journal_beside};
+ghost use Rattle.bz_buildozer.specs.Keeps.{KeepsAt, ReadsFiles};
+ghost use Rattle.bz_buildozer.specs.Opens.{ActsAt, Extends, Fills, IsUnopened, Takes};
+ghost use Rattle.bz_buildozer.specs.Packages as p;
+ghost use Rattle.bz_buildozer.specs.Packages.{file_at, package_number, with_opened};
+
+use crate::reading::{
+    Opening, bytes_of, fail, fail_with_hint, name_in, opened, unnamed, unresumed,
+};
+use crate::used::{Opened, Used, put_file};
+use bz_files::{FileFault, Files};
+use bz_items::{Memory, Text, at};
+use bz_journal::{Action, Editor, KeepFault, Reply, Session};
+use bz_lex::ReadFault;
+use bz_resume::journal_name;
+use bz_streams::{Cut, MOST, Sink, report_fault, report_named};
+use bz_value::Refusal;
+use indexmap::IndexSet;
+use std::alloc::Global;
+use std::marker::Model;
+
+/// The packages that a run has used, in order of first use, each found by its path in one step.
+#[derive(Drop)]
+pub(crate) struct Workspace {
+    names: IndexSet<Vec<u8>>,
+    used: Vec<Used>,
+}
+
+impl Model for Workspace {
+    ghost use Rattle.std.specs.Prelude.{◌≡◌, List, map};
+    ghost use Rattle.bz_buildozer.specs.Packages as p;
+    ghost use Rattle.bz_buildozer.specs.private.ShownFiles.{texts_of_keys, packages_of, used_in};
+
+    ghost Value = { List p.Used };
+
+    ghost view = { λ workspace. map used_in workspace.used.items };
+
+    ghost invariant = { λ workspace. texts_of_keys workspace.names.keys ≡ packages_of (map used_in workspace.used.items) };
+}
+
+impl Workspace {
+    /// No packages.
+    pub(crate) fn new(alloc: Global) -> Workspace
+        ensures { result ≡ [] }
+    {
+        Workspace {
+            names: IndexSet::new(alloc),
+            used: Vec::new(alloc),
+        }
+    }
+
+    /// The number of a package, from 0; `None` where it was not used. It takes one step however many there are.
+    pub(crate) fn place(&self, package: &[u8]) -> Option<usize>
+        ensures { result ≡ package_number «package».now self.now }
+    {
+        self.names.get_index_of(package)
+    }
+
+    /// The package, which was not used before, is the last one from now on, with no file. Returned: its number. The error:
+    /// memory was refused, and all is as before.
+    pub(crate) fn add(&mut self, package: &[u8]) -> Result<usize, Memory>
+        requires { package_number «package».now self.old ≡ None }
+        ensures place { IfOk result (λ place. place ≡ length self.old) }
+        ensures ok { OnOk result (self.new ≡ self.old ++ record { «package» = «package».now; file = None } ∷ []) }
+        ensures err { OnErr result (self.new ≡ self.old) }
+    {
+        let place = self.used.len();
+        let alloc = *self.used.allocator();
+        let key = Vec::from_slice(alloc, package)?;
+        let package = Text::from_slice(alloc, package)?;
+        self.used.reserve(1)?;
+        self.names.insert(key)?;
+        let used = Used {
+            package,
+            file: None,
+        };
+        self.used.push(used).unwrap();
+        Ok(place)
+    }
+
+    /// The number of a package, where its file is open.
+    fn opened_at(&self, place: usize) -> Option<usize>
+        ensures { result ≡ option_map (λ _. place) (file_at place self.now) }
+    {
+        match at(&self.used, place) {
+            Some(used) if used.file.is_some() => Some(place),
+            Some(_) => None,
+            None => None,
+        }
+    }
+
+    /// The package with this number has this file, which is open, from now on.
+    fn put(&mut self, place: usize, file: Opened) -> Opening
+        requires { place < length self.old }
+        ensures opening { result ≡ record { place = Some place; cut = Cut.Whole } }
+        ensures put { self.new ≡ with_opened place (Some (opened_in file)) self.old }
+        ensures there { IsSome (file_at place self.new) }
+    {
+        put_file(&mut self.used, place, Some(file));
+        Opening::new(Some(place), Cut::Whole)
+    }
+
+    /// Opens the file of a used package with what was read of it, or reports its fault: `NAME:LINE:COLUMN: FAULT`,
+    /// `NAME: NotUtf8 at BYTE` or `NAME: FAULT`. The name and the package are taken as given. It is cut where memory was
+    /// refused, which is reported as `NAME: Memory`; all packages are then as before.
+    pub(crate) fn open_text<E: Sink>(
+        &mut self,
+        place: usize,
+        package: &str,
+        name: &str,
+        text: Vec<u8>,
+        err: &mut E,
+    ) -> Opening
+        requires short { length «package».now ≤ 65536 }
+        requires within { place < length self.old }
+        ensures whole { result.cut ≡ Cut.Whole
+            → Fills E.Sink (Takes «package».now name.now text.items) place result.place self.old self.new err.old err.new }
+        ensures cut { (result.cut ≡ Cut.Whole) ⊎ ((result.cut ≡ Cut.Memory) × (result.place ≡ None) × (self.new ≡ self.old)) }
+        ensures there { IfSome result.place (λ at. IsSome (file_at at self.new)) }
+    {
+        let alloc = *self.used.allocator();
+        let fault = match opened(alloc, package, name, text) {
+            Ok(file) => return self.put(place, file),
+            Err(fault) => fault,
+        };
+        report_fault(err, name, &fault);
+        match fault {
+            ReadFault::Memory => Opening::new(None, Cut::Memory),
+            _ => {
+                put_file(&mut self.used, place, None);
+                Opening::new(None, Cut::Whole)
+            }
+        }
+    }
+
+    /// Opens the file of a used package as its journal says, whose bytes these are, or reports why no history goes on with it, and what may
+    /// be done. It is cut where memory was refused.
+    fn open_resumed<E: Sink>(
+        &mut self,
+        place: usize,
+        package: &str,
+        name: &str,
+        text: Vec<u8>,
+        journal: &str,
+        bytes: &[u8],
+        err: &mut E,
+    ) -> Opening
+        requires within { place < length self.old }
+        requires closed { file_at place self.old ≡ None }
+        requires named { journal.now ≡ journal_name name.now }
+        ensures whole { result.cut ≡ Cut.Whole
+            → Fills E.Sink (TakesBeside (Some bytes.now) «package».now name.now text.items) place result.place self.old self.new err.old err.new }
+        ensures cut { (result.cut ≡ Cut.Whole) ⊎ ((result.cut ≡ Cut.Memory) × (result.place ≡ None) × (self.new ≡ self.old)) }
+    {
+        let alloc = *self.used.allocator();
+        let session = match Session::resume(alloc, bytes, text.as_slice()) {
+            Ok(session) => session,
+            Err(fault) => return unresumed(err, journal, &fault),
+        };
+        if session.package() != package {
+            return fail_with_hint(
+                err,
+                journal,
+                "Damaged (71)",
+                &[
+                    "buildozer: ",
+                    journal,
+                    " was written for //",
+                    session.package(),
+                    ": move it back there, or delete it to begin a new history\n",
+                ],
+            );
+        }
+        match String::from_str(alloc, name) {
+            Ok(name) => self.put(
+                place,
+                Opened::new(name, Text::from_vec(text), Editor::new(session)),
+            ),
+            Err(_) => fail(err, journal, "Memory (8)", Cut::Memory),
+        }
+    }
+
+    /// Opens the file of a used package with what was read of it, and resumes its journal where journals are kept and it is there. A journal
+    /// may be of any length, so it is read whole.
+    fn open_found<F: Files, E: Sink>(
+        &mut self,
+        place: usize,
+        package: &str,
+        name: &str,
+        text: Vec<u8>,
+        journals: bool,
+        files: &mut F,
+        err: &mut E,
+    ) -> Opening
+        requires { IsUnopened place «package».now self.old }
+        ensures whole { F.honest files.old ≡ true → result.cut ≡ Cut.Whole
+            → Fills E.Sink (TakesBeside (journal_beside journals (F.folder files.old) name.now) «package».now name.now text.items) place result.place
+            self.old self.new err.old err.new }
+        ensures puts { Puts place (λ file. F.honest files.old ≡ true
+            → TakesBeside (journal_beside journals (F.folder files.old) name.now) «package».now name.now text.items (Some file) [])
+            result.place self.old self.new }
+        ensures files { ReadsFiles F.Files result.cut files.old files.new }
+    {
+        if !journals {
+            return self.open_text(place, package, name, text, err);
+        }
+        let alloc = *self.used.allocator();
+        let Ok(journal) = journal_name(alloc, name) else {
+            return fail(err, name, "Memory", Cut::Memory);
+        };
+        let journal = journal.as_str();
+        match bytes_of(alloc, files, journal, usize::MAX) {
+            Ok(bytes) => self.open_resumed(
+                place,
+                package,
+                name,
+                text,
+                journal,
+                bytes.as_slice(),
+                err,
+            ),
+            Err(FileFault::Absent) => self.open_text(place, package, name, text, err),
+            Err(FileFault::Memory) => fail(err, journal, "Memory", Cut::Memory),
+            Err(_) => fail(err, journal, "cannot open", Cut::Files),
+        }
+    }
+
+    /// Reads the second name of a package whose file isn't open.
+    fn open_second<F: Files, E: Sink>(
+        &mut self,
+        place: usize,
+        package: &str,
+        journals: bool,
+        files: &mut F,
+        err: &mut E,
+    ) -> Opening
+        requires { IsUnopened place «package».now self.old }
+        ensures second { F.honest files.old ≡ true → result.cut ≡ Cut.Whole
+            → Fills E.Sink (OpensBeside journals (F.folder files.old) «package».now (found_second (F.folder files.old) «package».now)) place result.place
+            self.old self.new err.old err.new }
+        ensures puts { Puts place (λ file. F.honest files.old ≡ true → IsOpenedIn journals (F.folder files.old) «package».now file) result.place self.old self.new }
+        ensures files { ReadsFiles F.Files result.cut files.old files.new }
+    {
+        let alloc = *self.used.allocator();
+        let Ok(name) = name_in(alloc, package, "BUILD") else {
+            return unnamed(err, package);
+        };
+        let name = name.as_str();
+        match bytes_of(alloc, files, name, MOST) {
+            Ok(text) => self.open_found(place, package, name, text, journals, files, err),
+            Err(FileFault::Absent) => fail(err, name, "cannot open", Cut::Whole),
+            Err(FileFault::Memory) => fail(err, name, "Memory", Cut::Memory),
+            Err(_) => fail(err, name, "cannot open", Cut::Files),
+        }
+    }
+
+    /// Reads the first name of a package whose file isn't open, and then the second where the first is none.
+    fn open_first<F: Files, E: Sink>(
+        &mut self,
+        place: usize,
+        package: &str,
+        journals: bool,
+        files: &mut F,
+        err: &mut E,
+    ) -> Opening
+        requires { IsUnopened place «package».now self.old }
+        ensures first { F.honest files.old ≡ true → result.cut ≡ Cut.Whole
+            → Fills E.Sink (OpensBeside journals (F.folder files.old) «package».now (found_in (F.folder files.old) «package».now)) place result.place
+            self.old self.new err.old err.new }
+        ensures puts { Puts place (λ file. F.honest files.old ≡ true → IsOpenedIn journals (F.folder files.old) «package».now file) result.place self.old self.new }
+        ensures files { ReadsFiles F.Files result.cut files.old files.new }
+    {
+        let alloc = *self.used.allocator();
+        let Ok(name) = name_in(alloc, package, "BUILD.bazel") else {
+            return unnamed(err, package);
+        };
+        let name = name.as_str();
+        match bytes_of(alloc, files, name, MOST) {
+            Ok(text) => self.open_found(place, package, name, text, journals, files, err),
+            Err(FileFault::Absent) => self.open_second(place, package, journals, files, err),
+            Err(FileFault::Memory) => fail(err, name, "Memory", Cut::Memory),
+            Err(_) => {
+                report_named(err, name, "cannot open");
+                let opening = self.open_second(place, package, journals, files, err);
+                Opening::new(opening.place, Cut::Files)
+            }
+        }
+    }
+
+    /// A package: one that was used is not read again; of a new one the file `BUILD.bazel` is read, else `BUILD`, and it is
+    /// a used one from then on, whatever comes. Of a file no more is read than one byte past the limit of a text. Where journals are kept, `FILE.journal` is read too, and resumed where it is
+    /// there. A fault is reported by one line for each file: those of the text, `NAME: cannot
+    /// open` where neither is there or one could not be read, and `NAME: Memory` where memory was refused; of
+    /// a journal `NAME.journal: cannot open`, or `NAME.journal: FAULT (NUMBER)`. Cuts: `Memory` and `Files`, the first that
+    /// came; the second file may be open after a `Files` of the first.
+    pub(crate) fn open<F: Files, E: Sink>(
+        &mut self,
+        package: &str,
+        journals: bool,
+        files: &mut F,
+        err: &mut E,
+    ) -> Opening
+        requires { length «package».now ≤ 65536 }
+        ensures again { (place : ℕ) → package_number «package».now self.old ≡ Some place
+            → (result ≡ record { place = option_map (λ _. place) (file_at place self.old); cut = Cut.Whole })
+            × (self.new ≡ self.old) × (files.new ≡ files.old) × (err.new ≡ err.old) }
+        ensures opens { F.honest files.old ≡ true → result.cut ≡ Cut.Whole → package_number «package».now self.old ≡ None
+            → Extends E.Sink (OpensBeside journals (F.folder files.old) «package».now (found_in (F.folder files.old) «package».now)) «package».now result.place
+            self.old self.new err.old err.new }
+        ensures there { IfSome result.place (λ at. IsSome (file_at at self.new)) }
+
+        // Whatever comes, the packages that were used before stay as they were, and the new one is the last or not there; its file, where
+        // one is open, is one that the folder has.
+        ensures kept { take (length self.old) self.new ≡ self.old }
+        ensures adds { package_number «package».now self.old ≡ None → Adds «package».now (λ file. F.honest files.old ≡ true
+            → IsOpenedIn journals (F.folder files.old) «package».now file) result.place self.old self.new }
+        ensures files { ReadsFiles F.Files result.cut files.old files.new }
+    {
+        if let Some(place) = self.place(package.as_bytes()) {
+            return Opening::new(self.opened_at(place), Cut::Whole);
+        }
+        match self.add(package.as_bytes()) {
+            Ok(place) => self.open_first(place, package, journals, files, err),
+            Err(_) => unnamed(err, package),
+        }
+    }
+
+    /// Does an action with a note in the open file of the package with this number, which is said to be the last one there or not: that
+    /// changes what it takes, and not what it does. Errors: those of `Session::act_noted`; the file is then as before.
+    pub(crate) fn act(
+        &mut self,
+        place: usize,
+        action: &Action<'_>,
+        note: &str,
+        is_last: bool,
+    ) -> Result<Reply, Refusal>
+        requires { IsSome (file_at place self.old) }
+        ensures { ActsAt place (action_in action.now) note.now self.old result self.new }
+    {
+        let used = &mut self.used[place];
+        match &mut used.file {
+            Some(opened) => opened.revisions.act_noted(action, note, is_last),
+            None => unreachable!(),
+        }
+    }
+
+    /// The same, and where the text is another one then, the file's journal and it are replaced. Errors: those of
+    /// `Session::keep_noted`.
+    pub(crate) fn keep<F: Files>(
+        &mut self,
+        place: usize,
+        action: &Action<'_>,
+        note: &str,
+        files: &mut F,
+    ) -> Result<Reply, KeepFault>
+        requires { IsSome (file_at place self.old) }
+        ensures keeps { KeepsAt F.Files place (action_in action.now) note.now self.old result self.new files.old files.new }
+        ensures cause { IsWriteOrOpen result → Rises (F.faults files.old) (F.faults files.new) }
+        ensures rest { (IsWriteOrOpen result → ⊥) → F.faults files.new ≡ F.faults files.old }
+        ensures count { F.faults files.old ≤ F.faults files.new }
+        ensures honest { F.honest files.new ≡ F.honest files.old }
+    {
+        match &mut self.used[place].file {
+            Some(opened) => opened.keep(action, note, files),
+            None => unreachable!(),
+        }
+    }
+
+    /// The packages that were used, in order of first use.
+    pub(crate) fn used(&self) -> &[Used]
+        ensures { map used_in result.now ≡ self.now }
+    {
+        self.used.as_slice()
+    }
+}

@@ -1,5 +1,0 @@
-use Rattle.bz_workspace.proofs.HeldSteps.{held_go_on}
-use Rattle.bz_workspace.proofs.laws.held_files_go_on.Goals as goal
-
-pub returns : goal.returns
-returns c = held_go_on
