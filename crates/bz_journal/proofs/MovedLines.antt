@@ -25,7 +25,7 @@ use Rattle.bz_layout.specs.declared.marked.Relaid.{Relaid}
 use Rattle.bz_journal.specs.declared.lines.Lines.{Lines}
 use Rattle.bz_journal.specs.declared.lines.Lines.TheVariants as l
 use Rattle.bz_journal.specs.private.Lines.{AreIn, AreLinesOf, tree_with}
-use Rattle.bz_journal.specs.private.Moving.{AreMoved, IsLike, IsLineOfOne, moved}
+use Rattle.bz_journal.specs.private.Moving.{AreShifted, IsLike, IsLineOfOne, moved}
 use Rattle.bz_journal.proofs.PutLines.{tree_with_lines}
 
 pub spelled : (n : Node) → spell_part (p.Node n) ≡ spell_node n
@@ -126,7 +126,7 @@ parted here (x ∷ xs) ys =
     ap (λ (ts : List (List ℕ)). fronts_in here (node_parts x) ++ ts) (parted next xs ys ∙ ap (λ (t : List ℕ). fronts next xs ++ fronts t ys) (append_assoc here (spell_part x) (flat_map spell_part xs)))
     ∙ sym (append_assoc (fronts_in here (node_parts x)) (fronts next xs) (fronts (here ++ flat_map spell_part (x ∷ xs)) ys))
 
-moved_there : (a b now next : List ℕ) (n gone come : ℕ) → length a ≡ n → now ≡ a ++ b → next ≡ a ++ map (moved gone come) b → AreMoved n gone come now next
+moved_there : (a b now next : List ℕ) (n gone come : ℕ) → length a ≡ n → now ≡ a ++ b → next ≡ a ++ map (moved gone come) b → AreShifted n gone come now next
 moved_there a b now next n gone come size is after =
     let front : take n now ≡ a = ap (λ (k : ℕ). take k now) (sym size) ∙ ap (take (length a)) is ∙ take-append_seam a b in
     let rest : drop n now ≡ b = ap (λ (k : ℕ). drop k now) (sym size) ∙ ap (drop (length a)) is ∙ drop-append_seam a b in
@@ -153,7 +153,7 @@ module _ (t q : List Part) (old new : Part) (n gone come : ℕ) (like : IsLike o
   lines_with x =
       ap (lines_among []) (sym (append_assoc t (x ∷ []) q)) ∙ ap (map line_following) (parted [] (t ++ x ∷ []) q) ∙ map-append line_following (fronts [] (t ++ x ∷ [])) (fronts (Text x) q)
 
-  at_place : AreMoved n gone come (lines_among [] (t ++ old ∷ q)) (lines_among [] (t ++ new ∷ q))
+  at_place : AreShifted n gone come (lines_among [] (t ++ old ∷ q)) (lines_among [] (t ++ new ∷ q))
   at_place =
       let rest = among_moved (Text old) (Text new) q gone come (omega (arith, counted old, counted new, like.gone_is, like.come_is)) in
       moved_there begins (lines_among (Text old) q) _ _ n gone come (length-map (fronts [] (t ++ old ∷ [])) line_following ∙ each) (lines_with old)
@@ -161,7 +161,7 @@ module _ (t q : List Part) (old new : Part) (n gone come : ℕ) (like : IsLike o
 
 -- the parts so far have one statement each, and the last of them is exchanged
 pub exchanged : (parts : List Part) (place : ℕ) (old new : Part) (gone come : ℕ) → place < length parts → old ≡ get_or parts place old → IsLike old new gone come
-    → length (fronts [] (take (place + 1) parts)) ≡ place + 1 → AreMoved (place + 1) gone come (lines_among [] parts) (lines_among [] (slice_set parts place new))
+    → length (fronts [] (take (place + 1) parts)) ≡ place + 1 → AreShifted (place + 1) gone come (lines_among [] parts) (lines_among [] (slice_set parts place new))
 exchanged parts place old new gone come within is like each =
     let t : List Part = take place parts in
     let q : List Part = drop (place + 1) parts in
@@ -169,10 +169,10 @@ exchanged parts place old new gone come within is like each =
     let own : parts ≡ t ++ old ∷ q = sym (take-append-drop place parts) ∙ ap (λ (xs : List Part). t ++ xs) (drop_more parts place old within) ∙ ap (λ (x : Part). t ++ x ∷ q) (sym is) in
     let put : slice_set parts place new ≡ t ++ new ∷ q = set_split parts place new within ∙ ap (λ (k : ℕ). t ++ new ∷ drop k parts) step in
     let first : take (place + 1) parts ≡ t ++ old ∷ [] = take_more parts place old within ∙ ap (λ (x : Part). t ++ x ∷ []) (sym is) in
-    let moves : AreMoved (place + 1) gone come (lines_among [] (t ++ old ∷ q)) (lines_among [] (t ++ new ∷ q)) =
+    let moves : AreShifted (place + 1) gone come (lines_among [] (t ++ old ∷ q)) (lines_among [] (t ++ new ∷ q)) =
     at_place t q old new (place + 1) gone come like (ap (λ (xs : List Part). length (fronts [] xs)) (sym first) ∙ each) in
-    subst (λ (xs : List Part). AreMoved (place + 1) gone come (lines_among [] xs) (lines_among [] (slice_set parts place new))) (sym own)
-    (subst (λ (xs : List Part). AreMoved (place + 1) gone come (lines_among [] (t ++ old ∷ q)) (lines_among [] xs)) (sym put) moves)
+    subst (λ (xs : List Part). AreShifted (place + 1) gone come (lines_among [] xs) (lines_among [] (slice_set parts place new))) (sym own)
+    (subst (λ (xs : List Part). AreShifted (place + 1) gone come (lines_among [] (t ++ old ∷ q)) (lines_among [] xs)) (sym put) moves)
 
 -- ---- lines in the place of parts of a tree
 
@@ -186,7 +186,7 @@ pub shifts : (lines : Lines) (relaid : Relaid) (tree : Node) (places : List ℕ)
     → places ≡ relaid.places → held ≡ relaid.lines → parts ≡ tree.parts → 1 ≤ length places → length places < 2 → 1 ≤ length held → length held < 2
     → line ≡ get_or held 0 line → old ≡ get_or parts (get_or places 0 0) old → IsLike old line gone come
     → length (fronts [] (take (get_or places 0 0 + 1) parts)) ≡ length (take (get_or places 0 0 + 1) parts)
-    → AreMoved (get_or places 0 0 + 1) gone come (lines_of tree) (lines_of (tree_with lines tree))
+    → AreShifted (get_or places 0 0 + 1) gone come (lines_of tree) (lines_of (tree_with lines tree))
 shifts lines relaid tree places held parts line old gone come is within own mine all some few some_held few_held first there like each =
     let place : ℕ = get_or places 0 0 in
     let one : relaid.places ≡ place ∷ [] = sym own ∙ one_of places 0 some few in
@@ -198,8 +198,8 @@ shifts lines relaid tree places held parts line old gone come is within own mine
     ap (λ (x : Lines). (tree_with x tree).parts) is ∙ ap (λ (ps : List ℕ). put_all ps relaid.lines tree.parts) one ∙ ap (λ (ls : List Part). put_all (place ∷ []) ls tree.parts) put
     ∙ ap (λ (xs : List Part). slice_set xs place line) (sym all) in
     let moves = exchanged parts place old line gone come inside there like (each ∙ length-take-le (place + 1) parts (omega (arith, inside))) in
-    subst (λ (xs : List Part). AreMoved (place + 1) gone come (lines_among [] xs) (lines_of (tree_with lines tree))) all
-    (subst (λ (xs : List Part). AreMoved (place + 1) gone come (lines_among [] parts) (lines_among [] xs)) (sym next) moves)
+    subst (λ (xs : List Part). AreShifted (place + 1) gone come (lines_among [] xs) (lines_of (tree_with lines tree))) all
+    (subst (λ (xs : List Part). AreShifted (place + 1) gone come (lines_among [] parts) (lines_among [] xs)) (sym next) moves)
 
 -- the lines that moved, of the tree that was laid out
 pub begun_next : (lines : Option Lines) (found : Option (List ℕ)) (tree next : Node) (items : List Item) → Legal tree → IfSome lines (λ new. AreLinesOf new tree items) → laid_out items ≡ next

@@ -16,7 +16,7 @@ pub use Rattle.bz_journal.specs.History.{Acts, Answer, History, IsFormat, IsKept
 pub use Rattle.bz_journal.specs.Keeping.{HasActed, IsRefused, IsWriteOrOpen, IsWrittenSince, Keeps, KeepsFile, KeepsPair}
 pub use Rattle.bz_journal.specs.Lasting.{AlikeActs, AlikeGoesOn, GoesOn, IsAgain, IsKnownSession, IsResumedSession, IsSavedSession, saved}
 pub use Rattle.bz_journal.specs.private.Lines.{AreIn, AreLinesOf, AreSpliced, tree_with}
-pub use Rattle.bz_journal.specs.private.Moving.{AreMoved, IsLike, IsLineOfOne, moved, moved_from}
+pub use Rattle.bz_journal.specs.private.Moving.{AreShifted, IsLike, IsLineOfOne, moved, moved_from}
 pub use Rattle.bz_journal.specs.Listing.{lines_of_texts, listing, noted, text_line, text_lines_from}
 pub use Rattle.bz_journal.specs.Lookups.{AreLookupsOf}
 pub use Rattle.bz_journal.specs.Meaning.{Means, gives, refuses, printed_answer, written}

@@ -1,7 +1,7 @@
 //! The lines on which the statements of a file begin, where one of its parts is exchanged: those after it move.
 ghost use Rattle.std.specs.Prelude.{◌≡◌, ◌≤◌, ◌++◌, ◌∷◌, [], List, None, ℕ, IfSome, IsTrue, MatchOption, length, map};
 ghost use Rattle.std.specs.Option.{option_copied};
-ghost use Rattle.bz_journal.specs.Clauses.{AreIn, AreMoved, IsLike, IsLineOfOne, fronts, fronts_in, is_node, lines_of, moved, moved_from, newlines, node_parts, spell_part, tree_with};
+ghost use Rattle.bz_journal.specs.Clauses.{AreIn, AreShifted, IsLike, IsLineOfOne, fronts, fronts_in, is_node, lines_of, moved, moved_from, newlines, node_parts, spell_part, tree_with};
 
 use crate::lines::Lines;
 use bz_grammar::{LENGTH_LIMIT, Part, Tree, first_of};
@@ -98,7 +98,7 @@ struct Shift {
 /// How the lines of the statements move, from the present tree to the one with these lines; none where that isn't seen at once.
 fn shift_of(lines: &Lines, tree: &Tree) -> Option<Shift>
     requires { AreIn lines.now tree.now }
-    ensures { IfSome result (λ shift. AreMoved shift.from shift.gone shift.come (lines_of tree.now) (lines_of (tree_with lines.now tree.now))) }
+    ensures { IfSome result (λ shift. AreShifted shift.from shift.gone shift.come (lines_of tree.now) (lines_of (tree_with lines.now tree.now))) }
 {
     let Lines::Exchanged(relaid) = lines else {
         return None;

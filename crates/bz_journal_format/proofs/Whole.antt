@@ -24,7 +24,7 @@ use Rattle.bz_journal_format.specs.Laws.{IsExact}
 use Rattle.bz_journal_format.specs.Readers.{after_mark, counted_at, digest_at, listed_at, number_at, repeated, tested, up_to, ◌>>=◌}
 use Rattle.bz_journal_format.specs.Spellings.{IsDigest, counted_text, number_limit}
 use Rattle.bz_items.specs.Characters.{line_feed, space}
-use Rattle.bz_journal_format.specs.private.Reading.{digest_line_at, edit_at, entry_at, held_at, is_short_text, counted_lines_at, lines_at, note_at, record_at, record_of}
+use Rattle.bz_journal_format.specs.private.Reading.{digest_line_at, edit_at, entry_at, held_at, is_short_text, counted_lines_at, lines_at, note_at, record_at, record_made}
 use Rattle.bz_journal_format.specs.Texts.{IsEdit, IsNotedStep, IsHeld, IsNote, IsRecord, counts_text, digest_text, edit_text, end_line, entry_text, last_number, lines_text, note_line, part_text, record_text, short_limit, spaced_number, step_limit, version_line}
 
 abbrev IsPath : List ℕ → Type 0
@@ -150,7 +150,7 @@ module _ (v : Version) (depth : ℕ) where
 
   -- and what fits
   abbrev R1 : List ℕ → List ℕ → ℕ → ℕ → ℕ → List (List ℕ) → Record → Type 0
-  R1 name text n cursor before digests r = AreAll (IsNotedStep v depth) n r.steps × (r ≡ record_of name text cursor before digests r.steps)
+  R1 name text n cursor before digests r = AreAll (IsNotedStep v depth) n r.steps × (r ≡ record_made name text cursor before digests r.steps)
 
   abbrev R2 : List ℕ → List ℕ → ℕ → ℕ → ℕ → Record → Type 0
   R2 name text n cursor before r = AreAll IsDigest (n + 1) r.digests × R1 name text n cursor before r.digests r
@@ -167,29 +167,29 @@ module _ (v : Version) (depth : ℕ) where
   abbrev R6 : List ℕ → Record → Type 0
   R6 name r = (length r.text < number_limit) × R5 name r.text r
 
-  steps_part : (name text : List ℕ) (n cursor before : ℕ) (digests : List (List ℕ)) → IsExact Record A1 (R1 name text n cursor before digests) (λ s. repeated (entry_at v depth) n s >>= λ steps. Some (record_of name text cursor before digests steps.0, steps.1))
+  steps_part : (name text : List ℕ) (n cursor before : ℕ) (digests : List (List ℕ)) → IsExact Record A1 (R1 name text n cursor before digests) (λ s. repeated (entry_at v depth) n s >>= λ steps. Some (record_made name text cursor before digests steps.0, steps.1))
   steps_part name text n cursor before digests =
-      then_exact (λ r. r.steps) (flat_map (entry_text v)) (AreAll (IsNotedStep v depth) n) (repeated (entry_at v depth) n) (λ r. []) (λ steps r. r ≡ record_of name text cursor before digests steps) (λ steps s. Some (record_of name text cursor before digests steps, s))
-      (λ steps r h. ap (λ y. y.steps) h) (repeated_exact (entry_text v) (IsNotedStep v depth) (entry_at v depth) (entry_exact depth v) n) (λ steps. done_exact (record_of name text cursor before digests steps))
+      then_exact (λ r. r.steps) (flat_map (entry_text v)) (AreAll (IsNotedStep v depth) n) (repeated (entry_at v depth) n) (λ r. []) (λ steps r. r ≡ record_made name text cursor before digests steps) (λ steps s. Some (record_made name text cursor before digests steps, s))
+      (λ steps r h. ap (λ y. y.steps) h) (repeated_exact (entry_text v) (IsNotedStep v depth) (entry_at v depth) (entry_exact depth v) n) (λ steps. done_exact (record_made name text cursor before digests steps))
 
-  digests_part : (name text : List ℕ) (n cursor before : ℕ) → IsExact Record A2 (R2 name text n cursor before) (λ s. repeated digest_line_at (n + 1) s >>= λ digests. repeated (entry_at v depth) n digests.1 >>= λ steps. Some (record_of name text cursor before digests.0 steps.0, steps.1))
+  digests_part : (name text : List ℕ) (n cursor before : ℕ) → IsExact Record A2 (R2 name text n cursor before) (λ s. repeated digest_line_at (n + 1) s >>= λ digests. repeated (entry_at v depth) n digests.1 >>= λ steps. Some (record_made name text cursor before digests.0 steps.0, steps.1))
   digests_part name text n cursor before =
-      then_exact (λ r. r.digests) (flat_map digest_text) (AreAll IsDigest (n + 1)) (repeated digest_line_at (n + 1)) A1 (λ digests r. R1 name text n cursor before digests r) (λ digests s. repeated (entry_at v depth) n s >>= λ steps. Some (record_of name text cursor before digests steps.0, steps.1))
+      then_exact (λ r. r.digests) (flat_map digest_text) (AreAll IsDigest (n + 1)) (repeated digest_line_at (n + 1)) A1 (λ digests r. R1 name text n cursor before digests r) (λ digests s. repeated (entry_at v depth) n s >>= λ steps. Some (record_made name text cursor before digests steps.0, steps.1))
       (λ digests r h. ap (λ y. y.digests) h.1) (repeated_exact digest_text IsDigest digest_line_at digest_line_exact (n + 1)) (steps_part name text n cursor before)
 
-  before_part : (name text : List ℕ) (n cursor : ℕ) → IsExact Record A3 (R3 name text n cursor) (λ s. up_to n line_feed s >>= λ before. repeated digest_line_at (n + 1) before.1 >>= λ digests. repeated (entry_at v depth) n digests.1 >>= λ steps. Some (record_of name text cursor before.0 digests.0 steps.0, steps.1))
+  before_part : (name text : List ℕ) (n cursor : ℕ) → IsExact Record A3 (R3 name text n cursor) (λ s. up_to n line_feed s >>= λ before. repeated digest_line_at (n + 1) before.1 >>= λ digests. repeated (entry_at v depth) n digests.1 >>= λ steps. Some (record_made name text cursor before.0 digests.0 steps.0, steps.1))
   before_part name text n cursor =
-      then_exact (λ r. r.before) last_number (UpTo n) (up_to n line_feed) A2 (λ before r. R2 name text n cursor before r) (λ before s. repeated digest_line_at (n + 1) s >>= λ digests. repeated (entry_at v depth) n digests.1 >>= λ steps. Some (record_of name text cursor before digests.0 steps.0, steps.1))
+      then_exact (λ r. r.before) last_number (UpTo n) (up_to n line_feed) A2 (λ before r. R2 name text n cursor before r) (λ before s. repeated digest_line_at (n + 1) s >>= λ digests. repeated (entry_at v depth) n digests.1 >>= λ steps. Some (record_made name text cursor before digests.0 steps.0, steps.1))
       (λ before r h. ap (λ y. y.before) h.1.1) (up_to_exact line_feed refl n) (digests_part name text n cursor)
 
-  cursor_part : (name text : List ℕ) (n : ℕ) → IsExact Record A4 (R4 name text n) (λ s. up_to n space s >>= λ cursor. after_mark (codes "before ") cursor.1 >>= λ was. up_to n line_feed was >>= λ before. repeated digest_line_at (n + 1) before.1 >>= λ digests. repeated (entry_at v depth) n digests.1 >>= λ steps. Some (record_of name text cursor.0 before.0 digests.0 steps.0, steps.1))
+  cursor_part : (name text : List ℕ) (n : ℕ) → IsExact Record A4 (R4 name text n) (λ s. up_to n space s >>= λ cursor. after_mark (codes "before ") cursor.1 >>= λ was. up_to n line_feed was >>= λ before. repeated digest_line_at (n + 1) before.1 >>= λ digests. repeated (entry_at v depth) n digests.1 >>= λ steps. Some (record_made name text cursor.0 before.0 digests.0 steps.0, steps.1))
   cursor_part name text n =
-      then_exact (λ r. r.cursor) spaced_number (UpTo n) (up_to n space) (λ r. codes "before " ++ A3 r) (λ cursor r. R3 name text n cursor r) (λ cursor s. after_mark (codes "before ") s >>= λ was. up_to n line_feed was >>= λ before. repeated digest_line_at (n + 1) before.1 >>= λ digests. repeated (entry_at v depth) n digests.1 >>= λ steps. Some (record_of name text cursor before.0 digests.0 steps.0, steps.1))
+      then_exact (λ r. r.cursor) spaced_number (UpTo n) (up_to n space) (λ r. codes "before " ++ A3 r) (λ cursor r. R3 name text n cursor r) (λ cursor s. after_mark (codes "before ") s >>= λ was. up_to n line_feed was >>= λ before. repeated digest_line_at (n + 1) before.1 >>= λ digests. repeated (entry_at v depth) n digests.1 >>= λ steps. Some (record_made name text cursor before.0 digests.0 steps.0, steps.1))
       (λ cursor r h. ap (λ y. y.cursor) h.1.1.1) (up_to_exact space refl n) (λ cursor. mark_exact (codes "before ") A3 (R3 name text n cursor) _ (before_part name text n cursor))
 
-  count_part : (name text : List ℕ) → IsExact Record A5 (R5 name text) (λ s. up_to step_limit space s >>= λ count. after_mark (codes "now ") count.1 >>= λ now. up_to count.0 space now >>= λ cursor. after_mark (codes "before ") cursor.1 >>= λ was. up_to count.0 line_feed was >>= λ before. repeated digest_line_at (count.0 + 1) before.1 >>= λ digests. repeated (entry_at v depth) count.0 digests.1 >>= λ steps. Some (record_of name text cursor.0 before.0 digests.0 steps.0, steps.1))
+  count_part : (name text : List ℕ) → IsExact Record A5 (R5 name text) (λ s. up_to step_limit space s >>= λ count. after_mark (codes "now ") count.1 >>= λ now. up_to count.0 space now >>= λ cursor. after_mark (codes "before ") cursor.1 >>= λ was. up_to count.0 line_feed was >>= λ before. repeated digest_line_at (count.0 + 1) before.1 >>= λ digests. repeated (entry_at v depth) count.0 digests.1 >>= λ steps. Some (record_made name text cursor.0 before.0 digests.0 steps.0, steps.1))
   count_part name text =
-      then_exact (λ r. length r.steps) spaced_number (UpTo step_limit) (up_to step_limit space) (λ r. codes "now " ++ A4 r) (λ n r. R4 name text n r) (λ n s. after_mark (codes "now ") s >>= λ now. up_to n space now >>= λ cursor. after_mark (codes "before ") cursor.1 >>= λ was. up_to n line_feed was >>= λ before. repeated digest_line_at (n + 1) before.1 >>= λ digests. repeated (entry_at v depth) n digests.1 >>= λ steps. Some (record_of name text cursor.0 before.0 digests.0 steps.0, steps.1))
+      then_exact (λ r. length r.steps) spaced_number (UpTo step_limit) (up_to step_limit space) (λ r. codes "now " ++ A4 r) (λ n r. R4 name text n r) (λ n s. after_mark (codes "now ") s >>= λ now. up_to n space now >>= λ cursor. after_mark (codes "before ") cursor.1 >>= λ was. up_to n line_feed was >>= λ before. repeated digest_line_at (n + 1) before.1 >>= λ digests. repeated (entry_at v depth) n digests.1 >>= λ steps. Some (record_made name text cursor.0 before.0 digests.0 steps.0, steps.1))
       (λ n r h. h.1.1.1.0.0) (up_to_exact space refl step_limit) (λ n. mark_exact (codes "now ") A4 (R4 name text n) _ (cursor_part name text n))
 
   text_part : (name : List ℕ) → IsExact Record A6 (R6 name) (λ s. counted_at line_feed s >>= λ text. counted_lines_at v depth name text.0 text.1)

@@ -2,7 +2,7 @@
 ghost use Rattle.std.specs.Prelude.{◌≡◌, ◌-◌, ◌+◌, ◌<◌, ◌≤◌, ◌↔◌, ℕ, IsTrue, Some};
 ghost use Rattle.bz_journal_format.specs.Outcomes.{Gives};
 ghost use Rattle.bz_journal_format.specs.Readers.{after_mark};
-ghost use Rattle.bz_journal_format.specs.private.Reading.{counted_lines_at, lines_at, record_at, record_of};
+ghost use Rattle.bz_journal_format.specs.private.Reading.{counted_lines_at, lines_at, record_at, record_made};
 ghost use Rattle.bz_journal_format.specs.Texts.{end_line};
 
 use crate::content::{Record, RecordedStep, Version};
@@ -52,12 +52,12 @@ fn read_counted_lines<'a>(
     let (before, rest) = read_number_up_to(rest, count, b'\n')?;
     let (digests, rest) = read_digests(alloc, count + 1, rest)?;
     let (steps, rest) = read_entries(alloc, version, depth, count, rest)?;
-    let record = record_of(alloc, name, text, cursor, before, digests, steps)?;
+    let record = record_made(alloc, name, text, cursor, before, digests, steps)?;
     Ok((record, rest))
 }
 
 /// The record with a copy of each text.
-fn record_of(
+fn record_made(
     alloc: Global,
     name: &[u8],
     text: &[u8],
@@ -66,7 +66,7 @@ fn record_of(
     digests: Vec<[u8; 32]>,
     steps: Vec<RecordedStep>,
 ) -> Result<Record, Unread>
-    ensures { Gives (λ r. r) result (Some (record_of name.now text.now cursor before digests.items steps.items)) }
+    ensures { Gives (λ r. r) result (Some (record_made name.now text.now cursor before digests.items steps.items)) }
 {
     Ok(Record {
         package: Text::from_slice(alloc, name)?,

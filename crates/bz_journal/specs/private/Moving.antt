@@ -25,6 +25,6 @@ pub record IsLike (old new : Part) (gone come : ℕ) : Type 0 where
   pub come_is : come ≡ newlines (spell_part new)
 
 -- these lines are those with the ones from a place on moved
-pub record AreMoved (from gone come : ℕ) (old new : List ℕ) : Type 0 where
+pub record AreShifted (from gone come : ℕ) (old new : List ℕ) : Type 0 where
   pub within : from ≤ length old
   pub are : new ≡ moved_from from gone come old

@@ -114,8 +114,8 @@ digest_line_at s = do
 
 -- ---- all lines but the last
 
-abbrev pub record_of : List ℕ → List ℕ → ℕ → ℕ → List (List ℕ) → List RecordedStep → Record
-record_of name text cursor before digests steps = record { «package» = name; text = text; cursor = cursor; before = before; digests = digests; steps = steps }
+abbrev pub record_made : List ℕ → List ℕ → ℕ → ℕ → List (List ℕ) → List RecordedStep → Record
+record_made name text cursor before digests steps = record { «package» = name; text = text; cursor = cursor; before = before; digests = digests; steps = steps }
 
 -- the lines after those of the texts
 unfoldable pub counted_lines_at : Version → ℕ → List ℕ → List ℕ → Reader Record
@@ -128,7 +128,7 @@ counted_lines_at v depth name text s = do
   before ← up_to count.0 line_feed was
   digests ← repeated digest_line_at (count.0 + 1) before.1
   steps ← repeated (entry_at v depth) count.0 digests.1
-  Some (record_of name text cursor.0 before.0 digests.0 steps.0, steps.1)
+  Some (record_made name text cursor.0 before.0 digests.0 steps.0, steps.1)
 
 unfoldable pub lines_at : Version → ℕ → Reader Record
 lines_at v depth s = do
