@@ -7,8 +7,7 @@ ghost use Rattle.bz_grammar.specs.declared.kind.Kind.TheVariants as kinds;
 ghost use Rattle.bz_rule.specs.Rules.{attribute};
 ghost use Rattle.bz_rule.specs.Values.{on_first, on_row, with_text};
 ghost use Rattle.bz_attribute.specs.Attributes.{is_other_attribute};
-ghost use Rattle.bz_attribute.specs.Made.{string_of};
-ghost use Rattle.bz_change.specs.Changes.{attributes_changed, copy, is_constant, setting, single_setting, is_token, are_tokens, is_set, set, remove, rename};
+ghost use Rattle.bz_change.specs.Changes.{attributes_changed, setting, is_token, are_tokens, is_set, set, remove, rename};
 ghost use Rattle.bz_change.specs.private.Outcomes.{IsOutcome};
 
 use bz_attribute::{
@@ -31,38 +30,6 @@ fn are_digits(word: &[u8]) -> bool
     word.iter().all(u8::is_ascii_digit)
 }
 
-/// Whether the word is a constant.
-fn is_constant(word: &[u8]) -> bool
-    ensures { result ≡ is_constant word.now }
-{
-    word == b"True".as_slice() || word == b"False".as_slice() || word == b"None".as_slice()
-}
-
-/// What `set` makes of one word where no list is wanted.
-fn single_setting(slot: Slot<'_>, word: &[u8]) -> Result<Expr, Memory>
-    ensures { IfOk result (λ new. new ≡ single_setting slot.entry.current.now slot.entry.attribute.now word.now) }
-{
-    if is_constant(word) {
-        return new_token(slot.alloc, Class::Name, word);
-    }
-    if !word.is_empty() && are_digits(word) {
-        return new_token(slot.alloc, Class::Number, word);
-    }
-    string_of(slot, word)
-}
-
-/// The words as strings.
-fn strings_of(slot: Slot<'_>, words: &[Text]) -> Result<Vec<Expr>, Memory>
-    ensures { IfOk result (λ strings. strings.items ≡ map (string_of slot.entry.current.now slot.entry.attribute.now) words.now) }
-{
-    let mut strings = Vec::with_capacity(slot.alloc, words.len())?;
-    for word in words {
-        strings.reserve(1)?;
-        strings.push_reserved(string_of(slot, word.as_slice())?);
-    }
-    Ok(strings)
-}
-
 /// What `set` makes of these words in an attribute: a token, or a list of strings.
 fn setting_of(slot: Slot<'_>, words: &[Text]) -> Result<Expr, Memory>
     ensures { IfOk result (λ new. new ≡ setting slot.entry.current.now slot.entry.attribute.now words.now) }
@@ -70,9 +37,19 @@ fn setting_of(slot: Slot<'_>, words: &[Text]) -> Result<Expr, Memory>
     if let [word] = words
         && !is_list_attribute(slot.attribute)
     {
-        return single_setting(slot, word.as_slice());
+        let word = word.as_slice();
+        if word == b"True".as_slice() || word == b"False".as_slice() || word == b"None".as_slice() {
+            return new_token(slot.alloc, Class::Name, word);
+        }
+        if !word.is_empty() && are_digits(word) {
+            return new_token(slot.alloc, Class::Number, word);
+        }
+        return string_of(slot, word);
     }
-    let strings = strings_of(slot, words)?;
+    let mut strings = Vec::with_capacity(slot.alloc, words.len())?;
+    for word in words {
+        strings.push(string_of(slot, word.as_slice())?)?;
+    }
     Ok(list_of(slot.alloc, Items::from_vec(strings)))
 }
 
@@ -164,20 +141,6 @@ fn rename(from: &[u8], to: &[u8], arguments: &mut Items<Expr>) -> Result<(), Ref
     Ok(())
 }
 
-/// The attribute gets a copy of the value that was found.
-fn copy(
-    alloc: Global,
-    name: &[u8],
-    found: Option<&Expr>,
-    arguments: &mut Items<Expr>,
-) -> Result<(), Refusal>
-    ensures { IsOutcome result arguments.new (copy name.now (option_copied found.entry) arguments.old) }
-{
-    let value = found.ok_or(Refusal::NoSource)?;
-    put(alloc, name, value.copy()?, arguments)?;
-    Ok(())
-}
-
 /// What an operation on whole attributes makes of the arguments of a rule. `current` is the path of the file's package, `found` the
 /// value that is copied. Errors: the refusal of the operation; `Memory`: a growth was refused. After an error part of the arguments
 /// may be lost.
@@ -209,7 +172,9 @@ pub fn change_attributes(
         }
         AttributeOperation::CopyNoOverwrite { attribute, .. }
         | AttributeOperation::Copy { attribute, .. } => {
-            copy(alloc, attribute.as_slice(), found, arguments)
+            let value = found.ok_or(Refusal::NoSource)?;
+            put(alloc, attribute.as_slice(), value.copy()?, arguments)?;
+            Ok(())
         }
     }
 }
