@@ -69,7 +69,9 @@ fn copy_exprs(alloc: Global, exprs: &[Expr]) -> Result<Items<Expr>, Memory>
 {
     let mut copied = Vec::with_capacity(alloc, exprs.len())?;
     for expr in exprs {
-        copied.push(expr.copy()?)?;
+        // there is room: a push that may be refused has an expression to drop
+        copied.reserve(1)?;
+        copied.push_reserved(expr.copy()?);
     }
     Ok(Items::from_vec(copied))
 }
@@ -91,7 +93,9 @@ fn copy_items(alloc: Global, items: &[Item]) -> Result<Items<Item>, Memory>
 {
     let mut copied = Vec::with_capacity(alloc, items.len())?;
     for item in items {
-        copied.push(item.copy()?)?;
+        // there is room: a push that may be refused has an item to drop
+        copied.reserve(1)?;
+        copied.push_reserved(item.copy()?);
     }
     Ok(Items::from_vec(copied))
 }

@@ -48,11 +48,22 @@ impl Form {
     pub fn equals(&self, other: &Form) -> bool
         ensures { IsTrue result ↔ (self.now ≡ other.now) }
     {
+        if !self.has_head_of(other) {
+            return false;
+        }
+        if !same_exprs(self.parts.as_slice(), other.parts.as_slice()) {
+            return false;
+        }
+        self.seq.equals(&other.seq)
+    }
+
+    /// Whether the two are the same but for what is in them.
+    fn has_head_of(&self, other: &Form) -> bool
+        ensures { IsTrue result ↔ ((self.now.kind ≡ other.now.kind) × (self.now.open_break ≡ other.now.open_break) × (self.now.comments ≡ other.now.comments)) }
+    {
         self.kind == other.kind
             && self.open_break == other.open_break
             && self.comments.equals(&other.comments)
-            && same_exprs(self.parts.as_slice(), other.parts.as_slice())
-            && self.seq.equals(&other.seq)
     }
 }
 
