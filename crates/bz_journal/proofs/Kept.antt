@@ -31,6 +31,18 @@ session_counted keep s h = let k = keep (session_trail s) h.trail in sym k.count
 pub session_ahead : TrailsKeep → (s : SessionState) (steps cursor : ℕ) → IsSession s → steps ≡ length s.steps → cursor ≡ s.cursor → s.cursor + (steps - cursor) + 1 ≡ length (texts_of (session_trail s))
 session_ahead keep s steps cursor h a b = omega (arith, session_counted keep s h, h.trail.within, a, b)
 
+-- ---- nothing is done
+
+pub as_before : (was s : SessionState) (tree : Node) (steps : List (List Edit)) (notes : List Bytes) → was ≡ s → tree ≡ was.tree → steps ≡ was.steps → notes ≡ was.notes
+    → ◌≡◌ {A = SessionState} (record { tree = tree; steps = steps; notes = notes; «package» = was.«package»; cursor = was.cursor; before = was.before }) s
+as_before was s tree steps notes is same_tree same_steps same_notes =
+    ap (λ (n : Node). let v : SessionState = record { tree = n; steps = steps; notes = notes; «package» = was.«package»; cursor = was.cursor; before = was.before } in v) same_tree
+    ∙ ap (λ (l : List (List Edit)). let v : SessionState = record { tree = was.tree; steps = l; notes = notes; «package» = was.«package»; cursor = was.cursor; before = was.before } in v) same_steps
+    ∙ ap (λ (l : List Bytes). let v : SessionState = record { tree = was.tree; steps = was.steps; notes = l; «package» = was.«package»; cursor = was.cursor; before = was.before } in v) same_notes ∙ is
+
+pub small_as_before : (s t : SessionState) → t ≡ s → IsSmall (session_trail s) → IsSmall (session_trail t)
+small_as_before s t same small = subst (λ (v : SessionState). IsSmall (session_trail v)) (sym same) small
+
 -- ---- a new text
 
 -- one more at the end of the first ones

@@ -181,6 +181,14 @@ one_of [] d some few = absurd (omega (arith, some))
 one_of (x ∷ []) d some few = refl
 one_of (x ∷ y ∷ xs) d some few = absurd (omega (arith, few))
 
+-- the place of one line is in the tree
+pub placed : (lines : Lines) (relaid : Relaid) (tree : Node) (places : List ℕ) (parts : List Part) → lines ≡ l.Exchanged relaid → AreIn lines tree → places ≡ relaid.places → parts ≡ tree.parts
+    → 1 ≤ length places → length places < 2 → get_or places 0 0 < length parts
+placed lines relaid tree places parts is within own all some few =
+    let own_places : AreIn (l.Exchanged relaid) tree = subst (λ (x : Lines). AreIn x tree) is within in
+    let ascend : Ascend 0 (length tree.parts) (get_or places 0 0 ∷ []) = subst (Ascend 0 (length tree.parts)) (sym own ∙ one_of places 0 some few) own_places.1 in
+    subst (λ (xs : List Part). get_or places 0 0 < length xs) (sym all) ascend.1
+
 -- one line in the place of one part
 pub shifts : (lines : Lines) (relaid : Relaid) (tree : Node) (places : List ℕ) (held parts : List Part) (line old : Part) (gone come : ℕ) → lines ≡ l.Exchanged relaid → AreIn lines tree
     → places ≡ relaid.places → held ≡ relaid.lines → parts ≡ tree.parts → 1 ≤ length places → length places < 2 → 1 ≤ length held → length held < 2
@@ -191,9 +199,7 @@ shifts lines relaid tree places held parts line old gone come is within own mine
     let place : ℕ = get_or places 0 0 in
     let one : relaid.places ≡ place ∷ [] = sym own ∙ one_of places 0 some few in
     let put : relaid.lines ≡ line ∷ [] = sym mine ∙ one_of held line some_held few_held ∙ ap (λ (x : Part). x ∷ []) (sym first) in
-    let placed : AreIn (l.Exchanged relaid) tree = subst (λ (x : Lines). AreIn x tree) is within in
-    let ascend : Ascend 0 (length tree.parts) (place ∷ []) = subst (Ascend 0 (length tree.parts)) one placed.1 in
-    let inside : place < length parts = subst (λ (xs : List Part). place < length xs) (sym all) ascend.1 in
+    let inside : place < length parts = placed lines relaid tree places parts is within own all some few in
     let next : (tree_with lines tree).parts ≡ slice_set parts place line =
     ap (λ (x : Lines). (tree_with x tree).parts) is ∙ ap (λ (ps : List ℕ). put_all ps relaid.lines tree.parts) one ∙ ap (λ (ls : List Part). put_all (place ∷ []) ls tree.parts) put
     ∙ ap (λ (xs : List Part). slice_set xs place line) (sym all) in

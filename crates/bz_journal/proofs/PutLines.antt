@@ -1,5 +1,6 @@
 -- Lines put in places of parts: whether they are those that are there.
-use Rattle.std.proofs.Common.{◌≡◌, ◌↔◌, ◌<◌, ◌+◌, ◌∙◌, Bool, IsTrue, ℕ, zero, suc, List, [], ◌∷◌, ◌++◌, ◌≤◌, drop, length, slice_range, take, get_or, slice_set, refl, sym, ap, subst, arith, append_assoc, length-set}
+use Rattle.std.proofs.Common.{◌≡◌, ◌↔◌, ◌<◌, ◌+◌, ◌∙◌, Bool, IsTrue, ℕ, zero, suc, Option, Some, List, [], ◌∷◌, ◌++◌, ◌≤◌, drop, length, slice_range, take, get_or, slice_set, refl, sym, ap, subst, arith, append_assoc, length-set}
+use Rattle.std.specs.Prelude.{IfSome}
 use Rattle.std.proofs.lemmas.List.{append_cancel_left, append_cancel_right, get_or-set_same, get_or-set_other, set-get_or, take-append-drop}
 use Rattle.std.proofs.lemmas.List.Folds.{drop_split}
 use Rattle.bz_grammar.specs.declared.kind.Kind.{Kind}
@@ -16,6 +17,9 @@ use Rattle.bz_value.specs.Proper.{IsProper}
 use Rattle.bz_layout.specs.LaidOut.{laid_out}
 use Rattle.bz_layout.specs.Laws.{LayoutIsAccepted}
 use Rattle.bz_layout.specs.Written.{layout}
+use Rattle.bz_passes.specs.Passes.{tidied}
+use Rattle.bz_build_format.specs.Meaning.{gives, written}
+use Rattle.bz_build_format.proofs.Writes.{written_given}
 use Rattle.bz_journal.specs.declared.lines.Lines.{Lines}
 use Rattle.bz_journal.specs.declared.lines.Lines.TheVariants as l
 use Rattle.bz_layout.specs.declared.spliced.Respliced.{Respliced}
@@ -107,3 +111,11 @@ tree_with_lines lines tree items legal are = same_node (tree_with lines tree) (l
 pub lines_read : LayoutIsAccepted → (lines : Lines) (tree : Node) (items : List Item) → Legal tree → IsProper items → AreLinesOf lines tree items → Reads (layout items) (tree_with lines tree)
 lines_read accepted lines tree items legal proper are =
     subst (λ (n : Node). Reads (layout items) n) (sym (tree_with_lines lines tree items legal are)) (accepted items proper are.length_bound are.deep)
+
+-- where a tidy value with these lines is written, it gives what the tree spells
+pub lines_written : LayoutIsAccepted → (found : Option Lines) (lines : Lines) (here tree : Node) (items : List Item) (printed : Option Bytes) → found ≡ Some lines → IfSome found (λ new. AreLinesOf new tree items)
+    → here ≡ tree → Legal here → IsProper items → tidied items ≡ items → gives (spell_node (tree_with lines tree)) printed ≡ written items printed
+lines_written accepted found lines here tree items printed is are same legal proper tidy =
+    let own : AreLinesOf lines tree items = subst (λ (o : Option Lines). IfSome o (λ new. AreLinesOf new tree items)) is are in
+    let reads : Reads (layout items) (tree_with lines tree) = lines_read accepted lines tree items (subst (λ (n : Node). Legal n) same legal) proper own in
+    sym (written_given items items (spell_node (tree_with lines tree)) (sym tidy) reads.1 own.length_bound own.deep printed)

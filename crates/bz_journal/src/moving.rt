@@ -111,15 +111,12 @@ fn shift_of(lines: &Lines, tree: &Tree) -> Option<Shift>
     };
     let parts = tree.root.parts.as_slice();
     let place = *place;
-    if !hold_one_each(&parts[..place + 1]) {
+    let from = place + 1;
+    if !hold_one_each(&parts[..from]) {
         return None;
     }
     let (gone, come) = alike(&parts[place], line)?;
-    Some(Shift {
-        from: place + 1,
-        gone,
-        come,
-    })
+    Some(Shift { from, gone, come })
 }
 
 /// A line, moved; none where it would be past what a line may be.

@@ -1,13 +1,13 @@
-use Rattle.std.proofs.Common.{List, ◌≡◌, ◌<◌, ◌+◌, ◌++◌, ◌∷◌, [], ◌∙◌, ap, sym, subst, rules, take, string_bytes}
+use Rattle.std.proofs.Common.{List, refl, ◌≡◌, ◌<◌, ◌+◌, ◌++◌, ◌∷◌, [], ◌∙◌, ap, sym, subst, rules, take, string_bytes}
 use Rattle.bz_grammar.specs.declared.tree.Node.{Node}
 use Rattle.bz_grammar.specs.Spell.{spell_node}
 use Rattle.bz_items.specs.Characters.{Bytes}
 use Rattle.bz_history.specs.Shown.{TakesUp}
-use Rattle.bz_history.specs.Trails.{trail_at}
+use Rattle.bz_history.specs.Trails.{IsSmall, trail_at}
 use Rattle.bz_journal.specs.History.{most_steps}
 use Rattle.bz_journal.specs.private.Lines.{tree_with}
 use Rattle.bz_journal.specs.State.{SessionState, IsSession, session_trail}
-use Rattle.bz_journal.proofs.Kept.{HasExtended, extended, session_present}
+use Rattle.bz_journal.proofs.Kept.{HasExtended, as_before, extended, session_present, small_as_before}
 use Rattle.bz_journal.proofs.course.Course.extend.Goals as goal
 
 pub take_up_lines-requires-clause-other : goal.take_up_lines-requires-clause-other
@@ -28,3 +28,26 @@ invariant_of-self-2 c =
     ∙ ap (λ (d : Bytes). take c.self.inside.cursor c.self.inside.notes.items ++ d ∷ []) (c.in_ok-note.ensures ∙ c.as_bytes.ensures.value) in
     let takes : TakesUp (session_trail s) next (trail_at c.take_up_lines.new.tree c.take_up_lines.new.steps.items (c.self.inside.cursor + 1)) = c.in_ok-taken.ensures.ok c.if-not-taken.false in
     HasExtended.session (extended c.texts_kept.ensures s next c.take_up_lines.new.tree c.take_up_lines.new.steps.items c.put_after.new.items.items c.args.note.now c.self.invariant room (c.requires.short, search rules) takes notes)
+
+pub invariant_of-self : goal.invariant_of-self
+invariant_of-self c =
+    let was : SessionState = record { tree = c.self.inside.tree; steps = c.self.inside.steps.items; notes = c.self.inside.notes.items; «package» = string_bytes c.self.inside.«package»; cursor = c.self.inside.cursor; before = c.self.inside.before } in
+    subst (λ (t : SessionState). IsSession t) (sym (as_before was was c.self.inside.tree c.self.inside.steps.items c.reserve.new.self.items refl refl refl c.reserve.ensures.items)) c.self.invariant
+
+pub returns-then-not-taken-clause-stays : goal.returns-then-not-taken-clause-stays
+returns-then-not-taken-clause-stays c = λ _.
+    let was : SessionState = record { tree = c.self.inside.tree; steps = c.self.inside.steps.items; notes = c.self.inside.notes.items; «package» = string_bytes c.self.inside.«package»; cursor = c.self.inside.cursor; before = c.self.inside.before } in
+    let kept = c.in_ok-taken.ensures.stays c.if-not-taken.true in
+    (kept.0, as_before was c.args.self.now c.take_up_lines.new.tree c.take_up_lines.new.steps.items c.reserve.new.self.items c.self.view_is kept.1 kept.2 c.reserve.ensures.items)
+
+pub returns-then-not-taken-clause-small : goal.returns-then-not-taken-clause-small
+returns-then-not-taken-clause-small c =
+    let was : SessionState = record { tree = c.self.inside.tree; steps = c.self.inside.steps.items; notes = c.self.inside.notes.items; «package» = string_bytes c.self.inside.«package»; cursor = c.self.inside.cursor; before = c.self.inside.before } in
+    let kept = c.in_ok-taken.ensures.stays c.if-not-taken.true in
+    small_as_before c.args.self.now _ (as_before was c.args.self.now c.take_up_lines.new.tree c.take_up_lines.new.steps.items c.reserve.new.self.items c.self.view_is kept.1 kept.2 c.reserve.ensures.items)
+
+pub returns-clause-small : goal.returns-clause-small
+returns-clause-small c =
+    let next : Node = tree_with c.args.lines c.self.inside.tree in
+    let takes : TakesUp (trail_at c.self.inside.tree c.self.inside.steps.items c.self.inside.cursor) next (trail_at c.take_up_lines.new.tree c.take_up_lines.new.steps.items (c.self.inside.cursor + 1)) = c.in_ok-taken.ensures.ok c.if-not-taken.false in
+    λ own. takes.small (subst (λ (t : SessionState). IsSmall (session_trail t)) (sym c.self.view_is) own)
