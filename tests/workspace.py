@@ -283,16 +283,22 @@ def a_usage_fault_leaves_all(w):
 REFUSED_WITHIN = 1 << 30
 
 
-def refuses_within(w, command, text, refusal):
-    """A command on all rules of a file is refused within this memory, and the file stays. What it says of others goes to `wrong`."""
+def refuses_within(w, command, text, refusal, addresses=REFUSED_WITHIN):
+    """A command on all rules of a file is refused within this memory and these addresses, and the file stays. What it says of others goes
+    to `wrong`."""
     (w.path / "d").mkdir(exist_ok=True)
     (w.path / "d/BUILD").write_bytes(text)
-    limit = (REFUSED_WITHIN, REFUSED_WITHIN)
-    how = {"cwd": w.path, "capture_output": True, "timeout": 60, "preexec_fn": lambda: resource.setrlimit(resource.RLIMIT_AS, limit)}
-    run = subprocess.run([w.program, command, "//d:all"], **how)
+    limit = (addresses, addresses)
+    how = {"cwd": w.path, "stdout": subprocess.PIPE, "stderr": subprocess.PIPE, "preexec_fn": lambda: resource.setrlimit(resource.RLIMIT_AS, limit)}
+    with subprocess.Popen([w.program, command, "//d:all"], **how) as run:
+        err, out = run.stderr.read(), run.stdout.read()
+        _, status, used = os.wait4(run.pid, 0)
+        run.returncode = os.waitstatus_to_exitcode(status)
     told = b"buildozer: d/BUILD: %s: %s\n" % (command.encode(), refusal)
-    if (run.returncode, run.stdout, run.stderr) != (2, b"", told) or (w.path / "d/BUILD").read_bytes() != text:
-        w.wrong.append(f"{command[:20]}: {run.returncode}, {run.stderr[-60:]}, and not {refusal}")
+    if (run.returncode, out, err) != (2, b"", told) or (w.path / "d/BUILD").read_bytes() != text:
+        w.wrong.append(f"{command[:20]}: {run.returncode}, {err[-60:]}, and not {refusal}")
+    if used.ru_maxrss * 1024 > REFUSED_WITHIN:
+        w.wrong.append(f"{command[:20]}: {used.ru_maxrss} KiB of memory")
 
 
 def copies_of_a_comment_past_the_limit(w):
@@ -305,12 +311,10 @@ def copies_of_a_comment_past_the_limit(w):
     return not w.wrong
 
 
-def matches_that_grow_past_the_limit(w):
-    """One string becomes 406 MB long, or a thousand become 700 MB in all: both are refused within 1 GB."""
+def a_match_that_grows_past_the_limit(w):
+    """A command and a text of 60 KB in all make one string of 406 MB. What grows by doubling takes addresses that it never writes to."""
     command = "substitute srcs a+ " + "$0" * 14_000
-    refuses_within(w, command, b'f(name = "r", srcs = ["%s"])\n' % (b"a" * 29_000), b"TooLarge (21)")
-    many = b", ".join(b'"%d%s"' % (number, b"a" * 50) for number in range(1000))
-    refuses_within(w, command, b'f(name = "r", srcs = [%s])\n' % many, b"TooLarge (21)")
+    refuses_within(w, command, b'f(name = "r", srcs = ["%s"])\n' % (b"a" * 29_000), b"TooLarge (21)", REFUSED_WITHIN + (1 << 28))
     return not w.wrong
 
 
@@ -322,7 +326,7 @@ FUNCTIONS = [
     a_hundred_lines, an_unchanged_file_is_not_written, permission_bits_stay, a_closed_folder_is_told, an_unreadable_file_is_told,
     a_folder_for_the_first_name_is_told, a_folder_for_the_second_name_is_told, a_link_becomes_a_file, a_left_file_is_written_over,
     a_file_by_a_second_path_keeps_the_first_edit, a_refused_text_is_told, a_usage_fault_leaves_all, copies_of_a_comment_past_the_limit,
-    matches_that_grow_past_the_limit,
+    a_match_that_grows_past_the_limit,
 ]  # fmt: skip
 
 # Each scene by its name; each has a workspace of its own.
