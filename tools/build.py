@@ -114,7 +114,7 @@ def sum_of_libraries(crate, libraries, top):
 class Proof:
     """A crate that is being proved, or a program that is being built, in a copy of all crates."""
 
-    def __init__(self, crate, copy, jobs, libraries, is_aside):
+    def __init__(self, crate, copy, jobs, libraries, can_wait):
         self.crate, self.copy, self.jobs = crate, copy, jobs
         self.folder, self.kept = copy / "crates" / crate, TOP / "crates" / crate / "out"
         for library in below(crate, libraries):
@@ -132,7 +132,7 @@ class Proof:
         with tempfile.TemporaryFile() as given:
             given.write(content(self.folder / "stdin"))
             given.seek(0)
-            self.run = subprocess.Popen([*ASIDE * is_aside, *command], cwd=self.folder, stdin=given, stdout=self.output, stderr=self.said)
+            self.run = subprocess.Popen([*ASIDE * can_wait, *command], cwd=self.folder, stdin=given, stdout=self.output, stderr=self.said)
 
     def drop_misfit(self, found):
         """Removes the library of an earlier run where it was built over other libraries than those that are found here. Statements fit
@@ -203,9 +203,6 @@ class Plan:
         needed = [crate for program in programs for crate in [*below(program, self.libraries), program]]
         self.left = list(dict.fromkeys(needed))
         self.above = {crate: [other for other in self.left if crate in self.libraries[other]] for crate in self.left}
-        # the program that is built last, as the most crates are below it, with these
-        last = max(programs, key=lambda program: len(below(program, self.libraries)))
-        self.urgent = {*below(last, self.libraries), last}
         self.done = set()
 
     @functools.cache
@@ -213,10 +210,6 @@ class Plan:
         """What a crate costs, and the longest row of crates that follow one another above it, as bytes of code."""
         own = sources(crate, "src") + sources(crate, "proofs") // PROOFS
         return CRATE + own + max(map(self.work, self.above[crate]), default=0)
-
-    def is_aside(self, crate):
-        """Whether a crate is not needed by the program that is built last, so that it takes what the others leave."""
-        return crate not in self.urgent
 
     def ready(self):
         """The crates all of whose libraries are done, the one with the most work first."""
@@ -237,8 +230,10 @@ def copies(count):
 
 def start_ready(plan, running, free, at_once):
     """Starts as many proofs as there are copies for. The one with the most work above it, of those that run and are ready, gets the
-    processors that the others leave, and half as many more as there are, since a proof has parts that one processor does alone."""
+    processors that the others leave, and half as many more as there are, since a proof has parts that one processor does alone. One with
+    less than half of that work above it can wait, and takes what the others leave."""
     ready = plan.ready()
+    most = max(map(plan.work, [*ready, *(proof.crate for proof in running)]), default=0)
     for others, crate in zip(range(len(ready) - 1, -1, -1), ready):
         if not free:
             return
@@ -246,7 +241,8 @@ def start_ready(plan, running, free, at_once):
         unused = at_once + at_once // 2 - sum(proof.jobs for proof in running) - min(others, len(free))
         is_first = all(plan.work(proof.crate) <= plan.work(crate) for proof in running)
         plan.left.remove(crate)
-        running.append(Proof(crate, copy, min(max(unused, 1), at_once) if is_first else 1, plan.libraries, plan.is_aside(crate)))
+        jobs = min(max(unused, 1), at_once) if is_first else 1
+        running.append(Proof(crate, copy, jobs, plan.libraries, can_wait=2 * plan.work(crate) < most))
 
 
 def prove_all(plan, at_once, progress):
