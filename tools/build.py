@@ -41,6 +41,9 @@ MEMORY = 4_000_000_000
 PROVED = re.compile(r"^logic=proved ", re.MULTILINE)
 # what rt run says when a program is proved and built
 RUNS = "rt: running out/"
+# with how many jobs a proof is made at most: each of them reads much of the same, and with four a proof takes half as much again of the
+# processors' time as with one or two
+MOST_JOBS = 3
 # how often it is looked whether a proof has ended, in seconds
 PAUSE = 0.2
 # whether what was proved of each function is kept
@@ -230,8 +233,8 @@ def copies(count):
 
 def start_ready(plan, running, free, at_once):
     """Starts as many proofs as there are copies for. The one with the most work above it, of those that run and are ready, gets the
-    processors that the others leave, and half as many more as there are, since a proof has parts that one processor does alone. One with
-    less than half of that work above it can wait, and takes what the others leave."""
+    processors that the others leave, and half as many more as there are, since a proof has parts that one processor does alone, up to
+    MOST_JOBS. One with less than half of that work above it can wait, and takes what the others leave."""
     ready = plan.ready()
     most = max(map(plan.work, [*ready, *(proof.crate for proof in running)]), default=0)
     for others, crate in zip(range(len(ready) - 1, -1, -1), ready):
@@ -241,7 +244,7 @@ def start_ready(plan, running, free, at_once):
         unused = at_once + at_once // 2 - sum(proof.jobs for proof in running) - min(others, len(free))
         is_first = all(plan.work(proof.crate) <= plan.work(crate) for proof in running)
         plan.left.remove(crate)
-        jobs = min(max(unused, 1), at_once) if is_first else 1
+        jobs = min(max(unused, 1), at_once, MOST_JOBS) if is_first else 1
         running.append(Proof(crate, copy, jobs, plan.libraries, can_wait=2 * plan.work(crate) < most))
 
 
