@@ -28,6 +28,7 @@ pub mod PutParts
 pub mod ReadBack
 pub mod Readable
 pub mod RelaidLengths
+mod Relaying
 pub mod Rows
 pub mod Settings
 pub mod Spacing

@@ -109,6 +109,16 @@ gap_split gap (suc k) (suc from) (x ∷ xs) g h =
     let less : from - k ≡ suc from - suc k = omega arith in
     gap_split next k from xs (omega arith) (omega arith) ∙ ap (λ n. statement_gap (statement_gap next k xs) n (drop k xs)) less
 
+-- the gap before the next item
+pub gap_passed : (xs : List Item) (k : ℕ) (item : Item) → k < length xs → item ≡ get_or xs k item →
+    statement_gap [] (k + 1) xs ≡ left_gap (statement_gap [] k xs) item ++ before_next item (drop (k + 1) xs)
+gap_passed xs k item h is =
+    let here : Bytes = statement_gap [] k xs in
+    let rest : List Item = drop (k + 1) xs in
+    let none : (k + 1) - (k + 1) ≡ 0 = omega arith in
+    gap_split [] k (k + 1) xs (omega arith) (omega arith) ∙ (gap_next here (k + 1) xs k item (omega arith) h ∙
+    (ap (λ n. statement_gap (left_gap here (get_or xs k item) ++ before_next (get_or xs k item) rest) n rest) none ∙ ap (λ x. left_gap here x ++ before_next x rest) (sym is)))
+
 -- nothing is left of the gap before a statement
 nothing_left : (x : Item) → is_statement_item x ≡ true → (g h : Bytes) → left_gap g x ≡ left_gap h x
 nothing_left (i.Block texts) s g h = absurd (true≢false (sym s))

@@ -1,12 +1,13 @@
 //! The lines of some statements alone, for a tree in which the others are laid out already.
-ghost use Rattle.std.specs.Prelude.{◌≡◌, ◌++◌, ◌+◌, ◌^◌, ◌<◌, [], length, List, IfOk, OnOk, if◌then◌else◌};
-ghost use Rattle.bz_layout.specs.LaidOut.{laid_out, own_lines, left_gap};
+ghost use Rattle.std.specs.Prelude.{◌≡◌, ◌++◌, ◌+◌, ◌^◌, ◌<◌, ◌≤◌, [], length, List, IfOk, OnOk, if◌then◌else◌};
+ghost use Rattle.bz_layout.specs.LaidOut.{laid_out, own_lines};
 ghost use Rattle.bz_grammar.specs.Places.{Ascend, put_all};
 ghost use Rattle.bz_value.specs.Exchanged.{AreExchanged};
 ghost use Rattle.bz_layout.specs.private.Marks as marks;
+ghost use Rattle.bz_layout.specs.private.Windows as windows;
 
-use crate::gaps::push_comments;
-use crate::lines::{lay_out_item, push_between};
+use crate::lines::lay_out_line;
+use crate::spliced::gap_before;
 use bz_grammar::Part;
 use bz_items::{Items, Memory};
 use bz_value::Item;
@@ -30,38 +31,31 @@ pub fn place_after(place: usize, item: &Item) -> usize
     }
 }
 
-/// The gap that an item leaves to what follows, where its line is not laid out.
-pub fn pass_over(item: &Item, gap: Vec<u8>) -> Result<Vec<u8>, Memory>
-    ensures { IfOk result (λ left. left.items ≡ left_gap gap.items item.now) }
-{
-    let mut gap = gap;
-    match item {
-        Item::Block(texts) => push_comments(&mut gap, texts.as_slice())?,
-        Item::Stmt(_) => gap.clear(),
-    }
-    Ok(gap)
-}
-
-/// Appends the line of an item and its place, if it is marked, and gives the gap that it leaves to what follows.
+/// Appends the line of an item that is after so many of all items, and its place, if it is a statement and marked.
 fn relayout_marked(
     alloc: Global,
     is_marked: bool,
     item: &Item,
+    items: &[Item],
+    at: usize,
     place: usize,
-    gap: Vec<u8>,
     relaid: &mut Relaid,
-) -> Result<Vec<u8>, Memory>
-    ensures gap { IfOk result (λ left. left.items ≡ left_gap gap.items item.now) }
+) -> Result<(), Memory>
+    requires { at ≤ length items.now }
     ensures places { OnOk result (relaid.new.places ≡ relaid.old.places ++ (if is_marked then marks.own_places place item.now else [])) }
-    ensures lines { OnOk result (relaid.new.lines ≡ relaid.old.lines ++ (if is_marked then own_lines gap.items item.now else [])) }
+    ensures lines { OnOk result (relaid.new.lines ≡ relaid.old.lines ++ (if is_marked then own_lines (windows.statement_gap [] at items.now) item.now else [])) }
 {
     if !is_marked {
-        return pass_over(item, gap);
+        return Ok(());
     }
-    if let Item::Stmt(_) = item {
-        relaid.places.push(place)?;
-    }
-    lay_out_item(alloc, item, gap, &mut relaid.lines)
+    let Item::Stmt(expr) = item else {
+        return Ok(());
+    };
+    let gap = gap_before(alloc, items, at)?;
+    let line = lay_out_line(alloc, expr, gap)?;
+    relaid.places.push(place)?;
+    relaid.lines.push(line)?;
+    Ok(())
 }
 
 /// The lines of the statements that are marked, as the layout of all items has them, and the places of these lines among the
@@ -78,11 +72,9 @@ pub fn relayout(alloc: Global, marks: &[bool], items: &[Item]) -> Result<Relaid,
         places: Items::new(alloc),
         lines: Items::new(alloc),
     };
-    let mut gap = Vec::new(alloc);
     let mut place = 0;
     for (i, item) in items.iter().enumerate() {
-        gap = relayout_marked(alloc, marks[i], item, place, gap, &mut relaid)?;
-        push_between(&mut gap, item, &items[i + 1..])?;
+        relayout_marked(alloc, marks[i], item, items, i, place, &mut relaid)?;
         place = place_after(place, item);
     }
     Ok(relaid)

@@ -2,12 +2,12 @@
 ghost use Rattle.std.specs.Prelude.{ℕ, ◌≡◌, ◌++◌, ◌+◌, ◌-◌, ◌≤◌, [], take, drop, length, List, IfOk, OnOk};
 ghost use Rattle.bz_value.specs.Exchanged.{IsSpliced};
 ghost use Rattle.bz_value.specs.declared.value.Item.{Item};
-ghost use Rattle.bz_layout.specs.LaidOut.{laid_out, lines_from};
+ghost use Rattle.bz_layout.specs.LaidOut.{laid_out, left_gap, lines_from};
 ghost use Rattle.bz_layout.specs.private.Windows as windows;
 
 use crate::gaps::push_comments;
 use crate::lines::{end_after, lay_out_before, lay_out_line, push_between};
-use crate::marked::{pass_over, place_after};
+use crate::marked::place_after;
 use bz_grammar::Part;
 use bz_items::{Items, Memory};
 use bz_value::Item;
@@ -58,8 +58,20 @@ fn last_statement(items: &[Item], from: usize) -> usize
     0
 }
 
+/// The gap that an item leaves to what follows, where its line is not laid out.
+fn pass_over(item: &Item, gap: Vec<u8>) -> Result<Vec<u8>, Memory>
+    ensures { IfOk result (λ left. left.items ≡ left_gap gap.items item.now) }
+{
+    let mut gap = gap;
+    match item {
+        Item::Block(texts) => push_comments(&mut gap, texts.as_slice())?,
+        Item::Stmt(_) => gap.clear(),
+    }
+    Ok(gap)
+}
+
 /// The gap before the item at a place, or before the end.
-fn gap_before(alloc: Global, items: &[Item], from: usize) -> Result<Vec<u8>, Memory>
+pub fn gap_before(alloc: Global, items: &[Item], from: usize) -> Result<Vec<u8>, Memory>
     requires { from ≤ length items.now }
     ensures { IfOk result (λ gap. gap.items ≡ windows.statement_gap [] from items.now) }
 {
