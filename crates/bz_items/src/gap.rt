@@ -82,6 +82,17 @@ impl Gap {
         }
     }
 
+    /// A newline and this many spaces after it, where these are at most 255. It takes no memory.
+    pub fn line(alloc: Global, spaces: usize) -> Option<Gap>
+        ensures { IfSome result (λ gap. gap ≡ line_feed ∷ replicate spaces space) }
+    {
+        let count = u8::try_from(spaces).ok()?;
+        Some(Gap {
+            form: Form::Line(count),
+            alloc,
+        })
+    }
+
     /// A copy of these bytes. The error: a growth was refused.
     #[inline(always)]
     pub fn from_slice(alloc: Global, bytes: &[u8]) -> Result<Gap, Memory>

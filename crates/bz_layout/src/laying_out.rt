@@ -39,6 +39,12 @@ fn gap_above(
 ) -> Result<Gap, Memory>
     ensures { IfOk result (λ gap. gap ≡ layout.suffix_text (option_copied suffix.entry) ++ (layout.new_line_at margin ++ layout.margin_lines margin texts.now)) }
 {
+    if suffix.is_none()
+        && texts.is_empty()
+        && let Some(gap) = Gap::line(alloc, margin)
+    {
+        return Ok(gap);
+    }
     let mut out = Draft::new(Vec::new(alloc), usize::MAX);
     out.push_after(suffix)?;
     out.push_new_line(margin)?;
