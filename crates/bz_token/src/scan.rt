@@ -193,17 +193,19 @@ fn run(state: State, text: &[u8], from: usize) -> usize
 fn is_keyword(text: &[u8]) -> bool
     ensures { result ≡ is_keyword text.now }
 {
-    if text == b"continue".as_slice()
+    text == b"and".as_slice()
+        || text == b"break".as_slice()
+        || text == b"continue".as_slice()
+        || text == b"def".as_slice()
+        || text == b"elif".as_slice()
+        || text == b"else".as_slice()
+        || text == b"for".as_slice()
+        || text == b"if".as_slice()
+        || text == b"in".as_slice()
         || text == b"lambda".as_slice()
+        || text == b"load".as_slice()
+        || text == b"not".as_slice()
+        || text == b"or".as_slice()
+        || text == b"pass".as_slice()
         || text == b"return".as_slice()
-    {
-        return true;
-    }
-    match text {
-        b"if" | b"in" | b"or" => true,
-        b"and" | b"def" | b"for" | b"not" => true,
-        b"elif" | b"else" | b"load" | b"pass" => true,
-        b"break" => true,
-        _ => false,
-    }
 }
