@@ -47,27 +47,23 @@ pub const MOST: usize = LENGTH_LIMIT + 1;
 
 const CHUNK: usize = 16_384;
 
-// One read, of at most as much as there is room for in `most`.
-fn read_part<S: Source>(
+// Appends what one read gives, at most as many bytes as the chunk has; what these were does not matter. Gives how many came.
+fn read_chunk<S: Source>(
     source: &mut S,
     bytes: &mut Vec<u8>,
-    most: usize,
+    chunk: &mut [u8],
 ) -> Result<usize, InputFault>
-    requires room { vec_len bytes.old ≤ most }
-    ensures within { IfOk result (λ n. vec_len bytes.new ≡ vec_len bytes.old + n) }
-    ensures most { vec_len bytes.new ≤ most }
+    ensures within { vec_len bytes.new ≤ vec_len bytes.old + length chunk.old }
     ensures read { IfOk result (λ n. (got : List ℕ) × (bytes.new.items ≡ bytes.old.items ++ got)
         × (length got ≡ n) × Consumes (S.remaining source.old) (S.remaining source.new) got) }
-    ensures end { IfOk result (λ n. n ≡ 0 → vec_len bytes.old < most → IsAtEnd (S.remaining source.new)) }
+    ensures end { IfOk result (λ n. n ≡ 0 → 0 < length chunk.old → IsAtEnd (S.remaining source.new)) }
     ensures fault { IsErrOf result InputFault.Read → Rises (S.faults source.old) (S.faults source.new) }
     ensures steady { (IsErrOf result InputFault.Read → ⊥) → S.faults source.new ≡ S.faults source.old }
     ensures count { S.faults source.old ≤ S.faults source.new }
     ensures works { S.sound source.old ≡ true → IsErrOf result InputFault.Read → ⊥ }
     ensures sound { S.sound source.new ≡ S.sound source.old }
 {
-    let mut chunk = [0u8; CHUNK];
-    let room = (most - bytes.len()).min(CHUNK);
-    match source.read(&mut chunk[..room]) {
+    match source.read(chunk) {
         Err(_) => Err(InputFault::Read),
         Ok(n) => match bytes.extend_from_slice(&chunk[..n]) {
             Ok(()) => Ok(n),
@@ -92,8 +88,10 @@ pub fn read_most<S: Source>(
     ensures sound { S.sound source.new ≡ S.sound source.old }
 {
     let mut bytes = Vec::new(alloc);
+    let mut chunk = [0u8; CHUNK];
     while bytes.len() < most {
-        if read_part(source, &mut bytes, most)? == 0 {
+        let room = (most - bytes.len()).min(CHUNK);
+        if read_chunk(source, &mut bytes, &mut chunk[..room])? == 0 {
             break;
         }
     }
