@@ -96,6 +96,7 @@ pub fn set_value(name: &[u8], value: Expr, arguments: &mut Items<Expr>)
 {
     let mut old = value;
     swap_first(name, &mut old, arguments);
+    drop(old);
 }
 
 /// A new attribute, before the first starred argument, else last.
@@ -126,7 +127,7 @@ pub fn remove_first(name: &[u8], arguments: &mut Items<Expr>)
     };
     let alloc = arguments.alloc();
     let mut all = mem::replace(arguments, Items::new(alloc)).into_vec();
-    let _gone = all.remove(at);
+    drop(all.remove(at));
     *arguments = Items::from_vec(all);
 }
 

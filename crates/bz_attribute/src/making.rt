@@ -1,9 +1,13 @@
 //! New parts of a file value: no comments, no sequence split, no break.
-ghost use Rattle.std.specs.Prelude.{◌≡◌, IfOk, OnOk, [], ◌∷◌, ◌++◌, nat_eq, position, length, ◌<◌, IfSome};
+//!
+//! Where memory is refused, an expression that is owned is dropped by a call: a `?` drops it in place, which is a path of the proof for
+//! each of its parts.
+ghost use Rattle.std.specs.Prelude.{◌≡◌, IfOk, OnOk, [], ◌∷◌, ◌++◌, codes, nat_eq, position, length, ◌<◌, IfSome};
 ghost use Rattle.std.specs.List.{slice_split};
 ghost use Rattle.std.specs.Option.{option_map_or};
+ghost use Rattle.bz_grammar.specs.declared.kind.Kind.TheVariants as kinds;
 ghost use Rattle.bz_items.specs.Characters.{full_stop};
-ghost use Rattle.bz_rule.specs.Values.{on_items, with_text};
+ghost use Rattle.bz_rule.specs.Values.{on_items, parts_of, with_parts, with_text};
 ghost use Rattle.bz_attribute.specs.Made.{token, node, sequence, name, mark, string_text, string_of, list_of, binds_looser, operand, plus, function_of, argument_of, rule_made};
 
 use crate::readings::has_kind;
@@ -12,7 +16,7 @@ use bz_grammar::{Class, Kind};
 use bz_items::{Items, Memory, Text};
 use bz_label::bytes::{is_label_attribute, shortened};
 use bz_value::{Comments, EndComments, Expr, Form, Item, Seq, Token};
-use std::alloc::Global;
+use std::alloc::{AllocError, Global};
 use std::mem;
 
 /// An attribute of the rules of a package, into which words are put.
@@ -91,7 +95,11 @@ fn row<const N: usize>(alloc: Global, parts: [Expr; N]) -> Result<Items<Expr>, M
 fn joined(alloc: Global, kind: Kind, left: Expr, sign: &[u8], right: Expr) -> Result<Expr, Memory>
     ensures { IfOk result (λ x. x ≡ node kind (left ∷ mark sign.now ∷ right ∷ [])) }
 {
-    let sign = new_token(alloc, Class::Mark, sign)?;
+    let Ok(sign) = new_token(alloc, Class::Mark, sign) else {
+        drop(left);
+        drop(right);
+        return Err(AllocError);
+    };
     let row = row(alloc, [left, sign, right])?;
     Ok(node(alloc, kind, row))
 }
@@ -178,6 +186,15 @@ fn binds_looser(x: &Expr) -> bool
     }
 }
 
+/// The marks around an operand.
+fn brackets(alloc: Global) -> Result<(Expr, Expr), Memory>
+    ensures { IfOk result (λ both. (both.0 ≡ mark (codes "(")) × (both.1 ≡ mark (codes ")"))) }
+{
+    let open = Text::from_slice(alloc, b"(")?;
+    let close = Text::from_slice(alloc, b")")?;
+    Ok((token(Class::Mark, open), token(Class::Mark, close)))
+}
+
 /// The expression as an operand of a sum: between brackets where it binds looser.
 fn operand(alloc: Global, x: Expr) -> Result<Expr, Memory>
     ensures { IfOk result (λ y. y ≡ operand x) }
@@ -185,10 +202,45 @@ fn operand(alloc: Global, x: Expr) -> Result<Expr, Memory>
     if !binds_looser(&x) {
         return Ok(x);
     }
-    let open = new_token(alloc, Class::Mark, b"(")?;
-    let close = new_token(alloc, Class::Mark, b")")?;
+    let Ok((open, close)) = brackets(alloc) else {
+        drop(x);
+        return Err(AllocError);
+    };
     let row = row(alloc, [open, x, close])?;
     Ok(node(alloc, Kind::Paren, row))
+}
+
+/// A plus sign and the operand after it.
+fn further(alloc: Global, operand: Expr) -> Result<Vec<Expr>, Memory>
+    ensures { IfOk result (λ row. row.items ≡ mark (codes "+") ∷ operand ∷ []) }
+{
+    let Ok(sign) = new_token(alloc, Class::Mark, b"+") else {
+        drop(operand);
+        return Err(AllocError);
+    };
+    Ok(Vec::from_array(alloc, [sign, operand])?)
+}
+
+/// A sum takes an expression as a further operand.
+fn add_operand(alloc: Global, operand: Expr, sum: &mut Expr) -> Result<(), Memory>
+    ensures { OnOk result (sum.new ≡ with_parts (parts_of sum.old ++ mark (codes "+") ∷ operand ∷ []) sum.old) }
+{
+    let mut more = further(alloc, operand)?;
+    if let Expr::Form(form) = sum {
+        append(&mut more, &mut form.parts)?;
+    }
+    Ok(())
+}
+
+/// A sum of a value that is none and a list.
+fn summed(alloc: Global, value: Expr, list: Expr) -> Result<Expr, Memory>
+    ensures { IfOk result (λ x. x ≡ node kinds.Sum (operand value ∷ mark (codes "+") ∷ list ∷ [])) }
+{
+    let Ok(first) = operand(alloc, value) else {
+        drop(list);
+        return Err(AllocError);
+    };
+    joined(alloc, Kind::Sum, first, b"+", list)
 }
 
 /// A value and a list: a sum takes the list as a further operand.
@@ -196,14 +248,12 @@ pub fn plus(alloc: Global, mut value: Expr, list: Expr) -> Result<Expr, Memory>
     ensures { IfOk result (λ x. x ≡ plus value list) }
 {
     if !has_kind(Kind::Sum, &value) {
-        let first = operand(alloc, value)?;
-        return joined(alloc, Kind::Sum, first, b"+", list);
+        return summed(alloc, value, list);
     }
-    let sign = new_token(alloc, Class::Mark, b"+")?;
-    let mut more = Vec::from_array(alloc, [sign, list])?;
-    if let Expr::Form(sum) = &mut value {
-        append(&mut more, &mut sum.parts)?;
-    }
+    let Ok(()) = add_operand(alloc, list, &mut value) else {
+        drop(value);
+        return Err(AllocError);
+    };
     Ok(value)
 }
 
@@ -235,7 +285,10 @@ pub fn function_of(alloc: Global, kind: &[u8]) -> Result<Expr, Memory>
     let mut function = new_token(alloc, Class::Name, first)?;
     while let Some(text) = rest {
         let (piece, following) = cut(text);
-        let name = new_token(alloc, Class::Name, piece)?;
+        let Ok(name) = new_token(alloc, Class::Name, piece) else {
+            drop(function);
+            return Err(AllocError);
+        };
         function = joined(alloc, Kind::Dot, function, b".", name)?;
         rest = following;
     }
@@ -246,7 +299,10 @@ pub fn function_of(alloc: Global, kind: &[u8]) -> Result<Expr, Memory>
 pub(crate) fn argument_of(alloc: Global, attribute: &[u8], value: Expr) -> Result<Expr, Memory>
     ensures { IfOk result (λ x. x ≡ argument_of attribute.now value) }
 {
-    let name = new_token(alloc, Class::Name, attribute)?;
+    let Ok(name) = new_token(alloc, Class::Name, attribute) else {
+        drop(value);
+        return Err(AllocError);
+    };
     joined(alloc, Kind::Named, name, b"=", value)
 }
 
