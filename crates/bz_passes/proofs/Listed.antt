@@ -1,8 +1,8 @@
 -- The items of one list, sorted: sorted again they stay; what is kept of them; flags are not seen.
-use Rattle.std.proofs.Common.{ℕ, suc, ◌+◌, ◌<◌, Bool, true, false, not, ◌&&◌, ◌||◌, List, [], ◌∷◌, ◌++◌, ◌≡◌, refl, sym, ap, subst, ◌∙◌, length, get_or, map, inl, inr, arith}
+use Rattle.std.proofs.Common.{ℕ, suc, ◌+◌, ◌-◌, ◌<◌, Bool, true, false, not, ◌&&◌, ◌||◌, List, [], ◌∷◌, ◌++◌, ◌≡◌, refl, sym, ap, subst, ◌∙◌, length, take, drop, get_or, map, inl, inr, arith, drop_at, take_at, length-append, length-drop, length-take-le, take-append-drop}
 use Rattle.std.proofs.lemmas.Bool.{cases_Bool, and_right, true≢false}
 use Rattle.std.proofs.lemmas.Slice.Eq.{bytes_eq-Decides}
-use Rattle.std.specs.List.{list_any, list_all, AllByRecursion, AllAdjacentBelow, IsAllAdjacentAnswer}
+use Rattle.std.specs.List.{list_any, list_all, AllByRecursion, AllAdjacentBelow, IsAllAdjacentAnswer, slice_rotate_right}
 use Rattle.std.specs.Fn.{Called, ComputesOnPairs}
 use Rattle.std.proofs.lemmas.List.Sorted.{answers_always}
 use denote.Ref.{Bor}
@@ -20,13 +20,13 @@ use Rattle.bz_value.specs.declared.value.Expr.{Expr, Token, Form'}
 use Rattle.bz_items.specs.Characters.{Bytes}
 use Rattle.bz_value.specs.Proper.{comments_of}
 use Rattle.bz_rule.specs.Values.{has_class, text_of, above, with_above}
-use Rattle.bz_passes.specs.Orders.{sort_by}
+use Rattle.bz_passes.specs.Orders.{insert_by, sort_by}
 use Rattle.bz_rule.specs.QuoteMarks.{between}
 use Rattle.bz_passes.specs.Marks.{keep_marks, other_comments}
 use Rattle.bz_passes.specs.Lists.{above_first, has_above, is_taken, precedes, has_no_comment, without_repeats, in_order, without_marks, marked_by, sorted, settled_list}
-use Rattle.bz_passes.specs.private.Sorted.{is_passed}
+use Rattle.bz_passes.specs.private.Sorted.{Climbs, is_passed}
 use Rattle.bz_passes.proofs.Keeping.{Keeps, Settles, both, same_first, same_after}
-use Rattle.bz_passes.proofs.Sorting.{sort_all, Ordered, Starts, ordered_stays, sort_ordered, sort_map}
+use Rattle.bz_passes.proofs.Sorting.{sort_all, Ordered, Starts, insert_starts, ordered_stays, sort_ordered, sort_map}
 
 pub order : IsStrictWeakOrder precedes
 order = ranks_by key_total (λ (x : Expr). between (text_of x))
@@ -144,11 +144,6 @@ sorted_fine (x ∷ xs) = elim (cases_Bool (list_any (λ y. precedes y x) xs)) [
 precedes_texts : IsStrictWeakOrder (λ (s t : Bytes). is_lt (key_order (between s) (between t)))
 precedes_texts = ranks_by key_total between
 
-abbrev Climbs : List Expr → Type 0
-Climbs [] = Unit {0}
-Climbs (x ∷ []) = Unit {0}
-Climbs (x ∷ y ∷ ys) = (precedes x y ≡ true) × Climbs (y ∷ ys)
-
 one_after : (k : ℕ) → suc k + 1 ≡ suc (k + 1)
 one_after k = omega arith
 
@@ -204,25 +199,86 @@ climbs_fine : (xs : List Expr) → Climbs xs → Fine xs
 climbs_fine [] c = record { rising = tt; clean = tt }
 climbs_fine (x ∷ xs) c = record { rising = rises (x ∷ xs) (climbs_ordered (x ∷ xs) c); clean = climbs_clean [] x xs tt c }
 
-climbing_stays : (xs : List Expr) → AllAdjacentBelow (λ x y. true ≡ precedes x y) xs (length xs) → sorted xs ≡ xs
-climbing_stays xs h = fine_stays xs (climbs_fine xs (climbs xs h))
-
-answered : (xs : List Expr) (r : Bool) → IsAllAdjacentAnswer (λ x y b. b ≡ precedes x y) xs r → r ≡ true → sorted xs ≡ xs
-answered xs true h e = climbing_stays xs h
+answered : (xs : List Expr) (r : Bool) → IsAllAdjacentAnswer (λ x y b. b ≡ precedes x y) xs r → r ≡ true → Climbs xs
+answered xs true h e = climbs xs h
 answered xs false h e = absurd (true≢false (sym e))
 
-pub rising_stays : {F : Type 0} {g : Mut F (Bor Expr × (Bor Expr × Unit {0})) Bool} {f : F} (xs : List Expr) (r : Bool)
+pub rising_climbs : {F : Type 0} {g : Mut F (Bor Expr × (Bor Expr × Unit {0})) Bool} {f : F} (xs : List Expr) (r : Bool)
     → ((e : Expr → Expr → Bool) → ComputesOnPairs g e f → IsAllAdjacentAnswer (λ x y b. b ≡ e x y) xs r)
     → ((h : F) (a : Bor Expr × (Bor Expr × Unit {0})) (b : Bool) (h' : F) → Called g h a b h' → b ≡ precedes a.0.now a.1.0.now)
-    → r ≡ true → sorted xs ≡ xs
-rising_stays {F} {g} {f} xs r s k e = answered xs r (s precedes (answers_always g (λ a b. b ≡ precedes a.0.now a.1.0.now) f k)) e
+    → r ≡ true → Climbs xs
+rising_climbs {F} {g} {f} xs r s k e = answered xs r (s precedes (answers_always g (λ a b. b ≡ precedes a.0.now a.1.0.now) f k)) e
 
 -- a list that rises stays, whether it is taken or not
-pub rising_settled : (outside : List Bytes) (b : Bool) (xs : List Expr) → sorted xs ≡ xs → settled_list outside b xs ≡ xs
-rising_settled outside b xs h = elim (cases_Bool (is_taken outside b xs)) [
-  | inl t ↦ rw t h
+pub rising_settled : (outside : List Bytes) (b : Bool) (xs : List Expr) → Climbs xs → settled_list outside b xs ≡ xs
+rising_settled outside b xs c = elim (cases_Bool (is_taken outside b xs)) [
+  | inl t ↦ rw t (fine_stays xs (climbs_fine xs c))
   | inr f ↦ rw f refl
 ]
+
+-- ---- a list that rises once its last item is moved to another place
+
+climbs_over : (x y : Expr) (ys : List Expr) → Climbs (x ∷ y ∷ ys) → Climbs (x ∷ ys)
+climbs_over x y [] c = tt
+climbs_over x y (z ∷ zs) c = (still_before (text_of x) y z c.0 c.1.0, c.1.1)
+
+climbs_rest : (x : Expr) (xs : List Expr) → Climbs (x ∷ xs) → Climbs xs
+climbs_rest x [] c = tt
+climbs_rest x (y ∷ ys) c = c.1
+
+last_raised : (later : List Expr) (x : Expr) → Climbs (x ∷ later) → sort_by precedes (later ++ x ∷ []) ≡ x ∷ later
+last_raised [] x c = refl
+last_raised (y ∷ ys) x c =
+    ap (insert_by precedes y) (last_raised ys x (climbs_over x y ys c)) ∙ rw c.0 (ap (λ zs. x ∷ zs) (insert_starts precedes y ys (climbs_ordered (y ∷ ys) c.1).0))
+
+front_raised : (front later : List Expr) (x : Expr) → Climbs (front ++ x ∷ later) → sort_by precedes (front ++ (later ++ x ∷ [])) ≡ front ++ x ∷ later
+front_raised [] later x c = last_raised later x c
+front_raised (y ∷ front) later x c =
+    ap (insert_by precedes y) (front_raised front later x (climbs_rest y (front ++ x ∷ later) c)) ∙ insert_starts precedes y (front ++ x ∷ later) (climbs_ordered (y ∷ front ++ x ∷ later) c).0
+
+record Apart (xs : List Expr) : Type 0 where
+  later : List Expr
+  last : Expr
+  joined : xs ≡ later ++ last ∷ []
+
+last_apart : (y : Expr) (ys : List Expr) → Apart (y ∷ ys)
+last_apart y [] = record { later = []; last = y; joined = refl }
+last_apart y (z ∷ zs) = let rest : Apart (z ∷ zs) = last_apart z zs in record { later = y ∷ rest.later; last = rest.last; joined = ap (λ xs. y ∷ xs) rest.joined }
+
+rotated : (later : List Expr) (x : Expr) → slice_rotate_right (later ++ x ∷ []) 1 ≡ x ∷ later
+rotated later x =
+    let size : length later ≡ length (later ++ x ∷ []) - 1 = omega (arith, length-append later (x ∷ [])) in
+    both (λ a b. a ++ b) (drop_at later (x ∷ []) (length (later ++ x ∷ []) - 1) size) (take_at later (x ∷ []) (length (later ++ x ∷ []) - 1) size)
+
+-- the last item of those from a place on goes first
+raised_apart : (front later : List Expr) (x : Expr) (old new : List Expr) → old ≡ front ++ (later ++ x ∷ []) → new ≡ front ++ slice_rotate_right (later ++ x ∷ []) 1 → Climbs new → new ≡ in_order old
+raised_apart front later x old new own is c =
+    let made : new ≡ front ++ x ∷ later = is ∙ ap (λ zs. front ++ zs) (rotated later x) in
+    let put : sort_by precedes old ≡ new = ap (sort_by precedes) own ∙ (front_raised front later x (subst Climbs made c) ∙ sym made) in
+    sym (ap (without_repeats []) put ∙ clean_stays [] new (climbs_fine new c).clean)
+
+raised_there : (front back new old : List Expr) → 0 < length back → old ≡ front ++ back → new ≡ front ++ slice_rotate_right back 1 → Climbs new → new ≡ in_order old
+raised_there front [] new old some own is c = absurd (omega (arith, some))
+raised_there front (y ∷ ys) new old some own is c =
+    let apart : Apart (y ∷ ys) = last_apart y ys in
+    raised_apart front apart.later apart.last old new (own ∙ ap (λ zs. front ++ zs) apart.joined) (is ∙ ap (λ zs. front ++ slice_rotate_right zs 1) apart.joined) c
+
+rotated_back : (back : List Expr) → 0 < length back → drop 1 (slice_rotate_right back 1) ++ take 1 (slice_rotate_right back 1) ≡ back
+rotated_back [] some = absurd (omega (arith, some))
+rotated_back (y ∷ ys) some =
+    let apart : Apart (y ∷ ys) = last_apart y ys in
+    ap (λ zs. drop 1 zs ++ take 1 zs) (ap (λ zs. slice_rotate_right zs 1) apart.joined ∙ rotated apart.later apart.last) ∙ sym apart.joined
+
+pub last_back : (at : ℕ) (old mid new : List Expr) → at < length old → mid ≡ take at old ++ slice_rotate_right (drop at old) 1 → new ≡ take at mid ++ (drop 1 (drop at mid) ++ take 1 (drop at mid)) → new ≡ old
+last_back at old mid new h is back =
+    let size : length (take at old) ≡ at = length-take-le at old (omega (arith, h)) in
+    let rest : List Expr = slice_rotate_right (drop at old) 1 in
+    let front : take at mid ≡ take at old = ap (λ xs. take at xs) is ∙ take_at (take at old) rest at size in
+    let later : drop at mid ≡ rest = ap (λ xs. drop at xs) is ∙ drop_at (take at old) rest at size in
+    back ∙ (both (λ a b. a ++ (drop 1 b ++ take 1 b)) front later ∙ (ap (λ xs. take at old ++ xs) (rotated_back (drop at old) (omega (arith, h, length-drop at old))) ∙ take-append-drop at old))
+
+pub last_moved : (at : ℕ) (old new : List Expr) → at < length old → new ≡ take at old ++ slice_rotate_right (drop at old) 1 → Climbs new → new ≡ in_order old
+last_moved at old new h is c = raised_there (take at old) (drop at old) new old (omega (arith, h, length-drop at old)) (sym (take-append-drop at old)) is c
 
 -- a list that neither the table names nor a comment may mark stays
 pub untaken_stays : (outside : List Bytes) (b : Bool) (xs : List Expr) → b ≡ false → outside ≡ [] → above_first xs ≡ [] → settled_list outside b xs ≡ xs

@@ -1,10 +1,10 @@
 //! The items of one list: whether they are sorted, and sorting them.
-ghost use Rattle.std.specs.Prelude.{◌≡◌, ◌++◌, ◌∷◌, ℕ, List, [], false, IfOk, IsTrue, OnOk};
-ghost use Rattle.std.specs.List.{list_all, list_any};
+ghost use Rattle.std.specs.Prelude.{◌≡◌, ◌<◌, ◌++◌, ◌∷◌, ℕ, List, [], drop, false, length, take, IfOk, IfSome, IsTrue, OnOk};
+ghost use Rattle.std.specs.List.{list_all, list_any, slice_rotate_right};
 ghost use Rattle.bz_token.specs.declared.class.Class.TheVariants as classes;
 ghost use Rattle.bz_passes.specs.Lists.{above_first, has_above as has_comment_above, in_order, is_taken as is_taken_in, marked_by, precedes, settled_list, sorted, without_marks};
 ghost use Rattle.bz_passes.specs.Marks.{any_marked as marked_in_any, keep_marks, other_comments};
-ghost use Rattle.bz_passes.specs.private.Sorted.{is_passed};
+ghost use Rattle.bz_passes.specs.private.Sorted.{Climbs, is_passed};
 ghost use Rattle.bz_rule.specs.Values.{has_class, on_first, with_above};
 
 use crate::marks::{any_marked, is_marked};
@@ -194,10 +194,54 @@ fn may_marks_move(items: &[Expr]) -> bool
     }
 }
 
+/// After how many of the others the last item goes, where these are in order.
+fn place_of_last(items: &[Expr]) -> Option<usize>
+    ensures { IfSome result (λ at. at < length items.now) }
+{
+    let (last, others) = items.split_last()?;
+    Some(others.partition_point(|x| item_order(x, last).is_lt()))
+}
+
+/// Moves the last item to this place.
+fn put_last(items: &mut [Expr], at: usize)
+    requires { at < length items.old }
+    ensures { items.new ≡ take at items.old ++ slice_rotate_right (drop at items.old) 1 }
+{
+    items[at..].rotate_right(1);
+}
+
+/// Moves the item at this place to the end.
+fn put_back(items: &mut [Expr], at: usize)
+    requires { at < length items.old }
+    ensures { items.new ≡ take at items.old ++ (drop 1 (drop at items.old) ++ take 1 (drop at items.old)) }
+{
+    items[at..].rotate_left(1);
+}
+
+/// Moves the last item to its place, if each item then comes before the next one, as where it was added to a list in order. Else the
+/// items are as before.
+fn raise_last(items: &mut [Expr]) -> bool
+    ensures raised { IsTrue result → items.new ≡ in_order items.old }
+    ensures stays { result ≡ false → items.new ≡ items.old }
+{
+    let Some(at) = place_of_last(items) else {
+        return false;
+    };
+    put_last(items, at);
+    if are_rising(items) {
+        return true;
+    }
+    put_back(items, at);
+    false
+}
+
 /// The items in their order, without repeats.
 fn put_in_order(alloc: Global, mut items: Vec<Expr>) -> Result<Vec<Expr>, Memory>
     ensures { IfOk result (λ ordered. ordered.items ≡ in_order items.items) }
 {
+    if raise_last(items.as_mut_slice()) {
+        return Ok(items);
+    }
     sort_items(&mut items)?;
     drop_repeats(alloc, items)
 }
@@ -217,7 +261,7 @@ fn sort_taken(alloc: Global, mut items: Vec<Expr>) -> Result<Vec<Expr>, Memory>
 
 /// Whether each item comes before the next one: sorted, such a list stays as it is.
 fn are_rising(items: &[Expr]) -> bool
-    ensures { IsTrue result → sorted items.now ≡ items.now }
+    ensures { IsTrue result → Climbs items.now }
 {
     items.is_sorted_by(|x, y| item_order(x, y).is_lt())
 }

@@ -3,6 +3,7 @@ ghost use Rattle.std.specs.Prelude.{◌≡◌, OnOk};
 ghost use Rattle.bz_label.specs.Keys.{key_order};
 ghost use Rattle.bz_passes.specs.Lists.{precedes};
 ghost use Rattle.bz_passes.specs.Orders.{sort_by};
+ghost use Rattle.bz_passes.specs.Rising.{Rises};
 ghost use Rattle.bz_rule.specs.QuoteMarks.{between as between_marks};
 ghost use Rattle.bz_rule.specs.Values.{text_of as text_in};
 
@@ -21,7 +22,8 @@ pub(crate) fn item_order(x: &Expr, y: &Expr) -> Ordering
 
 /// The items by the texts between their quote marks, equal ones in their old order. The error: a growth was refused.
 pub(crate) fn sort_items(items: &mut Vec<Expr>) -> Result<(), Memory>
-    ensures { OnOk result (items.new.items ≡ sort_by precedes items.old.items) }
+    ensures sorted { OnOk result (items.new.items ≡ sort_by precedes items.old.items) }
+    ensures rises { OnOk result (Rises precedes items.new.items) }
 {
     items.sort_by(|x, y| item_order(x, y))?;
     Ok(())
