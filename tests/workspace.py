@@ -318,6 +318,49 @@ def a_match_that_grows_past_the_limit(w):
     return not w.wrong
 
 
+# how many lines a run has in which a cost that grows faster than they do would be seen
+MANY = range(4000)
+
+
+def leaves_within(w, seconds, lines, text, wanted, out=b""):
+    """A run of many lines leaves this text within so much of the processor's time, and prints this. What it does else goes to `wrong`. The
+    seconds are fewer than each run took when nothing was kept from one command to the next: 11.6, 3.5 to 8.7, 9.0 and 2.7."""
+    (w.path / "d").mkdir(exist_ok=True)
+    (w.path / "d/BUILD").write_bytes(text)
+    limit = (seconds, seconds)
+    how = {"cwd": w.path, "capture_output": True, "preexec_fn": lambda: resource.setrlimit(resource.RLIMIT_CPU, limit)}
+    run = subprocess.run([w.program, "-f", "-"], input=lines_of(*lines), **how)
+    left = run.returncode, run.stdout, run.stderr, (w.path / "d/BUILD").read_bytes()
+    if left != ((3, out, b"", text) if text == wanted else (0, out, fixed("d/BUILD"), wanted)):
+        w.wrong.append(f"{lines[0]}: {run.returncode}, {run.stderr[-60:]}")
+
+
+def thousands_of_items_added_to_one_list(w):
+    items = b"".join(b'        ":v%04d",\n' % number for number in MANY)
+    lines = [f"add deps :v{number:04}|//d:r" for number in MANY]
+    leaves_within(w, 10, lines, b'f(name = "r")\n', b'f(\n    name = "r",\n    deps = [\n%s    ],\n)\n' % items)
+    return not w.wrong
+
+
+def thousands_of_rules_named_by_their_lines(w):
+    old, new = (b"\n".join(b'f(name = "%s%04d")\n' % (name, number) for number in MANY) for name in (b"r", b"s"))
+    leaves_within(w, 3, [f"set name s{number:04}|//d:%{2 * number + 1}" for number in reversed(MANY)], old, new)
+    return not w.wrong
+
+
+def thousands_of_files_loaded(w):
+    loads = b"".join(b'load("//:d%04d.bzl", "s")\n' % number for number in MANY)
+    leaves_within(w, 3, [f"new_load //:d{number:04}.bzl s|//d:__pkg__" for number in MANY], b'f(name = "r")\n', loads + b'\nf(name = "r")\n')
+    return not w.wrong
+
+
+def thousands_of_lines_printed_of_a_short_file(w):
+    text = b"\n".join(b'f(name = "r%02d")\n' % number for number in range(99))
+    names = [f"r{number % 99:02}" for number in MANY]
+    leaves_within(w, 2, [f"print name|//d:{name}" for name in names], text, text, lines_of(*names))
+    return not w.wrong
+
+
 def a_run(words, status, left):
     return lambda w: w.leaves(words, status, **left)
 
@@ -326,7 +369,8 @@ FUNCTIONS = [
     a_hundred_lines, an_unchanged_file_is_not_written, permission_bits_stay, a_closed_folder_is_told, an_unreadable_file_is_told,
     a_folder_for_the_first_name_is_told, a_folder_for_the_second_name_is_told, a_link_becomes_a_file, a_left_file_is_written_over,
     a_file_by_a_second_path_keeps_the_first_edit, a_refused_text_is_told, a_usage_fault_leaves_all, copies_of_a_comment_past_the_limit,
-    a_match_that_grows_past_the_limit,
+    a_match_that_grows_past_the_limit, thousands_of_items_added_to_one_list, thousands_of_rules_named_by_their_lines, thousands_of_files_loaded,
+    thousands_of_lines_printed_of_a_short_file,
 ]  # fmt: skip
 
 # Each scene by its name; each has a workspace of its own.
