@@ -4,9 +4,6 @@ use Rattle.std.specs.Prelude.{IsTrue, ◌↔◌, if◌then◌else◌, Some, Opti
 use Rattle.std.specs.List.{flat_map, list_any, filter, position}
 use Rattle.std.specs.Option.{option_map_or}
 use Rattle.bz_grammar.specs.declared.kind.Kind.TheVariants as k
-use Rattle.bz_grammar.specs.Shapes.{is_kind}
-use Rattle.bz_value.specs.declared.value.Form.{Form}
-use Rattle.bz_value.specs.declared.value.Expr.TheVariants as e
 use Rattle.std.proofs.lemmas.List.{append-nil, at_drop_all}
 use Rattle.bz_value.specs.declared.value.Expr.{Expr}
 use Rattle.bz_value.specs.Empty.{is_empty}
@@ -197,8 +194,8 @@ module _ (attributes : Attributes) (name : Bytes) (change : Bytes → Expr → E
   named_nowhere none = places.changed_nowhere (is_attribute name) (on_value (change name)) xs none ∙ sym (ap (λ attributes. in_attributes attributes change xs) is)
 
 -- what was taken from the operands of a sum, after the last of them
-pub sum_taken : (test : Expr → Bool) (value : Expr) (f : Form) (xs taken old : List Expr) (i : ℕ) → value ≡ e.Form f → is_kind f.kind k.Sum ≡ true
+pub sum_taken : (test : Expr → Bool) (value : Expr) (xs taken old : List Expr) (i : ℕ) → has_kind k.Sum value ≡ true
     → taken ++ filter test (flat_map listed (drop i xs)) ≡ old ++ filter test (flat_map listed (parts_of value)) → length xs ≤ i → taken ≡ old ++ filter test (items_in value)
-sum_taken test value f xs taken old i is sum so_far past =
+sum_taken test value xs taken old i sum so_far past =
     sym (append-nil taken) ∙ (sym (at_drop_all (λ rest. taken ++ filter test (flat_map listed rest)) xs i past)
-    ∙ (so_far ∙ ap (λ items. old ++ filter test items) (in_sum value (ap (has_kind k.Sum) is ∙ sum))))
+    ∙ (so_far ∙ ap (λ items. old ++ filter test items) (in_sum value sum)))

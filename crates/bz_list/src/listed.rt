@@ -1,4 +1,7 @@
 //! Items that are added to the lists of an attribute, removed from them and moved to another one, and the table of all commands on values.
+//!
+//! Where memory is refused, an expression that is owned is dropped by a call: a `?` drops it in place, which is a path of the proof for
+//! each of its parts.
 ghost use Rattle.std.specs.Prelude.{◌≡◌, ◌⊎◌, ◌&&◌, ◌++◌, ◌∷◌, [], ℕ, List, Ok, Err, IfOk, OnOk, IfErr, map, not};
 ghost use Rattle.std.specs.List.{filter, flat_map, list_any};
 ghost use Rattle.bz_grammar.specs.declared.kind.Kind.TheVariants as kinds;
@@ -6,7 +9,7 @@ ghost use Rattle.bz_value.specs.Empty.{is_empty};
 ghost use Rattle.bz_rule.specs.Rules.{attribute as value_there};
 ghost use Rattle.bz_rule.specs.Values.{has_kind as is_of, on_items, on_lists};
 ghost use Rattle.bz_attribute.specs.Attributes.{on_first_that};
-ghost use Rattle.bz_attribute.specs.Lists.{fresh, has_lists as has_lists_in, is_item as is_item_of, is_no_list as is_no_list_there, items_in, listed as as_listed, with_more};
+ghost use Rattle.bz_attribute.specs.Lists.{fresh, has_lists as has_lists_in, is_item as is_item_of, is_no_list as is_no_list_there, items_in, listed as as_listed, travelled, with_more};
 ghost use Rattle.bz_attribute.specs.Made.{string_of as string_made};
 ghost use Rattle.bz_list.specs.Changes.{with_items_added, remove_values, move, values_changed};
 ghost use Rattle.bz_list.specs.private.KnownValues.{knows_word};
@@ -17,15 +20,16 @@ use crate::known::{
 };
 use crate::replacing::Change;
 use bz_attribute::{
-    Slot, add_attribute, append_to, body_of, first_of_kind, has_lists, is_empty_list, is_item,
-    is_no_list, list_of, operands_of, plus, remove_first, set_value, string_of, take_value,
+    Slot, add_attribute, append_to, body_of, first_of_kind, has_kind, has_lists, is_empty_list,
+    is_item, is_no_list, list_of, operands_of, plus, remove_first, set_value, string_of,
+    take_value,
 };
 use bz_command_syntax::{ValueOperation, Values};
 use bz_grammar::Kind;
 use bz_items::{Items, Memory, Text};
 use bz_rule::{attribute, inside, text_of};
 use bz_value::{Expr, Refusal};
-use std::alloc::Global;
+use std::alloc::{AllocError, Global};
 use std::mem;
 
 /// Whether memory was given for a step.
@@ -56,18 +60,44 @@ fn push_string(slot: Slot<'_>, word: &[u8], known: &mut Known, items: &mut Vec<E
     Ok(())
 }
 
-/// Puts an item after the others as it comes to the attribute, unless it is known.
+/// Puts an item after the others.
+fn push_item(x: Expr, items: &mut Vec<Expr>) -> Done
+    ensures { OnOk result (items.new.items ≡ items.old.items ++ x ∷ []) }
+{
+    if let Err(refused) = items.reserve(1) {
+        drop(x);
+        return Err(refused);
+    }
+    items.push_reserved(x);
+    Ok(())
+}
+
+/// Puts an item after the others as it comes to the attribute.
+fn push_shortened(slot: Slot<'_>, mut x: Expr, items: &mut Vec<Expr>) -> Done
+    ensures { OnOk result (items.new.items ≡ items.old.items ++ travelled slot.entry.current.now slot.entry.attribute.now x ∷ []) }
+{
+    if let Err(refused) = Change::Shorten.on_item(slot, &mut x) {
+        drop(x);
+        return Err(refused);
+    }
+    push_item(x, items)?;
+    Ok(())
+}
+
+/// The same, unless the item is known.
 #[tactic(auto, using(crate::proofs::AddedItems::one_more))]
-fn push_moved(slot: Slot<'_>, mut x: Expr, known: &mut Known, items: &mut Vec<Expr>) -> Done
+fn push_moved(slot: Slot<'_>, x: Expr, known: &mut Known, items: &mut Vec<Expr>) -> Done
     ensures { (rest : List Expr) → OnOk result (items.new.items ++ new_items slot.entry.current.now slot.entry.attribute.now (knows_word slot.entry.current.now slot.entry.attribute.now known.new) rest ≡ items.old.items ++ new_items slot.entry.current.now slot.entry.attribute.now (knows_word slot.entry.current.now slot.entry.attribute.now known.old) (x ∷ rest)) }
 {
-    items.reserve(1)?;
-    if !insert(known, slot, body_of(&x))? {
+    let Ok(is_new) = insert(known, slot, body_of(&x)) else {
+        drop(x);
+        return Err(AllocError);
+    };
+    if !is_new {
         drop(x);
         return Ok(());
     }
-    Change::Shorten.on_item(slot, &mut x)?;
-    items.push_reserved(x);
+    push_shortened(slot, x, items)?;
     Ok(())
 }
 
@@ -129,7 +159,7 @@ fn one_beside(slot: Slot<'_>, word: &[u8], operands: &[Expr]) -> Result<Vec<Expr
 {
     let mut items = Vec::new(slot.alloc);
     if !is_there(slot, word, operands) {
-        items.push(string_of(slot, word)?)?;
+        push_item(string_of(slot, word)?, &mut items)?;
     }
     Ok(items)
 }
@@ -163,10 +193,13 @@ fn append_to_first(more: &mut Vec<Expr>, operands: &mut Items<Expr>) -> Done
 fn append_to_value(more: &mut Vec<Expr>, value: &mut Expr) -> Done
     ensures { OnOk result (value.new ≡ with_more more.old.items value.old) }
 {
-    match value {
-        Expr::Form(form) if form.kind == Kind::Sum => append_to_first(more, &mut form.parts),
-        _ => append_to(Kind::List, more, value),
+    if !has_kind(Kind::Sum, value) {
+        return append_to(Kind::List, more, value);
     }
+    if let Expr::Form(form) = value {
+        append_to_first(more, &mut form.parts)?;
+    }
+    Ok(())
 }
 
 /// A value with items at the end of its first list; one that is no list becomes a sum with a new one.
@@ -175,7 +208,10 @@ fn grown(slot: Slot<'_>, mut more: Vec<Expr>, mut value: Expr) -> Result<Expr, M
     ensures { (added : List Expr → List Expr) → more.items ≡ added (items_in value) → IfOk result (λ new. new ≡ value_with added value) }
 {
     if has_lists(&value) {
-        append_to_value(&mut more, &mut value)?;
+        let Ok(()) = append_to_value(&mut more, &mut value) else {
+            drop(value);
+            return Err(AllocError);
+        };
         return Ok(value);
     }
     let list = list_of(slot.alloc, Items::from_vec(more));
@@ -206,7 +242,10 @@ fn add_items(slot: Slot<'_>, added: Added<'_>, mut arguments: Items<Expr>) -> Ch
         drop(value);
         return Err(Refusal::NotAList);
     }
-    let more = added_beside(slot, added, operands_of(&value))?;
+    let Ok(more) = added_beside(slot, added, operands_of(&value)) else {
+        drop(value);
+        return Err(Refusal::Memory);
+    };
     let value = grown(slot, more, value)?;
     set_value(slot.attribute, value, &mut arguments);
     Ok(arguments)
@@ -219,10 +258,14 @@ fn take_in(slot: Slot<'_>, chosen: &Chosen, items: &mut Items<Expr>, taken: &mut
 {
     let mut left = Vec::new(slot.alloc);
     for x in mem::replace(items, Items::new(slot.alloc)).into_vec() {
-        if is_chosen(slot, chosen, &x)? {
-            taken.push(x)?;
+        let Ok(is_taken) = is_chosen(slot, chosen, &x) else {
+            drop(x);
+            return Err(AllocError);
+        };
+        if is_taken {
+            push_item(x, taken)?;
         } else {
-            left.push(x)?;
+            push_item(x, &mut left)?;
         }
     }
     *items = Items::from_vec(left);
@@ -234,12 +277,13 @@ fn take_from_list(slot: Slot<'_>, chosen: &Chosen, x: &mut Expr, taken: &mut Vec
     ensures left { OnOk result (x.new ≡ on_items kinds.List (filter (is_left slot.entry.current.now slot.entry.attribute.now chosen.now)) x.old) }
     ensures taken { OnOk result (taken.new.items ≡ taken.old.items ++ filter (chooses slot.entry.current.now slot.entry.attribute.now chosen.now) (as_listed x.old)) }
 {
-    match x {
-        Expr::Form(form) if form.kind == Kind::List => {
-            take_in(slot, chosen, &mut form.seq.items, taken)
-        }
-        _ => Ok(()),
+    if !has_kind(Kind::List, x) {
+        return Ok(());
     }
+    if let Expr::Form(form) = x {
+        take_in(slot, chosen, &mut form.seq.items, taken)?;
+    }
+    Ok(())
 }
 
 /// The same of the lists of a value.
@@ -248,15 +292,15 @@ fn take_from_lists(slot: Slot<'_>, chosen: &Chosen, value: &mut Expr, taken: &mu
     ensures left { OnOk result (value.new ≡ on_lists (filter (is_left slot.entry.current.now slot.entry.attribute.now chosen.now)) value.old) }
     ensures taken { OnOk result (taken.new.items ≡ taken.old.items ++ filter (chooses slot.entry.current.now slot.entry.attribute.now chosen.now) (items_in value.old)) }
 {
-    match value {
-        Expr::Form(form) if form.kind == Kind::Sum => {
-            for x in form.parts.as_mut_slice().iter_mut() {
-                take_from_list(slot, chosen, x, taken)?;
-            }
-            Ok(())
-        }
-        _ => take_from_list(slot, chosen, value, taken),
+    if !has_kind(Kind::Sum, value) {
+        return take_from_list(slot, chosen, value, taken);
     }
+    if let Expr::Form(form) = value {
+        for x in form.parts.as_mut_slice().iter_mut() {
+            take_from_list(slot, chosen, x, taken)?;
+        }
+    }
+    Ok(())
 }
 
 /// Puts what is left of a value back; where items were taken and it is an empty list, the attribute goes.
@@ -284,7 +328,10 @@ fn take_items(
     let Some(mut value) = take_value(slot.alloc, slot.attribute, arguments) else {
         return Ok(Items::from_vec(taken));
     };
-    take_from_lists(slot, chosen, &mut value, &mut taken)?;
+    let Ok(()) = take_from_lists(slot, chosen, &mut value, &mut taken) else {
+        drop(value);
+        return Err(AllocError);
+    };
     put_back(slot.attribute, taken.as_slice(), value, arguments);
     Ok(Items::from_vec(taken))
 }

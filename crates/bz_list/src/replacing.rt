@@ -8,7 +8,7 @@ ghost use Rattle.bz_list.specs.Changes.{in_attributes};
 ghost use Rattle.bz_list.specs.private.Listing.{item_changed_by, value_changed_by, other_changed_by};
 
 use bz_attribute::{
-    Slot, body_of, first_text, is_item, is_other_attribute, parts_of, place_of, set_text,
+    Slot, body_of, first_text, has_kind, is_item, is_other_attribute, parts_of, place_of, set_text,
     string_text,
 };
 use bz_command_syntax::{Attributes, Pattern, quoted};
@@ -84,46 +84,46 @@ impl Change<'_> {
     fn on_list(self, slot: Slot<'_>, x: &mut Expr) -> Result<(), Memory>
         ensures { OnOk result (x.new ≡ on_items kinds.List (map (item_changed_by self.entry slot.entry.current.now slot.entry.attribute.now)) x.old) }
     {
-        match x {
-            Expr::Form(form) if form.kind == Kind::List => {
-                for item in form.seq.items.as_mut_slice().iter_mut() {
-                    self.on_item(slot, item)?;
-                }
-                Ok(())
-            }
-            _ => Ok(()),
+        if !has_kind(Kind::List, x) {
+            return Ok(());
         }
+        if let Expr::Form(form) = x {
+            for item in form.seq.items.as_mut_slice().iter_mut() {
+                self.on_item(slot, item)?;
+            }
+        }
+        Ok(())
     }
 
     /// Changes the items of the lists of a value.
     fn on_lists(self, slot: Slot<'_>, value: &mut Expr) -> Result<(), Memory>
         ensures { OnOk result (value.new ≡ on_lists (map (item_changed_by self.entry slot.entry.current.now slot.entry.attribute.now)) value.old) }
     {
-        match value {
-            Expr::Form(form) if form.kind == Kind::Sum => {
-                for x in form.parts.as_mut_slice().iter_mut() {
-                    self.on_list(slot, x)?;
-                }
-                Ok(())
-            }
-            _ => self.on_list(slot, value),
+        if !has_kind(Kind::Sum, value) {
+            return self.on_list(slot, value);
         }
+        if let Expr::Form(form) = value {
+            for x in form.parts.as_mut_slice().iter_mut() {
+                self.on_list(slot, x)?;
+            }
+        }
+        Ok(())
     }
 
     /// Changes the value of a named argument, and the items of its lists; any other argument stays.
     fn on_argument(self, slot: Slot<'_>, x: &mut Expr) -> Result<(), Memory>
         ensures { OnOk result (x.new ≡ on_value (value_changed_by self.entry slot.entry.current.now slot.entry.attribute.now) x.old) }
     {
-        match x {
-            Expr::Form(form) if form.kind == Kind::Named => {
-                if let [_, _, value, ..] = form.parts.as_mut_slice() {
-                    self.on_item(slot, value)?;
-                    self.on_lists(slot, value)?;
-                }
-                Ok(())
-            }
-            _ => Ok(()),
+        if !has_kind(Kind::Named, x) {
+            return Ok(());
         }
+        if let Expr::Form(form) = x {
+            if let [_, _, value, ..] = form.parts.as_mut_slice() {
+                self.on_item(slot, value)?;
+                self.on_lists(slot, value)?;
+            }
+        }
+        Ok(())
     }
 
     /// Changes an attribute that `*` means; any other argument stays.

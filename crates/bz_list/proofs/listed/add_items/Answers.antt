@@ -18,4 +18,4 @@ returns-clause-ok c =
     added_found name added c.args.arguments value own
     ∙ (if_false _ (Err NotAList) _ (sym c.if-is_refused.ensures)
     ∙ ap Ok (sym (c.set_value.ensures
-    ∙ (ap (λ (x : Expr). with_value name x c.take_value.new.arguments) (c.in_ok-value.ensures added (c.in_ok-more.ensures ∙ ap added c.operands_of.ensures)) ∙ c.in-Some.ensures.place _))))
+    ∙ (ap (λ (x : Expr). with_value name x c.take_value.new.arguments) (c.in_ok-value.ensures added (c.in-Ok.ensures ∙ ap added c.operands_of.ensures)) ∙ c.in-Some.ensures.place _))))
