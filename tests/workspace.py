@@ -302,12 +302,28 @@ def refuses_within(w, command, text, refusal, addresses=REFUSED_WITHIN):
 
 
 def copies_of_a_comment_past_the_limit(w):
-    """They are counted and not built: 4.5 GB of them are refused within 1 GB. A rule that refuses comes first, also behind many that don't."""
+    """They are made one by one: 4.5 GB of them are refused within 1 GB. A rule that refuses comes first, also behind many that don't."""
     rules = b"".join(b'f(name = "r%06d", k = [])\n' % number for number in range(75_000))
     long = "c" * 60_000
     refuses_within(w, f"comment {long}", rules, b"TooLarge (21)")
     refuses_within(w, f"comment k {long}", rules, b"TooLarge (21)")
     refuses_within(w, f"comment k {long}", rules + b'f(name = "z")\n', b"NoAttribute (42)")
+    return not w.wrong
+
+
+def words_past_the_limit_in_each_rule(w):
+    """So are those of other commands: 1.2 GB of words, 27 million words, and a value that is copied, are refused within 1 GB. A rule
+    that refuses comes first, also behind those that are past the limit."""
+    rules = [b'f(name = "r%05d", tags = ["a"], k = {})\n' % number for number in range(20_000)]
+    all_rules = b"".join(rules)
+    long = "c" * 60_000
+    for command in (f"set tags {long}", f"add tags {long}", f"replace tags a {long}", f"set_if_absent deps {long}", f"dict_add k key:{long}"):
+        refuses_within(w, command, all_rules, b"TooLarge (21)")
+    words = " ".join(f"c{number:05d}" for number in range(9_000))
+    refuses_within(w, f"set tags {words}", b"".join(rules[:3_000]), b"TooLarge (21)")
+    first = b'f(name = "first", deps = [%s])\n' % b", ".join(b'"c%05d"' % number for number in range(7_000))
+    refuses_within(w, "copy deps first", first + all_rules, b"TooLarge (21)")
+    refuses_within(w, f"add tags {long}", all_rules + b'f(name = "z", tags = 1)\n', b"NotAList (44)")
     return not w.wrong
 
 
@@ -369,8 +385,8 @@ FUNCTIONS = [
     a_hundred_lines, an_unchanged_file_is_not_written, permission_bits_stay, a_closed_folder_is_told, an_unreadable_file_is_told,
     a_folder_for_the_first_name_is_told, a_folder_for_the_second_name_is_told, a_link_becomes_a_file, a_left_file_is_written_over,
     a_file_by_a_second_path_keeps_the_first_edit, a_refused_text_is_told, a_usage_fault_leaves_all, copies_of_a_comment_past_the_limit,
-    a_match_that_grows_past_the_limit, thousands_of_items_added_to_one_list, thousands_of_rules_named_by_their_lines, thousands_of_files_loaded,
-    thousands_of_lines_printed_of_a_short_file,
+    words_past_the_limit_in_each_rule, a_match_that_grows_past_the_limit, thousands_of_items_added_to_one_list,
+    thousands_of_rules_named_by_their_lines, thousands_of_files_loaded, thousands_of_lines_printed_of_a_short_file,
 ]  # fmt: skip
 
 # Each scene by its name; each has a workspace of its own.

@@ -27,7 +27,7 @@ use Rattle.bz_rule.proofs.ProperArguments.{attribute_value}
 use Rattle.bz_rule.proofs.ProperItems.{IsValue}
 use Rattle.bz_rule.proofs.ProperRules.{RuleItem, rule_item, on_statement}
 use Rattle.bz_attribute.specs.Made.{function_of, rule_made}
-use Rattle.bz_command.specs.Effect.{is_rule, meant, may_mean_none, printed_rules, kept, lacks_rules, on_statement as statement_with, NewItem, with_arguments, with_function, made_of, on_rule, on_arguments, with_item_first, on_meant, unmarked, new_rule_place, rule_arguments, with_rule, on_rules, effect, source}
+use Rattle.bz_command.specs.Effect.{is_rule, meant, may_mean_none, printed_rules, kept, lacks_rules, on_statement as statement_with, NewItem, with_arguments, with_function, made_of, on_rule, on_arguments, with_item_first, on_meant, unmarked, new_rule_place, rule_arguments, with_rule, on_one, on_each, on_rules, effect, source, source_of}
 use Rattle.bz_attribute.specs.Attributes.{Arguments}
 use Rattle.bz_change.specs.Changes.{set, set_if_absent, remove, rename, copy, copy_no_overwrite}
 use Rattle.bz_list.specs.Changes.{add, remove_values, replace, substitute, move}
@@ -48,10 +48,10 @@ use Rattle.bz_change.proofs.ProperCommands.{set_keeps, set_if_absent_keeps, remo
 use Rattle.bz_list.proofs.ProperCommands.{add_keeps, remove_values_keeps, replace_keeps, substitute_keeps, move_keeps}
 use Rattle.bz_attribute.proofs.ProperMade.{made_rule, kind_function}
 
-abbrev AreItems : List Item → Type 0
+abbrev pub AreItems : List Item → Type 0
 AreItems items = AllByRecursion IsProperItem items
 
-abbrev MadeItem : NewItem → Type 0
+abbrev pub MadeItem : NewItem → Type 0
 MadeItem result = IfOk result IsProperItem
 
 abbrev MadeItems : Result (List Item) Refusal → Type 0
@@ -97,7 +97,7 @@ statement_changed change f (i.Stmt x) h = f x h
 -- ---- the items of the file
 
 -- a change that keeps items proper
-abbrev KeepsItems : (Item → NewItem) → Type 0
+abbrev pub KeepsItems : (Item → NewItem) → Type 0
 KeepsItems change = (item : Item) → IsProperItem item → MadeItem (change item)
 
 both_made : (first : NewItem) (rest : Result (List Item) Refusal) → MadeItem first → MadeItems rest → MadeItems (with_item_first first rest)
@@ -140,43 +140,56 @@ source_value name rule (item ∷ items) h =
 
 -- ---- all commands
 
-module _ (current : Bytes) (marks : List Bool) (items : List Item) (h : AreItems items) where
-  by_arguments : (change : List Expr → Arguments) → Keeps change → MadeItems (on_meant (on_arguments change) marks items)
-  by_arguments change f = meant_changed (on_arguments change) (arguments_changed change f) marks items h
+module _ (current : Bytes) (items : List Item) (h : AreItems items) where
+  unchanged : KeepsItems (on_arguments (λ arguments. Ok arguments))
+  unchanged = arguments_changed (λ arguments. Ok arguments) (λ xs p. p)
 
-  -- a change of the comments of a rule itself
-  by_statement : (change : Expr → Expr) → ((x : Expr) → IsProperItem (i.Stmt x) → IsProperItem (i.Stmt (change x))) → MadeItems (on_meant (λ item. Ok (statement_with change item)) marks items)
-  by_statement change f = meant_changed (λ item. Ok (statement_with change item)) (statement_changed change f) marks items h
+  -- what a command makes of a rule that it is meant for
+  pub each_keeps : (operation : Operation) → IsProperCommand operation → KeepsItems (on_one operation current (source_of operation items))
+  each_keeps (w.Rule (wr.New kind name place)) p = unchanged
+  each_keeps (w.Rule wr.Delete) p = unchanged
+  each_keeps (w.Rule (wr.SetKind kind)) p = kind_set kind p
+  each_keeps (w.Attribute (wa.Set name words)) p = arguments_changed (set current name words) (set_keeps current name words p.0 p.1.1)
+  each_keeps (w.Attribute (wa.SetIfAbsent name words)) p = arguments_changed (set_if_absent current name words) (set_if_absent_keeps current name words p.0 p.1.1)
+  each_keeps (w.Attribute (wa.Remove attributes)) p = arguments_changed (remove attributes) (remove_keeps attributes)
+  each_keeps (w.Attribute (wa.Rename from to)) p = arguments_changed (rename from to) (rename_keeps from to p.1)
+  each_keeps (w.Attribute (wa.Copy name rule)) p = arguments_changed (copy name (source name rule items)) (copy_keeps name (source name rule items) p.0 (source_value name rule items h))
+  each_keeps (w.Attribute (wa.CopyNoOverwrite name rule)) p =
+      arguments_changed (copy_no_overwrite name (source name rule items)) (copy_no_overwrite_keeps name (source name rule items) p.0 (source_value name rule items h))
+  each_keeps (w.Value (wv.Add name words)) p = arguments_changed (add current name words) (add_keeps current name words p.0 p.1.1)
+  each_keeps (w.Value (wv.Remove name words)) p = arguments_changed (remove_values current name words) (remove_values_keeps current name words)
+  each_keeps (w.Value (wv.Replace attributes old new)) p = arguments_changed (replace current attributes old new) (replace_keeps current attributes old new p.2)
+  each_keeps (w.Value (wv.Substitute attributes pattern template)) p =
+      arguments_changed (substitute current attributes pattern template) (substitute_keeps current attributes pattern template (substituted_utf8 pattern template))
+  each_keeps (w.Value (wv.Move from to values)) p = arguments_changed (move current from to values) (move_keeps current from to values p.1)
+  each_keeps (w.Dict (wd.Add name entries)) p = arguments_changed (dict_add current name entries) (dict_add_keeps current name entries p.0 p.1)
+  each_keeps (w.Dict (wd.Set name entries)) p = arguments_changed (dict_set current name entries) (dict_set_keeps current name entries p.0 p.1)
+  each_keeps (w.Dict (wd.Remove name keys)) p = arguments_changed (dict_remove name keys) (dict_remove_keeps name keys)
+  each_keeps (w.Load operation) p = unchanged
+  each_keeps (w.Comment (wc.Add r.Rule text)) p = statement_changed (with_comment text) (statement_keeps text p.1 p.2)
+  each_keeps (w.Comment (wc.Add (r.Attribute name) text)) p = arguments_changed (comment current (r.Attribute name) text) (comment_keeps current (r.Attribute name) text p.0 p.1 p.2)
+  each_keeps (w.Comment (wc.Add (r.Item name word) text)) p = arguments_changed (comment current (r.Item name word) text) (comment_keeps current (r.Item name word) text p.0 p.1 p.2)
+  each_keeps (w.Comment (wc.Print host)) p = unchanged
+  each_keeps (w.Comment (wc.Remove r.Rule)) p = statement_changed without_comments remove_statement_keeps
+  each_keeps (w.Comment (wc.Remove (r.Attribute name))) p = arguments_changed (remove_comment current (r.Attribute name)) (remove_comment_keeps current (r.Attribute name) p)
+  each_keeps (w.Comment (wc.Remove (r.Item name word))) p = arguments_changed (remove_comment current (r.Item name word)) (remove_comment_keeps current (r.Item name word) p)
+  each_keeps (w.Print fields) p = unchanged
 
-  rules_made : (operation : Operation) → IsProperCommand operation → MadeItems (on_rules operation current marks items)
-  rules_made (w.Rule (wr.New kind name place)) p = with_rule_made kind name place items (made_rule kind name p.0 p.1) h
-  rules_made (w.Rule wr.Delete) p = unmarked_items marks items h
-  rules_made (w.Rule (wr.SetKind kind)) p = meant_changed (λ item. Ok (if is_rule item then with_function (function_of kind) item else item)) (kind_set kind p) marks items h
-  rules_made (w.Attribute (wa.Set name words)) p = by_arguments (set current name words) (set_keeps current name words p.0 p.1.1)
-  rules_made (w.Attribute (wa.SetIfAbsent name words)) p = by_arguments (set_if_absent current name words) (set_if_absent_keeps current name words p.0 p.1.1)
-  rules_made (w.Attribute (wa.Remove attributes)) p = by_arguments (remove attributes) (remove_keeps attributes)
-  rules_made (w.Attribute (wa.Rename from to)) p = by_arguments (rename from to) (rename_keeps from to p.1)
-  rules_made (w.Attribute (wa.Copy name rule)) p = by_arguments (copy name (source name rule items)) (copy_keeps name (source name rule items) p.0 (source_value name rule items h))
-  rules_made (w.Attribute (wa.CopyNoOverwrite name rule)) p = by_arguments (copy_no_overwrite name (source name rule items)) (copy_no_overwrite_keeps name (source name rule items) p.0 (source_value name rule items h))
-  rules_made (w.Value (wv.Add name words)) p = by_arguments (add current name words) (add_keeps current name words p.0 p.1.1)
-  rules_made (w.Value (wv.Remove name words)) p = by_arguments (remove_values current name words) (remove_values_keeps current name words)
-  rules_made (w.Value (wv.Replace attributes old new)) p = by_arguments (replace current attributes old new) (replace_keeps current attributes old new p.2)
-  rules_made (w.Value (wv.Substitute attributes pattern template)) p =
-      by_arguments (substitute current attributes pattern template) (substitute_keeps current attributes pattern template (substituted_utf8 pattern template))
-  rules_made (w.Value (wv.Move from to values)) p = by_arguments (move current from to values) (move_keeps current from to values p.1)
-  rules_made (w.Dict (wd.Add name entries)) p = by_arguments (dict_add current name entries) (dict_add_keeps current name entries p.0 p.1)
-  rules_made (w.Dict (wd.Set name entries)) p = by_arguments (dict_set current name entries) (dict_set_keeps current name entries p.0 p.1)
-  rules_made (w.Dict (wd.Remove name keys)) p = by_arguments (dict_remove name keys) (dict_remove_keeps name keys)
-  rules_made (w.Load (wl.New path symbols)) p = new_load_keeps path symbols items p.0 p.1 h
-  rules_made (w.Load (wl.Fix fixes)) p = fix_keeps fixes items h
-  rules_made (w.Comment (wc.Add r.Rule text)) p = by_statement (with_comment text) (statement_keeps text p.1 p.2)
-  rules_made (w.Comment (wc.Add (r.Attribute name) text)) p = by_arguments (comment current (r.Attribute name) text) (comment_keeps current (r.Attribute name) text p.0 p.1 p.2)
-  rules_made (w.Comment (wc.Add (r.Item name word) text)) p = by_arguments (comment current (r.Item name word) text) (comment_keeps current (r.Item name word) text p.0 p.1 p.2)
-  rules_made (w.Comment (wc.Print host)) p = by_arguments (λ arguments. Ok arguments) (λ xs p. p)
-  rules_made (w.Comment (wc.Remove r.Rule)) p = by_statement without_comments remove_statement_keeps
-  rules_made (w.Comment (wc.Remove (r.Attribute name))) p = by_arguments (remove_comment current (r.Attribute name)) (remove_comment_keeps current (r.Attribute name) p)
-  rules_made (w.Comment (wc.Remove (r.Item name word))) p = by_arguments (remove_comment current (r.Item name word)) (remove_comment_keeps current (r.Item name word) p)
-  rules_made (w.Print fields) p = h
+  module _ (marks : List Bool) where
+    by_each : (operation : Operation) → IsProperCommand operation → MadeItems (on_each operation current marks items)
+    by_each operation p = meant_changed (on_one operation current (source_of operation items)) (each_keeps operation p) marks items h
+
+    rules_made : (operation : Operation) → IsProperCommand operation → MadeItems (on_rules operation current marks items)
+    rules_made (w.Rule (wr.New kind name place)) p = with_rule_made kind name place items (made_rule kind name p.0 p.1) h
+    rules_made (w.Rule wr.Delete) p = unmarked_items marks items h
+    rules_made (w.Rule (wr.SetKind kind)) p = by_each (w.Rule (wr.SetKind kind)) p
+    rules_made (w.Attribute operation) p = by_each (w.Attribute operation) p
+    rules_made (w.Value operation) p = by_each (w.Value operation) p
+    rules_made (w.Dict operation) p = by_each (w.Dict operation) p
+    rules_made (w.Load (wl.New path symbols)) p = new_load_keeps path symbols items p.0 p.1 h
+    rules_made (w.Load (wl.Fix fixes)) p = fix_keeps fixes items h
+    rules_made (w.Comment operation) p = by_each (w.Comment operation) p
+    rules_made (w.Print fields) p = h
 
 -- What holds where the items stay, where a command is refused, and of what it makes of the rules that are meant, holds of its effect.
 pub effect_by : (P : Result (List Item) Refusal → Type 0) (operation : Operation) (target : Target) (current : Bytes) (lines : List ℕ) (items : List Item)
@@ -196,4 +209,4 @@ pub effects_stay_proper : EffectsStayProper
 effects_stay_proper operation target current lines items new p h e =
     let proper : AreItems items = recursion_from_All IsProperItem items h in
     All-from_recursion IsProperItem new
-    (subst MadeItems e (effect_by MadeItems operation target current lines items proper (λ refusal. tt) (rules_made current (meant target.which lines items) items proper operation p)))
+    (subst MadeItems e (effect_by MadeItems operation target current lines items proper (λ refusal. tt) (rules_made current items proper (meant target.which lines items) operation p)))

@@ -1,6 +1,5 @@
 pub mod Effect
 pub mod Laws
-pub mod Overfull
 pub mod Prints
 pub mod Renewed
 pub mod Table

@@ -1,113 +1,164 @@
-//! Whether what a command makes is past the limit of a text by the comments alone that it puts in, known before it is made.
-ghost use Rattle.std.specs.Prelude.{◌≡◌, ◌⊎◌, ◌<◌, ◌*◌, Err, IfErr, IfOk, IsOk, IsTrue, None, length, true};
-ghost use Rattle.bz_grammar.specs.Spell.{limit};
-ghost use Rattle.bz_items.specs.Characters.{Bytes};
-ghost use Rattle.bz_comment.specs.Hosts.{comment_made};
-ghost use Rattle.bz_command.specs.Effect.{effect, on_meant, meant};
-ghost use Rattle.bz_command.specs.Overfull.{Overfills, commented, marked_rules};
+//! What a command makes of rules one by one, so that it can be looked at before all of them are made: where it can be past the limit of a text.
+ghost use Rattle.std.specs.Prelude.{◌≡◌, ◌⊎◌, Err, Ok, IfErr, IfOk, IfSome, length};
+ghost use Rattle.std.specs.Option.{option_copied};
+ghost use Rattle.bz_command.specs.Effect.{effect, on_each, on_one, source_of};
+ghost use Rattle.bz_command.specs.private.Looks.{changes_each};
 
-use crate::laws::effects_stay_proper;
-use crate::targets::{arguments_of, is_any, is_rule, meant};
-use bz_command_syntax::{Command, CommentOperation, Host, Operation};
-use bz_comment::{comment_made, find_host};
+use crate::ruling::{Work, on_one, source_of};
+use crate::targets::{is_any, meant};
+use bz_command_syntax::{
+    AttributeOperation, Command, CommentOperation, DictOperation, Entry, Operation, RuleOperation,
+    ValueOperation,
+};
 use bz_grammar::LENGTH_LIMIT;
-use bz_items::Memory;
-use bz_label::Target;
-use bz_value::{File, Item, Refusal};
+use bz_items::{Memory, Text};
+use bz_layout::{Draft, push_expr};
+use bz_value::{Expr, File, Item, Refusal};
 use std::alloc::Global;
 
-/// Whether this many copies of a text of this length are past the limit.
-fn are_past(count: usize, long: usize) -> bool
-    ensures { IsTrue result → limit < count * long }
-{
-    long > 0 && LENGTH_LIMIT / long < count
-}
+/// What a word of a command takes beside its bytes, where it is on a line of its own: a margin, quotation marks, a comma.
+const BESIDE_A_WORD: usize = 16;
 
-/// How many of the items that are marked are rules.
-fn marked_rules(marks: &[bool], items: &[Item]) -> usize
-    requires { length marks.now ≡ length items.now }
-    ensures { result ≡ marked_rules marks.now items.now }
-{
-    let mut count = 0;
-    for (mark, item) in marks.iter().zip(items) {
-        if *mark && is_rule(item) {
-            count += 1;
-        }
-    }
-    count
-}
+/// How many texts' limits a bound may be past that is far above what is made of most files.
+const FAR_PAST: usize = 8;
 
-/// Whether a comment can be put on a host in an item. The errors: those of putting it there, but for memory.
-fn find_in(current: &[u8], host: &Host, item: &Item) -> Result<(), Refusal>
-    ensures ok { IsOk result → (text : Bytes) → IsOk (commented current.now host.now text item.now) }
-    ensures err { IfErr result (λ refusal. (text : Bytes) → commented current.now host.now text item.now ≡ Err refusal) }
+/// Whether an operation changes the rules that it is meant for one by one.
+fn changes_each(operation: &Operation) -> bool
+    ensures { result ≡ changes_each operation.now }
 {
-    match host {
-        Host::Rule => Ok(()),
-        Host::Attribute(_) | Host::Item { .. } => {
-            if !is_rule(item) {
-                return Ok(());
-            }
-            find_host(current, host, arguments_of(item))
-        }
+    match operation {
+        Operation::Rule(operation) => matches!(operation, RuleOperation::SetKind { .. }),
+        Operation::Comment(operation) => !matches!(operation, CommentOperation::Print { .. }),
+        Operation::Attribute(_) | Operation::Value(_) | Operation::Dict(_) => true,
+        Operation::Load(_) | Operation::Print { .. } => false,
     }
 }
 
-/// Whether it can in each of the items that are marked. The errors: those of the first in which it can't.
-fn find_in_all(current: &[u8], host: &Host, marks: &[bool], items: &[Item]) -> Result<(), Refusal>
-    requires { length marks.now ≡ length items.now }
-    ensures ok { IsOk result → (text : Bytes) → IsOk (on_meant (commented current.now host.now text) marks.now items.now) }
-    ensures err { IfErr result (λ refusal. (text : Bytes) → on_meant (commented current.now host.now text) marks.now items.now ≡ Err refusal) }
+/// The value that a command copies, from a file as it is.
+pub fn copied<'a>(command: &Command, file: &'a File) -> Option<&'a Expr>
+    ensures { option_copied result ≡ source_of command.now file.now }
 {
-    for (mark, item) in marks.iter().zip(items) {
-        if *mark {
-            find_in(current, host, item)?;
+    source_of(&command.operation, file.items.as_slice())
+}
+
+/// What a command that changes rules one by one makes of an item that it is meant for, where `found` of the work is the value that it
+/// copies. Errors: the one with which it is refused; `Memory`: a growth was refused.
+pub fn changed_copy(work: Work<'_, '_>, item: &Item) -> Result<Item, Refusal>
+    ensures ok { IfOk result (λ new. on_one work.entry.command.now work.entry.current.now (option_copied work.entry.found) item.now ≡ Ok new) }
+    ensures err { IfErr result (λ refusal. (on_one work.entry.command.now work.entry.current.now (option_copied work.entry.found) item.now ≡ Err refusal) ⊎ (refusal ≡ Refusal.Memory)) }
+{
+    let command = work.command;
+    let mut new = item.copy()?;
+    match on_one(work, &command.operation, &mut new) {
+        Ok(()) => Ok(new),
+        Err(refusal) => {
+            drop(new);
+            Err(refusal)
         }
     }
-    Ok(())
 }
 
-/// How long the comment is that a text becomes.
-fn comment_len(alloc: Global, text: &[u8]) -> Result<usize, Memory>
-    ensures { IfOk result (λ long. long ≡ length (comment_made text.now)) }
-{
-    let comment = comment_made(alloc, text)?;
-    let long = comment.len();
-    drop(comment);
-    Ok(long)
+/// How many bytes a word takes.
+fn word_size(word: &Text) -> usize {
+    word.len().saturating_add(BESIDE_A_WORD)
 }
 
-/// Whether what a command makes of a file is past the limit of a text by the comments alone that it puts in: then it need not be
-/// made. `false` says nothing. `current` is the path of the file's package, `lines` the lines on which its statements begin, from 1.
-/// Errors: the effect's refusal; `Memory`: a growth was refused.
-pub fn overfills(
-    alloc: Global,
-    command: &Command,
-    target: &Target,
-    current: &[u8],
-    lines: &[u32],
-    file: &File,
-) -> Result<bool, Refusal>
-    ensures ok { IfOk result (λ over. IsTrue over → Overfills (effect command.now target.now current.now lines.now file.now)) }
-    ensures err { IfErr result (λ refusal. (effect command.now target.now current.now lines.now file.now ≡ Err refusal) ⊎ (refusal ≡ Refusal.Memory)) }
-{
-    effects_stay_proper();
-    let items = file.items.as_slice();
-    let Operation::Comment(CommentOperation::Add { host, text }) = &command.operation else {
-        return Ok(false);
+fn words_size(words: &[Text]) -> usize {
+    let mut size: usize = 0;
+    for word in words {
+        size = size.saturating_add(word_size(word));
+    }
+    size
+}
+
+fn entries_size(entries: &[Entry]) -> usize {
+    let mut size: usize = 0;
+    for entry in entries {
+        size = size.saturating_add(word_size(&entry.key));
+        size = size.saturating_add(word_size(&entry.value));
+    }
+    size
+}
+
+/// How many bytes a value takes, where that is not past the limit of a text; no value takes none.
+fn value_size(alloc: Global, value: Option<&Expr>) -> Result<usize, Memory> {
+    let Some(value) = value else {
+        return Ok(0);
     };
-    // If each item had the comment the copies would not be past the limit.
-    if !are_past(items.len(), text.len().saturating_add(2)) {
-        return Ok(false);
+    let mut out = Draft::new(Vec::new(alloc), LENGTH_LIMIT);
+    push_expr(&mut out, value, 0)?;
+    match out.into_bytes() {
+        Some(text) => Ok(text.len()),
+        None => Ok(LENGTH_LIMIT),
     }
-    let marks = meant(alloc, &target.which, lines, None, items)?;
-    let marked = marks.as_slice();
-    let long = comment_len(alloc, text.as_slice())?;
-    if !is_any(marked) || !are_past(marked_rules(marked, items), long) {
-        return Ok(false);
+}
+
+/// How many bytes the words of an operation and the value that it copies take in a rule, where they are put in there once.
+fn size_in_each(work: Work<'_, '_>, operation: &Operation) -> Result<usize, Memory> {
+    let (name, size) = match operation {
+        Operation::Attribute(
+            AttributeOperation::Copy { attribute, .. }
+            | AttributeOperation::CopyNoOverwrite { attribute, .. },
+        ) => (attribute, value_size(work.alloc, work.found)?),
+        Operation::Attribute(
+            AttributeOperation::Set { attribute, values }
+            | AttributeOperation::SetIfAbsent { attribute, values },
+        )
+        | Operation::Value(ValueOperation::Add { attribute, values }) => {
+            (attribute, words_size(values.as_slice()))
+        }
+        Operation::Dict(
+            DictOperation::Add { attribute, entries } | DictOperation::Set { attribute, entries },
+        ) => (attribute, entries_size(entries.as_slice())),
+        Operation::Attribute(AttributeOperation::Rename { to, .. })
+        | Operation::Value(ValueOperation::Move { to, .. }) => (to, 0),
+        Operation::Rule(RuleOperation::SetKind { kind }) => (kind, 0),
+        Operation::Comment(CommentOperation::Add { text, .. }) => (text, 0),
+        _ => return Ok(0),
+    };
+    Ok(size.saturating_add(word_size(name)))
+}
+
+/// Whether an operation might make more of a file of this many items and bytes than a text can have, by its words alone: so that of
+/// most commands no rule is changed twice. Words that are put into a rule once are counted for each item. What is put in for each
+/// match in a rule is counted for each byte, of which few files have that many matches.
+fn might_be_past(
+    work: Work<'_, '_>,
+    operation: &Operation,
+    count: usize,
+    len: usize,
+) -> Result<bool, Memory> {
+    match operation {
+        Operation::Value(
+            ValueOperation::Replace { new, .. } | ValueOperation::Substitute { template: new, .. },
+        ) => Ok(new.len().saturating_mul(len) / FAR_PAST > LENGTH_LIMIT),
+        _ => {
+            let size = size_in_each(work, operation)?;
+            Ok(size.saturating_mul(count) > LENGTH_LIMIT)
+        }
     }
-    match find_in_all(current, host, marked, items) {
-        Ok(()) => Ok(true),
-        Err(refusal) => Err(refusal),
+}
+
+/// A mark for each item of a file, which has about this many bytes: whether a command that changes rules one by one is meant for it.
+/// `None` where it is no such command, where it is meant for none, and where what it makes can hardly be past the limit of a text; so that
+/// says nothing. The error: a growth was refused.
+pub fn marks_if_large(
+    work: Work<'_, '_>,
+    file: &File,
+    len: usize,
+) -> Result<Option<Vec<bool>>, Memory>
+    ensures each { IfOk result (λ made. IfSome made (λ marks. effect work.entry.command.now work.entry.target.now work.entry.current.now work.entry.lines.now file.now ≡ on_each work.entry.command.now work.entry.current.now marks.items file.now)) }
+    ensures count { IfOk result (λ made. IfSome made (λ marks. length marks.items ≡ length file.now)) }
+{
+    let command = work.command;
+    let operation = &command.operation;
+    let items = file.items.as_slice();
+    if !changes_each(operation) || !might_be_past(work, operation, items.len(), len)? {
+        return Ok(None);
     }
+    let marks = meant(work.alloc, &work.target.which, work.lines, None, items)?;
+    if !is_any(marks.as_slice()) {
+        return Ok(None);
+    }
+    Ok(Some(marks))
 }

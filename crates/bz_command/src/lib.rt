@@ -11,11 +11,12 @@ mod targets;
 
 pub use bz_command_syntax::{Command, CommandFault};
 pub use bz_value::Refusal;
-pub use filling::overfills;
+pub use filling::{changed_copy, copied, marks_if_large};
 pub use laws::{
     commands_are_listed, comments_stay, effects_stay_proper, lines_matter, worked_command_effects,
     worked_effects,
 };
 pub use outcome::{Extent, Outcome, Ran, Spliced};
 pub use printing::looks_at_lines;
+pub use ruling::Work;
 pub use running::{run, run_in, run_named};

@@ -160,7 +160,11 @@ fn change_statement(alloc: Global, change: Change<'_>, item: &mut Item) -> Resul
 }
 
 /// What a command makes of a rule that it is meant for.
-fn on_one(work: Work<'_, '_>, operation: &Operation, item: &mut Item) -> Result<(), Refusal>
+pub(crate) fn on_one(
+    work: Work<'_, '_>,
+    operation: &Operation,
+    item: &mut Item,
+) -> Result<(), Refusal>
     ensures ok { OnOk result (made_by operation.now work.entry item.old ≡ Ok item.new) }
     ensures err { IfErr result (λ refusal. (made_by operation.now work.entry item.old ≡ Err refusal) ⊎ (refusal ≡ Refusal.Memory)) }
 {
@@ -261,18 +265,25 @@ fn source<'a>(name: &[u8], rule: &[u8], items: &'a [Item]) -> Option<&'a Expr>
     None
 }
 
-/// A copy of the value that is copied, as it is before anything changes.
-fn copied_source(operation: &Operation, items: &[Item]) -> Result<Option<Expr>, Memory>
-    ensures { IfOk result (λ found. found ≡ source_of operation.now items.now) }
+/// The value that is copied, from the items as they are.
+pub(crate) fn source_of<'a>(operation: &Operation, items: &'a [Item]) -> Option<&'a Expr>
+    ensures { option_copied result ≡ source_of operation.now items.now }
 {
     let Operation::Attribute(
         AttributeOperation::Copy { attribute, rule }
         | AttributeOperation::CopyNoOverwrite { attribute, rule },
     ) = operation
     else {
-        return Ok(None);
+        return None;
     };
-    match source(attribute.as_slice(), rule.as_slice(), items) {
+    source(attribute.as_slice(), rule.as_slice(), items)
+}
+
+/// A copy of it, as it is before anything changes.
+fn copied_source(operation: &Operation, items: &[Item]) -> Result<Option<Expr>, Memory>
+    ensures { IfOk result (λ found. found ≡ source_of operation.now items.now) }
+{
+    match source_of(operation, items) {
         Some(value) => Ok(Some(value.copy()?)),
         None => Ok(None),
     }

@@ -3,6 +3,8 @@ pub mod Alike
 pub mod Alone
 pub mod Following
 pub mod Formatting
+pub mod GrownItems
+pub mod HeldAlone
 pub mod Hashes
 pub mod Kept
 pub mod Layouts

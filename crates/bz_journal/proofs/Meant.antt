@@ -17,7 +17,7 @@ use Rattle.bz_value.specs.declared.refusal.Refusal.TheVariants.{Memory}
 use Rattle.bz_journal.specs.Meaning.{Means, printed_answer, refuses, written}
 use Rattle.bz_journal.specs.private.Doing.{RunsIn}
 use Rattle.bz_journal.proofs.Edited.{means_made}
-use Rattle.bz_journal.proofs.Overfull.{OverfullIsRefused, means_not}
+use Rattle.bz_journal.proofs.Overfull.{means_not}
 
 -- of the same effect and the same text that is printed
 runs_same : (made other : Result (List Item) Refusal) (out given : Result Bytes Refusal) (before : List Item) (result : Result Ran Refusal) (after : List Item)
@@ -41,5 +41,5 @@ module _ (operation : Operation) (target : Target) (current : Bytes) (tree : Nod
       let own = on_tree (Ok ran) runs in
       means_made operation target current tree value reads seen new ran.printed answer own.ok own.printed answer_is (λ same. false≢true (sym other ∙ own.same.1 same))
 
-  pub meant_not : OverfullIsRefused → (refusal : Refusal) → Runs (Err refusal) → Means operation target current (spell_node tree) (refuses refusal) ⊎ (refusal ≡ Memory)
-  meant_not refused refusal runs = means_not refused operation target current tree value refusal reads seen (let own = on_tree (Err refusal) runs in own.err)
+  pub meant_not : (refusal : Refusal) → Runs (Err refusal) → Means operation target current (spell_node tree) (refuses refusal) ⊎ (refusal ≡ Memory)
+  meant_not refusal runs = means_not operation target current tree value refusal reads seen (let own = on_tree (Err refusal) runs in own.err)

@@ -1,7 +1,6 @@
 -- What the clauses of this crate speak of, from its own definitions and from those of the crates below.
 pub use Rattle.bz_value.specs.declared.refusal.Refusal.{Refusal}
 pub use Rattle.bz_command.specs.Effect.{effect, printed}
-pub use Rattle.bz_command.specs.Overfull.{Overfills}
 pub use Rattle.bz_command.specs.Renewed.{IsOfExtent}
 pub use Rattle.bz_edit.specs.declared.edit.Edit.{Edit}
 pub use Rattle.bz_files.specs.Faults.{Rises}
@@ -10,6 +9,7 @@ pub use Rattle.bz_build_format.specs.Fixed.{IsFormatted}
 pub use Rattle.bz_items.specs.Characters.{Bytes}
 pub use Rattle.bz_journal.specs.Actions.{MakesText, action_in}
 pub use Rattle.bz_journal.specs.private.Alone.{text_or}
+pub use Rattle.bz_journal.specs.private.Filling.{Overfills}
 pub use Rattle.bz_journal.specs.private.Doing.{EndsAt, EndsKeeping, EndsOrNone, HasMade, IsReady, RunsIn}
 pub use Rattle.bz_journal.specs.Editing.{AreFirstDigests, IsBeside, WrittenIsLaidOut}
 pub use Rattle.bz_journal.specs.History.{Acts, Answer, History, IsFormat, IsKept, MakesOrWants, Runs, after_meaning, after_text, changed, most_steps, note_limit, opened, present, unchanged}

@@ -11,7 +11,7 @@ use crate::laws::written_is_laid_out;
 use crate::lines::Lines;
 use crate::meaning::{printed_answer, run_on_tree, value_of};
 use crate::moving::begins_after;
-use bz_build_format::{comments_fill, reads_back, written};
+use bz_build_format::{reads_back, written};
 use bz_command::{Extent, Spliced};
 use bz_command_syntax::Command;
 use bz_grammar::{LENGTH_LIMIT, Tree};
@@ -213,6 +213,15 @@ fn take_up_made(
     }
 }
 
+/// About how many bytes the present text has; a look at the whole of it where no bound is known.
+fn length_about(beside: &Beside, here: &Tree) -> usize {
+    if beside.written {
+        beside.length_bound
+    } else {
+        here.len()
+    }
+}
+
 /// Does a command with a note on the present text. At an error the course is as before. Errors: those of the command; `TooLarge` and
 /// `TooDeep` where the new text would be past a limit; `Full` at the most steps; `Memory`: a growth was refused.
 fn edit(
@@ -230,12 +239,14 @@ fn edit(
     let alloc = course.alloc();
     let here = course.present();
     reads_back(here);
-    comments_fill();
     look_up_lines(alloc, command, target, &mut beside.lookups, here)?;
     let mut file = value_of(alloc, beside.value.take(), here)?;
     let current = course.own_package().as_bytes();
     let lookups = &beside.lookups;
-    match run_on_tree(alloc, command, target, current, here, lookups, &mut file) {
+    let len = length_about(beside, here);
+    match run_on_tree(
+        alloc, command, target, current, here, len, lookups, &mut file,
+    ) {
         Ok(ran) => {
             let printed = printed_answer(command, ran.printed);
             if ran.same {

@@ -8,6 +8,7 @@ mod course;
 mod digest;
 mod digests;
 mod editor;
+mod filling;
 mod keeping;
 mod lasting;
 mod laws;

@@ -3,8 +3,9 @@ ghost use Rattle.std.specs.Prelude.{◌≡◌, ◌⊎◌, List, Ok, IfOk, IfErr,
 ghost use Rattle.bz_journal.specs.Clauses.{Bytes, Item, Means, Refusal, RunsIn, effect, gives, lines_of, printed, printed_answer, refuses, spell_node, text_or, view_of};
 
 use crate::answering::Lookups;
-use bz_build_format::{comments_fill, reads_back, written_text};
-use bz_command::{Ran, lines_matter, looks_at_lines, overfills, run_in};
+use crate::filling::overfills;
+use bz_build_format::{reads_back, written_text};
+use bz_command::{Ran, Work, lines_matter, looks_at_lines, run_in};
 use bz_command_syntax::Command;
 use bz_grammar::Tree;
 use bz_hosts::{into_view, view};
@@ -49,19 +50,28 @@ pub(crate) fn lines_for(
     Ok(Vec::new(alloc))
 }
 
-/// Runs a command on a value, in place, by the lines on which its statements begin. Errors: those of the command; `TooLarge` where what it
-/// makes is past the limit by the comments that it puts in, and isn't made.
+/// Runs a command on a value, in place, by the lines on which its statements begin; the value is that of a text of about `len` bytes.
+/// Errors: those of the command; `TooLarge` where what it makes is seen to be past the limit before it is made.
 fn run_by_lines(
     alloc: Global,
     command: &Command,
     target: &Target,
     current: &[u8],
     lines: &[u32],
+    len: usize,
     file: &mut File,
 ) -> Result<Ran, Refusal>
     ensures { RunsIn (effect command.now target.now current.now lines.now file.old) (printed command.now target.now current.now lines.now file.old) file.old result file.new }
 {
-    if overfills(alloc, command, target, current, lines, file)? {
+    let work = Work {
+        alloc,
+        command,
+        target,
+        current,
+        lines,
+        found: None,
+    };
+    if overfills(work, len, file)? {
         return Err(Refusal::TooLarge);
     }
     run_in(alloc, command, target, current, lines, file)
@@ -74,6 +84,7 @@ pub(crate) fn run_on_tree(
     target: &Target,
     current: &[u8],
     tree: &Tree,
+    len: usize,
     lookups: &Lookups,
     file: &mut File,
 ) -> Result<Ran, Refusal>
@@ -82,9 +93,9 @@ pub(crate) fn run_on_tree(
 {
     let Some(lines) = &lookups.lines else {
         let lines = lines_for(alloc, command, target, tree)?;
-        return run_by_lines(alloc, command, target, current, lines.as_slice(), file);
+        return run_by_lines(alloc, command, target, current, lines.as_slice(), len, file);
     };
-    run_by_lines(alloc, command, target, current, lines.as_slice(), file)
+    run_by_lines(alloc, command, target, current, lines.as_slice(), len, file)
 }
 
 /// What a command means on the text of a tree, which has this many bytes and is given up for its value: the text after it, none where the
@@ -101,10 +112,17 @@ pub(crate) fn meant(
     ensures err { IfErr result (λ refusal. Means command.now target.now current.now (spell_node tree) (refuses refusal) ⊎ (refusal ≡ Refusal.Memory)) }
 {
     reads_back(&tree);
-    comments_fill();
     let lines = lines_for(alloc, command, target, &tree)?;
     let mut file = into_view(alloc, tree)?;
-    match run_by_lines(alloc, command, target, current, lines.as_slice(), &mut file) {
+    match run_by_lines(
+        alloc,
+        command,
+        target,
+        current,
+        lines.as_slice(),
+        len,
+        &mut file,
+    ) {
         Ok(ran) => {
             let printed = printed_answer(command, ran.printed);
             if ran.same {

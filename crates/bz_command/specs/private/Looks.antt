@@ -1,6 +1,6 @@
 -- What the code does with a rule that a command is meant for: the lists of its call, exchanged for others; and what is known of a
 -- command before it changes anything.
-use Rattle.std.specs.Prelude.{List, [], ◌∷◌, if◌then◌else◌, ◌≡◌, Bool, Result, Ok, Option, Some, None, length}
+use Rattle.std.specs.Prelude.{List, [], ◌∷◌, if◌then◌else◌, ◌≡◌, Bool, true, false, Result, Ok, Option, Some, None, length}
 use Rattle.bz_grammar.specs.declared.kind.Kind.TheVariants as k
 use Rattle.bz_value.specs.declared.value.Expr.{Expr, Token, Form', items-the_row-Expr}
 use Rattle.bz_value.specs.declared.value.Item.{Item}
@@ -11,7 +11,10 @@ use Rattle.bz_command.specs.declared.ruling.CallPart.TheVariants as p
 use Rattle.std.specs.Option.{option_copied}
 use Rattle.bz_value.specs.declared.refusal.Refusal.{Refusal}
 use Rattle.bz_items.specs.Characters.{Bytes}
+use Rattle.bz_command_syntax.specs.declared.command.CommentOperation.TheVariants as wc
 use Rattle.bz_command_syntax.specs.declared.command.Operation.{Operation}
+use Rattle.bz_command_syntax.specs.declared.command.Operation.TheVariants as w
+use Rattle.bz_command_syntax.specs.declared.command.RuleOperation.TheVariants as wr
 use Rattle.bz_command.specs.declared.ruling.Work.{Work}
 use Rattle.bz_attribute.specs.Attributes.{Arguments}
 use Rattle.bz_command.specs.Effect.{NewItem, arguments_of, effect, on_one, on_rules, printed}
@@ -66,3 +69,13 @@ printed_for work = printed work.command.now work.target.now work.current.now wor
 abbrev pub IsLook : Work → List Item → List Bool → Option Bytes → Type 0
 IsLook work items marks (Some text) = (effect_by work items ≡ Ok items) × (printed_for work items ≡ Ok text)
 IsLook work items marks None = (length marks ≡ length items) × (effect_by work items ≡ on_rules work.command.now work.current.now marks items) × (printed_for work items ≡ Ok [])
+
+-- a command that changes the rules that it is meant for one by one
+abbrev pub changes_each : Operation → Bool
+changes_each (w.Rule (wr.SetKind kind)) = true
+changes_each (w.Attribute operation) = true
+changes_each (w.Value operation) = true
+changes_each (w.Dict operation) = true
+changes_each (w.Comment (wc.Add host text)) = true
+changes_each (w.Comment (wc.Remove host)) = true
+changes_each _ = false

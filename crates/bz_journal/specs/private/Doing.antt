@@ -4,7 +4,6 @@ use Rattle.bz_grammar.specs.declared.tree.Node.{Node}
 use Rattle.bz_value.specs.declared.value.Item.{Item}
 use Rattle.bz_value.specs.declared.refusal.Refusal.{Refusal}
 use Rattle.bz_value.specs.declared.refusal.Refusal.TheVariants.{Memory, TooLarge}
-use Rattle.bz_command.specs.Overfull.{Overfills}
 use Rattle.bz_command.specs.Renewed.{IsOfExtent}
 use Rattle.bz_command.specs.declared.outcome.Ran.{Ran}
 use Rattle.bz_items.specs.Characters.{Bytes}
@@ -13,18 +12,19 @@ use Rattle.bz_journal.specs.Actions.{Action}
 use Rattle.bz_journal.specs.declared.action.Reply.{Reply}
 use Rattle.bz_journal.specs.declared.beside.Beside.{Beside}
 use Rattle.bz_journal.specs.Editing.{IsBeside}
+use Rattle.bz_journal.specs.private.Filling.{Overfills}
 use Rattle.bz_journal.specs.History.{Answer, History, MakesOrWants, note_limit}
 use Rattle.bz_journal.specs.Shown.{session_history}
 use Rattle.bz_journal.specs.State.{SessionState, session_trail}
 
--- What a command does to a value in place, of its effect on it and of what it prints; where what it makes is past the limit by the comments
--- that it puts in, it isn't made. (The value before and after.)
+-- What a command does to a value in place, of its effect on it and of what it prints; where what it makes is past the limit of a text, it need
+-- not be made. (The value before and after.)
 pub record RunsIn (made : Result (List Item) Refusal) (out : Result Bytes Refusal) (before : List Item) (result : Result Ran Refusal) (after : List Item) : Type 0 where
   pub ok : OnOk result (made ≡ Ok after)
   pub same : IfOk result (λ ran. IsTrue ran.same ↔ (after ≡ before))
   pub printed : IfOk result (λ ran. out ≡ Ok ran.printed)
   pub extent : IfOk result (λ ran. IsOfExtent ran.extent ran.marks.items before after)
-  pub err : IfErr result (λ refusal. ((made ≡ Err refusal) ⊎ (refusal ≡ Memory)) ⊎ ((refusal ≡ TooLarge) × Overfills made))
+  pub err : IfErr result (λ refusal. ((made ≡ Err refusal) ⊎ (refusal ≡ Memory)) ⊎ ((refusal ≡ TooLarge) × Overfills before made))
 
 -- The answer and the history are these, or memory was refused. At a refusal the session is as before, and a small one stays small.
 pub record EndsAt (end : Answer × History) (s : SessionState) (answer : Answer) (t : SessionState) : Type 0 where

@@ -3,7 +3,7 @@ use Rattle.bz_grammar.specs.Spell.{spell_node}
 use Rattle.bz_journal.specs.Shown.{session_history}
 use Rattle.bz_journal.proofs.Acting.{acts_refused}
 use Rattle.bz_journal.proofs.Edited.{edited_same}
-use Rattle.bz_journal.proofs.Overfull.{means_not, overfull_is_refused}
+use Rattle.bz_journal.proofs.Overfull.{means_not}
 use Rattle.bz_journal.proofs.beside.edit.Goals as goal
 
 pub returns-then-ran-clause-made : goal.returns-then-ran-clause-made
@@ -21,7 +21,7 @@ returns-in-Err-clause-made c = record {
   makes =
       acts_refused c.args.note.now c.args.command.now c.args.target.now (session_history c.args.course.now) c.as_bytes-current.result.now (spell_node c.present-here.result.now) c.in-Err.refusal
       (c.as_bytes-current.ensures.value ∙ c.own_package.ensures) c.present-here.ensures.text
-      (means_not (overfull_is_refused c.comments_fill.ensures.fill c.comments_fill.ensures.fit) c.args.command.now c.args.target.now c.as_bytes-current.result.now c.present-here.result.now c.in_ok-file.file c.in-Err.refusal
+      (means_not c.args.command.now c.args.target.now c.as_bytes-current.result.now c.present-here.result.now c.in_ok-file.file c.in-Err.refusal
       c.reads_back.ensures c.in_ok-file.ensures c.in-Err.ensures.err);
   unmoved = refl;
   small = λ own. own;

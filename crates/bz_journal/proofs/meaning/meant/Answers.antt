@@ -3,7 +3,6 @@ use Rattle.bz_command.specs.Effect.{effect, printed}
 use Rattle.bz_grammar.specs.Spell.{spell_node}
 use Rattle.bz_journal.specs.Meaning.{Meaning, Means}
 use Rattle.bz_journal.proofs.Meant.{meant_made, meant_not}
-use Rattle.bz_journal.proofs.Overfull.{overfull_is_refused}
 use Rattle.bz_journal.proofs.meaning.meant.Goals as goal
 
 pub returns-in-Ok-written_text-clause-ok : goal.returns-in-Ok-written_text-clause-ok
@@ -42,4 +41,4 @@ returns-clause-err c =
     meant_not command target current c.args.tree value c.run_by_lines.new.file c.as_slice.result.now c.reads_back.ensures c.in_ok-file.ensures.value
     (ap (λ lines. effect command target current lines value) c.as_slice.ensures.value ∙ c.in_ok-lines.ensures.effect current value)
     (ap (λ lines. printed command target current lines value) c.as_slice.ensures.value ∙ c.in_ok-lines.ensures.printed current value)
-    (overfull_is_refused c.comments_fill.ensures.fill c.comments_fill.ensures.fit) c.in-Err.refusal c.in-Err.ensures
+    c.in-Err.refusal c.in-Err.ensures

@@ -1,0 +1,61 @@
+-- What items have in files of their own they have in one file: of the passes only the one over loads looks at more than one item, and that
+-- one only moves them.
+use Rattle.std.proofs.Common.{ℕ, ◌+◌, ◌≡◌, ◌≤◌, Bool, true, false, List, [], ◌∷◌, ◌++◌, length, map, refl, sym, ap, ◌∙◌, arith}
+use Rattle.std.proofs.lemmas.List.{append-nil}
+use Rattle.bz_value.specs.declared.value.Item.{Item}
+use Rattle.bz_value.specs.Counted.{total}
+use Rattle.bz_layout.specs.Flags.{flags, item_with_flags}
+use Rattle.bz_layout.specs.Written.{item_text, layout}
+use Rattle.bz_layout.proofs.Measured.{layout_first}
+use Rattle.bz_passes.specs.Changes.{after_passes}
+use Rattle.bz_passes.specs.Exchanged.{item_tidied}
+use Rattle.bz_passes.specs.Passes.{load_precedes, loads, on_statement, on_taken, taken, tidied}
+use Rattle.bz_passes.proofs.Composed.{five_composed}
+use Rattle.bz_passes.proofs.Exchanging.{exchanged_tidied}
+use Rattle.bz_passes.proofs.Sorting.{sort_total}
+use Rattle.bz_journal.specs.private.Filling.{alone_length, marked_alone}
+
+abbrev own_length : Item → ℕ
+own_length item = length (item_text item)
+
+-- a file of one item has its own lines
+alone_is : (item : Item) → alone_length item ≡ own_length (item_tidied item)
+unfolding alone_length
+alone_is item = ap (λ (xs : List Item). length (layout xs)) (exchanged_tidied.alone item) ∙ ap length (append-nil (item_text (item_tidied item)))
+
+-- those of marked items are among those of all, and these are in the layout
+marked_within : (marks : List Bool) (items : List Item) → marked_alone marks items ≤ total own_length (map item_tidied items)
+marked_within [] items = omega arith
+marked_within (mark ∷ marks) [] = omega arith
+marked_within (true ∷ marks) (item ∷ items) =
+    let rest = marked_within marks items in
+    let own = alone_is item in
+    omega (arith, rest, own)
+marked_within (false ∷ marks) (item ∷ items) = let rest = marked_within marks items in omega (arith, rest)
+
+all_within : (items : List Item) → total own_length items ≤ length (layout items)
+all_within [] = omega arith
+all_within (item ∷ items) =
+    let first = layout_first item items in
+    let rest = all_within items in
+    omega (arith, first, rest)
+
+changed_total : (number : Item → ℕ) (change : Item → Item) (items : List Item) → total number (map change items) ≡ total (λ item. number (change item)) items
+changed_total number change [] = refl
+changed_total number change (item ∷ items) = ap (λ n. number (change item) + n) (changed_total number change items)
+
+same_total : (items : List Item) → total own_length (tidied items) ≡ total own_length (map item_tidied items)
+same_total items =
+    let settled : Item → ℕ = λ item. own_length (item_with_flags item) in
+    ap (λ (xs : List Item). total own_length (flags (loads xs))) (five_composed items)
+    ∙ (changed_total own_length item_with_flags (loads (on_taken after_passes items))
+    ∙ (sort_total load_precedes settled (on_taken after_passes items)
+    ∙ (changed_total settled (on_statement (taken after_passes)) items
+    ∙ sym (changed_total own_length item_tidied items))))
+
+pub held_alone : (marks : List Bool) (items : List Item) → marked_alone marks items ≤ length (layout (tidied items))
+held_alone marks items =
+    let marked = marked_within marks items in
+    let same = same_total items in
+    let whole = all_within (tidied items) in
+    omega (arith, marked, same, whole)

@@ -1,0 +1,128 @@
+//! Whether what a command makes is past the limit of a text, seen rule by rule before all of it is made.
+ghost use Rattle.std.specs.Prelude.{◌≡◌, ◌⊎◌, ◌≤◌, [], ◌∷◌, Err, IfErr, IfOk, IsTrue, length, true};
+ghost use Rattle.bz_value.specs.Proper.{IsProperItem};
+ghost use Rattle.bz_command.specs.Effect.{on_meant};
+ghost use Rattle.bz_journal.specs.Clauses.{Overfills, effect};
+ghost use Rattle.bz_journal.specs.private.Filling.{AreProperMade, Grows, IsProperMade, Overgrows, alone_length, item_made_by, one_where};
+
+use bz_command::{Work, changed_copy, copied, marks_if_large};
+use bz_grammar::LENGTH_LIMIT;
+use bz_items::{Items, Memory};
+use bz_layout::{SetFault, text_of_file};
+use bz_passes::tidy;
+use bz_rule::take_apart;
+use bz_value::{File, Item, Refusal};
+use std::alloc::Global;
+
+/// A file of one item. The error: a growth was refused.
+fn file_of(alloc: Global, item: Item) -> Result<File, Memory>
+    requires { IsProperItem item }
+    ensures { IfOk result (λ file. file ≡ item ∷ []) }
+{
+    let mut items = Vec::new(alloc);
+    if let Err(fault) = items.reserve(1) {
+        drop(item);
+        return Err(fault);
+    }
+    items.push_reserved(item);
+    Ok(File {
+        items: Items::from_vec(items),
+    })
+}
+
+/// At least how many bytes an item has in a file of its own, once that is tidied: none where it doesn't count, and where it is nested too
+/// deep. Errors: `Memory`.
+#[tactic(auto, unfolding(crate::specs::private::Filling::alone_length))]
+fn length_alone(alloc: Global, counts: bool, item: Item) -> Result<usize, Refusal>
+    requires { IsProperItem item }
+    ensures size { IfOk result (λ size. size ≤ alone_length item) }
+    ensures err { IfErr result (λ refusal. refusal ≡ Refusal.Memory) }
+{
+    let file = file_of(alloc, item)?;
+    if !counts {
+        take_apart(file);
+        return Ok(0);
+    }
+    let tidied = tidy(alloc, file)?;
+    let text = text_of_file(alloc, &tidied, 0);
+    take_apart(tidied);
+    match text {
+        Ok(text) => Ok(text.len()),
+        Err(SetFault::TooLarge) => Ok(LENGTH_LIMIT + 1),
+        Err(SetFault::TooDeep) => Ok(0),
+        Err(SetFault::Memory) => Err(Refusal::Memory),
+    }
+}
+
+/// Whether a command makes another item of one that it is meant for, and at least how many bytes that has in a file of its own.
+/// Errors: the one with which the item is refused; `Memory`.
+#[tactic(auto, unfolding(crate::specs::private::Filling::item_made))]
+fn try_one(work: Work<'_, '_>, counts: bool, item: &Item) -> Result<(bool, usize), Refusal>
+    requires { IsProperMade (item_made_by work item.now) }
+    ensures ok { IfOk result (λ made. Grows made.1 made.0 true item.now (item_made_by work.entry item.now)) }
+    ensures err { IfErr result (λ refusal. (item_made_by work.entry item.now ≡ Err refusal) ⊎ (refusal ≡ Refusal.Memory)) }
+{
+    let new = changed_copy(work, item)?;
+    let differs = !new.equals(item);
+    match length_alone(work.alloc, counts, new) {
+        Ok(size) => Ok((differs, size)),
+        Err(refusal) => Err(refusal),
+    }
+}
+
+/// The same of an item where it is marked.
+fn try_where(
+    work: Work<'_, '_>,
+    mark: bool,
+    counts: bool,
+    item: &Item,
+) -> Result<(bool, usize), Refusal>
+    requires { IsProperMade (item_made_by work item.now) }
+    ensures ok { IfOk result (λ made. Grows made.1 made.0 mark item.now (one_where (item_made_by work.entry) mark item.now)) }
+    ensures err { IfErr result (λ refusal. (one_where (item_made_by work.entry) mark item.now ≡ Err refusal) ⊎ (refusal ≡ Refusal.Memory)) }
+{
+    if !mark {
+        return Ok((false, 0));
+    }
+    try_one(work, counts, item)
+}
+
+/// Whether what a command makes of the items that are marked is something else, and past the limit of a text even one by one. Each is made,
+/// measured and dropped; past the limit they are only made, since the first that refuses decides.
+fn are_past(work: Work<'_, '_>, marks: &[bool], items: &[Item]) -> Result<bool, Refusal>
+    requires count { length marks.now ≡ length items.now }
+    requires proper { AreProperMade (item_made_by work) items.now }
+    ensures ok { IfOk result (λ past. IsTrue past → Overgrows marks.now items.now (on_meant (item_made_by work.entry) marks.now items.now)) }
+    ensures err { IfErr result (λ refusal. (on_meant (item_made_by work.entry) marks.now items.now ≡ Err refusal) ⊎ (refusal ≡ Refusal.Memory)) }
+{
+    let mut left = LENGTH_LIMIT + 1;
+    let mut differs = false;
+    for (mark, item) in marks.iter().zip(items) {
+        let (other, size) = try_where(work, *mark, left > 0, item)?;
+        differs = differs || other;
+        left = left.saturating_sub(size);
+    }
+    Ok(differs && left == 0)
+}
+
+/// Whether what a command makes of a file, which has about this many bytes, is past the limit of a text: then it need not be made. `false` says
+/// nothing. Errors: the effect's refusal; `Memory`: a growth was refused.
+pub(crate) fn overfills(work: Work<'_, '_>, len: usize, file: &File) -> Result<bool, Refusal>
+    ensures ok { IfOk result (λ over. IsTrue over → Overfills file.now (effect work.entry.command.now work.entry.target.now work.entry.current.now work.entry.lines.now file.now)) }
+    ensures err { IfErr result (λ refusal. (effect work.entry.command.now work.entry.target.now work.entry.current.now work.entry.lines.now file.now ≡ Err refusal) ⊎ (refusal ≡ Refusal.Memory)) }
+{
+    let command = work.command;
+    // What is read of the command, so that its words are known to be proper.
+    let _operation = &command.operation;
+    let work = Work {
+        found: copied(command, file),
+        ..work
+    };
+    let Some(marks) = marks_if_large(work, file, len)? else {
+        return Ok(false);
+    };
+    match are_past(work, marks.as_slice(), file.items.as_slice()) {
+        Ok(past) => Ok(past),
+        Err(refusal) => Err(refusal),
+    }
+}
