@@ -1,5 +1,5 @@
 //! Which edits may follow one another.
-ghost use Rattle.std.specs.Prelude.{◌≡◌, ◌+◌, ◌||◌, nat_lt, nat_le};
+ghost use Rattle.std.specs.Prelude.{◌≡◌, ◌+◌, ◌||◌, nat_lt, nat_le, slice_index_or};
 ghost use Rattle.bz_edit.specs.private.Tests.{is_before as comes_before, is_uncovered as uncovered, may_follow as follows, all_follow as follow_all, counts_fit as fit_counts};
 
 use crate::edit::Edit;
@@ -33,7 +33,18 @@ fn is_outside(number: u32, at: u32, count: u32) -> bool
     number < at || at as u64 + count as u64 <= number as u64
 }
 
+/// The number at which a place is in a node: the first one of what is left of its path, or its own.
+fn number_in(path: &[u32], at: u32) -> u32
+    ensures { result ≡ slice_index_or path.now 0 at }
+{
+    match path.first() {
+        Some(&number) => number,
+        None => at,
+    }
+}
+
 /// Whether an edit leaves a place alone: `even` says whether it holds as many parts as it covers.
+#[tactic(auto, using(crate::proofs::Tests::uncovered_here))]
 fn is_uncovered(even: bool, path: &[u32], at: u32, count: u32, other: &[u32], other_at: u32) -> bool
     ensures { result ≡ uncovered even path.now at count other.now other_at }
 {
@@ -49,10 +60,7 @@ fn is_uncovered(even: bool, path: &[u32], at: u32, count: u32, other: &[u32], ot
         path = rest;
         other = others;
     }
-    match other.first() {
-        Some(&j) => even && is_outside(j, at, count),
-        None => even && is_outside(other_at, at, count),
-    }
+    even && is_outside(number_in(other, other_at), at, count)
 }
 
 /// Whether an edit may be before another in a step.
