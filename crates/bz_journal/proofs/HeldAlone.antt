@@ -23,6 +23,13 @@ alone_is : (item : Item) → alone_length item ≡ own_length (item_tidied item)
 unfolding alone_length
 alone_is item = ap (λ (xs : List Item). length (layout xs)) (exchanged_tidied.alone item) ∙ ap length (append-nil (item_text (item_tidied item)))
 
+-- those of the first one of some are in the layout
+pub first_below : (items rest : List Item) (item : Item) → items ≡ item ∷ rest → length (item_text item) ≤ length (layout items)
+first_below items rest item is =
+    let first = layout_first item rest in
+    let same : length (layout items) ≡ length (layout (item ∷ rest)) = ap (λ (xs : List Item). length (layout xs)) is in
+    omega (arith, first, same)
+
 -- those of marked items are among those of all, and these are in the layout
 marked_within : (marks : List Bool) (items : List Item) → marked_alone marks items ≤ total own_length (map item_tidied items)
 marked_within [] items = omega arith

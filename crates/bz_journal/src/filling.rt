@@ -1,6 +1,7 @@
 //! Whether what a command makes is past the limit of a text, seen rule by rule before all of it is made.
 ghost use Rattle.std.specs.Prelude.{◌≡◌, ◌⊎◌, ◌≤◌, [], ◌∷◌, Err, IfErr, IfOk, IsTrue, length, true};
 ghost use Rattle.bz_value.specs.Proper.{IsProperItem};
+ghost use Rattle.bz_layout.specs.Written.{layout};
 ghost use Rattle.bz_command.specs.Effect.{on_meant};
 ghost use Rattle.bz_journal.specs.Clauses.{Overfills, effect};
 ghost use Rattle.bz_journal.specs.private.Filling.{AreProperMade, Grows, IsProperMade, Overgrows, alone_length, item_made_by, one_where};
@@ -8,7 +9,7 @@ ghost use Rattle.bz_journal.specs.private.Filling.{AreProperMade, Grows, IsPrope
 use bz_command::{Work, changed_copy, copied, marks_if_large};
 use bz_grammar::LENGTH_LIMIT;
 use bz_items::{Items, Memory};
-use bz_layout::{SetFault, text_of_file};
+use bz_layout::{SetFault, item_text, text_of_file};
 use bz_passes::tidy;
 use bz_rule::take_apart;
 use bz_value::{File, Item, Refusal};
@@ -30,8 +31,31 @@ fn file_of(alloc: Global, item: Item) -> Result<File, Memory>
     })
 }
 
-/// At least how many bytes an item has in a file of its own, once that is tidied: none where it doesn't count, and where it is nested too
-/// deep. Errors: `Memory`.
+/// At least how many bytes the layout of a file has: those of its first item. The error: a growth was refused.
+#[tactic(auto, using(crate::proofs::HeldAlone::first_below))]
+fn first_length(alloc: Global, file: &File) -> Result<usize, Memory>
+    ensures { IfOk result (λ size. size ≤ length (layout file.now)) }
+{
+    match file.items.as_slice().split_first() {
+        Some((item, _others)) => Ok(item_text(alloc, item)?.len()),
+        None => Ok(0),
+    }
+}
+
+/// At least how many bytes the layout of a file has. Errors: `Memory`.
+fn length_of(alloc: Global, file: &File) -> Result<usize, Refusal>
+    ensures size { IfOk result (λ size. size ≤ length (layout file.now)) }
+    ensures err { IfErr result (λ refusal. refusal ≡ Refusal.Memory) }
+{
+    match text_of_file(alloc, file, 0) {
+        Ok(text) => Ok(text.len()),
+        Err(SetFault::TooLarge) => Ok(LENGTH_LIMIT + 1),
+        Err(SetFault::TooDeep) => Ok(first_length(alloc, file)?),
+        Err(SetFault::Memory) => Err(Refusal::Memory),
+    }
+}
+
+/// At least how many bytes an item has in a file of its own, once that is tidied; none where it doesn't count. Errors: `Memory`.
 #[tactic(auto, unfolding(crate::specs::private::Filling::alone_length))]
 fn length_alone(alloc: Global, counts: bool, item: Item) -> Result<usize, Refusal>
     requires { IsProperItem item }
@@ -44,14 +68,9 @@ fn length_alone(alloc: Global, counts: bool, item: Item) -> Result<usize, Refusa
         return Ok(0);
     }
     let tidied = tidy(alloc, file)?;
-    let text = text_of_file(alloc, &tidied, 0);
+    let size = length_of(alloc, &tidied);
     take_apart(tidied);
-    match text {
-        Ok(text) => Ok(text.len()),
-        Err(SetFault::TooLarge) => Ok(LENGTH_LIMIT + 1),
-        Err(SetFault::TooDeep) => Ok(0),
-        Err(SetFault::Memory) => Err(Refusal::Memory),
-    }
+    size
 }
 
 /// Whether a command makes another item of one that it is meant for, and at least how many bytes that has in a file of its own.
