@@ -1,8 +1,6 @@
 pub mod Writes
 pub mod Formatting
 pub mod ReadFaults
-pub mod Copies
-pub mod Filled
 pub mod SeenPrograms
 pub mod TreeTokens
 pub mod WrittenPrograms

@@ -1,7 +1,6 @@
 pub mod Meaning
 pub mod Faults
 pub mod Fixed
-pub mod Filled
 pub mod TreePrograms
 pub mod Tokens
 pub mod Writing

@@ -1,5 +1,4 @@
 //! Facts about the definitions, for readers: the functions do nothing.
-ghost use Rattle.bz_build_format.specs.Filled.{CommentsFill, CommentsFit};
 ghost use Rattle.bz_build_format.specs.Fixed.{FixedPoint};
 ghost use Rattle.bz_build_format.specs.Tokens.{FormattingKeepsTokens, TreeProgramsKeepTokens};
 ghost use Rattle.bz_build_format.specs.TreePrograms.{ViewsKeepPrograms};
@@ -55,15 +54,4 @@ pub fn writing_keeps_program()
     proper_stays();
     tidy_settles();
     program_stays();
-}
-
-/// Where a comment occurs so often in a proper value that its copies alone are past the limit of a text, so is what is written of
-/// the value; in the value of a text none does.
-pub fn comments_fill()
-    ensures fill { CommentsFill }
-    ensures fit { CommentsFit }
-{
-    comments_kept();
-    proper_stays();
-    comments_stay();
 }

@@ -1,13 +1,13 @@
 -- Whether an item is found, and whether a host is refused.
 use Rattle.std.proofs.Common.{◌≡◌, Bool, true, false, not, List, [], ◌∷◌, refl, sym, ap, ◌∙◌, subst, Option, Some, None, inl, inr, ℕ, ◌+◌, ◌<◌, length, drop, get_or}
-use Rattle.std.specs.Prelude.{Ok, Err, Result, IsOk, is_ok, is_some, if◌then◌else◌, IfSome, slice_get, slice_set}
+use Rattle.std.specs.Prelude.{Ok, Err, Result, is_some, if◌then◌else◌, IfSome, slice_get, slice_set}
 use Rattle.std.specs.List.{find, list_any, flat_map, position}
 use Rattle.bz_value.specs.declared.value.Expr.{Expr, Token, Form'}
 use Rattle.bz_value.specs.declared.refusal.Refusal.{Refusal}
 use Rattle.bz_value.specs.declared.refusal.Refusal.TheVariants.{NoAttribute, NotAList}
 use Rattle.bz_attribute.specs.Lists.{has_lists, items_in, is_item, listed}
 use Rattle.bz_comment.specs.Changes.{changed_by, changed_comments, comments_made, is_host}
-use Rattle.bz_comment.specs.Hosts.{comment, with_comment, print_comment, found_comments, item_comments, put_value, on_named_item, on_first_item, on_host}
+use Rattle.bz_comment.specs.Hosts.{print_comment, found_comments, item_comments, put_value, on_named_item, on_first_item, on_host}
 use Rattle.bz_command_syntax.specs.declared.command.Host.{Host}
 use Rattle.bz_command_syntax.specs.declared.command.Host.TheVariants as h
 use Rattle.bz_value.specs.Commented.{with_comments}
@@ -90,12 +90,6 @@ module _ (current : Bytes) where
   module _ (host : Host) (own : HostComments) (xs : List Expr) where
     told : (change : Expr → Expr) (r : Result Bytes Refusal) → r ≡ print_comment current host own xs → Answers r (on_host current host change xs) (host_new current host change xs)
     told change r e = subst (λ r. Answers r (on_host current host change xs) (host_new current host change xs)) (sym e) (host_answers host own change xs)
-
-    pub comment_refused : (text : Bytes) (refusal : Refusal) → Err refusal ≡ print_comment current host own xs → comment current host text xs ≡ Err refusal
-    comment_refused text refusal e = told (with_comment text) (Err refusal) e
-
-    pub comment_there : (text there : Bytes) → Ok there ≡ print_comment current host own xs → IsOk (comment current host text xs)
-    comment_there text there e = ap is_ok (told (with_comment text) (Ok there) e)
 
     pub host_refused : (change : Change) (read : List Expr) (refusal : Refusal) → read ≡ xs → Err refusal ≡ print_comment current host own read → changed_comments change current host xs ≡ Err refusal
     host_refused change read refusal same e = by_change change host xs ∙ told (changed_by change) (Err refusal) (e ∙ ap (print_comment current host own) same)

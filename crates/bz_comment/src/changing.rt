@@ -18,7 +18,7 @@ pub enum Change<'a> {
 }
 
 /// The comment that a text becomes. The error: memory was refused.
-pub fn comment_made(alloc: Global, text: &[u8]) -> Result<Text, Memory>
+fn comment_made(alloc: Global, text: &[u8]) -> Result<Text, Memory>
     ensures { IfOk result (λ comment. comment ≡ comment_made text.now) }
 {
     let mut line = Vec::new(alloc);

@@ -1,14 +1,13 @@
 //! Hosts among the arguments of a rule: an attribute, or an item of its lists, found, and its comments changed and printed.
-ghost use Rattle.std.specs.Prelude.{◌≡◌, ◌⊎◌, ◌++◌, Ok, Err, IfOk, OnOk, IsOk, IfErr};
+ghost use Rattle.std.specs.Prelude.{◌≡◌, ◌⊎◌, ◌++◌, Ok, Err, IfOk, OnOk, IfErr};
 ghost use Rattle.std.specs.List.{find, list_any, position};
 ghost use Rattle.std.specs.Option.{option_copied};
-ghost use Rattle.bz_items.specs.Characters.{Bytes};
 ghost use Rattle.bz_grammar.specs.declared.kind.Kind.TheVariants as kinds;
 ghost use Rattle.bz_rule.specs.Values.{on_items};
 ghost use Rattle.bz_attribute.specs.Attributes.{on_first_that};
 ghost use Rattle.bz_attribute.specs.Lists.{items_in, listed};
 ghost use Rattle.bz_comment.specs.Changes.{changed_by, changed_comments, is_sought, printed_as};
-ghost use Rattle.bz_comment.specs.Hosts.{comment, comment_line, comment_text as text_of, found_comments, has_item, on_first_item, print_comment, printed_comments};
+ghost use Rattle.bz_comment.specs.Hosts.{comment_line, comment_text as text_of, found_comments, has_item, on_first_item, print_comment, printed_comments};
 
 use crate::changing::{Change, change_own};
 use bz_attribute::{
@@ -223,17 +222,6 @@ pub fn change_comments(
     let changed = change_host(alloc, Sought { current, host }, &own, change, arguments);
     drop(own);
     changed
-}
-
-/// Whether a comment can be put on a host among the arguments of a rule. The errors: those of putting one there, but for memory.
-#[tactic(auto, using(crate::proofs::HostForms::comment_refused, crate::proofs::HostForms::comment_there))]
-pub fn find_host(current: &[u8], host: &Host, arguments: &[Expr]) -> Result<(), Refusal>
-    ensures ok { IsOk result → (text : Bytes) → IsOk (comment current.now host.now text arguments.now) }
-    ensures err { IfErr result (λ refusal. (text : Bytes) → comment current.now host.now text arguments.now ≡ Err refusal) }
-{
-    let own = Comments::empty();
-    comments_at(Sought { current, host }, &own, arguments)?;
-    Ok(())
 }
 
 /// A comment without its mark, and without one space after it.

@@ -6,8 +6,8 @@ mod changing;
 mod hosts;
 mod laws;
 
-pub use changing::{Change, change_own, comment_made};
-pub use hosts::{change_comments, find_host, print_comments};
+pub use changing::{Change, change_own};
+pub use hosts::{change_comments, print_comments};
 pub use laws::{
     comment_loses_none, comment_taken_away, own_comment_loses_none, own_comment_taken_away,
     worked_comments,

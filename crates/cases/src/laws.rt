@@ -154,7 +154,6 @@ fn call_histories() {
     bz_journal::alike_goes_on();
     bz_journal::stopped_is_resumed();
     bz_build_format::formatted_once();
-    bz_build_format::comments_fill();
     bz_build_format::views_keep_programs();
     bz_build_format::tokens_kept();
     bz_build_format::writing_keeps_program();
