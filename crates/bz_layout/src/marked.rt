@@ -31,7 +31,7 @@ pub fn place_after(place: usize, item: &Item) -> usize
     }
 }
 
-/// Appends the line of an item that is after so many of all items, and its place, if it is a statement and marked.
+/// Appends the line of the item at a place among all items, and the place of the line, if the item is a statement and marked.
 fn relayout_marked(
     alloc: Global,
     is_marked: bool,

@@ -71,7 +71,7 @@ fn pass_over(item: &Item, gap: Vec<u8>) -> Result<Vec<u8>, Memory>
 }
 
 /// The gap before the item at a place, or before the end.
-pub fn gap_before(alloc: Global, items: &[Item], from: usize) -> Result<Vec<u8>, Memory>
+pub(crate) fn gap_before(alloc: Global, items: &[Item], from: usize) -> Result<Vec<u8>, Memory>
     requires { from ≤ length items.now }
     ensures { IfOk result (λ gap. gap.items ≡ windows.statement_gap [] from items.now) }
 {
