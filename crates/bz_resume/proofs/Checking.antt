@@ -85,3 +85,9 @@ module _ {T : Type 0} where
 
   pub never_write : (fault : PairFault) → fault ≢ p.Write → IsErrOf {T = T} (Err fault) p.Write → ⊥
   never_write fault other is = let same : fault ≡ p.Write = cc in other same
+
+  pub write_no_memory : IsErrOf {T = T} (Err p.Write) p.Memory → ⊥
+  write_no_memory is = cc
+
+  pub memory_no_write : IsErrOf {T = T} (Err p.Memory) p.Write → ⊥
+  memory_no_write is = cc

@@ -70,20 +70,17 @@ pub record HasOpened (r : Record) (tree : Node) : Type 0 where
   pub reads : Reads r.text tree
   pub agrees : RecordAgrees r tree
 
-module _ (r : Record) (text : Text) (steps es : List (List Edit)) (ds : List Text) (t : Bool) (counted : IsCounted r) (text_is : text ≡ r.text) (steps_are : steps ≡ edits_of r.steps) (same : es ≡ steps) (digests_are : ds ≡ r.digests) (agrees : (n : Node) → Reads text n → IsTrue t ↔ StepsAgreeAround n r.cursor es ds) where
-  pub opens_none : t ≡ false → NoneAgrees r
-  opens_none f n reads h =
-      let own : Reads text n = subst (λ (s : Text). Reads s n) (sym text_is) reads in
-      false≢true (sym f ∙ (agrees n own).1 (around_same n r.cursor (edits_of r.steps) es r.digests ds (sym (same ∙ steps_are)) (sym digests_are) (from_whole r n counted h)))
+module _ (r : Record) (text : Text) (steps es : List (List Edit)) (ds : List Text) (counted : IsCounted r) (text_is : text ≡ r.text) (steps_are : steps ≡ edits_of r.steps) (same : es ≡ steps) (digests_are : ds ≡ r.digests) where
+  pub opens_none : ((n : Node) → Reads text n → StepsAgreeAround n r.cursor es ds → ⊥) → NoneAgrees r
+  opens_none none n reads h =
+      none n (subst (λ (s : Text). Reads s n) (sym text_is) reads)
+      (around_same n r.cursor (edits_of r.steps) es r.digests ds (sym (same ∙ steps_are)) (sym digests_are) (from_whole r n counted h))
 
-  pub opens : (tree : Node) → Reads text tree → t ≡ true → HasOpened r tree
-  opens tree own good =
+  pub opens : (tree : Node) → Reads text tree → StepsAgreeAround tree r.cursor es ds → HasOpened r tree
+  opens tree own agrees =
       let read : Reads r.text tree = subst (λ (s : Text). Reads s tree) text_is own in
       let is_tree : IsTree tree = (read.0, subst (λ (s : Text). length s ≤ limit) (sym read.1) read.2) in
-      record { reads = read; agrees = to_whole r tree is_tree counted (around_same tree r.cursor es (edits_of r.steps) ds r.digests (same ∙ steps_are) digests_are ((agrees tree own).0 good)) }
-
-pub none_read : (r : Record) (text : Text) → text ≡ r.text → NoTree text → NoneAgrees r
-none_read r text is none n reads h = none n (subst (λ (s : Text). Reads s n) (sym is) reads)
+      record { reads = read; agrees = to_whole r tree is_tree counted (around_same tree r.cursor es (edits_of r.steps) ds r.digests (same ∙ steps_are) digests_are agrees) }
 
 pub is_opened : (r : Record) (tree : Node) (steps : List (List Edit)) (notes : List Text) → HasOpened r tree → steps ≡ edits_of r.steps → notes ≡ notes_of r.steps
     → IsOpened r (record { «package» = r.package; tree = tree; steps = steps; digests = r.digests; notes = notes; cursor = r.cursor })

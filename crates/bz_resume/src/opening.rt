@@ -11,6 +11,7 @@ use crate::replaying::{Way, agree, has_digest};
 use crate::resumed::Resumed;
 use crate::splitting::split;
 use bz_edit::Step;
+use bz_grammar::Tree;
 use bz_items::Items;
 use bz_journal_format::Record;
 use std::alloc::Global;
@@ -43,6 +44,26 @@ fn steps_agree(
     )
 }
 
+/// The tree of a text, from which the steps agree with these digests.
+fn read_agreed(
+    alloc: Global,
+    text: &[u8],
+    cursor: usize,
+    steps: &[Step],
+    digests: &[[u8; 32]],
+) -> Result<Tree, Halt>
+    requires within { cursor ≤ length steps.now }
+    requires counted { length digests.now ≡ length steps.now + 1 }
+    ensures ok { IfOk result (λ tree. Reads text.now tree × StepsAgreeAround tree cursor steps.now digests.now) }
+    ensures damaged { (result ≡ Err h.Damaged) → (n : Node) → Reads text.now n → StepsAgreeAround n cursor steps.now digests.now → ⊥ }
+{
+    if !steps_agree(alloc, text, cursor, steps, digests)? {
+        return Err(Halt::Damaged);
+    }
+    let tree = read(alloc, text)?;
+    Ok(tree)
+}
+
 /// What a record says, at its cursor.
 pub(crate) fn open(alloc: Global, content: Record) -> Result<Resumed, Halt>
     requires { IsCounted content }
@@ -59,16 +80,13 @@ pub(crate) fn open(alloc: Global, content: Record) -> Result<Resumed, Halt>
     } = content;
     let cursor = cursor as usize;
     let (notes, steps) = split(alloc, steps.into_vec())?;
-    if !steps_agree(
+    let tree = read_agreed(
         alloc,
         text.as_slice(),
         cursor,
         steps.as_slice(),
         digests.as_slice(),
-    )? {
-        return Err(Halt::Damaged);
-    }
-    let tree = read(alloc, text.as_slice())?;
+    )?;
     Ok(Resumed {
         package,
         tree,

@@ -1,10 +1,10 @@
 //! Over the steps of a stranger, each of which is tested. No more than one tree is held at a time.
-ghost use Rattle.std.specs.Prelude.{◌≡◌, ◌<◌, ◌↔◌, IsTrue, IfOk, Err, MatchOption, length};
+ghost use Rattle.std.specs.Prelude.{◌≡◌, ◌<◌, ◌↔◌, IsTrue, IfOk, Err, MatchOption, length, true};
 ghost use Rattle.sha2.specs.Sha256.{sha256};
 ghost use Rattle.bz_grammar.specs.declared.tree.Node.{Node};
 ghost use Rattle.bz_grammar.specs.Legal.{NoTree, Reads};
 ghost use Rattle.bz_grammar.specs.Spell.{spell_node};
-ghost use Rattle.bz_edit.specs.Steps.{swap_node};
+ghost use Rattle.bz_edit.specs.Steps.{IsStep, all_there, swap_node};
 ghost use Rattle.bz_history.specs.Trails.{IsTree};
 ghost use Rattle.bz_resume.specs.declared.fault.Halt.TheVariants as h;
 ghost use Rattle.bz_resume.specs.private.Outlines.{outline_node};
@@ -93,6 +93,48 @@ fn is_next_tree(node: &mut Node, step: &Step, text: &[u8]) -> Result<bool, Memor
     is_tree(node, text)
 }
 
+/// Goes on from a node by a step; `text` becomes the text of the next node. `false`: a place of the step is not in the node. The
+/// error: a growth was refused.
+fn go_on(node: &mut Node, text: &mut Vec<u8>, step: &Step) -> Result<bool, Memory>
+    ensures step { IsStep step.now }
+    ensures there { IfOk result (λ there. there ≡ all_there step.now node.old) }
+    ensures node { IfOk result (λ there. IsTrue there → node.new ≡ swap_node step.now node.old) }
+    ensures text { IfOk result (λ there. IsTrue there → text.new.items ≡ spell_node node.new) }
+{
+    match swap(node, step) {
+        Ok(()) => {}
+        Err(EditFault::Memory) => return Err(AllocError),
+        Err(EditFault::BadPlace) => return Ok(false),
+    }
+    text.clear();
+    node.spell_into(text)?;
+    Ok(true)
+}
+
+/// Whether the node to which a step led from a tree with the text `text` is a tree, and its own text, `next`, is another one, with
+/// this digest. The error: a growth was refused.
+fn is_followed(
+    node: &mut Node,
+    step: &Step,
+    text: &[u8],
+    next: &[u8],
+    digest: &[u8; 32],
+) -> Result<bool, Memory>
+    requires { next.now ≡ spell_node node.old }
+    ensures agrees { (from : Node) → IsTree from → IsStep step.now → all_there step.now from ≡ true → text.now ≡ spell_node from → node.old ≡ swap_node step.now from
+        → IfOk result (λ agrees. IsTrue agrees ↔ StepAgrees step.now from digest.now) }
+    ensures node { IfOk result (λ agrees. IsTrue agrees → node.new ≡ node.old) }
+{
+    if next == text {
+        return Ok(false);
+    }
+    if !has_digest(next, digest) {
+        return Ok(false);
+    }
+    let is_tree = is_next_tree(node, step, next)?;
+    Ok(is_tree)
+}
+
 /// Whether a step leads from a tree to a text with this digest; the node is then the next tree, and `text` its text. `next` is room
 /// for a text. The error: a growth was refused.
 fn goes_on(
@@ -108,20 +150,10 @@ fn goes_on(
     ensures node { IfOk result (λ agrees. IsTrue agrees → node.new ≡ swap_node step.now node.old) }
     ensures text { IfOk result (λ agrees. IsTrue agrees → text.new.items ≡ spell_node node.new) }
 {
-    match swap(node, step) {
-        Ok(()) => {}
-        Err(EditFault::Memory) => return Err(AllocError),
-        Err(EditFault::BadPlace) => return Ok(false),
-    }
-    next.clear();
-    node.spell_into(next)?;
-    if next.as_slice() == text.as_slice() {
+    if !go_on(node, next, step)? {
         return Ok(false);
     }
-    if !has_digest(next.as_slice(), digest) {
-        return Ok(false);
-    }
-    if !is_next_tree(node, step, next.as_slice())? {
+    if !is_followed(node, step, text.as_slice(), next.as_slice(), digest)? {
         return Ok(false);
     }
     std::mem::swap(text, next);

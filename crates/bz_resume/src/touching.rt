@@ -2,6 +2,7 @@
 ghost use Rattle.std.specs.Prelude.{◌≡◌, ◌≤◌, [], ◌∷◌, IsTrue, IfOk, IfSome, length};
 ghost use Rattle.std.specs.List.{AllByRecursion};
 ghost use Rattle.bz_grammar.specs.declared.tree.Node.{Node};
+ghost use Rattle.bz_grammar.specs.Legal.{Legal};
 ghost use Rattle.bz_grammar.specs.Spell.{spell_node, limit};
 ghost use Rattle.bz_grammar.specs.Joined.{AreWholeLines, file_with};
 ghost use Rattle.bz_grammar.specs.Split.{bare_end};
@@ -13,7 +14,7 @@ use bz_edit::Edit;
 use bz_grammar::{Class, Node, Part, ReadFault, Tree};
 use bz_items::Memory;
 use bz_tree::parse;
-use std::alloc::AllocError;
+use std::alloc::{AllocError, Global};
 
 /// Whether the part is the end of a text, with nothing before it.
 fn is_bare_end(part: &Part) -> bool
@@ -40,6 +41,17 @@ fn has_alone(tree: &Tree, part: &Part) -> bool
 /// The bytes of the longest statement that is read beside the tree that holds it: two trees take most of the memory of a run.
 const STATEMENT_LIMIT: usize = 1 << 20;
 
+/// Whether a text reads as a file that has this part alone. The error: a growth was refused.
+fn reads_alone(alloc: Global, text: &[u8], part: &Part) -> Result<bool, Memory>
+    ensures { IfOk result (λ alone. IsTrue alone → Legal (file_with (part.now ∷ bare_end ∷ []))) }
+{
+    match parse(alloc, text) {
+        Ok(tree) => Ok(has_alone(&tree, part)),
+        Err(ReadFault::Memory) => Err(AllocError),
+        Err(_) => Ok(false),
+    }
+}
+
 /// Whether a statement is found to be a legal file by itself: its text is read. The error: a growth was refused.
 fn is_alone(part: &Part) -> Result<bool, Memory>
     ensures { IfOk result (λ alone. IsTrue alone → IsAlone part.now) }
@@ -53,11 +65,8 @@ fn is_alone(part: &Part) -> Result<bool, Memory>
     if text.len() > STATEMENT_LIMIT {
         return Ok(false);
     }
-    match parse(alloc, text.as_slice()) {
-        Ok(tree) => Ok(has_alone(&tree, part)),
-        Err(ReadFault::Memory) => Err(AllocError),
-        Err(_) => Ok(false),
-    }
+    let alone = reads_alone(alloc, text.as_slice(), part)?;
+    Ok(alone)
 }
 
 /// Whether the part is a line feed, with what is before it.

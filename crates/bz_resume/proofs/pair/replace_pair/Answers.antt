@@ -1,4 +1,6 @@
-use Rattle.std.proofs.Common.{◌∙◌, ⊎_elim, inl, inr, subst, ℕ, arith}
+use Rattle.std.proofs.Common.{◌∙◌, ⊎_elim, inl, inr, subst, ℕ}
+use Rattle.std.proofs.Math.Nat.{le_trans}
+use Rattle.std.proofs.lemmas.Bool.{false≢true}
 use Rattle.bz_files.specs.Faults.{Rises}
 use Rattle.bz_resume.specs.Pair.{journal_name}
 use Rattle.bz_resume.proofs.Checking.{read_elapses, read_each, read_keeping, kept_replaced, kept_elapses, kept_each, never_err, but_write, never_changed, never_open, other_fault, never_write}
@@ -27,7 +29,7 @@ returns-in-Ok g c =
           (λ write. subst (λ (n : ℕ). Rises n (g.F.Files.faults c.write_pair.new.files)) (c.in-Ok.ensures.kept (never_err _ _)) (c.write_pair.ensures.cause write))
           (λ no_read. absurd (never_open c.write_pair.result c.write_pair.ensures.kinds no_read));
       kept = λ no_write _. c.write_pair.ensures.kept no_write ∙ c.in-Ok.ensures.kept (never_err _ _);
-      count = omega (arith, c.check_file.ensures.count, c.write_pair.ensures.count);
+      count = le_trans c.check_file.ensures.count c.write_pair.ensures.count;
       honest = c.write_pair.ensures.honest ∙ c.check_file.ensures.honest;
     }
 
@@ -40,7 +42,7 @@ returns-in-Err g c =
       each = λ honest. read_keeping args.change.standing.now (journal_name args.change.file.now) args.change.stored.now args.change.file.now args.change.text.now (f.folder old) (f.moment old) (f.moment c.check_file.new.files) (f.since old) (f.since c.check_file.new.files) (g.met.F.Files.only_now old) (c.check_file.ensures.time honest);
       time = λ honest. read_elapses args.change.standing.now (journal_name args.change.file.now) args.change.stored.now args.change.file.now args.change.text.now (f.folder old) (f.moment old) (f.moment c.check_file.new.files) (f.since old) (f.since c.check_file.new.files) (c.check_file.ensures.time honest);
       replaced = λ _. tt;
-      checked = λ honest. ⊎_elim (λ ok. absurd cc) (λ write. absurd (never_write c.in-Err.fault c.in-Err.ensures.kinds write));
+      checked = λ honest. ⊎_elim (λ ok. absurd (false≢true ok)) (λ write. absurd (never_write c.in-Err.fault c.in-Err.ensures.kinds write));
       changed = c.in-Err.ensures.changed;
       apart = λ honest. inr (read_each args.change.standing.now (journal_name args.change.file.now) args.change.stored.now args.change.file.now args.change.text.now (f.folder old) (f.moment old) (f.moment c.check_file.new.files) (f.since old) (f.since c.check_file.new.files) (g.met.F.Files.only_now old) (c.check_file.ensures.time honest));
       kinds = λ honest _. other_fault c.in-Err.fault c.in-Err.ensures.kinds;

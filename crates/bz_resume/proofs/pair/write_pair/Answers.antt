@@ -1,9 +1,10 @@
-use Rattle.std.proofs.Common.{◌≡◌, ◌∙◌, subst, List, ℕ}
+use Rattle.std.proofs.Common.{◌≡◌, ◌∙◌, refl, subst, List, ℕ}
 use Rattle.bz_files.specs.Folder.{Elapses, SameBut, Text}
 use Rattle.bz_files.specs.Pair.{IsNew, IsChecking, with_both}
 use Rattle.bz_files.specs.declared.files.Files.{Ghosts as FilesOf}
 use Rattle.bz_files.proofs.Elapsing.{stays}
 use Rattle.bz_resume.specs.Pair.{journal_name}
+use Rattle.bz_resume.proofs.Checking.{never_err, write_no_memory, memory_no_write}
 use Rattle.bz_resume.proofs.pair.write_pair.Goals as goal
 
 -- the time of a call that was given the journal's name
@@ -35,3 +36,24 @@ returns-clause-time g c honest =
     let change = c.args.change in
     let old = c.args.files.now in
     stays (f.moment old) (f.since old) (IsChecking change.standing.now (journal_name change.file.now) change.stored.now change.file.now change.text.now (f.folder old))
+
+pub returns-in-Ok-rewrite_pair-clause-memory : goal.returns-in-Ok-rewrite_pair-clause-memory
+returns-in-Ok-rewrite_pair-clause-memory g c is = absurd (never_err _ _ is)
+
+pub returns-in-Ok-rewrite_pair-clause-cause : goal.returns-in-Ok-rewrite_pair-clause-cause
+returns-in-Ok-rewrite_pair-clause-cause g c is = absurd (never_err _ _ is)
+
+pub returns-in-Ok-rewrite_pair-clause-kept : goal.returns-in-Ok-rewrite_pair-clause-kept
+returns-in-Ok-rewrite_pair-clause-kept g c _ = c.in-Ok-rewrite_pair.ensures.kept refl
+
+pub returns-in-Ok-clause-memory : goal.returns-in-Ok-clause-memory
+returns-in-Ok-clause-memory g c is = absurd (write_no_memory is)
+
+pub returns-in-Ok-clause-cause : goal.returns-in-Ok-clause-cause
+returns-in-Ok-clause-cause g c _ = c.in-Err-rewrite_pair.ensures.cause refl
+
+pub returns-in-Ok-clause-kept : goal.returns-in-Ok-clause-kept
+returns-in-Ok-clause-kept g c none = absurd (none refl)
+
+pub returns-clause-cause : goal.returns-clause-cause
+returns-clause-cause g c is = absurd (memory_no_write is)
