@@ -2,13 +2,16 @@
 use Rattle.std.proofs.Common.{◌≡◌, ℕ, zero, suc, ◌+◌, ◌-◌, ◌*◌, ◌/◌, ◌%◌, ◌<◌, ◌≤◌, List, [], ◌∷◌, ◌++◌, Bool, true, false, cond, ◌&&◌, nat_eq, nat_lt, nat_le, Option, Some, None, refl, sym, ap, subst, ◌∙◌, append_assoc, arith, inl, inr}
 use Rattle.std.specs.Fmt.{decimal}
 use Rattle.std.proofs.lemmas.Fmt.{decimal_digit, decimal_step, decimal_by_steps}
-use Rattle.std.proofs.lemmas.Bool.{cases_Bool, and_parts, eqb-true, leb-true, ltb-true, lt-ltb}
+use Rattle.std.proofs.lemmas.Bool.{cases_Bool, and_parts, eqb-true, leb-true, le-leb, lt-leb, ltb-true, lt-ltb}
 use Rattle.std.proofs.lemmas.Bool.Decides.{nat_tests}
 use Rattle.std.proofs.lemmas.List.{append-nil}
 use Rattle.bz_token.specs.Bytes.{is_digit}
 use Rattle.bz_journal_format.specs.Spellings.{number_limit, numeral}
 use Rattle.bz_journal_format.specs.Laws.{IsExact}
-use Rattle.bz_journal_format.specs.Readers.{◌>>=◌, after_mark, digits_at, number_at}
+use Rattle.bz_journal_format.specs.Outcomes.{IsUnread}
+use Rattle.bz_journal_format.specs.Readers.{◌>>=◌, after_mark, digits_at, number_at, tested, up_to}
+use Rattle.bz_journal_format.specs.declared.unread.Unread.{Unread}
+use Rattle.bz_journal_format.specs.declared.unread.Unread.TheVariants as u
 use Rattle.bz_journal_format.proofs.Chains.{bind_some, same_read, after_own, after_answered}
 
 -- the digits of a number, whatever follows them
@@ -132,3 +135,18 @@ module _ (stop : ℕ) (no_digit : is_digit stop ≡ false) where
 
   pub number_exact : IsExact ℕ (numeral stop) (λ n. n < number_limit) (number_at stop)
   number_exact = record { sound = number_sound; complete = number_complete }
+
+-- a number up to a limit, by the number that is read
+module _ (limit stop : ℕ) (s : List ℕ) where
+  pub up_to_read : (n : ℕ) (rest : List ℕ) → number_at stop s ≡ Some (n, rest) → n ≤ limit → up_to limit stop s ≡ Some (n, rest)
+  unfolding tested
+  up_to_read n rest e le = rw (e, le-leb n limit le) refl
+
+  pub up_to_past : (n : ℕ) (rest : List ℕ) → number_at stop s ≡ Some (n, rest) → limit < n → up_to limit stop s ≡ None
+  unfolding tested
+  up_to_past n rest e lt = rw (e, lt-leb n limit lt) refl
+
+  pub up_to_unread : (e : Unread) → IsUnread e (number_at stop s) → IsUnread e (up_to limit stop s)
+  unfolding tested
+  up_to_unread u.Memory read = tt
+  up_to_unread u.Damaged read = rw read refl

@@ -104,7 +104,6 @@ fn read_digits(input: &[u8], begun: u32, stop: u8) -> Result<(u32, &[u8]), Unrea
 }
 
 /// A number as `read_number` reads it that is at most `limit`. The error is `Damaged`: none is there.
-#[tactic(auto, unfolding(crate::specs::Readers::tested))]
 pub fn read_number_up_to(input: &[u8], limit: u32, stop: u8) -> Result<(u32, &[u8]), Unread>
     ensures value { Gives (λ x. (x.0, x.1.now)) result (up_to limit stop input.now) }
     ensures within { IfOk result (λ x. x.0 ≤ limit) }
