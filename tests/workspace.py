@@ -317,8 +317,9 @@ def words_past_the_limit_in_each_rule(w):
     rules = [b'f(name = "r%05d", tags = ["a"], k = {})\n' % number for number in range(20_000)]
     all_rules = b"".join(rules)
     long = "c" * 60_000
-    for command in (f"set tags {long}", f"add tags {long}", f"replace tags a {long}", f"set_if_absent deps {long}", f"dict_add k key:{long}"):
-        refuses_within(w, command, all_rules, b"TooLarge (21)")
+    for command in ("set tags", "set kind", "add tags", "replace tags a", "set_if_absent deps", "dict_add k key:"):
+        refuses_within(w, f"{command} {long}".replace(": ", ":"), all_rules, b"TooLarge (21)")
+    refuses_within(w, "set kind " + ".".join(["k"] * 30_000), b"".join(rules[:1_500]), b"TooLarge (21)")
     words = " ".join(f"c{number:05d}" for number in range(9_000))
     refuses_within(w, f"set tags {words}", b"".join(rules[:3_000]), b"TooLarge (21)")
     first = b'f(name = "first", deps = [%s])\n' % b", ".join(b'"c%05d"' % number for number in range(7_000))
