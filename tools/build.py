@@ -37,12 +37,11 @@ from crates import TOP, below, copy_sources, libraries_of, take_library
 # rt, where a library that it builds holds its statements alone
 RT_STATEMENTS = str(TOP / "tools" / "rt_statements.py")
 # what a proof may take of memory, in bytes; most take less
-MEMORY = 4_000_000_000
+MEMORY = 3_500_000_000
 PROVED = re.compile(r"^logic=proved ", re.MULTILINE)
 # what rt run says when a program is proved and built
 RUNS = "rt: running out/"
-# with how many jobs a proof is made at most: each of them reads much of the same, and with four a proof takes half as much again of the
-# processors' time as with one or two
+# with how many jobs a proof is made at most: each of them reads much of the same, and a fourth makes a proof no shorter
 MOST_JOBS = 3
 # how often it is looked whether a proof has ended, in seconds
 PAUSE = 0.2
@@ -250,8 +249,8 @@ def start_ready(plan, running, free, at_once):
 
 def prove_all(plan, at_once, progress):
     running = []
-    # one more than processors: a proof has parts in which it waits, and parts that one processor does alone
-    with copies(max(min(at_once + 1, room()), at_once)) as free:
+    # two more than processors: a proof has parts in which it waits, and parts that one processor does alone
+    with copies(max(min(at_once + 2, room()), at_once)) as free:
         try:
             while plan.left or running:
                 start_ready(plan, running, free, at_once)
