@@ -9,7 +9,7 @@ use bz_streams::nearest;
 use std::alloc::{AllocError, Global};
 
 /// What the files of a run are, standard input among them.
-#[derive(Clone, Copy, Debug, PartialEq, Eq)]
+#[derive(Clone, Copy, PartialEq, Eq)]
 pub(crate) enum FileType {
     /// .bzl files where their names end in `.bzl`, else BUILD files.
     Auto,

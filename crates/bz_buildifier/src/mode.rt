@@ -7,7 +7,7 @@ use bz_streams::nearest;
 use std::alloc::{AllocError, Global};
 
 /// What buildifier does with a text that formatting changes.
-#[derive(Clone, Copy, Debug, PartialEq, Eq)]
+#[derive(Clone, Copy, PartialEq, Eq)]
 pub(crate) enum Mode {
     /// The file is rewritten; the formatted text of standard input goes to standard output.
     Fix,

@@ -14,7 +14,6 @@ use bz_items::Text;
 use bz_journal::{Action, Editor, KeepFault, Reply, Revisions};
 
 /// A file that is open.
-#[derive(Drop)]
 pub(crate) struct Opened {
     /// The path of the file below the current folder.
     pub(crate) name: String,
@@ -26,6 +25,18 @@ pub(crate) struct Opened {
     pub(crate) written: bool,
     /// Whether it is left alone: the two could not both be written.
     pub(crate) left: bool,
+}
+
+impl Drop for Opened {
+    fn drop(self) {
+        let Opened {
+            name: _,
+            read: _,
+            revisions: _,
+            written: _,
+            left: _,
+        } = self;
+    }
 }
 
 impl Opened {
@@ -85,12 +96,20 @@ impl Opened {
 }
 
 /// A package that a run has used.
-#[derive(Drop)]
 pub(crate) struct Used {
     /// The path of the package.
     pub(crate) package: Text,
     /// Its file; none where it could not be opened.
     pub(crate) file: Option<Opened>,
+}
+
+impl Drop for Used {
+    fn drop(self) {
+        let Used {
+            package: _,
+            file: _,
+        } = self;
+    }
 }
 
 /// The package with this number has this file from now on.

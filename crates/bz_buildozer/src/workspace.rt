@@ -30,10 +30,15 @@ use std::alloc::Global;
 use std::marker::Model;
 
 /// The packages that a run has used, in order of first use, each found by its path in one step.
-#[derive(Drop)]
 pub(crate) struct Workspace {
     names: IndexSet<Vec<u8>>,
     used: Vec<Used>,
+}
+
+impl Drop for Workspace {
+    fn drop(self) {
+        let Workspace { names: _, used: _ } = self;
+    }
 }
 
 impl Model for Workspace {

@@ -13,7 +13,7 @@ use std::alloc::{AllocError, Global};
 use std::convert::AsStr;
 
 /// How the lines are run.
-#[derive(Clone, Copy, Debug)]
+#[derive(Clone, Copy)]
 pub struct Options {
     /// `-k`: a line that fails doesn't keep the next ones from being run.
     pub keep_going: bool,
@@ -26,7 +26,6 @@ pub struct Options {
 }
 
 /// Where commands and targets are.
-#[derive(Debug, Drop)]
 pub enum Given<'a> {
     /// Among the words: these are all of them that are no option's.
     Operands(Vec<&'a str>),
@@ -34,15 +33,24 @@ pub enum Given<'a> {
     Script(&'a str),
 }
 
+impl Drop for Given<'_> {
+    fn drop(self) {
+        match self {
+            Given::Operands(_) => {}
+            Given::Script(_) => {}
+        }
+    }
+}
+
 /// What the words of a command line say.
-#[derive(Debug, Drop)]
+#[derive(Drop)]
 pub struct CommandLine<'a> {
     pub options: Options,
     pub given: Given<'a>,
 }
 
 /// Why words are no line of the program's.
-#[derive(Debug, Drop)]
+#[derive(Drop)]
 pub enum LineFault {
     /// They don't fit the program's options, or one is there twice; clap's text says why.
     Clap(clap::Error),

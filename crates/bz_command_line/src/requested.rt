@@ -13,21 +13,21 @@ use bz_label::{Target, TargetFault};
 use std::alloc::Global;
 
 /// A command, and its text.
-#[derive(Debug, Drop)]
+#[derive(Drop)]
 pub struct Request<'a> {
     pub verb: Verb,
     pub text: &'a str,
 }
 
 /// The commands and the targets of a line, each in order. One line has at least one of each.
-#[derive(Debug, Drop)]
+#[derive(Drop)]
 pub struct Requested<'a> {
     pub commands: Vec<Request<'a>>,
     pub targets: Vec<Target>,
 }
 
 /// Why operands request nothing.
-#[derive(Debug, Drop)]
+#[derive(Drop)]
 pub enum UsageFault<'a> {
     /// The first operand that is refused.
     Operand(Refused<'a>),

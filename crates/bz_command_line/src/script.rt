@@ -10,7 +10,7 @@ use crate::requested::{Requested, UsageFault, read_group};
 use std::alloc::{AllocError, Global};
 
 /// Why the lines of a file request nothing.
-#[derive(Debug, Drop)]
+#[derive(Drop)]
 pub enum ScriptFault<'a> {
     /// This line, from 1, is the first one that is refused.
     Line(usize, UsageFault<'a>),

@@ -17,7 +17,6 @@ use bz_streams::nearest;
 use std::alloc::{AllocError, Global};
 
 /// What a command requests.
-#[derive(Debug, Drop)]
 pub enum Verb {
     /// The command, on the rules that the target means.
     Do(Command),
@@ -27,6 +26,17 @@ pub enum Verb {
     Redo(u32),
     /// The texts of the file are listed.
     Journal,
+}
+
+impl Drop for Verb {
+    fn drop(self) {
+        match self {
+            Verb::Do(_) => {}
+            Verb::Undo(_) => {}
+            Verb::Redo(_) => {}
+            Verb::Journal => {}
+        }
+    }
 }
 
 impl Verb {
@@ -43,7 +53,7 @@ impl Verb {
 }
 
 /// Why an operand is refused.
-#[derive(Clone, Copy, Debug)]
+#[derive(Clone, Copy)]
 pub enum OperandFault {
     /// A growth was refused.
     Memory,
@@ -79,7 +89,7 @@ impl OperandFault {
 }
 
 /// An operand that is refused.
-#[derive(Debug, Drop)]
+#[derive(Drop)]
 pub struct Refused<'a> {
     pub operand: &'a str,
     pub fault: OperandFault,
@@ -163,7 +173,7 @@ pub(crate) fn read_verb(alloc: Global, text: &str) -> Result<Verb, OperandFault>
 }
 
 /// What is printed after the line of a refused operand, a line or two, in three pieces. All of them are empty where nothing is printed.
-#[derive(Clone, Copy, Debug)]
+#[derive(Clone, Copy)]
 pub struct Hint {
     pub front: &'static str,
     pub word: &'static str,

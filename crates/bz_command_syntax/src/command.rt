@@ -9,7 +9,7 @@ pub(crate) type Entries = Items<Entry>;
 
 /// A command as it can be read: the attributes of its operation are identifiers, its kinds are kinds, where values are
 /// required there is one, and all its texts are UTF-8.
-#[derive(Debug, Drop)]
+#[derive(Drop)]
 pub struct Command {
     pub operation: Operation,
 }
@@ -42,7 +42,6 @@ impl Command {
 
 /// What is done to the rules that a target means, in groups by what the commands work on. Attributes, kinds and values are
 /// as they are written: no value is shortened yet, and none is in quotation marks.
-#[derive(Debug, Drop)]
 pub enum Operation {
     /// On rules as a whole.
     Rule(RuleOperation),
@@ -60,8 +59,22 @@ pub enum Operation {
     Print { fields: Items<Field> },
 }
 
+impl Drop for Operation {
+    fn drop(self) {
+        match self {
+            Operation::Rule(_) => {}
+            Operation::Attribute(_) => {}
+            Operation::Value(_) => {}
+            Operation::Dict(_) => {}
+            Operation::Load(_) => {}
+            Operation::Comment(_) => {}
+            Operation::Print { fields: _ } => {}
+        }
+    }
+}
+
 /// What is done to rules as a whole.
-#[derive(Debug, Drop)]
+#[derive(Drop)]
 pub enum RuleOperation {
     /// A new rule of this kind with this name.
     New {
@@ -78,7 +91,7 @@ pub enum RuleOperation {
 }
 
 /// What is done to attributes as a whole.
-#[derive(Debug, Drop)]
+#[derive(Drop)]
 pub enum AttributeOperation {
     /// The attribute's value becomes these, one or more.
     Set { attribute: Text, values: Texts },
@@ -95,7 +108,7 @@ pub enum AttributeOperation {
 }
 
 /// What is done to the values of attributes.
-#[derive(Debug, Drop)]
+#[derive(Drop)]
 pub enum ValueOperation {
     /// These values, one or more, go to the end of the attribute's list where they are no items of it.
     Add {
@@ -128,7 +141,7 @@ pub enum ValueOperation {
 }
 
 /// What is done to attributes that are dicts.
-#[derive(Debug, Drop)]
+#[derive(Drop)]
 pub enum DictOperation {
     /// Entries whose key isn't there, one or more, go to the end of the attribute's dict.
     Add { attribute: Text, entries: Entries },
@@ -139,7 +152,7 @@ pub enum DictOperation {
 }
 
 /// What is done to the symbols that the file loads.
-#[derive(Debug, Drop)]
+#[derive(Drop)]
 pub enum LoadOperation {
     /// Symbols, one or more, are loaded from a path.
     New { path: Text, symbols: Items<Symbol> },
@@ -148,7 +161,7 @@ pub enum LoadOperation {
 }
 
 /// What is done to comments, or with them.
-#[derive(Debug, Drop)]
+#[derive(Drop)]
 pub enum CommentOperation {
     /// A comment is put above.
     Add { host: Host, text: Text },
@@ -159,7 +172,6 @@ pub enum CommentOperation {
 }
 
 /// Where a new rule goes.
-#[derive(Debug, Drop)]
 pub enum RulePlace {
     /// To the end of the file.
     End,
@@ -169,8 +181,17 @@ pub enum RulePlace {
     After(Text),
 }
 
+impl Drop for RulePlace {
+    fn drop(self) {
+        match self {
+            RulePlace::End => {}
+            RulePlace::Before(_) => {}
+            RulePlace::After(_) => {}
+        }
+    }
+}
+
 /// The attributes that a command is meant for.
-#[derive(Debug, Drop)]
 pub enum Attributes {
     /// All but `name`: `*`.
     All,
@@ -178,8 +199,17 @@ pub enum Attributes {
     Named(Text),
 }
 
+impl Drop for Attributes {
+    fn drop(self) {
+        match self {
+            Attributes::All => {}
+            Attributes::Named(_) => {}
+        }
+    }
+}
+
 /// The values that are moved.
-#[derive(Debug, Drop)]
+#[derive(Drop)]
 pub enum Values {
     /// All: `*`, alone or beside others.
     All,
@@ -188,21 +218,20 @@ pub enum Values {
 }
 
 /// An entry of a dict, as it is written.
-#[derive(Debug, Drop)]
+#[derive(Drop)]
 pub struct Entry {
     pub key: Text,
     pub value: Text,
 }
 
 /// A symbol that is loaded: its name in the file that loads it, and its name in the file that is loaded.
-#[derive(Debug, Drop)]
+#[derive(Drop)]
 pub struct Symbol {
     pub to: Text,
     pub from: Text,
 }
 
 /// What carries the comments that a command is meant for.
-#[derive(Debug, Drop)]
 pub enum Host {
     /// The rule itself.
     Rule,
@@ -212,8 +241,21 @@ pub enum Host {
     Item { attribute: Text, value: Text },
 }
 
+impl Drop for Host {
+    fn drop(self) {
+        match self {
+            Host::Rule => {}
+            Host::Attribute(_) => {}
+            Host::Item {
+                attribute: _,
+                value: _,
+            } => {}
+        }
+    }
+}
+
 /// What `fix` mends.
-#[derive(Clone, Copy, Debug)]
+#[derive(Clone, Copy)]
 pub struct Fixes {
     /// The first rule of kind `package` goes after the loads.
     pub move_package_to_top: bool,
@@ -222,7 +264,7 @@ pub struct Fixes {
 }
 
 /// A field of a rule that is printed.
-#[derive(Debug, Drop)]
+#[derive(Drop)]
 pub enum Field {
     /// The rule's kind.
     Kind,

@@ -11,9 +11,14 @@ use std::marker::Model;
 use std::str;
 
 /// A compiled pattern.
-#[derive(Debug, Drop)]
 pub struct Pattern {
     regex: Regex,
+}
+
+impl Drop for Pattern {
+    fn drop(self) {
+        let Pattern { regex: _ } = self;
+    }
 }
 
 impl Model for Pattern {

@@ -9,7 +9,7 @@ use std::alloc::Global;
 use std::mem;
 
 /// What is done to comments.
-#[derive(Clone, Copy, Debug)]
+#[derive(Clone, Copy)]
 pub enum Change<'a> {
     /// `#`, a space and this text, without blanks at its end, becomes the last comment above.
     Add(&'a [u8]),

@@ -10,15 +10,24 @@ use std::marker::Model;
 
 /// What is in a node: a token with its gap, or a node.
 #[cycle(tree)]
-#[derive(Debug, Drop)]
 pub enum Part {
     Leaf(Leaf),
     Node(Node),
 }
 
+impl Drop for Part {
+    #[inline(always)]
+    fn drop(self) {
+        match self {
+            Part::Leaf(_) => {}
+            Part::Node(_) => {}
+        }
+    }
+}
+
 /// A kind and its parts from left to right. Nothing says yet that they have the shape of the kind.
 #[cycle(tree)]
-#[derive(Debug, Drop)]
+#[derive(Drop)]
 pub struct Node {
     pub kind: Kind,
     pub parts: Items<Part>,
@@ -155,7 +164,7 @@ pub fn copy_all(alloc: Global, parts: &[Part]) -> Result<Items<Part>, Memory>
 }
 
 /// A legal tree whose spelling is within the limit. Contracts see it as its root.
-#[derive(Debug, Drop)]
+#[derive(Drop)]
 pub struct Tree {
     pub root: Node,
 }
@@ -205,7 +214,7 @@ impl Tree {
 }
 
 /// A legal tree of a `.bzl` file whose spelling is within the limit. Contracts see it as its root.
-#[derive(Debug, Drop)]
+#[derive(Drop)]
 pub struct BzlTree {
     pub root: Node,
 }

@@ -52,10 +52,7 @@ pub(crate) fn give_back(at: usize, parts: &mut Vec<Part>) -> usize
 pub(crate) fn drop_row(row: Vec<Part>) {
     let mut left = row;
     while let Some(part) = left.pop() {
-        match part {
-            Part::Leaf(_leaf) => {}
-            Part::Node(_node) => {}
-        }
+        drop(part);
     }
 }
 

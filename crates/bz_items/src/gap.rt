@@ -11,7 +11,7 @@ const LINE: &[u8] =
     b"\n                                                                                                                                                                                                                                                               ";
 
 /// What a gap is, its usual forms by how many spaces they have.
-#[derive(Debug, Drop)]
+#[derive(Drop)]
 enum Form {
     Spaces(u8),
     /// A newline, and spaces after it.
@@ -21,10 +21,16 @@ enum Form {
 
 /// The bytes between two tokens, which contracts see as the list of them. Most are some spaces, or a newline and some
 /// spaces, and take no memory from the allocator.
-#[derive(Debug, Drop)]
 pub struct Gap {
     form: Form,
     alloc: Global,
+}
+
+impl Drop for Gap {
+    #[inline(always)]
+    fn drop(self) {
+        let Gap { form: _, alloc: _ } = self;
+    }
 }
 
 impl Model for Gap {

@@ -9,9 +9,14 @@ use std::alloc::Global;
 use std::marker::Model;
 
 /// A `Vec` that contracts see as the list of its elements.
-#[derive(Debug, Drop)]
 pub struct Items<T> {
     items: Vec<T>,
+}
+
+impl<T: Drop> Drop for Items<T> {
+    fn drop(self) {
+        let Items { items: _ } = self;
+    }
 }
 
 impl<T> Model for Items<T> {

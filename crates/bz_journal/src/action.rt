@@ -7,7 +7,7 @@ use bz_label::Target;
 use bz_value::Refusal;
 
 /// What is requested of a session. It borrows its command and target, so that one command serves all targets with no copy.
-#[derive(Clone, Copy, Debug)]
+#[derive(Clone, Copy)]
 pub enum Action<'a> {
     /// The command, on the rules of the present text that the target means.
     Do(&'a Command, &'a Target),

@@ -18,12 +18,17 @@ use bz_value::{File, Refusal};
 use std::alloc::Global;
 
 /// What is looked up in a text that stays, each made when a command needs it.
-#[derive(Drop)]
 pub(crate) struct Lookups {
     /// The index of the names of its rules.
     pub(crate) names: Option<Names>,
     /// The lines on which its statements begin.
     pub(crate) lines: Option<Items<u32>>,
+}
+
+impl Drop for Lookups {
+    fn drop(self) {
+        let Lookups { names: _, lines: _ } = self;
+    }
 }
 
 impl Lookups {

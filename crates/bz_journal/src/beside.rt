@@ -25,7 +25,6 @@ use bz_value::{File, Refusal};
 use std::alloc::Global;
 
 /// What is kept beside a course.
-#[derive(Drop)]
 pub(crate) struct Beside {
     /// The value of the present text, where it is kept.
     pub(crate) value: Option<File>,
@@ -37,6 +36,18 @@ pub(crate) struct Beside {
     pub(crate) length_bound: usize,
     /// Whether the last command printed something, so that the value is worth keeping for the next one that prints.
     pub(crate) printed_last: bool,
+}
+
+impl Drop for Beside {
+    fn drop(self) {
+        let Beside {
+            value: _,
+            lookups: _,
+            written: _,
+            length_bound: _,
+            printed_last: _,
+        } = self;
+    }
 }
 
 impl Beside {

@@ -24,7 +24,6 @@ const OFTEN: u32 = 64;
 
 /// The course of a file, and what is kept beside it. Of a text that was opened no digest is taken until something reads it:
 /// `keep_noted` or `listing`. Contracts see the session.
-#[derive(Drop)]
 pub struct Editor {
     pub(crate) course: Course,
     /// The SHA-256 of each of the first texts.
@@ -34,6 +33,18 @@ pub struct Editor {
     done: u32,
     /// The present text, where it was opened or written.
     text: Option<Vec<u8>>,
+}
+
+impl Drop for Editor {
+    fn drop(self) {
+        let Editor {
+            course: _,
+            digests: _,
+            beside: _,
+            done: _,
+            text: _,
+        } = self;
+    }
 }
 
 impl Model for Editor {
@@ -203,23 +214,23 @@ impl Editor {
     }
 
     /// The one text of an editor, its tree, and the path of its package. The error: a growth was refused, and it is given back.
-    pub(crate) fn into_first(self) -> Result<(Tree, String, Vec<u8>), Editor>
+    pub(crate) fn into_first(mut self) -> Result<(Tree, String, Vec<u8>), Editor>
         requires { length (session_history self).texts ≡ 1 }
         ensures first { IfOk result (λ parts. session_history self ≡ opened (string_bytes parts.1) parts.2.items) }
         ensures text { IfOk result (λ parts. parts.2.items ≡ spell_node parts.0) }
         ensures path { IfOk result (λ parts. length (string_bytes parts.1) ≤ 65536) }
         ensures err { IfErr result (λ editor. editor ≡ self) }
     {
-        let mut editor = self;
-        let Ok(text) = editor.own_text() else {
-            return Err(editor);
+        let Ok(text) = self.own_text() else {
+            return Err(self);
         };
         let Editor {
             course,
             digests,
             beside,
-            ..
-        } = editor;
+            done: _,
+            text: _,
+        } = self;
         drop(digests);
         drop(beside);
         let (tree, package) = course.into_first();

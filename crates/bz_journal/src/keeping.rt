@@ -11,7 +11,7 @@ use bz_value::Refusal;
 use std::alloc::Global;
 
 /// Why an action was not kept.
-#[derive(Clone, Copy, Debug)]
+#[derive(Clone, Copy)]
 pub enum KeepFault {
     /// The action is refused; session and files are as before.
     Refused(Refusal),

@@ -27,9 +27,14 @@ enum Form {
 
 /// The texts of a file in a run. Where the last command on it is said to be the last one, it takes neither a tree of the new text nor the
 /// step to it: only the two texts are kept. Contracts see the history, and whatever is done after all is done as before.
-#[derive(Drop)]
 pub struct Revisions {
     form: Form,
+}
+
+impl Drop for Revisions {
+    fn drop(self) {
+        let Revisions { form: _ } = self;
+    }
 }
 
 impl Model for Revisions {
@@ -124,7 +129,8 @@ impl Revisions {
         ensures ok { IfOk result (λ editor. session_history editor ≡ self) }
         ensures err { IfErr result (λ texts. texts ≡ self) }
     {
-        match self.form {
+        let Revisions { form } = self;
+        match form {
             Form::Editor(editor) => Ok(editor),
             Form::Texts(texts) => match texts.course() {
                 Some(course) => {

@@ -18,11 +18,20 @@ pub(crate) struct Made {
 }
 
 /// A text of a package's file, and the one that a command made of it, where that is another one. Contracts see their history.
-#[derive(Drop)]
 pub(crate) struct Texts {
     package: String,
     first: Vec<u8>,
     made: Option<Made>,
+}
+
+impl Drop for Texts {
+    fn drop(self) {
+        let Texts {
+            package: _,
+            first: _,
+            made: _,
+        } = self;
+    }
 }
 
 impl Model for Texts {

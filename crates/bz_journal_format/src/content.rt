@@ -2,7 +2,7 @@ use bz_edit::{Edit, Step};
 use bz_items::{Items, Text};
 
 /// How a record is written.
-#[derive(Clone, Copy, Debug, PartialEq, Eq)]
+#[derive(Clone, Copy, PartialEq, Eq)]
 pub enum Version {
     /// Without notes.
     One,
@@ -11,7 +11,7 @@ pub enum Version {
 }
 
 /// The edits of a step, with its note. Nothing says yet that they make one.
-#[derive(Debug, Drop)]
+#[derive(Drop)]
 pub struct RecordedStep {
     /// What made the step: UTF-8, of at most 65,536 bytes, and empty in version 1.
     pub note: Text,
@@ -19,7 +19,7 @@ pub struct RecordedStep {
 }
 
 /// What a journal says. Nothing says yet that its places are there, or that its digests are those of its texts.
-#[derive(Debug, Drop)]
+#[derive(Drop)]
 pub struct Record {
     /// The name of the file's package: UTF-8, of at most 65,536 bytes.
     pub package: Text,

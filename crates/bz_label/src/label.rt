@@ -11,7 +11,7 @@ use std::alloc::Global;
 use thiserror::Error;
 
 /// A label: the repository's part as written, the package and the name.
-#[derive(Debug, Drop)]
+#[derive(Drop)]
 pub struct Label {
     /// Nothing, `@`, `@@`, `@REPO` or `@@REPO`.
     pub repository: Text,

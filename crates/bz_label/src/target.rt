@@ -15,7 +15,6 @@ use std::alloc::Global;
 use thiserror::Error;
 
 /// Which rules of a package's file are meant.
-#[derive(Debug, Drop)]
 pub enum Which {
     /// All rules: `all` or `*`.
     All,
@@ -30,8 +29,20 @@ pub enum Which {
     Name(Text),
 }
 
+impl Drop for Which {
+    fn drop(self) {
+        match self {
+            Which::All => {}
+            Which::Kind(_) => {}
+            Which::Line(_) => {}
+            Which::Package => {}
+            Which::Name(_) => {}
+        }
+    }
+}
+
 /// What a command is meant for: a package, and rules of its file.
-#[derive(Debug, Drop)]
+#[derive(Drop)]
 pub struct Target {
     /// The package's path, empty for the root package and `-` for standard input.
     pub package: Text,

@@ -5,11 +5,21 @@ use bz_token::Class;
 use std::alloc::AllocError;
 
 /// A token with the gap before it: spaces, newlines and comments.
-#[derive(Debug, Drop)]
 pub struct Leaf {
     pub class: Class,
     pub gap: Gap,
     pub token: Text,
+}
+
+impl Drop for Leaf {
+    #[inline(always)]
+    fn drop(self) {
+        let Leaf {
+            class: _,
+            gap: _,
+            token: _,
+        } = self;
+    }
 }
 
 impl Leaf {

@@ -30,7 +30,7 @@ impl From<AllocError> for ResumeFault {
 }
 
 /// Why a record was not opened.
-#[derive(Debug, Drop)]
+#[derive(Drop)]
 pub enum Halt {
     Memory,
     Damaged,

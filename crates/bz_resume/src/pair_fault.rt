@@ -1,7 +1,7 @@
 //! What can go wrong while a file and its journal are replaced.
 
 /// Why a file and its journal were not both replaced.
-#[derive(Clone, Copy, Debug, PartialEq, Eq)]
+#[derive(Clone, Copy, PartialEq, Eq)]
 pub enum PairFault {
     /// Memory was refused, and nothing was replaced.
     Memory,

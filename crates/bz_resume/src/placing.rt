@@ -12,8 +12,9 @@ fn swap_by_copy(node: &mut Node, step: &Step) -> Result<(), Memory>
     requires { all_there step.now node.old ≡ true }
     ensures { OnOk result (node.new ≡ swap_node step.now node.old) }
 {
-    let Step { edits } = step.copy()?;
-    let mut edits = edits.into_vec();
+    let made = step.copy()?;
+    let _places = made.edits.as_slice();
+    let mut edits = made.into_edits().into_vec();
     swap_each(node, edits.as_mut_slice())?;
     Ok(())
 }

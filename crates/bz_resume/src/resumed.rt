@@ -3,7 +3,7 @@ use bz_grammar::Tree;
 use bz_items::{Items, Text};
 
 /// What a journal is resumed as: the texts of a file as one tree and the steps that lead to the others, and what is known of them.
-#[derive(Debug, Drop)]
+#[derive(Drop)]
 pub struct Resumed {
     /// The path of the file's package.
     pub package: Text,

@@ -13,9 +13,8 @@ const DEPTH: usize = 64;
 fn drop_all(exprs: Vec<Expr>, depth: usize) {
     let mut left = exprs;
     while let Some(x) = left.pop() {
-        match x {
-            Expr::Token(_token) => {}
-            Expr::Form(form) => drop_form(form, depth),
+        if let Some(form) = x.into_form() {
+            drop_form(form, depth);
         }
     }
 }
@@ -26,8 +25,9 @@ fn drop_form(form: Form, depth: usize) {
         drop(form);
         return;
     }
-    drop_all(form.parts.into_vec(), depth - 1);
-    drop_all(form.seq.items.into_vec(), depth - 1);
+    let (parts, items) = form.into_rows();
+    drop_all(parts.into_vec(), depth - 1);
+    drop_all(items.into_vec(), depth - 1);
 }
 
 /// The first of some parts; the others are dropped.
@@ -42,14 +42,10 @@ fn first_of(parts: Vec<Expr>) -> Option<Expr>
 fn first_part(x: Expr) -> Option<Expr>
     ensures { IfSome result (λ part. fronts part < fronts x) }
 {
-    match x {
-        Expr::Token(_token) => None,
-        Expr::Form(form) => {
-            let parts = form.parts.into_vec();
-            drop_all(form.seq.items.into_vec(), DEPTH);
-            first_of(parts)
-        }
-    }
+    let form = x.into_form()?;
+    let (parts, items) = form.into_rows();
+    drop_all(items.into_vec(), DEPTH);
+    first_of(parts.into_vec())
 }
 
 /// Drops a statement from the outside to the inside of its first parts, so that none of them is dropped in another.

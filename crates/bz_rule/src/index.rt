@@ -39,10 +39,18 @@ fn marks_at(alloc: Global, count: usize, places: &[usize]) -> Result<Vec<bool>, 
 
 /// The names of the rules of a file, each with its places among the items, from 0. It takes memory for each name once, and for
 /// each rule that has one a place.
-#[derive(Drop)]
 pub struct Names {
     count: usize,
     places: Places,
+}
+
+impl Drop for Names {
+    fn drop(self) {
+        let Names {
+            count: _,
+            places: _,
+        } = self;
+    }
 }
 
 impl Model for Names {

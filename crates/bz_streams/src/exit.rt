@@ -18,7 +18,7 @@ pub enum Cut {
 }
 
 /// How a run ended.
-#[derive(Clone, Copy, Debug, PartialEq, Eq)]
+#[derive(Clone, Copy, PartialEq, Eq)]
 pub struct Exit {
     /// The status for the process.
     pub status: u8,

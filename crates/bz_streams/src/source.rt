@@ -8,7 +8,7 @@ use bz_lex::LENGTH_LIMIT;
 use std::alloc::Global;
 
 /// A read or a write failed.
-#[derive(Clone, Copy, Debug, PartialEq, Eq)]
+#[derive(Clone, Copy, PartialEq, Eq)]
 pub struct PortFault;
 
 /// A reader that counts its faults.
@@ -34,7 +34,7 @@ pub trait Source {
 }
 
 /// Why no bytes came.
-#[derive(Clone, Copy, Debug, PartialEq, Eq)]
+#[derive(Clone, Copy, PartialEq, Eq)]
 pub enum InputFault {
     /// Memory was refused.
     Memory,

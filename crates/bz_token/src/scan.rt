@@ -7,7 +7,7 @@ use crate::Class;
 use crate::state::{Quote, State, start_step, word_step};
 
 /// The token at the front of a text.
-#[derive(Clone, Copy, Debug, PartialEq, Eq)]
+#[derive(Clone, Copy, PartialEq, Eq)]
 pub struct Found {
     pub class: Class,
     /// How many bytes long it is.

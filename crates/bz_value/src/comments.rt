@@ -16,9 +16,15 @@ struct Held {
 
 /// The comments of a host: those above it, in the order of the text, and the one on its last line. Each is kept from its
 /// `#` on, without blanks at its end. They are kept by a pointer, since most expressions have none.
-#[derive(Drop)]
 pub struct Comments {
     held: Option<Box<Held>>,
+}
+
+impl Drop for Comments {
+    #[inline(always)]
+    fn drop(self) {
+        let Comments { held: _ } = self;
+    }
 }
 
 impl Model for Comments {

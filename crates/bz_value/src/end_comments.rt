@@ -8,9 +8,15 @@ use std::marker::Model;
 
 /// The comments below the last item of a sequence, in the order of the text, which contracts see as the list of them. Hardly a
 /// sequence has some, so they are not in the value itself.
-#[derive(Drop)]
 pub struct EndComments {
     held: Option<Box<Items<Text>>>,
+}
+
+impl Drop for EndComments {
+    #[inline(always)]
+    fn drop(self) {
+        let EndComments { held: _ } = self;
+    }
 }
 
 impl Model for EndComments {

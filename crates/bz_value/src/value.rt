@@ -1,5 +1,5 @@
 //! The types of file values.
-ghost use Rattle.std.specs.Prelude.{◌≡◌};
+ghost use Rattle.std.specs.Prelude.{◌≡◌, IfSome};
 
 use crate::comments::Comments;
 use crate::end_comments::EndComments;
@@ -8,7 +8,6 @@ use bz_items::{Items, Text};
 use std::marker::Model;
 
 /// A token. `line_break`: of a binary operator, that the operand after it begins on a new line.
-#[derive(Drop)]
 pub struct Token {
     pub class: Class,
     pub text: Text,
@@ -16,17 +15,38 @@ pub struct Token {
     pub comments: Comments,
 }
 
+impl Drop for Token {
+    fn drop(self) {
+        let Token {
+            class: _,
+            text: _,
+            line_break: _,
+            comments: _,
+        } = self;
+    }
+}
+
 /// A statement, an item of a sequence, or a part of one.
 #[cycle(expr)]
-#[derive(Drop)]
 pub enum Expr {
     Token(Token),
     Form(Form),
 }
 
+impl Drop for Expr {
+    #[cycle(drops)]
+    fn drop(self) {
+        match self {
+            Expr::Token(_) => {}
+            Expr::Form(_) => {}
+        }
+    }
+}
+
 impl Expr {
     ghost use Rattle.bz_value.specs.Commented.{with_comments};
     ghost use Rattle.bz_value.specs.Proper.{comments_of};
+    ghost use Rattle.bz_value.specs.declared.value.Expr as e;
 
     /// The comments of the expression: none, unless it is a statement or an item of a sequence.
     pub fn comments(&self) -> &Comments
@@ -53,6 +73,17 @@ impl Expr {
             }
         }
     }
+
+    /// The form that the expression is, where it is one.
+    #[inline(always)]
+    pub fn into_form(self) -> Option<Form>
+        ensures { IfSome result (λ form. self ≡ e.Form form) }
+    {
+        match self {
+            Expr::Token(_token) => None,
+            Expr::Form(form) => Some(form),
+        }
+    }
 }
 
 /// What is between the brackets of a call, list, dict, tuple or load, without brackets and commas: the items, the
@@ -69,13 +100,42 @@ pub struct Seq {
 /// word of a load). Without one: `parts` is the whole row of the node, marks too, and `seq` is empty. `open_break`: of a
 /// comprehension, that a newline was right after its bracket.
 #[cycle(expr)]
-#[derive(Drop)]
 pub struct Form {
     pub kind: Kind,
     pub parts: Items<Expr>,
     pub seq: Seq,
     pub open_break: bool,
     pub comments: Comments,
+}
+
+impl Drop for Form {
+    #[cycle(drops)]
+    fn drop(self) {
+        let Form {
+            kind: _,
+            parts: _,
+            seq: _,
+            open_break: _,
+            comments: _,
+        } = self;
+    }
+}
+
+impl Form {
+    /// The parts of the form, and the items of its sequence.
+    pub fn into_rows(self) -> (Items<Expr>, Items<Expr>)
+        ensures parts { result.0 ≡ self.parts }
+        ensures items { result.1 ≡ self.seq.items }
+    {
+        let Form {
+            kind: _,
+            parts,
+            seq,
+            open_break: _,
+            comments: _,
+        } = self;
+        (parts, seq.items)
+    }
 }
 
 /// An item of a file: comment lines on their own, or a statement.

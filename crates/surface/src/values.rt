@@ -10,7 +10,7 @@ use std::cmp::Ordering;
 pub(crate) fn labels(alloc: Global) -> Option<String> {
     let label = Label::read(alloc, "p", "//a/b").ok()?;
     let target = Target::read(alloc, "//p:all").ok()?;
-    let means_all = matches!(target.which, Which::All);
+    let means_all = matches!(&target.which, Which::All);
     let is_less = key_cmp(b"a", b"b") == Ordering::Less;
     format!(in alloc;
         "name of {} bytes, all {means_all}, same {}, shortened to {} bytes, less {is_less}, sorted {}, place {}",
