@@ -41,8 +41,10 @@ MEMORY = 3_500_000_000
 PROVED = re.compile(r"^logic=proved ", re.MULTILINE)
 # what rt run says when a program is proved and built
 RUNS = "rt: running out/"
-# with how many jobs a proof is made at most: each of them reads much of the same, and a fourth makes a proof no shorter
-MOST_JOBS = 3
+# with how many jobs a proof is made at most: each of them reads much of the same, and a fifth makes a proof hardly shorter
+MOST_JOBS = 4
+# with which part of the most work above any crate one can wait
+WAITS = 0.6
 # how often it is looked whether a proof has ended, in seconds
 PAUSE = 0.2
 # whether what was proved of each function is kept
@@ -117,7 +119,7 @@ class Proof:
     """A crate that is being proved, or a program that is being built, in a copy of all crates."""
 
     def __init__(self, crate, copy, jobs, libraries, can_wait):
-        self.crate, self.copy, self.jobs = crate, copy, jobs
+        self.crate, self.copy, self.jobs, self.can_wait = crate, copy, jobs, can_wait
         self.folder, self.kept = copy / "crates" / crate, TOP / "crates" / crate / "out"
         for library in below(crate, libraries):
             take_library(library, TOP, copy)
@@ -231,26 +233,26 @@ def copies(count):
 
 
 def start_ready(plan, running, free, at_once):
-    """Starts as many proofs as there are copies for. The one with the most work above it, of those that run and are ready, gets the
-    processors that the others leave, and half as many more as there are, since a proof has parts that one processor does alone, up to
-    MOST_JOBS. One with less than half of that work above it can wait, and takes what the others leave."""
+    """Starts what there are processors for. The crate with the most work above it, of those that run and are ready, gets those that the
+    others leave, up to MOST_JOBS; any other gets one, since each further job takes processor time of its own. A crate with less than
+    WAITS of that work above it can wait: the others don't count it, since it takes what they leave, and one of it is never too many."""
     ready = plan.ready()
     most = max(map(plan.work, [*ready, *(proof.crate for proof in running)]), default=0)
-    for others, crate in zip(range(len(ready) - 1, -1, -1), ready):
-        if not free:
-            return
-        copy = free.pop()
-        unused = at_once + at_once // 2 - sum(proof.jobs for proof in running) - min(others, len(free))
+    urgent = [crate for crate in ready if plan.work(crate) >= WAITS * most]
+    for place, crate in enumerate(ready):
+        can_wait = crate not in urgent
+        taken = sum(proof.jobs for proof in running if can_wait or not proof.can_wait)
         is_first = all(plan.work(proof.crate) <= plan.work(crate) for proof in running)
+        if not free or (taken >= at_once + can_wait and not is_first):
+            continue
+        jobs = max(min(at_once - taken - len(urgent[place + 1 :]), MOST_JOBS), 1) if is_first else 1
         plan.left.remove(crate)
-        jobs = min(max(unused, 1), at_once, MOST_JOBS) if is_first else 1
-        running.append(Proof(crate, copy, jobs, plan.libraries, can_wait=2 * plan.work(crate) < most))
+        running.append(Proof(crate, free.pop(), jobs, plan.libraries, can_wait))
 
 
 def prove_all(plan, at_once, progress):
     running = []
-    # two more than processors: a proof has parts in which it waits, and parts that one processor does alone
-    with copies(max(min(at_once + 2, room()), at_once)) as free:
+    with copies(at_once) as free:
         try:
             while plan.left or running:
                 start_ready(plan, running, free, at_once)
