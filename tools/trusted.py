@@ -10,7 +10,9 @@ The surface is what the program surface uses: the calls and types that are promi
 definitions that it names, and those that they name. What the contracts of private functions alone reach is in specs/private/ where a whole
 file is of that kind.
 
-Lines are those of definitions and of the comments right above them; lines of imports and empty ones count in no number.
+Lines are those of definitions and of the comments right above them; lines of imports and empty ones count in no number. The last row is the
+port to the system's files: the lines of the trait `Files` without comments and empty ones, its acts and what is assumed of each. It may have at
+most MOST_OF_PORT; past that the status is 1.
 """
 import collections
 import functools
@@ -29,6 +31,8 @@ EXPORT = re.compile(r"(?m)^pub use (?:crate::|self::)?(\w+)::(?:\{([^}]*)\}|(\w+
 BLOCK = re.compile(r"^(?:pub (trait)|impl) *([\w:]+)(?: for (\w+))?")
 # what a file brings in from a crate, by itself or several names at once, with the module where it is not the crate's root
 BROUGHT = re.compile(r"(?m)^(?:pub )?use (bz_\w+)::((?:\w+::)*)(?:\{([^}]*)\}|(\w+));")
+# the trait of the port to the system's files, and how many lines it may have
+PORT, MOST_OF_PORT = TOP / "crates" / "bz_files" / "src" / "files.rt", 120
 CALL, OF_TYPE, OF_TRAIT = re.compile(r"^pub fn (\w+)"), re.compile(r"^    pub fn (\w+)"), re.compile(r"^    fn (\w+)")
 
 
@@ -269,6 +273,12 @@ def misplaced():
     return wrong
 
 
+def port():
+    """How many lines the port to the system's files has."""
+    trait = re.search(r"(?ms)^pub trait Files \{\n(.*?)^\}", PORT.read_text())[1]
+    return sum(1 for line in trait.split("\n") if line.strip() and not line.lstrip().startswith("//"))
+
+
 def main():
     seen = trusted(ENGINES if "--programs" in sys.argv else None)
     for crate, numbers in counts().items():
@@ -278,6 +288,8 @@ def main():
                 names = [key[1] for key in definitions().texts if definitions().files[key] == file and key in seen]
                 if names:
                     print(f"    {file.name}: " + " ".join(name.split("\n")[0][:40] for name in names))
+    print(f"{'the port':14} {port():6}")
+    sys.exit(port() > MOST_OF_PORT)
 
 
 if __name__ == "__main__":

@@ -1,5 +1,6 @@
 -- The front of a list.
-use Rattle.std.proofs.Common.{◌≡◌, ◌<◌, ◌+◌, ◌++◌, ◌∙◌, ℕ, List, [], length, take, ap, sym, arith, length-append, length-take}
+use Rattle.std.proofs.Common.{◌≡◌, ◌<◌, ◌+◌, ◌++◌, ◌∷◌, ◌∙◌, ◌||◌, Bool, ℕ, List, [], length, map, take, ap, refl, sym, arith, length-append, length-take}
+use Rattle.std.specs.List.{list_any}
 use Rattle.std.proofs.lemmas.List.{take_all}
 
 -- Fewer than could be taken are all.
@@ -24,3 +25,8 @@ is_list held bytes front =
 
 pub front_is : (held bytes : List ℕ) → bytes ≡ held → take (length held + 1) bytes ≡ held
 front_is held bytes same = take_all (length held + 1) bytes (omega (arith, ap length same)) ∙ same
+
+-- a test of what is made of the items
+pub any_map : {A B : Type 0} (f : A → B) (test : B → Bool) (xs : List A) → list_any test (map f xs) ≡ list_any (λ x. test (f x)) xs
+any_map f test [] = refl
+any_map f test (x ∷ xs) = ap (λ (b : Bool). test (f x) || b) (any_map f test xs)

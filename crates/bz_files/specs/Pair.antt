@@ -1,7 +1,11 @@
 -- A journal and its file, which are given new bytes one after the other.
 use Rattle.std.specs.Prelude.{◌≡◌, ◌⊎◌, List, ℕ, Some}
 use Rattle.std.specs.FinMap.{get}
-use Rattle.bz_files.specs.Folder.{Folder, Text, SameBut, new_name, with_file}
+use Rattle.bz_files.specs.Folder.{Folder, Text, SameBut, IsReplacing, new_name, with_file}
+
+-- a moment of a call that gives a file these bytes only where it holds the text `held`: the folder is as it was, or the file held that text
+abbrev pub IsRewriting : Text → Text → List ℕ → Folder → Folder → Type 0
+IsRewriting held name bytes old now = (now ≡ old) ⊎ ((get old name ≡ Some held) × IsReplacing name bytes old now)
 
 -- the names under which the bytes of the two are written first
 abbrev pub IsNew : Text → Text → Text → Type 0

@@ -1,5 +1,10 @@
 //! New files, which then take the place of others. A run holds the name of one by a lock.
-use crate::rights::Rights;
+ghost use Rattle.std.specs.Prelude.{◌≡◌, IfOk, string_bytes};
+ghost use Rattle.bz_files.specs.Folder.{new_name};
+
+use crate::flushing::flush_file;
+use crate::rights::{Rights, common, rights_at};
+use std::alloc::{AllocError, Global};
 use std::fs::{File, Metadata, OpenOptions, TryLockError};
 use std::io::{ErrorKind, Write};
 use std::os::unix::fs::{MetadataExt, OpenOptionsExt};
@@ -8,27 +13,36 @@ use std::{fs, io};
 // How often a name is tried that another run takes or gives up meanwhile.
 const TRIES: usize = 10;
 
-/// A file that was not there before. Nobody else holds its lock as long as it is open, and whoever meets its name then lets it be.
+/// A file that was not there before, and the name of the file whose place it is to take. Nobody else holds its lock as long as it is open,
+/// and whoever meets its own name then lets it be.
 #[derive(Drop)]
-pub(crate) struct Fresh<'a> {
-    name: &'a str,
+pub(crate) struct Fresh {
+    name: String,
+    own: String,
     file: File,
+    made: Metadata,
 }
 
-/// Whether it is one file, under whatever names.
-pub(crate) fn is_same(one: &Metadata, other: &Metadata) -> bool {
+// The name under which the bytes of a file are written before it is replaced.
+fn new_name(alloc: Global, name: &str) -> Result<String, AllocError>
+    ensures { IfOk result (λ text. string_bytes text ≡ new_name name.now) }
+{
+    format!(in alloc; "{name}.bznew")
+}
+
+// Whether it is one file, under whatever names.
+fn is_same(one: &Metadata, other: &Metadata) -> bool {
     one.dev() == other.dev() && one.ino() == other.ino()
 }
 
-// Whether it is this open file that has the name.
+// Whether it is this file that has the name.
 fn has_name<R: std::rt::Files<File = File>>(
     system: &R,
     name: &str,
-    file: &File,
+    file: &Metadata,
 ) -> io::Result<bool> {
-    let open = file.metadata()?;
     match fs::symlink_metadata(system, name) {
-        Ok(named) => Ok(is_same(&open, &named)),
+        Ok(named) => Ok(is_same(file, &named)),
         Err(error) if error.kind() == ErrorKind::NotFound => Ok(false),
         Err(error) => Err(error),
     }
@@ -36,7 +50,7 @@ fn has_name<R: std::rt::Files<File = File>>(
 
 // Removes a file, if it is this one that has the name.
 fn remove<R: std::rt::Files<File = File>>(system: &R, name: &str, file: &File) -> io::Result<()> {
-    if has_name(system, name, file)? {
+    if has_name(system, name, &file.metadata()?)? {
         fs::remove_file(system, name)?;
     }
     Ok(())
@@ -59,7 +73,7 @@ fn is_held<R: std::rt::Files<File = File>>(
     name: &str,
     file: &File,
 ) -> io::Result<bool> {
-    Ok(takes_lock(file)? && has_name(system, name, file)?)
+    Ok(takes_lock(file)? && has_name(system, name, &file.metadata()?)?)
 }
 
 // Creates a file that only its owner may read, and takes its lock. None: something has the name, or had it in between.
@@ -103,71 +117,89 @@ fn clear<R: std::rt::Files<File = File>>(system: &R, name: &str) -> io::Result<(
     }
 }
 
-impl<'a> Fresh<'a> {
-    /// Creates a file of this name. The error: another run holds one of that name, or what is there can't be removed, or it
-    /// can't be created.
+// Creates a file of this name. The error: another run holds one of that name, or what is there can't be removed, or it can't be created.
+fn create_anew<R: std::rt::Files<File = File>>(system: &R, name: &str) -> io::Result<File> {
+    for _ in 0..TRIES {
+        if let Some(file) = create(system, name)? {
+            return Ok(file);
+        }
+        match clear(system, name) {
+            Err(error) if error.kind() != ErrorKind::NotFound => return Err(error),
+            _ => {}
+        }
+    }
+    Err(io::Error::from(ErrorKind::WouldBlock))
+}
+
+// Writes a new file down to the disk. Who may do something with it then is who these rights let, and the file of that name too, where there is one.
+fn fill<R: std::rt::Files<File = File>>(
+    system: &R,
+    name: &str,
+    mut file: &File,
+    bytes: &[u8],
+    rights: Rights,
+) -> io::Result<Metadata> {
+    file.write_all(bytes)?;
+    common(rights, rights_at(system, name)?).give(file)?;
+    flush_file(file)?;
+    file.metadata()
+}
+
+impl Fresh {
+    /// Creates the new file of a name, with these bytes, and has others do with it what these rights and those of the file of that name let.
+    /// The error: it could not be made, or another run holds it; then none is left.
     pub(crate) fn create<R: std::rt::Files<File = File>>(
-        system: &R,
-        name: &'a str,
-    ) -> io::Result<Fresh<'a>> {
-        for _ in 0..TRIES {
-            if let Some(file) = create(system, name)? {
-                return Ok(Fresh { name, file });
-            }
-            match clear(system, name) {
-                Err(error) if error.kind() != ErrorKind::NotFound => return Err(error),
-                _ => {}
-            }
-        }
-        Err(io::Error::from(ErrorKind::WouldBlock))
-    }
-
-    /// Writes bytes down to the disk. Then others may do with the file what these rights say; without them nothing.
-    pub(crate) fn write(&mut self, bytes: &[u8], rights: Option<Rights>) -> io::Result<()> {
-        self.file.write_all(bytes)?;
-        if let Some(rights) = rights {
-            rights.give(&self.file)?;
-        }
-        self.file.sync_all()
-    }
-
-    /// Takes the place of a file, by its name.
-    pub(crate) fn replace<R: std::rt::Files<File = File>>(
-        &self,
+        alloc: Global,
         system: &R,
         name: &str,
-    ) -> io::Result<()> {
-        fs::rename(system, self.name, name)?;
-        flush_folder(system, name);
-        Ok(())
-    }
-
-    /// Hands on how something ended for which this file was made; where it failed the file goes, if it still has its name.
-    pub(crate) fn unless_failed<R: std::rt::Files<File = File>>(
-        self,
-        system: &R,
-        ended: io::Result<()>,
-    ) -> io::Result<()> {
-        if ended.is_err() {
-            let _ = remove(system, self.name, &self.file);
+        bytes: &[u8],
+        rights: Rights,
+    ) -> io::Result<Fresh> {
+        let own = new_name(alloc, name)?;
+        let name = String::from_str(alloc, name)?;
+        let file = create_anew(system, own.as_str())?;
+        match fill(system, name.as_str(), &file, bytes, rights) {
+            Ok(made) => Ok(Fresh {
+                name,
+                own,
+                file,
+                made,
+            }),
+            Err(error) => {
+                let _ = remove(system, own.as_str(), &file);
+                Err(error)
+            }
         }
-        ended
     }
-}
 
-// The folder in which a file lies.
-fn folder_above(name: &str) -> &str {
-    match name.rsplit_once('/') {
-        Some(("", _)) => "/",
-        Some((folder, _)) => folder,
-        None => ".",
+    /// Takes the place of its file. Right before that its own name is still this file's, and right after it this file has the place: so a folder
+    /// that is exchanged meanwhile is seen. At an error its own name is gone, if it is still there.
+    pub(crate) fn take_place<R: std::rt::Files<File = File>>(self, system: &R) -> io::Result<()> {
+        let placed = self.rename(system);
+        if placed.is_err() {
+            self.remove(system);
+        }
+        placed
     }
-}
 
-// Flushes the names in a file's folder down to the disk. Not every file system lets a folder be opened or flushed: where
-// one doesn't, that is no failure.
-fn flush_folder<R: std::rt::Files<File = File>>(system: &R, name: &str) {
-    if let Ok(folder) = fs::open(system, folder_above(name)) {
-        let _ = folder.sync_all();
+    fn rename<R: std::rt::Files<File = File>>(&self, system: &R) -> io::Result<()> {
+        if has_name(system, self.own.as_str(), &self.made)? {
+            fs::rename(system, self.own.as_str(), self.name.as_str())?;
+            if self.has_place(system) {
+                return Ok(());
+            }
+        }
+        Err(io::Error::from(ErrorKind::NotFound))
+    }
+
+    // Whether it is this file that was renamed, as far as can be seen: it has the name, or none, where another has taken its place since.
+    fn has_place<R: std::rt::Files<File = File>>(&self, system: &R) -> bool {
+        let is_there = has_name(system, self.name.as_str(), &self.made);
+        is_there.unwrap_or(true) || self.file.metadata().map_or(true, |it| it.nlink() == 0)
+    }
+
+    /// Removes the file, if it still has its own name.
+    pub(crate) fn remove<R: std::rt::Files<File = File>>(self, system: &R) {
+        let _ = remove(system, self.own.as_str(), &self.file);
     }
 }

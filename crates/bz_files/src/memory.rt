@@ -5,25 +5,29 @@ ghost use Rattle.std.specs.Prelude.{◌≢◌, ◌⊎◌, ◌↔◌, ℕ, false,
 ghost use Rattle.std.specs.FinMap.{empty, get};
 ghost use Rattle.bz_files.specs.Faults.{Rises};
 ghost use Rattle.bz_files.specs.Folder.{with_file, folder_of};
-ghost use Rattle.bz_files.specs.Log.{folder_after, StoodSince, stands_now, only_stands};
-ghost use Rattle.bz_files.specs.Held.{folder_in, plan_in, no_plan, moments_in, folder_then};
+ghost use Rattle.bz_files.specs.Log.{folder_after, shown_entry, StoodSince, stands_now, only_stands};
+ghost use Rattle.bz_files.specs.Held.{folder_in, plan_in, waiting_in, moments_in, folder_then};
+ghost use Rattle.bz_files.specs.Failing.{no_plan, IsNextCall, IsToFail, IsToFailAfter, IsUnreadable};
 
 use crate::entry::Entry;
-use crate::{FileFault, Files};
+use crate::{FileFault, FileStamp, Files};
 use std::alloc::{AllocError, Global};
 
-/// Files in memory, which keep each write, and whose calls can be made to fail. A `rewrite` counts as a read
-/// and, where the file holds what it is to hold, a `replace`; a `rewrite_pair` there as two of these.
+/// Files in memory, which keep each write, and whose calls can be made to fail. A new file is no part of the folder until it takes
+/// its place.
 #[derive(Drop)]
 pub struct MemoryFiles {
     alloc: Global,
     log: Vec<Entry>,
+    // the new files that wait, the newest last
+    waiting: Vec<Entry>,
+    // whether the last call was a look that found what it was to find
+    looked: bool,
     unreadable: Vec<String>,
     calls: u64,
     fails_at: Option<u64>,
     fails_after: Option<u64>,
     stops_at: Option<u64>,
-    replaces: u64,
     faults: u64,
 }
 
@@ -75,12 +79,13 @@ impl MemoryFiles {
         MemoryFiles {
             alloc,
             log: Vec::new(alloc),
+            waiting: Vec::new(alloc),
+            looked: false,
             unreadable: Vec::new(alloc),
             calls: 0,
             fails_at: None,
             fails_after: None,
             stops_at: None,
-            replaces: 0,
             faults: 0,
         }
     }
@@ -106,8 +111,8 @@ impl MemoryFiles {
         self.fails_at = Some(k);
     }
 
-    /// Makes the k-th call from now on, counted from 1, answer `Write` where it is a `replace`, but only when the file is
-    /// replaced. A read goes on.
+    /// Makes the k-th call from now on, counted from 1, answer `Write` where it is a `take_place`, but only when the file is
+    /// replaced. Every other one goes on.
     pub fn fail_after(&mut self, k: u64)
         ensures same { folder_in self.new ≡ folder_in self.old }
         ensures plan { plan_in self.new ≡ record (plan_in self.old) { calls = 0; fails_after = Some k } }
@@ -125,7 +130,7 @@ impl MemoryFiles {
         self.stops_at = Some(k);
     }
 
-    /// Makes each read of this name answer Open, and each rewrite Write. The error: memory was refused, and nothing has changed.
+    /// Makes each read of this name answer `Open`, and each look at it `Write`. The error: memory was refused, and nothing has changed.
     pub fn refuse(&mut self, name: &str) -> Result<(), AllocError>
         ensures same { folder_in self.new ≡ folder_in self.old }
         ensures ok { OnOk result (plan_in self.new ≡ record (plan_in self.old) { unreadable = (plan_in self.old).unreadable ++ name.now ∷ [] }) }
@@ -157,23 +162,22 @@ impl MemoryFiles {
         found(first_of(&self.log, moment), name)
     }
 
-    /// How often `replace` was called, by `rewrite` too, up to the greatest number.
-    pub fn replaces(&self) -> u64
-        ensures { result ≡ (plan_in self.now).replaces }
-    {
-        self.replaces
-    }
-
-    // Whether a read of this name is to fail.
-    fn refuses(&self, name: &str) -> bool
+    fn is_unreadable(&self, name: &str) -> bool
         ensures { result ≡ list_any (λ other. bytes_eq (string_bytes other) name.now) self.now.unreadable.items }
     {
         self.unreadable.iter().any(|other| other.as_str() == name)
     }
 
+    // Whether a read of this name is to fail.
+    fn refuses(&self, name: &str) -> bool
+        ensures { IsTrue result ↔ IsUnreadable name.now (plan_in self.now) }
+    {
+        self.is_unreadable(name)
+    }
+
     // A failure is counted.
     fn failed(&mut self, fault: FileFault) -> FileFault
-        ensures log { self.new.log ≡ self.old.log }
+        ensures same { self.new ≡ record self.old { faults = self.new.faults } }
         ensures fault { result ≡ fault }
         ensures rises { Rises self.old.faults self.new.faults }
         ensures count { self.old.faults ≤ self.new.faults }
@@ -184,46 +188,71 @@ impl MemoryFiles {
 
     // The next call is counted. Whether it may go on.
     fn goes_on(&mut self) -> bool
-        ensures same { self.new ≡ record self.old { calls = self.new.calls } }
-        ensures counted { self.old.calls < 2 ^ 64 - 1 → self.new.calls ≡ self.old.calls + 1 }
-        ensures goes { result ≡ true → (self.new.fails_at ≢ Some self.new.calls) × ((k : ℕ) → self.new.stops_at ≡ Some k → self.new.calls < k) }
-        ensures fails { result ≡ false → (self.new.fails_at ≡ Some self.new.calls) ⊎ IfSome self.new.stops_at (λ k. k ≤ self.new.calls) × IsSome self.new.stops_at }
+        ensures same { self.new ≡ record self.old { calls = self.new.calls; looked = false } }
+        ensures next { IsNextCall (plan_in self.old) (plan_in self.new) }
+        ensures goes { IsTrue result → IsToFail (plan_in self.new) → ⊥ }
+        ensures fails { (IsTrue result → ⊥) → IsToFail (plan_in self.new) }
     {
         self.calls = one_more(self.calls);
+        self.looked = false;
         let fails = self.fails_at == Some(self.calls);
         let stops = self.stops_at.is_some_and(|k| k <= self.calls);
         !fails && !stops
     }
 
+    // The next call is counted, which reads this file. Whether it may go on.
+    fn reads(&mut self, name: &str) -> bool
+        ensures same { self.new ≡ record self.old { calls = self.new.calls; looked = false } }
+        ensures next { IsNextCall (plan_in self.old) (plan_in self.new) }
+        ensures goes { IsTrue result → (IsToFail (plan_in self.new)) ⊎ IsUnreadable name.now (plan_in self.new) → ⊥ }
+        ensures fails { (IsTrue result → ⊥) → (IsToFail (plan_in self.new)) ⊎ IsUnreadable name.now (plan_in self.new) }
+    {
+        self.goes_on() && !self.refuses(name)
+    }
+
     // Whether the call that was counted last is one that fails when its work is done.
     fn fails_now(&self) -> bool
-        ensures { IsTrue result ↔ ((plan_in self.now).fails_after ≡ Some (plan_in self.now).calls) }
+        ensures { IsTrue result ↔ IsToFailAfter (plan_in self.now) }
     {
         self.fails_after == Some(self.calls)
     }
 
     // Whether there is a file that holds these bytes.
     fn contains(&self, name: &str, held: &[u8]) -> bool
-        ensures { result ≡ true → get (folder_in self.now) name.now ≡ Some held.now }
+        ensures { IsTrue result ↔ (get (folder_in self.now) name.now ≡ Some held.now) }
     {
         self.bytes_at(name) == Some(held)
     }
 
     // Whether a file can be read and holds these bytes. The call is counted.
-    fn holds(&mut self, name: &str, held: &[u8]) -> bool
-        ensures same { self.new ≡ record self.old { calls = self.new.calls } }
-        ensures holds { result ≡ true → get (folder_in self.old) name.now ≡ Some held.now }
+    fn sees(&mut self, name: &str, held: &[u8]) -> bool
+        ensures same { self.new ≡ record self.old { calls = self.new.calls; looked = false } }
+        ensures next { IsNextCall (plan_in self.old) (plan_in self.new) }
+        ensures sees { IsTrue result → ((IsToFail (plan_in self.new)) ⊎ IsUnreadable name.now (plan_in self.new) → ⊥)
+            × (get (folder_in self.old) name.now ≡ Some held.now) }
+        ensures misses { (IsTrue result → ⊥) → ((IsToFail (plan_in self.new)) ⊎ IsUnreadable name.now (plan_in self.new) → ⊥)
+            → get (folder_in self.old) name.now ≡ Some held.now → ⊥ }
     {
-        self.goes_on() && !self.refuses(name) && self.contains(name, held)
+        self.reads(name) && self.contains(name, held)
     }
 
     // One write more.
     fn add(&mut self, entry: Entry) -> Result<(), AllocError>
+        ensures same { self.new ≡ record self.old { log = self.new.log } }
         ensures ok { OnOk result (self.new.log.items ≡ self.old.log.items ++ entry ∷ []) }
         ensures err { OnErr result (self.new.log.items ≡ self.old.log.items) }
-        ensures faults { self.new.faults ≡ self.old.faults }
     {
         self.log.push(entry)?;
+        Ok(())
+    }
+
+    // One new file more.
+    fn make(&mut self, name: &str, bytes: &[u8]) -> Result<(), AllocError>
+        ensures same { self.new ≡ record self.old { waiting = self.new.waiting } }
+        ensures ok { OnOk result (waiting_in self.new ≡ waiting_in self.old ++ (name.now, bytes.now) ∷ []) }
+        ensures err { OnErr result (waiting_in self.new ≡ waiting_in self.old) }
+    {
+        self.waiting.push(new_entry(self.alloc, name, bytes)?)?;
         Ok(())
     }
 }
@@ -237,6 +266,12 @@ impl Files for MemoryFiles {
 
     ghost faults = { λ m. m.faults };
 
+    ghost waiting = { λ m. map shown_entry m.waiting.items };
+
+    ghost looked = { λ m. m.looked };
+
+    ghost plan = { λ m. Some (plan_in m) };
+
     ghost honest = { λ _. true };
 
     ghost counts_now = { λ m t le. stands_now m.log.items t le };
@@ -244,7 +279,7 @@ impl Files for MemoryFiles {
     ghost only_now = { λ m now stood. only_stands m.log.items now stood };
 
     fn read_most(&mut self, name: &str, most: usize, into: &mut Vec<u8>) -> Result<(), FileFault> {
-        if !self.goes_on() || self.refuses(name) {
+        if !self.reads(name) {
             return Err(self.failed(FileFault::Open));
         }
         match self.bytes_at(name) {
@@ -257,19 +292,44 @@ impl Files for MemoryFiles {
     }
 
     fn read(&mut self, name: &str, into: &mut Vec<u8>) -> Result<(), FileFault> {
-        self.read_most(name, usize::MAX, into)?;
+        if let Err(fault) = self.read_most(name, usize::MAX, into) {
+            return Err(fault);
+        }
         // No list is so long, so that these are all the bytes.
         prove!(into.len() < usize::MAX);
         Ok(())
     }
 
-    fn replace(&mut self, name: &str, bytes: &[u8]) -> Result<(), FileFault> {
-        self.replaces = one_more(self.replaces);
+    fn look(
+        &mut self,
+        name: &str,
+        held: &[u8],
+        _before: Option<FileStamp>,
+    ) -> Result<FileStamp, FileFault> {
+        if !self.sees(name, held) {
+            return Err(self.failed(FileFault::Write));
+        }
+        self.looked = true;
+        Ok(FileStamp::in_memory())
+    }
+
+    fn create(&mut self, name: &str, bytes: &[u8], _seen: FileStamp) -> Result<(), FileFault> {
         if !self.goes_on() {
             return Err(self.failed(FileFault::Write));
         }
-        let Ok(entry) = new_entry(self.alloc, name, bytes) else {
-            return Err(self.failed(FileFault::Memory));
+        match self.make(name, bytes) {
+            Ok(()) => Ok(()),
+            Err(_) => Err(self.failed(FileFault::Memory)),
+        }
+    }
+
+    fn take_place(&mut self) -> Result<(), FileFault> {
+        let newest = self.waiting.pop();
+        if !self.goes_on() {
+            return Err(self.failed(FileFault::Write));
+        }
+        let Some(entry) = newest else {
+            return Err(self.failed(FileFault::Write));
         };
         if self.add(entry).is_err() {
             return Err(self.failed(FileFault::Memory));
@@ -280,27 +340,15 @@ impl Files for MemoryFiles {
         Ok(())
     }
 
-    // Two calls are counted, so that either can be made to fail.
-    fn rewrite(&mut self, name: &str, held: &[u8], bytes: &[u8]) -> Result<(), FileFault> {
-        if !self.holds(name, held) {
+    fn flush(&mut self, _name: &str) -> Result<(), FileFault> {
+        if !self.goes_on() {
             return Err(self.failed(FileFault::Write));
         }
-        self.replace(name, bytes)
+        Ok(())
     }
 
-    // Only the two replaces are counted: what the file holds is seen without a call.
-    fn rewrite_pair(
-        &mut self,
-        journal: &str,
-        stored: &[u8],
-        file: &str,
-        held: &[u8],
-        text: &[u8],
-    ) -> Result<(), FileFault> {
-        if !self.contains(file, held) {
-            return Err(self.failed(FileFault::Write));
-        }
-        self.replace(journal, stored)?;
-        self.replace(file, text)
+    fn give_up(&mut self) {
+        self.looked = false;
+        let _ = self.waiting.pop();
     }
 }

@@ -2,17 +2,15 @@
 ghost use Rattle.std.specs.Prelude.{◌≡◌, ◌≢◌, ◌⊎◌, ◌++◌, take, IfSome, IfErr, OnOk, OnErr};
 ghost use Rattle.std.specs.Io.{StartsWith};
 
-use crate::FileFault;
+use crate::{FileFault, FileStamp};
+use std::alloc::Global;
 use std::fs::File;
 use std::io::{ErrorKind, Read};
 use std::{fs, io};
 
-/// Opens a file, if it is a regular one. A pipe or a device isn't opened, since that may wait, or do something: so it is looked at
-/// before. One that takes the name in between is opened, since no call opens without waiting; it is looked at again, and not read.
-pub(crate) fn open_regular<R: std::rt::Files<File = File>>(
-    system: &R,
-    name: &str,
-) -> io::Result<File> {
+// Opens a file, if it is a regular one. A pipe or a device isn't opened, since that may wait, or do something: so it is looked at
+// before. One that takes the name in between is opened, since no call opens without waiting; it is looked at again, and not read.
+fn open_regular<R: std::rt::Files<File = File>>(system: &R, name: &str) -> io::Result<File> {
     if fs::metadata(system, name)?.is_file() {
         let file = fs::open(system, name)?;
         if file.metadata()?.is_file() {
@@ -87,4 +85,30 @@ pub(crate) fn read_anything<R: std::rt::Files<File = File>>(
     ensures kinds { IfErr result (λ fault. fault ≢ FileFault.Write) }
 {
     read_opened(fs::open(system, name), usize::MAX, into)
+}
+
+// A file isn't what it was to be.
+fn changed() -> io::Error {
+    io::Error::from(ErrorKind::InvalidData)
+}
+
+/// Sees that a regular file holds these bytes, and that it is not touched meanwhile; of a longer one no more is read than the byte that shows
+/// it. What is seen of it is as it was `before`, if that is known.
+pub(crate) fn look_at<R: std::rt::Files<File = File>>(
+    alloc: Global,
+    system: &R,
+    name: &str,
+    held: &[u8],
+    before: Option<FileStamp>,
+) -> io::Result<FileStamp> {
+    let file = open_regular(system, name)?;
+    let opened = FileStamp::of(&file.metadata()?);
+    let mut bytes = Vec::new(alloc);
+    file.take(held.len() as u64 + 1).read_to_end(&mut bytes)?;
+    let seen = FileStamp::of(&fs::metadata(system, name)?);
+    if bytes.as_slice() == held && seen == opened && seen == before.unwrap_or(seen) {
+        Ok(seen)
+    } else {
+        Err(changed())
+    }
 }

@@ -1,142 +1,199 @@
-//! How files of the system are replaced: whole, by one run at a time.
-ghost use Rattle.std.specs.Prelude.{◌≡◌, IfOk, string_bytes};
-ghost use Rattle.bz_files.specs.Folder.{new_name};
+//! How files are replaced: one whole, or a journal and then its file, over the calls of `Files` alone.
+ghost use Rattle.std.specs.Prelude.{◌≡◌, ◌⊎◌, ◌≤◌, ◌++◌, ◌∷◌, [], ℕ, List, Some, true, IfErr, OnOk, OnErr, IsOk, IsErr};
+ghost use Rattle.std.specs.FinMap.{get};
+ghost use Rattle.bz_files.specs.Folder.{Folder, Text, SameBut, new_name, with_file, IsReplacing, Elapses};
+ghost use Rattle.bz_files.specs.Faults.{Rises};
+ghost use Rattle.bz_files.specs.Pair.{IsNew, IsChecking, with_both};
+ghost use Rattle.bz_files.specs.private.Acts.{PlacesBoth, PlacesNewest, Puts, PutsBoth, Rewrites, RewritesBoth};
 
-use crate::fresh::{Fresh, is_same};
-use crate::reading::open_regular;
-use crate::rights::{Rights, common, rights_at};
-use std::alloc::{AllocError, Global};
-use std::fs::{File, Metadata};
-use std::io::{ErrorKind, Read};
-use std::os::unix::fs::MetadataExt;
-use std::{fs, io};
+use crate::{FileFault, FileStamp, Files};
 
-/// A journal and its file, which holds `held`, and the bytes that they get.
-#[derive(Drop)]
-pub(crate) struct Pair<'a> {
-    pub(crate) journal: &'a str,
-    pub(crate) stored: &'a [u8],
-    pub(crate) file: &'a str,
-    pub(crate) held: &'a [u8],
-    pub(crate) text: &'a [u8],
-}
-
-// The name under which the bytes of a file are written before it is replaced.
-fn new_name(alloc: Global, name: &str) -> Result<String, AllocError>
-    ensures { IfOk result (λ text. string_bytes text ≡ new_name name.now) }
+// The newest of the new files that wait takes the place of its file, where `file` is still as it was seen and holds these bytes. In any
+// case it waits no more.
+fn place<F: Files>(files: &mut F, file: &str, held: &[u8], seen: FileStamp) -> Result<(), FileFault>
+    ensures { PlacesNewest F.Files file.now held.now result files.old files.new }
 {
-    format!(in alloc; "{name}.bznew")
+    match files.look(file, held, Some(seen)) {
+        Ok(_) => files.take_place(),
+        Err(fault) => {
+            files.give_up();
+            Err(fault)
+        }
+    }
 }
 
-// The file changed in between.
-fn changed() -> io::Error {
-    io::Error::from(ErrorKind::InvalidData)
+// Gives a journal its bytes, where its file is still as it was seen and holds these. What had taken its place in that folder before
+// lasts before the journal does, and the journal when this ends.
+fn place_journal<F: Files>(
+    files: &mut F,
+    journal: &str,
+    stored: &[u8],
+    file: &str,
+    held: &[u8],
+    seen: FileStamp,
+) -> Result<(), FileFault>
+    ensures { Puts F.Files journal.now stored.now result files.old files.new }
+{
+    if let Err(fault) = files.flush(file) {
+        return Err(fault);
+    }
+    if let Err(fault) = files.create(journal, stored, seen) {
+        return Err(fault);
+    }
+    if let Err(fault) = place(files, file, held, seen) {
+        return Err(fault);
+    }
+    files.flush(file)
 }
 
-// Whether a file was neither replaced nor written between two looks at what has its name.
-fn is_untouched(before: &Metadata, after: &Metadata) -> bool {
-    is_same(before, after)
-        && before.size() == after.size()
-        && before.mtime() == after.mtime()
-        && before.mtime_nsec() == after.mtime_nsec()
+// Gives a file these bytes, where it is still as it was seen.
+fn put<F: Files>(
+    files: &mut F,
+    name: &str,
+    bytes: &[u8],
+    held: &[u8],
+    seen: FileStamp,
+) -> Result<(), FileFault>
+    ensures { Puts F.Files name.now bytes.now result files.old files.new }
+{
+    match files.create(name, bytes, seen) {
+        Ok(()) => place(files, name, held, seen),
+        Err(fault) => Err(fault),
+    }
 }
 
-// Sees that a file still holds these bytes and has these rights; of a longer one no more is read than the byte that shows it.
-fn check<R: std::rt::Files<File = File>>(
-    alloc: Global,
-    system: &R,
+// What `rewrite` does.
+fn rewrite_seen<F: Files>(
+    files: &mut F,
     name: &str,
     held: &[u8],
-    rights: Option<Rights>,
-) -> io::Result<()> {
-    let file = open_regular(system, name)?;
-    let before = file.metadata()?;
-    let mut bytes = Vec::new(alloc);
-    file.take(held.len() as u64 + 1).read_to_end(&mut bytes)?;
-    let after = fs::metadata(system, name)?;
-    let is_held = is_untouched(&before, &after) && bytes.as_slice() == held;
-    if is_held && Some(Rights::of(&after)) == rights {
-        Ok(())
-    } else {
-        Err(changed())
+    bytes: &[u8],
+) -> Result<(), FileFault>
+    ensures { Rewrites F.Files name.now held.now bytes.now result files.old files.new }
+{
+    match files.look(name, held, None) {
+        Ok(seen) => put(files, name, bytes, held, seen),
+        Err(fault) => Err(fault),
     }
 }
 
-// Writes a new file, and has it take the place of another one, where that still holds what it is to hold.
-fn put<R: std::rt::Files<File = File>>(
-    alloc: Global,
-    system: &R,
-    new: &mut Fresh<'_>,
-    name: &str,
-    held: Option<&[u8]>,
-    bytes: &[u8],
-) -> io::Result<()> {
-    let rights = rights_at(system, name)?;
-    new.write(bytes, rights)?;
-    if let Some(held) = held {
-        check(alloc, system, name, held, rights)?;
+// Has the newest new file, which is this file's, take its place when the journal has its bytes.
+fn place_both<F: Files>(
+    files: &mut F,
+    journal: &str,
+    stored: &[u8],
+    file: &str,
+    held: &[u8],
+    seen: FileStamp,
+) -> Result<(), FileFault>
+    ensures { PlacesBoth F.Files journal.now stored.now file.now result files.old files.new }
+{
+    match place_journal(files, journal, stored, file, held, seen) {
+        Ok(()) => place(files, file, held, seen),
+        Err(fault) => {
+            files.give_up();
+            Err(fault)
+        }
     }
-    new.replace(system, name)
 }
 
-/// Gives a file these bytes, where it still holds what it is to hold. At every moment it is there as it was or with these bytes.
-pub(crate) fn replace_file<R: std::rt::Files<File = File>>(
-    alloc: Global,
-    system: &R,
+// Gives a journal and then its file their bytes, where the file is still as it was seen.
+fn put_both<F: Files>(
+    files: &mut F,
+    journal: &str,
+    stored: &[u8],
+    file: &str,
+    held: &[u8],
+    text: &[u8],
+    seen: FileStamp,
+) -> Result<(), FileFault>
+    ensures { PutsBoth F.Files journal.now stored.now file.now text.now result files.old files.new }
+{
+    match files.create(file, text, seen) {
+        Ok(()) => place_both(files, journal, stored, file, held, seen),
+        Err(fault) => Err(fault),
+    }
+}
+
+// What `rewrite_pair` does.
+fn rewrite_both<F: Files>(
+    files: &mut F,
+    journal: &str,
+    stored: &[u8],
+    file: &str,
+    held: &[u8],
+    text: &[u8],
+) -> Result<(), FileFault>
+    ensures { RewritesBoth F.Files journal.now stored.now file.now held.now text.now result files.old files.new }
+{
+    match files.look(file, held, None) {
+        Ok(seen) => put_both(files, journal, stored, file, held, text, seen),
+        Err(fault) => Err(fault),
+    }
+}
+
+/// Gives a file that still holds `held` these bytes, whole or not at all: it is looked at before anything is made, and right before it is
+/// replaced. After an `Err` it may be either; where it holds something else, or is not there, nothing is written. Errors: `Write`: it holds
+/// something else, is not there, or could not be read or written; `Memory`: a growth was refused. Each is counted.
+pub fn rewrite<F: Files>(
+    files: &mut F,
     name: &str,
-    held: Option<&[u8]>,
+    held: &[u8],
     bytes: &[u8],
-) -> io::Result<()> {
-    let own = new_name(alloc, name)?;
-    let mut new = Fresh::create(system, own.as_str())?;
-    let ended = put(alloc, system, &mut new, name, held, bytes);
-    new.unless_failed(system, ended)
+) -> Result<(), FileFault>
+    ensures held { F.honest files.old ≡ true → OnOk result (get (F.folder files.old) name.now ≡ Some held.now) }
+    ensures replaced { F.honest files.old ≡ true → OnOk result
+        (SameBut (λ other. other ≡ new_name name.now) (with_file (F.folder files.old) name.now bytes.now) (F.folder files.new)) }
+    ensures untouched { F.honest files.old ≡ true → (get (F.folder files.old) name.now ≡ Some held.now → ⊥) → F.folder files.new ≡ F.folder files.old }
+    ensures apart { F.honest files.old ≡ true → (get (F.folder files.old) name.now ≡ Some held.now → ⊥)
+        → (now : Folder) → F.since files.new (F.moment files.old) now → now ≡ F.folder files.old }
+    ensures either { F.honest files.old ≡ true → IsReplacing name.now bytes.now (F.folder files.old) (F.folder files.new) }
+    ensures time { F.honest files.old ≡ true → Elapses (F.moment files.old) (F.moment files.new) (F.since files.old) (F.since files.new)
+        (IsReplacing name.now bytes.now (F.folder files.old)) }
+    ensures kinds { IfErr result (λ fault. (fault ≡ FileFault.Write) ⊎ (fault ≡ FileFault.Memory)) }
+
+    // No new file is left waiting.
+    ensures waiting { F.honest files.old ≡ true → F.waiting files.new ≡ F.waiting files.old }
+
+    // Each failure is counted, and nothing else.
+    ensures cause { IsErr result → Rises (F.faults files.old) (F.faults files.new) }
+    ensures kept { IsOk result → F.faults files.new ≡ F.faults files.old }
+    ensures count { F.faults files.old ≤ F.faults files.new }
+    ensures honest { F.honest files.new ≡ F.honest files.old }
+{
+    rewrite_seen(files, name, held, bytes)
 }
 
-// Writes both new files, and has them take the places of the journal and its file, which still holds what it is to hold. A
-// journal is read by nobody who may not read its file, also where there was one that could be.
-fn put_both<R: std::rt::Files<File = File>>(
-    alloc: Global,
-    system: &R,
-    journal: &mut Fresh<'_>,
-    file: &mut Fresh<'_>,
-    pair: &Pair<'_>,
-) -> io::Result<()> {
-    let rights = rights_at(system, pair.file)?;
-    file.write(pair.text, rights)?;
-    journal.write(
-        pair.stored,
-        common(rights, rights_at(system, pair.journal)?),
-    )?;
-    check(alloc, system, pair.file, pair.held, rights)?;
-    journal.replace(system, pair.journal)?;
-    // that took its time, down to the disk
-    check(alloc, system, pair.file, pair.held, rights)?;
-    file.replace(system, pair.file)
-}
+/// Gives a journal the bytes `stored`, and then its file, which still holds `held`, the bytes `text`, each whole or not at
+/// all: the file is looked at before anything is made, and right before each of both is replaced. At each moment both are as before, the journal alone is new,
+/// or both are; where the file holds something else, or is not there, nothing is written. The journal lasts before the file is replaced.
+/// Errors: `Write`: it holds something else, is not there, could not be read, or one of the two could not be written; `Memory`: a
+/// growth was refused. Each is counted.
+pub fn rewrite_pair<F: Files>(
+    files: &mut F,
+    journal: &str,
+    stored: &[u8],
+    file: &str,
+    held: &[u8],
+    text: &[u8],
+) -> Result<(), FileFault>
+    ensures held { F.honest files.old ≡ true → OnOk result (get (F.folder files.old) file.now ≡ Some held.now) }
+    ensures replaced { F.honest files.old ≡ true → OnOk result
+        (SameBut (IsNew journal.now file.now) (with_both journal.now stored.now file.now text.now (F.folder files.old)) (F.folder files.new)) }
+    ensures apart { F.honest files.old ≡ true → (get (F.folder files.old) file.now ≡ Some held.now → ⊥)
+        → (now : Folder) → F.since files.new (F.moment files.old) now → now ≡ F.folder files.old }
+    ensures time { F.honest files.old ≡ true → Elapses (F.moment files.old) (F.moment files.new) (F.since files.old) (F.since files.new)
+        (IsChecking held.now journal.now stored.now file.now text.now (F.folder files.old)) }
+    ensures kinds { IfErr result (λ fault. (fault ≡ FileFault.Write) ⊎ (fault ≡ FileFault.Memory)) }
 
-// Creates the new file of a journal, whose file's is there.
-fn put_after<R: std::rt::Files<File = File>>(
-    alloc: Global,
-    system: &R,
-    file: &mut Fresh<'_>,
-    pair: &Pair<'_>,
-) -> io::Result<()> {
-    let own = new_name(alloc, pair.journal)?;
-    let mut journal = Fresh::create(system, own.as_str())?;
-    let ended = put_both(alloc, system, &mut journal, file, pair);
-    journal.unless_failed(system, ended)
-}
+    // No new file is left waiting.
+    ensures waiting { F.honest files.old ≡ true → F.waiting files.new ≡ F.waiting files.old }
 
-/// Gives a journal and then its file their bytes, where the file still holds what it is to hold. The new files of both are held
-/// until the file is, so that no other run comes in between.
-pub(crate) fn replace_pair<R: std::rt::Files<File = File>>(
-    alloc: Global,
-    system: &R,
-    pair: &Pair<'_>,
-) -> io::Result<()> {
-    let own = new_name(alloc, pair.file)?;
-    let mut file = Fresh::create(system, own.as_str())?;
-    let ended = put_after(alloc, system, &mut file, pair);
-    file.unless_failed(system, ended)
+    // Each failure is counted, and nothing else.
+    ensures cause { IsErr result → Rises (F.faults files.old) (F.faults files.new) }
+    ensures kept { IsOk result → F.faults files.new ≡ F.faults files.old }
+    ensures count { F.faults files.old ≤ F.faults files.new }
+    ensures honest { F.honest files.new ≡ F.honest files.old }
+{
+    rewrite_both(files, journal, stored, file, held, text)
 }

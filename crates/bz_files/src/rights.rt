@@ -13,6 +13,13 @@ pub(crate) struct Rights {
 }
 
 impl Rights {
+    /// Nobody may do anything.
+    pub(crate) const NONE: Rights = Rights {
+        owner: 0,
+        group: 0,
+        bits: 0,
+    };
+
     pub(crate) fn of(metadata: &Metadata) -> Rights {
         Rights {
             owner: metadata.uid(),
@@ -43,14 +50,14 @@ impl Rights {
     }
 }
 
-/// The rights of a file, but for what another one, if there is one, doesn't let do.
-pub(crate) fn common(rights: Option<Rights>, other: Option<Rights>) -> Option<Rights> {
-    match (rights, other) {
-        (Some(rights), Some(other)) => Some(Rights {
+/// These rights, but for what another file, if there is one, doesn't let do.
+pub(crate) fn common(rights: Rights, other: Option<Rights>) -> Rights {
+    match other {
+        Some(other) => Rights {
             bits: rights.bits & other.bits,
             ..rights
-        }),
-        _ => rights,
+        },
+        None => rights,
     }
 }
 

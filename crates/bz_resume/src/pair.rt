@@ -10,7 +10,7 @@ ghost use Rattle.bz_resume.specs.Pair.{journal_name};
 ghost use Rattle.bz_resume.specs.Resuming.{MayResume, Replaces, Survives, Resumes, Holds, OthersStay, present};
 
 use crate::PairFault;
-use bz_files::{FileFault, Files};
+use bz_files::{FileFault, Files, rewrite_pair};
 use bz_items::Memory;
 use std::alloc::Global;
 
@@ -35,6 +35,7 @@ pub fn journal_name(alloc: Global, file: &str) -> Result<String, Memory>
 fn compare(read: &[u8], standing: &[u8]) -> Result<(), PairFault>
     ensures ok { OnOk result (read.now ≡ standing.now) }
     ensures changed { IsErrOf result PairFault.Changed → read.now ≡ standing.now → ⊥ }
+    ensures told { IfErr result (λ fault. fault ≡ PairFault.Changed) }
     ensures kinds { IfErr result (λ fault. fault ≢ PairFault.Write) }
     ensures no_open { IsErrOf result PairFault.Open → ⊥ }
 {
@@ -46,7 +47,7 @@ fn compare(read: &[u8], standing: &[u8]) -> Result<(), PairFault>
 
 // What a fault of a read is to the pair.
 fn fault_of(fault: FileFault) -> PairFault
-    ensures changed { result ≡ PairFault.Changed → fault ≡ FileFault.Absent }
+    ensures changed { (result ≡ PairFault.Changed) ↔ (fault ≡ FileFault.Absent) }
     ensures open { (result ≡ PairFault.Open) ↔ (fault ≡ FileFault.Open) }
     ensures kind { result ≢ PairFault.Write }
 {
@@ -104,7 +105,7 @@ fn write_pair<F: Files>(alloc: Global, files: &mut F, change: Change<'_>) -> Res
         text,
     } = change;
     match journal_name(alloc, file) {
-        Ok(journal) => match files.rewrite_pair(journal.as_str(), stored, file, standing, text) {
+        Ok(journal) => match rewrite_pair(files, journal.as_str(), stored, file, standing, text) {
             Ok(()) => Ok(()),
             Err(_) => Err(PairFault::Write),
         },

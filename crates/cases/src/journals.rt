@@ -1,7 +1,7 @@
 //! Journals: what a session saves after actions with notes, and that it goes on from there.
 use crate::sessions::{opened, request_of, show_reply};
 use crate::trees::read_fault_text;
-use bz_files::{Files, MemoryFiles};
+use bz_files::MemoryFiles;
 use bz_items::Memory;
 use bz_journal::{Action, KeepFault, Reply, ResumeFault, Session};
 use bz_resume::PairFault;
@@ -35,8 +35,7 @@ fn play(
     text: &[u8],
     page: &mut Page,
 ) -> Result<(), CaseFault> {
-    let mut files = MemoryFiles::new(case.alloc);
-    write(&mut files, text)?;
+    let mut files = MemoryFiles::of(case.alloc, &[(FILE, text)]).map_err(Memory::from)?;
     for place in 0..count {
         keep_line(case.alloc, session, case.text(place)?, &mut files, page)?;
     }
@@ -65,14 +64,6 @@ fn kept_line(
 ) -> Result<Result<Reply, bz_value::Refusal>, CaseFault> {
     let request = request_of(alloc, line)?;
     kept(session, &request.action(), line, files)
-}
-
-/// Gives the file its first text.
-fn write(files: &mut MemoryFiles, text: &[u8]) -> Result<(), CaseFault> {
-    match files.replace(FILE, text) {
-        Ok(()) => Ok(()),
-        Err(_) => Err(CaseFault::Memory),
-    }
 }
 
 /// What keeping an action answers. The error: memory was refused.

@@ -24,8 +24,8 @@ struct Row {
     cut: Cut,
     status: u8,
     after: &'static [(&'static str, &'static [u8])],
-    // How often a file was to be replaced.
-    replaces: u64,
+    // How many files were written.
+    written: usize,
 }
 
 const ODD: &[u8] = b"x=1";
@@ -44,7 +44,7 @@ static ROWS: [Row; 12] = [
         cut: Cut::Whole,
         status: 4,
         after: &[("f", ODD), ("g", FORMATTED)],
-        replaces: 0,
+        written: 0,
     },
     Row {
         why: "a file that differs is written once",
@@ -55,7 +55,7 @@ static ROWS: [Row; 12] = [
         cut: Cut::Whole,
         status: 0,
         after: &[("f", FORMATTED), ("g", FORMATTED)],
-        replaces: 1,
+        written: 1,
     },
     Row {
         why: "formatted files are left",
@@ -66,7 +66,7 @@ static ROWS: [Row; 12] = [
         cut: Cut::Whole,
         status: 0,
         after: &[("f", FORMATTED), ("g", FORMATTED)],
-        replaces: 0,
+        written: 0,
     },
     Row {
         why: "behind a read that fails the run goes on",
@@ -77,7 +77,7 @@ static ROWS: [Row; 12] = [
         cut: Cut::Files,
         status: 3,
         after: &[("f", ODD), ("g", FORMATTED)],
-        replaces: 1,
+        written: 1,
     },
     Row {
         why: "behind a second read that fails the run goes on",
@@ -88,40 +88,40 @@ static ROWS: [Row; 12] = [
         cut: Cut::Files,
         status: 3,
         after: &[("f", ODD), ("g", FORMATTED)],
-        replaces: 1,
+        written: 1,
     },
     Row {
         why: "behind a write that fails the run goes on",
         program: Program::Buildifier,
         words: &["f", "g"],
         before: &[("f", ODD), ("g", ODD)],
-        failure: Failure::At(3),
+        failure: Failure::At(5),
         cut: Cut::Files,
         status: 3,
         after: &[("f", ODD), ("g", FORMATTED)],
-        replaces: 2,
+        written: 1,
     },
     Row {
-        why: "a run makes four calls where the first is refused",
+        why: "a run makes six calls where the first is refused",
         program: Program::Buildifier,
         words: &["f", "g"],
         before: &[("f", ODD), ("g", ODD)],
-        failure: Failure::RefusedAndFrom(5),
+        failure: Failure::RefusedAndFrom(7),
         cut: Cut::Files,
         status: 3,
         after: &[("f", ODD), ("g", FORMATTED)],
-        replaces: 1,
+        written: 1,
     },
     Row {
-        why: "the fourth of them writes",
+        why: "the sixth of them writes",
         program: Program::Buildifier,
         words: &["f", "g"],
         before: &[("f", ODD), ("g", ODD)],
-        failure: Failure::RefusedAndFrom(4),
+        failure: Failure::RefusedAndFrom(6),
         cut: Cut::Files,
         status: 3,
         after: &[("f", ODD), ("g", ODD)],
-        replaces: 1,
+        written: 0,
     },
     Row {
         why: "a package of which BUILD.bazel fails is edited in BUILD",
@@ -132,7 +132,7 @@ static ROWS: [Row; 12] = [
         cut: Cut::Files,
         status: 2,
         after: &[("a/BUILD", b"")],
-        replaces: 1,
+        written: 1,
     },
     Row {
         why: "a package that is not read stays",
@@ -143,7 +143,7 @@ static ROWS: [Row; 12] = [
         cut: Cut::Files,
         status: 2,
         after: &[("a/BUILD", RULE)],
-        replaces: 0,
+        written: 0,
     },
     Row {
         why: "a package that is not read again stays",
@@ -154,18 +154,18 @@ static ROWS: [Row; 12] = [
         cut: Cut::Files,
         status: 2,
         after: &[("a/BUILD", RULE)],
-        replaces: 0,
+        written: 0,
     },
     Row {
         why: "a package that is not written stays",
         program: Program::Buildozer,
         words: &["delete", "//a:x"],
         before: &[("a/BUILD", RULE)],
-        failure: Failure::At(4),
+        failure: Failure::At(6),
         cut: Cut::Files,
         status: 2,
         after: &[("a/BUILD", RULE)],
-        replaces: 1,
+        written: 0,
     },
 ];
 
@@ -200,7 +200,7 @@ fn holds(alloc: Global, row: &Row) -> Result<bool, AllocError> {
     let left = run(alloc, row.program, row.words, b"", SOUND, &mut files);
     Ok(
         left.ended(row.cut, row.status)
-            && files.replaces() == row.replaces
+            && files.moments().checked_sub(row.before.len()) == Some(row.written)
             && stand(&files, row.after),
     )
 }

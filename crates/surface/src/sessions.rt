@@ -22,9 +22,10 @@ pub(crate) fn outcome(alloc: Global) -> Option<String> {
     let mut session = Session::open(alloc, "p", TEXT).ok()?;
     let command = Command::read(alloc, "set size small").ok()?;
     let target = Target::read(alloc, "//p:x").ok()?;
-    let mut files = MemoryFiles::new(alloc);
-    let written: Result<(), FileFault> = files.replace("BUILD", TEXT);
-    written.ok()?;
+    let mut files = MemoryFiles::of(alloc, &[("BUILD", TEXT)]).ok()?;
+    let mut held = Vec::new(alloc);
+    let read: Result<(), FileFault> = files.read("BUILD", &mut held);
+    read.ok()?;
     let action = Action::Do(&command, &target);
     let kept: Result<Reply, KeepFault> = session.keep(&action, "BUILD", &mut files);
     let is_changed = matches!(kept, Ok(Reply::Changed));

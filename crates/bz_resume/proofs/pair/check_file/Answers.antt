@@ -38,6 +38,6 @@ returns-clause-kept g c = λ none. c.in-Err.ensures.kept (λ is. none (ap Err (c
 
 pub returns-clause-changed : goal.returns-clause-changed
 returns-clause-changed g c = λ honest is held.
-    let absent = c.in-Err.ensures.absent honest (ap Err (c.fault_of.ensures.changed (same_err is))) in
+    let absent = c.in-Err.ensures.absent honest (ap Err (c.fault_of.ensures.changed.0 (same_err is))) in
     let both : None ≡ Some c.args.standing.now = sym absent ∙ held in
     cc

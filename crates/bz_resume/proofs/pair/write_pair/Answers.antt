@@ -16,18 +16,18 @@ elapsed f old new standing stored file text name =
 
 pub returns-in-Ok-rewrite_pair-clause-time : goal.returns-in-Ok-rewrite_pair-clause-time
 returns-in-Ok-rewrite_pair-clause-time g c honest =
-    elapsed g.F.Files c.args.files.now c.rewrite_pair.new.self c.args.change.standing.now c.args.change.stored.now c.args.change.file.now c.args.change.text.now
+    elapsed g.F.Files c.args.files.now c.rewrite_pair.new.files c.args.change.standing.now c.args.change.stored.now c.args.change.file.now c.args.change.text.now
     c.as_str.result.now (c.as_str.ensures.value ∙ c.in-Ok.ensures) (c.rewrite_pair.ensures.time honest)
 
 pub returns-in-Ok-rewrite_pair-clause-replaced : goal.returns-in-Ok-rewrite_pair-clause-replaced
 returns-in-Ok-rewrite_pair-clause-replaced g c honest =
     let change = c.args.change in
-    subst (λ (j : Text). SameBut (IsNew j change.file.now) (with_both j change.stored.now change.file.now change.text.now (g.F.Files.folder c.args.files.now)) (g.F.Files.folder c.rewrite_pair.new.self))
+    subst (λ (j : Text). SameBut (IsNew j change.file.now) (with_both j change.stored.now change.file.now change.text.now (g.F.Files.folder c.args.files.now)) (g.F.Files.folder c.rewrite_pair.new.files))
     (c.as_str.ensures.value ∙ c.in-Ok.ensures) (c.in-Ok-rewrite_pair.ensures.replaced honest)
 
 pub returns-in-Ok-clause-time : goal.returns-in-Ok-clause-time
 returns-in-Ok-clause-time g c honest =
-    elapsed g.F.Files c.args.files.now c.rewrite_pair.new.self c.args.change.standing.now c.args.change.stored.now c.args.change.file.now c.args.change.text.now
+    elapsed g.F.Files c.args.files.now c.rewrite_pair.new.files c.args.change.standing.now c.args.change.stored.now c.args.change.file.now c.args.change.text.now
     c.as_str.result.now (c.as_str.ensures.value ∙ c.in-Ok.ensures) (c.rewrite_pair.ensures.time honest)
 
 pub returns-clause-time : goal.returns-clause-time

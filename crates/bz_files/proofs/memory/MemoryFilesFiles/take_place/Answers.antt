@@ -1,0 +1,34 @@
+use Rattle.std.proofs.Common.{◌≡◌, ◌∙◌, ⊎_elim, ap, refl, sym, subst, rules, List, ℕ}
+use Rattle.std.proofs.lemmas.Bool.{false≢true}
+use Rattle.bz_files.specs.Folder.{Text}
+use Rattle.bz_files.specs.Held.{plan_in}
+use Rattle.bz_files.specs.Failing.{FailurePlan, IsNextCall, IsToFail}
+use Rattle.bz_files.proofs.Logs.{newest_is, write_elapses}
+use Rattle.bz_files.proofs.Plans.{is_plan}
+use Rattle.bz_files.proofs.memory.MemoryFilesFiles.take_place.Goals as goal
+
+pub returns-then-fails_now-clause-time : goal.returns-then-fails_now-clause-time
+returns-then-fails_now-clause-time c = λ honest rest name bytes is.
+    let entry = c.in-Some.entry in
+    let newest = newest_is c.args.self.now.waiting.items c.pop-newest.new.self.items entry rest name bytes c.in-Some.ensures.items is in
+    write_elapses c.args.self.now.log.items c.failed-then-fails_now.new.self.log.items entry name bytes (search rules)
+    (ap (λ (file : Text × List ℕ). file.0) newest) (ap (λ (file : Text × List ℕ). file.1) newest)
+
+pub returns-clause-time : goal.returns-clause-time
+returns-clause-time c = λ honest rest name bytes is.
+    let entry = c.in-Some.entry in
+    let newest = newest_is c.args.self.now.waiting.items c.pop-newest.new.self.items entry rest name bytes c.in-Some.ensures.items is in
+    write_elapses c.args.self.now.log.items c.add.new.self.log.items entry name bytes (search rules)
+    (ap (λ (file : Text × List ℕ). file.0) newest) (ap (λ (file : Text × List ℕ). file.1) newest)
+
+pub returns-clause-planned : goal.returns-clause-planned
+returns-clause-planned c = λ plan is.
+    let later = plan_in c.add.new.self in
+    let same : later ≡ plan_in c.goes_on.new.self = ap plan_in c.add.ensures.same in (
+      later,
+      refl,
+      subst (λ (p : FailurePlan). IsNextCall plan p) (sym same) (subst (λ (p : FailurePlan). IsNextCall p (plan_in c.goes_on.new.self)) (is_plan is) c.goes_on.ensures.next),
+      ⊎_elim (λ fails. absurd (c.goes_on.ensures.goes c.if-not-goes_on.false (subst IsToFail same fails)))
+          (λ after. absurd (false≢true (sym c.if-fails_now.false ∙ c.fails_now.ensures.1 after))),
+      λ _ _. tt,
+    )
