@@ -1,8 +1,11 @@
 -- The fault that is reported where a text is not formatted.
-use Rattle.std.proofs.Common.{◌≡◌, ◌⊎◌, ◌↔◌, ◌≤◌, ◌<◌, inl, inr, ℕ, List, length, Result, Err, refl, ap, subst, sym}
+use Rattle.std.proofs.Common.{◌≡◌, ◌⊎◌, ◌↔◌, ◌≤◌, ◌<◌, inl, inr, ℕ, true, List, [], length, Result, Err, refl, ap, subst, sym}
+use Rattle.std.specs.Prelude.{◌≢◌}
 use Rattle.std.specs.Str.{IsValidUpTo}
 use Rattle.bz_lex.specs.declared.fault.ReadFault.{ReadFault}
 use Rattle.bz_lex.specs.declared.fault.ReadFault.TheVariants as f
+use Rattle.bz_lex.specs.Faults.{is_of_leaves}
+use Rattle.bz_lex.specs.Stops.{IsFaultAt}
 use Rattle.bz_grammar.specs.Spell.{limit}
 use Rattle.bz_grammar.specs.Faults.{IsOfText, IsFaultOf}
 use Rattle.bz_grammar.specs.Legal.{NoTree, Accepted}
@@ -30,8 +33,8 @@ pub unread_answered : (A : Type 0) (text : List ℕ) (fault : ReadFault) (answer
     → ((answered ≡ Unread fault) × (fault ≡ f.Memory → ⊥)) ⊎ (answered ≡ Memory) → (IsOfText fault → NoTree text)
     → (◌≡◌ {A = Result A ReadFault} (Err fault) (Err f.TooLarge) ↔ (limit < length text))
     → ((at : ℕ) → (◌≡◌ {A = Result A ReadFault} (Err fault) (Err (f.NotUtf8 at)) ↔ ((length text ≤ limit) × IsValidUpTo text at)))
-    → FormatsTo text (Err answered)
-unread_answered A text fault answered (inl of_text) none large coding =
+    → (is_of_leaves fault ≡ true → IsFaultAt (λ blanks. blanks ≢ []) text fault) → FormatsTo text (Err answered)
+unread_answered A text fault answered (inl of_text) none large coding placed =
     subst (λ (t : FormatFault). FormatsTo text (Err t)) (sym of_text.0)
-    (refused_text text fault none of_text.1, fault_of_text A text fault large coding of_text.1)
-unread_answered A text fault answered (inr memory) none large coding = subst (λ (t : FormatFault). FormatsTo text (Err t)) (sym memory) tt
+    (refused_text text fault none of_text.1, fault_of_text A text fault large coding of_text.1, placed)
+unread_answered A text fault answered (inr memory) none large coding placed = subst (λ (t : FormatFault). FormatsTo text (Err t)) (sym memory) tt

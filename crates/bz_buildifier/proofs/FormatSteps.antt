@@ -1,6 +1,6 @@
 -- What one text of buildifier's does.
 use Rattle.std.proofs.Common.{◌≡◌, ◌⊎◌, ◌≤◌, ◌<◌, ◌∙◌, ◌++◌, ◌+◌, inl, inr, ℕ, List, [], take, length, Option, Some, None, Ok, Err, Bool, true, false, refl, sym, ap, subst, arith, length-take}
-use Rattle.std.specs.Prelude.{IfSome}
+use Rattle.std.specs.Prelude.{◌≢◌, IfSome}
 use Rattle.std.specs.FinMap.{get}
 use Rattle.bz_grammar.specs.Spell.{limit}
 use Rattle.bz_files.specs.Folder.{Folder}
@@ -13,7 +13,7 @@ use Rattle.bz_streams.specs.Ports.{IsInput}
 use Rattle.bz_streams.proofs.Outputs.{appends_nothing}
 use Rattle.bz_buildifier.specs.FileKinds.{FormatsAs}
 use Rattle.bz_buildifier.specs.FormatRun.{Effect, refused, unread_file, Rewrites}
-use Rattle.bz_buildifier.proofs.Fronts.{cut_at_limit, fault_of_front, within_limit}
+use Rattle.bz_buildifier.proofs.Fronts.{cut_at_limit, fault_of_front, placed_of_front, within_limit}
 
 -- an effect that writes nothing on standard output
 pub record IsQuiet (effect : Effect) : Type 0 where
@@ -65,13 +65,19 @@ ok_of_front bzl (Some all) front new read formats = go (cut_at_limit all)
 
 -- what is reported of the front of a longer text is reported of the text
 longer : (bzl : Bool) (all : List ℕ) → limit < length all → (reported : FormatFault) → FormatsAs bzl (take (limit + 1) all) (Err reported) → FormatsAs bzl all (Err reported)
-longer false all long (f.Unread fault) of_front =
-    ((λ accepted. let le = within_limit all accepted in omega (arith, le, long)), fault_of_front all fault long of_front.1)
+longer false all long (f.Unread fault) of_front = (
+  (λ accepted. let le = within_limit all accepted in omega (arith, le, long)),
+  fault_of_front all fault long of_front.1,
+  placed_of_front (λ blanks. blanks ≢ []) all fault long of_front.1,
+)
 longer false all long f.TooLarge of_front = absurd (long_front all long of_front.1.2)
 longer false all long f.TooDeep of_front = absurd (long_front all long of_front.1.2)
 longer false all long f.Memory of_front = tt
-longer true all long (f.Unread fault) of_front =
-    ((λ tree reads. let le : length all ≤ limit = reads.2 in omega (arith, le, long)), fault_of_front all fault long of_front.1)
+longer true all long (f.Unread fault) of_front = (
+  (λ tree reads. let le : length all ≤ limit = reads.2 in omega (arith, le, long)),
+  fault_of_front all fault long of_front.1,
+  placed_of_front (λ _. Unit {0}) all fault long of_front.1,
+)
 longer true all long f.TooLarge of_front = absurd (long_front all long of_front.1.2)
 longer true all long f.TooDeep of_front = absurd (long_front all long of_front.1.2)
 longer true all long f.Memory of_front = tt

@@ -1,9 +1,11 @@
 -- The first bytes of an input, one more than a text may have, decide what becomes of it.
-use Rattle.std.proofs.Common.{◌≡◌, ◌⊎◌, ◌+◌, inl, inr, ℕ, ◌≤◌, ◌<◌, List, length, take, arith, length-take}
+use Rattle.std.proofs.Common.{◌≡◌, ◌⊎◌, ◌+◌, ◌∙◌, inl, inr, ℕ, ◌≤◌, ◌<◌, true, List, length, take, ap, sym, arith, length-take}
 use Rattle.std.proofs.lemmas.List.{take_all}
 use Rattle.std.proofs.lemmas.Bool.{cases_lt}
 use Rattle.bz_lex.specs.declared.fault.ReadFault.{ReadFault}
 use Rattle.bz_lex.specs.declared.fault.ReadFault.TheVariants as f
+use Rattle.bz_lex.specs.Faults.{is_of_leaves}
+use Rattle.bz_lex.specs.Stops.{IsFaultAt}
 use Rattle.bz_grammar.specs.Spell.{limit}
 use Rattle.bz_grammar.specs.Legal.{Accepted}
 use Rattle.bz_grammar.specs.Faults.{IsFaultOf}
@@ -20,6 +22,12 @@ fault_of_front all fault long of_front =
       not_utf8 = λ at. (λ is. absurd (cc), λ short. let fits = short.0 in absurd (omega arith));
       other = of_front.other;
     }
+
+-- the front of a longer text has no fault of its leaves
+pub placed_of_front : (wrong : List ℕ → Type 0) (all : List ℕ) (fault : ReadFault) → limit < length all → IsFaultOf (take (limit + 1) all) fault
+    → is_of_leaves fault ≡ true → IsFaultAt wrong all fault
+placed_of_front wrong all fault long of_front of_leaves =
+    let large : fault ≡ f.TooLarge = (fault_of_front all fault long of_front).too_large.1 long in absurd (cc (sym (ap is_of_leaves large) ∙ of_leaves))
 
 -- the whole text, or what its front shows of a longer one
 pub cut_at_limit : (all : List ℕ) → (take (limit + 1) all ≡ all) ⊎ (limit < length all)

@@ -48,7 +48,7 @@ fn rewrite<F: Files, E: Sink>(
     ensures count { F.faults files.old ≤ F.faults files.new }
     ensures honest { F.honest files.new ≡ F.honest files.old }
 {
-    match files.rewrite(name, text, new) {
+    match bz_files::rewrite(files, name, text, new) {
         Ok(()) => Effect {
             status: 0,
             cut: Cut::Whole,

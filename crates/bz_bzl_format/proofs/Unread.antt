@@ -1,8 +1,10 @@
 -- The fault that is reported where a text is no .bzl file.
-use Rattle.std.proofs.Common.{◌≡◌, ◌⊎◌, ◌↔◌, ◌≤◌, ◌<◌, inl, inr, ℕ, List, length, Result, Err, refl, sym, subst}
+use Rattle.std.proofs.Common.{◌≡◌, ◌⊎◌, ◌↔◌, ◌≤◌, ◌<◌, inl, inr, ℕ, true, List, length, Result, Err, refl, sym, subst}
 use Rattle.std.specs.Str.{IsValidUpTo}
 use Rattle.bz_lex.specs.declared.fault.ReadFault.{ReadFault}
 use Rattle.bz_lex.specs.declared.fault.ReadFault.TheVariants as f
+use Rattle.bz_lex.specs.Faults.{is_of_leaves}
+use Rattle.bz_lex.specs.Stops.{IsFaultAt}
 use Rattle.bz_grammar.specs.Faults.{IsOfText}
 use Rattle.bz_grammar.specs.Legal.{NoBzlTree}
 use Rattle.bz_grammar.specs.Spell.{limit}
@@ -19,9 +21,10 @@ pub unread_says : (A : Type 0) (text : List ℕ) (fault : ReadFault) (answered :
     → (IsOfText fault → NoBzlTree text)
     → (◌≡◌ {A = Result A ReadFault} (Err fault) (Err f.TooLarge) ↔ (limit < length text))
     → ((at : ℕ) → (◌≡◌ {A = Result A ReadFault} (Err fault) (Err (f.NotUtf8 at)) ↔ ((length text ≤ limit) × IsValidUpTo text at)))
-    → Says text (Err answered)
-unread_says A text fault answered (inl of_text) none large coding = subst (λ (t : FormatFault). Says text (Err t)) (sym of_text.0) (
+    → (is_of_leaves fault ≡ true → IsFaultAt (λ _. Unit {0}) text fault) → Says text (Err answered)
+unread_says A text fault answered (inl of_text) none large coding placed = subst (λ (t : FormatFault). Says text (Err t)) (sym of_text.0) (
   refused_text text fault none of_text.1,
   fault_of_text A text fault large coding of_text.1,
+  placed,
 )
-unread_says A text fault answered (inr memory) none large coding = subst (λ (t : FormatFault). Says text (Err t)) (sym memory) tt
+unread_says A text fault answered (inr memory) none large coding placed = subst (λ (t : FormatFault). Says text (Err t)) (sym memory) tt

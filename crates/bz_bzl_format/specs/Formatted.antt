@@ -1,5 +1,7 @@
 -- The formatted text of a .bzl file.
-use Rattle.std.specs.Prelude.{◌≡◌, ◌≤◌, ◌<◌, List, length, Result, Ok, Err}
+use Rattle.std.specs.Prelude.{◌≡◌, ◌≤◌, ◌<◌, true, List, length, Result, Ok, Err}
+use Rattle.bz_lex.specs.Faults.{is_of_leaves}
+use Rattle.bz_lex.specs.Stops.{IsFaultAt}
 use Rattle.bz_grammar.specs.declared.tree.Node.{Node}
 use Rattle.bz_grammar.specs.Legal.{ReadsBzl, NoBzlTree}
 use Rattle.bz_grammar.specs.Spell.{depth_of, limit, depth_limit}
@@ -15,10 +17,11 @@ use Rattle.bz_build_format.specs.declared.formatter.FormatFault.{FormatFault}
 use Rattle.bz_build_format.specs.declared.formatter.FormatFault.TheVariants.{Unread, TooLarge, TooDeep, Memory}
 use Rattle.bz_bzl_format.specs.TreePrograms.{bzl_tree_program}
 
--- What a text says where it reads as the tree of a .bzl file; of every other text a fault is reported. Memory may be refused at each.
+-- What a text says where it reads as the tree of a .bzl file; of every other text a fault is reported, one of its leaves at its place.
+-- Memory may be refused at each.
 abbrev pub Says : Bytes → Result (List BzlItem) FormatFault → Type 0
 Says text (Ok items) = (tree : Node) × ReadsBzl text tree × (items ≡ bzl_view_of tree)
-Says text (Err (Unread fault)) = NoBzlTree text × IsFaultOf text fault
+Says text (Err (Unread fault)) = NoBzlTree text × IsFaultOf text fault × (is_of_leaves fault ≡ true → IsFaultAt (λ _. Unit {0}) text fault)
 Says text (Err TooLarge) = ⊥
 Says text (Err TooDeep) = ⊥
 Says text (Err Memory) = Unit {0}
@@ -39,7 +42,7 @@ Lasts tree = ReadsBzl (bzl_formatted tree) (formatted_tree tree) × (bzl_view_of
 -- limits of length and depth.
 abbrev pub FormatsBzlTo : Bytes → Result Bytes FormatFault → Type 0
 FormatsBzlTo text (Ok formatted) = (tree : Node) × ReadsBzl text tree × (formatted ≡ bzl_formatted tree) × (length formatted ≤ limit) × Lasts tree
-FormatsBzlTo text (Err (Unread fault)) = NoBzlTree text × IsFaultOf text fault
+FormatsBzlTo text (Err (Unread fault)) = Says text (Err (Unread fault))
 FormatsBzlTo text (Err TooLarge) = (tree : Node) × ReadsBzl text tree × (limit < length (bzl_formatted tree))
 FormatsBzlTo text (Err TooDeep) = (tree : Node) × ReadsBzl text tree × (length (bzl_formatted tree) ≤ limit) × (depth_limit < depth_of (formatted_tree tree)) × NoBzlTree (bzl_formatted tree)
 FormatsBzlTo text (Err Memory) = Unit {0}

@@ -7,7 +7,7 @@ use Rattle.bz_build_format.proofs.formatter.format.Goals as goal
 pub returns-in-Err : goal.returns-in-Err
 returns-in-Err c = record {
   formats = unread_answered _ c.args.text.now c.in-Err.fault c.of_read_fault.result c.of_read_fault.ensures c.in-Err.ensures.refused
-      c.in-Err.ensures.too_large c.in-Err.ensures.not_utf8;
+      c.in-Err.ensures.too_large c.in-Err.ensures.not_utf8 c.in-Err.ensures.placed;
   fixed = tt;
 }
 
