@@ -1,5 +1,5 @@
 -- What is done to the texts of a file that are kept alone.
-use Rattle.std.proofs.Common.{◌≡◌, ◌≢◌, ◌⊎◌, ◌∙◌, ◌+◌, arith, ℕ, Bool, true, false, List, [], ◌∷◌, length, Option, None, Some, Ok, Err, refl, sym, ap, subst, inl, inr}
+use Rattle.std.proofs.Common.{◌≡◌, ◌≢◌, ◌≤◌, ◌⊎◌, ◌∙◌, ◌+◌, arith, ℕ, Bool, true, false, List, [], ◌∷◌, length, Option, None, Some, Ok, Err, refl, sym, ap, subst, inl, inr}
 use Rattle.std.specs.Prelude.{bytes_eq, nat_lt, slice_index_or, if◌then◌else◌}
 use Rattle.std.proofs.lemmas.Slice.Eq.{bytes_eq-Decides}
 use Rattle.bz_grammar.specs.declared.tree.Node.{Node}
@@ -43,6 +43,10 @@ opened_first h text kept one is =
 pub at_the_end : (current text : Bytes) (made : Option Made) → (history_made current text made).cursor + 0 + 1 ≡ length (history_made current text made).texts
 at_the_end current text None = refl
 at_the_end current text (Some made) = refl
+
+pub few : (current text : Bytes) (made : Option Made) → length (history_made current text made).texts ≤ 2
+few current text None = omega arith
+few current text (Some made) = omega arith
 
 -- ---- what a text after it makes
 

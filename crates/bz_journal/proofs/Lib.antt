@@ -14,6 +14,7 @@ pub mod Digested
 pub mod Edited
 pub mod PutLines
 pub mod Resuming
+pub mod Revised
 pub mod Opening
 pub mod Persisting
 pub mod Running

@@ -1,8 +1,11 @@
 -- What opening a text gives, by what reading it gave.
-use Rattle.std.proofs.Common.{◌≡◌, ◌≤◌, ◌<◌, ◌↔◌, ℕ, length, Result, Ok, Err}
+use Rattle.std.proofs.Common.{◌≡◌, ◌≤◌, ◌<◌, ◌↔◌, ℕ, true, [], length, Result, Ok, Err}
+use Rattle.std.specs.Prelude.{◌≢◌}
 use Rattle.std.specs.Str.{IsValidUpTo}
 use Rattle.bz_lex.specs.declared.fault.ReadFault.{ReadFault}
 use Rattle.bz_lex.specs.declared.fault.ReadFault.TheVariants.{NotUtf8, TooLarge, Memory}
+use Rattle.bz_lex.specs.Faults.{is_of_leaves}
+use Rattle.bz_lex.specs.Stops.{IsFaultAt}
 use Rattle.bz_grammar.specs.Faults.{IsOfText}
 use Rattle.bz_grammar.specs.Legal.{Accepted}
 use Rattle.bz_grammar.specs.Spell.{limit}
@@ -28,6 +31,7 @@ module _ {A : Type 0} (current text : Bytes) where
     too_large = (λ e. absurd (cc), λ past. let answered = long.1 past in absurd (cc));
     not_utf8 = λ at. (λ e. absurd (cc), λ fails. let answered = (coded at).1 fails in absurd (cc));
     refused = tt;
+    placed = tt;
   }
 
   pub refused_of : (tree : A) → AnswersLength A text (Ok tree) → AnswersCoding A text (Ok tree) → OpensText current text (Err Memory)
@@ -38,14 +42,17 @@ module _ {A : Type 0} (current text : Bytes) where
     too_large = (λ e. absurd (cc), λ past. let answered = long.1 past in absurd (cc));
     not_utf8 = λ at. (λ e. absurd (cc), λ fails. let answered = (coded at).1 fails in absurd (cc));
     refused = λ own. absurd own;
+    placed = λ e. absurd (cc);
   }
 
-  pub passed_of : (fault : ReadFault) → AnswersLength A text (Err fault) → AnswersCoding A text (Err fault) → (IsOfText fault → Accepted text → ⊥) → OpensText current text (Err fault)
-  passed_of fault long coded refused = record {
+  pub passed_of : (fault : ReadFault) → AnswersLength A text (Err fault) → AnswersCoding A text (Err fault) → (IsOfText fault → Accepted text → ⊥)
+      → (is_of_leaves fault ≡ true → IsFaultAt (λ blanks. blanks ≢ []) text fault) → OpensText current text (Err fault)
+  passed_of fault long coded refused placed = record {
     ok = tt;
     small = tt;
     accepted = tt;
     too_large = (λ e. long.0 (cc), λ past. let answered = long.1 past in cc);
     not_utf8 = λ at. (λ e. (coded at).0 (cc), λ fails. let answered = (coded at).1 fails in cc);
     refused = refused;
+    placed = placed;
   }

@@ -1,7 +1,8 @@
 -- What keeping an action leaves, by its ways out.
-use Rattle.std.proofs.Common.{◌≡◌, ◌≢◌, ◌⊎◌, ◌≤◌, ◌∙◌, inl, inr, ℕ, List, [], true, Option, Result, Some, Ok, Err, refl, sym, ap, subst, arith}
+use Rattle.std.proofs.Common.{◌≡◌, ◌≢◌, ◌⊎◌, ◌≤◌, ◌∙◌, inl, inr, ℕ, List, [], true, length, Option, Result, Some, Ok, Err, refl, sym, ap, subst, arith}
 use Rattle.std.specs.Prelude.{IfErr, IsErrOf}
 use Rattle.std.specs.FinMap.{get}
+use Rattle.std.proofs.lemmas.Bool.{false≢true}
 use Rattle.bz_edit.specs.declared.edit.Edit.{Edit}
 use Rattle.bz_files.specs.Faults.{Rises}
 use Rattle.bz_files.specs.Folder.{Elapses, Folder}
@@ -18,11 +19,11 @@ use Rattle.bz_journal.specs.Actions.{Action}
 use Rattle.bz_journal.specs.declared.action.Reply.{Reply}
 use Rattle.bz_journal.specs.declared.keeping.KeepFault.{KeepFault}
 use Rattle.bz_journal.specs.declared.keeping.KeepFault.TheVariants.{Pair, Refused}
-use Rattle.bz_journal.specs.History.{Answer, History, present}
+use Rattle.bz_journal.specs.History.{Answer, History, note_limit, present}
 use Rattle.bz_journal.specs.declared.keeping.Written.{Written}
 use Rattle.bz_journal.specs.Keeping.{HasActed, IsRefused, IsWriteOrOpen, IsWrittenOf, IsWrittenSince, Keeps, KeepsFile, KeepsPair}
 use Rattle.bz_journal.specs.Lasting.{IsSavedSession, saved}
-use Rattle.bz_journal.specs.Shown.{session_history}
+use Rattle.bz_journal.specs.Shown.{IsOverEven, session_history}
 use Rattle.bz_journal.specs.State.{SessionState, session_trail}
 use Rattle.bz_journal.proofs.Following.{follows}
 use Rattle.bz_journal.proofs.Resuming.{may_resume}
@@ -81,11 +82,13 @@ module _ {F : Type 0} (files : FilesOf F) (action : Action) (note file : Bytes) 
 
   -- an action that is refused, or not kept, where nothing was touched
   kept_fault : (fault : KeepFault) → Keeps action note (session_history s) (Err fault) (session_history t) → (IsRefused fault → (t ≡ s) × (held ≡ held))
+      → (length note ≤ note_limit → IsOverEven action (session_trail s) → IsRefused fault → ⊥)
       → (IsSmall (session_trail s) → IsSmall (session_trail t)) → (IsErrOf {T = Reply} {E = KeepFault} (Err fault) (Pair p.Changed) → ⊥) → (IsWriteOrOpen (Err fault) → ⊥)
       → KeepsPair files action note file s (Err fault) t held held
-  kept_fault fault keeps refused small not_changed not_caused = record {
+  kept_fault fault keeps refused even small not_changed not_caused = record {
     keeps = keeps;
     refused = refused;
+    even = even;
     small = small;
     each = λ honest resumes now stood. inl (only now stood);
     time = λ honest resumes. stays (files.moment held) (files.since held) Stands;
@@ -103,13 +106,14 @@ module _ {F : Type 0} (files : FilesOf F) (action : Action) (note file : Bytes) 
 
   -- the action is refused
   pub kept_refused : (refusal : Refusal) → HasActed action note s (Err refusal) t → KeepsPair files action note file s (Err (Refused refusal)) t held held
-  kept_refused refusal acted = kept_fault (Refused refusal) acted.acts (λ _. (acted.unmoved, refl)) acted.small (not_changed refusal) (λ is. is)
+  kept_refused refusal acted = kept_fault (Refused refusal) acted.acts (λ _. (acted.unmoved, refl)) (λ short over _. false≢true (acted.even short over)) acted.small (not_changed refusal) (λ is. is)
 
   -- the present text stays
   pub kept_still : (reply : Reply) → HasActed action note s (Ok reply) t → t.cursor ≡ s.cursor → KeepsPair files action note file s (Ok reply) t held held
   kept_still reply acted same = record {
     keeps = acted.acts;
     refused = tt;
+    even = λ short over. tt;
     small = acted.small;
     each = λ honest resumes now stood. inl (only now stood);
     time = λ honest resumes. stays (files.moment held) (files.since held) Stands;
@@ -128,7 +132,7 @@ module _ {F : Type 0} (files : FilesOf F) (action : Action) (note file : Bytes) 
   -- memory was refused where the pair is made
   pub kept_unmade : (reply : Reply) → HasActed action note s (Ok reply) t → t.cursor ≢ s.cursor → KeepsPair files action note file s (Err (Pair p.Memory)) t held held
   kept_unmade reply acted other =
-      kept_fault (Pair p.Memory) (reply, acted.acts, other) (λ is. absurd is) acted.small (λ is. not_memory (only_changed p.Memory is)) neither
+      kept_fault (Pair p.Memory) (reply, acted.acts, other) (λ is. absurd is) (λ short over is. is) acted.small (λ is. not_memory (only_changed p.Memory is)) neither
 
   -- the pair was replaced, or not both: what `keep` says of these bytes, which are the text before, the journal and the text
   module _ (new : F) (standing stored text : Bytes) (begun : standing ≡ present (session_history s)) (journal : stored ≡ saved t) (written : text ≡ present (session_history t))
@@ -167,6 +171,7 @@ module _ {F : Type 0} (files : FilesOf F) (action : Action) (note file : Bytes) 
       kept_both kept answered_then steady = record {
         keeps = acted.acts;
         refused = tt;
+        even = λ short over. tt;
         small = acted.small;
         each = passed;
         time = elapsed;
@@ -190,6 +195,7 @@ module _ {F : Type 0} (files : FilesOf F) (action : Action) (note file : Bytes) 
       kept_neither fault changed untouched cause rest = record {
         keeps = (reply, acted.acts, other);
         refused = λ is. absurd is;
+        even = λ short over is. is;
         small = acted.small;
         each = passed;
         time = elapsed;

@@ -64,6 +64,7 @@ IsWrittenSince t from (Err e) = t.cursor ≢ from
 pub record KeepsPair {F : Type 0} (files : FilesOf F) (action : Action) (note file : Bytes) (s : SessionState) (answer : Result Reply KeepFault) (t : SessionState) (old new : F) : Type 0 where
   pub keeps : Keeps action note (session_history s) answer (session_history t)
   pub refused : IfErr answer (λ fault. IsRefused fault → (t ≡ s) × (new ≡ old))
+  pub even : length note ≤ note_limit → IsOverEven action (session_trail s) → IfErr answer (λ fault. IsRefused fault → ⊥)
   pub small : IsSmall (session_trail s) → IsSmall (session_trail t)
   -- A stop at any moment leaves a file that goes on with the texts of before or after, and that holds the present text of either.
   pub each : files.honest old ≡ true → Resumes (files.folder old) file (session_history s).«package» (session_history s).texts

@@ -1,5 +1,5 @@
 -- A session as contracts see it.
-use Rattle.std.specs.Prelude.{◌≡◌, ◌≤◌, ◌<◌, ◌+◌, ◌↔◌, ℕ, true, take, length, Result, Err, IfOk, IfErr, OnOk}
+use Rattle.std.specs.Prelude.{◌≡◌, ◌≢◌, ◌≤◌, ◌<◌, ◌+◌, ◌↔◌, ℕ, true, [], take, length, Result, Err, IfOk, IfErr, OnOk}
 use Rattle.std.specs.Str.{IsValidUpTo}
 use Rattle.bz_grammar.specs.Faults.{IsOfText}
 use Rattle.bz_grammar.specs.Legal.{Accepted}
@@ -7,6 +7,8 @@ use Rattle.bz_grammar.specs.Spell.{limit}
 use Rattle.bz_items.specs.Characters.{Bytes}
 use Rattle.bz_lex.specs.declared.fault.ReadFault.{ReadFault}
 use Rattle.bz_lex.specs.declared.fault.ReadFault.TheVariants as f
+use Rattle.bz_lex.specs.Faults.{is_of_leaves}
+use Rattle.bz_lex.specs.Stops.{IsFaultAt}
 use Rattle.bz_history.specs.Trails.{Trail, HasLeast, IsSmall, steps_back, steps_forward, are_even}
 use Rattle.bz_history.specs.Shown.{StepsAreBetween, StepsLead, texts_of}
 use Rattle.bz_journal.specs.History.{History, IsKept, opened}
@@ -25,7 +27,8 @@ IsOverEven Format t = ⊥
 IsOverEven (Undo n) t = (n ≤ t.cursor) × (are_even (take n (steps_back t)) ≡ true)
 IsOverEven (Redo n) t = (t.cursor + n ≤ length t.steps) × (are_even (take n (steps_forward t)) ≡ true)
 
--- What opening a text of a file of this package gives: its history, or a fault; which faults are exactly of which texts.
+-- What opening a text of a file of this package gives: its history, or a fault; which faults are exactly of which texts, and where those
+-- of its leaves are.
 pub record OpensText (current text : Bytes) (result : Result SessionState ReadFault) : Type 0 where
   pub ok : IfOk result (λ s. session_history s ≡ opened current text)
   pub small : IfOk result (λ s. IsSmall (session_trail s))
@@ -33,6 +36,7 @@ pub record OpensText (current text : Bytes) (result : Result SessionState ReadFa
   pub too_large : (result ≡ Err f.TooLarge) ↔ (limit < length text)
   pub not_utf8 : (at : ℕ) → ((result ≡ Err (f.NotUtf8 at)) ↔ ((length text ≤ limit) × IsValidUpTo text at))
   pub refused : IfErr result (λ fault. IsOfText fault → Accepted text → ⊥)
+  pub placed : IfErr result (λ fault. is_of_leaves fault ≡ true → IsFaultAt (λ blanks. blanks ≢ []) text fault)
 
 -- What the history of a session keeps, and what its steps are: each leads between the trees of two texts that follow one another; those
 -- of a small session are the steps between them, and none that leads there weighs less.

@@ -1,6 +1,7 @@
 -- What the contracts of private functions cite, and no contract of a public call reaches: nobody has to trust it.
 pub mod Alone
 pub mod Doing
+pub mod Edited
 pub mod Filling
 pub mod Lines
 pub mod Moving

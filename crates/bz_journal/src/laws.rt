@@ -1,9 +1,11 @@
 //! Facts about the definitions, for readers: the functions do nothing.
 
+ghost use Rattle.bz_journal.specs.Forms.{HoldsRevisions};
 ghost use Rattle.bz_journal.specs.Clauses.{AlikeActs, AlikeGoesOn, HoldsSteps, IsKept, StoppedIsResumed, WorkedHistories, WrittenIsLaidOut, session_history};
 
 use crate::course::Course;
 use crate::editor::Editor;
+use crate::revisions::{Form, Revisions};
 use crate::session::Session;
 use bz_grammar::laws::one_reading;
 use bz_history::laws::{small_steps, steps_lead, texts_kept};
@@ -51,6 +53,16 @@ pub fn editor_holds(editor: &Editor)
     ensures { HoldsSteps editor.now }
 {
     course_holds(&editor.course);
+}
+
+/// The same of what a run has of a file, where that is an editor; texts alone are two at most.
+pub fn revisions_hold(revisions: &Revisions)
+    ensures { HoldsRevisions revisions.now }
+{
+    match &revisions.form {
+        Form::Editor(editor) => editor_holds(editor),
+        Form::Texts(texts) => texts.are_few(),
+    }
 }
 
 /// The same of a course.

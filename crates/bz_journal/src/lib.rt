@@ -26,7 +26,8 @@ pub use bz_resume::ResumeFault;
 pub use editor::Editor;
 pub use keeping::KeepFault;
 pub use laws::{
-    alike_goes_on, editor_holds, history_kept, session_holds, stopped_is_resumed, worked_histories,
+    alike_goes_on, editor_holds, history_kept, revisions_hold, session_holds, stopped_is_resumed,
+    worked_histories,
 };
 pub use revisions::Revisions;
 pub use session::Session;

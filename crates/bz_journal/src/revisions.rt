@@ -1,7 +1,9 @@
 //! What a run has of a file: an editor, or its texts alone once the last command on it is done.
-ghost use Rattle.std.specs.Prelude.{◌≡◌, ◌++◌, ◌≤◌, IfOk, IfErr, OnErr, OnOk, length};
+ghost use Rattle.std.specs.Prelude.{◌≡◌, ◌++◌, ◌≤◌, ◌<◌, true, IfOk, IfErr, OnErr, OnOk, length};
 ghost use Rattle.bz_journal.specs.Clauses.{Acts, Keeps, KeepsFile, MakesOrWants, action_in, listing, note_limit, present, session_history};
 ghost use Rattle.bz_journal.specs.Actions as a;
+ghost use Rattle.bz_journal.specs.Forms.{ActsIn, KeepsIn, revisions_history};
+ghost use Rattle.bz_journal.specs.private.Edited.{IsEdited, IsEditorOf};
 
 use crate::action::{Action, Reply};
 use crate::course::MOST_NOTE;
@@ -20,15 +22,16 @@ use std::marker::Model;
 
 /// The two forms.
 #[derive(Drop)]
-enum Form {
+pub(crate) enum Form {
     Editor(Editor),
     Texts(Texts),
 }
 
 /// The texts of a file in a run. Where the last command on it is said to be the last one, it takes neither a tree of the new text nor the
-/// step to it: only the two texts are kept. Contracts see the history, and whatever is done after all is done as before.
+/// step to it: only the two texts are kept. Contracts see whether it is an editor or the texts alone; whatever is done after all is done
+/// as before.
 pub struct Revisions {
-    form: Form,
+    pub(crate) form: Form,
 }
 
 impl Drop for Revisions {
@@ -38,18 +41,20 @@ impl Drop for Revisions {
 }
 
 impl Model for Revisions {
-    ghost use Rattle.bz_journal.specs.Forms.{revisions_history};
-    ghost use Rattle.bz_journal.specs.History.{History};
+    ghost use Rattle.bz_journal.specs.declared.revisions.Form.{Form};
+    ghost use Rattle.bz_journal.specs.contracts.revisions.Form as f;
 
-    ghost Value = { History };
+    ghost Value = { Form };
 
-    ghost view = { λ revisions. revisions_history revisions.form };
+    ghost coded = { f.the_row.coded };
+
+    ghost view = { λ revisions. revisions.form };
 }
 
 impl Revisions {
     /// Those of an editor.
     pub fn new(editor: Editor) -> Revisions
-        ensures { result ≡ session_history editor }
+        ensures { result ≡ Form.Editor editor }
     {
         Revisions {
             form: Form::Editor(editor),
@@ -58,7 +63,7 @@ impl Revisions {
 
     /// The number of the present text; the first is 0.
     pub fn cursor(&self) -> u32
-        ensures { result ≡ self.now.cursor }
+        ensures { result ≡ (revisions_history self.now).cursor }
     {
         match &self.form {
             Form::Editor(editor) => editor.cursor(),
@@ -68,7 +73,7 @@ impl Revisions {
 
     /// Appends the present text to `out`. The error: a growth was refused; `out` is then as before.
     pub fn text_into(&self, out: &mut Vec<u8>) -> Result<(), Memory>
-        ensures ok { OnOk result (out.new.items ≡ out.old.items ++ present self.now) }
+        ensures ok { OnOk result (out.new.items ≡ out.old.items ++ present (revisions_history self.now)) }
         ensures err { OnErr result (out.new.items ≡ out.old.items) }
     {
         match &self.form {
@@ -79,7 +84,7 @@ impl Revisions {
 
     /// The texts, one line each, as `Session::listing` gives them. The error: a growth was refused.
     pub fn listing(&self, alloc: Global) -> Result<Text, Memory>
-        ensures { IfOk result (λ text. text ≡ listing self.now) }
+        ensures { IfOk result (λ text. text ≡ listing (revisions_history self.now)) }
     {
         match &self.form {
             Form::Editor(editor) => editor.listing(alloc),
@@ -98,7 +103,8 @@ impl Revisions {
         note: &str,
         is_last: bool,
     ) -> Result<Reply, Refusal>
-        ensures { Acts (action_in action.now) note.now self.old result self.new }
+        ensures acts { Acts (action_in action.now) note.now (revisions_history self.old) result (revisions_history self.new) }
+        ensures form { ActsIn is_last (action_in action.now) note.now self.old result self.new }
     {
         replace_with(self, (action, note, is_last), acted)
     }
@@ -111,8 +117,9 @@ impl Revisions {
         file: &str,
         files: &mut F,
     ) -> Result<Reply, KeepFault>
-        ensures keeps { Keeps (action_in action.now) note.now self.old result self.new }
-        ensures pair { KeepsFile F.Files file.now self.old self.new result files.old files.new }
+        ensures keeps { Keeps (action_in action.now) note.now (revisions_history self.old) result (revisions_history self.new) }
+        ensures pair { KeepsFile F.Files file.now (revisions_history self.old) (revisions_history self.new) result files.old files.new }
+        ensures form { KeepsIn F.Files (action_in action.now) note.now file.now self.old result self.new files.old files.new }
     {
         replace_with(self, (), edited);
         match &mut self.form {
@@ -126,8 +133,8 @@ impl Revisions {
 
     /// Their editor, which is made anew of texts alone. The error: memory was refused for that.
     fn into_editor(self) -> Result<Editor, Texts>
-        ensures ok { IfOk result (λ editor. session_history editor ≡ self) }
-        ensures err { IfErr result (λ texts. texts ≡ self) }
+        ensures ok { IfOk result (λ editor. IsEditorOf self editor) }
+        ensures err { IfErr result (λ texts. self ≡ Form.Texts texts) }
     {
         let Revisions { form } = self;
         match form {
@@ -145,7 +152,7 @@ impl Revisions {
 
 /// Those of texts alone.
 fn alone(texts: Texts) -> Revisions
-    ensures { result ≡ texts }
+    ensures { result ≡ Form.Texts texts }
 {
     Revisions {
         form: Form::Texts(texts),
@@ -154,7 +161,7 @@ fn alone(texts: Texts) -> Revisions
 
 /// The same, as an editor unless memory was refused.
 fn edited(revisions: Revisions, _: ()) -> (Revisions, ())
-    ensures { result.0 ≡ revisions }
+    ensures { IsEdited revisions result.0 }
 {
     match revisions.into_editor() {
         Ok(editor) => (Revisions::new(editor), ()),
@@ -167,7 +174,8 @@ fn acted(
     revisions: Revisions,
     request: (&Action<'_>, &str, bool),
 ) -> (Revisions, Result<Reply, Refusal>)
-    ensures { Acts (action_in request.entry.0.now) request.entry.1.now revisions result.1 result.0 }
+    ensures acts { Acts (action_in request.entry.0.now) request.entry.1.now (revisions_history revisions) result.1 (revisions_history result.0) }
+    ensures form { ActsIn request.entry.2 (action_in request.entry.0.now) request.entry.1.now revisions result.1 result.0 }
 {
     let (action, note, is_last) = request;
     match revisions.into_editor() {
@@ -186,8 +194,10 @@ fn act_by(
     note: &str,
     is_last: bool,
 ) -> (Revisions, Result<Reply, Refusal>)
-    ensures { Acts (action_in action.now) note.now (session_history editor) result.1 result.0 }
+    ensures acts { Acts (action_in action.now) note.now (session_history editor) result.1 (revisions_history result.0) }
+    ensures form { ActsIn is_last (action_in action.now) note.now (Form.Editor editor) result.1 result.0 }
 {
+    let _here = editor.course.present();
     if is_last
         && note.len() <= MOST_NOTE
         && editor.course.steps() == 0
@@ -209,7 +219,9 @@ fn do_last(
 ) -> (Revisions, Result<Reply, Refusal>)
     requires short { length note.now ≤ note_limit }
     requires first { length (session_history editor).texts ≡ 1 }
-    ensures { MakesOrWants (a.Do command.now target.now) note.now (session_history editor) result.1 result.0 }
+    requires within { (session_history editor).cursor < length (session_history editor).texts }
+    ensures makes { MakesOrWants (a.Do command.now target.now) note.now (session_history editor) result.1 (revisions_history result.0) }
+    ensures form { ActsIn true (a.Do command.now target.now) note.now (Form.Editor editor) result.1 result.0 }
 {
     let alloc = editor.course.alloc();
     let Ok(note) = String::from_str(alloc, note) else {

@@ -1,6 +1,6 @@
 //! The texts of a file alone: what a run has of it once the last command on it is done.
 ghost use Rattle.std.specs.Prelude.{◌≡◌, ◌≢◌, ◌≤◌, ◌+◌, Ok, IfSome, length, string_bytes};
-ghost use Rattle.bz_journal.specs.Clauses.{Acts, Answer, Bytes, History, MakesOrWants, action_in, after_text, changed, note_limit, opened, present, session_history, text_or};
+ghost use Rattle.bz_journal.specs.Clauses.{Acts, Answer, Bytes, History, IsSmall, MakesOrWants, action_in, after_text, changed, note_limit, opened, present, session_history, session_trail, text_or};
 ghost use Rattle.bz_journal.specs.Actions as a;
 
 use crate::action::{Action, Reply};
@@ -89,7 +89,8 @@ pub(crate) fn taken_up(
 fn take_up_again(course: Course, made: &Made) -> Option<Course>
     requires short { length (string_bytes made.now.note) ≤ note_limit }
     requires other { made.now.text ≢ present (session_history course) }
-    ensures { IfSome result (λ new. session_history new ≡ changed (string_bytes made.now.note) (session_history course) made.now.text) }
+    ensures made { IfSome result (λ new. session_history new ≡ changed (string_bytes made.now.note) (session_history course) made.now.text) }
+    ensures small { IsSmall (session_trail course) → IfSome result (λ new. IsSmall (session_trail new)) }
 {
     let mut course = course;
     let Ok(tree) = parse(course.alloc(), made.text.as_slice()) else {
@@ -112,6 +113,13 @@ impl Texts {
         }
     }
 
+    /// They are two at most.
+    pub(crate) fn are_few(&self)
+        ensures { length self.now.texts ≤ 2 }
+    {
+        let _made = &self.made;
+    }
+
     /// The present text.
     pub(crate) fn present(&self) -> &[u8]
         ensures { result.now ≡ present self.now }
@@ -124,7 +132,8 @@ impl Texts {
 
     /// Their course, made anew. None: memory was refused, as what was read once reads again.
     pub(crate) fn course(&self) -> Option<Course>
-        ensures { IfSome result (λ course. session_history course ≡ self.now) }
+        ensures made { IfSome result (λ course. session_history course ≡ self.now) }
+        ensures small { IfSome result (λ course. IsSmall (session_trail course)) }
     {
         let alloc = *self.first.allocator();
         let Ok(course) = begin(alloc, self.package.as_str(), self.first.as_slice()) else {

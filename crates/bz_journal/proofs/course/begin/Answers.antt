@@ -6,7 +6,7 @@ use Rattle.bz_journal.proofs.course.begin.Goals as goal
 pub returns-in-Err : goal.returns-in-Err
 returns-in-Err c =
     passed_of c.args.«package».now c.args.text.now c.in-Err.fault c.in-Err.ensures.too_large c.in-Err.ensures.not_utf8
-    (λ own accepted. c.in-Err.ensures.refused own accepted.0 accepted.1)
+    (λ own accepted. c.in-Err.ensures.refused own accepted.0 accepted.1) c.in-Err.ensures.placed
 
 pub returns-in_err-package : goal.returns-in_err-package
 returns-in_err-package c =
