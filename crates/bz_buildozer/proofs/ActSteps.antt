@@ -12,6 +12,7 @@ use Rattle.bz_buildozer.specs.Packages.{Opened, Used, file_at, with_opened}
 use Rattle.bz_buildozer.specs.private.ShownFiles.{used_in}
 use Rattle.bz_buildozer.specs.declared.used.Used as d
 use Rattle.bz_buildozer.specs.Run.{Progress, answered, reported_of}
+use Rattle.bz_buildozer.specs.Failing.{FailsAt}
 use Rattle.bz_buildozer.specs.Reported.{refusal_line}
 
 -- the file that takes the place of one that is there
@@ -95,6 +96,32 @@ pub reported_by : (f f' : ℕ) (old new : Option Bytes) (journals : Bool) (name 
     → AppendsUnlessFailed f f' old new (refusal_line journals name command refusal) → Reports f f' old new (reported_of journals other command (Err refusal))
 reported_by f f' old new journals name other command refusal is reported =
     (f', new, subst (λ (text : Bytes). AppendsUnlessFailed f f' old new (refusal_line journals text command refusal)) is reported, (refl, refl))
+
+-- ---- a step for which memory is refused
+
+pub fails_listed : (place : ℕ) (file : Opened) (before after : Progress) (f g : ℕ) (old new : Option Bytes) (command : Bytes) (refusal : Refusal)
+    → file_at place before.used ≡ Some file → after ≡ record before { failed = true } → Reports f g old new (reported_of false file.name command (Err refusal))
+    → (lines : List Bytes) × FailsAt place before lines after × Reports f g old new lines
+fails_listed place file before after f g old new command refusal there is reported = (
+  reported_of false file.name command (Err refusal),
+  (
+    (refusal_line false file.name command refusal, refl),
+    (Some file, is ∙ ap (λ (u : List Used). record before { used = u; failed = true }) (sym (put_again place before.used file there))),
+  ),
+  reported,
+)
+
+pub fails_acted : (place : ℕ) (file : Opened) (before after : Progress) (used : List Used) (printed : Bytes) (f g : ℕ) (old new : Option Bytes) (command : Bytes)
+    (refusal : Refusal) → used ≡ with_opened place (Some file) before.used → printed ≡ before.printed → after ≡ record { used = used; printed = printed; failed = true }
+    → Reports f g old new (reported_of false file.name command (Err refusal)) → (lines : List Bytes) × FailsAt place before lines after × Reports f g old new lines
+fails_acted place file before after used printed f g old new command refusal put same is reported = (
+  reported_of false file.name command (Err refusal),
+  (
+    (refusal_line false file.name command refusal, refl),
+    (Some file, is ∙ ap (λ (text : Bytes). state used text true) same ∙ ap (λ (u : List Used). record before { used = u; failed = true }) put),
+  ),
+  reported,
+)
 
 -- ---- a package by its number
 

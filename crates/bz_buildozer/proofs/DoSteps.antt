@@ -61,6 +61,18 @@ listed_answers step place found file before after there none is =
       is,
     )
 
+pub acted_answers : (step : RunStep) (place : ℕ) (found : Option Opened) (file : Opened) (action : Action) (answer : Answer) (history : History) (before after : Progress)
+    → found ≡ Some file → Some action ≡ action_of step.target step.request.verb → Leads action step.request.text file.history answer history
+    → after ≡ answered place file answer history before → Answers step place found before (reported_of false file.name step.request.text answer) after
+acted_answers step place found file action answer history before after there requested leads is =
+    subst (λ (f : Option Opened). Answers step place f before (reported_of false file.name step.request.text answer) after) (sym there) (
+      answer,
+      history,
+      subst (λ (a : Option Action). LeadsBy a step.request.text file.history answer history) requested leads,
+      refl,
+      is,
+    )
+
 -- ---- with journals
 
 pub beside_there : (step : RunStep) (folder between folder' : Folder) (before after : Progress) (used : List Used) (found : Option ℕ) (place at : ℕ) (name : Bytes)

@@ -1,6 +1,7 @@
 pub mod ActSteps
 pub mod CutSteps
 pub mod DoSteps
+pub mod EndedSteps
 pub mod EndingSteps
 pub mod ExactActions
 pub mod ExactBeside
@@ -9,6 +10,7 @@ pub mod ExactFaults
 pub mod ExactLines
 pub mod ExactOutcomes
 pub mod ExactSteps
+pub mod FailSteps
 pub mod FaultSteps
 pub mod FileSteps
 pub mod FoundSteps
@@ -31,6 +33,7 @@ pub mod RunSteps
 pub mod SafeSteps
 pub mod StandSteps
 pub mod StepLists
+pub mod TrySteps
 pub mod UnusedSteps
 pub mod UsageSteps
 pub mod WorkedEnds

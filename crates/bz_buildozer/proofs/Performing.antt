@@ -1,5 +1,5 @@
 -- What is left where steps and their ending are put together.
-use Rattle.std.proofs.Common.{◌≡◌, ◌⊎◌, ◌&&◌, inl, inr, ℕ, List, [], ◌++◌, Option, Bool, true, false, true≢false, refl, sym, ap, subst, ◌∙◌}
+use Rattle.std.proofs.Common.{◌≡◌, ◌≢◌, ◌⊎◌, ◌&&◌, inl, inr, ℕ, List, [], ◌++◌, Option, Bool, true, false, true≢false, refl, sym, ap, subst, ◌∙◌}
 use Rattle.std.specs.Io.KnownBytes.{Appends}
 use Rattle.bz_items.specs.Characters.{Bytes}
 use Rattle.bz_files.specs.Folder.{Folder}
@@ -10,11 +10,16 @@ use Rattle.bz_streams.specs.Faults.{AppendsSome}
 use Rattle.bz_streams.specs.Outputs.{Reports}
 use Rattle.bz_streams.proofs.Outputs.{reports_more}
 use Rattle.bz_streams.specs.declared.exit.Cut.{Cut}
+use Rattle.bz_streams.specs.declared.exit.Cut.TheVariants as c
 use Rattle.bz_streams.specs.declared.exit.Cut.TheVariants.{Write}
+use Rattle.bz_streams.specs.declared.exit.Exit.{Exit}
+use Rattle.bz_streams.specs.Exits.{first_cut}
 use Rattle.bz_buildozer.specs.Cuts.{AreCutBy}
 use Rattle.bz_buildozer.specs.Ending.{Left, Performs, LeftStands, Writing, WritesFiles, all_fixed, all_kept, all_writings, fixed_lines, texts_out, status_of}
+use Rattle.bz_buildozer.specs.Failing.{Ended, PerformsUntil, RunsUntil, TriesFiles, status_until}
 use Rattle.bz_buildozer.specs.Keeping.{PerformsBeside, RunsBeside}
-use Rattle.bz_buildozer.specs.Outcome.{AreOfInput, LinesLeave}
+use Rattle.bz_buildozer.specs.Outcome.{AreOfInput, AreOfInputAndSome, LinesLeave}
+use Rattle.bz_buildozer.specs.Reported.{output_lines}
 use Rattle.bz_buildozer.specs.Run.{World, Progress, nothing_done, RunsSteps}
 use Rattle.bz_buildozer.specs.Steps.{RunStep, all_steps, names_input, shows_input}
 use Rattle.bz_buildozer.proofs.InputSteps.{nothing_written}
@@ -150,12 +155,56 @@ kept_premise honest journals Premise kept (inl is) = is
 kept_premise honest journals Premise kept (inr holds) = absurd (true≢false (sym kept ∙ holds.0))
 
 -- Where files are not honest none is written.
-pub honest_still : (honest honest' to_stdout : Bool) (world : World) (keep_going : Bool) (lines : List Requested) (start : Progress) (reported : List Bytes) (state : Progress)
-    → honest' ≡ honest → start ≡ nothing_done → RunsSteps world keep_going (all_steps lines) start reported state → (honest ≡ true) ⊎ AreOfInput lines
+pub honest_still : (honest honest' to_stdout : Bool) (why : Cut) (world : World) (keep_going : Bool) (lines : List Requested) (start : Progress) (reported : List Bytes) (state : Progress)
+    → honest' ≡ honest → start ≡ nothing_done → RunsUntil why world keep_going (all_steps lines) start reported state → (honest ≡ true) ⊎ AreOfInput lines
     → (honest' ≡ true) ⊎ (all_writings to_stdout state.used ≡ [])
-honest_still honest honest' to_stdout world keep_going lines start reported state same begins runs (inl is) = inl (same ∙ is)
-honest_still honest honest' to_stdout world keep_going lines start reported state same begins runs (inr are) =
-    inr (nothing_written to_stdout world keep_going lines reported state are (subst (λ (from : Progress). RunsSteps world keep_going (all_steps lines) from reported state) begins runs))
+honest_still honest honest' to_stdout why world keep_going lines start reported state same begins runs (inl is) = inl (same ∙ is)
+honest_still honest honest' to_stdout why world keep_going lines start reported state same begins runs (inr are) = inr (nothing_written to_stdout why world keep_going lines
+    reported state are (subst (λ (from : Progress). RunsUntil why world keep_going (all_steps lines) from reported state) begins runs))
+
+-- ---- runs that may be cut
+
+pub input_premise : (honest : Bool) (lines : List Requested) → (honest ≡ true) ⊎ AreOfInputAndSome lines → (honest ≡ true) ⊎ AreOfInput lines
+input_premise honest lines (inl is) = inl is
+input_premise honest lines (inr are) = inr are.0
+
+pub status_is : (why : Cut) (status : ℕ) (state : Progress) → (why ≢ c.Whole → status ≡ 2) → (why ≡ c.Whole → status ≡ status_of state) → status ≡ status_until why state
+status_is c.Whole status state other whole = whole refl
+status_is c.Memory status state other whole = other (λ is. cc is)
+status_is c.Read status state other whole = other (λ is. cc is)
+status_is c.Write status state other whole = other (λ is. cc is)
+status_is c.Files status state other whole = other (λ is. cc is)
+
+-- what is left, by the state after the steps, and the lines that these and the files had
+abbrev pub ended_until : Options → List RunStep → Progress → Folder → List Bytes → List Bytes → Exit → Cut → Ended
+ended_until options steps state folder reported told exit later = record {
+  left = record {
+    output = state.printed ++ texts_out (shows_input steps) options.to_stdout state.used;
+    lines = reported ++ output_lines later ++ told;
+    status = exit.status;
+    folder = folder;
+  };
+  cut = exit.cut;
+  printed = later;
+}
+
+pub performs_until : (options : Options) (steps : List RunStep) (world : World) (start state : Progress) (before after : Folder) (reported told : List Bytes) (exit : Exit)
+    (stopped written later : Cut) → start ≡ nothing_done → RunsUntil stopped world options.keep_going steps start reported state → before ≡ world.folder
+    → TriesFiles written options state.used before told after → exit.cut ≡ first_cut stopped (first_cut written later) → exit.status ≡ status_until exit.cut state
+    → PerformsUntil options steps world (ended_until options steps state after reported told exit later)
+performs_until options steps world start state before after reported told exit stopped written later begins runs same tries cut status = record {
+  stopped = stopped;
+  written = written;
+  reported = reported;
+  told = told;
+  state = state;
+  runs = subst (λ (from : Progress). RunsUntil stopped world options.keep_going steps from reported state) begins runs;
+  output = refl;
+  tries = subst (λ (folder : Folder). TriesFiles written options state.used folder told after) same tries;
+  lines = refl;
+  cut = cut;
+  status = status;
+}
 
 -- Steps are not cut by standard output.
 pub uncut : (cut : Cut) (read_faults read_faults' files files' : ℕ) → cut ≡ Write → AreCutBy cut read_faults read_faults' files files' → ⊥

@@ -14,51 +14,15 @@ use Rattle.bz_buildozer.specs.Calls.{RunSpot, DoesBetween, ReadsNoInput, KeepsBe
 use Rattle.bz_buildozer.specs.Cuts.{AreCutBy, IsLeft, ReadsOnce}
 use Rattle.bz_streams.specs.Exits.{first_cut}
 use Rattle.bz_buildozer.proofs.CutSteps.{cut_more, neither_read, whole_before, whole_after}
+use Rattle.bz_buildozer.proofs.FailSteps.{cut_alone, cuts_assoc, ended_runs, runs_more}
 use Rattle.bz_buildozer.proofs.ReadSteps.{reads_none, reads_more}
 use Rattle.bz_buildozer.proofs.StandSteps.{runs_stand}
 use Rattle.bz_buildozer.specs.Keeping.{AllAreKept, DoesBeside, RunsBeside}
 use Rattle.bz_buildozer.specs.Moments.{AllAreSafe, IsMeanwhile, IsMomentOfSteps}
-use Rattle.bz_buildozer.specs.Run.{World, Progress, Does, RunsSteps, ends_run}
+use Rattle.bz_buildozer.specs.Failing.{RunsUntil}
+use Rattle.bz_buildozer.specs.Run.{World, Progress, ends_run}
 use Rattle.bz_buildozer.specs.Steps.{RunStep}
 use Rattle.bz_buildozer.specs.Packages.{Used}
-
--- ---- steps
-
--- a run that has ended stays ended
-pub stays_ended : (world : World) (keep_going : Bool) (steps : List RunStep) (state after : Progress) (lines : List (List ℕ)) → ends_run keep_going state ≡ true
-    → RunsSteps world keep_going steps state lines after → (lines ≡ []) × (after ≡ state)
-stays_ended world keep_going [] state after lines ended runs = runs
-stays_ended world keep_going (step ∷ steps) state after lines ended (inl stays) = (stays.1, stays.2)
-stays_ended world keep_going (step ∷ steps) state after lines ended (inr goes) = absurd (let on = goes.0 in cc)
-
-pub ended_runs : (world : World) (keep_going : Bool) (steps : List RunStep) (state : Progress) → ends_run keep_going state ≡ true
-    → RunsSteps world keep_going steps state [] state
-ended_runs world keep_going [] state ended = (refl, refl)
-ended_runs world keep_going (step ∷ steps) state ended = inl (ended, refl, refl)
-
-pub runs_more : (world : World) (keep_going : Bool) (xs ys : List RunStep) (state mid after : Progress) (lines more : List (List ℕ))
-    → RunsSteps world keep_going xs state lines mid → RunsSteps world keep_going ys mid more after → RunsSteps world keep_going (xs ++ ys) state (lines ++ more) after
-runs_more world keep_going [] ys state mid after lines more first last =
-    subst (λ (reported : List (List ℕ)). RunsSteps world keep_going ys state (reported ++ more) after) (sym first.0)
-    (subst (λ (s : Progress). RunsSteps world keep_going ys s more after) first.1 last)
-runs_more world keep_going (x ∷ xs) ys state mid after lines more (inl stays) last =
-    let none = stays_ended world keep_going ys mid after more (ap (ends_run keep_going) stays.2 ∙ stays.0) last in
-    inl (stays.0, ap (λ (reported : List (List ℕ)). reported ++ more) stays.1 ∙ none.0, none.1 ∙ stays.2)
-runs_more world keep_going (x ∷ xs) ys state mid after lines more (inr goes) last = inr (
-  goes.0,
-  (
-    goes.1.0,
-    goes.1.1,
-    goes.1.2 ++ more,
-    goes.1.3,
-    runs_more world keep_going xs ys goes.1.0 mid after goes.1.2 more goes.1.4 last,
-    ap (λ (reported : List (List ℕ)). reported ++ more) goes.1.5 ∙ append_assoc goes.1.1 goes.1.2 more,
-  ),
-)
-
-pub one_runs : (world : World) (keep_going : Bool) (step : RunStep) (state after : Progress) (lines : List (List ℕ)) → ends_run keep_going state ≡ false
-    → Does world step state lines after → RunsSteps world keep_going (step ∷ []) state lines after
-one_runs world keep_going step state after lines on does = inr (on, (after, lines, [], does, (refl, refl), sym (append-nil lines)))
 
 -- ---- steps with journals
 
@@ -124,14 +88,14 @@ moment_after began (x ∷ xs) ys used now is = (used, used, inl refl, inl refl, 
 -- ---- parts of a run
 
 -- steps are run from one spot to another
-abbrev pub Goes : Folder → Bool → List RunStep → RunSpot → RunSpot → Type 0
-Goes folder keep_going steps old new = DoesBetween folder (λ world. RunsSteps world keep_going steps) old new
+abbrev pub Goes : Cut → Folder → Bool → List RunStep → RunSpot → RunSpot → Type 0
+Goes why folder keep_going steps old new = DoesBetween folder (λ world. RunsUntil why world keep_going steps) old new
 
 -- after a part of the steps, whatever those that are left do is what all do
-abbrev pub Passes : Folder → Bool → List RunStep → List RunStep → RunSpot → RunSpot → Type 0
-Passes folder keep_going steps left old new = (known : Option (List ℕ)) → IsLeft known old.state.used old.left → (lines : List (List ℕ))
-    × ((more : List (List ℕ)) (after : Progress) → RunsSteps (record { folder = folder; known = known }) keep_going left new.state more after
-    → RunsSteps (record { folder = folder; known = known }) keep_going steps old.state (lines ++ more) after)
+abbrev pub Passes : Cut → Folder → Bool → List RunStep → List RunStep → RunSpot → RunSpot → Type 0
+Passes why folder keep_going steps left old new = (known : Option (List ℕ)) → IsLeft known old.state.used old.left → (lines : List (List ℕ))
+    × ((more : List (List ℕ)) (after : Progress) (last : Cut) → RunsUntil last (record { folder = folder; known = known }) keep_going left new.state more after
+    → RunsUntil (first_cut why last) (record { folder = folder; known = known }) keep_going steps old.state (lines ++ more) after)
     × IsLeft known new.state.used new.left
     × Reports old.faults new.faults old.reported new.reported lines
 
@@ -152,7 +116,7 @@ SafeSoFar steps left old new = (began : Folder) → AllAreSafe old.folder old.st
 
 -- What was done of steps, by whether journals are kept. (A premise besides honest files, and why they were cut.)
 pub record Part (journals : Bool) (Premise : Type 0) (keep_going : Bool) (steps left : List RunStep) (why : Cut) (old new : RunSpot) : Type 0 where
-  pub runs : journals ≡ false → (old.honest ≡ true) ⊎ Premise → why ≡ c.Whole → Passes old.folder keep_going steps left old new
+  pub runs : journals ≡ false → (old.honest ≡ true) ⊎ Premise → Passes why old.folder keep_going steps left old new
   pub folder : journals ≡ false → (old.honest ≡ true) ⊎ Premise → new.folder ≡ old.folder
   pub keeps : journals ≡ true → old.honest ≡ true → why ≡ c.Whole → Continues keep_going steps left old new
   pub safely : journals ≡ true → old.honest ≡ true → SafeSoFar steps left old new
@@ -168,7 +132,7 @@ pub record Part (journals : Bool) (Premise : Type 0) (keep_going : Bool) (steps 
 -- steps are done
 abbrev pub Done : Bool → Type 0 → Bool → List RunStep → Cut → RunSpot → RunSpot → Type 0
 Done journals Premise keep_going steps why old new =
-    Proceeds journals Premise steps (λ world. RunsSteps world keep_going steps) (RunsBeside keep_going steps) why old new
+    Proceeds journals Premise steps (λ (it : Cut) (world : World). RunsUntil it world keep_going steps) (RunsBeside keep_going steps) why old new
 
 counts_same : (count : ℕ) → Counts count count
 counts_same count = record { grows = omega arith; rises = inl refl }
@@ -176,7 +140,7 @@ counts_same count = record { grows = omega arith; rises = inl refl }
 pub part_none : (journals : Bool) (Premise : Type 0) (keep_going : Bool) (steps : List RunStep) (spot : RunSpot)
     → Part journals Premise keep_going steps steps c.Whole spot spot
 part_none journals Premise keep_going steps spot = record {
-  runs = λ plain honest whole known left. ([], (λ more after runs. runs), left, (refl, refl));
+  runs = λ plain honest known left. ([], (λ more after last runs. runs), left, (refl, refl));
   folder = λ plain honest. refl;
   keeps = λ kept honest whole stand. ([], stand, (λ more folder' after runs. runs), (refl, refl));
   safely = λ kept honest began all mean. (all, mean, stays spot.moment spot.since (IsMomentOfSteps began steps spot.state.used), (λ more now is. is));
@@ -190,16 +154,20 @@ part_none journals Premise keep_going steps spot = record {
   input = λ plain is. reads_none spot.state;
 }
 
-passes_more : (folder folder' : Folder) (keep_going : Bool) (steps left part rest : List RunStep) (old mid new : RunSpot) → left ≡ part ++ rest
-    → folder' ≡ folder → Passes folder keep_going steps left old mid → Goes folder' keep_going part mid new → Passes folder keep_going steps rest old new
-passes_more folder folder' keep_going steps left part rest old mid new split same passes goes known remains =
+passes_more : (cut later : Cut) (folder folder' : Folder) (keep_going : Bool) (steps left part rest : List RunStep) (old mid new : RunSpot) → left ≡ part ++ rest
+    → folder' ≡ folder → Passes cut folder keep_going steps left old mid → Goes later folder' keep_going part mid new
+    → Passes (first_cut cut later) folder keep_going steps rest old new
+passes_more cut later folder folder' keep_going steps left part rest old mid new split same passes goes known remains =
     let world : World = record { folder = folder; known = known } in
     let before = passes known remains in
-    let then = subst (λ (f : Folder). Goes f keep_going part mid new) same goes known before.2 in (
+    let then = subst (λ (f : Folder). Goes later f keep_going part mid new) same goes known before.2 in (
       before.0 ++ then.0,
-      (λ more after runs. subst (λ (reported : List (List ℕ)). RunsSteps world keep_going steps old.state reported after) (sym (append_assoc before.0 then.0 more))
-          (before.1 (then.0 ++ more) after (subst (λ (all : List RunStep). RunsSteps world keep_going all mid.state (then.0 ++ more) after) (sym split)
-          (runs_more world keep_going part rest mid.state new.state after then.0 more then.1 runs)))),
+      (λ more after last runs. subst (λ (reported : List (List ℕ)). RunsUntil (first_cut (first_cut cut later) last) world keep_going steps old.state reported after)
+          (sym (append_assoc before.0 then.0 more))
+          (subst (λ (it : Cut). RunsUntil it world keep_going steps old.state (before.0 ++ (then.0 ++ more)) after) (sym (cuts_assoc cut later last))
+          (before.1 (then.0 ++ more) after (first_cut later last)
+          (subst (λ (all : List RunStep). RunsUntil (first_cut later last) world keep_going all mid.state (then.0 ++ more) after) (sym split)
+          (runs_more later last world keep_going part rest mid.state new.state after then.0 more then.1 runs))))),
       then.2,
       reports_more old.faults mid.faults new.faults old.reported mid.reported new.reported before.0 then.0 before.3 then.3,
     )
@@ -244,9 +212,8 @@ pub part_more : (journals : Bool) (Premise Now : Type 0) (keep_going : Bool) (st
     → (Premise → Now) → left ≡ part ++ rest → Part journals Premise keep_going steps left cut old mid → Done journals Now keep_going part later mid new
     → Part journals Premise keep_going steps rest (first_cut cut later) old new
 part_more journals Premise Now keep_going steps left part rest cut later old mid new implies split before then = record {
-  runs = λ plain honest whole. passes_more old.folder mid.folder keep_going steps left part rest old mid new split (before.folder plain honest)
-      (before.runs plain honest (whole_before cut later whole))
-      (then.does plain (still Premise Now old.honest mid.honest before.honest implies honest) (whole_after cut later whole));
+  runs = λ plain honest. passes_more cut later old.folder mid.folder keep_going steps left part rest old mid new split (before.folder plain honest)
+      (before.runs plain honest) (then.does plain (still Premise Now old.honest mid.honest before.honest implies honest));
   folder = λ plain honest. then.folder plain (still Premise Now old.honest mid.honest before.honest implies honest) ∙ before.folder plain honest;
   keeps = λ kept honest whole. continues_more keep_going steps left part rest old mid new split (before.keeps kept honest (whole_before cut later whole))
       (then.keeps kept (before.honest ∙ honest) (whole_after cut later whole));
@@ -262,14 +229,16 @@ part_more journals Premise Now keep_going steps left part rest cut later old mid
   input = λ plain is. reads_more cut later old.state mid.state new.state (before.input plain is) (then.input plain (implies is));
 }
 
-passes_all : (folder : Folder) (keep_going : Bool) (steps left : List RunStep) (old new : RunSpot)
-    → ((known : Option (List ℕ)) → RunsSteps (record { folder = folder; known = known }) keep_going left new.state [] new.state)
-    → Passes folder keep_going steps left old new → Goes folder keep_going steps old new
-passes_all folder keep_going steps left old new none passes known remains =
+passes_all : (why : Cut) (folder : Folder) (keep_going : Bool) (steps left : List RunStep) (old new : RunSpot)
+    → ((known : Option (List ℕ)) → RunsUntil c.Whole (record { folder = folder; known = known }) keep_going left new.state [] new.state)
+    → Passes why folder keep_going steps left old new → Goes why folder keep_going steps old new
+passes_all why folder keep_going steps left old new none passes known remains =
+    let world : World = record { folder = folder; known = known } in
     let before = passes known remains in (
       before.0,
-      subst (λ (reported : List (List ℕ)). RunsSteps (record { folder = folder; known = known }) keep_going steps old.state reported new.state) (append-nil before.0)
-          (before.1 [] new.state (none known)),
+      subst (λ (reported : List (List ℕ)). RunsUntil why world keep_going steps old.state reported new.state) (append-nil before.0)
+          (subst (λ (it : Cut). RunsUntil it world keep_going steps old.state (before.0 ++ []) new.state) (cut_alone why)
+          (before.1 [] new.state c.Whole (none known))),
       before.2,
       before.3,
     )
@@ -290,12 +259,12 @@ safe_all steps left old new safe began all mean =
     (done.0, done.1, done.2, (λ rest now is. done.3 rest now (moment_after began left rest new.state.used now is)))
 
 part_done : (journals : Bool) (Premise : Type 0) (keep_going : Bool) (steps left : List RunStep) (cut : Cut) (old new : RunSpot)
-    → ((known : Option (List ℕ)) → RunsSteps (record { folder = old.folder; known = known }) keep_going left new.state [] new.state)
+    → ((known : Option (List ℕ)) → RunsUntil c.Whole (record { folder = old.folder; known = known }) keep_going left new.state [] new.state)
     → RunsBeside keep_going left new.folder new.state [] new.folder new.state
     → Part journals Premise keep_going steps left cut old new → Done journals Premise keep_going steps cut old new
 part_done journals Premise keep_going steps left cut old new none none' part = record {
   keeps = λ kept honest whole. continues_all keep_going steps left old new none' (part.keeps kept honest whole);
-  does = λ plain honest whole. passes_all old.folder keep_going steps left old new none (part.runs plain honest whole);
+  does = λ plain honest. passes_all cut old.folder keep_going steps left old new none (part.runs plain honest);
   safely = λ kept honest. safe_all steps left old new (part.safely kept honest);
   unread = part.unread;
   works = part.works;
@@ -312,7 +281,7 @@ part_done journals Premise keep_going steps left cut old new none none' part = r
 pub all_done : (journals : Bool) (Premise : Type 0) (keep_going : Bool) (steps left : List RunStep) (cut : Cut) (old new : RunSpot) → left ≡ []
     → Part journals Premise keep_going steps left cut old new → Done journals Premise keep_going steps cut old new
 all_done journals Premise keep_going steps left cut old new none = part_done journals Premise keep_going steps left cut old new (λ known.
-    subst (λ (all : List RunStep). RunsSteps (record { folder = old.folder; known = known }) keep_going all new.state [] new.state) (sym none) (refl, refl))
+    subst (λ (all : List RunStep). RunsUntil c.Whole (record { folder = old.folder; known = known }) keep_going all new.state [] new.state) (sym none) (refl, refl, refl))
     (subst (λ (all : List RunStep). RunsBeside keep_going all new.folder new.state [] new.folder new.state) (sym none) (refl, refl, refl))
 
 -- A step failed, so those that are left do nothing.

@@ -6,7 +6,7 @@ use Rattle.std.specs.Io.KnownBytes.{Appends}
 use Rattle.bz_items.specs.Characters.{Bytes}
 use Rattle.bz_files.specs.Folder.{Folder, Elapses}
 use Rattle.bz_files.specs.declared.files.Files.{Ghosts as FilesOf}
-use Rattle.bz_streams.specs.Faults.{AppendsSome, AppendsUnlessFailed}
+use Rattle.bz_streams.specs.Faults.{AppendsSome, AppendsUnlessFailed, Rises}
 use Rattle.bz_streams.specs.Outputs.{Reports, Counts}
 use Rattle.bz_streams.specs.declared.exit.Cut.{Cut}
 use Rattle.bz_streams.specs.declared.exit.Cut.TheVariants as c
@@ -20,6 +20,7 @@ use Rattle.bz_buildozer.specs.Packages.{Used, file_at, package_number}
 use Rattle.bz_buildozer.specs.Sessions.{Action, Reply}
 use Rattle.bz_buildozer.specs.Cuts.{AreCutBy, IsEndedBy, IsLeft, CutsFiles, ReadsOnce}
 use Rattle.bz_buildozer.specs.Ending.{Left, LeftStands}
+use Rattle.bz_buildozer.specs.Failing.{Ended}
 use Rattle.bz_buildozer.specs.Keeping.{AllAreKept, is_left_at}
 use Rattle.bz_buildozer.specs.Moments.{AllAreSafe, IsMeanwhile, IsMomentOfSteps}
 use Rattle.bz_buildozer.specs.Run.{World, Progress}
@@ -46,6 +47,14 @@ PrintsAll sink old new bytes = Appends (sink.contents old) (sink.contents new) b
 -- A beginning of these bytes was printed.
 abbrev pub PrintsSome : {W : Type 0} → SinkOf W → W → W → Bytes → Type 0
 PrintsSome sink old new bytes = AppendsSome (sink.contents old) (sink.contents new) bytes
+
+-- The same of bytes that standard output may not be given, and why it isn't given all.
+abbrev pub PrintsUntil : {W : Type 0} → SinkOf W → Cut → W → W → Bytes → Type 0
+PrintsUntil sink c.Whole old new bytes = PrintsAll sink old new bytes
+PrintsUntil sink c.Memory old new bytes = new ≡ old
+PrintsUntil sink c.Write old new bytes = PrintsSome sink old new bytes × Rises (sink.faults old) (sink.faults new)
+PrintsUntil sink c.Read old new bytes = ⊥
+PrintsUntil sink c.Files old new bytes = ⊥
 
 -- ---- what can be read
 
@@ -162,9 +171,9 @@ PassesSafely steps old new = (began : Folder) → AllAreSafe old.folder old.stat
 
 -- What a run does from one spot to another by these steps, without journals or with them, and why it is cut. Where files are not honest the premise is
 -- that only standard input is used. With journals standard input isn't read.
-pub record Proceeds (journals : Bool) (Premise : Type 0) (steps : List RunStep) (Does : World → Progress → List Bytes → Progress → Type 0)
+pub record Proceeds (journals : Bool) (Premise : Type 0) (steps : List RunStep) (Does : Cut → World → Progress → List Bytes → Progress → Type 0)
     (Keeps : Folder → Progress → List Bytes → Folder → Progress → Type 0) (why : Cut) (old new : RunSpot) : Type 0 where
-  pub does : journals ≡ false → (old.honest ≡ true) ⊎ Premise → why ≡ c.Whole → DoesBetween old.folder Does old new
+  pub does : journals ≡ false → (old.honest ≡ true) ⊎ Premise → DoesBetween old.folder (Does why) old new
   pub folder : journals ≡ false → (old.honest ≡ true) ⊎ Premise → new.folder ≡ old.folder
   pub input : journals ≡ false → Premise → ReadsOnce why old.state new.state
   pub keeps : journals ≡ true → old.honest ≡ true → why ≡ c.Whole → KeepsBetween Keeps old new
@@ -192,6 +201,18 @@ Reaches sink errors files IsOutcome status out out' err err' held' =
 abbrev pub BreaksOff : {W F : Type 0} → SinkOf W → FilesOf F → (Left → Type 0) → W → W → F → Type 0
 BreaksOff sink files IsOutcome out out' held' =
     (left : Left) × IsOutcome left × PrintsSome sink out out' left.output × (files.folder held' ≡ left.folder)
+
+-- What a run leaves that may be cut is in the writers and in the folder. (How it ended.)
+pub record LeavesEnded {W E F : Type 0} (sink : SinkOf W) (errors : SinkOf E) (files : FilesOf F) (ended : Ended) (exit : Exit) (out out' : W) (err err' : E) (held' : F) : Type 0 where
+  pub exit_is : exit ≡ record { status = ended.left.status; cut = ended.cut }
+  pub folder : files.folder held' ≡ ended.left.folder
+  pub output : PrintsUntil sink ended.printed out out' ended.left.output
+  pub lines : ReportsLines errors err err' ended.left.lines
+
+-- Some such outcome is what is left.
+abbrev pub EndsIn : {W E F : Type 0} → SinkOf W → SinkOf E → FilesOf F → (Ended → Type 0) → Exit → W → W → E → E → F → Type 0
+EndsIn sink errors files IsOutcome exit out out' err err' held' =
+    (ended : Ended) × IsOutcome ended × LeavesEnded sink errors files ended exit out out' err err' held'
 
 -- A whole run leaves such an outcome, and one that standard output cuts breaks off in one. (How it ended.)
 pub record LeavesOutcome {W E F : Type 0} (sink : SinkOf W) (errors : SinkOf E) (files : FilesOf F) (IsOutcome : Left → Type 0) (exit : Exit) (out out' : W) (err err' : E)

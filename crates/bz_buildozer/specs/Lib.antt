@@ -2,6 +2,7 @@ pub mod Calls
 pub mod Cuts
 pub mod Ending
 pub mod Exact
+pub mod Failing
 pub mod Found
 pub mod Journals
 pub mod Keeping

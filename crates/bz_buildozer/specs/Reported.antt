@@ -1,5 +1,5 @@
 -- The lines of buildozer on standard error that speak of commands, operands and usage.
-use Rattle.std.specs.Prelude.{◌≡◌, ◌==◌, ◌&&◌, ℕ, Bool, not, [], ◌++◌, bytes_eq, codes, decimal, if◌then◌else◌}
+use Rattle.std.specs.Prelude.{◌≡◌, ◌==◌, ◌&&◌, ℕ, Bool, not, List, [], ◌∷◌, ◌++◌, bytes_eq, codes, decimal, if◌then◌else◌}
 use Rattle.bz_items.specs.Characters.{Bytes}
 use Rattle.bz_value.specs.Refusals.{refusal_name, refusal_number}
 use Rattle.bz_value.specs.declared.refusal.Refusal.{Refusal}
@@ -8,7 +8,11 @@ use Rattle.bz_command_line.specs.Requested.{Refused, Usage, of_operand, no_comma
 use Rattle.bz_command_line.specs.Hints.{hint_for}
 use Rattle.bz_command_line.specs.Line.{LineUsage, of_clap, beside_script, beside_stdout}
 use Rattle.bz_command_line.specs.Verbs.{operand_fault_name, operand_fault_number}
+use Rattle.bz_resume.specs.declared.pair_fault.PairFault.{PairFault}
+use Rattle.bz_resume.specs.declared.pair_fault.PairFault.TheVariants as f
 use Rattle.bz_streams.specs.Reported.{stdin, named_line}
+use Rattle.bz_streams.specs.declared.exit.Cut.{Cut}
+use Rattle.bz_streams.specs.declared.exit.Cut.TheVariants as c
 
 -- what is refused, with the name and the number of the refusal
 abbrev pub numbered : Bytes → Bytes → ℕ → Bytes
@@ -32,6 +36,36 @@ operand_line refused = codes "buildozer: " ++ numbered refused.operand (operand_
 -- a file that was written
 abbrev pub fixed_line : Bytes → Bytes
 fixed_line name = codes "fixed " ++ name ++ codes "\n"
+
+-- a file that could not be written with its journal, and why
+abbrev pub unkept_line : Bytes → PairFault → Bytes
+unkept_line file f.Memory = named_line file (codes "Memory")
+unkept_line file f.Open = named_line file (codes "cannot write")
+unkept_line file f.Changed = named_line file (codes "cannot write")
+unkept_line file f.Write = named_line file (codes "cannot write")
+
+-- Standard output was given all, or was not.
+abbrev pub output_lines : Cut → List Bytes
+output_lines c.Whole = []
+output_lines c.Memory = named_line (codes "<stdout>") (codes "Memory") ∷ []
+output_lines c.Read = named_line (codes "<stdout>") (codes "cannot write") ∷ []
+output_lines c.Write = named_line (codes "<stdout>") (codes "cannot write") ∷ []
+output_lines c.Files = named_line (codes "<stdout>") (codes "cannot write") ∷ []
+
+-- a file of lines that could not be read; that it can't be is a fault of usage
+abbrev pub unread_line : Bytes → Cut → Bytes
+unread_line file c.Whole = named_line file (codes "cannot open")
+unread_line file c.Memory = named_line file (codes "Memory")
+unread_line file c.Read = named_line file (codes "cannot open")
+unread_line file c.Write = named_line file (codes "cannot open")
+unread_line file c.Files = named_line file (codes "cannot open")
+
+abbrev pub unread_status : Cut → ℕ
+unread_status c.Whole = 1
+unread_status c.Memory = 2
+unread_status c.Read = 1
+unread_status c.Write = 1
+unread_status c.Files = 1
 
 -- a file of lines of which this line, from 1, has a NUL byte
 abbrev pub nul_line : Bytes → ℕ → Bytes

@@ -7,9 +7,11 @@ ghost use Rattle.bz_command_line.specs.Shown.{request_in};
 ghost use Rattle.bz_buildozer.specs.Packages as p;
 ghost use Rattle.bz_buildozer.specs.Packages.{file_at};
 ghost use Rattle.bz_buildozer.specs.private.ShownFiles.{opened_in, used_in};
-ghost use Rattle.bz_buildozer.specs.Calls.{KeepsSome, KeepsStep, ReportsLines, WorksOn, spot, Proceeds};
+ghost use Rattle.bz_buildozer.specs.Calls.{KeepsSome, KeepsStep, ReportsLine, ReportsLines, WorksOn, spot, Proceeds};
+ghost use Rattle.bz_buildozer.specs.Failing.{AnswersUntil, DoesUntil, FailsAt};
 ghost use Rattle.bz_buildozer.specs.Keeping.{AllAreKept, AnswersBeside, DoesBeside, FolderAfter, is_left_at, state_after};
-ghost use Rattle.bz_buildozer.specs.Run.{Answers, Does, printed_in, answered, reported_of};
+ghost use Rattle.bz_buildozer.specs.Reported.{unkept_line};
+ghost use Rattle.bz_buildozer.specs.Run.{printed_in, answered, reported_of};
 ghost use Rattle.bz_buildozer.specs.private.Shown.{progress_in};
 ghost use Rattle.bz_buildozer.specs.Steps.{input_package, step_of};
 
@@ -100,6 +102,8 @@ fn act_at<E: Sink>(
     ensures whole { result ≡ Cut.Whole → (file : p.Opened) × (answer : Answer) × (history : History) × (file_at place run.old.workspace ≡ Some file)
         × Leads (action_in action.now) command.now file.history answer history × (progress_in run.new ≡ answered place file answer history (progress_in run.old))
         × ReportsLines E.Sink err.old err.new (reported_of false file.name command.now answer) }
+    ensures memory { result ≡ Cut.Memory → (lines : List (List ℕ)) × FailsAt place (progress_in run.old) lines (progress_in run.new)
+        × ReportsLines E.Sink err.old err.new lines }
 {
     match run.workspace.act(place, action, command, run.once) {
         Ok(reply) => match put_printed(&reply, &mut run.printed) {
@@ -117,6 +121,8 @@ fn list_at<E: Sink>(alloc: Global, run: &mut Run, place: usize, command: &str, e
     ensures whole { result ≡ Cut.Whole → (file : p.Opened) × (file_at place run.old.workspace ≡ Some file)
         × (progress_in run.new ≡ answered place file (Ok (Reply.Printed (listing file.history))) file.history (progress_in run.old))
         × ReportsLines E.Sink err.old err.new [] }
+    ensures memory { result ≡ Cut.Memory → (lines : List (List ℕ)) × FailsAt place (progress_in run.old) lines (progress_in run.new)
+        × ReportsLines E.Sink err.old err.new lines }
     ensures same { run.new.workspace ≡ run.old.workspace }
 {
     let Ok(text) = open_file(&run.workspace, place).revisions.listing(alloc) else {
@@ -143,13 +149,15 @@ fn leave<E: Sink>(run: &mut Run, place: usize, fault: PairFault, err: &mut E) ->
     ensures state { progress_in run.new ≡ record (progress_in run.old) { failed = true } }
     ensures cut { ((result ≡ Cut.Whole) × (fault ≡ PairFault.Changed)) ⊎ ((result ≡ Cut.Memory) × (fault ≡ PairFault.Memory))
         ⊎ ((result ≡ Cut.Files) × ((fault ≡ PairFault.Write) ⊎ (fault ≡ PairFault.Open))) }
+    ensures reported { (file : p.Opened) → file_at place run.old.workspace ≡ Some file → ReportsLine E.Sink err.old err.new (unkept_line file.name fault) }
 {
     run.failed = true;
     let name = open_file(&run.workspace, place).name.as_str();
     match fault {
         PairFault::Memory => fail(err, name, "Memory", Cut::Memory),
         PairFault::Changed => fail(err, name, "cannot write", Cut::Whole),
-        PairFault::Open | PairFault::Write => fail(err, name, "cannot write", Cut::Files),
+        PairFault::Open => fail(err, name, "cannot write", Cut::Files),
+        PairFault::Write => fail(err, name, "cannot write", Cut::Files),
     }
 }
 
@@ -196,8 +204,8 @@ fn act_on<F: Files, E: Sink>(
 ) -> Cut
     requires { IsSome (file_at place run.old.workspace) }
     ensures kinds { journals ≡ false → (result ≡ Cut.Whole) ⊎ (result ≡ Cut.Memory) }
-    ensures whole { journals ≡ false → result ≡ Cut.Whole → (lines : List (List ℕ))
-        × Answers (step_of target.now (request_in request.now)) place (file_at place run.old.workspace) (progress_in run.old) lines (progress_in run.new)
+    ensures answers { journals ≡ false → (lines : List (List ℕ))
+        × AnswersUntil result (step_of target.now (request_in request.now)) (Some place) (progress_in run.old) lines (progress_in run.new)
         × ReportsLines E.Sink err.old err.new lines }
     ensures still { journals ≡ false → files.new ≡ files.old }
     ensures beside { journals ≡ true → F.honest files.old ≡ true → AllAreKept (F.folder files.old) run.old.workspace → result ≡ Cut.Whole
@@ -233,7 +241,7 @@ pub(crate) fn do_step<R: Source, F: Files, E: Sink>(
     err: &mut E,
 ) -> Cut
     requires { HasPath target.now }
-    ensures { Proceeds journals (target.now.«package» ≡ input_package) (step_of target.now (request_in request.now) ∷ []) (λ world. Does world (step_of target.now (request_in request.now)))
+    ensures { Proceeds journals (target.now.«package» ≡ input_package) (step_of target.now (request_in request.now) ∷ []) (λ why world. DoesUntil why world (step_of target.now (request_in request.now)))
         (DoesBeside (step_of target.now (request_in request.now))) result
         (spot R.Source F.Files E.Sink run.old input.old files.old err.old) (spot R.Source F.Files E.Sink run.new input.new files.new err.new) }
 {

@@ -1,21 +1,25 @@
 //! What a run leaves after its steps.
-ghost use Rattle.std.specs.Prelude.{◌≡◌, ◌≢◌, ◌⊎◌, ◌++◌, [], ◌∷◌, ℕ, true, false, map, if◌then◌else◌, IfOk, IfErr};
+ghost use Rattle.std.specs.Prelude.{◌≡◌, ◌≢◌, ◌⊎◌, ◌++◌, [], ◌∷◌, ℕ, List, Some, codes, true, false, map, if◌then◌else◌, IfOk, IfErr};
 ghost use Rattle.std.specs.List.{list_any};
 ghost use Rattle.bz_buildozer.specs.Sessions.{present};
 ghost use Rattle.bz_streams.specs.Faults.{Rises};
 ghost use Rattle.bz_streams.specs.Outputs.{Counts};
 ghost use Rattle.bz_buildozer.specs.private.ShownFiles.{opened_in, used_in};
-ghost use Rattle.bz_buildozer.specs.Calls.{ReportsLines, PrintsAll, PrintsSome, WorksOn};
-ghost use Rattle.bz_buildozer.specs.Ending.{differs, has_changed, is_input, goes_out, text_out, texts_out, writing_of, all_writings, WritesFiles, fixed_of, all_fixed, fixed_lines, status_of};
+ghost use Rattle.bz_streams.specs.Exits.{first_cut};
+ghost use Rattle.bz_streams.specs.Reported.{named_line};
+ghost use Rattle.bz_buildozer.specs.Calls.{ReportsLine, ReportsLines, PrintsAll, PrintsSome, PrintsUntil, WorksOn};
+ghost use Rattle.bz_buildozer.specs.Failing.{LeavesUnwritten, TriesFiles};
+ghost use Rattle.bz_buildozer.specs.Packages as p;
+ghost use Rattle.bz_buildozer.specs.Ending.{differs, has_changed, is_input, goes_out, text_out, texts_out, Writing, writing_of, all_writings, WritesFiles, fixed_of, all_fixed, fixed_lines, status_of};
 ghost use Rattle.bz_buildozer.specs.private.Shown.{progress_in};
-ghost use Rattle.bz_buildozer.specs.Reported.{fixed_line};
+ghost use Rattle.bz_buildozer.specs.Reported.{fixed_line, output_lines};
 
 use crate::reported::{FAILED, fail};
 use crate::run::Run;
 use crate::script::INPUT;
 use crate::used::{Opened, Used};
 use bz_command_line::Options;
-use bz_files::Files;
+use bz_files::{Files, rewrite};
 use bz_items::Memory;
 use bz_streams::{Cut, Exit, Sink, first_cut, report, write_whole};
 use std::alloc::Global;
@@ -103,6 +107,7 @@ fn print_all<W: Sink, E: Sink>(
     ensures err { IfErr result (λ cut. ((cut ≡ Cut.Memory) × (out.new ≡ out.old)) ⊎ ((cut ≡ Cut.Write)
         × PrintsSome W.Sink out.old out.new (printed.items ++ texts_out shown to_stdout (map used_in packages.now))
         × Rises (W.faults out.old) (W.faults out.new))) }
+    ensures told { IfErr result (λ cut. ReportsLines E.Sink err.old err.new (output_lines cut)) }
     ensures output { PrintsSome W.Sink out.old out.new (printed.items ++ texts_out shown to_stdout (map used_in packages.now)) }
 {
     let mut output = printed;
@@ -136,6 +141,11 @@ fn write_file<F: Files, E: Sink>(
         (fixed_lines options.quiet (fixed_of options.journal options.to_stdout (used_in used.now))) }
     ensures writes { options.journal ≡ false → (F.honest files.old ≡ true) ⊎ (writing_of options.to_stdout (used_in used.now) ≡ []) → result ≡ Cut.Whole
         → WritesFiles (writing_of options.to_stdout (used_in used.now)) (F.folder files.old) (F.folder files.new) }
+    ensures unwritten { result ≡ Cut.Files → (options.journal ≡ false) × ((file : Writing) × (writing_of options.to_stdout (used_in used.now) ≡ file ∷ [])
+        × ReportsLine E.Sink err.old err.new (named_line file.name (codes "cannot write"))
+        × (F.honest files.old ≡ true → LeavesUnwritten file (F.folder files.old) (F.folder files.new))) }
+    ensures memory { result ≡ Cut.Memory → (options.journal ≡ false) × ((file : p.Opened) × ((used_in used.now).file ≡ Some file)
+        × ReportsLine E.Sink err.old err.new (named_line file.name (codes "Memory")) × (files.new ≡ files.old)) }
     ensures kept { options.journal ≡ true → files.new ≡ files.old }
     ensures works { WorksOn F.Files result files.old files.new }
 {
@@ -159,7 +169,7 @@ fn write_file<F: Files, E: Sink>(
     if !changed {
         return Cut::Whole;
     }
-    let Ok(()) = files.rewrite(name, file.read.as_slice(), &text) else {
+    let Ok(()) = rewrite(files, name, file.read.as_slice(), &text) else {
         return fail(err, name, "cannot write", Cut::Files);
     };
     report_written(options.quiet, name, err);
@@ -178,6 +188,8 @@ fn write_files<F: Files, E: Sink>(
         (fixed_lines options.quiet (all_fixed options.journal options.to_stdout (map used_in packages.now))) }
     ensures writes { options.journal ≡ false → (F.honest files.old ≡ true) ⊎ (all_writings options.to_stdout (map used_in packages.now) ≡ []) → result ≡ Cut.Whole
         → WritesFiles (all_writings options.to_stdout (map used_in packages.now)) (F.folder files.old) (F.folder files.new) }
+    ensures tries { (options.journal ≡ false → (F.honest files.old ≡ true) ⊎ (all_writings options.to_stdout (map used_in packages.now) ≡ [])) → (lines : List (List ℕ))
+        × TriesFiles result options (map used_in packages.now) (F.folder files.old) lines (F.folder files.new) × ReportsLines E.Sink err.old err.new lines }
     ensures kept { options.journal ≡ true → files.new ≡ files.old }
     ensures works { WorksOn F.Files result files.old files.new }
 {
@@ -225,6 +237,11 @@ pub(crate) fn finish<W: Sink, F: Files, E: Sink>(
     ensures writes { options.journal ≡ false → (F.honest files.old ≡ true) ⊎ (all_writings options.to_stdout (progress_in run).used ≡ [])
         → cut ≡ Cut.Whole → (result.cut ≡ Cut.Whole) ⊎ (result.cut ≡ Cut.Write)
         → WritesFiles (all_writings options.to_stdout (progress_in run).used) (F.folder files.old) (F.folder files.new) }
+    ensures ends { (options.journal ≡ false → (F.honest files.old ≡ true) ⊎ (all_writings options.to_stdout (progress_in run).used ≡ []))
+        → (later : Cut) × (written : Cut) × (told : List (List ℕ))
+        × TriesFiles written options (progress_in run).used (F.folder files.old) told (F.folder files.new)
+        × PrintsUntil W.Sink later out.old out.new ((progress_in run).printed ++ texts_out shown options.to_stdout (progress_in run).used)
+        × ReportsLines E.Sink err.old err.new (output_lines later ++ told) × (result.cut ≡ first_cut cut (first_cut written later)) }
     ensures kept { options.journal ≡ true → files.new ≡ files.old }
     ensures status { result.cut ≢ Cut.Whole → result.status ≡ 2 }
     ensures used { result.status ≢ 1 }

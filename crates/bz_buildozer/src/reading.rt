@@ -1,5 +1,5 @@
 //! What opening a file takes: its name, its bytes and its session.
-ghost use Rattle.std.specs.Prelude.{◌≡◌, ◌≢◌, ◌⊎◌, ◌≤◌, [], ◌∷◌, length, map, take, true, Some, None, IfOk, IfErr, IsErrOf, string_bytes};
+ghost use Rattle.std.specs.Prelude.{◌≡◌, ◌≢◌, ◌⊎◌, ◌≤◌, [], ◌∷◌, codes, length, map, take, true, Some, None, IfOk, IfErr, IsErrOf, string_bytes};
 ghost use Rattle.std.specs.List.{concat};
 ghost use Rattle.std.specs.FinMap.{get};
 ghost use Rattle.bz_grammar.specs.Legal.{Accepted};
@@ -125,6 +125,8 @@ pub(crate) fn unresumed<E: Sink>(err: &mut E, journal: &str, fault: &ResumeFault
     ensures place { result.place ≡ None }
     ensures whole { result.cut ≡ Cut.Whole → fault.now ≢ ResumeFault.Memory }
     ensures cut { (result.cut ≡ Cut.Whole) ⊎ (result.cut ≡ Cut.Memory) }
+    ensures told { result.cut ≡ Cut.Memory → AppendsUnlessFailed (E.faults err.old) (E.faults err.new) (E.contents err.old) (E.contents err.new)
+        (named_line journal.now (codes "Memory (8)")) }
     ensures reported { Reports (E.faults err.old) (E.faults err.new) (E.contents err.old) (E.contents err.new)
         (fault_lines journal.now (of_resuming fault.now)) }
 {
@@ -147,7 +149,8 @@ pub(crate) fn unresumed<E: Sink>(err: &mut E, journal: &str, fault: &ResumeFault
 
 /// Reports that memory was refused before a file of the package had its name, and no file is open.
 pub(crate) fn unnamed<E: Sink>(err: &mut E, package: &str) -> Opening
-    ensures { result ≡ record { place = None; cut = Cut.Memory } }
+    ensures opening { result ≡ record { place = None; cut = Cut.Memory } }
+    ensures told { (line : Bytes) × AppendsUnlessFailed (E.faults err.old) (E.faults err.new) (E.contents err.old) (E.contents err.new) line }
 {
     let slash = if package.is_empty() { "" } else { "/" };
     report(err, &[package, slash, "BUILD", ": Memory\n"]);

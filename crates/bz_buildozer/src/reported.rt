@@ -1,10 +1,10 @@
 //! The lines on standard error that speak of commands, operands and usage. Its faults are passed over.
-ghost use Rattle.std.specs.Prelude.{◌≡◌, ◌≢◌, ◌⊎◌, ◌++◌, codes, List, ℕ, IfOk, IfSome, IsSome, string_bytes};
+ghost use Rattle.std.specs.Prelude.{◌≡◌, ◌≢◌, ◌++◌, List, ℕ, IfOk, IfSome, IsSome, string_bytes};
 ghost use Rattle.bz_command_line.specs.Hints.{hint_for};
 ghost use Rattle.bz_command_line.specs.Shown.{refused_in, usage_in, script_usage_in, line_usage_in, hint_text};
 ghost use Rattle.bz_streams.specs.Reported.{named_line};
 ghost use Rattle.bz_buildozer.specs.Calls.{ReportsLine};
-ghost use Rattle.bz_buildozer.specs.Reported.{numbered, history_hint, refusal_line, operand_line, nul_line, refused_place, usage_line, IsLineUsageLine};
+ghost use Rattle.bz_buildozer.specs.Reported.{numbered, history_hint, refusal_line, operand_line, nul_line, refused_place, unread_line, unread_status, usage_line, IsLineUsageLine};
 
 use bz_command_line::{Hint, LineFault, Refused, ScriptFault, UsageFault, hint_for};
 use bz_streams::{Cut, Exit, STDIN, Sink, report, report_clap, report_named};
@@ -26,7 +26,8 @@ pub(crate) const UNUSED: Exit = Exit {
 
 /// Reports a word on a file. Returned: why the run is cut.
 pub(crate) fn fail<E: Sink>(err: &mut E, name: &str, word: &str, cut: Cut) -> Cut
-    ensures { result ≡ cut }
+    ensures cut { result ≡ cut }
+    ensures reported { ReportsLine E.Sink err.old err.new (named_line name.now word.now) }
 {
     report_named(err, name, word);
     cut
@@ -244,8 +245,8 @@ pub(crate) fn report_line_usage<E: Sink>(alloc: Global, err: &mut E, fault: &Lin
 /// Reports that a file of lines by this name can't be read, and why. Returned: how the run ends.
 pub(crate) fn report_unread<E: Sink>(err: &mut E, name: &str, cut: Cut) -> Exit
     ensures cut { result.cut ≡ cut }
-    ensures status { (result.status ≡ 1) ⊎ (result.status ≡ 2) }
-    ensures whole { cut ≡ Cut.Whole → (result.status ≡ 1) × ReportsLine E.Sink err.old err.new (named_line name.now (codes "cannot open")) }
+    ensures status { result.status ≡ unread_status cut }
+    ensures reported { ReportsLine E.Sink err.old err.new (unread_line name.now cut) }
 {
     match cut {
         Cut::Memory => {

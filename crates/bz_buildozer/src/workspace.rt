@@ -1,14 +1,16 @@
 //! The packages of a run, each found by its path in one step.
-ghost use Rattle.std.specs.Prelude.{◌≡◌, ◌⊎◌, ◌≤◌, ◌<◌, ℕ, [], ◌∷◌, ◌++◌, List, Option, map, length, take, true, false, Some, None, IsSome, IfSome, OnOk, OnErr, IfOk};
+ghost use Rattle.std.specs.Prelude.{◌≡◌, ◌⊎◌, ◌≤◌, ◌<◌, ℕ, [], ◌∷◌, ◌++◌, codes, List, Option, map, length, take, true, false, Some, None, IsSome, IfSome, OnOk, OnErr, IfOk};
 ghost use Rattle.std.specs.Option.{option_map};
 ghost use Rattle.bz_resume.specs.Pair.{journal_name};
 ghost use Rattle.bz_items.specs.Characters.{Bytes};
 ghost use Rattle.bz_streams.specs.Faults.{Rises};
-ghost use Rattle.bz_buildozer.specs.Found.{found_in, found_second};
+ghost use Rattle.bz_streams.specs.Reported.{named_line};
+ghost use Rattle.bz_buildozer.specs.Calls.{ReportsLine};
+ghost use Rattle.bz_buildozer.specs.Failing.{OpensUntil, SecondUntil, TakesUntil};
 ghost use Rattle.bz_buildozer.specs.private.ShownFiles.{texts_of_keys, packages_of, opened_in, used_in};
 ghost use Rattle.bz_journal.specs.Actions.{action_in};
 ghost use Rattle.bz_journal.specs.Keeping.{IsWriteOrOpen};
-ghost use Rattle.bz_buildozer.specs.Journals.{Adds, IsOpenedIn, OpensBeside, Puts, TakesBeside, journal_beside};
+ghost use Rattle.bz_buildozer.specs.Journals.{Adds, IsOpenedIn, Puts, TakesBeside, journal_beside};
 ghost use Rattle.bz_buildozer.specs.Keeps.{KeepsAt, ReadsFiles};
 ghost use Rattle.bz_buildozer.specs.Opens.{ActsAt, Extends, Fills, IsUnopened, Takes};
 ghost use Rattle.bz_buildozer.specs.Packages as p;
@@ -131,6 +133,7 @@ impl Workspace {
         ensures whole { result.cut ≡ Cut.Whole
             → Fills E.Sink (Takes «package».now name.now text.items) place result.place self.old self.new err.old err.new }
         ensures cut { (result.cut ≡ Cut.Whole) ⊎ ((result.cut ≡ Cut.Memory) × (result.place ≡ None) × (self.new ≡ self.old)) }
+        ensures told { result.cut ≡ Cut.Memory → ReportsLine E.Sink err.old err.new (named_line name.now (codes "Memory")) }
         ensures there { IfSome result.place (λ at. IsSome (file_at at self.new)) }
     {
         let alloc = *self.used.allocator();
@@ -166,6 +169,7 @@ impl Workspace {
         ensures whole { result.cut ≡ Cut.Whole
             → Fills E.Sink (TakesBeside (Some bytes.now) «package».now name.now text.items) place result.place self.old self.new err.old err.new }
         ensures cut { (result.cut ≡ Cut.Whole) ⊎ ((result.cut ≡ Cut.Memory) × (result.place ≡ None) × (self.new ≡ self.old)) }
+        ensures told { result.cut ≡ Cut.Memory → ReportsLine E.Sink err.old err.new (named_line journal.now (codes "Memory (8)")) }
     {
         let alloc = *self.used.allocator();
         let session = match Session::resume(alloc, bytes, text.as_slice()) {
@@ -208,8 +212,8 @@ impl Workspace {
         err: &mut E,
     ) -> Opening
         requires { IsUnopened place «package».now self.old }
-        ensures whole { F.honest files.old ≡ true → result.cut ≡ Cut.Whole
-            → Fills E.Sink (TakesBeside (journal_beside journals (F.folder files.old) name.now) «package».now name.now text.items) place result.place
+        ensures fills { F.honest files.old ≡ true
+            → Fills E.Sink (TakesUntil result.cut journals (F.folder files.old) «package».now name.now text.items) place result.place
             self.old self.new err.old err.new }
         ensures puts { Puts place (λ file. F.honest files.old ≡ true
             → TakesBeside (journal_beside journals (F.folder files.old) name.now) «package».now name.now text.items (Some file) [])
@@ -250,9 +254,8 @@ impl Workspace {
         err: &mut E,
     ) -> Opening
         requires { IsUnopened place «package».now self.old }
-        ensures second { F.honest files.old ≡ true → result.cut ≡ Cut.Whole
-            → Fills E.Sink (OpensBeside journals (F.folder files.old) «package».now (found_second (F.folder files.old) «package».now)) place result.place
-            self.old self.new err.old err.new }
+        ensures second { F.honest files.old ≡ true
+            → Fills E.Sink (SecondUntil result.cut journals (F.folder files.old) «package».now) place result.place self.old self.new err.old err.new }
         ensures puts { Puts place (λ file. F.honest files.old ≡ true → IsOpenedIn journals (F.folder files.old) «package».now file) result.place self.old self.new }
         ensures files { ReadsFiles F.Files result.cut files.old files.new }
     {
@@ -279,9 +282,8 @@ impl Workspace {
         err: &mut E,
     ) -> Opening
         requires { IsUnopened place «package».now self.old }
-        ensures first { F.honest files.old ≡ true → result.cut ≡ Cut.Whole
-            → Fills E.Sink (OpensBeside journals (F.folder files.old) «package».now (found_in (F.folder files.old) «package».now)) place result.place
-            self.old self.new err.old err.new }
+        ensures first { F.honest files.old ≡ true
+            → Fills E.Sink (OpensUntil result.cut journals (F.folder files.old) «package».now) place result.place self.old self.new err.old err.new }
         ensures puts { Puts place (λ file. F.honest files.old ≡ true → IsOpenedIn journals (F.folder files.old) «package».now file) result.place self.old self.new }
         ensures files { ReadsFiles F.Files result.cut files.old files.new }
     {
@@ -319,9 +321,9 @@ impl Workspace {
         ensures again { (place : ℕ) → package_number «package».now self.old ≡ Some place
             → (result ≡ record { place = option_map (λ _. place) (file_at place self.old); cut = Cut.Whole })
             × (self.new ≡ self.old) × (files.new ≡ files.old) × (err.new ≡ err.old) }
-        ensures opens { F.honest files.old ≡ true → result.cut ≡ Cut.Whole → package_number «package».now self.old ≡ None
-            → Extends E.Sink (OpensBeside journals (F.folder files.old) «package».now (found_in (F.folder files.old) «package».now)) «package».now result.place
-            self.old self.new err.old err.new }
+        ensures opens { F.honest files.old ≡ true → package_number «package».now self.old ≡ None
+            → Extends E.Sink (OpensUntil result.cut journals (F.folder files.old) «package».now) «package».now result.place self.old self.new err.old err.new
+            ⊎ ((result ≡ record { place = None; cut = Cut.Memory }) × (self.new ≡ self.old) × ((line : Bytes) × ReportsLine E.Sink err.old err.new line)) }
         ensures there { IfSome result.place (λ at. IsSome (file_at at self.new)) }
 
         // Whatever comes, the packages that were used before stay as they were, and the new one is the last or not there; its file, where

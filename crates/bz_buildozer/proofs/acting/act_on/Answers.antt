@@ -11,16 +11,19 @@ use Rattle.bz_buildozer.specs.Steps.{step_of}
 use Rattle.bz_buildozer.proofs.ActSteps.{some_of}
 use Rattle.bz_buildozer.proofs.StandSteps.{package_at}
 use Rattle.bz_buildozer.proofs.DoSteps.{acted_beside, listed_answers, listed_beside}
+use Rattle.bz_buildozer.proofs.FailSteps.{answers_until}
 use Rattle.bz_buildozer.proofs.acting.act_on.Goals as goal
 
-pub returns-in-None-clause-whole : goal.returns-in-None-clause-whole
-returns-in-None-clause-whole g c = λ plain whole.
-    let done = c.list_at.ensures.whole whole in (
+pub returns-in-None-clause-answers : goal.returns-in-None-clause-answers
+returns-in-None-clause-answers g c = λ plain.
+    answers_until c.list_at.result (step_of c.args.target.now (request_in c.args.request.now)) c.args.place (progress_in c.args.run.now) (progress_in c.list_at.new.run)
+    (g.E.Sink.faults c.args.err.now) (g.E.Sink.faults c.list_at.new.err) (g.E.Sink.contents c.args.err.now) (g.E.Sink.contents c.list_at.new.err) c.list_at.ensures.kinds
+    (λ whole. let done = c.list_at.ensures.whole whole in (
       [],
       listed_answers (step_of c.args.target.now (request_in c.args.request.now)) c.args.place (file_at c.args.place c.args.run.now.workspace) done.0 (progress_in c.args.run.now)
           (progress_in c.list_at.new.run) done.1 (sym (ap (option_map action_in) c.in-None.is) ∙ c.action_of.ensures) done.2,
       done.3,
-    )
+    )) c.list_at.ensures.memory
 
 pub returns-in-None-clause-beside : goal.returns-in-None-clause-beside
 returns-in-None-clause-beside g c = λ kept honest stand whole.

@@ -1,16 +1,20 @@
-use Rattle.std.proofs.Common.{◌≡◌, ◌∙◌, ◌++◌, true, refl, ap, sym, subst}
+use Rattle.std.proofs.Common.{◌≡◌, ◌∙◌, ◌++◌, true, refl, ap, sym, subst, List, [], Some, None}
+use Rattle.std.proofs.lemmas.List.{append-nil}
 use Rattle.bz_command_line.specs.Shown.{request_in}
 use Rattle.bz_streams.proofs.Outputs.{counts_more, reports_more}
 use Rattle.bz_files.specs.Folder.{Folder}
 use Rattle.bz_items.specs.Characters.{Bytes}
-use Rattle.bz_buildozer.specs.Packages.{file_at}
+use Rattle.bz_streams.specs.declared.exit.Cut.{Cut}
+use Rattle.bz_streams.specs.declared.exit.Cut.TheVariants as cut
 use Rattle.bz_buildozer.specs.Calls.{UsesSome}
+use Rattle.bz_buildozer.specs.Failing.{AnswersUntil, DoesUntil}
 use Rattle.bz_buildozer.specs.Keeping.{AllAreKept}
+use Rattle.bz_buildozer.specs.Run.{World}
 use Rattle.bz_buildozer.specs.private.Shown.{progress_in}
 use Rattle.bz_buildozer.specs.Steps.{input_package, step_of}
 use Rattle.bz_buildozer.proofs.CutSteps.{both_whole, by_name, cut_after, neither_read, works_unread}
-use Rattle.bz_buildozer.proofs.DoSteps.{beside_there, beside_nowhere, done_there, done_nowhere}
-use Rattle.bz_buildozer.proofs.OpenSteps.{left_after}
+use Rattle.bz_buildozer.proofs.DoSteps.{beside_there, beside_nowhere}
+use Rattle.bz_buildozer.proofs.FailSteps.{cut_alone, does_until, left_until}
 use Rattle.bz_buildozer.proofs.SafeSteps.{step_acted, step_still}
 use Rattle.bz_buildozer.proofs.StandSteps.{uses_stand}
 use Rattle.bz_buildozer.proofs.ReadSteps.{step_there, step_nowhere}
@@ -31,23 +35,24 @@ returns-in-Some g c =
     let works = c.act_on.ensures.works in
     let unread = works_unread c.act_on.result (g.F.Files.faults opening.new.files) (g.F.Files.faults c.act_on.new.files) works.cut in
     record {
-      does = λ plain can whole known left.
-          let both = both_whole opening.result.cut c.act_on.result c.first_cut.result c.first_cut.ensures whole in
-          let opened = opening.ensures.uses plain (by_name is_honest name c.args.target.now.«package» input_package named can) both.0 known left in
-          let done = c.act_on.ensures.whole plain both.1 in (
-            opened.1 ++ done.0,
-            done_there (record { folder = g.F.Files.folder c.args.files.now; known = known }) step before after used opening.result.place opened.0 at name
-                opened.1 done.0 named opened.2 c.in-Some.is opened.3 done.1,
-            left_after known (g.R.Source.remaining opening.new.input) step at (file_at at used) (record before { used = used }) after done.0 done.1 opened.4,
+      does = λ plain can known left.
+          let world : World = record { folder = g.F.Files.folder c.args.files.now; known = known } in
+          let opened = opening.ensures.uses plain (by_name is_honest name c.args.target.now.«package» input_package named can) known left in
+          let done = c.act_on.ensures.answers plain in (
+            opened.0 ++ done.0,
+            does_until world step before after used opening.result.cut c.act_on.result c.first_cut.result opening.result.place (Some at) name opened.0 done.0 named
+                opened.1 c.in-Some.is done.1 c.first_cut.ensures,
+            left_until c.act_on.result known (g.R.Source.remaining opening.new.input) step (Some at) (record before { used = used }) after done.0 done.1 opened.2,
             reports_more (g.E.Sink.faults c.args.err.now) (g.E.Sink.faults opening.new.err) (g.E.Sink.faults c.act_on.new.err)
-                (g.E.Sink.contents c.args.err.now) (g.E.Sink.contents opening.new.err) (g.E.Sink.contents c.act_on.new.err) opened.1 done.0 opened.5 done.2,
+                (g.E.Sink.contents c.args.err.now) (g.E.Sink.contents opening.new.err) (g.E.Sink.contents c.act_on.new.err) opened.0 done.0 opened.3 done.2,
           );
       folder = λ plain can. ap g.F.Files.folder (c.act_on.ensures.still plain)
           ∙ opening.ensures.folder plain (by_name is_honest name c.args.target.now.«package» input_package named can);
       input = λ plain is.
           step_there step opening.result.cut c.act_on.result c.first_cut.result opening.result.place at at before used after
           (opening.ensures.input plain (named ∙ is)) c.in-Some.is c.first_cut.ensures (c.act_on.ensures.kinds plain)
-          (λ whole. let done = c.act_on.ensures.whole plain whole in (done.0, done.1));
+          (λ whole. let done = c.act_on.ensures.answers plain in
+          (done.0, subst (λ (it : Cut). AnswersUntil it step (Some at) (record before { used = used }) done.0 after) whole done.1));
       keeps = λ kept honest whole stand.
           let both = both_whole opening.result.cut c.act_on.result c.first_cut.result c.first_cut.ensures whole in
           let opened = opening.ensures.beside kept honest both.0 in
@@ -91,13 +96,17 @@ returns-in-None g c =
     let before = progress_in c.args.run.now in
     let used = opening.new.workspace in
     record {
-      does = λ plain can whole known left.
-          let opened = opening.ensures.uses plain (by_name is_honest name c.args.target.now.«package» input_package named can) whole known left in (
-            opened.1,
-            done_nowhere (record { folder = g.F.Files.folder c.args.files.now; known = known }) (step_of c.args.target.now (request_in c.args.request.now))
-                before used opening.result.place opened.0 name opened.1 named opened.2 c.in-None.is opened.3,
-            opened.4,
-            opened.5,
+      does = λ plain can known left.
+          let opened = opening.ensures.uses plain (by_name is_honest name c.args.target.now.«package» input_package named can) known left in
+          let step = step_of c.args.target.now (request_in c.args.request.now) in (
+            opened.0,
+            subst (λ (lines : List Bytes). DoesUntil opening.result.cut (record { folder = g.F.Files.folder c.args.files.now; known = known }) step before lines
+                (record before { used = used; failed = true })) (append-nil opened.0)
+                (does_until (record { folder = g.F.Files.folder c.args.files.now; known = known }) step before (record before { used = used; failed = true }) used
+                opening.result.cut cut.Whole opening.result.cut opening.result.place None name opened.0 [] named opened.1 c.in-None.is (refl, refl)
+                (sym (cut_alone opening.result.cut))),
+            opened.2,
+            opened.3,
           );
       folder = λ plain can. opening.ensures.folder plain (by_name is_honest name c.args.target.now.«package» input_package named can);
       input = λ plain is.

@@ -1,4 +1,15 @@
-use Rattle.std.proofs.Common.{◌∙◌, sym}
+use Rattle.std.proofs.Common.{◌≡◌, ◌⊎◌, ◌∙◌, ◌++◌, [], List, Bool, true, ap, subst, sym}
+use Rattle.bz_streams.specs.Exits.{first_cut}
+use Rattle.bz_streams.specs.declared.exit.Cut.{Cut}
+use Rattle.bz_streams.specs.declared.exit.Cut.TheVariants as cut
+use Rattle.bz_streams.proofs.Outputs.{reports_more}
+use Rattle.bz_buildozer.specs.Calls.{PrintsUntil}
+use Rattle.bz_buildozer.specs.Ending.{all_writings, texts_out}
+use Rattle.bz_buildozer.specs.Failing.{TriesFiles}
+use Rattle.bz_buildozer.specs.Packages.{Used}
+use Rattle.bz_buildozer.specs.Reported.{output_lines}
+use Rattle.bz_buildozer.proofs.FailSteps.{cut_alone}
+use Rattle.bz_buildozer.proofs.TrySteps.{prints_err, reports_from}
 use Rattle.bz_buildozer.proofs.CutSteps.{never_whole, whole_after}
 use Rattle.bz_buildozer.proofs.ending.finish.Goals as goal
 
@@ -7,3 +18,45 @@ returns-clause-whole g c whole =
     let outer = sym c.first_cut-in-Err-2.ensures ∙ sym c.ended-in-Err.ensures.cut ∙ whole in
     let inner = sym c.first_cut-in-Err.ensures ∙ whole_after c.args.cut c.first_cut-in-Err.result outer in
     absurd (never_whole c.in-Err.later _ _ _ c.in-Err.ensures.err (whole_after c.write_files-written.result c.in-Err.later inner))
+
+pub returns-in-Ok-clause-ends : goal.returns-in-Ok-clause-ends
+returns-in-Ok-clause-ends g c = λ premise.
+    let same = c.used-packages.ensures in
+    let options = c.args.options in
+    let printed = c.args.run.printed.items in
+    let done = c.in-Ok.ensures.ok in
+    let tried = c.write_files-written.ensures.tries
+    (λ plain. subst (λ (used : List Used). (g.F.Files.honest c.args.files.now ≡ true) ⊎ (all_writings options.to_stdout used ≡ [])) (sym same) (premise plain)) in (
+      cut.Whole,
+      c.write_files-written.result,
+      tried.0,
+      subst (λ (used : List Used). TriesFiles c.write_files-written.result options used (g.F.Files.folder c.args.files.now) tried.0
+          (g.F.Files.folder c.write_files-written.new.files)) same tried.1,
+      subst (λ (used : List Used). PrintsUntil g.W.Sink cut.Whole c.args.out.now c.print_all-output.new.out
+          (printed ++ texts_out c.args.shown options.to_stdout used)) same done.1,
+      reports_from (g.E.Sink.faults c.args.err.now) (g.E.Sink.faults c.print_all-output.new.err) (g.E.Sink.faults c.write_files-written.new.err)
+          (g.E.Sink.contents c.args.err.now) (g.E.Sink.contents c.print_all-output.new.err) (g.E.Sink.contents c.write_files-written.new.err) tried.0
+          (ap g.E.Sink.faults done.3) (ap g.E.Sink.contents done.3) tried.2,
+      c.ended.ensures.cut ∙ c.first_cut.ensures ∙ ap (first_cut c.args.cut) (sym (cut_alone c.write_files-written.result)),
+    )
+
+pub returns-clause-ends : goal.returns-clause-ends
+returns-clause-ends g c = λ premise.
+    let same = c.used-packages.ensures in
+    let options = c.args.options in
+    let printed = c.args.run.printed.items in
+    let tried = c.write_files-written.ensures.tries
+    (λ plain. subst (λ (used : List Used). (g.F.Files.honest c.args.files.now ≡ true) ⊎ (all_writings options.to_stdout used ≡ [])) (sym same) (premise plain)) in (
+      c.in-Err.later,
+      c.write_files-written.result,
+      tried.0,
+      subst (λ (used : List Used). TriesFiles c.write_files-written.result options used (g.F.Files.folder c.args.files.now) tried.0
+          (g.F.Files.folder c.write_files-written.new.files)) same tried.1,
+      subst (λ (used : List Used). PrintsUntil g.W.Sink c.in-Err.later c.args.out.now c.print_all-output.new.out
+          (printed ++ texts_out c.args.shown options.to_stdout used)) same
+          (prints_err g.W.Sink c.in-Err.later c.args.out.now c.print_all-output.new.out _ c.in-Err.ensures.err),
+      reports_more (g.E.Sink.faults c.args.err.now) (g.E.Sink.faults c.print_all-output.new.err) (g.E.Sink.faults c.write_files-written.new.err)
+          (g.E.Sink.contents c.args.err.now) (g.E.Sink.contents c.print_all-output.new.err) (g.E.Sink.contents c.write_files-written.new.err)
+          (output_lines c.in-Err.later) tried.0 c.in-Err.ensures.told tried.2,
+      c.ended-in-Err.ensures.cut ∙ c.first_cut-in-Err-2.ensures ∙ ap (first_cut c.args.cut) c.first_cut-in-Err.ensures,
+    )

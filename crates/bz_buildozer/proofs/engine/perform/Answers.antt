@@ -1,14 +1,18 @@
-use Rattle.std.proofs.Common.{[], ◌∙◌, true≢false, inl, inr, refl, map, ap, subst, sym}
+use Rattle.std.proofs.Common.{append_assoc, [], ◌++◌, Bool, ◌∙◌, true≢false, inl, inr, refl, map, ap, subst, sym}
 use Rattle.bz_command_line.specs.Shown.{requested_in}
-use Rattle.bz_buildozer.specs.Calls.{PassesBy}
+use Rattle.bz_streams.specs.Outputs.{Reports}
+use Rattle.bz_streams.proofs.Outputs.{reports_more}
+use Rattle.bz_buildozer.specs.Calls.{PassesBy, PrintsUntil}
+use Rattle.bz_buildozer.specs.Ending.{texts_out}
 use Rattle.bz_buildozer.specs.Keeping.{AllAreKept}
 use Rattle.bz_buildozer.specs.Moments.{AllAreSafe, IsMeanwhile, IsMomentOfSteps}
 use Rattle.bz_buildozer.specs.Outcome.{AreOfInput, unused}
 use Rattle.bz_buildozer.specs.Run.{World, Progress}
 use Rattle.bz_buildozer.specs.private.Shown.{progress_in}
 use Rattle.bz_buildozer.specs.Steps.{all_steps, names_input}
-use Rattle.bz_buildozer.proofs.Performing.{performed, performed_beside, broken_off, broken_beside, honest_still, uncut, reported_apart, plain_premise, kept_premise}
-use Rattle.bz_buildozer.specs.Reported.{no_journal_line}
+use Rattle.bz_buildozer.proofs.FailSteps.{whole_runs}
+use Rattle.bz_buildozer.proofs.Performing.{ended_until, input_premise, performs_until, status_is, performed, performed_beside, broken_off, broken_beside, honest_still, uncut, reported_apart, plain_premise, kept_premise}
+use Rattle.bz_buildozer.specs.Reported.{no_journal_line, output_lines}
 use Rattle.bz_buildozer.proofs.Outcomes.{both_true, lines_premise, stands_unused, reported_once}
 use Rattle.bz_buildozer.proofs.MomentSteps.{unused_yet}
 use Rattle.bz_buildozer.proofs.UnusedSteps.{no_more_time, no_time}
@@ -69,14 +73,15 @@ returns-clause-leaves g c given =
           elim (reported_apart options.journal) [
             | inl plain ↦
                 let can = plain_premise (g.F.Files.honest c.args.files.now) options.journal (AreOfInput lines) premise in
-                let done = ran.ensures.does plain can ended.0 known (λ _. refl) in
-                let still = honest_still (g.F.Files.honest c.args.files.now) (g.F.Files.honest ran.new.files) options.to_stdout world
+                let done = ran.ensures.does plain can known (λ _. refl) in
+                let runs = whole_runs ran.result world options.keep_going (all_steps lines) start state done.0 ended.0 done.1 in
+                let still = honest_still (g.F.Files.honest c.args.files.now) (g.F.Files.honest ran.new.files) options.to_stdout ran.result world
                 options.keep_going lines start done.0 state ran.ensures.honest begun_is done.1 can in
                 performed options lines world start done.0 state c.shows_input-shown.result c.finish.result.status
                 (folder ran.new.files) (folder c.finish.new.files) (g.W.Sink.contents c.args.out.now) (g.W.Sink.contents c.finish.new.out)
                 (g.E.Sink.faults c.args.err.now) (g.E.Sink.faults ran.new.err) (g.E.Sink.faults c.finish.new.err)
                 (g.E.Sink.contents c.args.err.now) (g.E.Sink.contents ran.new.err) (g.E.Sink.contents c.finish.new.err)
-                neither plain begun_is done.1 shown ended.1 (ran.ensures.folder plain can) (c.finish.ensures.writes plain still ended.0 (inl is_whole))
+                neither plain begun_is runs shown ended.1 (ran.ensures.folder plain can) (c.finish.ensures.writes plain still ended.0 (inl is_whole))
                 ended.2 done.3 ended.5
             | inr kept ↦
                 let honest = kept_premise (g.F.Files.honest c.args.files.now) options.journal (AreOfInput lines) kept premise in
@@ -93,11 +98,12 @@ returns-clause-leaves g c given =
           elim (reported_apart options.journal) [
             | inl plain ↦
                 let can = plain_premise (g.F.Files.honest c.args.files.now) options.journal (AreOfInput lines) premise in
-                let done = ran.ensures.does plain can ended.0 known (λ _. refl) in
-                let still = honest_still (g.F.Files.honest c.args.files.now) (g.F.Files.honest ran.new.files) options.to_stdout world
+                let done = ran.ensures.does plain can known (λ _. refl) in
+                let runs = whole_runs ran.result world options.keep_going (all_steps lines) start state done.0 ended.0 done.1 in
+                let still = honest_still (g.F.Files.honest c.args.files.now) (g.F.Files.honest ran.new.files) options.to_stdout ran.result world
                 options.keep_going lines start done.0 state ran.ensures.honest begun_is done.1 can in
                 broken_off options lines world start done.0 state c.shows_input-shown.result (folder ran.new.files) (folder c.finish.new.files)
-                (g.W.Sink.contents c.args.out.now) (g.W.Sink.contents c.finish.new.out) neither plain begun_is done.1 shown
+                (g.W.Sink.contents c.args.out.now) (g.W.Sink.contents c.finish.new.out) neither plain begun_is runs shown
                 (ran.ensures.folder plain can) (c.finish.ensures.writes plain still ended.0 (inr is_write)) ended.1
             | inr kept ↦
                 let honest = kept_premise (g.F.Files.honest c.args.files.now) options.journal (AreOfInput lines) kept premise in
@@ -107,6 +113,41 @@ returns-clause-leaves g c given =
                 (ap folder (c.finish.ensures.kept kept)) ended.1
           ];
     }
+
+pub returns-then-lacks_journal-clause-ends : goal.returns-then-lacks_journal-clause-ends
+returns-then-lacks_journal-clause-ends g c plain premise =
+    absurd (true≢false (sym (both_true c.args.options.journal (names_input (map requested_in c.args.lines.now)) (sym c.lacks_journal.ensures ∙ c.if-lacks_journal.true)).0 ∙ plain))
+
+pub returns-clause-ends : goal.returns-clause-ends
+returns-clause-ends g c plain premise =
+    let ran = c.run_lines-cut in
+    let options = c.args.options in
+    let lines = map requested_in c.args.lines.now in
+    let folder = g.F.Files.folder in
+    let known = g.R.Source.remaining c.args.input.now in
+    let world : World = record { folder = folder c.args.files.now; known = known } in
+    let state = progress_in ran.new.run in
+    let can = input_premise (g.F.Files.honest c.args.files.now) lines premise in
+    let done = ran.ensures.does plain can known (λ _. refl) in
+    let still = honest_still (g.F.Files.honest c.args.files.now) (g.F.Files.honest ran.new.files) options.to_stdout ran.result world
+    options.keep_going lines (progress_in c.begun-run.result) done.0 state ran.ensures.honest c.begun-run.ensures done.1 can in
+    let ends = c.finish.ensures.ends (λ _. still) in
+    let ended = ended_until options (all_steps lines) state (folder c.finish.new.files) done.0 ends.2 c.finish.result ends.0 in (
+      ended,
+      performs_until options (all_steps lines) world (progress_in c.begun-run.result) state (folder ran.new.files) (folder c.finish.new.files) done.0 ends.2 c.finish.result ran.result
+          ends.1 ends.0 c.begun-run.ensures done.1 (ran.ensures.folder plain can) ends.3 ends.6
+          (status_is c.finish.result.cut c.finish.result.status state c.finish.ensures.status (λ whole. (c.finish.ensures.whole whole).1)),
+      record {
+        exit_is = refl;
+        folder = refl;
+        output = subst (λ (show : Bool). PrintsUntil g.W.Sink ends.0 c.args.out.now c.finish.new.out (state.printed ++ texts_out show options.to_stdout state.used))
+            (c.shows_input-shown.ensures ∙ sym (shown_by_lines c.args.lines.now)) ends.4;
+        lines = subst (Reports (g.E.Sink.faults c.args.err.now) (g.E.Sink.faults c.finish.new.err) (g.E.Sink.contents c.args.err.now) (g.E.Sink.contents c.finish.new.err))
+            (sym (append_assoc done.0 (output_lines ends.0) ends.2))
+            (reports_more (g.E.Sink.faults c.args.err.now) (g.E.Sink.faults ran.new.err) (g.E.Sink.faults c.finish.new.err)
+            (g.E.Sink.contents c.args.err.now) (g.E.Sink.contents ran.new.err) (g.E.Sink.contents c.finish.new.err) done.0 (output_lines ends.0 ++ ends.2) done.3 ends.5);
+      },
+    )
 
 pub returns-clause-reads_nothing : goal.returns-clause-reads_nothing
 returns-clause-reads_nothing g c kept =

@@ -9,6 +9,7 @@ use Rattle.bz_streams.proofs.Outputs.{appends_nothing}
 use Rattle.bz_command_line.specs.Line.{operands}
 use Rattle.bz_buildozer.specs.Moments.{IsMomentOfRun}
 use Rattle.bz_buildozer.specs.Run.{World}
+use Rattle.bz_buildozer.proofs.EndedSteps.{ends_more, not_cut, operands_until}
 use Rattle.bz_buildozer.proofs.MomentSteps.{by_operands}
 use Rattle.bz_buildozer.proofs.UnusedSteps.{no_time}
 use Rattle.bz_buildozer.proofs.Outcomes.{group_reported, leaves_more, unwritten, usage_reported, names_given, operands_of_input, operands_refused, operands_done, operands_premise}
@@ -94,3 +95,17 @@ pub returns-in-Err-clause-moments : goal.returns-in-Err-clause-moments
 returns-in-Err-clause-moments g c kept honest = no_time g.F.Files.moment g.F.Files.since c.args.files.now c.args.files.now
     (IsMomentOfRun (record { folder = g.F.Files.folder c.args.files.now; known = g.R.Source.remaining c.args.input.now })
     (operands (map (λ (s : Bor (List ℕ)). s.now) c.args.operands.now))) refl
+
+pub returns-in-Ok-clause-ends : goal.returns-in-Ok-clause-ends
+returns-in-Ok-clause-ends g c plain premise is_cut =
+    let texts = map (λ (s : Bor (List ℕ)). s.now) c.args.operands.now in
+    let requested = requested_in c.in-Ok.requested in
+    let lines = map requested_in c.from_ref.result.now in
+    let same : lines ≡ requested ∷ [] = ap (map requested_in) c.from_ref.ensures.value in
+    let world : World = record { folder = g.F.Files.folder c.args.files.now; known = g.R.Source.remaining c.args.input.now } in
+    ends_more g.W.Sink g.E.Sink g.F.Files _ _ c.perform.result c.args.out.now c.perform.new.out c.args.err.now c.perform.new.err c.perform.new.files
+    (λ ended. operands_until c.args.options texts world requested lines ended c.in-Ok.ensures.ok same)
+    (c.perform.ensures.ends plain (operands_premise (g.F.Files.honest c.args.files.now) texts requested lines c.in-Ok.ensures.ok same premise))
+
+pub returns-in-Err-clause-ends : goal.returns-in-Err-clause-ends
+returns-in-Err-clause-ends g c plain premise is_cut = not_cut c.report_usage.result c.report_usage.ensures.cut is_cut

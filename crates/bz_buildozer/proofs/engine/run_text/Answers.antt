@@ -5,6 +5,7 @@ use Rattle.bz_command_line.specs.Paths.{HasPath}
 use Rattle.bz_command_line.specs.Shown.{requested_in, script_usage_in}
 use Rattle.bz_command_line.specs.declared.requested.Requested.{Requested}
 use Rattle.bz_buildozer.specs.Run.{World}
+use Rattle.bz_buildozer.proofs.EndedSteps.{ends_more, not_cut, text_until}
 use Rattle.bz_buildozer.proofs.MomentSteps.{IsMomentOfText, by_text}
 use Rattle.bz_buildozer.proofs.UnusedSteps.{no_time}
 use Rattle.bz_buildozer.proofs.Outcomes.{leaves_more, unwritten, reported_once, usage_reported, text_invalid, text_refused, text_refuses, text_done}
@@ -113,3 +114,20 @@ returns-clause-moments g c kept honest =
 pub returns-in-Err-read_script-clause-moments : goal.returns-in-Err-read_script-clause-moments
 returns-in-Err-read_script-clause-moments g c kept honest = no_time g.F.Files.moment g.F.Files.since c.args.files.now c.args.files.now
     (IsMomentOfText (g.F.Files.folder c.args.files.now) c.args.bytes.now) refl
+
+pub returns-in-Err-clause-ends : goal.returns-in-Err-clause-ends
+returns-in-Err-clause-ends g c plain honest is_cut = absurd (is_cut.0 refl)
+
+pub returns-then-edits_input-clause-ends : goal.returns-then-edits_input-clause-ends
+returns-then-edits_input-clause-ends g c plain honest is_cut = absurd (is_cut.0 refl)
+
+pub returns-in-Err-read_script-clause-ends : goal.returns-in-Err-read_script-clause-ends
+returns-in-Err-read_script-clause-ends g c plain honest is_cut = not_cut c.report_script.result c.report_script.ensures.cut is_cut
+
+pub returns-clause-ends : goal.returns-clause-ends
+returns-clause-ends g c plain honest is_cut =
+    let world : World = record { folder = g.F.Files.folder c.args.files.now; known = g.R.Source.remaining c.args.input.now } in
+    ends_more g.W.Sink g.E.Sink g.F.Files _ _ c.perform.result c.args.out.now c.perform.new.out c.args.err.now c.perform.new.err c.perform.new.files
+    (λ ended. text_until c.args.options c.args.bytes.now c.in-Ok.text.now world (map requested_in c.in-Ok-read_script.lines.items)
+    (map requested_in c.as_slice-lines.result.now) ended c.in-Ok.ensures.cases.0 c.in-Ok-read_script.ensures.ok (ap (map requested_in) c.as_slice-lines.ensures.value))
+    (c.perform.ensures.ends plain (inl honest))

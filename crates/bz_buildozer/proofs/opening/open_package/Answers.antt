@@ -6,59 +6,48 @@ use Rattle.bz_buildozer.specs.Packages.{Used, package_number}
 use Rattle.bz_buildozer.specs.declared.reading.Opening.{Opening}
 use Rattle.bz_streams.specs.declared.exit.Cut.TheVariants as cut
 use Rattle.bz_buildozer.specs.Cuts.{IsLeft}
-use Rattle.bz_streams.specs.Ports.{IsInput}
 use Rattle.bz_buildozer.specs.Steps.{input_package}
-use Rattle.bz_buildozer.proofs.FoundSteps.{plain_opens}
-use Rattle.bz_buildozer.proofs.OpenSteps.{adds_more, is_found, last_place, left_after_use, left_after_input, place_again, uses_found, uses_input}
+use Rattle.bz_buildozer.specs.Failing.{UsesUntil}
+use Rattle.bz_buildozer.specs.Run.{World}
+use Rattle.bz_streams.specs.declared.exit.Cut.{Cut}
+use Rattle.bz_buildozer.proofs.FailSteps.{opened_whole, uses_opened}
+use Rattle.bz_buildozer.proofs.OpenSteps.{adds_more, is_found, last_place, place_again}
 use Rattle.bz_buildozer.proofs.ReadSteps.{opens_first, opens_again, uses_so}
 use Rattle.bz_buildozer.proofs.opening.open_package.Goals as goal
 
 pub returns-then-wants_input-clause-uses : goal.returns-then-wants_input-clause-uses
-returns-then-wants_input-clause-uses g c = λ plain can whole known left.
+returns-then-wants_input-clause-uses g c = λ plain can known left.
     let requested = c.wants_input.ensures.yes c.if-wants_input.true in
-    let read = c.open_input.ensures.whole whole in
-    let done = read.2 in
-    let old = c.args.workspace.now in
-    let new = c.open_input.new.workspace in (
-      length old,
-      done.1,
-      uses_input (record { folder = g.F.Files.folder c.args.files.now; known = known }) c.args.package.now read.0 old new done.0 done.1 requested.1 requested.2
-          (subst (λ (bytes : Option Bytes). IsInput bytes read.0) (left requested.2) read.1) done.2 done.3,
-      last_place old new input_package done.0 c.open_input.result.place done.3 done.4,
-      left_after_input known (g.R.Source.remaining c.open_input.new.input) old new (record { «package» = input_package; file = done.0 }) refl done.3,
-      done.5,
+    let world : World = record { folder = g.F.Files.folder c.args.files.now; known = known } in
+    let done = c.open_input.ensures.uses world left in (
+      done.0,
+      subst (λ (name : Bytes). UsesUntil c.open_input.result.cut world name c.args.workspace.now c.open_input.result.place done.0 c.open_input.new.workspace) (sym requested.1) done.1,
+      done.2,
+      done.3,
     )
 
 pub returns-clause-uses : goal.returns-clause-uses
-returns-clause-uses g c = λ plain can whole known left.
+returns-clause-uses g c = λ plain can known left.
     let old = c.args.workspace.now in
     let new = c.open.new.self in
     let name = c.args.package.now in
     let remaining = g.R.Source.remaining c.args.input.now in
+    let folder = g.F.Files.folder c.args.files.now in
+    let world : World = record { folder = folder; known = known } in
     elim (is_found (package_number name old)) [
       | inl none ↦
           let other = λ (is : name ≡ input_package).
           c.wants_input.ensures.other c.if-wants_input.false plain is (sym (ap (λ (n : Bytes). package_number n old) is) ∙ none) in
           elim can [
-            | inl honest ↦
-                let folder = g.F.Files.folder c.args.files.now in
-                let done = c.open.ensures.opens honest whole none in (
-                  length old,
-                  done.1,
-                  uses_found (record { folder = folder; known = known }) name old new done.0 done.1 other none
-                      (plain_opens c.args.journals name folder (found_in folder name) done.0 done.1 plain done.2) done.3,
-                  last_place old new name done.0 c.open.result.place done.3 done.4,
-                  left_after_use known remaining old new (record { «package» = name; file = done.0 }) done.3 left,
-                  done.5,
-                )
+            | inl honest ↦ uses_opened g.E.Sink world c.args.journals name remaining old new c.open.result c.args.err.now c.open.new.err plain other none
+                (c.open.ensures.opens honest none) left
             | inr is ↦ absurd (other is)
           ]
       | inr some ↦
           let done = c.open.ensures.again some.0 some.1 in (
-            some.0,
             [],
-            inl (some.1, refl, done.1),
-            place_again some.0 old new c.open.result cut.Whole done.0 done.1,
+            subst (λ (it : Cut). UsesUntil it world name old c.open.result.place [] new) (sym (ap (λ (o : Opening). o.cut) done.0))
+                (some.0, inl (some.1, refl, done.1), place_again some.0 old new c.open.result cut.Whole done.0 done.1),
             subst (λ (used : List Used). IsLeft known used remaining) (sym done.1) left,
             (ap g.E.Sink.faults done.3, ap g.E.Sink.contents done.3),
           )
@@ -76,7 +65,7 @@ returns-clause-beside g c = λ kept honest whole.
     let folder = g.F.Files.folder c.args.files.now in
     elim (is_found (package_number name old)) [
       | inl none ↦
-          let done = c.open.ensures.opens honest whole none in (
+          let done = opened_whole g.E.Sink c.args.journals folder name old new c.open.result c.args.err.now c.open.new.err whole (c.open.ensures.opens honest none) in (
             length old,
             done.1,
             inr (none, refl, (done.0, subst (λ (journals : Bool). OpensBeside journals folder name (found_in folder name) done.0 done.1) kept done.2, done.3)),

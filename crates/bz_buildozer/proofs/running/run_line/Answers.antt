@@ -33,8 +33,8 @@ loop-target-preserved g c =
     let mid = spot g.R.Source g.F.Files g.E.Sink l.run l.input l.files l.err in
     let new = spot g.R.Source g.F.Files g.E.Sink e.new.run e.new.input e.new.files e.new.err in
     let done : Done c.args.options.journal (IsOfInput target) c.args.options.keep_going (on_target commands target) e.result mid new = record {
-      does = λ plain honest whole. subst (λ (all : List Request). Goes mid.folder c.args.options.keep_going (on_target all target) mid new) c.as_slice-commands.ensures.value
-          (e.ensures.does plain honest whole);
+      does = λ plain honest. subst (λ (all : List Request). Goes e.result mid.folder c.args.options.keep_going (on_target all target) mid new) c.as_slice-commands.ensures.value
+          (e.ensures.does plain honest);
       folder = e.ensures.folder;
       cut = e.ensures.cut;
       read_faults = e.ensures.read_faults;

@@ -1,4 +1,4 @@
-use Rattle.std.proofs.Common.{◌≡◌, ◌∙◌, ◌++◌, ◌∷◌, [], ℕ, None, ap, refl}
+use Rattle.std.proofs.Common.{inl, ◌≡◌, ◌∙◌, ◌++◌, ◌∷◌, [], ℕ, None, ap, refl}
 use Rattle.std.specs.Option.{option_map}
 use Rattle.bz_items.specs.Characters.{Bytes}
 use Rattle.bz_buildozer.specs.Packages as p
@@ -15,9 +15,9 @@ open_first-requires g c =
     }
 
 pub returns-in-Ok-clause-opens : goal.returns-in-Ok-clause-opens
-returns-in-Ok-clause-opens g c = λ honest cut none.
-    fills_last g.E.Sink c.in-Ok.place c.args.package.now c.as_bytes-2.result.now _ _ c.args.self.now c.add.new.self c.open_first.new.self c.args.err.now c.open_first.new.err
-    c.in-Ok.ensures.place c.in-Ok.ensures.ok c.as_bytes-2.ensures.value (c.open_first.ensures.first honest cut)
+returns-in-Ok-clause-opens g c = λ honest none.
+    inl (fills_last g.E.Sink c.in-Ok.place c.args.package.now c.as_bytes-2.result.now _ _ c.args.self.now c.add.new.self c.open_first.new.self c.args.err.now c.open_first.new.err
+    c.in-Ok.ensures.place c.in-Ok.ensures.ok c.as_bytes-2.ensures.value (c.open_first.ensures.first honest))
 
 pub returns-in-Ok-clause-kept : goal.returns-in-Ok-clause-kept
 returns-in-Ok-clause-kept g c =
