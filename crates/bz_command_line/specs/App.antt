@@ -1,8 +1,9 @@
 -- The command line of buildozer, as clap's rules.
-use Rattle.std.specs.Prelude.{Some, [], codes, true}
+use Rattle.std.specs.Prelude.{List, Some, [], ◌∷◌, codes, true}
 use Rattle.clap.specs.Words.{App, Rule, Text, new_app, new_rule, with_rule}
 use Rattle.clap.specs.declared.builder.action.ArgAction.TheVariants.{SetTrue, Append}
-use Rattle.bz_items.specs.Characters.{letter_f, letter_k}
+use Rattle.bz_items.specs.Characters.{Bytes, letter_f, letter_k}
+use Rattle.bz_streams.specs.Options.{OptionTable, option_hint}
 
 -- `-k`: a failed line doesn't keep the next ones from being run
 abbrev pub keep_going_rule : Rule
@@ -30,3 +31,15 @@ lines_app = with_rule (with_rule (with_rule nameless operand_rule) keep_going_ru
 -- and what becomes of files: buildozer [-k] [-f FILE] [--stdout] [--quiet] [--journal] [OPERAND..]
 abbrev pub buildozer_app : App
 buildozer_app = with_rule (with_rule (with_rule lines_app (flag_rule (codes "stdout"))) (flag_rule (codes "quiet"))) (flag_rule (codes "journal"))
+
+-- the same options, with those that clap adds
+abbrev pub buildozer_options : OptionTable
+buildozer_options = record {
+  program = codes "buildozer";
+  names = codes "stdout" ∷ codes "quiet" ∷ codes "journal" ∷ codes "help" ∷ codes "version" ∷ [];
+  letters = codes "kfhV";
+}
+
+-- what is printed below clap's text of words that it refuses
+abbrev pub line_hint : List Text → Bytes
+line_hint words = option_hint buildozer_options words

@@ -7,6 +7,7 @@ use Rattle.bz_command_syntax.specs.declared.command.Operation.TheVariants as w
 use Rattle.bz_command_syntax.specs.declared.command.RuleOperation.TheVariants as wr
 use Rattle.bz_command_syntax.specs.declared.fault.CommandFault.TheVariants.{Unknown, Arguments}
 use Rattle.bz_command_line.specs.Requested.{Requested, Request, Usage, of_operand, no_target, no_line, nul, in_line, operand_group}
+use Rattle.bz_command_line.specs.App.{line_hint}
 use Rattle.bz_command_line.specs.Hints.{hint_for}
 use Rattle.bz_command_line.specs.Line.{operands, script, of_clap, beside_script, beside_stdout, command_line_of}
 use Rattle.bz_command_line.specs.Script.{byte_order_mark, script_of}
@@ -72,5 +73,19 @@ Forms = answers (codes "set kind") (codes "buildozer: the form is 'set ATTR VALU
     × answers (codes "fix unusedLoads unusedLoads") (codes "buildozer: the form is 'fix [unusedLoads] [movePackageToTop]'\n")
     × answers (codes "undo 0") (codes "buildozer: the form is 'undo [N]'\n")
 
+-- a field that is none here; a text of several words
+abbrev Meant : Type 0
+Meant = answers (codes "print name label")
+    (codes "buildozer: the form is 'print [FIELD..]'\nbuildozer: a field is kind, startline, rule or the name of an attribute; label, endline and path are none here\n")
+    × answers (codes "comment deps :a not now")
+    (codes "buildozer: the form is 'comment [ATTR [VALUE]] TEXT'\nbuildozer: the text of a comment is one word, so put a backslash before each space of it\n")
+    × answers (codes "comment a-b") (codes "buildozer: the form is 'comment [ATTR [VALUE]] TEXT'\n")
+
+-- an option of other programs; a letter that is one here; a target of standard input; what is after `--`
+abbrev Strange : Type 0
+Strange = (line_hint (codes "-kf" ∷ codes "--quiet" ∷ codes "-r" ∷ [])
+    ≡ codes "buildozer: there is no option '-r' here: see docs/COMING.md, buildozer-tree and contrib/compat/compat.sh\n")
+    × (line_hint (codes "delete" ∷ codes "-:x" ∷ codes "--" ∷ codes "-r" ∷ []) ≡ [])
+
 abbrev pub WorkedCommandLines : Type 0
-WorkedCommandLines = Words × Groups × Lines × Faults × Forms
+WorkedCommandLines = Words × Groups × Lines × Faults × Forms × Meant × Strange

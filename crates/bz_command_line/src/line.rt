@@ -1,12 +1,12 @@
 //! The words of a command line: options, and where commands and targets are.
-ghost use Rattle.std.specs.Prelude.{◌≡◌, [], false, Ok, Err, IfOk, IfErr, IfSome, map};
+ghost use Rattle.std.specs.Prelude.{◌≡◌, [], false, Ok, Err, IfOk, IfErr, IfSome, map, string_bytes};
 ghost use Rattle.clap.specs.Words.{app_of, rule_of, found_of, fault_of, matches_of, rows_of};
-ghost use Rattle.bz_command_line.specs.App.{buildozer_app, lines_app, flag_rule, keep_going_rule, script_rule, operand_rule};
+ghost use Rattle.bz_command_line.specs.App.{buildozer_app, lines_app, flag_rule, keep_going_rule, script_rule, operand_rule, line_hint};
 ghost use Rattle.bz_command_line.specs.Line.{is_flag_set, options_of, given_of, command_line_of};
 ghost use Rattle.bz_command_line.specs.Shown.{given_in, line_in, line_usage_in};
 ghost use Rattle.bz_command_line.specs.Worked.{WorkedCommandLines};
 
-use bz_streams::{VERSION, argument_text, argument_texts};
+use bz_streams::{VERSION, argument_text, argument_texts, option_hint};
 use clap::error::ErrorKind;
 use clap::{Arg, ArgAction, ArgMatches, Command};
 use std::alloc::{AllocError, Global};
@@ -205,6 +205,16 @@ pub fn read_line<'a, S: AsStr>(alloc: Global, words: &'a [S]) -> Result<CommandL
         return Err(LineFault::BesideStdout);
     }
     Ok(CommandLine { options, given })
+}
+
+/// What is printed below clap's text of words that it refuses: a line on the first word before `--` that is written as an option and is
+/// none, or nothing. The error: memory was refused.
+pub fn line_hint<S: AsStr>(alloc: Global, words: &[S]) -> Result<String, AllocError>
+    ensures { IfOk result (λ hint. string_bytes hint ≡ line_hint (map S.text words.now)) }
+{
+    let names = &["stdout", "quiet", "journal", "help", "version"];
+    let hint = option_hint(alloc, "buildozer", names, b"kfhV", words)?;
+    Ok(hint)
 }
 
 /// A fact about the definitions, for readers: what lines of words and files of lines say, worked out by hand. It does nothing.

@@ -1,10 +1,11 @@
 //! What a command's text requests, and what is printed after the line of an operand that is refused.
-ghost use Rattle.std.specs.Prelude.{◌≡◌, ◌⊎◌, ◌++◌, Ok, Err, IfOk, IfErr, map, option_map};
+ghost use Rattle.std.specs.Prelude.{◌≡◌, ◌⊎◌, ◌++◌, ◌||◌, codes, Ok, Err, IfOk, IfErr, map, option_map};
+ghost use Rattle.bz_label.specs.Pieces.{has_slash, has_colon};
 ghost use Rattle.bz_command_syntax.specs.Commands.{row_named};
 ghost use Rattle.bz_command_syntax.specs.Proper.{AreUtf8};
 ghost use Rattle.bz_streams.specs.Near.{nearest};
 ghost use Rattle.bz_command_line.specs.Operands.{verb_of, of_command, count_of, history_verb_in, steps_of};
-ghost use Rattle.bz_command_line.specs.Hints.{verb_forms, fix_names, did_you_mean, name_hint, is_fix, near_word, form_end, form_hint, words_hint, hint_for};
+ghost use Rattle.bz_command_line.specs.Hints.{verb_forms, fix_names, did_you_mean, target_hint, name_hint, is_fix, near_word, words_end, form_end, form_hint, words_hint, hint_for};
 ghost use Rattle.bz_command_line.specs.Refused.{IsPatternFault};
 ghost use Rattle.bz_command_line.specs.Shown.{refused_in, hint_text};
 ghost use Rattle.bz_command_line.specs.Verbs.{prints, operand_fault_name, operand_fault_number};
@@ -184,8 +185,17 @@ const HELP_HINT: &str = "buildozer: see buildozer --help, or man buildozer\n";
 
 const LENGTH_HINT: &str = "buildozer: a command has at most 65,536 bytes\n";
 
+const TARGET_HINT: &str =
+    "buildozer: a target has a colon or begins with //, and contains no space\n";
+
 const NAME_ALONE: &str =
     "\nbuildozer: on a command line, put a command and its words in one pair of quotation marks\n";
+
+const FIELDS_END: &str =
+    "\nbuildozer: a field is kind, startline, rule or the name of an attribute; label, endline and path are none here\n";
+
+const TEXT_END: &str =
+    "\nbuildozer: the text of a comment is one word, so put a backslash before each space of it\n";
 
 fn hint_of(front: &'static str, word: &'static str, back: &'static str) -> Hint
     ensures { hint_text result ≡ front.now ++ word.now ++ back.now }
@@ -193,12 +203,30 @@ fn hint_of(front: &'static str, word: &'static str, back: &'static str) -> Hint
     Hint { front, word, back }
 }
 
-fn did_you_mean(near: Option<&'static str>) -> Hint
-    ensures { hint_text result ≡ did_you_mean (option_map (λ s. s.now) near.entry) }
+// The word that may have been meant, or where there is none this hint.
+fn did_you_mean(near: Option<&'static str>, hint: Hint) -> Hint
+    ensures { hint_text result ≡ did_you_mean (option_map (λ s. s.now) near.entry) (hint_text hint) }
 {
     match near {
         Some(word) => hint_of("buildozer: did you mean '", word, "'?\n"),
-        None => hint_of("", "", ""),
+        None => hint,
+    }
+}
+
+fn may_be_target(name: &str) -> bool
+    ensures { result ≡ (has_slash name.now || has_colon name.now) }
+{
+    name.as_bytes().contains(&b'/') || name.as_bytes().contains(&b':')
+}
+
+// What has a slash or a colon may be meant as a target.
+fn target_hint(name: &str) -> Hint
+    ensures { hint_text result ≡ target_hint name.now }
+{
+    if may_be_target(name) {
+        hint_of("", "", TARGET_HINT)
+    } else {
+        hint_of("", "", "")
     }
 }
 
@@ -210,7 +238,7 @@ fn name_hint(alloc: Global, name: &str) -> Result<Hint, AllocError>
     }
     let mut names = Vec::from_slice(alloc, COMMAND_NAMES)?;
     names.extend_from_slice(&["undo", "redo", "journal"])?;
-    Ok(did_you_mean(nearest(alloc, name, &names)?))
+    Ok(did_you_mean(nearest(alloc, name, &names)?, target_hint(name)))
 }
 
 fn is_fix(word: &str) -> bool
@@ -254,17 +282,35 @@ fn forms_of(name: &str) -> Option<&'static str>
     }
 }
 
-fn form_end(words: &[Text]) -> &'static str
-    ensures { result.now ≡ form_end words.now }
+// What is printed after the forms of the command of this name, of one word or of several.
+fn words_end(name: &str, several: bool) -> &'static str
+    ensures { result.now ≡ codes "\n" ++ words_end name.now several }
 {
-    if words.is_empty() { NAME_ALONE } else { "\n" }
+    if name == "print" {
+        return FIELDS_END;
+    }
+    if name != "comment" {
+        return "\n";
+    }
+    if several { TEXT_END } else { "\n" }
+}
+
+// What is printed after the forms of the command of this name.
+fn form_end(name: &str, words: &[Text]) -> &'static str
+    ensures { result.now ≡ form_end name.now words.now }
+{
+    match words {
+        [] => NAME_ALONE,
+        [_] => words_end(name, false),
+        _ => words_end(name, true),
+    }
 }
 
 fn form_hint(name: &str, words: &[Text]) -> Hint
     ensures { hint_text result ≡ form_hint name.now words.now }
 {
     match forms_of(name) {
-        Some(forms) => hint_of("buildozer: the form is ", forms, form_end(words)),
+        Some(forms) => hint_of("buildozer: the form is ", forms, form_end(name, words)),
         None => hint_of("", "", ""),
     }
 }
@@ -273,15 +319,13 @@ fn words_hint(alloc: Global, name: &str, words: &[Text]) -> Result<Hint, AllocEr
     requires { AreUtf8 words.now }
     ensures { IfOk result (λ hint. hint_text hint ≡ words_hint name.now words.now) }
 {
-    match near_word(alloc, name, words)? {
-        Some(word) => Ok(did_you_mean(Some(word))),
-        None => Ok(form_hint(name, words)),
-    }
+    Ok(did_you_mean(near_word(alloc, name, words)?, form_hint(name, words)))
 }
 
 /// What is printed after the line of an operand that is refused. Of a name that no command has: the command that is nearest, where
-/// one is near, and where help is for `help`. Of words that don't fit: the one of `fix` that is nearest to a word that it doesn't
-/// know, else the forms of the command, and where it has no words, that they go with it in one pair of quotation marks. Of a command
+/// one is near, else what a target has where the name has a slash or a colon, and where help is for `help`. Of words that don't fit:
+/// the one of `fix` that is nearest to a word that it doesn't know, else the forms of the command, and where it has no words, that they
+/// go with it in one pair of quotation marks; of `print` the fields, and of `comment` how spaces are written in its text. Of a command
 /// that is too long: how long one may be. The error: memory was refused.
 pub fn hint_for(alloc: Global, refused: &Refused<'_>) -> Result<Hint, AllocError>
     ensures { IfOk result (λ answered. hint_text answered ≡ hint_for (refused_in refused.now)) }

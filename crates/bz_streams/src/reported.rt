@@ -1,5 +1,5 @@
 //! The lines on standard error that speak of files. Its faults are passed over.
-ghost use Rattle.std.specs.Prelude.{◌≡◌, List, ℕ, OnOk, OnErr, map};
+ghost use Rattle.std.specs.Prelude.{◌≡◌, ◌++◌, List, ℕ, OnOk, OnErr, map};
 ghost use Rattle.std.specs.List.{concat};
 ghost use Rattle.bz_streams.specs.Faults.{AppendsUnlessFailed};
 ghost use Rattle.bz_streams.specs.Reported.{place_line, named_line, fault_line};
@@ -89,6 +89,23 @@ pub fn report_fault<E: Sink>(err: &mut E, file: &str, fault: &ReadFault)
         ReadFault::TooDeep { line, column } => report_place(err, file, *line, *column, "TooDeep"),
         ReadFault::Memory => report_named(err, file, "Memory"),
     }
+}
+
+/// Reports a fault that clap finds in words, by clap's own text, and this text below it, up to the first fault of `err`. The error:
+/// there was no memory for clap's text; nothing is then printed.
+pub fn report_clap_hinted<E: Sink>(
+    alloc: Global,
+    err: &mut E,
+    error: &clap::Error,
+    hint: &str,
+) -> Result<(), AllocError>
+    ensures ok { OnOk result ((text : List ℕ) × AppendsUnlessFailed (E.faults err.old) (E.faults err.new)
+        (E.contents err.old) (E.contents err.new) (text ++ hint.now)) }
+    ensures err { OnErr result (err.new ≡ err.old) }
+{
+    let text = error.to_string(alloc)?;
+    report(err, &[text.as_str(), hint]);
+    Ok(())
 }
 
 /// Reports a fault that clap finds in words, by clap's own text, up to the first fault of `err`. The error: there was no
