@@ -5,14 +5,13 @@
 #
 # It is called in the folder whose files are to be checked, with all below it. With a COMMIT only those that differ from it are
 # checked, with A...B those that differ between B and where it left A; a PATHSPEC such as ':!third_party' leaves a folder out.
-# With BUILDIFIER_BZL=yes in the environment .bzl files are checked too. The status is that of buildifier: 0 where all are formatted,
-# 4 where one is not, 1 where one is no text that buildifier reads, 3 where one could not be read, of several the first of 3, 1 and 4;
-# and 2 where the check could not be made at all.
-command -v buildifier > /dev/null || { echo "check-build-files: buildifier is not on the PATH" >&2; exit 2; }
+# With BUILDIFIER_BZL=yes in the environment .bzl files are checked too. buildifier-tree, which must be on the PATH, checks them, and its
+# status is that of this script: 0 where all are formatted, 4 where one is not, 1 where one is no text that buildifier reads, 3 where one
+# could not be read, of several the first of 3, 1 and 4; and 2 where the check could not be made at all.
+command -v buildifier-tree > /dev/null || { echo "check-build-files: buildifier-tree is not on the PATH" >&2; exit 2; }
 folder=$(mktemp -d) || exit 2
 trap 'rm -rf "$folder"' EXIT
-: > "$folder/statuses"
-names='(^|/)((BUILD|WORKSPACE)(\.bazel)?|MODULE\.bazel|[^/]*\.BUILD)$'
+names='(^|/)((BUILD|WORKSPACE)(\.bazel)?|WORKSPACE\.bzlmod|REPO\.bazel|([^/]*\.)?MODULE\.bazel|[^/]*\.BUILD(\.bazel)?)$'
 [ -z "$BUILDIFIER_BZL" ] || names="$names|\.bzl$"
 commit=
 if [ $# -gt 0 ] && [ "$1" != -- ]; then commit=$1; shift; fi
@@ -24,10 +23,4 @@ else
 fi
 grep -zE "$names" "$folder/all" > "$folder/names"
 [ $? -le 1 ] || exit 2
-# xargs has a status of its own, so each call leaves its status in a file
-xargs -0 -r sh -c 'buildifier --mode=check -- "$@" || echo "$?" >> "$0"' "$folder/statuses" < "$folder/names" || exit 2
-for status in 3 1 4; do
-    grep -qx "$status" "$folder/statuses" && exit "$status"
-done
-[ -s "$folder/statuses" ] && exit 2
-exit 0
+buildifier-tree --mode=check --quiet --from="$folder/names"

@@ -1,0 +1,206 @@
+"""Runs programs, so many at once, and ends them when a signal ends the run."""
+import contextlib
+import dataclasses
+import os
+import queue
+import shutil
+import signal
+import subprocess
+import sys
+import threading
+
+# the signals that stop a run
+SIGNALS = (signal.SIGINT, signal.SIGTERM, signal.SIGHUP)
+# how many seconds the processes have, after the first such signal, to finish the files that they have begun
+GRACE = 2.0
+# what a shell gives for a program that cannot be run
+NOT_RUN = 126
+# a batch has at most so many files, and so many bytes of names
+MOST_FILES = 32
+MOST_BYTES = 96_000
+# the disk gives more than the processors: while one process waits for a flush, others go on
+PROCESSES = min(4 * (os.cpu_count() or 1), 32)
+
+
+class Stopped(BaseException):
+    """A signal came where nothing was running; the argument is its number."""
+
+
+@dataclasses.dataclass
+class Ended:
+    """How a process ended: its status, less than zero for a signal, and what it wrote."""
+
+    status: int
+    out: bytes = b""
+    err: bytes = b""
+
+    def how(self):
+        """How a process ended that had no status to end with."""
+        return f"ended by {signal.Signals(-self.status).name}" if self.status < 0 else f"ended with {self.status}"
+
+
+def program(name):
+    """The path of a program: the one beside this command, else the one on the PATH; None where there is none."""
+    for command in (os.path.abspath(sys.argv[0]), os.path.realpath(sys.argv[0])):
+        beside = os.path.join(os.path.dirname(command), name)
+        if os.path.isfile(beside) and os.access(beside, os.X_OK):
+            return beside
+    return shutil.which(name)
+
+
+def batches(things, processes, name):
+    """Cuts a list into runs of neighbours, each for one process: so many that all processes have some, none too long. A thing of which
+    the name (a function of it) has a sign that the lines of the programs use too is alone, so that its lines cannot be another's."""
+    most = max(1, min(MOST_FILES, -(-len(things) // (4 * processes))))
+    batch, size = [], 0
+    for thing in things:
+        text = name(thing)
+        odd = is_odd(text)
+        if batch and (odd or len(batch) >= most or size + len(text) > MOST_BYTES):
+            yield batch
+            batch, size = [], 0
+        batch.append(thing)
+        size += len(os.fsencode(text)) + 1
+        if odd:
+            yield batch
+            batch, size = [], 0
+    if batch:
+        yield batch
+
+
+def is_odd(name):
+    return not name.isprintable() or ":" in name or "#" in name or name != name.strip()
+
+
+class Pool:
+    """Some processes at once."""
+
+    def __init__(self, processes):
+        self.processes = processes
+        self.signal = None
+        self.is_closed = self.is_ending = False
+        self.running = set()
+        self.handlers = {}
+
+    def __enter__(self):
+        """From here on a signal lets the processes finish, and a second one ends them; one that is ignored stays so."""
+        for number in SIGNALS:
+            if signal.getsignal(number) != signal.SIG_IGN:
+                self.handlers[number] = signal.signal(number, self.on_signal)
+        return self
+
+    def __exit__(self, *_):
+        self.end()
+        for number, handler in self.handlers.items():
+            signal.signal(number, handler)
+
+    def on_signal(self, number, _):
+        self.close()
+        if self.signal is not None:
+            self.end()
+            return
+        self.signal = number
+        timer = threading.Timer(GRACE, self.end)
+        timer.daemon = True
+        timer.start()
+
+    def close(self):
+        """No further task is begun."""
+        self.is_closed = True
+
+    def end(self):
+        """No further task is begun, and the processes that run are ended."""
+        self.is_closed = self.is_ending = True
+        for process in list(self.running):
+            end_group(process)
+
+    def call(self, words, text=b"", folder=None):
+        """Runs a program with this on its standard input, and gives how it ended. It has a session of its own, so that a signal
+        of the terminal reaches this process alone."""
+        pipes = {"stdin": subprocess.PIPE, "stdout": subprocess.PIPE, "stderr": subprocess.PIPE}
+        try:
+            process = subprocess.Popen(words, cwd=folder, start_new_session=True, **pipes)
+        except OSError as error:
+            return Ended(NOT_RUN, b"", f"{words[0]}: {error.strerror}\n".encode())
+        self.running.add(process)
+        if self.is_ending:
+            end_group(process)
+        out, err = process.communicate(text)
+        self.running.discard(process)
+        return Ended(process.returncode, out, err)
+
+    def each(self, work, tasks):
+        """Calls `work` with each task, some at once, and yields each task with what came of it, as soon as it is there, by the number of
+        the task. After `close` those that were not begun are missing."""
+        pending, results = queue.SimpleQueue(), queue.SimpleQueue()
+        for task in enumerate(tasks):
+            pending.put(task)
+        workers = [threading.Thread(target=self.take, args=(work, pending, results)) for _ in range(self.processes)]
+        for worker in workers:
+            worker.start()
+        ended = 0
+        try:
+            while ended < len(workers):
+                result = results.get()
+                if result is None:
+                    ended += 1
+                elif isinstance(result, BaseException):
+                    raise result
+                else:
+                    yield result
+        finally:
+            self.close()
+            for worker in workers:
+                worker.join()
+            self.is_closed = self.signal is not None
+
+    def take(self, work, pending, results):
+        """What a thread does: it takes tasks until there are none."""
+        try:
+            while not self.is_closed:
+                number, task = pending.get_nowait()
+                results.put((number, task, work(task)))
+        except queue.Empty:
+            pass
+        except BaseException as error:  # it is raised again where the results are read
+            results.put(error)
+        finally:
+            results.put(None)
+
+
+def end_group(process):
+    """Ends a process, and those that it has started."""
+    with contextlib.suppress(OSError):
+        os.killpg(process.pid, signal.SIGTERM)
+
+
+def in_order(results):
+    """Yields results by the number of their task, each as soon as all before it are there; at the end those that are left."""
+    kept, wanted = {}, 0
+    for number, task, result in results:
+        kept[number] = (task, result)
+        while wanted in kept:
+            yield kept.pop(wanted)
+            wanted += 1
+    yield from (kept[number] for number in sorted(kept))
+
+
+@contextlib.contextmanager
+def stops():
+    """A block that a signal ends with Stopped."""
+
+    def stop(number, _):
+        raise Stopped(number)
+
+    before = {number: signal.signal(number, stop) for number in SIGNALS if signal.getsignal(number) != signal.SIG_IGN}
+    try:
+        yield
+    finally:
+        for number, handler in before.items():
+            signal.signal(number, handler)
+
+
+def end_by(number):
+    """Ends this process by a signal, so that its shell sees which."""
+    signal.signal(number, signal.SIG_DFL)
+    os.kill(os.getpid(), number)

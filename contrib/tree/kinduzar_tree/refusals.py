@@ -1,0 +1,55 @@
+"""What the programs wrote to standard error, by the file that each line is about."""
+import os
+
+from .terminal import command_line, counted
+
+# the command line that goes on has at most so many names; more go into a file
+MOST_NAMES = 20
+
+
+def by_name(err, fronts):
+    """The lines of standard error by what they are about, in their order: `fronts` gives for the beginning of a line what that is. A
+    line that begins with none of them goes with the one above it, one above all of them with None."""
+    found, key = {}, None
+    for line in err.split(b"\n")[:-1]:
+        about = [front for front in fronts if line.startswith(front)]
+        if about:
+            key = fronts[max(about, key=len)]
+        found.setdefault(key, []).append(os.fsdecode(line))
+    return found
+
+
+class Refusals:
+    """What was refused, by the name of the file."""
+
+    def __init__(self):
+        self.lines = {}
+
+    def __len__(self):
+        return len(self.lines)
+
+    def add(self, name, lines):
+        self.lines.setdefault(name, []).extend(lines)
+
+    def tell(self, screen):
+        """Writes them, sorted by the names."""
+        for name in sorted(self.lines):
+            for line in self.lines[name]:
+                screen.say(line)
+
+
+def summary(parts):
+    """A line of what came of how many files: numbers with the words that are after them. Parts of none are left out, and the first that
+    is there says what is counted."""
+    there = [(number, told) for number, told in parts if number]
+    texts = [f"{number:,} {told}" for number, told in there]
+    if there:
+        texts[0] = f"{counted(there[0][0], 'file')} {there[0][1]}"
+    return ", ".join(texts)
+
+
+def go_on(screen, words, names, written):
+    """Writes the command line that goes on with just these names: with the names, or where they are many with what `written` gives, the
+    words that read them from a file that it has written, or None where it cannot."""
+    words_of_names = None if len(names) <= MOST_NAMES else written(names)
+    screen.say("to go on with just these: " + command_line([*words, *(words_of_names or names)]))

@@ -1,0 +1,63 @@
+"""Where is kept what a later run needs: the folder of this working tree in .git, or one that is named."""
+import os
+import tempfile
+
+from . import git
+
+FOLDER = "kinduzar"
+REST = "rest"
+
+
+def folder_for(place, named=None):
+    """The folder, by its absolute path: the one that is named, else the one in the .git of this place; None where there is none."""
+    if named is not None:
+        return os.path.abspath(named)
+    own = git.own_folder(place)
+    return own and os.path.join(own, FOLDER)
+
+
+def write_whole(file, content):
+    """Replaces a file whole: whoever reads it, also after a crash, finds one of both."""
+    folder = os.path.dirname(file)
+    os.makedirs(folder, exist_ok=True)
+    handle, new = tempfile.mkstemp(prefix=".new-", dir=folder)
+    try:
+        with os.fdopen(handle, "wb") as written:
+            written.write(content)
+            written.flush()
+            os.fsync(written.fileno())
+        os.replace(new, file)
+    except BaseException:
+        os.unlink(new)
+        raise
+    flush(folder)
+
+
+def flush(folder):
+    """Flushes a folder, where its file system has that."""
+    handle = os.open(folder, os.O_RDONLY)
+    try:
+        os.fsync(handle)
+    except OSError:
+        pass
+    finally:
+        os.close(handle)
+
+
+def keep(place, content, named=None):
+    """Keeps the rest of a run, and gives the name of the file, from the working directory; None where there is no place for it."""
+    folder = folder_for(place, named)
+    if folder is None:
+        return None
+    file = os.path.join(folder, REST)
+    try:
+        write_whole(file, content)
+    except OSError:
+        return None
+    return min(os.path.relpath(file), file, key=len)
+
+
+def listed(names):
+    """Keeps names of files, and gives the words with which buildifier-tree takes them; None where there is no place."""
+    file = keep(os.curdir, b"".join(os.fsencode(name) + b"\0" for name in names))
+    return file and [f"--from={file}"]

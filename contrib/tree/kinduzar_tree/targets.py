@@ -1,0 +1,144 @@
+"""What buildozer-tree is to do: the operands, those with `...` taken apart into packages.
+
+A pattern is a target of which the package ends with `...`. It means the package before that and all below it which have a BUILD file and
+are in the same workspace, sorted by name.
+"""
+import dataclasses
+import os
+
+from . import walk
+from .names import BUILD_NAMES, build_file, is_package_or_root, is_root, is_text
+from .words import Usage
+
+DOTS = "..."
+# the words after a colon by which no rule may be meant, so that a package without any is no fault
+MAY_MEAN_NONE = ("all", "*")
+# commands that look at the package of their target alone
+OF_PACKAGES = ("new", "new_load", "fix", "undo", "redo", "journal")
+
+
+@dataclasses.dataclass
+class Target:
+    """A package, with slashes and none at its ends, and what is after the colon; None where there is no colon."""
+
+    package: str
+    which: str
+
+    def __str__(self):
+        return f"//{self.package}" if self.which is None else f"//{self.package}:{self.which}"
+
+    @property
+    def is_pattern(self):
+        return self.package == DOTS or self.package.endswith(f"/{DOTS}")
+
+    @property
+    def front(self):
+        """The package before the dots."""
+        return self.package[: -len(DOTS)].rstrip("/")
+
+    def may_mean_none(self):
+        return self.which in MAY_MEAN_NONE or (self.which or "").startswith("%") and not self.which[1:].isdigit()
+
+
+@dataclasses.dataclass
+class Line:
+    """The operands of a command line, or of a line of a file: its number there, the commands, and the targets."""
+
+    number: int
+    commands: list
+    targets: list
+
+    def looks_at_rules(self):
+        return any(command.split(" ")[0] not in OF_PACKAGES for command in self.commands)
+
+
+def is_target(operand):
+    """Whether buildozer takes an operand for a target, or it is a pattern without a colon."""
+    return " " not in operand and (":" in operand or operand.startswith("//") or operand == DOTS or operand.endswith(f"/{DOTS}"))
+
+
+def target(operand, here):
+    """The target of an operand; `here` is the package of the working directory, which those without slashes go from."""
+    absolute = operand.startswith("//")
+    package, colon, which = (operand[2:] if absolute else operand).partition(":")
+    if package == "-" and not absolute:
+        raise Usage("package - is standard input, which buildozer edits")
+    if not absolute:
+        package = "/".join(filter(None, [here, package]))
+    return Target(package, which if colon else None)
+
+
+def line_of(operands, here, number=0):
+    commands = [operand for operand in operands if not is_target(operand)]
+    return Line(number, commands, [target(operand, here) for operand in operands if is_target(operand)])
+
+
+def lines_in(text, here):
+    """The lines of a file, as buildozer reads them: operands between bars, without empty lines and comments."""
+    found = []
+    for number, row in enumerate(os.fsdecode(text.removeprefix(b"\xef\xbb\xbf")).split("\n"), 1):
+        row = row.removesuffix("\r")
+        if row and not row.startswith("#"):
+            found.append(line_of(row.split("|"), here, number))
+    return found
+
+
+def written(line, targets):
+    """The operands of a line as a line of a file; None where one of them has a sign that ends it or divides it."""
+    operands = [*line.commands, *map(str, targets)]
+    if any(sign in operand for operand in operands for sign in "|\n\0") or operands[0].startswith("#"):
+        return None
+    return "|".join(operands) + "\n"
+
+
+# ---- packages
+
+
+def may_be_named(package):
+    """Whether buildozer can be given a target of this package."""
+    return is_text(package) and not any(sign in package for sign in " :\n\r|\0") and not package.startswith("#")
+
+
+@dataclasses.dataclass
+class Packages:
+    """The packages of a workspace below some package, the names of those that no target can name, and those of which the file is a
+    link."""
+
+    named: list
+    unnamed: list
+    links: list
+
+
+def packages_below(root, front):
+    """The packages at and below one, without those of workspaces in it."""
+    folder = os.path.join(root, front)
+    if not os.path.isdir(folder):
+        return Packages([], [], [])
+    found = walk.below(folder, is_package_or_root)
+    roots = walk.roots_in([*found.files, *found.links]) - {""}
+    if front and inside(front, root):
+        return Packages([], [], [])
+    within = walk.within_one_of(roots)
+    there = {os.path.dirname(name) for name in [*found.files, *found.links] if os.path.basename(name) in BUILD_NAMES and not within(name)}
+    links = {name for name in there if os.path.islink(os.path.join(folder, name, build_file(os.path.join(folder, name)) or ""))}
+    names = {"/".join(filter(None, [front, name])) for name in there - links}
+    named = sorted(name for name in names if may_be_named(name))
+    return Packages(named, sorted(names - set(named)), sorted("/".join(filter(None, [front, name])) for name in links))
+
+
+def inside(front, root):
+    """Whether a package is in a workspace below the root."""
+    parts = front.split("/")
+    return any(is_root(os.path.join(root, *parts[:end])) for end in range(1, len(parts) + 1))
+
+
+# ---- kinds
+
+
+def of_kinds(one, kinds):
+    """The targets that mean, of what a target means, the rules of these kinds; None where that depends on the rules of the package."""
+    if one.which in MAY_MEAN_NONE:
+        return [Target(one.package, f"%{kind}") for kind in kinds]
+    if one.which is not None and one.which.startswith("%") and one.may_mean_none():
+        return [one] if one.which[1:] in kinds else []
+    return None
