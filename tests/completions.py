@@ -19,7 +19,7 @@ import threading
 import time
 
 from files import report
-from readme import TOP
+from readme import TOP, TREES
 
 # a name with a space, one with signs that a shell reads, and a rule without a name
 BUILD = """cc_library(name = "x")\ncc_test(name = "xt")\ngenrule(name = "two words")\nf(name = "odd'$x")\nf()\n"""
@@ -67,6 +67,12 @@ REPLIES = [
     ("buildifier --mode=", ["fix", "check", "print_if_changed"]),
     ("buildifier --mode=c", ["check"]),
     ("buildifier -- --", []),
+    ("buildifier-tree --m", ["--mode="]),
+    ("buildifier-tree --mode=", ["fix", "check", "diff"]),
+    ("buildifier-tree --d", ["--diff-from="]),
+    ("buildozer-tree --s", ["--stdout", "--state="]),
+    ("buildozer-tree 'add de", ["add defines ", "add deps "]),
+    ("buildozer-tree delete //app:", ["main", "all", "__pkg__"]),
 ]
 
 # What becomes of a line in each shell: its words, once a quotation mark is closed that is still open.
@@ -86,22 +92,26 @@ LINES = [
     ("buildozer -f BUI", "", ["-f", "BUILD"]),
     ("buildifier --mode=ch", "", ["--mode=check"]),
     ("buildifier BUI", "", ["BUILD"]),
+    ("buildifier-tree --bz", "", ["--bzl"]),
+    ("buildifier-tree --mode=di", "", ["--mode=diff"]),
+    ("buildozer-tree --jou", "", ["--journal"]),
+    ("buildozer-tree 'delete' //app:ma", "", ["delete", "//app:main"]),
 ]
 
 # How a shell is begun, and what it is given first: where the completions are, and a key by which it adds the line to a file and
 # forgets it.
-BASH = """. "$SHARE/buildozer"; . "$SHARE/buildifier"
+BASH = """for file in "$SHARE"/*; do . "$file"; done
 tell() { printf '%s\\n' "$READLINE_LINE" >> "$LINE"; READLINE_LINE=; }; bind -x '"\\C-g": tell'
 """
 ZSH = """fpath=("$SHARE" $fpath); autoload -Uz compinit; compinit -u -D
 tell() { print -r -- "$BUFFER" >> "$LINE"; BUFFER= }; zle -N tell; bindkey '^G' tell
 """
-FISH = """source $SHARE/buildozer.fish; source $SHARE/buildifier.fish
+FISH = """for file in $SHARE/*.fish; source $file; end
 bind \\cg 'commandline >> $LINE; commandline ""'
 """
 SHELLS = {"bash": (["--norc", "--noprofile", "-i"], BASH), "zsh": (["-f", "-i"], ZSH), "fish": (["-i"], FISH)}
 
-REPLY = """. "$SHARE/buildozer"; . "$SHARE/buildifier"
+REPLY = """for file in "$SHARE"/*; do . "$file"; done
 while IFS= read -r COMP_LINE; do
     COMP_POINT=${#COMP_LINE} COMPREPLY=()
     "_${COMP_LINE%% *}" "${COMP_LINE%% *}" "${COMP_LINE##*[ =]}"
@@ -120,6 +130,8 @@ class Place:
             (self.work / name).write_text(text)
         (self.path / "bin").mkdir()
         shutil.copy(program, self.path / "bin" / "buildozer")
+        for tree in TREES:
+            (self.path / "bin" / tree.name).symlink_to(tree)
         subprocess.run([TOP / "tools" / "completions.py", self.path / "share"], check=True, timeout=SECONDS)
 
     def environment(self, shell):

@@ -25,18 +25,26 @@ ODD_BZL = "def f(x):\n  return x\n"
 EVEN_BZL = "def f(x):\n    return x\n"
 # names that are read as BUILD files everywhere
 OF_BUILD = ["BUILD", "BUILD.bazel", "WORKSPACE", "WORKSPACE.bazel", "MODULE.bazel", "d/zlib.BUILD"]
-HOOKS = ["buildifier", "buildifier-check", "buildifier-bzl", "buildifier-bzl-check"]
+# names that only the commands for whole trees, and what calls them, take
+OF_TREES = ["WORKSPACE.bzlmod", "REPO.bazel", "a.MODULE.bazel", "d/zlib.BUILD.bazel"]
+HOOKS = ["buildifier", "buildifier-check", "buildifier-bzl", "buildifier-bzl-check", "buildifier-tree"]
 # calls with the options of bazelbuild's programs: the words, standard input, and the status with what is written
 COMPAT = [
     (["buildifier", "-mode=check", "-path=a/r.bzl"], ODD_BZL, (4, "<stdin> # reformat\n")),
     (["buildifier", "-mode", "fix", "-type", "auto", "-path", "a/BUILD"], ODD, (0, EVEN)),
     (["buildifier", "--type=bzl", "-lint=off"], ODD_BZL, (0, EVEN_BZL)),
     (["buildifier", "-type=workspace", "--", "sub/app/BUILD"], "", (0, "")),
-    (["buildifier", "-r", "."], "", (2, "compat.sh: buildifier has no -r here\n")),
+    (["buildifier", "-type=default"], ODD_BZL, (0, EVEN_BZL)),
+    (["buildifier", "-r", "-mode=check", "sub"], "", (0, "1 file already formatted\n")),
+    (["buildifier", "-d", "-type=build", "my lines"], "", (1, "my lines:1:5: Unexpected\n1 file refused\n")),
+    (["buildifier", "-d"], ODD, (2, "compat.sh: buildifier has no -d of standard input here\n")),
+    (["buildifier", "-lint=fix", "."], "", (2, "compat.sh: buildifier has no -lint=fix here\n")),
     (["buildifier", "-mode"], "", (2, "compat.sh: buildifier: -mode has no value\n")),
     (["buildozer", "-root_dir", "sub", "-stdout", "-f", "my lines"], "", (0, 'f(\n    name = "\u00e9",\n    size = "small",\n)\n')),
     (["buildozer", "-k", "-numio=200", "print name", "-:all"], ODD, (3, "\u00e9\n")),
-    (["buildozer", "-types=f", "print name", "-:all"], ODD, (1, "compat.sh: buildozer has no -types=f here\n")),
+    (["buildozer", "-root_dir", "sub", "-types=f,g", "print kind", "//app:all"], "", (3, "f\n")),
+    (["buildozer", "print kind", "//sub/...:all"], "", (3, "f\n")),
+    (["buildozer", "-output_json", "print name", "-:all"], ODD, (1, "compat.sh: buildozer has no -output_json here\n")),
     (["buildozer", "-eol-comments", "print name", "-:all"], ODD, (1, "compat.sh: buildozer has no -eol-comments here\n")),
 ]
 # who commits, and where pre-commit keeps what it knows of hooks
@@ -89,22 +97,22 @@ def git_hook(programs, folder):
     here.commits("a commit without BUILD files", 0)
     here.add("r.bzl", ODD_BZL)
     here.environment["BUILDIFIER_BZL"] = "yes"
-    here.commits("an odd .bzl file, where they count", 1, "./r.bzl # reformat")
+    here.commits("an odd .bzl file, where they count", 1, "r.bzl # reformat")
     del here.environment["BUILDIFIER_BZL"]
     here.commits("an odd .bzl file", 0)
-    for name in OF_BUILD:
+    for name in OF_BUILD + OF_TREES:
         here.add(name, ODD)
-        here.commits(name, 1, f"./{name} # reformat")
+        here.commits(name, 1, f"{name} # reformat")
         here.add(name, EVEN)
     here.add("a b/BUILD", ODD)
     here.put("a b/BUILD", EVEN)
-    here.commits("an odd file, mended in the folder alone", 1, "./a b/BUILD # reformat")
+    here.commits("an odd file, mended in the folder alone", 1, "a b/BUILD # reformat")
     here.add("a b/BUILD", EVEN)
     here.put("a b/BUILD", ODD)
     here.commits("a formatted file, odd in the folder alone", 0)
     here.wants("the file", (here.path / "a b/BUILD").read_text(encoding="utf-8"), ODD)
     here.add("c/BUILD.bazel", REFUSED)
-    here.commits("a text that is refused", 1, "./c/BUILD.bazel:2:1: Unexpected")
+    here.commits("a text that is refused", 1, "c/BUILD.bazel:2:1: Unexpected")
     return here.wrong
 
 
@@ -136,7 +144,7 @@ def ci_script(programs, folder):
     here = Repository(programs, folder)
     script = CONTRIB / "ci" / "check-build-files.sh"
     here.wants("no files", here.run(script), (0, ""))
-    for name in OF_BUILD:
+    for name in OF_BUILD + OF_TREES:
         here.add(name, ODD)
         here.wants(name, here.run(script), (4, f"{name} # reformat\n"))
         here.wants("all but it", here.run(script, "--", f":!{name}"), (0, ""))

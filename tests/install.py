@@ -23,13 +23,18 @@ from readme import CRATE_PAGES, TOP, links_of
 PROGRAMS = ["buildozer", "buildifier"]
 SHARED = ["share/man/man1/{}.1", "share/bash-completion/completions/{}", "share/zsh/site-functions/_{}",
           "share/fish/vendor_completions.d/{}.fish"]  # fmt: skip
-FILES = {f"bin/{program}": 0o755 for program in PROGRAMS} | {file.format(program): 0o644 for file in SHARED for program in PROGRAMS}
+TREES = [f"{program}-tree" for program in PROGRAMS]
+MODULES = [f"share/kinduzar/kinduzar_tree/{file.name}" for file in (TOP / "contrib/tree/kinduzar_tree").glob("*.py")]
+FILES = {f"bin/{program}": 0o755 for program in PROGRAMS + TREES} | {file.format(program): 0o644 for file in SHARED for program in PROGRAMS + TREES}
+FILES |= dict.fromkeys(MODULES, 0o644)
 ODD, EVEN = b'f(name="x")\n', b'f(name = "x")\n'
 SECONDS = 600
 # the version of glibc with which the programs run, and every later one
 LIBRARY = (2, 34)
 # the file of the crates that has the version
 VERSIONED = "crates/bz_streams/src/lib.rt"
+# the files that name it to Bazel, and how
+OF_BAZEL, NAMED = ("contrib/bazel/MODULE.bazel.template", "contrib/bazel/README.md"), re.compile(r'name = "kinduzar",\s+version = "([^"]+)"')
 
 
 class Copy:
@@ -72,7 +77,7 @@ class Copy:
 
     def pages(self):
         """What is packed beside the programs and their files: each file, with the permission bits that it gets."""
-        folders = [*(self.top / "docs").iterdir(), *(self.top / "contrib").rglob("*"), *(self.top / "crates").glob("*/README.md")]
+        folders = [*(self.top / "docs").rglob("*"), *(self.top / "contrib").rglob("*"), *(self.top / "crates").glob("*/README.md")]
         pages = [*self.top.glob("*.md"), self.top / ".pre-commit-hooks.yaml", *folders]
         return {str(file.relative_to(self.top)): 0o755 if os.access(file, os.X_OK) else 0o644 for file in pages if file.is_file()}
 
@@ -117,6 +122,7 @@ def taken_away(copy):
     other.write_text("other")
     shutil.rmtree(copy.top / "share")
     wrong = [fault for _ in range(2) for fault in different("uninstall", copy.make("uninstall"), (0, ""))]
+    wrong += ["share/kinduzar is left"] * (copy.root / "usr/local/share/kinduzar").exists()
     return wrong + different("files", list(copy.installed()), ["share/man/man1/other.1"])
 
 
@@ -133,7 +139,7 @@ def unpacked(copy, archive):
     command = re.search(r"(?m)^ {4}(tar .*)$", (copy.top / "README.md").read_text())[1]
     folder = copy.root / "unpacked"
     folder.mkdir(parents=True)
-    words = command.replace("kinduzar-VERSION-x86_64-linux.tar.gz", shlex.quote(str(archive))).replace("~/.local", shlex.quote(str(folder)))
+    words = command.replace("kinduzar-VERSION-x86_64-linux.tar.gz", shlex.quote(str(archive))).replace('"$HOME/.local"', shlex.quote(str(folder)))
     return copy.run("sh", "-c", words)
 
 
@@ -159,6 +165,10 @@ def packed(copy):
     wrong += different("unpacked files", copy.installed("unpacked"), FILES)
     run = subprocess.run([copy.root / "unpacked/bin/buildifier"], input=ODD, stdout=subprocess.PIPE, timeout=SECONDS)
     wrong += different("what it writes", run.stdout, EVEN)
+    (copy.path / "tree/a").mkdir(parents=True)
+    (copy.path / "tree/a/BUILD").write_bytes(ODD)
+    wrong += different("a tree", copy.run(str(copy.root / "unpacked/bin/buildifier-tree"), str(copy.path / "tree")), (0, "1 file reformatted\n"))
+    wrong += different("its file", (copy.path / "tree/a/BUILD").read_bytes(), EVEN)
     shutil.rmtree(copy.top / "share")
     archive.unlink()
     copy.make("dist")
@@ -166,8 +176,11 @@ def packed(copy):
 
 
 def called_by_a_version(copy):
-    """By the version that the programs print; in git by the commit too where it has no tag of that name, and by what was changed since."""
+    """By the version that the programs print, and the module of Bazel has; in git by the commit too where it has no tag of that name, and by
+    what was changed since."""
     number, wrong = copy.version(), []
+    for file in OF_BAZEL:
+        wrong += different(file, NAMED.findall((copy.top / file).read_text()), [number])
     for program in PROGRAMS:
         wrong += different(f"{program} --version", copy.run(f"bin/{program}", "--version")[1], f"{program} {number}\n")
     if not shutil.which("git"):

@@ -1,6 +1,6 @@
 #!/usr/bin/env python3
-"""Makes the pages buildozer.1 and buildifier.1, and looks in them for all that the code has: each command, option, mode, status and
-refusal must be there as an entry. Where `man` or `mandoc` is there, it must read the pages without a warning.
+"""Makes the pages buildozer.1 and buildifier.1, and those of the commands for whole trees, and looks in them for all that the code has: each
+command, option, mode, status and refusal must be there as an entry. Where `man` or `mandoc` is there, it must read the pages without a warning.
 
     tests/manual.py
 """
@@ -12,11 +12,17 @@ import sys
 import tempfile
 
 from files import report
-from readme import CRATES, TOP, refusals_of_code, texts_in
+from readme import CRATES, TOP, TREES, refusals_of_code, texts_in
+
+sys.path.append(str(TOP / "contrib" / "tree"))
+from kinduzar_tree import packages, tidy  # noqa: E402
+
 
 # the crates in which a program's statuses are, and the file with its options
 STATUSES = {"buildozer": ("buildozer", "bz_buildozer"), "buildifier": ("buildifier", "bz_buildifier")}
 OPTIONS = {"buildozer": "bz_command_line/specs/App.antt", "buildifier": "bz_buildifier/specs/Modes.antt"}
+# the modules of the commands for whole trees
+OF_TREES = {"buildozer-tree": packages, "buildifier-tree": tidy}
 # refusals of a text; buildifier reports them all, and of the others those of a formatted text
 OF_TEXTS, OF_FORMATTED = range(1, 9), (21, 22)
 READERS = {
@@ -90,6 +96,19 @@ def options(pages):
     return wrong
 
 
+def options_of_trees(pages):
+    """Those of the code are on the page and in the text of --help, and no others."""
+    wrong = [] if {file.name for file in TREES} == set(OF_TREES) else ["a command has no module"]
+    for command, module in OF_TREES.items():
+        wanted = {*module.FLAGS, *module.VALUED} - {"--help", "--version"}
+        named = {re.split("[ =]", entry)[0] for entry in pages.entries(command, "OPTIONS")}
+        helped = set(re.findall(r"(?m)^  (--?[\w-]+)", module.HELP))
+        wrong += missing(f"page of {command}", wanted, named) + missing(f"page of {command} has", named, wanted)
+        wrong += missing(f"{command} --help", wanted, helped) + missing(f"{command} --help has", helped - {"--help"}, wanted)
+    modes = [entry.partition("=")[2].split()[0] for entry in pages.entries("buildifier-tree", "OPTIONS") if entry.startswith("--mode=")]
+    return wrong + missing("modes", tidy.MODES, modes)
+
+
 def words_of_options(pages):
     wrong = []
     for option in ("mode", "type"):
@@ -115,7 +134,7 @@ def readers_warn_of_nothing(pages):
         if not shutil.which(reader):
             print(f"tests/manual.py: not run with {reader}, which is not there", flush=True)
             continue
-        for program in STATUSES:
+        for program in [*STATUSES, *OF_TREES]:
             run = subprocess.run([*command, pages.file(program)], stdout=subprocess.PIPE, stderr=subprocess.PIPE, text=True, timeout=60)
             told = (run.stderr + (run.stdout if reader == "mandoc" else "")).splitlines()
             wrong += [f"{reader}: {program}: {run.returncode}: {told[:3]}"] * bool(told or run.returncode)
@@ -138,7 +157,7 @@ def no_point_begins_with_an_option(pages):
 
 
 FUNCTIONS = [
-    commands, options, words_of_options, statuses, refusals, readers_warn_of_nothing, a_page_that_would_not_change_stays,
+    commands, options, options_of_trees, words_of_options, statuses, refusals, readers_warn_of_nothing, a_page_that_would_not_change_stays,
     no_point_begins_with_an_option,
 ]  # fmt: skip
 SCENES = {scene.__name__.replace("_", " "): scene for scene in FUNCTIONS}

@@ -68,7 +68,7 @@ def words_are_those_of_the_field():
     """No comment of src/, specs/ and proofs/, and no page, uses a word of OLD_WORDS outside of code."""
     sources = [file for kind in ("src/**/*.rt", "specs/**/*.antt", "proofs/**/*.antt") for file in (TOP / "crates").glob(f"*/{kind}")]
     lines = [(file, line) for file in sources for line in comments_of(file)]
-    pages = [*TOP.glob("*.md"), *(TOP / "docs").glob("*.md"), *(TOP / "crates").glob("*/README.md")]
+    pages = [*TOP.glob("*.md"), *(TOP / "docs").rglob("*.md"), *(TOP / "crates").glob("*/README.md")]
     lines += [(file, line) for file in pages for line in file.read_text().splitlines() if not line.startswith("    ")]
     found = [(file, word) for file, line in lines for word in OLD_WORDS.findall(CODE_SPAN.sub("", line))]
     return [f"{file.relative_to(TOP)} says '{word}'" for file, word in found]

@@ -14,7 +14,8 @@ for git, CI and editors (tests/contrib.py); the pages for man and the completion
 (tests/sessions.py), keeps journals and reads torn and forged ones (tests/journals.py), and is killed while it keeps one (tests/killed.py); both
 programs and cases run with memory refused at each request in turn (tests/memory.py, tests/asked.py); both programs over torn, deep and made
 texts (tests/torn.py), with calls of the system and devices that fail (tests/failing.py, tests/devices.py), beside one another
-(tests/races.py), over cases by chance (tests/fuzz.py), and beside Bazel where it is there (tests/bazel.py). The first crate that it reports as not proved ends it, as soon as the proofs that run at that moment have ended; then comes once more what was
+(tests/races.py), with the power lost at each call (tests/power.py) and each act of the disk looked at
+(tests/acts.py), over cases by chance (tests/fuzz.py), and beside Bazel where it is there (tests/bazel.py). The first crate that it reports as not proved ends it, as soon as the proofs that run at that moment have ended; then comes once more what was
 reported of it. The line before the last one says how long the whole took, on how many processors, and how much of their time
 the machine gave to others.
 """
@@ -28,6 +29,7 @@ import sys
 import tempfile
 import time
 
+import acts
 import asked
 import bazel
 import completions
@@ -42,6 +44,7 @@ import killed
 import manual
 import memory
 import names
+import power
 import races
 import readme
 import sessions
@@ -81,6 +84,8 @@ SCRIPTS = [
     ("runs with failing calls", failing, ["buildozer", "buildifier"]),
     ("runs with failing devices", devices, ["buildozer", "buildifier"]),
     ("runs beside one another", races, ["buildozer", "buildifier"]),
+    ("runs that lose power", power, ["buildozer", "buildifier"]),
+    ("acts of the disk", acts, ["buildozer", "buildifier"]),
     ("runs by chance", fuzz, ["buildozer", "buildifier"]),
     ("runs beside Bazel", bazel, ["buildozer", "buildifier"]),
 ]

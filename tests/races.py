@@ -81,12 +81,12 @@ class Place:
         """The status and both outputs of a run."""
         return outcome(self.start(words, program, **how))
 
-    def failing(self, words, call, number, way, **further):
+    def failing(self, words, call, number, way, program="buildozer", **further):
         """A run that is stopped or killed at a call, or at which a file is changed, and the file of the line that says so."""
         ours, its = os.pipe()
         how = {"FAILING_TOLD": str(its), "FAILING_CALL": call, "FAILING_NUMBER": str(number), "FAILING_HOW": way, **further}
         environment = {**os.environ, "ASAN_OPTIONS": "verify_asan_link_order=0", "LD_PRELOAD": self.library, **how}
-        run = self.start(words, env=environment, pass_fds=[its])
+        run = self.start(words, program, env=environment, pass_fds=[its])
         os.close(its)
         return run, open(ours)
 
@@ -162,24 +162,29 @@ def many_at_once(p, journal):
             p.wrong.append(f"round {number}: {seen}, {after}")
             return
         for label, (status, out, err) in ended.items():
-            p.expect(f"round {number}, {label}: {status} {err}", (label in after, out), (status == 0, b""))
+            p.expect(f"round {number}, {label}: {status} {err}", (status != 0 or label in after, out), (True, b""))
             is_known = (status, out, err) == FIXED or status == 2 and (out, err) != (b"", b"")
             p.expect(f"round {number}, the end of {label}: {status} {out} {err}", is_known, True)
         added = {*before, *(label for label, end in ended.items() if end == FIXED)}
-        p.expect(f"round {number}, what is there", set(after), added)
-        unknown = [text for text in seen if not {*before} <= {*text} <= added]
+        # one that is replaced right after its rename is told as unwritten
+        told = {label for label, end in ended.items() if end == UNWRITTEN}
+        p.expect(f"round {number}, what is there", added <= set(after) <= added | told, True)
+        unknown = [text for text in seen if not {*before} <= {*text} <= added | told]
         p.expect(f"round {number}, what was read", unknown, [])
     p.goes_on("many at once", journal)
 
 
-def calls(p, words, way):
-    """Each call of a run of these words over the file as it is, with the run, which waits there or is killed."""
+def calls(p, words, way, program="buildozer", text=FIRST, folders=False):
+    """Each call of a run of these words over a file with a text, with the run, which waits there or is killed. The file is in the
+    folder, or, where there are folders, in one of them that a link names."""
     for call in [*WAYS, "fchown"]:
         for number in range(1, MOST):
             for file in p.folder.iterdir():
-                file.unlink()
-            put(p.folder, {FILE: FIRST})
-            run, lines = p.failing(words, call, number, way)
+                shutil.rmtree(file) if file.is_dir() and not file.is_symlink() else file.unlink()
+            put(p.folder, {f"one/{FILE}" if folders else FILE: text})
+            if folders:
+                (p.folder / "now").symlink_to("one")
+            run, lines = p.failing(words, call, number, way, program)
             with lines:
                 line = lines.readline()
                 if not line:
@@ -208,12 +213,13 @@ def second_run(p, journal, other):
 
 
 SAVED = b'f(name = "x", saved = 1)\n'
-# where an editor's save may be lost: between the last look at the file and its rename
-LATE = re.compile(r"rename \d \(rename BUILD\.bznew\)")
+# where what comes may be lost: behind the last look at the file, when it is seen that the new file has its name still, and before its rename
+LATE = re.compile(r"rename \d+ \(rename BUILD\.bznew\)|statx \d+ \(statx(?: BUILD\.bznew)?\)")
+MOST_LATE = 3
 
 
 def editor_saves(p, journal):
-    """It saves at each call of a run, by a rename: its text stays, and the run says so, or has edited just that; at one call it is
+    """It saves at each call of a run, by a rename: its text stays, and the run says so, or has edited just that; at few calls it is
     lost, since no system has a rename that looks first."""
     lost = []
     for what, run in calls(p, [*journal, *add(":first")], "stop"):
@@ -228,7 +234,7 @@ def editor_saves(p, journal):
             p.expect(f"an editor at {what}", end[0], 2)
         elif not (b"saved = 1" in text and b":first" in text and end == FIXED):
             lost.append(what)
-    if len(lost) > 1 or not all(map(LATE.fullmatch, lost)):
+    if len(lost) > MOST_LATE or not all(map(LATE.fullmatch, lost)):
         p.wrong.append(f"an editor's save is lost at {lost}")
 
 
@@ -261,6 +267,107 @@ def killed_at_each_call(p, journal):
         p.expect(f"killed at {what}", outcome(run)[0], -signal.SIGKILL)
         p.expect(f"the text of one killed at {what}", labels_in(p.text()) in ([], [b":first"]), True)
         p.goes_on(f"one killed at {what}", journal)
+
+
+# ---- what is exchanged by another user, or whoever moves folders
+
+SECRET = {"buildozer": (FIRST, add(":a")), "buildifier": (ODD, [FILE])}
+# the calls around which a file is looked up
+LOOKS = ["open", "read", "statx", "fsync", "close"] if WHOLE else ["open", "statx"]
+# what tells that a run hangs, in seconds
+HANGS = 10
+
+
+def stops(p, words, call, number, program):
+    """A run that waits at a call and at each further one of its kind; what is given is which one it waits at, each time that it does."""
+    run, lines = p.failing(words, call, f"{number}-", "stop", program)
+    with lines:
+        while line := lines.readline():
+            os.waitid(os.P_PID, run.pid, os.WSTOPPED)
+            yield line.strip()
+            run.send_signal(signal.SIGCONT)
+    outcome(run)
+
+
+def anothers_secret(p, program, journal):
+    """A BUILD that is a link to a file of whoever runs the program alone is exchanged for a file of another user, at each call: nobody else
+    may read at any moment what came of it."""
+    text, words = SECRET[program]
+    with new_folder() as private:
+        secret = pathlib.Path(private, "secret")
+        secret.write_bytes(text)
+        secret.chmod(0o600)
+        for call in LOOKS:
+            for number in range(1, MOST):
+                for file in p.folder.iterdir():
+                    file.unlink()
+                (p.folder / FILE).symlink_to(secret)
+                put(p.folder, {"mine": b"y = 2\n"})
+                (p.folder / "mine").chmod(0o666)
+                os.chown(p.folder / "mine", NOBODY, NOBODY)
+                at = None
+                for what in stops(p, [*journal, *words], call, number, program):
+                    if not at:
+                        at = what
+                        (p.folder / "mine").rename(p.folder / FILE)
+                    for file in p.folder.iterdir():
+                        found = file.stat()
+                        if b"f(" in file.read_bytes() or b"x" in file.read_bytes():
+                            p.expect(f"{program}, {file.name} at {what} behind {call} {number} ({at})", (found.st_uid, stat.S_IMODE(found.st_mode) & 0o077), (os.getuid(), 0))
+                if not at:
+                    break
+
+
+def a_folder_is_exchanged(p, program, journal):
+    """The link to the folder is given another one at each call, where the same text is: what lies there under the name of a new file is
+    nobody's text, and who ends well has edited one of the two."""
+    text, words = SECRET[program]
+    words = [*journal, words[0], "//now:x"] if program == "buildozer" else ["now/BUILD"]
+    half, late = b"half", []
+    for what, run in calls(p, words, "stop", program, text, folders=True):
+        for name in (FILE, JOURNAL):
+            put(p.folder, {f"two/{name}.bznew": half})
+        put(p.folder, {f"two/{FILE}": text})
+        (p.folder / "next").symlink_to("two")
+        (p.folder / "next").rename(p.folder / "now")
+        run.send_signal(signal.SIGCONT)
+        end = outcome(run)
+        found = files_in(p.folder / "two")
+        if half in (found.get(FILE), found.get(JOURNAL)):
+            late.append(what)
+            p.expect(f"{program} {words}, where another's file was renamed at {what}", end[0] in (2, 3), True)
+        elif end[0] == 0:
+            p.expect(f"{program} {words} at {what}, which ended with {end}", found[FILE] != text or files_in(p.folder / "one")[FILE] != text, True)
+    renames = 2 if journal else 1
+    p.expect(f"{program} {words}: where it comes between the last look and the rename", [what for what in late if not what.startswith("rename ")], [])
+    p.expect(f"{program} {words}: how often", len(late) <= renames, True)
+
+
+def a_pipe_when_it_is_opened(p):
+    """What another user has under the name of a new file is exchanged for a pipe right before it is opened: the run ends."""
+    for program, (text, words) in SECRET.items():
+        for journal in [[], ["--journal"]] if program == "buildozer" else [[]]:
+            for number in range(1, MOST):
+                for file in p.folder.iterdir():
+                    file.unlink()
+                put(p.folder, {FILE: text, NEW: b"left", f"{JOURNAL}.bznew": b"left"})
+                run, lines = p.failing([*journal, *words], "open", number, "stop", program)
+                with lines:
+                    name = lines.readline().strip().removeprefix("open ")
+                if name:
+                    os.waitid(os.P_PID, run.pid, os.WSTOPPED)
+                    if name.endswith(".bznew"):
+                        remove(p.folder / name)
+                        os.mkfifo(p.folder / name)
+                    run.send_signal(signal.SIGCONT)
+                try:
+                    run.communicate(timeout=HANGS)
+                except subprocess.TimeoutExpired:
+                    run.kill()
+                    run.communicate()
+                    p.wrong.append(f"{program} {journal}: hangs where {name} is a pipe at open {number}")
+                if not name:
+                    break
 
 
 # ---- what is in the way
@@ -433,6 +540,10 @@ SCENES |= {
 SCENES |= {f"an editor at each call{name}": in_place(editor_saves, journal, library=True) for name, journal in KEPT.items()}
 SCENES |= {f"between two commands{name}": in_place(between_two_commands, journal, library=True) for name, journal in KEPT.items()}
 SCENES |= {f"killed at each call{name}": in_place(killed_at_each_call, journal, library=True) for name, journal in KEPT.items()}
+for name, program, journal in (("buildifier", "buildifier", []), ("buildozer", "buildozer", []), ("buildozer with journals", "buildozer", ["--journal"])):
+    SCENES[f"another's secret, {name}"] = in_place(anothers_secret, program, journal, library=True, root=True)
+    SCENES[f"a folder is exchanged, {name}"] = in_place(a_folder_is_exchanged, program, journal, library=True)
+SCENES["a pipe when it is opened"] = in_place(a_pipe_when_it_is_opened, library=True)
 SCENES |= {scene.__name__.replace("_", " "): in_place(scene) for scene in (planted_links, a_held_file, names_of_pipes_and_devices, bits)}
 SCENES |= {scene.__name__.replace("_", " "): in_place(scene, root=True) for scene in (owners, sticky_folders)}
 

@@ -1,12 +1,12 @@
 #!/usr/bin/env python3
 """Runs the examples of README.md and of the other pages, and compares the tables of the pages of reference, the picture of the crates and
-the index of definitions with the code. README.md must be short and have a link to each page, and docs/PROVED.md one to the page of each
-crate; links lead somewhere, and files, crates and names of the sources that pages name are there.
+the index of definitions with the code. README.md must be short and have a link to each page, and docs/internals/PROVED.md one to the
+page of each crate; links lead somewhere, and files, crates and names of the sources that pages name are there.
 
-The pages are README.md, those beside it, those of docs/, of contrib/ and of each crate. A block of code in which lines begin with `$` is an example: its commands
-run one after the other, in a folder of the block's own that is empty at first, with both programs on the PATH. What a command leaves
-on its two outputs must be what is below it, byte for byte, up to the next command. A block that calls git is reported as not run
-where there is no git. The commands in the tables need only be such as the program takes.
+The pages are README.md, those beside it, those of docs/ and docs/internals/, of contrib/ and of each crate. A block of code in which lines
+begin with `$` is an example: its commands run one after the other, in a folder of the block's own that is empty at first, with both
+programs on the PATH. What a command leaves on its two outputs must be what is below it, byte for byte, up to the next command. A block
+that calls git is reported as not run where there is no git. The commands in the tables need only be such as the program takes.
 
     tests/readme.py BUILDOZER BUILDIFIER
 """
@@ -28,10 +28,11 @@ import definitions  # noqa: E402
 from crates import libraries_of  # noqa: E402
 
 README = TOP / "README.md"
+TREES = sorted(TOP.glob("contrib/tree/*-tree"))
 # the page of each crate
 CRATE_PAGES = sorted(TOP.glob("crates/*/README.md"))
 # README comes first, so that its examples have the first numbers
-PAGES = sorted([*TOP.glob("*.md"), *TOP.glob("docs/*.md"), *TOP.glob("contrib/*/*.md"), *CRATE_PAGES], key=lambda page: (page != README, page))
+PAGES = sorted([*TOP.glob("*.md"), *TOP.glob("docs/**/*.md"), *TOP.glob("contrib/*/*.md"), *CRATE_PAGES], key=lambda page: (page != README, page))
 # the pages that have the tables of commands, options, targets, statuses, attributes and refusals
 REFERENCE = "".join((TOP / "docs" / page).read_text() for page in ("buildozer.md", "buildifier.md", "refusals.md"))
 # how many lines README has at most, and how many bytes the page of a crate
@@ -39,6 +40,8 @@ LINES, BYTES = 170, 16_500
 # the sections of the page of a crate, of which it has some, in this order
 SECTIONS = ["Definitions", "Proved", "Only tested", "Neither proved nor tested", "Decisions"]
 CRATES = TOP / "crates"
+# the pages for who carries on
+INTERNALS = TOP / "docs" / "internals"
 # lines with four spaces before them, and the empty ones between them
 BLOCK = re.compile(r"(?:^ {4}.*\n(?:\n+(?= {4}))?)+", re.MULTILINE)
 COMMAND = re.compile(r"^\$ (.*)\n", re.MULTILINE)
@@ -51,7 +54,7 @@ OF_TOP, OF_CRATES = "docs|tools|tests|contrib|crates|bench|edits|examples|\\.ci"
 PATH = re.compile(rf"(?<![\w./-])(?:{OF_TOP}|{OF_CRATES})/[\w./-]*\w(?![\w*{{-])|(?<![\w./-])[A-Z]+\.md\b")
 FORM = re.compile(r"(?:^|/)[A-Z_]+(?:/|\.edit|$)|/out/")
 # pages that name what is in the sources, a name as these have it, and names that are none of theirs: Rattle's own, a tool's, a slip's
-OF_SOURCES = ["ARCHITECTURE.md", "DECISIONS.md", "DEFINITIONS.md", "PROMISES.md", "PROOFS.md", "PROVED.md"]
+OF_SOURCES = ["PROMISES.md", *(f"internals/{page}.md" for page in ("ARCHITECTURE", "DECISIONS", "DEFINITIONS", "PROOFS", "PROVED"))]
 WORD = re.compile(r"[A-Za-z_][\w-]*")
 NAMES_OF_OTHERS = {"Tie", "is-1", "loop-X-preserved", "grep", "make", "flock", "chekc", "st", "b1", "o8"}
 # a row of a crate's definitions: names, the files of specs/ that have them
@@ -67,11 +70,11 @@ TOLD = re.compile(r'\bResumeFault::(\w+) => \w+\(\s*err,\s*journal,\s*"\1 \((\d+
 
 
 class Programs:
-    """The built programs, in a folder that goes on the PATH."""
+    """The built programs and the commands for whole trees, in a folder that goes on the PATH."""
 
     def __init__(self, path, built):
         self.path = pathlib.Path(path)
-        for program in map(pathlib.Path, built):
+        for program in [*map(pathlib.Path, built), *TREES]:
             # a link, since they are large and each scene has such a folder
             (self.path / program.name).symlink_to(program.resolve())
 
@@ -222,7 +225,7 @@ def layers(programs, folder):
     """Each crate is once in the picture of the layers, and what it depends on is in lines below its own."""
     rows = [line.partition("#")[0].partition(":") for line in (TOP / "crates.txt").read_text().splitlines()]
     uses = {name.strip(): below.split() for name, _, below in rows if name.strip()}
-    picture = BLOCK.search((TOP / "docs" / "ARCHITECTURE.md").read_text())[0]
+    picture = BLOCK.search((INTERNALS / "ARCHITECTURE.md").read_text())[0]
     found = [(word, at) for at, line in enumerate(picture.splitlines()) for word in re.findall(r"\w+", line) if word in uses]
     line_of = dict(found)
     pairs = [(crate, below) for crate, names in uses.items() for below in names if below in uses]
@@ -231,9 +234,9 @@ def layers(programs, folder):
 
 
 def rows_of_the_gate(programs, folder):
-    """Each crate has one row in the table of docs/GATE.md, and no other row is there."""
-    table = re.search(r"(?m)^\| Crate \| Functions \|.*\n\|[-|]+\|\n((?:\|.*\n)+)", (TOP / "docs" / "GATE.md").read_text())
-    return different("rows of docs/GATE.md", sorted(re.findall(r"(?m)^\| (\w+) \|", table[1])), sorted(libraries_of()))
+    """Each crate has one row in the table of docs/internals/GATE.md, and no other row is there."""
+    table = re.search(r"(?m)^\| Crate \| Functions \|.*\n\|[-|]+\|\n((?:\|.*\n)+)", (INTERNALS / "GATE.md").read_text())
+    return different("rows of docs/internals/GATE.md", sorted(re.findall(r"(?m)^\| (\w+) \|", table[1])), sorted(libraries_of()))
 
 
 def links_of(page):
@@ -244,8 +247,8 @@ def links_of(page):
 
 def pages_are_linked(programs, folder):
     """README has a link to each page and picture, the index to that of each crate, and every link leads to a file."""
-    index = TOP / "docs" / "PROVED.md"
-    owed = {README: {*PAGES, *TOP.glob("docs/*.svg")} - {README, *CRATE_PAGES}, index: {CRATES / crate / "README.md" for crate in libraries_of()}}
+    index = INTERNALS / "PROVED.md"
+    owed = {README: {*PAGES, *TOP.glob("docs/**/*.svg")} - {README, *CRATE_PAGES}, index: {CRATES / crate / "README.md" for crate in libraries_of()}}
     lost = [f"{page.name} has no link to {other.relative_to(TOP)}" for page, others in owed.items() for other in sorted(others - links_of(page))]
     return lost + [f"{page.relative_to(TOP)} links to {file}" for page in PAGES for file in sorted(links_of(page)) if not file.exists()]
 
@@ -268,13 +271,13 @@ def pages_of_crates_have_their_form(programs, folder):
 
 
 def files_are_there(programs, folder):
-    """Each file that a page names is there, from the top of the repository, from docs/ or in a crate, on the page of a crate in that one
-    or one that the page names; that of a module may lack `.antt`."""
+    """Each file that a page names is there, from the top of the repository, from docs/ or docs/internals/, or in a crate, on the page of a
+    crate in that one or one that the page names; that of a module may lack `.antt`."""
     wrong = []
     for page in PAGES:
         text = page.read_text()
         own = [CRATES / name for name in re.findall(r"\bbz_\w+", text)] if page in CRATE_PAGES else CRATES.iterdir()
-        places = [TOP, TOP / "docs", page.parent, *own]
+        places = [TOP, TOP / "docs", INTERNALS, page.parent, *own]
         named = {path for path in PATH.findall(text) if not FORM.search(path)}
         lost = [path for path in sorted(named) if not any((place / f"{path}{end}").exists() for place in places for end in ("", ".antt"))]
         wrong += [f"{page.relative_to(TOP)} names {path}" for path in lost]
@@ -332,18 +335,18 @@ def made_of_definitions(programs, folder):
 
 
 def index_has_what_is_cited(programs, folder):
-    """Each definition that a contract cites by its name is in docs/DEFINITIONS.md, whatever the tool finds."""
+    """Each definition that a contract cites by its name is in docs/internals/DEFINITIONS.md, whatever the tool finds."""
     texts = [file.read_text() for file in CRATES.glob("bz_*/src/*.rt")]
     uses = [use[1] for text in texts for use in CITED.findall(text) if not re.search(r"(?:^|\.)(?:declared|formers|contracts)\.", use[0])]
     cited = {name.strip().partition(" as ")[0] for use in uses for name in use.split(",")}
     named = set(WORD.findall(definitions.PAGE.read_text()))
     lost = sorted(name for name in cited if re.fullmatch(r"[A-Za-z_]+", name) and name not in named)
-    return [f"docs/DEFINITIONS.md doesn't name {name}" for name in lost] if cited else ["no contract cites a definition"]
+    return [f"docs/internals/DEFINITIONS.md doesn't name {name}" for name in lost] if cited else ["no contract cites a definition"]
 
 
 def files_of_lemmas_are_there(programs, folder):
-    """Each file of proofs in the table of lemmas of docs/PROOFS.md is one of the crates of its row."""
-    rows = re.findall(r"(?m)^\| (bz_[\w, ]+) \| (.*) \|$", (TOP / "docs" / "PROOFS.md").read_text())
+    """Each file of proofs in the table of lemmas of docs/internals/PROOFS.md is one of the crates of its row."""
+    rows = re.findall(r"(?m)^\| (bz_[\w, ]+) \| (.*) \|$", (INTERNALS / "PROOFS.md").read_text())
     named = [(crates.split(", "), name) for crates, row in rows for name in re.findall(r"\b[A-Z]\w+", row)]
     lost = [name for crates, name in named if not any((CRATES / crate / "proofs" / f"{name}.antt").exists() for crate in crates)]
     return lost if named else ["no file of lemmas is named"]
