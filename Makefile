@@ -1,16 +1,32 @@
-# make        proves and builds both programs, leaves them in bin/, and shows a first run; JOBS=N sets how many processors that takes,
-#             and KEEP=yes keeps what was proved of each function, for whoever changes the sources
-# make install    puts both programs, their pages for man, and completions for bash, zsh and fish below PREFIX (/usr/local); with DESTDIR=.. before it
-# make uninstall  removes just these
-# make dist   packs the same, all pages, those of the crates too, and contrib/ into an archive in dist/, with its SHA-256 sum beside it
-# make edits  tries the further edits that the prover must refuse, those of edits/; with CRATE=.. those of one crate
-# make test   the tests: runs of the programs (tests/), every proof from nothing, the edits that the prover must refuse, each program and each test
-# make bench  the time and the memory of a delete in a large file, of many commands in one run, also where it keeps a journal, of a run over many packages, and of reading a file; with FOLDER=.. of the BUILD files there
-# make largest    what texts of 4, 16 and 64 MiB cost: a format, a command, one with --journal and an undo (6 minutes, 4 GB of memory)
-# make shapes how much longer reading takes for twice the text, for texts of thirty shapes (5 minutes)
-# make hostile    torn, deep and made texts, torn and forged journals, runs that are killed, each request for memory refused, each call of the system failing, devices that fail, and runs beside one another: all of it
-# make fuzz       both programs over mutants for MINUTES=10 of the clock; with SEED=.. the case of that number alone
-# make corpus FOLDER=..   reads each BUILD file below the folder, spells it back byte for byte, and formats it twice
+# What 'make help' prints is each line that begins with '#:'.
+#: The shortest first; times are by the clock on 4 cores, by the machine.
+#:
+#: make help              seconds    this list
+#: make clean             seconds    removes what was built
+#: make install           seconds    copies both programs, the commands for whole trees, their man pages, and completions
+#:                                   for bash, zsh and fish below PREFIX (/usr/local); with DESTDIR=.. below another root
+#: make uninstall         seconds    removes exactly these
+#: make dist              seconds    packs the same, all pages and contrib/ into an archive in dist/, with its SHA-256
+#:                                   sum beside it; what is not built is built first
+#: make corpus FOLDER=..  seconds    reads each BUILD file below the folder, spells it back byte for byte, and formats
+#:                                   it twice
+#: make bench             minutes    time and memory of a delete in a large file, of many commands in one run, also
+#:                                   with a journal, of a run over many packages, of one that writes many files, and of
+#:                                   reading; with FOLDER=.. of the BUILD files there
+#: make shapes            5 min      how much longer reading takes for twice the text, for texts of thirty shapes
+#: make largest           6 min      what texts of 4, 16 and 64 MiB cost: a format, a command, one with --journal and
+#:                                   an undo (4 GB of memory)
+#: make fuzz              10 min     both programs over mutants for MINUTES=10; with SEED=.. the case of that number
+#: make hostile           15 min     all of hostile use: torn, deep and made texts, torn and forged journals, killed
+#:                                   runs, refused memory, failing calls and devices, runs beside one another, and a
+#:                                   loss of power
+#: make                   21-40 min  proves and builds both programs, leaves them in bin/, and shows a first run;
+#:                                   JOBS=N sets how many processors that takes; KEEP=yes keeps what was proved of each
+#:                                   function, for whoever changes the sources
+#: make test              46-76 min  the tests: runs of the programs (tests/), every proof from nothing, the edits that
+#:                                   the prover must refuse, each program and each test
+#: make edits             60-100 min tries the further edits that the prover must refuse, those of edits/; with CRATE=..
+#:                                   those of one crate
 
 PROGRAMS = bin/buildozer bin/buildifier
 
@@ -18,16 +34,23 @@ PROGRAMS = bin/buildozer bin/buildifier
 PREFIX ?= /usr/local
 DESTDIR ?=
 
+# the commands for whole trees, scripts that are copied there from contrib/tree/, and the modules that they share
+TREES = bin/buildozer-tree bin/buildifier-tree
+MODULES = $(patsubst contrib/tree/%,share/kinduzar/%,$(wildcard contrib/tree/kinduzar_tree/*.py))
+
 # what is installed beside the programs, in the folders where man and each shell look for it
-SHARED = $(foreach program,$(notdir $(PROGRAMS)),share/man/man1/$(program).1 share/bash-completion/completions/$(program) \
-    share/zsh/site-functions/_$(program) share/fish/vendor_completions.d/$(program).fish)
+SHARED = $(foreach program,$(notdir $(PROGRAMS) $(TREES)),share/man/man1/$(program).1 share/bash-completion/completions/$(program) \
+    share/zsh/site-functions/_$(program) share/fish/vendor_completions.d/$(program).fish) $(MODULES)
 
 # what the programs are made of; a second 'make' with nothing changed does nothing
 SOURCES = crates.txt $(shell find crates -name out -prune -o -path '*/must-fail' -prune -o -name README.md -o -type f -print)
 
-.PHONY: all share install uninstall dist test edits bench largest shapes hostile fuzz corpus clean rt
+.PHONY: all help share install uninstall dist test edits bench largest shapes hostile fuzz corpus clean rt
 
 all: $(PROGRAMS) share bin/.shown
+
+help:
+	@sed -n 's/^#: \{0,1\}//p' $(firstword $(MAKEFILE_LIST))
 
 rt:
 	@command -v rt > /dev/null || { \
@@ -50,27 +73,31 @@ bin/.shown: bin/buildozer bin/buildifier examples/BUILD
 	@bin/buildifier < examples/BUILD
 	@touch $@
 
-# pages and completions, made of docs/ each time; a file that would not change stays
+# pages and completions, made of docs/ each time, and the commands for whole trees; a file that would not change stays
 share:
 	@PYTHONDONTWRITEBYTECODE=1 tools/manual.py share
 	@PYTHONDONTWRITEBYTECODE=1 tools/completions.py share
+	@for file in $(notdir $(TREES)); do install -C -D -m 755 "contrib/tree/$$file" "bin/$$file" || exit 1; done
+	@for file in $(MODULES:share/kinduzar/%=%); do install -C -D -m 644 "contrib/tree/$$file" "share/kinduzar/$$file" || exit 1; done
 
 # What make has built is installed as it is, so that nothing is built with the rights that installing takes.
 install: share
 	@for program in $(PROGRAMS); do \
 	    [ -x "$$program" ] || { echo "$$program was not found: run make first." >&2; exit 1; }; done
 	@umask 022; \
-	    for file in $(PROGRAMS); do install -D -m 755 "$$file" "$(DESTDIR)$(PREFIX)/$$file" || exit 1; done; \
+	    for file in $(PROGRAMS) $(TREES); do install -D -m 755 "$$file" "$(DESTDIR)$(PREFIX)/$$file" || exit 1; done; \
 	    for file in $(SHARED); do install -D -m 644 "$$file" "$(DESTDIR)$(PREFIX)/$$file" || exit 1; done
 
 uninstall:
-	@for file in $(PROGRAMS) $(SHARED); do rm -f "$(DESTDIR)$(PREFIX)/$$file" || exit 1; done
+	@for file in $(PROGRAMS) $(TREES) $(SHARED); do rm -f "$(DESTDIR)$(PREFIX)/$$file" || exit 1; done
+	@for folder in share/kinduzar/kinduzar_tree share/kinduzar; do \
+	    [ ! -d "$(DESTDIR)$(PREFIX)/$$folder" ] || rmdir --ignore-fail-on-non-empty "$(DESTDIR)$(PREFIX)/$$folder" || exit 1; done
 
 # what is packed beside these: all pages, those of the crates too, so that each link leads somewhere in the archive
-PACKED = $(wildcard *.md LICENSE docs/* crates/*/README.md) .pre-commit-hooks.yaml $(shell find contrib -type f)
+PACKED = $(wildcard *.md LICENSE crates/*/README.md) .pre-commit-hooks.yaml $(shell find contrib docs -type f -not -path "*/__pycache__/*")
 
 dist: $(PROGRAMS) share
-	@PYTHONDONTWRITEBYTECODE=1 tools/archive.py dist $(PROGRAMS) $(SHARED) $(PACKED)
+	@PYTHONDONTWRITEBYTECODE=1 tools/archive.py dist $(PROGRAMS) $(TREES) $(SHARED) $(PACKED)
 
 # Where four processors and the memory for four proofs are there, four run side by side; by its own estimates rt starts fewer.
 LANES = $(shell [ "$$(nproc)" -ge 4 ] && [ "$$(awk '/MemAvailable/ { print int($$2 / 1000000) }' /proc/meminfo)" -ge 18 ] && echo RT_JOBS=4)
@@ -86,6 +113,7 @@ bench: $(PROGRAMS) bin/cases
 	@bench/commands.py
 	@bench/journals.py
 	@bench/packages.py
+	@bench/files.py
 	@bench/reading.py $(if $(FOLDER),"$(FOLDER)")
 
 largest: $(PROGRAMS)
@@ -103,6 +131,9 @@ hostile: $(PROGRAMS) bin/cases
 	@HOSTILE=whole tests/failing.py $(PROGRAMS)
 	@HOSTILE=whole tests/devices.py $(PROGRAMS)
 	@HOSTILE=whole tests/races.py $(PROGRAMS)
+	@HOSTILE=whole tests/tree.py $(PROGRAMS)
+	@HOSTILE=whole tests/power.py $(PROGRAMS)
+	@HOSTILE=whole tests/acts.py $(PROGRAMS)
 
 MINUTES = 10
 

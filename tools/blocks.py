@@ -1,11 +1,13 @@
-"""The pages of docs/ as the scripts read them that make man pages and completions of them: their sections, each a list of blocks."""
+"""The pages of reference as the scripts read them that make man pages and completions of them: their sections, each a list of blocks."""
 import dataclasses
 import pathlib
 import re
 
 TOP = pathlib.Path(__file__).resolve().parent.parent
 # the pages of reference: the programs' own, what they refuse, and what differs from others
-REFERENCE = ["buildozer.md", "buildifier.md", "refusals.md", "COMING.md"]
+REFERENCE = ["docs/buildozer.md", "docs/buildifier.md", "docs/refusals.md", "docs/COMING.md"]
+# that of the commands for whole trees
+OF_TREES = ["contrib/tree/README.md"]
 CODE = re.compile(r"`([^`]+)`")
 MARGIN = "    "
 # a picture alone, which no page of man has
@@ -61,9 +63,9 @@ def blocks_of(text):
     return [block_of(piece.splitlines()) for piece in pieces]
 
 
-def sections():
-    """The blocks of each section of the pages of reference, by its heading."""
-    text = "\n".join((TOP / "docs" / page).read_text() for page in REFERENCE)
+def sections(pages):
+    """The blocks of each section of some pages, by its heading."""
+    text = "\n".join((TOP / page).read_text() for page in pages)
     pieces = re.split(r"(?m)^#+ (.*)\n", text)
     return {title: blocks_of(text) for title, text in zip(pieces[1::2], pieces[2::2])}
 

@@ -1,6 +1,6 @@
 #!/usr/bin/env python3
-"""Makes the completions of both programs for bash, zsh and fish from the tables of docs/buildozer.md and docs/buildifier.md, so that a
-command or option is in one place.
+"""Makes the completions of both programs for bash, zsh and fish from the tables of docs/buildozer.md and docs/buildifier.md, and those of the
+commands for whole trees also from contrib/tree/README.md, so that a command or option is in one place.
 
 tools/completions/ has what each shell does, with names between two `@` where a table goes, and candidates.sh, a script of sh that all
 three shells run to learn what an operand of buildozer may become.
@@ -11,7 +11,7 @@ import pathlib
 import re
 import sys
 
-from blocks import CODE, TOP, sections, tables_of
+from blocks import CODE, OF_TREES, REFERENCE, TOP, sections, tables_of
 from manual import put
 
 TEMPLATES = TOP / "tools" / "completions"
@@ -108,9 +108,9 @@ def which(blocks):
 
 
 def options(blocks):
-    """The options: each with the word that is after it, or none, and what it does, in a few words."""
-    rows = [(CODE.findall(row[0])[0].split(" "), row[1]) for row in tables_of(blocks, "Option")]
-    short = [(*words, "")[:2] + (re.split(r"[;,]", CODE.sub(r"\1", told))[0],) for words, told in rows]
+    """The options: each, with `=` where that parts it from its value, the word for the value, or none, and what it does, in a few words."""
+    rows = [(re.split("(?<==)| ", CODE.findall(row[0])[0]), row[1]) for row in tables_of(blocks, "Option")]
+    short = [(*words, "")[:2] + (re.split(r"[;,:]", CODE.sub(r"\1", told))[0],) for words, told in rows]
     return [*short, *((option, "", told) for option, told in ASKED.items())]
 
 
@@ -129,14 +129,15 @@ def fish(text):
 
 
 def zsh_option(option, word, told):
-    excluded = "(- *)" if option in ASKED else "(*)" if word else ""
+    excluded = "(- *)" if option in ASKED else "(*)" if option == "-f" else ""
     told = re.sub(r"([][:\\])", r"\\\1", told)
-    return f"    '{excluded}{option}[{sh(told)}]{':' + word.lower() + ':_files' if word else ''}' \\"
+    return f"    '{excluded}{option}[{sh(told)}]{':' + word.lower().rstrip(',.') + ':_files' if word else ''}' \\"
 
 
-def fish_option(option, word, told):
-    name = f"-l {option[2:]}" if option.startswith("--") else f"-s {option[1:]}"
-    return f"complete -c buildozer {name}{' -r -F' if word else ''} -d '{fish(told)}'"
+def fish_option(name, option, word, told):
+    option = option.rstrip("=")
+    flag = f"-l {option[2:]}" if option.startswith("--") else f"-s {option[1:]}"
+    return f"complete -c {name} {flag}{' -r -F' if word else ''} -d '{fish(told)}'"
 
 
 # ---- files
@@ -164,18 +165,25 @@ def candidates(found):
     return filled(template("candidates.sh"), {name: sh(table) for name, table in tables.items()}).rstrip("\n")
 
 
+def options_for(shell, name, rows):
+    """The options of a program as the file of a shell has them."""
+    if shell == "bash":
+        return " ".join(row[0] for row in rows)
+    return "\n".join(zsh_option(*row) if shell == "zsh" else fish_option(name, *row) for row in rows)
+
+
 def main():
-    found = sections()
-    script, rows = candidates(found), options(found["buildozer"])
-    tables = {
-        "bash": {"CANDIDATES": script, "OPTIONS": " ".join(row[0] for row in rows)},
-        "zsh": {"CANDIDATES": script, "OPTIONS": "\n".join(zsh_option(*row) for row in rows)},
-        "fish": {"CANDIDATES": fish(script), "OPTIONS": "\n".join(fish_option(*row) for row in rows)},
-    }
-    for shell, place in PLACES.items():
-        for program in ("buildozer", "buildifier"):
-            text = filled(template(f"{program}.{shell}"), {**tables[shell], "MODES": words_of(found["buildifier"], "Mode"), "TYPES": words_of(found["buildifier"], "Type")})
-            put(pathlib.Path(sys.argv[1], place.format(program)), text)
+    found, trees = sections(REFERENCE), sections(OF_TREES)
+    script = candidates(found)
+    for program in ("buildozer", "buildifier"):
+        for name, page, blocks in ((program, "docs/", found[program]), (f"{program}-tree", OF_TREES[0], trees[f"{program}-tree"])):
+            rows = [row for row in options(blocks) if row[0] != "--type="]
+            tables = {"NAME": name, "PAGE": page,
+                      "MODES": words_of(trees[name] if name in trees else found["buildifier"], "Mode"), "TYPES": words_of(found["buildifier"], "Type"),
+                      "OPERAND": "folder or file" if name in trees else "BUILD or .bzl file"}  # fmt: skip
+            for shell, place in PLACES.items():
+                own = {"CANDIDATES": fish(script) if shell == "fish" else script, "OPTIONS": options_for(shell, name, rows)}
+                put(pathlib.Path(sys.argv[1], place.format(name)), filled(template(f"{program}.{shell}"), {**own, **tables}))
 
 
 if __name__ == "__main__":

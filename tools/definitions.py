@@ -1,8 +1,8 @@
 #!/usr/bin/env python3
-"""Writes what the pages have of the definitions in the sources: in docs/DEFINITIONS.md how much there is to read, and the index of those that
-contracts cite; on the page of each crate, in a line of its own, which files of its specs/ are for private functions alone.
+"""Writes what the pages have of the definitions in the sources: in docs/internals/DEFINITIONS.md how much there is to read, and the index
+of those that contracts cite; on the page of each crate, in a line of its own, which files of its specs/ are for private functions alone.
 
-    tools/definitions.py            writes these anew; the two parts of docs/DEFINITIONS.md are each between two lines of marks
+    tools/definitions.py            writes these anew; the two parts of docs/internals/DEFINITIONS.md are each between two lines of marks
     tools/definitions.py NAME..     prints the definitions of a crate, or those of a name: each with its file and the comment above it
 
 A definition is cited where a line `ghost use` of crates/*/src brings it in from specs/. What a reader has to trust is what the contracts of
@@ -14,7 +14,7 @@ import sys
 
 from trusted import CRATES, TOP, USE, counts, definitions, sources, trusted
 
-PAGE = TOP / "docs" / "DEFINITIONS.md"
+PAGE = TOP / "docs" / "internals" / "DEFINITIONS.md"
 CRATES_PAGE = "crates/{}/README.md"
 # which files of specs/ no contract of a public call depends on, as the page of a crate says it; and what comes after it there
 PRIVATE = re.compile(r"(?m)^For private functions alone: .*\n\n")
@@ -25,7 +25,7 @@ MADE = re.compile(r"\.(declared|formers|contracts)\.")
 
 
 def page_of(crate):
-    return f"[{crate}](../{CRATES_PAGE.format(crate)})"
+    return f"[{crate}](../../{CRATES_PAGE.format(crate)})"
 
 
 @functools.cache

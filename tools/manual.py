@@ -1,22 +1,24 @@
 #!/usr/bin/env python3
 """Makes the pages buildozer.1 and buildifier.1, in the macros of man, from pages of docs/: buildozer.md, buildifier.md, refusals.md and
-the section of COMING.md on what differs. What a page says is in these alone; here is only where each block of them goes.
+the section of COMING.md on what differs; and buildozer-tree.1 and buildifier-tree.1 from contrib/tree/README.md. What a page says is in
+these alone; here is only where each block of them goes.
 
 The paragraphs become the description, the examples the examples, each table a section of its own. An example stays in the
 description where the paragraph above it ends with a colon. Of the tables of refusals and of other lines the page of a program
 leaves out what only the other one says.
 
-    tools/manual.py FOLDER        puts both pages into FOLDER/man/man1; a page that is there and would not change stays
+    tools/manual.py FOLDER        puts the pages into FOLDER/man/man1; a page that is there and would not change stays
 """
 import pathlib
 import re
 import sys
 import textwrap
 
-from blocks import CODE, Example, Paragraph, Points, Table, sections
+from blocks import CODE, OF_TREES, REFERENCE, Example, Paragraph, Points, Table, sections
 from version import version
 
 PROGRAMS = ["buildozer", "buildifier"]
+TREES = ["buildozer-tree", "buildifier-tree"]
 WIDTH = 78
 # the section of a page for each table, by the first word of its header, in the order of the pages
 TABLES = {"Mode": "OPTIONS", "Type": "OPTIONS", "Option": "OPTIONS", "Command": "COMMANDS", "Target": "TARGETS", "Attributes": "ATTRIBUTES",
@@ -28,12 +30,17 @@ UNTOLD = ("What", "Their", "Means", "When")
 REFUSALS, DIFFERENCES = "Refusals and other lines on standard error", "What differs from bazelbuild's tools"
 LIMITS = "Limits"
 DOCUMENTS = "docs/COMING.md compares the tools table by table. The documents that this page names are in the archive and beside the sources."
-# sections that are whole ones of buildozer's page too
-OF_BUILDOZER = ["Undo across runs"]
+# sections that are whole ones of a page too
+WHOLE = {
+    "buildozer": ["When a command is refused", "Undo across runs"],
+    "buildozer-tree": ["Undo of a whole run", "Which files and packages", "When a run is stopped"],
+    "buildifier-tree": ["Which files and packages", "When a run is stopped"],
+}
 # a refusal of a text, which both programs report; those behind them are of labels, targets and commands
 LAST_OF_TEXTS = 8
 # this line is buildozer's, though it doesn't name it
 LINES_OF_BUILDOZER = ["`FILE: no operands`"]
+LINK = re.compile(r"\[([^\]]*)\]\([^)]*\)")
 # signs that roff reads as others than they are
 SIGNS = {"\\": r"\e", "`": r"\(ga", "^": r"\(ha", "~": r"\(ti"}
 CODE_SIGNS = {**SIGNS, "-": r"\-", "'": r"\(aq", '"': r"\(dq"}
@@ -58,9 +65,9 @@ def form(code):
 
 
 def inline(text, code=bold):
-    """A text in which some is between marks of code."""
+    """A text in which some is between marks of code. Of a link its text stays, since a page of man leads nowhere."""
     pieces = CODE.split(text.replace("**", ""))
-    return "".join(code(piece) if at % 2 else written(piece, SIGNS) for at, piece in enumerate(pieces))
+    return "".join(code(piece) if at % 2 else written(LINK.sub(r"\1", piece), SIGNS) for at, piece in enumerate(pieces))
 
 
 def guarded(line):
@@ -127,11 +134,11 @@ def sorted_blocks(program, found):
     first = CODE.sub(lambda code: f"`{program}`", own[0].text, count=1)
     parts = {title: [] for title in ("DESCRIPTION", *TABLES.values())}
     above = None
-    for block in [Paragraph(first), *own[1:], *found[LIMITS], *found[REFUSALS]]:
+    for block in [Paragraph(first), *own[1:], *found.get(REFUSALS, [])]:
         if isinstance(block, Table):
             rows = [cells for cells in block.rows if is_told_by(program, block.header, cells)]
             parts.setdefault(TABLES.get(block.header[0], block.header[0].upper()), []).append(Table(block.header, rows))
-        elif block in found[REFUSALS]:
+        elif block in found.get(REFUSALS, []):
             parts["DIAGNOSTICS"].append(block)
         elif isinstance(block, Example) and not above.text.endswith(":"):
             parts.setdefault("EXAMPLES", []).append(block)
@@ -139,8 +146,8 @@ def sorted_blocks(program, found):
             parts["DESCRIPTION"].append(block)
         above = block if isinstance(block, Paragraph) else Paragraph("")
     parts["EXAMPLES"] = parts.pop("EXAMPLES", [])
-    whole = {title.upper(): found[title] for title in OF_BUILDOZER if program == "buildozer"}
-    return {**parts, **whole, "COMPATIBILITY": found[DIFFERENCES]}
+    whole = {title.upper(): found[title] for title in WHOLE.get(program, [])}
+    return {**parts, **whole, "LIMITS": found.get(LIMITS, []), "COMPATIBILITY": found.get(DIFFERENCES, [])}
 
 
 def page(program, found):
@@ -148,7 +155,7 @@ def page(program, found):
     synopsis = CODE.search(found[program][0].text)[1]
     # a dot within a word, such as that of .bzl, ends no sentence
     does = re.split(r"[;.](?:\s|$)", CODE.sub("", found[program][0].text, count=1))[0].strip()
-    others = ", ".join(rf"\fB{other}\fR(1)" for other in PROGRAMS if other != program)
+    others = ", ".join(rf"\fB{other}\fR(1)" for other in [*PROGRAMS, *TREES] if other != program)
     lines = [
         r'.\" Made by tools/manual.py from docs/.',
         f'.TH {program.upper()} 1 {day} "kinduzar {written(word, CODE_SIGNS)}" "User Commands"',
@@ -174,9 +181,10 @@ def put(file, text):
 
 
 def main():
-    found = sections()
-    for program in PROGRAMS:
-        put(pathlib.Path(sys.argv[1], "man", "man1", f"{program}.1"), page(program, found))
+    for programs, pages in ((PROGRAMS, REFERENCE), (TREES, OF_TREES)):
+        found = sections(pages)
+        for program in programs:
+            put(pathlib.Path(sys.argv[1], "man", "man1", f"{program}.1"), page(program, found))
 
 
 if __name__ == "__main__":

@@ -1,5 +1,6 @@
 #!/usr/bin/env python3
-"""Draws docs/layers.svg, the crates with the libraries that they depend on, from crates.txt; and docs/history.svg, a history of texts.
+"""Draws docs/internals/layers.svg, the crates with the libraries that they depend on, from crates.txt; docs/history.svg, a history of
+texts; and docs/terminal.svg, a terminal with an example of README.md, which tests/readme.py runs, so that the picture is true.
 
     tools/pictures.py [--check]
 
@@ -9,6 +10,7 @@ In the first picture each crate is above all that it depends on. A line goes to 
 through a library in between. A line that passes by rows has a bend in each of them, and bends and crates are brought into an order in
 which few lines cross. Below a crate's name are the crates of others that it names.
 """
+import re
 import sys
 from html import escape
 from xml.etree import ElementTree
@@ -281,7 +283,53 @@ def history():
     return picture(760, 172 * len(HISTORIES) + MARGIN, "A history of texts, its cursor, its tree and its steps", drawn)
 
 
-PICTURES = {"docs/layers.svg": layers, "docs/history.svg": history}
+# ---- the terminal
+
+
+# the chapter of README whose first example is shown
+SHOWN = "## Undo across runs"
+SCREEN, FRAME, LIGHT, PROMPT, TYPED = "#1e2228", "#3a414b", "#c9d1d9", "#7fc98f", "#ffffff"
+# how wide a character of the terminal's font is, and how far apart lines are
+ADVANCE, PITCH = 7.83, 19
+MONOSPACE = "DejaVu Sans Mono, Menlo, Consolas, monospace"
+
+
+def example():
+    """The lines of that example, without their margin."""
+    chapter = (TOP / "README.md").read_text().partition(f"{SHOWN}\n")[2]
+    block = re.search(r"(?m)(?:^ {4}.*\n)+", chapter)[0]
+    return [line[4:] for line in block.splitlines()]
+
+
+def typed(line):
+    """A line of the terminal as pieces, each with its colour: a command has a prompt in front of it."""
+    return [("$", PROMPT), (line[1:], TYPED)] if line.startswith("$ ") else [(line, LIGHT)]
+
+
+def screen_line(x, y, line):
+    """A line of characters that are equally wide. Spaces at the beginning of a piece are room, and those within it such as no reader
+    of XML joins."""
+    drawn, column = [], 0
+    for piece, colour in typed(line):
+        text = piece.lstrip(" ")
+        left = x + (column + len(piece) - len(text)) * ADVANCE
+        drawn.append(words(round(left, 1), y, text.replace(" ", "\u00a0"), fill=colour, text_anchor="start", font_family=MONOSPACE))
+        column += len(piece)
+    return drawn
+
+
+def terminal():
+    """The picture of a terminal: its frame with three buttons, and the lines of the example."""
+    lines = example()
+    width, height = round(max(map(len, lines)) * ADVANCE) + 2 * MARGIN, len(lines) * PITCH + 2 * MARGIN + 30
+    drawn = [box(6, 6, width - 12, height - 12, SCREEN, stroke=FRAME), box(6, 6, width - 12, 26, FRAME, stroke=FRAME)]
+    drawn += [shape("circle", cx=24 + 18 * at, cy=19, r=5, fill=colour) for at, colour in enumerate(("#e0655f", "#e3b54c", "#6fbf73"))]
+    for number, line in enumerate(lines):
+        drawn += screen_line(MARGIN, 32 + MARGIN + number * PITCH, line)
+    return picture(width, height, "An edit, listed and taken back in a later run, in a terminal", drawn)
+
+
+PICTURES = {"docs/internals/layers.svg": layers, "docs/history.svg": history, "docs/terminal.svg": terminal}
 
 
 def main(checks):

@@ -1,6 +1,6 @@
-# Completion of buildifier's words in bash. Made by tools/completions.py from docs/.
+# Completion of @NAME@'s words in bash. Made by tools/completions.py from @PAGE@.
 
-_buildifier() {
+_@NAME@() {
     local line=${COMP_LINE:0:COMP_POINT} front=''
     COMPREPLY=()
     if [[ $line != *' -- '* && $line =~ [[:blank:]](--(mode|type)[=[:blank:]])([^[:blank:]]*)$ ]]; then
@@ -9,11 +9,11 @@ _buildifier() {
         [[ ${BASH_REMATCH[2]} == type ]] && words='@TYPES@'
         mapfile -t COMPREPLY < <(compgen -P "$front" -W "$words" -- "${BASH_REMATCH[3]}")
     elif [[ $line != *' -- '* && $2 == -* ]]; then
-        mapfile -t COMPREPLY < <(compgen -W '--mode= --type= --help --version' -- "$2")
-        [[ ${COMPREPLY[*]} == --mode= || ${COMPREPLY[*]} == --type= ]] && compopt -o nospace 2> /dev/null
+        mapfile -t COMPREPLY < <(compgen -W '--mode= --type= @OPTIONS@' -- "$2")
+        [[ ${#COMPREPLY[@]} == 1 && ${COMPREPLY[0]} == *= ]] && compopt -o nospace 2> /dev/null
     else
         compopt -o default 2> /dev/null
     fi
 }
 
-complete -F _buildifier buildifier
+complete -F _@NAME@ @NAME@

@@ -1,6 +1,6 @@
-# Completion of buildozer's words in bash. Made by tools/completions.py from docs/.
+# Completion of @NAME@'s words in bash. Made by tools/completions.py from @PAGE@.
 
-_buildozer_candidates() {
+_@NAME@_candidates() {
     sh -s -- "$@" << 'END'
 @CANDIDATES@
 END
@@ -8,7 +8,7 @@ END
 
 # Cuts the text of a line into words: the last one to word, without its quotation marks, and as it is to raw; the mark that is
 # open there to quote, and what is before it in that word to front; the other words to before.
-_buildozer_cut() {
+_@NAME@_cut() {
     local rest=$1 sign
     word='' raw='' quote='' front='' before=()
     while [[ $rest ]]; do
@@ -34,7 +34,7 @@ _buildozer_cut() {
 
 # The text by which readline replaces what it completes: inside quotation marks what is after the open one, else what is
 # behind the last sign that parts words.
-_buildozer_reply() {
+_@NAME@_reply() {
     local text=$1 kept=''
     case $quote in
         \') text=${text#"$front"} REPLY=${text//\'/\'\\\'\'} ;;
@@ -51,10 +51,10 @@ _buildozer_reply() {
     esac
 }
 
-_buildozer() {
+_@NAME@() {
     local word raw quote front before text REPLY options=1 IFS=$' \t\n'
     COMPREPLY=()
-    _buildozer_cut "${COMP_LINE:0:COMP_POINT}"
+    _@NAME@_cut "${COMP_LINE:0:COMP_POINT}"
     [[ " ${before[*]} " == *' -- '* ]] && options=''
     if [[ $options && ${before[${#before[@]} - 1]} == -f ]]; then
         compopt -o default 2> /dev/null
@@ -62,14 +62,15 @@ _buildozer() {
     fi
     if [[ $options && $raw == -* ]]; then
         mapfile -t COMPREPLY < <(compgen -W '@OPTIONS@' -- "$word")
+        [[ ${#COMPREPLY[@]} == 1 && ${COMPREPLY[0]} == *= ]] && compopt -o nospace 2> /dev/null
         return
     fi
     # beside -f there are no operands, and what is after closed quotation marks is no longer completed
     [[ $options && " ${before[*]} " == *' -f '* || ! $quote && $raw == *[\'\"]* ]] && return
     while IFS=$'\t' read -r text _; do
-        _buildozer_reply "$text"
+        _@NAME@_reply "$text"
         COMPREPLY+=("$REPLY")
-    done < <(_buildozer_candidates "${before[0]/#\~/$HOME}" "$word")
+    done < <(_@NAME@_candidates "${before[0]/#\~/$HOME}" "$word")
     # behind a single text that goes on comes no space; readline leaves its quotation marks open only where there are two texts
     if [[ ${#COMPREPLY[@]} == 1 && $REPLY == *[\ :/] ]]; then
         compopt -o nospace 2> /dev/null
@@ -77,4 +78,4 @@ _buildozer() {
     fi
 }
 
-complete -F _buildozer buildozer
+complete -F _@NAME@ @NAME@

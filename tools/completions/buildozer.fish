@@ -1,9 +1,9 @@
-# Completion of buildozer's words in fish. Made by tools/completions.py from docs/.
+# Completion of @NAME@'s words in fish. Made by tools/completions.py from @PAGE@.
 
 set -g __buildozer_script '@CANDIDATES@'
 
 # The word at the cursor without quotation marks, of which the last one may be open.
-function __buildozer_operand
+function __@NAME@_operand
     set -l token (commandline -ct)
     for closing in '' "'" '"'
         string unescape -- "$token$closing" 2> /dev/null
@@ -13,9 +13,9 @@ function __buildozer_operand
 end
 
 # Behind a single text that goes on fish would close its quotation marks, so there a second one is shown.
-function __buildozer_operands
+function __@NAME@_operands
     set -l program (string replace -r '^~' $HOME -- (commandline -opc)[1])
-    set -l texts (sh -c "$__buildozer_script" sh $program (__buildozer_operand))
+    set -l texts (sh -c "$__buildozer_script" sh $program (__@NAME@_operand))
     if test (count $texts) = 1; and string match -qr '[ :/]\t' -- $texts
         set -a texts (string replace \t ..\t -- $texts)
     end
@@ -23,10 +23,10 @@ function __buildozer_operands
 end
 
 # Beside -f there are no operands.
-function __buildozer_has_file
+function __@NAME@_has_file
     contains -- -f (commandline -opc)
 end
 
-complete -c buildozer -f
-complete -c buildozer -n 'not __buildozer_has_file' -a '(__buildozer_operands)'
+complete -c @NAME@ -f
+complete -c @NAME@ -n 'not __@NAME@_has_file' -a '(__@NAME@_operands)'
 @OPTIONS@

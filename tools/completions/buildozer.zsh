@@ -1,18 +1,18 @@
-#compdef buildozer
-# Completion of buildozer's words in zsh. Made by tools/completions.py from docs/.
+#compdef @NAME@
+# Completion of @NAME@'s words in zsh. Made by tools/completions.py from @PAGE@.
 
-_buildozer_candidates() {
+_@NAME@_candidates() {
     sh -s -- "$@" << 'END'
 @CANDIDATES@
 END
 }
 
 # The texts that go on, behind which no space comes, apart from the others, each with what it is.
-_buildozer_operand() {
+_@NAME@_operand() {
     local line text told operand=$PREFIX program=${(Q)words[1]}
     local -a going going_told whole whole_told
     [[ -z ${compstate[quote]} ]] && operand=${(Q)PREFIX}
-    for line in "${(@f)$(_buildozer_candidates "${program/#\~/$HOME}" "$operand")}"; do
+    for line in "${(@f)$(_@NAME@_candidates "${program/#\~/$HOME}" "$operand")}"; do
         text=${line%%$'\t'*} told=${line#*$'\t'}
         [[ -n $text ]] || continue
         told=$text${told:+  -- $told}
@@ -29,4 +29,4 @@ _buildozer_operand() {
 
 _arguments -S \
 @OPTIONS@
-    '(-f)*:operand:_buildozer_operand'
+    '(-f)*:operand:_@NAME@_operand'
