@@ -10,7 +10,6 @@ import hashlib
 import os
 import pathlib
 import re
-import shlex
 import shutil
 import subprocess
 import sys
@@ -29,6 +28,8 @@ FILES = {f"bin/{program}": 0o755 for program in PROGRAMS + TREES} | {file.format
 FILES |= dict.fromkeys(MODULES, 0o644)
 ODD, EVEN = b'f(name="x")\n', b'f(name = "x")\n'
 SECONDS = 600
+# how many packages the tree has that is formatted by what an archive has
+PACKAGES = 3_000
 # the version of glibc with which the programs run, and every later one
 LIBRARY = (2, 34)
 # the file of the crates that has the version
@@ -134,18 +135,27 @@ def not_built(copy):
     return wrong + ["it ends well"] * (status == 0) + different("files", copy.installed(), {})
 
 
-def unpacked(copy, archive):
-    """What comes of README.md's command for an archive, in another folder than the home of who runs it."""
-    command = re.search(r"(?m)^ {4}(tar .*)$", (copy.top / "README.md").read_text())[1]
-    folder = copy.root / "unpacked"
-    folder.mkdir(parents=True)
-    words = command.replace("kinduzar-VERSION-x86_64-linux.tar.gz", shlex.quote(str(archive))).replace('"$HOME/.local"', shlex.quote(str(folder)))
-    return copy.run("sh", "-c", words)
+def typed_in(copy, archive):
+    """What README.md's three lines for an archive print, with a home in which nothing is, where the archive and a tree of odd texts are."""
+    home, here = copy.root / "home", copy.path / "here"
+    home.mkdir(parents=True)
+    here.mkdir()
+    tree = here / "path/to/repository"
+    for number in range(PACKAGES):
+        package = tree / f"p{number % 50}/q{number}"
+        package.mkdir(parents=True)
+        (package / "BUILD").write_bytes(ODD)
+    shutil.copy(archive, here)
+    lines = re.search(r"(?m)^ {4}tar .*\n(?: {4}.*\n)+", (copy.top / "README.md").read_text())[0].replace("VERSION", copy.version())
+    environment = {"HOME": str(home), "PATH": "/usr/local/bin:/usr/bin:/bin"}
+    run = subprocess.run(["sh", "-ec", lines], cwd=here, env=environment, capture_output=True, text=True, timeout=SECONDS)
+    texts = {file.read_bytes() for file in tree.rglob("BUILD")}
+    return run.returncode, run.stdout, run.stderr, texts
 
 
 def packed(copy):
     """The archive has the same files, the pages and contrib/, every link of a page leads to one of these, its sum is written beside it, and
-    what README.md's command unpacks runs; a second one is the same. In place of the larger program is a short text."""
+    what README.md's lines make of it formats a tree; a second one is the same. In place of the larger program is a short text."""
     (copy.top / "bin/buildozer").write_text("#!/bin/sh\n")
     status, told = copy.make("dist")
     archive = copy.top / told.strip()
@@ -161,14 +171,8 @@ def packed(copy):
     linked = [links_of(copy.top / file) for file in copy.pages() if file.endswith(".md")]
     lost = {os.path.relpath(to, copy.top.resolve()) for to in set().union(*linked)} - {*copy.pages(), *FILES}
     wrong += [f"a page links to {file}, which is not packed" for file in sorted(lost)]
-    wrong += different("unpacking", unpacked(copy, archive), (0, ""))
-    wrong += different("unpacked files", copy.installed("unpacked"), FILES)
-    run = subprocess.run([copy.root / "unpacked/bin/buildifier"], input=ODD, stdout=subprocess.PIPE, timeout=SECONDS)
-    wrong += different("what it writes", run.stdout, EVEN)
-    (copy.path / "tree/a").mkdir(parents=True)
-    (copy.path / "tree/a/BUILD").write_bytes(ODD)
-    wrong += different("a tree", copy.run(str(copy.root / "unpacked/bin/buildifier-tree"), str(copy.path / "tree")), (0, "1 file reformatted\n"))
-    wrong += different("its file", (copy.path / "tree/a/BUILD").read_bytes(), EVEN)
+    wrong += different("typed in", typed_in(copy, archive), (0, "", f"{PACKAGES:,} files reformatted\n", {EVEN}))
+    wrong += different("unpacked files", copy.installed("home/.local"), FILES)
     shutil.rmtree(copy.top / "share")
     archive.unlink()
     copy.make("dist")

@@ -49,6 +49,7 @@ import races
 import readme
 import sessions
 import torn
+import tree
 import workspace
 
 TOP = pathlib.Path(__file__).resolve().parent.parent
@@ -71,6 +72,7 @@ SCRIPTS = [
     ("runs over packages", workspace, ["buildozer"]),
     ("examples of the pages", readme, ["buildozer", "buildifier"]),
     ("what contrib has", contrib, ["buildozer", "buildifier"]),
+    ("commands for whole trees", tree, ["buildozer", "buildifier"]),
     ("pages for man", manual, []),
     ("public names", names, []),
     ("completions in shells", completions, ["buildozer"]),
