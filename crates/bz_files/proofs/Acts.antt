@@ -1,118 +1,152 @@
 -- How the calls that replace a file follow one another.
-use Rattle.std.proofs.Common.{◌≡◌, ◌∙◌, ◌≤◌, inl, inr, ℕ, List, Result, Some, Ok, Err, OnOk, sym, ap, subst}
+use Rattle.std.proofs.Common.{◌≡◌, ◌∙◌, ◌≤◌, ◌++◌, ◌∷◌, [], ℕ, List, Result, Some, true, Ok, Err, OnOk, sym, subst, refl}
+use Rattle.std.proofs.lemmas.Bool.{false≢true}
+use Rattle.std.proofs.lemmas.Result.{on_ok_weaker}
 use Rattle.std.specs.FinMap.{get}
-use Rattle.bz_files.specs.Folder.{Folder, Text, SameBut, IsReplacing, new_name, with_file}
-use Rattle.bz_files.specs.Pair.{IsChecking, IsRewriting}
-use Rattle.bz_files.specs.declared.files.Files.{Ghosts as FilesOf}
+use Rattle.bz_files.specs.Acts.{Counted, GoesThrough}
 use Rattle.bz_files.specs.Faults.{Rises}
+use Rattle.bz_files.specs.Folder.{Folder, Text, IsUntouched, SameBeside}
+use Rattle.bz_files.specs.Pair.{PutsFiles, PutsNewest, RewritesHeld}
 use Rattle.bz_files.specs.declared.files.FileFault.{FileFault}
-use Rattle.bz_files.specs.private.Acts.{Passes, Counted}
+use Rattle.bz_files.specs.declared.files.Files.{Ghosts as FilesOf}
 use Rattle.bz_files.proofs.Elapsing.{weakened, elapsed_on, each_since}
-use Rattle.bz_files.proofs.Keeping.{same_with_file}
 
-abbrev pub Beside : Text → Text → Type 0
-Beside name other = other ≡ new_name name
-
--- ---- folders
-
-pub is_same : (aside : Text → Type 0) (a b : Folder) → b ≡ a → SameBut aside a b
-is_same aside a b is = λ other seen. ap (λ (f : Folder). get f other) is
-
-pub then_same : (aside : Text → Type 0) (a b c : Folder) → SameBut aside a b → SameBut aside b c → SameBut aside a c
-then_same aside a b c one two = λ other seen. two other seen ∙ one other seen
-
--- a file that is replaced in a folder that is the same
-pub replacing : (name : Text) (bytes : List ℕ) (old mid now : Folder) → SameBut (Beside name) old mid → IsReplacing name bytes mid now
-    → IsReplacing name bytes old now
-replacing name bytes old mid now before (inl same) = inl (then_same (Beside name) old mid now before same)
-replacing name bytes old mid now before (inr same) =
-    inr (then_same (Beside name) (with_file old name bytes) (with_file mid name bytes) now (same_with_file (Beside name) old mid name bytes before) same)
-
-pub replaced_after : (name : Text) (bytes : List ℕ) (old mid now : Folder) → SameBut (Beside name) old mid
-    → SameBut (Beside name) (with_file mid name bytes) now → SameBut (Beside name) (with_file old name bytes) now
-replaced_after name bytes old mid now before same =
-    then_same (Beside name) (with_file old name bytes) (with_file mid name bytes) now (same_with_file (Beside name) old mid name bytes before) same
-
--- a file that is given bytes where it holds what it is to hold
-pub rewriting_replaces : (held name : Text) (bytes : List ℕ) (old now : Folder) → IsRewriting held name bytes old now → IsReplacing name bytes old now
-rewriting_replaces held name bytes old now (inl same) = inl (is_same (Beside name) old now same)
-rewriting_replaces held name bytes old now (inr (there, is)) = is
-
-pub not_rewritten : (held name : Text) (bytes : List ℕ) (old now : Folder) → (get old name ≡ Some held → ⊥) → IsRewriting held name bytes old now → now ≡ old
-not_rewritten held name bytes old now other (inl same) = same
-not_rewritten held name bytes old now other (inr (there, is)) = absurd (other there)
-
-pub not_checked : (held journal : Text) (stored : List ℕ) (file : Text) (text : List ℕ) (old now : Folder) → (get old file ≡ Some held → ⊥)
-    → IsChecking held journal stored file text old now → now ≡ old
-not_checked held journal stored file text old now other (inl same) = same
-not_checked held journal stored file text old now other (inr (there, is)) = absurd (other there)
-
--- ---- moments
-
-module _ {F : Type 0} (files : FilesOf F) where
-  pub both_pass : (a b c : F) (P Q R : Folder → Type 0) → ((now : Folder) → P now → R now) → ((now : Folder) → Q now → R now)
-      → Passes files P a b → Passes files Q b c → Passes files R a c
-  both_pass a b c P Q R first second one two =
-      elapsed_on (files.moment a) (files.moment b) (files.moment c) (files.since a) (files.since b) (files.since c) R Q second
-      (weakened (files.moment a) (files.moment b) (files.since a) (files.since b) P R first one) two
-
-  pub passes_weaker : (a b : F) (P R : Folder → Type 0) → ((now : Folder) → P now → R now) → Passes files P a b → Passes files R a b
-  passes_weaker a b P R weaker one = weakened (files.moment a) (files.moment b) (files.since a) (files.since b) P R weaker one
-
-  -- a look that changes nothing, and what follows it
-  pub looked_then : (a b c : F) (R : Folder → Folder → Type 0) → ((old now : Folder) → now ≡ old → R old now) → files.folder b ≡ files.folder a
-      → Passes files (λ now. now ≡ files.folder a) a b → Passes files (R (files.folder b)) b c → Passes files (R (files.folder a)) a c
-  looked_then a b c R start same one two =
-      both_pass a b c (λ now. now ≡ files.folder a) (R (files.folder b)) (R (files.folder a)) (start (files.folder a))
-      (λ now is. subst (λ (f : Folder). R f now) same is) one two
-
-  -- a new file that was made, and what follows it
-  pub made_then : (a b c : F) (name : Text) (bytes : List ℕ) → SameBut (Beside name) (files.folder a) (files.folder b)
-      → Passes files (SameBut (Beside name) (files.folder a)) a b → Passes files (IsReplacing name bytes (files.folder b)) b c
-      → Passes files (IsReplacing name bytes (files.folder a)) a c
-  made_then a b c name bytes made one two =
-      both_pass a b c (SameBut (Beside name) (files.folder a)) (IsReplacing name bytes (files.folder b)) (IsReplacing name bytes (files.folder a))
-      (λ now same. inl same) (λ now is. replacing name bytes (files.folder a) (files.folder b) now made is) one two
-
-  -- a flush after what was done
-  pub flushed_after : (a b c : F) (P : Folder → Type 0) → P (files.folder b) → Passes files P a b → Passes files (λ now. now ≡ files.folder b) b c → Passes files P a c
-  flushed_after a b c P done one two = both_pass a b c P (λ now. now ≡ files.folder b) P (λ now is. is) (λ now is. subst P (sym is) done) one two
-
-  -- what holds of each folder since the beginning
-  module _ (only : (held : F) (now : Folder) → files.since held (files.moment held) now → now ≡ files.folder held)
-      (counts : (held : F) (t : ℕ) → t ≤ files.moment held → files.since held t (files.folder held)) where
-    pub each_passes : (a b : F) (P : Folder → Type 0) → P (files.folder a) → Passes files P a b → (now : Folder) → files.since b (files.moment a) now → P now
-    each_passes a b P start passes now stood =
-        each_since (files.moment a) (files.moment b) (files.since a) (files.since b) P passes
-        (λ then is. subst P (sym (only a then is)) start) now stood
-
-    pub last_passes : (a b : F) (P : Folder → Type 0) → P (files.folder a) → Passes files P a b → P (files.folder b)
-    last_passes a b P start passes = each_passes a b P start passes (files.folder b) (counts b (files.moment a) passes.later)
-
--- ---- results
+abbrev pub Step : Type 1
+Step = Folder → Folder → Type 0
 
 pub on_ok_all : {A E : Type 0} (r : Result A E) (P : Type 0) → P → OnOk r P
 on_ok_all (Ok a) P p = p
 on_ok_all (Err e) P p = tt
 
--- What is counted by the last of several calls, of which no other failed.
-pub counted_on : {F : Type 0} (files : FilesOf F) (result : Result (Unit {0}) FileFault) (a b c : F) → files.faults b ≡ files.faults a
-    → files.honest b ≡ files.honest a → Counted files result b c → Counted files result a c
-counted_on files result a b c same honest later = record {
-  kinds = later.kinds;
-  cause = λ err. subst (λ n. Rises n (files.faults c)) same (later.cause err);
-  kept = λ ok. later.kept ok ∙ same;
-  count = subst (λ n. n ≤ files.faults c) same later.count;
-  honest = later.honest ∙ honest;
-}
+module _ {F : Type 0} (files : FilesOf F) where
+  abbrev pub Do : Step → Step → F → F → Type 0
+  Do P Q old new = GoesThrough files.folder files.moment files.since P Q old new
 
--- Nothing is counted of what comes after.
-pub counted_before : {F : Type 0} (files : FilesOf F) (result : Result (Unit {0}) FileFault) (a b c : F) → files.faults c ≡ files.faults b
-    → files.honest c ≡ files.honest b → Counted files result a b → Counted files result a c
-counted_before files result a b c same honest first = record {
-  kinds = first.kinds;
-  cause = λ err. subst (λ n. Rises (files.faults a) n) (sym same) (first.cause err);
-  kept = λ ok. same ∙ first.kept ok;
-  count = subst (λ n. files.faults a ≤ n) (sym same) first.count;
-  honest = honest ∙ first.honest;
-}
+  abbrev pub Ended : {T : Type 0} → Result T FileFault → F → F → Type 0
+  Ended result old new = Counted files.faults files.honest result old new
+
+  -- one call after another
+  pub after : (a b c : F) (P0 Q0 P1 Q1 P Q : Step) → ((now : Folder) → P0 (files.folder a) now → P (files.folder a) now)
+      → ((now : Folder) → P1 (files.folder b) now → P (files.folder a) now) → (Q1 (files.folder b) (files.folder c) → Q (files.folder a) (files.folder c))
+      → Do P0 Q0 a b → Do P1 Q1 b c → Do P Q a c
+  after a b c P0 Q0 P1 Q1 P Q early late done one two = record {
+    time = elapsed_on (files.moment a) (files.moment b) (files.moment c) (files.since a) (files.since b) (files.since c) (P (files.folder a)) (P1 (files.folder b)) late
+        (weakened (files.moment a) (files.moment b) (files.since a) (files.since b) (P0 (files.folder a)) (P (files.folder a)) early one.time) two.time;
+    done = done two.done;
+  }
+
+  -- a call that leaves the folder as it is, and another
+  pub after_look : (a b c : F) (P1 Q1 P Q : Step) → ((now : Folder) → now ≡ files.folder a → P (files.folder a) now)
+      → ((now : Folder) → P1 (files.folder a) now → P (files.folder a) now) → (Q1 (files.folder a) (files.folder c) → Q (files.folder a) (files.folder c))
+      → Do IsUntouched IsUntouched a b → Do P1 Q1 b c → Do P Q a c
+  after_look a b c P1 Q1 P Q early late done one two = after a b c IsUntouched IsUntouched P1 Q1 P Q early
+      (λ now is. late now (subst (λ (f : Folder). P1 f now) one.done is))
+      (λ is. done (subst (λ (f : Folder). Q1 f (files.folder c)) one.done is)) one two
+
+  -- and the other way around
+  pub before_flush : (a b c : F) (P Q : Step) (r : Result (Unit {0}) FileFault) → (Q (files.folder a) (files.folder b) → P (files.folder a) (files.folder b))
+      → Do P Q a b → Do IsUntouched IsUntouched b c → Do P (λ was now. OnOk r (Q was now)) a c
+  before_flush a b c P Q r reached one two = after a b c P Q IsUntouched IsUntouched P (λ was now. OnOk r (Q was now)) (λ now is. is)
+      (λ now is. subst (P (files.folder a)) (sym is) (reached one.done))
+      (λ is. on_ok_all r (Q (files.folder a) (files.folder c)) (subst (Q (files.folder a)) (sym is) one.done)) one two
+
+  -- a call that failed, by what its moments are
+  pub failed_as : (a b : F) (P0 Q0 P Q : Step) → ((now : Folder) → P0 (files.folder a) now → P (files.folder a) now) → Q (files.folder a) (files.folder b)
+      → Do P0 Q0 a b → Do P Q a b
+  failed_as a b P0 Q0 P Q weaker done one = record {
+    time = weakened (files.moment a) (files.moment b) (files.since a) (files.since b) (P0 (files.folder a)) (P (files.folder a)) weaker one.time;
+    done = done;
+  }
+
+  -- ---- what is counted: by the last of several calls, of which no other failed, or by one that failed before others that count nothing
+
+  pub counted_on : {T : Type 0} (r : Result T FileFault) (a b c : F) → files.faults b ≡ files.faults a → files.honest b ≡ files.honest a
+      → Ended r b c → Ended r a c
+  counted_on r a b c same honest later = record {
+    kinds = later.kinds;
+    cause = λ err. subst (λ n. Rises n (files.faults c)) same (later.cause err);
+    kept = λ ok. later.kept ok ∙ same;
+    count = subst (λ n. n ≤ files.faults c) same later.count;
+    honest = later.honest ∙ honest;
+  }
+
+  pub counted_before : {T T' : Type 0} (fault : FileFault) (a b c : F) → files.faults c ≡ files.faults b → files.honest c ≡ files.honest b
+      → Ended {T = T} (Err fault) a b → Ended {T = T'} (Err fault) a c
+  counted_before fault a b c same honest first = record {
+    kinds = first.kinds;
+    cause = λ _. subst (λ n. Rises (files.faults a) n) (sym same) (first.cause refl);
+    kept = λ ok. absurd (false≢true ok);
+    count = subst (λ n. files.faults a ≤ n) (sym same) first.count;
+    honest = honest ∙ first.honest;
+  }
+
+  -- ---- a new file that was made takes its place, or could not be made
+
+  module _ (name : Text) (bytes : List ℕ) (P Q : Step) (early : (old now : Folder) → SameBeside name old now → P old now) where
+    pub placed_after : (P1 Q1 : Text → List ℕ → Step) (r : Result (Unit {0}) FileFault) (a b c : F)
+        → ((old mid now : Folder) → SameBeside name old mid → P1 name bytes mid now → P old now)
+        → ((old mid now : Folder) → SameBeside name old mid → Q1 name bytes mid now → Q old now)
+        → (files.honest a ≡ true → Do (SameBeside name) (SameBeside name) a b)
+        → (files.honest a ≡ true → files.waiting b ≡ files.waiting a ++ (name, bytes) ∷ [])
+        → files.faults b ≡ files.faults a → files.honest b ≡ files.honest a → PutsNewest files P1 Q1 r b c → PutsFiles files P Q r a c
+    placed_after P1 Q1 r a b c late done makes made faults honest placed = record {
+      goes = λ is. let one = makes is in after a b c (SameBeside name) (SameBeside name) (P1 name bytes) (λ was now. OnOk r (Q1 name bytes was now))
+          P (λ was now. OnOk r (Q was now)) (early (files.folder a)) (λ now. late (files.folder a) (files.folder b) now one.done)
+          (on_ok_weaker r (done (files.folder a) (files.folder b) (files.folder c) one.done)) one
+          (placed.goes (honest ∙ is) (files.waiting a) name bytes (made is));
+      waiting = λ is. placed.waiting (honest ∙ is) (files.waiting a) name bytes (made is);
+      counted = counted_on r a b c faults honest placed.counted;
+    }
+
+    pub not_made : (fault : FileFault) (a b : F) → (files.honest a ≡ true → Do (SameBeside name) (SameBeside name) a b)
+        → (files.honest a ≡ true → files.waiting b ≡ files.waiting a) → Ended {T = Unit {0}} (Err fault) a b → PutsFiles files P Q (Err fault) a b
+    not_made fault a b makes unmade counted = record {
+      goes = λ is. failed_as a b (SameBeside name) (SameBeside name) P (λ _ _. Unit {0}) (early (files.folder a)) tt (makes is);
+      waiting = unmade;
+      counted = counted;
+    }
+
+  -- ---- what holds of each folder since the beginning, by the laws of the trait
+
+  module _ (only : (held : F) (now : Folder) → files.since held (files.moment held) now → now ≡ files.folder held)
+      (counts : (held : F) (t : ℕ) → t ≤ files.moment held → files.since held t (files.folder held)) where
+    pub each : (a b : F) (P Q : Step) → P (files.folder a) (files.folder a) → Do P Q a b → (now : Folder) → files.since b (files.moment a) now → P (files.folder a) now
+    each a b P Q start goes now stood = each_since (files.moment a) (files.moment b) (files.since a) (files.since b) (P (files.folder a)) goes.time
+        (λ was is. subst (P (files.folder a)) (sym (only a was is)) start) now stood
+
+    pub last : (a b : F) (P Q : Step) → P (files.folder a) (files.folder a) → Do P Q a b → P (files.folder a) (files.folder b)
+    last a b P Q start goes = each a b P Q start goes (files.folder b) (counts b (files.moment a) goes.time.later)
+
+    -- files that are replaced after a look
+    module _ (file standing : Text) (P Q : Step) (start : (old now : Folder) → now ≡ old → P old now) where
+      pub rewritten : (P1 : Step) (r : Result (Unit {0}) FileFault) (a b c : F) → ((old now : Folder) → get old file ≡ Some standing → P1 old now → P old now)
+          → (files.honest a ≡ true → get (files.folder a) file ≡ Some standing) → (files.honest a ≡ true → Do IsUntouched IsUntouched a b)
+          → (files.honest a ≡ true → files.waiting b ≡ files.waiting a) → files.faults b ≡ files.faults a → files.honest b ≡ files.honest a
+          → PutsFiles files P1 Q r b c → RewritesHeld files file standing P Q r a c
+      rewritten P1 r a b c weaker held looks waiting faults honest acts =
+          let goes : files.honest a ≡ true → Do P (λ was now. OnOk r (Q was now)) a c = λ is.
+          after_look a b c P1 (λ was now. OnOk r (Q was now)) P (λ was now. OnOk r (Q was now)) (start (files.folder a))
+          (λ now. weaker (files.folder a) now (held is)) (λ ok. ok) (looks is) (acts.goes (honest ∙ is)) in
+          record {
+            held = λ is. on_ok_all r (get (files.folder a) file ≡ Some standing) (held is);
+            replaced = λ is. (goes is).done;
+            untouched = λ is other. absurd (other (held is));
+            apart = λ is other. absurd (other (held is));
+            either = λ is. last a c P (λ was now. OnOk r (Q was now)) (start (files.folder a) (files.folder a) refl) (goes is);
+            time = λ is. (goes is).time;
+            waiting = λ is. acts.waiting (honest ∙ is) ∙ waiting is;
+            counted = counted_on r a b c faults honest acts.counted;
+          }
+
+      pub not_rewritten : {T : Type 0} (fault : FileFault) (a b : F) → (files.honest a ≡ true → Do IsUntouched IsUntouched a b)
+          → (files.honest a ≡ true → files.waiting b ≡ files.waiting a) → Ended {T = T} (Err fault) a b → RewritesHeld files file standing P Q (Err fault) a b
+      not_rewritten fault a b looks waiting counted = record {
+        held = λ _. tt;
+        replaced = λ _. tt;
+        untouched = λ is _. (looks is).done;
+        apart = λ is _. each a b IsUntouched IsUntouched refl (looks is);
+        either = λ is. start (files.folder a) (files.folder b) (looks is).done;
+        time = λ is. (failed_as a b IsUntouched IsUntouched P (λ _ _. Unit {0}) (start (files.folder a)) tt (looks is)).time;
+        waiting = waiting;
+        counted = counted_before fault a b b refl refl counted;
+      }

@@ -12,19 +12,17 @@ all_added most bytes start items is short =
     let len : length items ≡ length start + length (take most bytes) = ap length is ∙ length-append start (take most bytes) in
     is ∙ ap (λ (front : List ℕ). start ++ front) (all_taken most bytes (omega (arith, len, short)))
 
--- what was read after nothing
-pub front_read : (most : ℕ) (bytes start items read : List ℕ) → items ≡ start ++ take most bytes → start ≡ [] → read ≡ items → read ≡ take most bytes
-front_read most bytes start items read is empty same = same ∙ is ∙ ap (λ (s : List ℕ). s ++ take most bytes) empty
-
--- ---- a front one longer than a list shows whether this is the list
-
-pub is_list : (held bytes : List ℕ) → take (length held + 1) bytes ≡ held → bytes ≡ held
-is_list held bytes front =
-    let short : length (take (length held + 1) bytes) < length held + 1 = omega (arith, ap length front) in
-    sym (all_taken (length held + 1) bytes short) ∙ front
-
-pub front_is : (held bytes : List ℕ) → bytes ≡ held → take (length held + 1) bytes ≡ held
-front_is held bytes same = take_all (length held + 1) bytes (omega (arith, ap length same)) ∙ same
+-- what was read after nothing, up to one byte more than a list has, shows whether the bytes are that list
+pub shows : (held bytes start items read : List ℕ) → items ≡ start ++ take (length held + 1) bytes → start ≡ [] → read ≡ items
+    → (read ≡ held → bytes ≡ held) × (bytes ≡ held → read ≡ held)
+shows held bytes start items read is empty same = (
+  (λ equal. let front : take (length held + 1) bytes ≡ held = sym front_read ∙ equal in
+      sym (all_taken (length held + 1) bytes (omega (arith, ap length front))) ∙ front),
+  λ equal. front_read ∙ take_all (length held + 1) bytes (omega (arith, ap length equal)) ∙ equal,
+)
+  where
+    front_read : read ≡ take (length held + 1) bytes
+    front_read = same ∙ is ∙ ap (λ (s : List ℕ). s ++ take (length held + 1) bytes) empty
 
 -- a test of what is made of the items
 pub any_map : {A B : Type 0} (f : A → B) (test : B → Bool) (xs : List A) → list_any test (map f xs) ≡ list_any (λ x. test (f x)) xs

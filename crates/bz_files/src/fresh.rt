@@ -3,7 +3,7 @@ ghost use Rattle.std.specs.Prelude.{◌≡◌, IfOk, string_bytes};
 ghost use Rattle.bz_files.specs.Folder.{new_name};
 
 use crate::flushing::flush_file;
-use crate::rights::{Rights, common, rights_at};
+use crate::rights::{Rights, rights_at};
 use std::alloc::{AllocError, Global};
 use std::fs::{File, Metadata, OpenOptions, TryLockError};
 use std::io::{ErrorKind, Write};
@@ -30,11 +30,6 @@ fn new_name(alloc: Global, name: &str) -> Result<String, AllocError>
     format!(in alloc; "{name}.bznew")
 }
 
-// Whether it is one file, under whatever names.
-fn is_same(one: &Metadata, other: &Metadata) -> bool {
-    one.dev() == other.dev() && one.ino() == other.ino()
-}
-
 // Whether it is this file that has the name.
 fn has_name<R: std::rt::Files<File = File>>(
     system: &R,
@@ -42,7 +37,7 @@ fn has_name<R: std::rt::Files<File = File>>(
     file: &Metadata,
 ) -> io::Result<bool> {
     match fs::symlink_metadata(system, name) {
-        Ok(named) => Ok(is_same(file, &named)),
+        Ok(named) => Ok(file.dev() == named.dev() && file.ino() == named.ino()),
         Err(error) if error.kind() == ErrorKind::NotFound => Ok(false),
         Err(error) => Err(error),
     }
@@ -140,7 +135,7 @@ fn fill<R: std::rt::Files<File = File>>(
     rights: Rights,
 ) -> io::Result<Metadata> {
     file.write_all(bytes)?;
-    common(rights, rights_at(system, name)?).give(file)?;
+    rights.within(rights_at(system, name)?).give(file)?;
     flush_file(file)?;
     file.metadata()
 }

@@ -310,7 +310,7 @@ impl Files for MemoryFiles {
             return Err(self.failed(FileFault::Write));
         }
         self.looked = true;
-        Ok(FileStamp::in_memory())
+        Ok(FileStamp::default())
     }
 
     fn create(&mut self, name: &str, bytes: &[u8], _seen: FileStamp) -> Result<(), FileFault> {

@@ -8,9 +8,12 @@ use std::fs::File;
 use std::io::{ErrorKind, Read};
 use std::{fs, io};
 
-// Opens a file, if it is a regular one. A pipe or a device isn't opened, since that may wait, or do something: so it is looked at
-// before. One that takes the name in between is opened, since no call opens without waiting; it is looked at again, and not read.
-fn open_regular<R: std::rt::Files<File = File>>(system: &R, name: &str) -> io::Result<File> {
+/// Opens a file, if it is a regular one. A pipe or a device isn't opened, since that may wait, or do something: so it is looked at
+/// before. One that takes the name in between is opened, since no call opens without waiting; it is looked at again, and not read.
+pub(crate) fn open_regular<R: std::rt::Files<File = File>>(
+    system: &R,
+    name: &str,
+) -> io::Result<File> {
     if fs::metadata(system, name)?.is_file() {
         let file = fs::open(system, name)?;
         if file.metadata()?.is_file() {
@@ -47,8 +50,12 @@ fn read_into<F: Read + Drop>(file: F, most: usize, into: &mut Vec<u8>) -> Result
     }
 }
 
-// Adds the first bytes of what was opened: all, or `most` of them where it has more.
-fn read_opened(opened: io::Result<File>, most: usize, into: &mut Vec<u8>) -> Result<(), FileFault>
+/// Adds the first bytes of what was opened: all, or `most` of them where it has more.
+pub(crate) fn read_opened(
+    opened: io::Result<File>,
+    most: usize,
+    into: &mut Vec<u8>,
+) -> Result<(), FileFault>
     ensures ok { OnOk result (StartsWith into.new.items into.old.items) }
     ensures err { OnErr result (into.new.items ≡ into.old.items) }
     ensures kinds { IfErr result (λ fault. fault ≢ FileFault.Write) }
@@ -58,38 +65,6 @@ fn read_opened(opened: io::Result<File>, most: usize, into: &mut Vec<u8>) -> Res
         Err(error) if error.kind() == ErrorKind::NotFound => Err(FileFault::Absent),
         Err(error) => Err(fault_of(&error)),
     }
-}
-
-/// Adds the first bytes of a regular file: all, or `most` of them where it has more.
-pub(crate) fn read_regular<R: std::rt::Files<File = File>>(
-    system: &R,
-    name: &str,
-    most: usize,
-    into: &mut Vec<u8>,
-) -> Result<(), FileFault>
-    ensures ok { OnOk result (StartsWith into.new.items into.old.items) }
-    ensures err { OnErr result (into.new.items ≡ into.old.items) }
-    ensures kinds { IfErr result (λ fault. fault ≢ FileFault.Write) }
-{
-    read_opened(open_regular(system, name), most, into)
-}
-
-/// Adds the bytes of what has a name, whatever it is.
-pub(crate) fn read_anything<R: std::rt::Files<File = File>>(
-    system: &R,
-    name: &str,
-    into: &mut Vec<u8>,
-) -> Result<(), FileFault>
-    ensures ok { OnOk result (StartsWith into.new.items into.old.items) }
-    ensures err { OnErr result (into.new.items ≡ into.old.items) }
-    ensures kinds { IfErr result (λ fault. fault ≢ FileFault.Write) }
-{
-    read_opened(fs::open(system, name), usize::MAX, into)
-}
-
-// A file isn't what it was to be.
-fn changed() -> io::Error {
-    io::Error::from(ErrorKind::InvalidData)
 }
 
 /// Sees that a regular file holds these bytes, and that it is not touched meanwhile; of a longer one no more is read than the byte that shows
@@ -109,6 +84,6 @@ pub(crate) fn look_at<R: std::rt::Files<File = File>>(
     if bytes.as_slice() == held && seen == opened && seen == before.unwrap_or(seen) {
         Ok(seen)
     } else {
-        Err(changed())
+        Err(io::Error::from(ErrorKind::InvalidData))
     }
 }

@@ -1,19 +1,26 @@
 //! How files are replaced: one whole, or a journal and then its file, over the calls of `Files` alone.
-ghost use Rattle.std.specs.Prelude.{◌≡◌, ◌⊎◌, ◌≤◌, ◌++◌, ◌∷◌, [], ℕ, List, Some, true, IfErr, OnOk, OnErr, IsOk, IsErr};
+ghost use Rattle.std.specs.Prelude.{◌≡◌, Some, true, OnOk};
 ghost use Rattle.std.specs.FinMap.{get};
-ghost use Rattle.bz_files.specs.Folder.{Folder, Text, SameBut, new_name, with_file, IsReplacing, Elapses};
-ghost use Rattle.bz_files.specs.Faults.{Rises};
-ghost use Rattle.bz_files.specs.Pair.{IsNew, IsChecking, with_both};
-ghost use Rattle.bz_files.specs.private.Acts.{PlacesBoth, PlacesNewest, Puts, PutsBoth, Rewrites, RewritesBoth};
+ghost use Rattle.bz_files.specs.Folder.{IsReplaced, IsReplacing};
+ghost use Rattle.bz_files.specs.Pair.{PutsFiles, PutsNewest, AreReplaced, IsChecking, IsKeeping, RewritesHeld};
 
 use crate::{FileFault, FileStamp, Files};
 
-// The newest of the new files that wait takes the place of its file, where `file` is still as it was seen and holds these bytes. In any
+// A file that was looked at: its name, the bytes that it holds, and what else was seen of it.
+#[derive(Clone, Copy)]
+struct Seen<'a> {
+    file: &'a str,
+    held: &'a [u8],
+    stamp: FileStamp,
+}
+
+// The newest of the new files that wait takes the place of its file, where the file that was looked at is still as it was seen. In any
 // case it waits no more.
-fn place<F: Files>(files: &mut F, file: &str, held: &[u8], seen: FileStamp) -> Result<(), FileFault>
-    ensures { PlacesNewest F.Files file.now held.now result files.old files.new }
+fn place<F: Files>(files: &mut F, seen: Seen<'_>) -> Result<(), FileFault>
+    ensures there { F.honest files.old ≡ true → OnOk result (get (F.folder files.old) seen.entry.file.now ≡ Some seen.entry.held.now) }
+    ensures acts { PutsNewest F.Files IsReplacing IsReplaced result files.old files.new }
 {
-    match files.look(file, held, Some(seen)) {
+    match files.look(seen.file, seen.held, Some(seen.stamp)) {
         Ok(_) => files.take_place(),
         Err(fault) => {
             files.give_up();
@@ -22,74 +29,46 @@ fn place<F: Files>(files: &mut F, file: &str, held: &[u8], seen: FileStamp) -> R
     }
 }
 
-// Gives a journal its bytes, where its file is still as it was seen and holds these. What had taken its place in that folder before
-// lasts before the journal does, and the journal when this ends.
-fn place_journal<F: Files>(
+// Gives a file these bytes, where the one that was looked at, which may be the same, is still as it was seen.
+fn put<F: Files>(files: &mut F, name: &str, bytes: &[u8], seen: Seen<'_>) -> Result<(), FileFault>
+    ensures { PutsFiles F.Files (IsReplacing name.now bytes.now) (IsReplaced name.now bytes.now) result files.old files.new }
+{
+    match files.create(name, bytes, seen.stamp) {
+        Ok(()) => place(files, seen),
+        Err(fault) => Err(fault),
+    }
+}
+
+// Gives the journal of a file its bytes. What had taken its place in that folder before lasts before the journal does, and the journal
+// when this ends.
+fn put_journal<F: Files>(
     files: &mut F,
     journal: &str,
     stored: &[u8],
-    file: &str,
-    held: &[u8],
-    seen: FileStamp,
+    seen: Seen<'_>,
 ) -> Result<(), FileFault>
-    ensures { Puts F.Files journal.now stored.now result files.old files.new }
+    ensures { PutsFiles F.Files (IsReplacing journal.now stored.now) (IsReplaced journal.now stored.now) result files.old files.new }
 {
-    if let Err(fault) = files.flush(file) {
+    if let Err(fault) = files.flush(seen.file) {
         return Err(fault);
     }
-    if let Err(fault) = files.create(journal, stored, seen) {
+    if let Err(fault) = put(files, journal, stored, seen) {
         return Err(fault);
     }
-    if let Err(fault) = place(files, file, held, seen) {
-        return Err(fault);
-    }
-    files.flush(file)
+    files.flush(seen.file)
 }
 
-// Gives a file these bytes, where it is still as it was seen.
-fn put<F: Files>(
-    files: &mut F,
-    name: &str,
-    bytes: &[u8],
-    held: &[u8],
-    seen: FileStamp,
-) -> Result<(), FileFault>
-    ensures { Puts F.Files name.now bytes.now result files.old files.new }
-{
-    match files.create(name, bytes, seen) {
-        Ok(()) => place(files, name, held, seen),
-        Err(fault) => Err(fault),
-    }
-}
-
-// What `rewrite` does.
-fn rewrite_seen<F: Files>(
-    files: &mut F,
-    name: &str,
-    held: &[u8],
-    bytes: &[u8],
-) -> Result<(), FileFault>
-    ensures { Rewrites F.Files name.now held.now bytes.now result files.old files.new }
-{
-    match files.look(name, held, None) {
-        Ok(seen) => put(files, name, bytes, held, seen),
-        Err(fault) => Err(fault),
-    }
-}
-
-// Has the newest new file, which is this file's, take its place when the journal has its bytes.
+// Has the newest new file take its place when the journal has its bytes.
 fn place_both<F: Files>(
     files: &mut F,
     journal: &str,
     stored: &[u8],
-    file: &str,
-    held: &[u8],
-    seen: FileStamp,
+    seen: Seen<'_>,
 ) -> Result<(), FileFault>
-    ensures { PlacesBoth F.Files journal.now stored.now file.now result files.old files.new }
+    ensures { PutsNewest F.Files (IsKeeping journal.now stored.now) (AreReplaced journal.now stored.now) result files.old files.new }
 {
-    match place_journal(files, journal, stored, file, held, seen) {
-        Ok(()) => place(files, file, held, seen),
+    match put_journal(files, journal, stored, seen) {
+        Ok(()) => place(files, seen),
         Err(fault) => {
             files.give_up();
             Err(fault)
@@ -102,32 +81,14 @@ fn put_both<F: Files>(
     files: &mut F,
     journal: &str,
     stored: &[u8],
-    file: &str,
-    held: &[u8],
     text: &[u8],
-    seen: FileStamp,
+    seen: Seen<'_>,
 ) -> Result<(), FileFault>
-    ensures { PutsBoth F.Files journal.now stored.now file.now text.now result files.old files.new }
+    ensures { PutsFiles F.Files (IsKeeping journal.now stored.now seen.entry.file.now text.now) (AreReplaced journal.now stored.now seen.entry.file.now text.now)
+        result files.old files.new }
 {
-    match files.create(file, text, seen) {
-        Ok(()) => place_both(files, journal, stored, file, held, seen),
-        Err(fault) => Err(fault),
-    }
-}
-
-// What `rewrite_pair` does.
-fn rewrite_both<F: Files>(
-    files: &mut F,
-    journal: &str,
-    stored: &[u8],
-    file: &str,
-    held: &[u8],
-    text: &[u8],
-) -> Result<(), FileFault>
-    ensures { RewritesBoth F.Files journal.now stored.now file.now held.now text.now result files.old files.new }
-{
-    match files.look(file, held, None) {
-        Ok(seen) => put_both(files, journal, stored, file, held, text, seen),
+    match files.create(seen.file, text, seen.stamp) {
+        Ok(()) => place_both(files, journal, stored, seen),
         Err(fault) => Err(fault),
     }
 }
@@ -141,27 +102,15 @@ pub fn rewrite<F: Files>(
     held: &[u8],
     bytes: &[u8],
 ) -> Result<(), FileFault>
-    ensures held { F.honest files.old ≡ true → OnOk result (get (F.folder files.old) name.now ≡ Some held.now) }
-    ensures replaced { F.honest files.old ≡ true → OnOk result
-        (SameBut (λ other. other ≡ new_name name.now) (with_file (F.folder files.old) name.now bytes.now) (F.folder files.new)) }
-    ensures untouched { F.honest files.old ≡ true → (get (F.folder files.old) name.now ≡ Some held.now → ⊥) → F.folder files.new ≡ F.folder files.old }
-    ensures apart { F.honest files.old ≡ true → (get (F.folder files.old) name.now ≡ Some held.now → ⊥)
-        → (now : Folder) → F.since files.new (F.moment files.old) now → now ≡ F.folder files.old }
-    ensures either { F.honest files.old ≡ true → IsReplacing name.now bytes.now (F.folder files.old) (F.folder files.new) }
-    ensures time { F.honest files.old ≡ true → Elapses (F.moment files.old) (F.moment files.new) (F.since files.old) (F.since files.new)
-        (IsReplacing name.now bytes.now (F.folder files.old)) }
-    ensures kinds { IfErr result (λ fault. (fault ≡ FileFault.Write) ⊎ (fault ≡ FileFault.Memory)) }
-
-    // No new file is left waiting.
-    ensures waiting { F.honest files.old ≡ true → F.waiting files.new ≡ F.waiting files.old }
-
-    // Each failure is counted, and nothing else.
-    ensures cause { IsErr result → Rises (F.faults files.old) (F.faults files.new) }
-    ensures kept { IsOk result → F.faults files.new ≡ F.faults files.old }
-    ensures count { F.faults files.old ≤ F.faults files.new }
-    ensures honest { F.honest files.new ≡ F.honest files.old }
+    ensures { RewritesHeld F.Files name.now held.now (IsReplacing name.now bytes.now) (IsReplaced name.now bytes.now) result files.old files.new }
 {
-    rewrite_seen(files, name, held, bytes)
+    match files.look(name, held, None) {
+        Ok(stamp) => {
+            let file = name;
+            put(files, name, bytes, Seen { file, held, stamp })
+        }
+        Err(fault) => Err(fault),
+    }
 }
 
 /// Gives a journal the bytes `stored`, and then its file, which still holds `held`, the bytes `text`, each whole or not at
@@ -177,23 +126,11 @@ pub fn rewrite_pair<F: Files>(
     held: &[u8],
     text: &[u8],
 ) -> Result<(), FileFault>
-    ensures held { F.honest files.old ≡ true → OnOk result (get (F.folder files.old) file.now ≡ Some held.now) }
-    ensures replaced { F.honest files.old ≡ true → OnOk result
-        (SameBut (IsNew journal.now file.now) (with_both journal.now stored.now file.now text.now (F.folder files.old)) (F.folder files.new)) }
-    ensures apart { F.honest files.old ≡ true → (get (F.folder files.old) file.now ≡ Some held.now → ⊥)
-        → (now : Folder) → F.since files.new (F.moment files.old) now → now ≡ F.folder files.old }
-    ensures time { F.honest files.old ≡ true → Elapses (F.moment files.old) (F.moment files.new) (F.since files.old) (F.since files.new)
-        (IsChecking held.now journal.now stored.now file.now text.now (F.folder files.old)) }
-    ensures kinds { IfErr result (λ fault. (fault ≡ FileFault.Write) ⊎ (fault ≡ FileFault.Memory)) }
-
-    // No new file is left waiting.
-    ensures waiting { F.honest files.old ≡ true → F.waiting files.new ≡ F.waiting files.old }
-
-    // Each failure is counted, and nothing else.
-    ensures cause { IsErr result → Rises (F.faults files.old) (F.faults files.new) }
-    ensures kept { IsOk result → F.faults files.new ≡ F.faults files.old }
-    ensures count { F.faults files.old ≤ F.faults files.new }
-    ensures honest { F.honest files.new ≡ F.honest files.old }
+    ensures { RewritesHeld F.Files file.now held.now (IsChecking held.now journal.now stored.now file.now text.now)
+        (AreReplaced journal.now stored.now file.now text.now) result files.old files.new }
 {
-    rewrite_both(files, journal, stored, file, held, text)
+    match files.look(file, held, None) {
+        Ok(stamp) => put_both(files, journal, stored, text, Seen { file, held, stamp }),
+        Err(fault) => Err(fault),
+    }
 }

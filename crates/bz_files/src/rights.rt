@@ -5,7 +5,7 @@ use std::os::unix::fs::{MetadataExt, PermissionsExt, fchown};
 use std::{fs, io};
 
 /// Who owns a file, and what its owner, its group and others may do with it. The bits that give rights to who runs it are left out.
-#[derive(Clone, Copy, PartialEq, Eq)]
+#[derive(Clone, Copy, Default, PartialEq, Eq)]
 pub(crate) struct Rights {
     owner: u32,
     group: u32,
@@ -13,19 +13,18 @@ pub(crate) struct Rights {
 }
 
 impl Rights {
-    /// Nobody may do anything.
-    pub(crate) const NONE: Rights = Rights {
-        owner: 0,
-        group: 0,
-        bits: 0,
-    };
-
     pub(crate) fn of(metadata: &Metadata) -> Rights {
         Rights {
             owner: metadata.uid(),
             group: metadata.gid(),
             bits: metadata.mode() & 0o777,
         }
+    }
+
+    /// These rights, but for what another file, if there is one, doesn't let do.
+    pub(crate) fn within(self, other: Option<Rights>) -> Rights {
+        let bits = other.map_or(self.bits, |other| self.bits & other.bits);
+        Rights { bits, ..self }
     }
 
     // What may be done where the group is another one: nothing by that one, and what its members, who are among others then, may do
@@ -47,17 +46,6 @@ impl Rights {
             self.without_group()
         };
         file.set_permissions(Permissions::from_mode(bits))
-    }
-}
-
-/// These rights, but for what another file, if there is one, doesn't let do.
-pub(crate) fn common(rights: Rights, other: Option<Rights>) -> Rights {
-    match other {
-        Some(other) => Rights {
-            bits: rights.bits & other.bits,
-            ..rights
-        },
-        None => rights,
     }
 }
 

@@ -3,8 +3,8 @@ use crate::rights::Rights;
 use std::fs::Metadata;
 use std::os::unix::fs::MetadataExt;
 
-/// Which file has a name, how long it is and of which time, and who may do what with it.
-#[derive(Clone, Copy, PartialEq, Eq)]
+/// Which file has a name, how long it is and of which time, and who may do what with it. A file in memory has the default of all that.
+#[derive(Clone, Copy, Default, PartialEq, Eq)]
 pub struct FileStamp {
     device: u64,
     number: u64,
@@ -15,18 +15,6 @@ pub struct FileStamp {
 }
 
 impl FileStamp {
-    /// What a file in memory has of all that.
-    pub(crate) fn in_memory() -> FileStamp {
-        FileStamp {
-            device: 0,
-            number: 0,
-            size: 0,
-            seconds: 0,
-            nanoseconds: 0,
-            rights: Rights::NONE,
-        }
-    }
-
     pub(crate) fn of(metadata: &Metadata) -> FileStamp {
         FileStamp {
             device: metadata.dev(),

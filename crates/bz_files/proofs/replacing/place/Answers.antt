@@ -1,54 +1,38 @@
-use Rattle.std.proofs.Common.{◌∙◌, ◌≤◌, inl, refl, sym, subst}
-use Rattle.std.proofs.lemmas.Bool.{false≢true}
-use Rattle.std.proofs.lemmas.Result.{on_ok_weaker}
-use Rattle.bz_files.specs.Faults.{Rises}
-use Rattle.bz_files.specs.Folder.{Folder, SameBut, IsReplacing, with_file}
-use Rattle.bz_files.proofs.Acts.{Beside, is_same, looked_then, passes_weaker, on_ok_all, counted_on}
+use Rattle.std.proofs.Common.{◌∙◌, inl, refl, OnOk}
+use Rattle.bz_files.specs.Folder.{SameBeside, IsReplaced, IsReplacing}
+use Rattle.bz_files.proofs.Acts.{after_look, counted_before, counted_on, on_ok_all}
+use Rattle.bz_files.proofs.Keeping.{same_beside}
 use Rattle.bz_files.proofs.replacing.place.Goals as goal
 
-pub returns-in-Ok : goal.returns-in-Ok
-returns-in-Ok g c =
+pub returns-in-Ok-clause-there : goal.returns-in-Ok-clause-there
+returns-in-Ok-clause-there g c = λ honest. on_ok_all c.take_place.result _ (c.in-Ok.ensures.held honest)
+
+pub returns-in-Ok-clause-acts : goal.returns-in-Ok-clause-acts
+returns-in-Ok-clause-acts g c =
     let f = g.F.Files in
     let old = c.args.files.now in
-    let mid = c.look.new.self in
-    let new = c.take_place.new.self in
+    let seen = c.look.ensures in
+    let taken = c.take_place in
     record {
-      there = λ honest. on_ok_all c.take_place.result _ (c.in-Ok.ensures.held honest);
-      replaced = λ honest rest name bytes is. on_ok_weaker c.take_place.result
-          (subst (λ (was : Folder). SameBut (Beside name) (with_file was name bytes) (f.folder new)) (c.look.ensures.same honest))
-          (c.take_place.ensures.replaced (c.look.ensures.honest ∙ honest) rest name bytes (c.look.ensures.waiting honest ∙ is));
-      passes = λ honest rest name bytes is. looked_then f old mid new (IsReplacing name bytes)
-          (λ was now same. inl (is_same (Beside name) was now same)) (c.look.ensures.same honest) (c.look.ensures.time honest)
-          (c.take_place.ensures.time (c.look.ensures.honest ∙ honest) rest name bytes (c.look.ensures.waiting honest ∙ is));
-      waiting = λ honest rest last is. c.take_place.ensures.waiting (c.look.ensures.honest ∙ honest) rest last (c.look.ensures.waiting honest ∙ is);
-      counted = counted_on f c.take_place.result old mid new (c.in-Ok.ensures.kept refl) c.look.ensures.honest (record {
-        kinds = c.take_place.ensures.kinds;
-        cause = c.take_place.ensures.cause;
-        kept = c.take_place.ensures.kept;
-        count = c.take_place.ensures.count;
-        honest = c.take_place.ensures.honest;
-      });
+      goes = λ honest rest name bytes is.
+          after_look f old c.look.new.self taken.new.self (IsReplacing name bytes) (λ was now. OnOk taken.result (IsReplaced name bytes was now))
+          (IsReplacing name bytes) (λ was now. OnOk taken.result (IsReplaced name bytes was now)) (λ now same. inl (same_beside name (f.folder old) now same))
+          (λ now it. it) (λ ok. ok) (seen.stays honest) (taken.ensures.replaced (seen.counted.honest ∙ honest) rest name bytes (seen.waiting honest ∙ is));
+      waiting = λ honest rest name bytes is. taken.ensures.waiting (seen.counted.honest ∙ honest) rest name bytes (seen.waiting honest ∙ is);
+      counted = counted_on f taken.result old c.look.new.self taken.new.self (c.in-Ok.ensures.counted.kept refl) seen.counted.honest taken.ensures.counted;
     }
 
-pub returns-in-Err : goal.returns-in-Err
-returns-in-Err g c =
+pub returns-in-Err-clause-acts : goal.returns-in-Err-clause-acts
+returns-in-Err-clause-acts g c =
     let f = g.F.Files in
     let old = c.args.files.now in
-    let mid = c.look.new.self in
-    let new = c.give_up.new.self in
+    let seen = c.look.ensures in
+    let gone = c.give_up in
     record {
-      there = λ _. tt;
-      replaced = λ _ _ _ _ _. tt;
-      passes = λ honest rest name bytes is. looked_then f old mid new (IsReplacing name bytes)
-          (λ was now same. inl (is_same (Beside name) was now same)) (c.look.ensures.same honest) (c.look.ensures.time honest)
-          (passes_weaker f mid new (SameBut (Beside name) (f.folder mid)) (IsReplacing name bytes (f.folder mid)) (λ now same. inl same)
-          (c.give_up.ensures.time (c.look.ensures.honest ∙ honest) rest name bytes (c.look.ensures.waiting honest ∙ is)));
-      waiting = λ honest rest last is. c.give_up.ensures.waiting (c.look.ensures.honest ∙ honest) rest last (c.look.ensures.waiting honest ∙ is);
-      counted = record {
-        kinds = c.in-Err.ensures.kinds;
-        cause = λ _. subst (λ n. Rises (f.faults old) n) (sym c.give_up.ensures.faults) (c.in-Err.ensures.cause refl);
-        kept = λ ok. absurd (false≢true ok);
-        count = subst (λ n. f.faults old ≤ n) (sym c.give_up.ensures.faults) c.look.ensures.count;
-        honest = c.give_up.ensures.honest ∙ c.look.ensures.honest;
-      };
+      goes = λ honest rest name bytes is.
+          after_look f old c.look.new.self gone.new.self (SameBeside name) (SameBeside name) (IsReplacing name bytes) (λ _ _. Unit {0})
+          (λ now same. inl (same_beside name (f.folder old) now same)) (λ now same. inl same) (λ _. tt) (seen.stays honest)
+          (gone.ensures.aside (seen.counted.honest ∙ honest) rest name bytes (seen.waiting honest ∙ is));
+      waiting = λ honest rest name bytes is. gone.ensures.waiting (seen.counted.honest ∙ honest) rest name bytes (seen.waiting honest ∙ is);
+      counted = counted_before f c.in-Err.fault old c.look.new.self gone.new.self gone.ensures.faults gone.ensures.honest c.in-Err.ensures.counted;
     }

@@ -1,9 +1,9 @@
-use Rattle.std.proofs.Common.{◌∙◌, inl, refl}
+use Rattle.std.proofs.Common.{◌∙◌, inl, refl, OnOk}
 use Rattle.std.proofs.lemmas.Result.{on_ok_weaker}
-use Rattle.bz_files.specs.Folder.{SameBut, IsReplacing}
-use Rattle.bz_files.specs.Pair.{IsKeeping}
-use Rattle.bz_files.proofs.Acts.{Beside, is_same, both_pass, last_passes, counted_on, counted_before}
-use Rattle.bz_files.proofs.Keeping.{first, second, both, given_up}
+use Rattle.bz_files.specs.Folder.{SameBeside, IsReplaced, IsReplacing}
+use Rattle.bz_files.specs.Pair.{AreReplaced, IsKeeping}
+use Rattle.bz_files.proofs.Acts.{after, last, counted_before, counted_on}
+use Rattle.bz_files.proofs.Keeping.{first, second, both, given_up, same_beside}
 use Rattle.bz_files.proofs.replacing.place_both.Goals as goal
 
 pub returns-in-Ok : goal.returns-in-Ok
@@ -11,21 +11,21 @@ returns-in-Ok g c =
     let f = g.F.Files in
     let journal = c.args.journal.now in
     let stored = c.args.stored.now in
-    let file = c.args.file.now in
-    let old = c.args.files.now in
-    let mid = c.place_journal.new.files in
-    let new = c.place.new.files in
+    let old = f.folder c.args.files.now in
+    let mid = f.folder c.put_journal.new.files in
+    let put = c.put_journal.ensures in
+    let placed = c.place.ensures.acts in
     record {
-      replaced = λ honest rest text is. on_ok_weaker c.place.result
-          (both journal stored file text (f.folder old) (f.folder mid) (c.in-Ok.ensures.replaced honest) (f.folder new))
-          (c.place.ensures.replaced (c.place_journal.ensures.counted.honest ∙ honest) rest file text (c.place_journal.ensures.waiting honest ∙ is));
-      passes = λ honest rest text is. both_pass f old mid new (IsReplacing journal stored (f.folder old)) (IsReplacing file text (f.folder mid))
-          (IsKeeping journal stored file text (f.folder old)) (first journal stored file text (f.folder old))
-          (second journal stored file text (f.folder old) (f.folder mid) (c.in-Ok.ensures.replaced honest)) (c.place_journal.ensures.passes honest)
-          (c.place.ensures.passes (c.place_journal.ensures.counted.honest ∙ honest) rest file text (c.place_journal.ensures.waiting honest ∙ is));
-      waiting = λ honest rest text is.
-          c.place.ensures.waiting (c.place_journal.ensures.counted.honest ∙ honest) rest (file, text) (c.place_journal.ensures.waiting honest ∙ is);
-      counted = counted_on f c.place.result old mid new (c.in-Ok.ensures.counted.kept refl) c.place_journal.ensures.counted.honest c.place.ensures.counted;
+      goes = λ honest rest file text is.
+          let done : IsReplaced journal stored old mid = (c.in-Ok.ensures.goes honest).done in
+          after f c.args.files.now c.put_journal.new.files c.place.new.files (IsReplacing journal stored) (IsReplaced journal stored) (IsReplacing file text)
+          (λ was now. OnOk c.place.result (IsReplaced file text was now)) (IsKeeping journal stored file text)
+          (λ was now. OnOk c.place.result (AreReplaced journal stored file text was now)) (first journal stored file text old)
+          (second journal stored file text old mid done) (on_ok_weaker c.place.result (both journal stored file text old mid done (f.folder c.place.new.files)))
+          (c.in-Ok.ensures.goes honest) (placed.goes (put.counted.honest ∙ honest) rest file text (put.waiting honest ∙ is));
+      waiting = λ honest rest file text is. placed.waiting (put.counted.honest ∙ honest) rest file text (put.waiting honest ∙ is);
+      counted = counted_on f c.place.result c.args.files.now c.put_journal.new.files c.place.new.files (c.in-Ok.ensures.counted.kept refl) put.counted.honest
+          placed.counted;
     }
 
 pub returns-in-Err : goal.returns-in-Err
@@ -33,20 +33,18 @@ returns-in-Err g c =
     let f = g.F.Files in
     let journal = c.args.journal.now in
     let stored = c.args.stored.now in
-    let file = c.args.file.now in
-    let old = c.args.files.now in
-    let mid = c.place_journal.new.files in
-    let new = c.give_up.new.self in
+    let old = f.folder c.args.files.now in
+    let put = c.put_journal.ensures in
+    let gone = c.give_up in
     record {
-      replaced = λ _ _ _ _. tt;
-      passes = λ honest rest text is.
-          let moment = last_passes f g.met.F.Files.only_now g.met.F.Files.counts_now old mid (IsReplacing journal stored (f.folder old))
-          (inl (is_same (Beside journal) (f.folder old) (f.folder old) refl)) (c.place_journal.ensures.passes honest) in
-          both_pass f old mid new (IsReplacing journal stored (f.folder old)) (SameBut (Beside file) (f.folder mid))
-          (IsKeeping journal stored file text (f.folder old)) (first journal stored file text (f.folder old))
-          (given_up journal stored file text (f.folder old) (f.folder mid) moment) (c.place_journal.ensures.passes honest)
-          (c.give_up.ensures.time (c.place_journal.ensures.counted.honest ∙ honest) rest file text (c.place_journal.ensures.waiting honest ∙ is));
-      waiting = λ honest rest text is.
-          c.give_up.ensures.waiting (c.place_journal.ensures.counted.honest ∙ honest) rest (file, text) (c.place_journal.ensures.waiting honest ∙ is);
-      counted = counted_before f _ old mid new c.give_up.ensures.faults c.give_up.ensures.honest c.in-Err.ensures.counted;
+      goes = λ honest rest file text is.
+          let moment = last f g.met.F.Files.only_now g.met.F.Files.counts_now c.args.files.now c.put_journal.new.files (IsReplacing journal stored) _
+          (inl (same_beside journal old old refl)) (put.goes honest) in
+          after f c.args.files.now c.put_journal.new.files gone.new.self (IsReplacing journal stored) (λ _ _. Unit {0}) (SameBeside file) (SameBeside file)
+          (IsKeeping journal stored file text) (λ _ _. Unit {0}) (first journal stored file text old)
+          (given_up journal stored file text old (f.folder c.put_journal.new.files) moment) (λ _. tt) (c.in-Err.ensures.goes honest)
+          (gone.ensures.aside (put.counted.honest ∙ honest) rest file text (put.waiting honest ∙ is));
+      waiting = λ honest rest file text is. gone.ensures.waiting (put.counted.honest ∙ honest) rest file text (put.waiting honest ∙ is);
+      counted = counted_before f c.in-Err.fault c.args.files.now c.put_journal.new.files gone.new.self gone.ensures.faults gone.ensures.honest
+          c.in-Err.ensures.counted;
     }

@@ -1,25 +1,22 @@
-use Rattle.std.proofs.Common.{◌≡◌, ◌∙◌, ⊎_elim, ap, refl, sym, subst, rules, List, ℕ}
+use Rattle.std.proofs.Common.{◌≡◌, ◌∙◌, ⊎_elim, ap, refl, sym, subst, rules}
 use Rattle.std.proofs.lemmas.Bool.{false≢true}
-use Rattle.bz_files.specs.Folder.{Text}
 use Rattle.bz_files.specs.Held.{plan_in}
 use Rattle.bz_files.specs.Failing.{FailurePlan, IsNextCall, IsToFail}
-use Rattle.bz_files.proofs.Logs.{newest_is, write_elapses}
+use Rattle.bz_files.proofs.Logs.{placed}
 use Rattle.bz_files.proofs.Plans.{is_plan}
 use Rattle.bz_files.proofs.memory.MemoryFilesFiles.take_place.Goals as goal
 
-pub returns-then-fails_now-clause-time : goal.returns-then-fails_now-clause-time
-returns-then-fails_now-clause-time c = λ honest rest name bytes is.
-    let entry = c.in-Some.entry in
-    let newest = newest_is c.args.self.now.waiting.items c.pop-newest.new.self.items entry rest name bytes c.in-Some.ensures.items is in
-    write_elapses c.args.self.now.log.items c.failed-then-fails_now.new.self.log.items entry name bytes (search rules)
-    (ap (λ (file : Text × List ℕ). file.0) newest) (ap (λ (file : Text × List ℕ). file.1) newest)
+pub returns-then-fails_now-clause-replaced : goal.returns-then-fails_now-clause-replaced
+returns-then-fails_now-clause-replaced c = λ honest rest name bytes is.
+    let step = placed c.args.self.now.log.items c.failed-then-fails_now.new.self.log.items c.args.self.now.waiting.items c.pop-newest.new.self.items
+    c.in-Some.entry rest name bytes (search rules) c.in-Some.ensures.items is in
+    record { time = step.0; done = tt }
 
-pub returns-clause-time : goal.returns-clause-time
-returns-clause-time c = λ honest rest name bytes is.
-    let entry = c.in-Some.entry in
-    let newest = newest_is c.args.self.now.waiting.items c.pop-newest.new.self.items entry rest name bytes c.in-Some.ensures.items is in
-    write_elapses c.args.self.now.log.items c.add.new.self.log.items entry name bytes (search rules)
-    (ap (λ (file : Text × List ℕ). file.0) newest) (ap (λ (file : Text × List ℕ). file.1) newest)
+pub returns-clause-replaced : goal.returns-clause-replaced
+returns-clause-replaced c = λ honest rest name bytes is.
+    let step = placed c.args.self.now.log.items c.add.new.self.log.items c.args.self.now.waiting.items c.pop-newest.new.self.items
+    c.in-Some.entry rest name bytes (search rules) c.in-Some.ensures.items is in
+    record { time = step.0; done = step.1 }
 
 pub returns-clause-planned : goal.returns-clause-planned
 returns-clause-planned c = λ plan is.
