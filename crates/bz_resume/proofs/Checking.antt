@@ -1,53 +1,17 @@
--- The moments of a keeping that reads the file first.
-use Rattle.std.proofs.Common.{◌≡◌, ◌≢◌, ◌⊎◌, inl, inr, refl, ℕ, List, subst, ap}
-use Rattle.std.specs.Prelude.{Result, Ok, Err, OnOk, IfErr, IsErrOf}
-use Rattle.bz_files.specs.Folder.{Elapses, Folder, SameBut, Text}
+-- The moments and errors of a keeping that reads the file first.
+use Rattle.std.proofs.Common.{◌≡◌, ◌≢◌, ◌⊎◌, inl, inr, refl, List, ℕ, ap}
+use Rattle.std.specs.Prelude.{Result, Ok, Err, IfErr, IsErrOf}
+use Rattle.bz_files.specs.Folder.{Folder, Text}
+use Rattle.bz_files.specs.Pair.{IsKeeping, IsChecking}
+use Rattle.bz_files.proofs.Keeping.{at_start}
 use Rattle.bz_resume.specs.declared.pair_fault.PairFault.{PairFault}
 use Rattle.bz_resume.specs.declared.pair_fault.PairFault.TheVariants as p
-use Rattle.bz_files.specs.Pair.{IsNew, IsKeeping, IsChecking, with_both}
-use Rattle.bz_files.proofs.Elapsing.{Past, weakened, elapsed_on, each_since}
-use Rattle.bz_files.proofs.Keeping.{at_start}
 
-module _ (standing journal : Text) (stored : List ℕ) (file : Text) (text : List ℕ) (old : Folder) where
-  abbrev Was : Folder → Type 0
-  Was now = now ≡ old
-
-  -- only read
-  pub read_elapses : (a b : ℕ) (past since : Past) → Elapses a b past since Was → Elapses a b past since (IsChecking standing journal stored file text old)
-  read_elapses a b past since one = weakened a b past since Was (IsChecking standing journal stored file text old) (λ now is. inl is) one
-
-  pub read_each : (a b : ℕ) (past since : Past) → ((now : Folder) → past a now → now ≡ old) → Elapses a b past since Was
-      → (now : Folder) → since a now → now ≡ old
-  read_each a b past since only one = each_since a b past since Was one only
-
-  pub read_keeping : (a b : ℕ) (past since : Past) → ((now : Folder) → past a now → now ≡ old) → Elapses a b past since Was
-      → (now : Folder) → since a now → IsKeeping journal stored file text old now
-  read_keeping a b past since only one now stood = at_start journal stored file text old now (read_each a b past since only one now stood)
-
-  -- a moment of a keeping is one where the folder is as it was or both are kept
-  keeping : (now : Folder) → IsChecking standing journal stored file text old now → IsKeeping journal stored file text old now
-  keeping now (inl same) = at_start journal stored file text old now same
-  keeping now (inr (there, is)) = is
-
-  -- read, and then kept
-  module _ (mid : Folder) (same : mid ≡ old) where
-    of_start : (now : Folder) → IsChecking standing journal stored file text mid now → IsChecking standing journal stored file text old now
-    of_start now = subst (λ (f : Folder). IsChecking standing journal stored file text f now) same
-
-    pub kept_replaced : {T : Type 0} (r : Result T PairFault) (now : Folder) → OnOk r (SameBut (IsNew journal file) (with_both journal stored file text mid) now)
-        → OnOk r (SameBut (IsNew journal file) (with_both journal stored file text old) now)
-    kept_replaced r now = subst (λ (f : Folder). OnOk r (SameBut (IsNew journal file) (with_both journal stored file text f) now)) same
-
-    pub kept_elapses : (a b c : ℕ) (past between since : Past) → Elapses a b past between Was
-        → Elapses b c between since (IsChecking standing journal stored file text mid) → Elapses a c past since (IsChecking standing journal stored file text old)
-    kept_elapses a b c past between since one two = elapsed_on a b c past between since (IsChecking standing journal stored file text old)
-        (IsChecking standing journal stored file text mid) of_start (read_elapses a b past between one) two
-
-    pub kept_each : (a b c : ℕ) (past between since : Past) → ((now : Folder) → past a now → now ≡ old) → Elapses a b past between Was
-        → Elapses b c between since (IsChecking standing journal stored file text mid) → (now : Folder) → since a now → IsKeeping journal stored file text old now
-    kept_each a b c past between since only one two now stood = keeping now
-        (each_since a c past since (IsChecking standing journal stored file text old) (kept_elapses a b c past between since one two)
-        (λ was past_was. inl (only was past_was)) now stood)
+-- a moment of a keeping is one where the folder is as it was or both are kept
+pub keeping : (standing journal : Text) (stored : List ℕ) (file : Text) (text : List ℕ) (old now : Folder) → IsChecking standing journal stored file text old now
+    → IsKeeping journal stored file text old now
+keeping standing journal stored file text old now (inl same) = at_start journal stored file text old now same
+keeping standing journal stored file text old now (inr (there, is)) = is
 
 -- a value is no error
 pub never_err : {T E : Type 0} (x : T) (y : E) → IsErrOf {T = T} {E = E} (Ok x) y → ⊥

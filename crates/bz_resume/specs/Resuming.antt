@@ -2,9 +2,10 @@
 use Rattle.std.specs.Prelude.{◌≡◌, ◌≢◌, ◌⊎◌, ◌≤◌, ℕ, true, List, [], ◌∷◌, Some, None, Result, IfErr, OnOk, IsOk, IsErrOf}
 use Rattle.std.specs.FinMap.{get}
 use Rattle.bz_edit.specs.declared.edit.Edit.{Edit}
-use Rattle.bz_files.specs.Folder.{Elapses, Folder, SameBut, Text, new_name}
+use Rattle.bz_files.specs.Acts.{GoesThrough}
+use Rattle.bz_files.specs.Folder.{Folder, Text, new_name}
 use Rattle.bz_files.specs.Faults.{Rises}
-use Rattle.bz_files.specs.Pair.{IsChecking, IsKeeping, IsNew, with_both}
+use Rattle.bz_files.specs.Pair.{AreReplaced, IsChecking}
 use Rattle.bz_files.specs.declared.files.Files.{Ghosts as FilesOf}
 use Rattle.bz_resume.specs.declared.pair_fault.PairFault.{PairFault}
 use Rattle.bz_resume.specs.declared.pair_fault.PairFault.TheVariants as f
@@ -59,12 +60,8 @@ pub record Survives (file : Text) (h after : History) (old now : Folder) : Type 
 -- A journal and then its file are given these bytes, where the file still holds the text at which that was begun. (The file's name, that
 -- text, the bytes of both, what came of it, and the files before and after.)
 pub record Replaces {F : Type 0} (files : FilesOf F) (file standing stored text : Text) (answer : Result (Unit {0}) PairFault) (old new : F) : Type 0 where
-  pub each : files.honest old ≡ true → (now : Folder) → files.since new (files.moment old) now
-      → IsKeeping (journal_name file) stored file text (files.folder old) now
-  pub time : files.honest old ≡ true → Elapses (files.moment old) (files.moment new) (files.since old) (files.since new)
-      (IsChecking standing (journal_name file) stored file text (files.folder old))
-  pub replaced : files.honest old ≡ true → OnOk answer
-      (SameBut (IsNew (journal_name file) file) (with_both (journal_name file) stored file text (files.folder old)) (files.folder new))
+  pub goes : files.honest old ≡ true → GoesThrough files.folder files.moment files.since (IsChecking standing (journal_name file) stored file text)
+      (λ was now. OnOk answer (AreReplaced (journal_name file) stored file text was now)) old new
   -- Only where the file holds the text is anything replaced, and only where it doesn't is that said.
   pub checked : files.honest old ≡ true → (IsOk answer) ⊎ (IsErrOf answer f.Write)
       → get (files.folder old) file ≡ Some standing

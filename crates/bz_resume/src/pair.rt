@@ -1,9 +1,10 @@
 //! A file and its journal, replaced so that a stop at any moment leaves a pair that goes on.
 ghost use Rattle.std.specs.Prelude.{◌≡◌, ◌≢◌, ◌⊎◌, ◌≤◌, ◌↔◌, List, true, Some, IfOk, IfErr, OnOk, IsOk, IsErrOf, string_bytes};
 ghost use Rattle.std.specs.FinMap.{get};
-ghost use Rattle.bz_files.specs.Folder.{Folder, SameBut, Elapses};
+ghost use Rattle.bz_files.specs.Acts.{GoesThrough};
+ghost use Rattle.bz_files.specs.Folder.{Folder, Elapses, IsUntouched};
 ghost use Rattle.bz_files.specs.Faults.{Rises};
-ghost use Rattle.bz_files.specs.Pair.{IsNew, IsKeeping, IsChecking, with_both};
+ghost use Rattle.bz_files.specs.Pair.{AreReplaced, IsChecking};
 ghost use Rattle.bz_edit.specs.declared.edit.Edit.{Edit};
 ghost use Rattle.bz_resume.specs.Journals.{History};
 ghost use Rattle.bz_resume.specs.Pair.{journal_name};
@@ -69,8 +70,7 @@ fn check_file<F: Files>(
 ) -> Result<(), PairFault>
     ensures ok { F.honest files.old ≡ true → OnOk result (get (F.folder files.old) file.now ≡ Some standing.now) }
     ensures changed { F.honest files.old ≡ true → IsErrOf result PairFault.Changed → get (F.folder files.old) file.now ≢ Some standing.now }
-    ensures folder { F.honest files.old ≡ true → F.folder files.new ≡ F.folder files.old }
-    ensures time { F.honest files.old ≡ true → Elapses (F.moment files.old) (F.moment files.new) (F.since files.old) (F.since files.new) (λ now. now ≡ F.folder files.old) }
+    ensures reads { F.honest files.old ≡ true → GoesThrough F.folder F.moment F.since IsUntouched IsUntouched files.old files.new }
     ensures kinds { IfErr result (λ fault. fault ≢ PairFault.Write) }
     ensures cause { IsErrOf result PairFault.Open → Rises (F.faults files.old) (F.faults files.new) }
     ensures kept { (IsErrOf result PairFault.Open → ⊥) → F.faults files.new ≡ F.faults files.old }
@@ -87,10 +87,10 @@ fn check_file<F: Files>(
 // Gives the journal of a file its bytes, and then the file, if it holds the text that it is to hold. Errors: `Memory`: a growth was refused,
 // and nothing was replaced; `Write`: it holds another text, or one of them could not be replaced.
 fn write_pair<F: Files>(alloc: Global, files: &mut F, change: Change<'_>) -> Result<(), PairFault>
-    ensures time { F.honest files.old ≡ true → Elapses (F.moment files.old) (F.moment files.new) (F.since files.old) (F.since files.new)
-        (IsChecking change.entry.standing.now (journal_name change.entry.file.now) change.entry.stored.now change.entry.file.now change.entry.text.now (F.folder files.old)) }
-    ensures replaced { F.honest files.old ≡ true → OnOk result (SameBut (IsNew (journal_name change.entry.file.now) change.entry.file.now)
-        (with_both (journal_name change.entry.file.now) change.entry.stored.now change.entry.file.now change.entry.text.now (F.folder files.old)) (F.folder files.new)) }
+    ensures goes { F.honest files.old ≡ true → GoesThrough F.folder F.moment F.since
+        (IsChecking change.entry.standing.now (journal_name change.entry.file.now) change.entry.stored.now change.entry.file.now change.entry.text.now)
+        (λ was now. OnOk result (AreReplaced (journal_name change.entry.file.now) change.entry.stored.now change.entry.file.now change.entry.text.now was now))
+        files.old files.new }
     ensures kinds { IfErr result (λ fault. (fault ≡ PairFault.Memory) ⊎ (fault ≡ PairFault.Write)) }
     ensures memory { IsErrOf result PairFault.Memory → files.new ≡ files.old }
     ensures cause { IsErrOf result PairFault.Write → Rises (F.faults files.old) (F.faults files.new) }
