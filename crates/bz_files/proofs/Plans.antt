@@ -1,6 +1,9 @@
 -- What is known of the calls that are to fail.
-use Rattle.std.proofs.Common.{◌≡◌, Some}
-use Rattle.bz_files.specs.Failing.{FailurePlan}
+use Rattle.std.proofs.Common.{◌≡◌, Option, Some, subst}
+use Rattle.bz_files.specs.Failing.{FailurePlan, GoesAsPlanned, IsNextCall}
 
-pub is_plan : {one other : FailurePlan} → Some one ≡ Some other → one ≡ other
-is_plan is = cc
+-- a call that is not to fail, and goes on
+pub goes_on : {Fails Goes : FailurePlan → Type 0} {failed : Type 0} (before later : FailurePlan) (after : Option FailurePlan) → after ≡ Some later
+    → IsNextCall before later → (Fails later → ⊥) → Goes later → GoesAsPlanned (Some before) after Fails failed Goes
+goes_on before later after is next whole goes plan of =
+    let same : before ≡ plan = cc in (later, is, subst (λ (p : FailurePlan). IsNextCall p later) same next, (λ fails. absurd (whole fails)), λ _. goes)

@@ -5,8 +5,7 @@ ghost use Rattle.std.specs.Prelude.{◌≢◌, ◌⊎◌, ◌↔◌, ℕ, false,
 ghost use Rattle.std.specs.FinMap.{empty, get};
 ghost use Rattle.bz_files.specs.Faults.{Rises};
 ghost use Rattle.bz_files.specs.Folder.{with_file, folder_of};
-ghost use Rattle.bz_files.specs.Log.{folder_after, shown_entry, StoodSince, stands_now, only_stands};
-ghost use Rattle.bz_files.specs.Held.{folder_in, plan_in, waiting_in, moments_in, folder_then};
+ghost use Rattle.bz_files.specs.Log.{folder_after, shown_entry, StoodSince, stands_now, only_stands, folder_in, plan_in, waiting_in, moments_in, folder_then};
 ghost use Rattle.bz_files.specs.Failing.{no_plan, IsNextCall, IsToFail, IsToFailAfter, IsUnreadable};
 
 use crate::entry::Entry;
@@ -47,10 +46,7 @@ fn found<'a>(log: &'a [Entry], name: &str) -> Option<&'a [u8]>
 fn first_of<T>(items: &[T], count: usize) -> &[T]
     ensures { result.now ≡ take count items.now }
 {
-    match items.get(..count) {
-        Some(front) => front,
-        None => items,
-    }
+    items.get(..count).unwrap_or(items)
 }
 
 fn new_entry(alloc: Global, name: &str, bytes: &[u8]) -> Result<Entry, AllocError>

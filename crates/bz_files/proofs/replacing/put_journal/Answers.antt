@@ -1,19 +1,8 @@
 use Rattle.std.proofs.Common.{◌∙◌, inl, inr, refl}
-use Rattle.bz_files.specs.Folder.{IsReplaced, IsReplacing, IsUntouched}
-use Rattle.bz_files.proofs.Acts.{after_look, before_flush, counted_on, failed_as}
+use Rattle.bz_files.specs.Folder.{IsReplaced, IsReplacing}
+use Rattle.bz_files.proofs.Acts.{after_look, before_flush, counted_on}
 use Rattle.bz_files.proofs.Keeping.{same_beside}
 use Rattle.bz_files.proofs.replacing.put_journal.Goals as goal
-
-pub returns-in-Err : goal.returns-in-Err
-returns-in-Err g c =
-    let f = g.F.Files in
-    let old = c.args.files.now in
-    record {
-      goes = λ honest. failed_as f old c.flush.new.self IsUntouched IsUntouched (IsReplacing c.args.journal.now c.args.stored.now) (λ _ _. Unit {0})
-          (λ now same. inl (same_beside c.args.journal.now (f.folder old) now same)) tt (c.flush.ensures.stays honest);
-      waiting = c.flush.ensures.waiting;
-      counted = c.in-Err.ensures.counted;
-    }
 
 pub returns-in-Err-put : goal.returns-in-Err-put
 returns-in-Err-put g c =

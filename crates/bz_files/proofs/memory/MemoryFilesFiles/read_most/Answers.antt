@@ -1,15 +1,8 @@
-use Rattle.std.proofs.Common.{refl, subst}
-use Rattle.bz_files.specs.Held.{plan_in}
-use Rattle.bz_files.specs.Failing.{FailurePlan, IsNextCall}
-use Rattle.bz_files.proofs.Plans.{is_plan}
+use Rattle.std.proofs.Common.{refl}
+use Rattle.bz_files.specs.Log.{plan_in}
+use Rattle.bz_files.proofs.Plans.{goes_on}
 use Rattle.bz_files.proofs.memory.MemoryFilesFiles.read_most.Goals as goal
 
 pub returns-in-Ok-clause-planned : goal.returns-in-Ok-clause-planned
-returns-in-Ok-clause-planned c = λ plan is.
-    let later = plan_in c.reads.new.self in (
-      later,
-      refl,
-      subst (λ (p : FailurePlan). IsNextCall p later) (is_plan is) c.reads.ensures.next,
-      (λ fails. absurd (c.reads.ensures.goes c.if-not-reads.false fails)),
-      λ _. tt,
-    )
+returns-in-Ok-clause-planned c =
+    goes_on (plan_in c.args.self.now) (plan_in c.reads.new.self) _ refl c.reads.ensures.next (c.reads.ensures.goes c.if-not-reads.false) tt

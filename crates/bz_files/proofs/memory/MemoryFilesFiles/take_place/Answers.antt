@@ -1,9 +1,9 @@
-use Rattle.std.proofs.Common.{◌≡◌, ◌∙◌, ⊎_elim, ap, refl, sym, subst, rules}
+use Rattle.std.proofs.Common.{◌≡◌, ◌∙◌, ⊎_elim, Some, ap, sym, subst, rules}
 use Rattle.std.proofs.lemmas.Bool.{false≢true}
-use Rattle.bz_files.specs.Held.{plan_in}
-use Rattle.bz_files.specs.Failing.{FailurePlan, IsNextCall, IsToFail}
+use Rattle.bz_files.specs.Log.{plan_in}
+use Rattle.bz_files.specs.Failing.{IsToFailAfter}
 use Rattle.bz_files.proofs.Logs.{placed}
-use Rattle.bz_files.proofs.Plans.{is_plan}
+use Rattle.bz_files.proofs.Plans.{goes_on}
 use Rattle.bz_files.proofs.memory.MemoryFilesFiles.take_place.Goals as goal
 
 pub returns-then-fails_now-clause-replaced : goal.returns-then-fails_now-clause-replaced
@@ -19,13 +19,8 @@ returns-clause-replaced c = λ honest rest name bytes is.
     record { time = step.0; done = step.1 }
 
 pub returns-clause-planned : goal.returns-clause-planned
-returns-clause-planned c = λ plan is.
-    let later = plan_in c.add.new.self in
-    let same : later ≡ plan_in c.goes_on.new.self = ap plan_in c.add.ensures.same in (
-      later,
-      refl,
-      subst (λ (p : FailurePlan). IsNextCall plan p) (sym same) (subst (λ (p : FailurePlan). IsNextCall p (plan_in c.goes_on.new.self)) (is_plan is) c.goes_on.ensures.next),
-      ⊎_elim (λ fails. absurd (c.goes_on.ensures.goes c.if-not-goes_on.false (subst IsToFail same fails)))
-          (λ after. absurd (false≢true (sym c.if-fails_now.false ∙ c.fails_now.ensures.1 after))),
-      λ _ _. tt,
-    )
+returns-clause-planned c =
+    let same : plan_in c.add.new.self ≡ plan_in c.goes_on.new.self = ap plan_in c.add.ensures.same in
+    goes_on (plan_in c.args.self.now) (plan_in c.goes_on.new.self) _ (ap Some same) c.goes_on.ensures.next
+    (⊎_elim (c.goes_on.ensures.goes c.if-not-goes_on.false)
+    (λ after. false≢true (sym c.if-fails_now.false ∙ c.fails_now.ensures.1 (subst IsToFailAfter (sym same) after)))) (λ _. tt)
