@@ -4,9 +4,10 @@
 A small library of C (failing.c), which is between a program and the C library, lets the k-th open, read, write, flush, rename
 or the like fail, by several errors, or be short, or ends the program right before it, or has another program change or remove a
 file there; for k = 1, 2, .. until a run meets no such call; over each of the worked rows. Whatever fails, no run may end by a
-signal of its own, and each file must be whole, as it was or as the run without a failure leaves it, but for those whose names end
-in .bznew. A run that ends with the status of the one without a failure must have left all that this one leaves; every other one
-must say what failed, by a line of docs/refusals.md, and end with the status of a failure.
+signal of its own, and each file must be whole, as it was or as the run without a failure leaves it, but for those whose names
+end in .bznew. A read or write that a signal interrupts changes nothing. A run that ends with the status of the one without a
+failure must have left all that this one leaves; every other one must say what failed, by a line of docs/refusals.md, and end
+with the status of a failure.
 
     [HOSTILE=whole] tests/failing.py BUILDOZER BUILDIFIER
 
@@ -51,6 +52,8 @@ WAYS = {
 }
 # the calls from one on fail too
 ONWARD = [("read", errno.EIO), ("write", errno.ENOSPC), ("open", errno.EMFILE), ("read", "short"), ("write", "short"), ("write", "none")]
+# a call that a signal interrupts is made again, and a run in which that comes to pass leaves what it leaves without
+AGAIN = [("read", errno.EINTR), ("write", errno.EINTR)]
 
 # What a run leaves: the status, both outputs, and all files but those whose names end in .bznew.
 Left = collections.namedtuple("Left", "status out err files")
@@ -129,6 +132,9 @@ class Allowed:
         wrong = [f"{name}: {text!r}" for name, text in left.files.items() if text not in self.contents(name)]
         return wrong + [f"{name} is gone" for name in self.row.files if name not in left.files]
 
+    def unlike(self, left):
+        return [] if left == self.ample else [f"{left}, and not {self.ample}"]
+
     def faults(self, left, failed):
         """What is wrong with what a run left in which these calls failed."""
         if left.status < 0:
@@ -174,7 +180,8 @@ def each_call_fails(row):
         for call, way, mark in ways:
             for number, left, failed in failing.sweep(row, call, way, mark):
                 seen += 1
-                found += [f"{call} {number}{mark} {way_name(way)}: {fault}" for fault in allowed.faults(left, failed)]
+                faults = allowed.unlike(left) if (call, way) in AGAIN else allowed.faults(left, failed)
+                found += [f"{call} {number}{mark} {way_name(way)}: {fault}" for fault in faults]
         return found + ([] if seen else ["no call was seen, so none failed"])
 
     return wrong

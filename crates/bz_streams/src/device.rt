@@ -1,11 +1,44 @@
 //! Any reader or writer of std's.
-ghost use Rattle.std.specs.Prelude.{◌≡◌, ◌≤◌, Ok, IsErr, MatchResult, false};
+ghost use Rattle.std.specs.Prelude.{◌≡◌, ◌≢◌, ◌≤◌, Ok, IfErr, IsErr, MatchResult, false};
+ghost use Rattle.std.specs.Io.{ReadsAtMost, WritesAtMost};
+ghost use Rattle.std.specs.Io.KnownBytes.{ReadConsumes, WriteAppends};
+ghost use Rattle.std.specs.IoError.{error_kind};
 
 use crate::{PortFault, Sink, Source};
 use std::io;
-use std::io::{Read, Write};
+use std::io::{ErrorKind, Read, Write};
 
-/// A reader or a writer of std's, with the count of its faults.
+// One read, tried again where a signal interrupts it.
+fn read_again<R: Read>(reader: &mut R, into: &mut [u8]) -> io::Result<usize>
+    ensures bound { ReadsAtMost result into.new }
+    ensures bytes { ReadConsumes (R.remaining reader.old) (R.remaining reader.new) result into.new }
+    ensures again { IfErr result (λ e. error_kind e ≢ ErrorKind.Interrupted) }
+{
+    for _ in 0..u64::MAX {
+        match reader.read(into) {
+            Err(error) if error.kind() == ErrorKind::Interrupted => {}
+            given => return given,
+        }
+    }
+    Err(io::Error::from(ErrorKind::TimedOut))
+}
+
+// One write, tried again where a signal interrupts it.
+fn write_again<W: Write>(writer: &mut W, bytes: &[u8]) -> io::Result<usize>
+    ensures bound { WritesAtMost result bytes.now }
+    ensures bytes { WriteAppends (W.contents writer.old) (W.contents writer.new) result bytes.now }
+    ensures again { IfErr result (λ e. error_kind e ≢ ErrorKind.Interrupted) }
+{
+    for _ in 0..u64::MAX {
+        match writer.write(bytes) {
+            Err(error) if error.kind() == ErrorKind::Interrupted => {}
+            taken => return taken,
+        }
+    }
+    Err(io::Error::from(ErrorKind::TimedOut))
+}
+
+/// A reader or a writer of std's, with the count of its faults. A call that a signal interrupts is tried again, and is no fault.
 #[derive(Drop)]
 pub struct Device<T> {
     device: T,
@@ -56,7 +89,7 @@ impl<R: Read> Source for Device<R> {
     ghost sound = { λ _. false };
 
     fn read(&mut self, into: &mut [u8]) -> Result<usize, PortFault> {
-        let given = self.device.read(into);
+        let given = read_again(&mut self.device, into);
         self.counted(given)
     }
 }
@@ -67,7 +100,7 @@ impl<W: Write> Sink for Device<W> {
     ghost faults = { λ d. d.faults };
 
     fn write(&mut self, bytes: &[u8]) -> Result<usize, PortFault> {
-        match self.device.write(bytes) {
+        match write_again(&mut self.device, bytes) {
             Ok(n) if n > 0 || bytes.is_empty() => Ok(n),
             _ => Err(self.failed()),
         }
