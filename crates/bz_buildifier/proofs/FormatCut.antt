@@ -1,23 +1,19 @@
 -- Runs over files that a failure of standard output cuts, up to that failure.
-use Rattle.std.proofs.Common.{◌≡◌, ◌∙◌, ◌∷◌, ◌++◌, ◌||◌, inl, inr, List, [], Bool, true, false, Some, None, refl, sym, ap, subst}
+use Rattle.std.proofs.Common.{◌≡◌, ◌∙◌, ◌∷◌, ◌++◌, ◌||◌, inl, inr, List, [], Bool, true, false, refl, sym, ap}
 use Rattle.std.specs.Prelude.{if◌then◌else◌}
 use Rattle.std.specs.List.{All}
-use Rattle.std.specs.FinMap.{get}
 use Rattle.std.proofs.lemmas.List.Elements.{All-head, All-tail}
 use Rattle.bz_items.specs.Characters.{Bytes}
 use Rattle.bz_files.specs.Folder.{Folder, IsAside, SameFolders}
-use Rattle.bz_files.specs.declared.files.FileFault.{FileFault}
-use Rattle.bz_files.specs.declared.files.FileFault.TheVariants as file
-use Rattle.bz_build_format.specs.declared.formatter.FormatFault.{FormatFault}
-use Rattle.bz_build_format.specs.declared.formatter.FormatFault.TheVariants as f
 use Rattle.bz_streams.specs.Exits.{first_cut}
 use Rattle.bz_streams.specs.declared.exit.Cut.{Cut}
 use Rattle.bz_streams.specs.declared.exit.Cut.TheVariants as c
-use Rattle.bz_buildifier.specs.FormatRun.{Effect, Run, FilesFormatted, FileStep, unread, without_memory, unformatted, kept, rewritten, grown, out_after, output_effect, file_out, text_status, is_rewritten, unread_file, refused}
+use Rattle.bz_buildifier.specs.FormatRun.{Effect, Run, FilesFormatted, FileStep, unread, without_memory, unformatted, kept, rewritten, grown, output_effect, file_out, text_status}
 use Rattle.bz_buildifier.specs.FormatExact.{ExactStep, exact_formatted, Exact}
 use Rattle.bz_buildifier.specs.declared.file_type.FileType.{FileType}
 use Rattle.bz_buildifier.specs.declared.mode.Mode.{Mode}
-use Rattle.bz_buildifier.proofs.FormatWhole.{exact_step}
+use Rattle.bz_buildifier.proofs.FormatSteps.{unread_quiet, refused_quiet}
+use Rattle.bz_buildifier.proofs.FormatWhole.{Other, exact_step}
 
 -- ---- what stays to the end of a run
 
@@ -46,35 +42,11 @@ closed_stays mode file_type (name ∷ names) run last folder after runs closed =
 -- ---- one file
 
 -- An effect that fails nothing leaves standard output open.
-unread_open : (name : Bytes) (fault : FileFault) → (unread_file name fault).closes ≡ false
-unread_open name file.Absent = refl
-unread_open name file.Open = refl
-unread_open name file.Write = refl
-unread_open name file.Memory = refl
-
-refused_open : (name : Bytes) (fault : FormatFault) → (refused name fault).closes ≡ false
-refused_open name (f.Unread fault) = refl
-refused_open name f.TooLarge = refl
-refused_open name f.TooDeep = refl
-refused_open name f.Memory = refl
-
-unread_cut : (name : Bytes) (fault : FileFault) → (unread_file name fault).cut ≡ c.Write → ⊥
-unread_cut name file.Absent is = cc is
-unread_cut name file.Open is = cc is
-unread_cut name file.Write is = cc is
-unread_cut name file.Memory is = cc is
-
-refused_cut : (name : Bytes) (fault : FormatFault) → (refused name fault).cut ≡ c.Write → ⊥
-refused_cut name (f.Unread fault) is = cc is
-refused_cut name f.TooLarge is = cc is
-refused_cut name f.TooDeep is = cc is
-refused_cut name f.Memory is = cc is
-
 whole_open : (mode : Mode) (file_type : FileType) (name : Bytes) (closed : Bool) (folder after : Folder) (effect : Effect) → FileStep mode file_type name closed folder effect after
     → effect.cut ≡ c.Whole → effect.closes ≡ false
-whole_open mode file_type name closed folder after effect (unread fault none is stays) whole = ap (λ (e : Effect). e.closes) is ∙ unread_open name fault
+whole_open mode file_type name closed folder after effect (unread fault none is stays) whole = ap (λ (e : Effect). e.closes) is ∙ (unread_quiet name fault).stays
 whole_open mode file_type name closed folder after effect (without_memory is stays) whole = ap (λ (e : Effect). e.closes) is
-whole_open mode file_type name closed folder after effect (unformatted text fault there formats is stays) whole = ap (λ (e : Effect). e.closes) is ∙ refused_open name fault
+whole_open mode file_type name closed folder after effect (unformatted text fault there formats is stays) whole = ap (λ (e : Effect). e.closes) is ∙ (refused_quiet name fault).stays
 whole_open mode file_type name closed folder after effect (kept text new there formats unchanged (inl is) stays) whole = ap (λ (e : Effect). e.closes) is
 whole_open mode file_type name closed folder after effect (kept text new there formats unchanged (inr failed) stays) whole =
     absurd (cc (sym (ap (λ (e : Effect). e.cut) failed.1) ∙ whole))
@@ -92,11 +64,11 @@ record Failed (mode : Mode) (file_type : FileType) (name : Bytes) (pure : Folder
 failed_step : (mode : Mode) (file_type : FileType) (name : Bytes) (closed : Bool) (pure folder after : Folder) (effect : Effect) → FileStep mode file_type name closed folder effect after
     → effect.cut ≡ c.Write → SameFolders pure folder → (IsAside name → ⊥) → Failed mode file_type name pure effect
 failed_step mode file_type name closed pure folder after effect (unread fault none is stays) cut same other =
-    absurd (unread_cut name fault (sym (ap (λ (e : Effect). e.cut) is) ∙ cut))
+    absurd ((unread_quiet name fault).other (sym (ap (λ (e : Effect). e.cut) is) ∙ cut))
 failed_step mode file_type name closed pure folder after effect (without_memory is stays) cut same other =
     absurd (cc (sym (ap (λ (e : Effect). e.cut) is) ∙ cut))
 failed_step mode file_type name closed pure folder after effect (unformatted text fault there formats is stays) cut same other =
-    absurd (refused_cut name fault (sym (ap (λ (e : Effect). e.cut) is) ∙ cut))
+    absurd ((refused_quiet name fault).other (sym (ap (λ (e : Effect). e.cut) is) ∙ cut))
 failed_step mode file_type name closed pure folder after effect (kept text new there formats unchanged (inl is) stays) cut same other =
     absurd (cc (sym (ap (λ (e : Effect). e.cut) is) ∙ cut))
 failed_step mode file_type name closed pure folder after effect (kept text new there formats unchanged (inr failed) stays) cut same other = record {
@@ -112,9 +84,6 @@ failed_step mode file_type name closed pure folder after effect (rewritten text 
     absurd (cc (sym (ap (λ (e : Effect). e.cut) failed.0) ∙ cut))
 
 -- ---- runs
-
-abbrev Other : Bytes → Type 0
-Other name = IsAside name → ⊥
 
 pub record Begins (mode : Mode) (file_type : FileType) (names : List Bytes) (run last : Run) (pure : Folder) : Type 0 where
   pub front : List Bytes

@@ -8,6 +8,7 @@ use Rattle.bz_files.specs.declared.files.FileFault.{FileFault}
 use Rattle.bz_files.specs.declared.files.FileFault.TheVariants as file
 use Rattle.bz_build_format.specs.declared.formatter.FormatFault.{FormatFault}
 use Rattle.bz_build_format.specs.declared.formatter.FormatFault.TheVariants as f
+use Rattle.bz_streams.specs.declared.exit.Cut.TheVariants as c
 use Rattle.bz_streams.specs.Outputs.{WritesUnlessClosed}
 use Rattle.bz_streams.specs.Ports.{IsInput}
 use Rattle.bz_streams.proofs.Outputs.{appends_nothing}
@@ -15,10 +16,11 @@ use Rattle.bz_buildifier.specs.FileKinds.{FormatsAs}
 use Rattle.bz_buildifier.specs.FormatRun.{Effect, refused, unread_file, Rewrites}
 use Rattle.bz_buildifier.proofs.Fronts.{cut_at_limit, fault_of_front, placed_of_front, within_limit}
 
--- an effect that writes nothing on standard output
+-- an effect that writes nothing on standard output, which does not fail
 pub record IsQuiet (effect : Effect) : Type 0 where
   pub stays : effect.closes ≡ false
   pub nothing : effect.out ≡ []
+  pub other : effect.cut ≡ c.Write → ⊥
 
 pub quiet : (closed : Bool) (effect : Effect) (faults : ℕ) (held : Option (List ℕ)) → IsQuiet effect
     → WritesUnlessClosed closed effect.closes faults faults held held effect.out
@@ -29,20 +31,20 @@ quiet closed effect faults held is = rw (is.stays, is.nothing) (none closed)
     none false = (refl, appends_nothing held)
 
 pub unread_quiet : (name : List ℕ) (fault : FileFault) → IsQuiet (unread_file name fault)
-unread_quiet name file.Absent = record { stays = refl; nothing = refl }
-unread_quiet name file.Open = record { stays = refl; nothing = refl }
-unread_quiet name file.Write = record { stays = refl; nothing = refl }
-unread_quiet name file.Memory = record { stays = refl; nothing = refl }
+unread_quiet name file.Absent = record { stays = refl; nothing = refl; other = λ is. cc is }
+unread_quiet name file.Open = record { stays = refl; nothing = refl; other = λ is. cc is }
+unread_quiet name file.Write = record { stays = refl; nothing = refl; other = λ is. cc is }
+unread_quiet name file.Memory = record { stays = refl; nothing = refl; other = λ is. cc is }
 
 pub refused_quiet : (name : List ℕ) (fault : FormatFault) → IsQuiet (refused name fault)
-refused_quiet name (f.Unread fault) = record { stays = refl; nothing = refl }
-refused_quiet name f.TooLarge = record { stays = refl; nothing = refl }
-refused_quiet name f.TooDeep = record { stays = refl; nothing = refl }
-refused_quiet name f.Memory = record { stays = refl; nothing = refl }
+refused_quiet name (f.Unread fault) = record { stays = refl; nothing = refl; other = λ is. cc is }
+refused_quiet name f.TooLarge = record { stays = refl; nothing = refl; other = λ is. cc is }
+refused_quiet name f.TooDeep = record { stays = refl; nothing = refl; other = λ is. cc is }
+refused_quiet name f.Memory = record { stays = refl; nothing = refl; other = λ is. cc is }
 
 pub rewrites_quiet : (name text new : List ℕ) (folder after : Folder) (effect : Effect) → Rewrites name text new folder effect after → IsQuiet effect
-rewrites_quiet name text new folder after effect (inl done) = rw (done.0) (record { stays = refl; nothing = refl })
-rewrites_quiet name text new folder after effect (inr failed) = rw (failed.0) (record { stays = refl; nothing = refl })
+rewrites_quiet name text new folder after effect (inl done) = rw (done.0) (record { stays = refl; nothing = refl; other = λ is. cc is })
+rewrites_quiet name text new folder after effect (inr failed) = rw (failed.0) (record { stays = refl; nothing = refl; other = λ is. cc is })
 
 -- ---- the front of an input, one byte longer than a text may be, decides what becomes of it
 

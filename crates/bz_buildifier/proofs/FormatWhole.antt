@@ -104,7 +104,7 @@ exact_step mode file_type name closed pure folder after effect (rewritten text n
 
 -- ---- whole runs
 
-abbrev Other : Bytes → Type 0
+abbrev pub Other : Bytes → Type 0
 Other name = IsAside name → ⊥
 
 pub exact_run : (mode : Mode) (file_type : FileType) (names : List Bytes) (run last : Run) (pure folder after : Folder) → FilesFormatted mode file_type names run folder last after

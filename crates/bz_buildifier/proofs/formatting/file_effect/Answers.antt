@@ -1,4 +1,4 @@
-use Rattle.std.proofs.Common.{◌≡◌, ◌∙◌, refl, sym, subst, ap, List, ℕ, true, false, Ok, Err}
+use Rattle.std.proofs.Common.{◌≡◌, ◌∙◌, refl, sym, subst, ap, List, ℕ, true, false, Err}
 use Rattle.bz_files.specs.Folder.{Folder}
 use Rattle.bz_buildifier.specs.FileKinds.{FormatsAs, is_bzl}
 use Rattle.bz_buildifier.specs.FormatRun as r
@@ -83,6 +83,6 @@ returns-clause-step g c = λ honest.
       effect,
       without_memory refl (c.in-Ok.ensures.same honest),
       c.fail.ensures.effect,
-      quiet c.args.closed effect (g.W.Sink.faults c.args.out.now) (g.W.Sink.contents c.args.out.now) (record { stays = refl; nothing = refl }),
+      quiet c.args.closed effect (g.W.Sink.faults c.args.out.now) (g.W.Sink.contents c.args.out.now) (record { stays = refl; nothing = refl; other = λ is. cc is }),
       c.fail.ensures.reported,
     )

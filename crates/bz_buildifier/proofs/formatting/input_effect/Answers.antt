@@ -13,7 +13,7 @@ returns-in-Err-Read-clause-step g c =
       effect,
       input_unread refl,
       c.fail.ensures.effect,
-      quiet false effect (g.W.Sink.faults c.args.out.now) (g.W.Sink.contents c.args.out.now) (record { stays = refl; nothing = refl }),
+      quiet false effect (g.W.Sink.faults c.args.out.now) (g.W.Sink.contents c.args.out.now) (record { stays = refl; nothing = refl; other = λ is. cc is }),
       c.fail.ensures.reported,
     )
 
@@ -23,7 +23,7 @@ returns-in-Err-Memory-clause-step g c =
       effect,
       input_without_memory refl,
       c.fail-in-Err-Memory.ensures.effect,
-      quiet false effect (g.W.Sink.faults c.args.out.now) (g.W.Sink.contents c.args.out.now) (record { stays = refl; nothing = refl }),
+      quiet false effect (g.W.Sink.faults c.args.out.now) (g.W.Sink.contents c.args.out.now) (record { stays = refl; nothing = refl; other = λ is. cc is }),
       c.fail-in-Err-Memory.ensures.reported,
     )
 
@@ -69,6 +69,6 @@ returns-clause-step g c =
       effect,
       input_without_memory refl,
       c.fail-in-Err-input_out.ensures.effect,
-      quiet false effect (g.W.Sink.faults c.args.out.now) (g.W.Sink.contents c.args.out.now) (record { stays = refl; nothing = refl }),
+      quiet false effect (g.W.Sink.faults c.args.out.now) (g.W.Sink.contents c.args.out.now) (record { stays = refl; nothing = refl; other = λ is. cc is }),
       c.fail-in-Err-input_out.ensures.reported,
     )
