@@ -1,6 +1,6 @@
 -- Two runs that no failure cuts agree.
-use Rattle.std.proofs.Common.{◌≡◌, ◌⊎◌, ◌≤◌, ◌<◌, ◌∙◌, ◌∷◌, ◌++◌, ◌||◌, inl, inr, List, [], length, Bool, true, false, Some, None, Ok, Err, Result, refl, sym, ap, subst, arith}
-use Rattle.std.specs.Prelude.{IfOk, if◌then◌else◌}
+use Rattle.std.proofs.Common.{◌≡◌, ◌≤◌, ◌<◌, ◌∙◌, ◌∷◌, ◌++◌, inl, inr, List, [], length, Bool, true, false, Some, None, Ok, Err, Result, refl, sym, ap, subst, arith}
+use Rattle.std.specs.Prelude.{IfOk}
 use Rattle.std.specs.List.{All}
 use Rattle.std.specs.FinMap.{get}
 use Rattle.bz_items.specs.Characters.{Bytes}
@@ -16,16 +16,13 @@ use Rattle.bz_build_format.specs.declared.formatter.FormatFault.TheVariants as f
 use Rattle.bz_value.specs.declared.refusal.Refusal.TheVariants as r
 use Rattle.bz_bzl_format.specs.Formatted.{bzl_formatted, formatted_tree}
 use Rattle.bz_grammar.specs.Legal.{ReadsBzl}
-use Rattle.bz_streams.specs.Exits.{first_cut}
-use Rattle.bz_streams.specs.Ports.{IsInput}
-use Rattle.bz_streams.specs.Reported.{stdin, fault_line}
-use Rattle.bz_streams.specs.declared.exit.Cut.{Cut}
+use Rattle.bz_streams.specs.Reported.{stdin}
 use Rattle.bz_streams.specs.declared.exit.Cut.TheVariants as c
 use Rattle.bz_buildifier.specs.Modes as m
 use Rattle.bz_buildifier.specs.FileKinds.{FormatsAs, is_bzl}
-use Rattle.bz_buildifier.specs.FormatRun.{Effect, Run, FilesFormatted, InputStep, input_unread, input_without_memory, input_unformatted, input_printed, FormatOutcome, FormatOutcomeOf, RunOf, IsFormatUsageLine, no_word_line, begun, grown, out_after, worse, output_effect, input_out, text_status, refused}
+use Rattle.bz_buildifier.specs.FormatRun.{Effect, Run, FilesFormatted, InputStep, input_unread, input_without_memory, input_unformatted, input_printed, FormatOutcomeOf, RunOf, IsFormatUsageLine, begun, grown, output_effect, input_out, text_status, refused}
 use Rattle.bz_buildifier.specs.FormatExact.{ExactStep, exact_absent, exact_unformatted, exact_formatted, Exact}
-use Rattle.bz_buildifier.specs.FormatAgree.{LinesAreAlike, SameReports, Agree, OutcomesAgree}
+use Rattle.bz_buildifier.specs.FormatAgree.{SameReports, Agree, OutcomesAgree}
 use Rattle.bz_buildifier.specs.declared.file_type.FileType.{FileType}
 use Rattle.bz_buildifier.specs.declared.mode.Mode.{Mode}
 use Rattle.bz_buildifier.proofs.FormatWhole.{exact_run}
@@ -267,22 +264,23 @@ run_of_agree laws mode file_type (name ∷ names) input one other folder after a
     files_agree laws mode file_type (name ∷ names) one other folder after after' run run' whole whole' others
 
 -- the line of words that are no line of buildifier's is fixed, but where clap finds the fault
-one_line : (usage : m.FormatUsage) (line other : Bytes) → (usage ≡ m.clap_fault → ⊥) → IsFormatUsageLine usage line → IsFormatUsageLine usage other → other ≡ line
-one_line m.clap_fault line other some is is' = absurd (some refl)
-one_line (m.no_mode name) line other some is is' = is' ∙ sym is
-one_line (m.no_type name) line other some is is' = is' ∙ sym is
+one_line : (words : List Bytes) (usage : m.FormatUsage) (line other : Bytes) → (usage ≡ m.clap_fault → ⊥)
+    → IsFormatUsageLine words usage line → IsFormatUsageLine words usage other → other ≡ line
+one_line words m.clap_fault line other some is is' = absurd (some refl)
+one_line words (m.no_mode name) line other some is is' = is' ∙ sym is
+one_line words (m.no_type name) line other some is is' = is' ∙ sym is
 
-of_agree : OneEach → (read : Result m.FormatLine m.FormatUsage) (input : Bytes) (one other : Run) (folder after after' : Folder)
-    → FormatOutcomeOf read (Some input) folder one after → FormatOutcomeOf read (Some input) folder other after'
+of_agree : OneEach → (words : List Bytes) (read : Result m.FormatLine m.FormatUsage) (input : Bytes) (one other : Run) (folder after after' : Folder)
+    → FormatOutcomeOf words read (Some input) folder one after → FormatOutcomeOf words read (Some input) folder other after'
     → one.cut ≡ c.Whole → other.cut ≡ c.Whole → (read ≡ Err m.clap_fault → ⊥) → IfOk read (λ line. All (λ name. IsAside name → ⊥) line.files)
     → Agree one other × SameFolders after after'
-of_agree laws (Err usage) input one other folder after after' outcome outcome' whole whole' some others =
-    let lines : outcome'.0 ≡ outcome.0 = one_line usage outcome.0 outcome'.0 (λ is. some (ap Err is)) outcome.1 outcome'.1 in
+of_agree laws words (Err usage) input one other folder after after' outcome outcome' whole whole' some others =
+    let lines : outcome'.0 ≡ outcome.0 = one_line words usage outcome.0 outcome'.0 (λ is. some (ap Err is)) outcome.1 outcome'.1 in
     let same : other ≡ one = outcome'.2 ∙ (rw (lines) (sym outcome.2)) in (
       subst (λ (r : Run). Agree one r) (sym same) (record { out = refl; lines = same_reports one.lines; status = refl; cut = refl; closed = refl }),
       λ name aside. ap (λ (g : Folder). get g name) (outcome'.3 ∙ sym outcome.3),
     )
-of_agree laws (Ok line) input one other folder after after' outcome outcome' whole whole' some others =
+of_agree laws words (Ok line) input one other folder after after' outcome outcome' whole whole' some others =
     run_of_agree laws line.mode line.file_type line.files input one other folder after after' outcome outcome' whole whole' others
 
 pub outcomes_agree : OneReading → OneBzlReading → OutcomesAgree
@@ -291,4 +289,4 @@ outcomes_agree build bzl words input folder after after' one other (inl wants) o
 outcomes_agree build bzl words input folder after after' one other (inr outcome) (inl wants) whole whole' some others =
     absurd (cc (sym (ap (λ (r : Run). r.cut) wants.0) ∙ whole'))
 outcomes_agree build bzl words input folder after after' one other (inr outcome) (inr outcome') whole whole' some others =
-    of_agree (record { build = build; bzl = bzl }) (m.format_line words) input one other folder after after' outcome outcome' whole whole' some others
+    of_agree (record { build = build; bzl = bzl }) words (m.format_line words) input one other folder after after' outcome outcome' whole whole' some others

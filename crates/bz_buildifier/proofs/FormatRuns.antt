@@ -94,7 +94,7 @@ files_outcome words line known folder after run read some runs = inr (rw (read) 
     go (name ∷ names) other all = all
 
 pub usage_outcome : (words : List (List ℕ)) (usage : m.FormatUsage) (line : List ℕ) (known : Option (List ℕ)) (folder : Folder)
-    → m.format_line words ≡ Err usage → IsFormatUsageLine usage line
+    → m.format_line words ≡ Err usage → IsFormatUsageLine words usage line
     → FormatOutcome words known folder (record begun { lines = line ∷ []; status = 2 }) folder
 usage_outcome words usage line known folder read reported = inr (rw (read) (line, reported, refl, refl))
 

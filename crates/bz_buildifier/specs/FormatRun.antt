@@ -1,6 +1,9 @@
 -- What buildifier makes of standard input, or of files one after the other.
-use Rattle.std.specs.Prelude.{◌≡◌, ◌⊎◌, ◌==◌, ◌||◌, ℕ, List, [], ◌∷◌, ◌++◌, codes, bytes_eq, Bool, true, false, not, if◌then◌else◌, Option, Some, None, Result, Ok, Err}
+use Rattle.std.specs.Prelude.{◌≡◌, ◌⊎◌, ◌==◌, ◌||◌, ℕ, List, [], ◌∷◌, ◌++◌, codes, bytes_eq, eqb, Bool, true, false, not, if◌then◌else◌, Option, Some, None, Result, Ok, Err}
 use Rattle.std.specs.FinMap.{get}
+use Rattle.std.specs.List.{ends_with}
+use Rattle.clap.specs.Words.{IsAmong, fault_of}
+use Rattle.clap.specs.declared.error.kind.ErrorKind.{ErrorKind}
 use Rattle.bz_items.specs.Characters.{Bytes}
 use Rattle.bz_files.specs.Folder.{Folder, SameBut, new_name, with_file, IsReplacing}
 use Rattle.bz_files.specs.declared.files.FileFault.{FileFault}
@@ -18,7 +21,7 @@ use Rattle.bz_buildifier.specs.declared.file_type.FileType.{FileType}
 use Rattle.bz_buildifier.specs.declared.mode.Mode.{Mode}
 use Rattle.bz_buildifier.specs.declared.mode.Mode.TheVariants.{Fix, Check, PrintIfChanged}
 use Rattle.bz_buildifier.specs.FileKinds.{FormatsAs, is_bzl}
-use Rattle.bz_buildifier.specs.Modes.{FormatLine, FormatUsage, clap_fault, no_mode, no_type, format_line, mode_names, type_names}
+use Rattle.bz_buildifier.specs.Modes.{FormatLine, FormatUsage, buildifier_app, clap_fault, clap_hint, no_mode, no_type, format_line, mode_names, type_names}
 
 -- ---- what one text does
 
@@ -96,12 +99,22 @@ Rewrites name text new folder effect after =
 
 -- ---- one file
 
+-- a name that no file can have
+abbrev pub is_directory_name : Bytes → Bool
+is_directory_name name = ends_with eqb name (codes "/") || (bytes_eq name (codes ".") || bytes_eq name (codes ".."))
+
+-- what is there and isn't opened; below that, what formats a directory
+abbrev pub unopened_there : Bytes → Effect
+unopened_there name = record (unopened name c.Files) {
+  lines = named_line name (codes "cannot open") ∷ (if is_directory_name name then named_line name (codes "names a directory: see buildifier-tree") ∷ [] else []);
+}
+
 -- a file that is not read
 abbrev pub unread_file : Bytes → FileFault → Effect
 unread_file name file.Memory = memory_effect name
 unread_file name file.Absent = unopened name c.Whole
-unread_file name file.Open = unopened name c.Files
-unread_file name file.Write = unopened name c.Files
+unread_file name file.Open = unopened_there name
+unread_file name file.Write = unopened_there name
 
 -- A file that is not read is reported, an absent one among them. What is read is formatted, or reported. Where the mode rewrites
 -- a file the folder changes; all else leaves the folder.
@@ -177,24 +190,25 @@ meant_word option (Some word) = codes "buildifier: did you mean '--" ++ (option 
 abbrev pub no_word_line : Bytes → Bytes → Option Bytes → Bytes
 no_word_line option name near = codes "buildifier: no " ++ (option ++ (codes ": " ++ (name ++ (codes "\n" ++ meant_word option near))))
 
--- Of a fault that clap finds the text is clap's.
-abbrev pub IsFormatUsageLine : FormatUsage → Bytes → Type 0
-IsFormatUsageLine clap_fault line = Unit {0}
-IsFormatUsageLine (no_mode name) line = line ≡ no_word_line (codes "mode") name (nearest name mode_names)
-IsFormatUsageLine (no_type name) line = line ≡ no_word_line (codes "type") name (nearest name type_names)
+-- Of a fault that clap finds the text is clap's, and below it is what may help.
+abbrev pub IsFormatUsageLine : List Bytes → FormatUsage → Bytes → Type 0
+IsFormatUsageLine words clap_fault line =
+    (kind : ErrorKind) × (text : Bytes) × IsAmong kind (fault_of buildifier_app words) × (line ≡ text ++ clap_hint kind words)
+IsFormatUsageLine words (no_mode name) line = line ≡ no_word_line (codes "mode") name (nearest name mode_names)
+IsFormatUsageLine words (no_type name) line = line ≡ no_word_line (codes "type") name (nearest name type_names)
 
 -- Words that are no line of buildifier's have status 2; nothing is then read.
-abbrev pub FormatOutcomeOf : Result FormatLine FormatUsage → Option Bytes → Folder → Run → Folder → Type 0
-FormatOutcomeOf (Err usage) known folder after folder' =
-    (line : Bytes) × IsFormatUsageLine usage line × (after ≡ record begun { lines = line ∷ []; status = 2 }) × (folder' ≡ folder)
-FormatOutcomeOf (Ok line) known folder after folder' = RunOf line.mode line.file_type line.files known folder after folder'
+abbrev pub FormatOutcomeOf : List Bytes → Result FormatLine FormatUsage → Option Bytes → Folder → Run → Folder → Type 0
+FormatOutcomeOf words (Err usage) known folder after folder' =
+    (line : Bytes) × IsFormatUsageLine words usage line × (after ≡ record begun { lines = line ∷ []; status = 2 }) × (folder' ≡ folder)
+FormatOutcomeOf words (Ok line) known folder after folder' = RunOf line.mode line.file_type line.files known folder after folder'
 
 -- Words, the bytes of standard input where they are known, and the folder before: what the run has done at its end, and
 -- the folder after. Memory may be refused before anything is done, which is reported.
 abbrev pub FormatOutcome : List Bytes → Option Bytes → Folder → Run → Folder → Type 0
 FormatOutcome words known folder after folder' =
     ((after ≡ record begun { lines = named_line (codes "buildifier") (codes "Memory") ∷ []; status = 3; cut = c.Memory }) × (folder' ≡ folder))
-    ⊎ FormatOutcomeOf (format_line words) known folder after folder'
+    ⊎ FormatOutcomeOf words (format_line words) known folder after folder'
 
 -- ---- why a run of files is cut
 

@@ -1,8 +1,11 @@
 -- The command line of buildifier: what its words say.
-use Rattle.std.specs.Prelude.{◌==◌, List, [], ◌∷◌, length, codes, bytes_eq, if◌then◌else◌, unwrap_or, Option, Some, None, Result, Ok, Err, true}
+use Rattle.std.specs.Prelude.{◌==◌, Bool, false, List, [], ◌∷◌, length, codes, bytes_eq, if◌then◌else◌, unwrap_or, Option, Some, None, Result, Ok, Err, true}
 use Rattle.clap.specs.Words.{App, Rule, Row, all_of, first_of, fault_of, matches_of, new_app, new_rule, with_rule}
 use Rattle.clap.specs.declared.builder.action.ArgAction.TheVariants.{Append}
+use Rattle.clap.specs.declared.error.kind.ErrorKind.{ErrorKind}
+use Rattle.clap.specs.declared.error.kind.ErrorKind.TheVariants as kind
 use Rattle.bz_items.specs.Characters.{Bytes}
+use Rattle.bz_streams.specs.Options.{OptionTable, option_hint}
 use Rattle.bz_buildifier.specs.declared.file_type.FileType.{FileType}
 use Rattle.bz_buildifier.specs.declared.file_type.FileType.TheVariants.{Auto, Build, Bzl}
 use Rattle.bz_buildifier.specs.declared.mode.Mode.{Mode}
@@ -25,6 +28,21 @@ nameless_buildifier = let app = new_app (codes "buildifier") in record { top = r
 
 abbrev pub buildifier_app : App
 buildifier_app = with_rule (with_rule (with_rule nameless_buildifier mode_rule) type_rule) files_rule
+
+-- ---- what is below clap's text
+
+abbrev pub buildifier_options : OptionTable
+buildifier_options = record { program = codes "buildifier"; names = codes "mode" ∷ codes "type" ∷ codes "help" ∷ codes "version" ∷ []; letters = codes "hV" }
+
+-- Help and the version are faults for clap; nothing is wrong with the words.
+abbrev pub is_request : ErrorKind → Bool
+is_request kind.DisplayHelp = true
+is_request kind.DisplayVersion = true
+is_request _ = false
+
+-- what is below clap's text of a fault of this kind
+abbrev pub clap_hint : ErrorKind → List Bytes → Bytes
+clap_hint fault words = if is_request fault then [] else option_hint buildifier_options words
 
 -- ---- what the words say
 

@@ -1,12 +1,14 @@
 -- Worked rows: what buildifier's words, modes and faults mean.
 use Rattle.std.specs.Prelude.{◌≡◌, [], ◌∷◌, codes, Ok, Err, true, false}
+use Rattle.clap.specs.Words.{fault_of}
+use Rattle.clap.specs.declared.error.kind.ErrorKind.TheVariants as kind
 use Rattle.bz_lex.specs.declared.fault.ReadFault.TheVariants.{Unexpected}
-use Rattle.bz_files.specs.declared.files.FileFault.TheVariants.{Absent}
+use Rattle.bz_files.specs.declared.files.FileFault.TheVariants.{Absent, Open}
 use Rattle.bz_build_format.specs.declared.formatter.FormatFault.TheVariants.{Unread, TooLarge}
 use Rattle.bz_streams.specs.Reported.{stdin}
 use Rattle.bz_buildifier.specs.FormatRun.{file_out, input_out, is_rewritten, text_status, worse, refused, unread_file, unwritten, unprinted}
 use Rattle.bz_buildifier.specs.FileKinds.{is_bzl}
-use Rattle.bz_buildifier.specs.Modes.{format_line, no_mode, no_type, clap_fault}
+use Rattle.bz_buildifier.specs.Modes.{buildifier_app, clap_hint, format_line, no_mode, no_type, clap_fault}
 use Rattle.bz_buildifier.specs.declared.file_type.FileType.TheVariants.{Auto, Build, Bzl}
 use Rattle.bz_buildifier.specs.declared.mode.Mode.TheVariants.{Fix, Check, PrintIfChanged}
 
@@ -27,6 +29,13 @@ Formats = (file_out Check (codes "BUILD") (codes "x( )\n") (codes "x()\n") ≡ c
     × (is_rewritten Fix (codes "x( )\n") (codes "x()\n") ≡ true) × (is_rewritten Fix (codes "x()\n") (codes "x()\n") ≡ false)
     × (text_status Check (codes "x( )\n") (codes "x()\n") ≡ 4) × (worse 4 1 ≡ 1) × (worse 3 1 ≡ 3) × (worse 0 4 ≡ 4) × (worse 0 0 ≡ 0)
 
+-- what is below clap's text
+abbrev Hints : Type 0
+Hints = (fault_of buildifier_app (codes "-r" ∷ []) ≡ kind.UnknownArgument ∷ []) × (fault_of buildifier_app (codes "--help" ∷ codes "-r" ∷ []) ≡ kind.DisplayHelp ∷ [])
+    × (clap_hint kind.UnknownArgument (codes "--type=bzl" ∷ codes "-hV" ∷ codes "--" ∷ codes "-r" ∷ []) ≡ [])
+    × (clap_hint kind.UnknownArgument (codes "-r" ∷ []) ≡ codes "buildifier: there is no option '-r' here: see docs/COMING.md, buildifier-tree and contrib/compat/compat.sh\n")
+    × (clap_hint kind.DisplayHelp (codes "--help" ∷ codes "-r" ∷ []) ≡ [])
+
 -- which files are formatted as .bzl files
 abbrev FileKinds : Type 0
 FileKinds = (is_bzl Auto (codes "a/b.bzl") ≡ true) × (is_bzl Auto (codes "bzl") ≡ false) × (is_bzl Auto stdin ≡ false) × (is_bzl Bzl stdin ≡ true) × (is_bzl Build (codes "b.bzl") ≡ false)
@@ -35,8 +44,10 @@ abbrev FormatReported : Type 0
 FormatReported = ((refused (codes "a/BUILD") (Unread (Unexpected 1 7))).lines ≡ codes "a/BUILD:1:7: Unexpected\n" ∷ [])
     × ((refused stdin TooLarge).lines ≡ codes "<stdin>: TooLarge\n" ∷ [])
     × ((unread_file (codes "BUILD") Absent).lines ≡ codes "BUILD: cannot open\n" ∷ [])
+    × ((unread_file (codes "app/") Open).lines ≡ codes "app/: cannot open\n" ∷ codes "app/: names a directory: see buildifier-tree\n" ∷ [])
+    × ((unread_file (codes "app") Open).lines ≡ codes "app: cannot open\n" ∷ [])
     × ((unwritten (codes "BUILD")).lines ≡ codes "BUILD: cannot write\n" ∷ [])
     × ((unprinted (codes "x")).lines ≡ codes "<stdout>: cannot write\n" ∷ [])
 
 abbrev pub WorkedFormats : Type 0
-WorkedFormats = FormatLines × Formats × FileKinds × FormatReported
+WorkedFormats = FormatLines × Hints × Formats × FileKinds × FormatReported

@@ -3,10 +3,11 @@ ghost use Rattle.std.specs.Prelude.{◌≡◌, ◌⊎◌, ◌||◌, ◌∷◌, �
 ghost use Rattle.bz_streams.specs.Exits.{first_cut};
 ghost use Rattle.bz_streams.specs.Outputs.{Reports, Counts, WritesUnlessClosed};
 ghost use Rattle.bz_streams.specs.Reported.{stdin, named_line};
-ghost use Rattle.bz_buildifier.specs.FormatRun.{Prints, IsCutBy, unread_file, refused, file_out, input_out, is_rewritten, text_status, worse};
+ghost use Rattle.bz_buildifier.specs.FormatRun.{Prints, IsCutBy, is_directory_name, unopened_there, unread_file, refused, file_out, input_out, is_rewritten, text_status, worse};
 ghost use Rattle.bz_buildifier.specs.FormatRun as r;
 ghost use Rattle.bz_buildifier.specs.private.FormatShown.{effect_seen};
 
+use crate::file_type::ends_in;
 use crate::mode::Mode;
 use crate::{Cut, Sink};
 use bz_build_format::FormatFault;
@@ -93,6 +94,25 @@ pub(crate) fn fail<'a, E: Sink>(err: &mut E, name: &'a str, word: &'a str, cut: 
     }
 }
 
+// Whether no file can have a name: it ends in a slash, or is the one of this directory or of the one above.
+fn is_directory_name(name: &str) -> bool
+    ensures { result ≡ is_directory_name name.now }
+{
+    ends_in(name, "/") || name == "." || name == ".."
+}
+
+// Reports that what is there can't be opened, and what formats a directory.
+fn fail_to_open<E: Sink>(err: &mut E, name: &str) -> Effect
+    ensures effect { result ≡ effect_seen (unopened_there name.now) }
+    ensures reported { Reports (E.faults err.old) (E.faults err.new) (E.contents err.old) (E.contents err.new) (unopened_there name.now).lines }
+{
+    let effect = fail(err, name, "cannot open", Cut::Files);
+    if is_directory_name(name) {
+        report_named(err, name, "names a directory: see buildifier-tree");
+    }
+    effect
+}
+
 /// Reports why a file was not read.
 pub(crate) fn unread_file<E: Sink>(err: &mut E, name: &str, fault: FileFault) -> Effect
     ensures effect { result ≡ effect_seen (unread_file name.now fault) }
@@ -101,7 +121,7 @@ pub(crate) fn unread_file<E: Sink>(err: &mut E, name: &str, fault: FileFault) ->
     match fault {
         FileFault::Memory => fail(err, name, "Memory", Cut::Memory),
         FileFault::Absent => fail(err, name, "cannot open", Cut::Whole),
-        FileFault::Open | FileFault::Write => fail(err, name, "cannot open", Cut::Files),
+        FileFault::Open | FileFault::Write => fail_to_open(err, name),
     }
 }
 

@@ -1,5 +1,5 @@
 //! How the files of a run are read.
-ghost use Rattle.std.specs.Prelude.{◌≡◌, IfOk, codes, eqb, option_map};
+ghost use Rattle.std.specs.Prelude.{◌≡◌, IfOk, eqb, option_map};
 ghost use Rattle.std.specs.List.{ends_with};
 ghost use Rattle.bz_streams.specs.Near.{nearest};
 ghost use Rattle.bz_buildifier.specs.FileKinds.{is_bzl};
@@ -19,11 +19,11 @@ pub(crate) enum FileType {
     Bzl,
 }
 
-// Whether a name ends in `.bzl`.
-fn ends_in_bzl(name: &str) -> bool
-    ensures { result ≡ ends_with eqb name.now (codes ".bzl") }
+/// Whether a name ends in this.
+pub(crate) fn ends_in(name: &str, end: &str) -> bool
+    ensures { result ≡ ends_with eqb name.now end.now }
 {
-    name.ends_with(".bzl")
+    name.ends_with(end)
 }
 
 impl FileType {
@@ -51,7 +51,7 @@ impl FileType {
         ensures { result ≡ is_bzl self name.now }
     {
         match self {
-            FileType::Auto => ends_in_bzl(name),
+            FileType::Auto => ends_in(name, ".bzl"),
             FileType::Build => false,
             FileType::Bzl => true,
         }

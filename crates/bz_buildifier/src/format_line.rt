@@ -1,12 +1,13 @@
 //! The words of buildifier's line.
-ghost use Rattle.std.specs.Prelude.{◌≡◌, [], false, Ok, Err, IfOk, IfErr, IfSome, map};
+ghost use Rattle.std.specs.Prelude.{◌≡◌, [], false, Ok, IfOk, IfErr, map, string_bytes};
+ghost use Rattle.clap.specs.Values.{kind_of};
 ghost use Rattle.clap.specs.Words.{app_of, rule_of, found_of, fault_of, matches_of, rows_of};
-ghost use Rattle.bz_buildifier.specs.Modes.{nameless_buildifier, buildifier_app, mode_rule, type_rule, files_rule, format_line};
-ghost use Rattle.bz_buildifier.specs.private.FormatShown.{seen_line, usage_of};
+ghost use Rattle.bz_buildifier.specs.Modes.{nameless_buildifier, buildifier_app, mode_rule, type_rule, files_rule, format_line, is_request, clap_hint};
+ghost use Rattle.bz_buildifier.specs.private.FormatShown.{seen_line, IsUsageOf};
 
 use crate::file_type::FileType;
 use crate::mode::Mode;
-use bz_streams::{VERSION, argument_text, argument_texts};
+use bz_streams::{VERSION, argument_text, argument_texts, option_hint};
 use clap::error::ErrorKind;
 use clap::{Arg, ArgAction, ArgMatches, Command};
 use std::alloc::{AllocError, Global};
@@ -100,7 +101,7 @@ fn buildifier_command<'a>(alloc: Global) -> Result<Command<'a>, AllocError>
 fn parse<'a, S: AsStr>(alloc: Global, words: &'a [S]) -> Result<ArgMatches<'a>, FormatUsage<'a>>
     ensures ok { IfOk result (λ m. (fault_of buildifier_app (map S.text words.entry.now) ≡ [])
         × (rows_of (found_of m) ≡ matches_of buildifier_app (map S.text words.entry.now))) }
-    ensures err { IfErr result (λ fault. IfSome (usage_of fault) (λ usage. format_line (map S.text words.entry.now) ≡ Err usage)) }
+    ensures err { IfErr result (IsUsageOf (map S.text words.entry.now)) }
 {
     let command = match buildifier_command(alloc) {
         Ok(command) => command,
@@ -120,7 +121,7 @@ pub(crate) fn read_format_line<'a, S: AsStr>(
     words: &'a [S],
 ) -> Result<FormatLine<'a>, FormatUsage<'a>>
     ensures ok { IfOk result (λ line. format_line (map S.text words.entry.now) ≡ Ok (seen_line line)) }
-    ensures err { IfErr result (λ fault. IfSome (usage_of fault) (λ usage. format_line (map S.text words.entry.now) ≡ Err usage)) }
+    ensures err { IfErr result (IsUsageOf (map S.text words.entry.now)) }
 {
     let matches = parse(alloc, words)?;
     let name = argument_text(&matches, "mode").unwrap_or("fix");
@@ -139,4 +140,33 @@ pub(crate) fn read_format_line<'a, S: AsStr>(
         }),
         Err(_) => Err(FormatUsage::Memory),
     }
+}
+
+// Whether help or the version was requested.
+fn is_request(kind: ErrorKind) -> bool
+    ensures { result ≡ is_request kind }
+{
+    matches!(kind, ErrorKind::DisplayHelp | ErrorKind::DisplayVersion)
+}
+
+/// What is printed below clap's text of a fault that it finds in these words: which option may have been meant, or where those of
+/// other programs are listed; nothing below help and the version. The error: memory was refused.
+pub(crate) fn clap_hint<S: AsStr>(
+    alloc: Global,
+    error: &clap::Error,
+    words: &[S],
+) -> Result<String, AllocError>
+    ensures { IfOk result (λ hint. string_bytes hint ≡ clap_hint (kind_of error.now) (map S.text words.now)) }
+{
+    if is_request(error.kind()) {
+        return Ok(String::new(alloc));
+    }
+    let hint = option_hint(
+        alloc,
+        "buildifier",
+        &["mode", "type", "help", "version"],
+        b"hV",
+        words,
+    )?;
+    Ok(hint)
 }

@@ -1,5 +1,5 @@
 //! The program buildifier over any reader, writers and files.
-ghost use Rattle.std.specs.Prelude.{◌≡◌, ◌≢◌, ◌⊎◌, ◌≤◌, [], ◌∷◌, List, ℕ, true, false, IfOk, OnOk, OnErr, IsErr, Some, codes, map, option_map};
+ghost use Rattle.std.specs.Prelude.{◌≡◌, ◌≢◌, ◌⊎◌, ◌≤◌, [], ◌∷◌, List, ℕ, true, false, IfOk, OnOk, OnErr, IsErr, Err, codes, map, option_map};
 ghost use Rattle.std.specs.FinMap.{get};
 ghost use Rattle.bz_streams.specs.Faults.{Rises, AppendsUnlessFailed};
 ghost use Rattle.bz_streams.specs.Outputs.{Reports, Counts, Writes, WritesUnlessClosed};
@@ -9,21 +9,21 @@ ghost use Rattle.bz_buildifier.specs.Modes.{format_line};
 ghost use Rattle.bz_buildifier.specs.FileKinds.{FormatsAs, is_bzl};
 ghost use Rattle.bz_buildifier.specs.FormatRun as r;
 ghost use Rattle.bz_buildifier.specs.FormatRun.{IsCutBy, Rewrites, FileStep, InputStep, FormatOutcome, IsFormatUsageLine, no_word_line, begun};
-ghost use Rattle.bz_buildifier.specs.private.FormatShown.{effect_seen, progress_of, usage_of};
+ghost use Rattle.bz_buildifier.specs.private.FormatShown.{effect_seen, progress_of, IsUsageOf};
 
 use crate::effect::{
     BEGUN, Effect, Progress, fail, file_out, grown, input_out, is_rewritten, print, refused,
     text_status, unread_file,
 };
 use crate::file_type::FileType;
-use crate::format_line::{FormatLine, FormatUsage, read_format_line};
+use crate::format_line::{FormatLine, FormatUsage, clap_hint, read_format_line};
 use crate::mode::Mode;
 use crate::{Cut, Exit, Sink, Source};
 use bz_build_format::{FormatFault, format};
 use bz_bzl_format::format_bzl;
 use bz_files::Files;
 use bz_items::Text;
-use bz_streams::{InputFault, MOST, STDIN, read_most, report, report_clap};
+use bz_streams::{InputFault, MOST, STDIN, read_most, report, report_clap_hinted};
 use std::alloc::{AllocError, Global};
 use std::convert::AsStr;
 
@@ -211,19 +211,24 @@ fn report_no_word<'a, E: Sink>(err: &mut E, option: &'a str, name: &'a str, near
     }
 }
 
-// Reports why the words are no line of the program's. The error: memory was refused, to the words, to the text of a fault
-// that clap finds or to the search for a word that is near; nothing is then printed.
-fn report_unusable<E: Sink>(
+// Reports why these words are no line of the program's. The error: memory was refused, to the words, to the text of a fault
+// that clap finds, to what is below it or to the search for a word that is near; nothing is then printed.
+fn report_unusable<S: AsStr, E: Sink>(
     alloc: Global,
+    words: &[S],
     err: &mut E,
     fault: &FormatUsage<'_>,
 ) -> Result<(), AllocError>
-    ensures ok { OnOk result ((usage : m.FormatUsage) × (line : List ℕ) × (usage_of fault.now ≡ Some usage) × IsFormatUsageLine usage line
+    ensures ok { IsUsageOf (map S.text words.now) fault.now → OnOk result ((usage : m.FormatUsage) × (line : List ℕ)
+        × (format_line (map S.text words.now) ≡ Err usage) × IsFormatUsageLine (map S.text words.now) usage line
         × AppendsUnlessFailed (E.faults err.old) (E.faults err.new) (E.contents err.old) (E.contents err.new) line) }
     ensures err { OnErr result (err.new ≡ err.old) }
 {
     match fault {
-        FormatUsage::Line(error) => report_clap(alloc, err, error),
+        FormatUsage::Line(error) => {
+            let hint = clap_hint(alloc, error, words)?;
+            report_clap_hinted(alloc, err, error, hint.as_str())
+        }
         FormatUsage::NoMode(name) => {
             report_no_word(err, "mode", name, Mode::near(alloc, name)?);
             Ok(())
@@ -245,15 +250,21 @@ fn memory_exit<E: Sink>(err: &mut E) -> Exit
     Exit { status, cut }
 }
 
-// The words are no line of the program's, or memory was refused. Each is reported.
-fn unusable<E: Sink>(alloc: Global, fault: &FormatUsage<'_>, err: &mut E) -> Exit
-    ensures { ((usage : m.FormatUsage) × (line : List ℕ) × (usage_of fault.now ≡ Some usage) × IsFormatUsageLine usage line
+// These words are no line of the program's, or memory was refused. Each is reported.
+fn unusable<S: AsStr, E: Sink>(
+    alloc: Global,
+    words: &[S],
+    fault: &FormatUsage<'_>,
+    err: &mut E,
+) -> Exit
+    ensures { IsUsageOf (map S.text words.now) fault.now → ((usage : m.FormatUsage) × (line : List ℕ)
+        × (format_line (map S.text words.now) ≡ Err usage) × IsFormatUsageLine (map S.text words.now) usage line
         × AppendsUnlessFailed (E.faults err.old) (E.faults err.new) (E.contents err.old) (E.contents err.new) line
         × (result ≡ record { status = 2; cut = Cut.Whole }))
         ⊎ ((result ≡ record { status = 3; cut = Cut.Memory })
         × Reports (E.faults err.old) (E.faults err.new) (E.contents err.old) (E.contents err.new) (named_line (codes "buildifier") (codes "Memory") ∷ [])) }
 {
-    match report_unusable(alloc, err, fault) {
+    match report_unusable(alloc, words, err, fault) {
         Ok(()) => Exit {
             status: USAGE,
             cut: Cut::Whole,
@@ -306,7 +317,7 @@ pub fn buildifier<S: AsStr, R: Source, W: Sink, E: Sink, F: Files>(
 {
     let line = match read_format_line(alloc, words) {
         Ok(line) => line,
-        Err(fault) => return unusable(alloc, &fault, err),
+        Err(fault) => return unusable(alloc, words, &fault, err),
     };
     let names = line.files.as_slice();
     if names.is_empty() {

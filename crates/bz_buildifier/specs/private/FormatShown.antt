@@ -1,5 +1,8 @@
 -- What buildifier's words and effects are, as contracts see them.
-use Rattle.std.specs.Prelude.{map, Option, Some, None}
+use Rattle.std.specs.Prelude.{◌≡◌, List, map, Err}
+use Rattle.clap.specs.Words.{IsAmong, fault_of}
+use Rattle.clap.specs.Values.{kind_of}
+use Rattle.bz_items.specs.Characters.{Bytes}
 use Rattle.bz_buildifier.specs.FormatRun as r
 use Rattle.bz_buildifier.specs.Modes as m
 use Rattle.bz_buildifier.specs.declared.effect.Effect.{Effect}
@@ -11,12 +14,12 @@ use Rattle.bz_buildifier.specs.declared.format_line.FormatUsage.TheVariants as u
 abbrev pub seen_line : FormatLine → m.FormatLine
 seen_line line = record { mode = line.mode; file_type = line.file_type; files = map (λ file. file.now) line.files.items }
 
--- why the words are no line of buildifier's, where memory is not the cause
-abbrev pub usage_of : FormatUsage → Option m.FormatUsage
-usage_of (u.Line error) = Some m.clap_fault
-usage_of (u.NoMode name) = Some (m.no_mode name.now)
-usage_of (u.NoType name) = Some (m.no_type name.now)
-usage_of u.Memory = None
+-- why these words are no line of buildifier's, where memory is not the cause
+abbrev pub IsUsageOf : List Bytes → FormatUsage → Type 0
+IsUsageOf words (u.Line error) = (m.format_line words ≡ Err m.clap_fault) × IsAmong (kind_of error) (fault_of m.buildifier_app words)
+IsUsageOf words (u.NoMode name) = m.format_line words ≡ Err (m.no_mode name.now)
+IsUsageOf words (u.NoType name) = m.format_line words ≡ Err (m.no_type name.now)
+IsUsageOf words u.Memory = Unit {0}
 
 -- an effect as the code holds it
 abbrev pub effect_seen : r.Effect → Effect

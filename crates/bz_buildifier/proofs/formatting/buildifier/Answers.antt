@@ -13,10 +13,10 @@ returns-in-Err-clause-run g c = λ _.
     let words = map g.S.AsStr.text c.args.words.now in
     let known = g.R.Source.remaining c.args.input.now in
     let folder = g.F.Files.folder c.args.files.now in
-    elim c.unusable.ensures [
+    elim (c.unusable.ensures c.in-Err.ensures.err) [
       | inl t ↦ (
         record r.begun { lines = t.1 ∷ []; status = 2 },
-        usage_outcome words t.0 t.1 known folder (rw t.2 at c.in-Err.ensures.err) t.3,
+        usage_outcome words t.0 t.1 known folder t.2 t.3,
         t.5,
         (refl, appends_nothing (g.W.Sink.contents c.args.out.now)),
         (g.E.Sink.faults c.unusable.new.err, g.E.Sink.contents c.unusable.new.err, t.4, (refl, refl)),
