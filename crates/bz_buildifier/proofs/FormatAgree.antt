@@ -20,7 +20,7 @@ use Rattle.bz_streams.specs.Reported.{stdin}
 use Rattle.bz_streams.specs.declared.exit.Cut.TheVariants as c
 use Rattle.bz_buildifier.specs.Modes as m
 use Rattle.bz_buildifier.specs.FileKinds.{FormatsAs, is_bzl}
-use Rattle.bz_buildifier.specs.FormatRun.{Effect, Run, FilesFormatted, InputStep, input_unread, input_without_memory, input_unformatted, input_printed, FormatOutcomeOf, RunOf, IsFormatUsageLine, begun, grown, output_effect, input_out, text_status, refused}
+use Rattle.bz_buildifier.specs.FormatRun.{Effect, FilesFormatted, InputStep, input_unread, input_without_memory, input_unformatted, input_printed, FormatOutcomeOf, RunOf, IsFormatUsageLine, begun, grown, output_effect, input_out, text_status, refused}
 use Rattle.bz_buildifier.specs.FormatExact.{ExactStep, exact_absent, exact_unformatted, exact_formatted, Exact}
 use Rattle.bz_buildifier.specs.FormatAgree.{SameReports, Agree, OutcomesAgree}
 use Rattle.bz_buildifier.specs.declared.file_type.FileType.{FileType}
@@ -80,13 +80,6 @@ unread_or_deep false text fault unread deep = unread.0 (deep.0, deep.1)
 
 -- ---- effects
 
-record Alike (one other : Effect) : Type 0 where
-  pub out : other.out ≡ one.out
-  pub lines : SameReports one.lines other.lines
-  pub status : other.status ≡ one.status
-  pub cut : other.cut ≡ one.cut
-  pub closes : other.closes ≡ one.closes
-
 same_reports : (lines : List Bytes) → SameReports lines lines
 same_reports [] = tt
 same_reports (line ∷ lines) = (inl refl, same_reports lines)
@@ -97,14 +90,14 @@ more_reports [] (other ∷ others) more others' same again = absurd same
 more_reports (line ∷ lines) [] more others' same again = absurd same
 more_reports (line ∷ lines) (other ∷ others) more others' same again = (same.0, more_reports lines others more others' same.1 again)
 
-same_effect : (one other : Effect) → other ≡ one → Alike one other
-same_effect one other same = subst (λ (e : Effect). Alike one e) (sym same) (record { out = refl; lines = same_reports one.lines; status = refl; cut = refl; closes = refl })
+same_effect : (one other : Effect) → other ≡ one → Agree one other
+same_effect one other same = subst (λ (e : Effect). Agree one e) (sym same) (record { out = refl; lines = same_reports one.lines; status = refl; cut = refl; closes = refl })
 
 not_memory_effect : (name : Bytes) → (refused name f.Memory).cut ≡ c.Whole → ⊥
 not_memory_effect name is = cc is
 
 same_refusal : OneEach → (bzl : Bool) (text name : Bytes) (fault other : FormatFault) → FormatsAs bzl text (Err fault) → FormatsAs bzl text (Err other)
-    → (refused name fault).cut ≡ c.Whole → (refused name other).cut ≡ c.Whole → Alike (refused name fault) (refused name other)
+    → (refused name fault).cut ≡ c.Whole → (refused name other).cut ≡ c.Whole → Agree (refused name fault) (refused name other)
 same_refusal laws bzl text name (f.Unread fault) (f.Unread other) one two whole whole' =
     record { out = refl; lines = (inr (name, fault, other, refl, refl), tt); status = refl; cut = refl; closes = refl }
 same_refusal laws bzl text name f.TooLarge f.TooLarge one two whole whole' = same_effect (refused name f.TooLarge) (refused name f.TooLarge) refl
@@ -127,9 +120,9 @@ not_both laws bzl text name new f.TooDeep formats reported whole = ok_or_deep la
 not_both laws bzl text name new f.Memory formats reported whole = not_memory_effect name whole
 
 -- by effects that are these
-alike_as : (one other one' other' : Effect) → one' ≡ one → other' ≡ other → Alike one other → Alike one' other'
+alike_as : (one other one' other' : Effect) → one' ≡ one → other' ≡ other → Agree one other → Agree one' other'
 alike_as one other one' other' is is' alike =
-    subst (λ (e : Effect). Alike e other') (sym is) (subst (λ (e : Effect). Alike one e) (sym is') alike)
+    subst (λ (e : Effect). Agree e other') (sym is) (subst (λ (e : Effect). Agree one e) (sym is') alike)
 
 cut_as : (one one' : Effect) → one' ≡ one → one'.cut ≡ c.Whole → one.cut ≡ c.Whole
 cut_as one one' is whole = sym (ap (λ (e : Effect). e.cut) is) ∙ whole
@@ -143,7 +136,7 @@ never_both : (folder : Folder) (name text : Bytes) → get folder name ≡ None 
 never_both folder name text none there = let same = sym none ∙ there in cc same
 
 Same : Effect → Effect → Folder → Folder → Type 0
-Same one other after after' = Alike one other × (after' ≡ after)
+Same one other after after' = Agree one other × (after' ≡ after)
 
 one_step : OneEach → (mode : Mode) (file_type : FileType) (name : Bytes) (folder after after' : Folder) (one other : Effect)
     → ExactStep mode file_type name folder one after → ExactStep mode file_type name folder other after' → Same one other after after'
@@ -181,23 +174,20 @@ one_step laws mode file_type name folder after after' one other (exact_formatted
 
 -- ---- runs
 
-grown_agree : (run run' : Run) (one other : Effect) → Agree run run' → Alike one other → Agree (grown run one) (grown run' other)
+grown_agree : (run run' : Effect) (one other : Effect) → Agree run run' → Agree one other → Agree (grown run one) (grown run' other)
 grown_agree run run' one other agree alike = record {
-  out = rw (agree.closed, agree.out, alike.out) refl;
+  out = rw (agree.closes, agree.out, alike.out) refl;
   lines = more_reports run.lines run'.lines one.lines other.lines agree.lines alike.lines;
   status = rw (agree.status, alike.status) refl;
   cut = rw (agree.cut, alike.cut) refl;
-  closed = rw (agree.closed, alike.closes) refl;
+  closes = rw (agree.closes, alike.closes) refl;
 }
 
-self_agree : Agree begun begun
-self_agree = record { out = refl; lines = tt; status = refl; cut = refl; closed = refl }
-
-runs_agree : OneEach → (mode : Mode) (file_type : FileType) (names : List Bytes) (run run' one other : Run) (folder after after' : Folder) → Agree run run'
+runs_agree : OneEach → (mode : Mode) (file_type : FileType) (names : List Bytes) (run run' one other : Effect) (folder after after' : Folder) → Agree run run'
     → Exact mode file_type names run folder one after → Exact mode file_type names run' folder other after' → Agree one other × (after' ≡ after)
 unfolding Same
 runs_agree laws mode file_type [] run run' one other folder after after' agree exact exact' = (
-  subst (λ (r : Run). Agree r other) (sym exact.0) (subst (λ (r : Run). Agree run r) (sym exact'.0) agree),
+  subst (λ (r : Effect). Agree r other) (sym exact.0) (subst (λ (r : Effect). Agree run r) (sym exact'.0) agree),
   exact'.1 ∙ sym exact.1,
 )
 runs_agree laws mode file_type (name ∷ names) run run' one other folder after after' agree exact exact' =
@@ -206,13 +196,13 @@ runs_agree laws mode file_type (name ∷ names) run run' one other folder after 
     (grown_agree run run' exact.0 exact'.0 agree step.0) exact.3
     (subst (λ (mid : Folder). Exact mode file_type names (grown run' exact'.0) mid other after') step.1 exact'.3)
 
-files_agree : OneEach → (mode : Mode) (file_type : FileType) (names : List Bytes) (one other : Run) (folder after after' : Folder)
+files_agree : OneEach → (mode : Mode) (file_type : FileType) (names : List Bytes) (one other : Effect) (folder after after' : Folder)
     → FilesFormatted mode file_type names begun folder one after → FilesFormatted mode file_type names begun folder other after'
     → one.cut ≡ c.Whole → other.cut ≡ c.Whole → All (λ name. IsAside name → ⊥) names → Agree one other × SameFolders after after'
 files_agree laws mode file_type names one other folder after after' runs runs' whole whole' others =
     let exact = exact_run mode file_type names begun one folder folder after runs whole (λ name aside. refl) others in
     let exact' = exact_run mode file_type names begun other folder folder after' runs' whole' (λ name aside. refl) others in
-    let found = runs_agree laws mode file_type names begun begun one other folder exact.0 exact'.0 self_agree exact.1 exact'.1 in
+    let found = runs_agree laws mode file_type names begun begun one other folder exact.0 exact'.0 (same_effect begun begun refl) exact.1 exact'.1 in
     (found.0, λ name aside. exact'.2 name aside ∙ ap (λ (g : Folder). get g name) found.1 ∙ sym (exact.2 name aside))
 
 -- ---- standard input
@@ -232,7 +222,7 @@ exactly mode file_type input effect (input_printed text new of formats (inl is))
 exactly mode file_type input effect (input_printed text new of formats (inr failed)) whole = absurd (cc (sym (ap (λ (e : Effect). e.cut) failed.1) ∙ whole))
 
 inputs_alike : OneEach → (mode : Mode) (file_type : FileType) (input : Bytes) (one other : Effect) → Exactly mode file_type input one → Exactly mode file_type input other
-    → one.cut ≡ c.Whole → other.cut ≡ c.Whole → Alike one other
+    → one.cut ≡ c.Whole → other.cut ≡ c.Whole → Agree one other
 inputs_alike laws mode file_type input one other (not_formatted fault formats is) (not_formatted fault' formats' is') whole whole' =
     alike_as (refused stdin fault) (refused stdin fault') one other is is' (same_refusal laws (is_bzl file_type stdin) input stdin fault fault' formats formats'
     (cut_as (refused stdin fault) one is whole) (cut_as (refused stdin fault') other is' whole'))
@@ -245,19 +235,19 @@ inputs_alike laws mode file_type input one other (was_printed new formats is) (w
     same_effect one other (is' ∙ (rw (news) (sym is)))
 
 -- a run over one text is whole where its effect is
-begun_cut : (effect : Effect) (run : Run) → run ≡ grown begun effect → run.cut ≡ c.Whole → effect.cut ≡ c.Whole
-begun_cut effect run is whole = sym (ap (λ (r : Run). r.cut) is) ∙ whole
+begun_cut : (effect : Effect) (run : Effect) → run ≡ grown begun effect → run.cut ≡ c.Whole → effect.cut ≡ c.Whole
+begun_cut effect run is whole = sym (ap (λ (r : Effect). r.cut) is) ∙ whole
 
 -- ---- whole runs
 
-run_of_agree : OneEach → (mode : Mode) (file_type : FileType) (names : List Bytes) (input : Bytes) (one other : Run) (folder after after' : Folder)
+run_of_agree : OneEach → (mode : Mode) (file_type : FileType) (names : List Bytes) (input : Bytes) (one other : Effect) (folder after after' : Folder)
     → RunOf mode file_type names (Some input) folder one after → RunOf mode file_type names (Some input) folder other after'
     → one.cut ≡ c.Whole → other.cut ≡ c.Whole → All (λ name. IsAside name → ⊥) names → Agree one other × SameFolders after after'
 run_of_agree laws mode file_type [] input one other folder after after' run run' whole whole' others =
     let w = begun_cut run.0 one run.2 whole in
     let w' = begun_cut run'.0 other run'.2 whole' in
     let alike = inputs_alike laws mode file_type input run.0 run'.0 (exactly mode file_type input run.0 run.1 w) (exactly mode file_type input run'.0 run'.1 w') w w' in (
-      subst (λ (r : Run). Agree r other) (sym run.2) (subst (λ (r : Run). Agree (grown begun run.0) r) (sym run'.2) (grown_agree begun begun run.0 run'.0 self_agree alike)),
+      subst (λ (r : Effect). Agree r other) (sym run.2) (subst (λ (r : Effect). Agree (grown begun run.0) r) (sym run'.2) (grown_agree begun begun run.0 run'.0 (same_effect begun begun refl) alike)),
       λ name aside. ap (λ (g : Folder). get g name) (run'.3 ∙ sym run.3),
     )
 run_of_agree laws mode file_type (name ∷ names) input one other folder after after' run run' whole whole' others =
@@ -270,14 +260,14 @@ one_line words m.clap_fault line other some is is' = absurd (some refl)
 one_line words (m.no_mode name) line other some is is' = is' ∙ sym is
 one_line words (m.no_type name) line other some is is' = is' ∙ sym is
 
-of_agree : OneEach → (words : List Bytes) (read : Result m.FormatLine m.FormatUsage) (input : Bytes) (one other : Run) (folder after after' : Folder)
+of_agree : OneEach → (words : List Bytes) (read : Result m.FormatLine m.FormatUsage) (input : Bytes) (one other : Effect) (folder after after' : Folder)
     → FormatOutcomeOf words read (Some input) folder one after → FormatOutcomeOf words read (Some input) folder other after'
     → one.cut ≡ c.Whole → other.cut ≡ c.Whole → (read ≡ Err m.clap_fault → ⊥) → IfOk read (λ line. All (λ name. IsAside name → ⊥) line.files)
     → Agree one other × SameFolders after after'
 of_agree laws words (Err usage) input one other folder after after' outcome outcome' whole whole' some others =
     let lines : outcome'.0 ≡ outcome.0 = one_line words usage outcome.0 outcome'.0 (λ is. some (ap Err is)) outcome.1 outcome'.1 in
     let same : other ≡ one = outcome'.2 ∙ (rw (lines) (sym outcome.2)) in (
-      subst (λ (r : Run). Agree one r) (sym same) (record { out = refl; lines = same_reports one.lines; status = refl; cut = refl; closed = refl }),
+      same_effect one other same,
       λ name aside. ap (λ (g : Folder). get g name) (outcome'.3 ∙ sym outcome.3),
     )
 of_agree laws words (Ok line) input one other folder after after' outcome outcome' whole whole' some others =
@@ -285,8 +275,8 @@ of_agree laws words (Ok line) input one other folder after after' outcome outcom
 
 pub outcomes_agree : OneReading → OneBzlReading → OutcomesAgree
 outcomes_agree build bzl words input folder after after' one other (inl wants) outcome' whole whole' some others =
-    absurd (cc (sym (ap (λ (r : Run). r.cut) wants.0) ∙ whole))
+    absurd (cc (sym (ap (λ (r : Effect). r.cut) wants.0) ∙ whole))
 outcomes_agree build bzl words input folder after after' one other (inr outcome) (inl wants) whole whole' some others =
-    absurd (cc (sym (ap (λ (r : Run). r.cut) wants.0) ∙ whole'))
+    absurd (cc (sym (ap (λ (r : Effect). r.cut) wants.0) ∙ whole'))
 outcomes_agree build bzl words input folder after after' one other (inr outcome) (inr outcome') whole whole' some others =
     of_agree (record { build = build; bzl = bzl }) words (m.format_line words) input one other folder after after' outcome outcome' whole whole' some others

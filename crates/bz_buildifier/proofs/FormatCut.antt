@@ -8,7 +8,7 @@ use Rattle.bz_files.specs.Folder.{Folder, IsAside, SameFolders}
 use Rattle.bz_streams.specs.Exits.{first_cut}
 use Rattle.bz_streams.specs.declared.exit.Cut.{Cut}
 use Rattle.bz_streams.specs.declared.exit.Cut.TheVariants as c
-use Rattle.bz_buildifier.specs.FormatRun.{Effect, Run, FilesFormatted, FileStep, unread, without_memory, unformatted, kept, rewritten, grown, output_effect, file_out, text_status}
+use Rattle.bz_buildifier.specs.FormatRun.{Effect, FilesFormatted, FileStep, unread, without_memory, unformatted, kept, rewritten, grown, output_effect, file_out, text_status}
 use Rattle.bz_buildifier.specs.FormatExact.{ExactStep, exact_formatted, Exact}
 use Rattle.bz_buildifier.specs.declared.file_type.FileType.{FileType}
 use Rattle.bz_buildifier.specs.declared.mode.Mode.{Mode}
@@ -17,9 +17,9 @@ use Rattle.bz_buildifier.proofs.FormatWhole.{Other, exact_step}
 
 -- ---- what stays to the end of a run
 
-cut_stays : (mode : Mode) (file_type : FileType) (names : List Bytes) (run last : Run) (folder after : Folder) → FilesFormatted mode file_type names run folder last after
+cut_stays : (mode : Mode) (file_type : FileType) (names : List Bytes) (run last : Effect) (folder after : Folder) → FilesFormatted mode file_type names run folder last after
     → (run.cut ≡ c.Whole → ⊥) → last.cut ≡ run.cut
-cut_stays mode file_type [] run last folder after runs other = ap (λ (r : Run). r.cut) runs.0
+cut_stays mode file_type [] run last folder after runs other = ap (λ (r : Effect). r.cut) runs.0
 cut_stays mode file_type (name ∷ names) run last folder after runs other =
     let first : first_cut run.cut runs.0.cut ≡ run.cut = first_stays run.cut runs.0.cut other in
     cut_stays mode file_type names (grown run runs.0) last runs.1 after runs.3 (λ whole. other (sym first ∙ whole)) ∙ first
@@ -32,9 +32,9 @@ cut_stays mode file_type (name ∷ names) run last folder after runs other =
     first_stays c.Files later other = refl
 
 -- Once standard output is closed it stays so, and nothing more comes there.
-closed_stays : (mode : Mode) (file_type : FileType) (names : List Bytes) (run last : Run) (folder after : Folder) → FilesFormatted mode file_type names run folder last after
-    → run.closed ≡ true → (last.closed ≡ true) × (last.out ≡ run.out)
-closed_stays mode file_type [] run last folder after runs closed = (ap (λ (r : Run). r.closed) runs.0 ∙ closed, ap (λ (r : Run). r.out) runs.0)
+closed_stays : (mode : Mode) (file_type : FileType) (names : List Bytes) (run last : Effect) (folder after : Folder) → FilesFormatted mode file_type names run folder last after
+    → run.closes ≡ true → (last.closes ≡ true) × (last.out ≡ run.out)
+closed_stays mode file_type [] run last folder after runs closed = (ap (λ (r : Effect). r.closes) runs.0 ∙ closed, ap (λ (r : Effect). r.out) runs.0)
 closed_stays mode file_type (name ∷ names) run last folder after runs closed =
     let rest = closed_stays mode file_type names (grown run runs.0) last runs.1 after runs.3 (rw (closed) refl) in
     (rest.0, rest.1 ∙ (rw (closed) refl))
@@ -85,29 +85,29 @@ failed_step mode file_type name closed pure folder after effect (rewritten text 
 
 -- ---- runs
 
-pub record Begins (mode : Mode) (file_type : FileType) (names : List Bytes) (run last : Run) (pure : Folder) : Type 0 where
+pub record Begins (mode : Mode) (file_type : FileType) (names : List Bytes) (run last : Effect) (pure : Folder) : Type 0 where
   pub front : List Bytes
   pub rest : List Bytes
   pub split : names ≡ front ++ rest
-  pub closed : last.closed ≡ true
-  pub exact : Run
+  pub closed : last.closes ≡ true
+  pub exact : Effect
   pub end : Folder
   pub runs : Exact mode file_type front run pure exact end
   pub whole : exact.cut ≡ c.Whole
   pub out : exact.out ≡ last.out
 
-pub cut_run : (mode : Mode) (file_type : FileType) (names : List Bytes) (run last : Run) (pure folder after : Folder) → FilesFormatted mode file_type names run folder last after
-    → run.cut ≡ c.Whole → run.closed ≡ false → last.cut ≡ c.Write → SameFolders pure folder → All (λ name. IsAside name → ⊥) names
+pub cut_run : (mode : Mode) (file_type : FileType) (names : List Bytes) (run last : Effect) (pure folder after : Folder) → FilesFormatted mode file_type names run folder last after
+    → run.cut ≡ c.Whole → run.closes ≡ false → last.cut ≡ c.Write → SameFolders pure folder → All (λ name. IsAside name → ⊥) names
     → Begins mode file_type names run last pure
 cut_run mode file_type [] run last pure folder after runs whole opened cut same others =
-    absurd (cc (sym whole ∙ sym (ap (λ (r : Run). r.cut) runs.0) ∙ cut))
+    absurd (cc (sym whole ∙ sym (ap (λ (r : Effect). r.cut) runs.0) ∙ cut))
 cut_run mode file_type (name ∷ names) run last pure folder after runs whole opened cut same others =
     go (λ mid still left alike. cut_run mode file_type names (grown run runs.0) last mid runs.1 after runs.3 still left cut alike (All-tail Other name names others))
     runs.0.cut refl
   where
     -- what the rest of the run does
     Rest : Type 0
-    Rest = (mid : Folder) → (grown run runs.0).cut ≡ c.Whole → (grown run runs.0).closed ≡ false → SameFolders mid runs.1
+    Rest = (mid : Folder) → (grown run runs.0).cut ≡ c.Whole → (grown run runs.0).closes ≡ false → SameFolders mid runs.1
         → Begins mode file_type names (grown run runs.0) last mid
 
     effect : Effect
@@ -126,8 +126,8 @@ cut_run mode file_type (name ∷ names) run last pure folder after runs whole op
 
     go : Rest → (found : Cut) → effect.cut ≡ found → Begins mode file_type (name ∷ names) run last pure
     go more c.Whole is =
-        let step = exact_step mode file_type name run.closed pure folder runs.1 effect runs.2 is same other in
-        let rest = more step.0 (grown_cut ∙ is) (ap (λ (b : Bool). b || effect.closes) opened ∙ whole_open mode file_type name run.closed folder runs.1 effect runs.2 is) step.2 in record {
+        let step = exact_step mode file_type name run.closes pure folder runs.1 effect runs.2 is same other in
+        let rest = more step.0 (grown_cut ∙ is) (ap (λ (b : Bool). b || effect.closes) opened ∙ whole_open mode file_type name run.closes folder runs.1 effect runs.2 is) step.2 in record {
           front = name ∷ rest.front;
           rest = rest.rest;
           split = ap (λ (ns : List Bytes). name ∷ ns) rest.split;
@@ -139,7 +139,7 @@ cut_run mode file_type (name ∷ names) run last pure folder after runs whole op
           out = rest.out;
         }
     go more c.Write is =
-        let step = failed_step mode file_type name run.closed pure folder runs.1 effect runs.2 is same other in
+        let step = failed_step mode file_type name run.closes pure folder runs.1 effect runs.2 is same other in
         let stays = closed_stays mode file_type names (grown run effect) last runs.1 after runs.3 (ap (λ (b : Bool). b || effect.closes) opened ∙ step.closes) in record {
           front = name ∷ [];
           rest = names;
@@ -149,7 +149,7 @@ cut_run mode file_type (name ∷ names) run last pure folder after runs whole op
           end = pure;
           runs = (step.exact, pure, step.step, (refl, refl));
           whole = ap (λ (first : Cut). first_cut first step.exact.cut) whole ∙ step.whole;
-          out = ap (λ (bytes : Bytes). if run.closed then run.out else run.out ++ bytes) step.out ∙ sym stays.1;
+          out = ap (λ (bytes : Bytes). if run.closes then run.out else run.out ++ bytes) step.out ∙ sym stays.1;
         }
     go more c.Memory is = absurd (cc (sym is ∙ not_other (λ w. cc (sym is ∙ w))))
     go more c.Read is = absurd (cc (sym is ∙ not_other (λ w. cc (sym is ∙ w))))

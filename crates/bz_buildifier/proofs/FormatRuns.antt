@@ -11,10 +11,9 @@ use Rattle.bz_streams.specs.declared.exit.Cut.{Cut}
 use Rattle.bz_streams.specs.declared.exit.Cut.TheVariants as c
 use Rattle.bz_streams.proofs.Outputs.{rises_more, writes_more}
 use Rattle.bz_buildifier.specs.Modes as m
-use Rattle.bz_buildifier.specs.FormatRun.{Effect, Run, FilesFormatted, FileStep, InputStep, FormatOutcome, RunOf, IsFormatUsageLine, begun, IsCutBy, grown, worse}
-use Rattle.bz_buildifier.specs.private.FormatShown.{effect_seen, progress_of}
+use Rattle.bz_buildifier.specs.FormatRun.{Effect, FilesFormatted, FileStep, InputStep, FormatOutcome, RunOf, IsFormatUsageLine, begun, IsCutBy, grown, worse}
+use Rattle.bz_buildifier.specs.private.FormatShown.{effect_seen}
 use Rattle.bz_buildifier.specs.declared.effect.Effect as e
-use Rattle.bz_buildifier.specs.declared.effect.Progress.{Progress}
 use Rattle.bz_buildifier.specs.declared.file_type.FileType.{FileType}
 use Rattle.bz_buildifier.specs.declared.mode.Mode.{Mode}
 
@@ -54,30 +53,30 @@ status_more c.Files later a b first last other = rw (first other) refl
 
 -- ---- a run goes on by one file
 
-pub files_more : (mode : Mode) (file_type : FileType) (names left rest : List (List ℕ)) (name : List ℕ) (start run : Run) (before folder mid : Folder) (effect : Effect)
-    → left ≡ name ∷ rest → FileStep mode file_type name run.closed folder effect mid
-    → ((after : Run) (last : Folder) → FilesFormatted mode file_type left run folder after last → FilesFormatted mode file_type names start before after last)
-    → (after : Run) (last : Folder) → FilesFormatted mode file_type rest (grown run effect) mid after last → FilesFormatted mode file_type names start before after last
+pub files_more : (mode : Mode) (file_type : FileType) (names left rest : List (List ℕ)) (name : List ℕ) (start run : Effect) (before folder mid : Folder) (effect : Effect)
+    → left ≡ name ∷ rest → FileStep mode file_type name run.closes folder effect mid
+    → ((after : Effect) (last : Folder) → FilesFormatted mode file_type left run folder after last → FilesFormatted mode file_type names start before after last)
+    → (after : Effect) (last : Folder) → FilesFormatted mode file_type rest (grown run effect) mid after last → FilesFormatted mode file_type names start before after last
 files_more mode file_type names left rest name start run before folder mid effect split step runs after last more =
     runs after last (rw (split) (effect, mid, step, more))
 
 -- what the code holds of a run that goes on
-made : Progress → e.Effect → Progress
+made : e.Effect → e.Effect → e.Effect
 made progress effect = record {
   status = worse progress.status effect.status;
   cut = first_cut progress.cut effect.cut;
-  closed = progress.closed || effect.closes;
+  closes = progress.closes || effect.closes;
 }
 
-pub grown_is : (progress result : Progress) (held : e.Effect) (run : Run) (effect : Effect) → progress ≡ progress_of run → held ≡ effect_seen effect
+pub grown_is : (progress result : e.Effect) (held : e.Effect) (run : Effect) (effect : Effect) → progress ≡ effect_seen run → held ≡ effect_seen effect
     → result ≡ record {
       status = worse progress.status held.status;
       cut = first_cut progress.cut held.cut;
-      closed = progress.closed || held.closes;
-    } → result ≡ progress_of (grown run effect)
+      closes = progress.closes || held.closes;
+    } → result ≡ effect_seen (grown run effect)
 unfolding made
 grown_is progress result held run effect at is made_so =
-    made_so ∙ ap (λ (p : Progress). made p held) at ∙ ap (made (progress_of run)) is
+    made_so ∙ ap (λ (p : e.Effect). made p held) at ∙ ap (made (effect_seen run)) is
 
 -- ---- whole runs
 
@@ -85,7 +84,7 @@ pub input_outcome : (words : List (List ℕ)) (line : m.FormatLine) (known : Opt
     → m.format_line words ≡ Ok line → line.files ≡ [] → InputStep line.mode line.file_type known effect → FormatOutcome words known folder (grown begun effect) folder
 input_outcome words line known folder effect read none step = inr (rw (read, none) (effect, step, refl, refl))
 
-pub files_outcome : (words : List (List ℕ)) (line : m.FormatLine) (known : Option (List ℕ)) (folder after : Folder) (run : Run)
+pub files_outcome : (words : List (List ℕ)) (line : m.FormatLine) (known : Option (List ℕ)) (folder after : Folder) (run : Effect)
     → m.format_line words ≡ Ok line → (line.files ≡ [] → ⊥) → FilesFormatted line.mode line.file_type line.files begun folder run after → FormatOutcome words known folder run after
 files_outcome words line known folder after run read some runs = inr (rw (read) (go line.files some runs))
   where

@@ -10,7 +10,7 @@ use Rattle.bz_items.specs.Characters.{Bytes}
 use Rattle.bz_files.specs.Folder.{Folder, IsAside, SameFolders, SameBut, with_file, new_name}
 use Rattle.bz_files.specs.declared.files.FileFault.{FileFault}
 use Rattle.bz_files.specs.declared.files.FileFault.TheVariants as file
-use Rattle.bz_buildifier.specs.FormatRun.{Effect, Run, FilesFormatted, FileStep, unread, without_memory, unformatted, kept, rewritten, grown, output_effect, file_out, text_status, is_rewritten, unread_file}
+use Rattle.bz_buildifier.specs.FormatRun.{Effect, FilesFormatted, FileStep, unread, without_memory, unformatted, kept, rewritten, grown, output_effect, file_out, text_status, is_rewritten, unread_file}
 use Rattle.bz_buildifier.specs.FormatExact.{ExactStep, exact_absent, exact_unformatted, exact_formatted, Exact}
 use Rattle.bz_streams.specs.Exits.{first_cut}
 use Rattle.bz_streams.specs.declared.exit.Cut.{Cut}
@@ -34,9 +34,9 @@ whole_later c.Write b is = absurd (cc is)
 whole_later c.Files b is = absurd (cc is)
 
 -- a run that is whole at its end was so at each file
-whole_start : (mode : Mode) (file_type : FileType) (names : List Bytes) (run last : Run) (folder after : Folder) → FilesFormatted mode file_type names run folder last after
+whole_start : (mode : Mode) (file_type : FileType) (names : List Bytes) (run last : Effect) (folder after : Folder) → FilesFormatted mode file_type names run folder last after
     → last.cut ≡ c.Whole → run.cut ≡ c.Whole
-whole_start mode file_type [] run last folder after runs is = ap (λ (r : Run). r.cut) (sym runs.0) ∙ is
+whole_start mode file_type [] run last folder after runs is = ap (λ (r : Effect). r.cut) (sym runs.0) ∙ is
 whole_start mode file_type (name ∷ names) run last folder after runs is =
     whole_first run.cut runs.0.cut (whole_start mode file_type names (grown run runs.0) last runs.1 after runs.3 is)
 
@@ -107,7 +107,7 @@ exact_step mode file_type name closed pure folder after effect (rewritten text n
 abbrev pub Other : Bytes → Type 0
 Other name = IsAside name → ⊥
 
-pub exact_run : (mode : Mode) (file_type : FileType) (names : List Bytes) (run last : Run) (pure folder after : Folder) → FilesFormatted mode file_type names run folder last after
+pub exact_run : (mode : Mode) (file_type : FileType) (names : List Bytes) (run last : Effect) (pure folder after : Folder) → FilesFormatted mode file_type names run folder last after
     → last.cut ≡ c.Whole → SameFolders pure folder → All (λ name. IsAside name → ⊥) names
     → (exact : Folder) × Exact mode file_type names run pure last exact × SameFolders exact after
 exact_run mode file_type [] run last pure folder after runs whole same others =
@@ -116,6 +116,6 @@ exact_run mode file_type (name ∷ names) run last pure folder after runs whole 
     let effect = runs.0 in
     let mid = runs.1 in
     let so_far = whole_start mode file_type names (grown run effect) last mid after runs.3 whole in
-    let step = exact_step mode file_type name run.closed pure folder mid effect runs.2 (whole_later run.cut effect.cut so_far) same (All-head Other name names others) in
+    let step = exact_step mode file_type name run.closes pure folder mid effect runs.2 (whole_later run.cut effect.cut so_far) same (All-head Other name names others) in
     let rest = exact_run mode file_type names (grown run effect) last step.0 mid after runs.3 whole step.2 (All-tail Other name names others) in
     (rest.0, (effect, step.0, step.1, rest.1), rest.2)

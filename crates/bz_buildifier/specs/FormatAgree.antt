@@ -6,7 +6,7 @@ use Rattle.bz_files.specs.Folder.{Folder, IsAside, SameFolders}
 use Rattle.bz_lex.specs.declared.fault.ReadFault.{ReadFault}
 use Rattle.bz_streams.specs.declared.exit.Cut.TheVariants as c
 use Rattle.bz_streams.specs.Reported.{fault_line}
-use Rattle.bz_buildifier.specs.FormatRun.{Run, FormatOutcome}
+use Rattle.bz_buildifier.specs.FormatRun.{Effect, FormatOutcome}
 use Rattle.bz_buildifier.specs.Modes.{clap_fault, format_line}
 
 -- Two lines are the same, or both report a fault of the same file: of a text that is not accepted it is not fixed which.
@@ -20,18 +20,18 @@ SameReports [] (line ∷ lines) = ⊥
 SameReports (line ∷ lines) [] = ⊥
 SameReports (line ∷ lines) (other ∷ others) = LinesAreAlike line other × SameReports lines others
 
--- Two runs write the same, report the same, and end alike.
-pub record Agree (one other : Run) : Type 0 where
+-- Two runs, or parts of them, write the same, report the same, and end alike.
+pub record Agree (one other : Effect) : Type 0 where
   pub out : other.out ≡ one.out
   pub lines : SameReports one.lines other.lines
   pub status : other.status ≡ one.status
   pub cut : other.cut ≡ one.cut
-  pub closed : other.closed ≡ one.closed
+  pub closes : other.closes ≡ one.closes
 
 -- Two runs over the same words, input and folder agree, and leave the same folder, where neither is cut; the text of a fault that clap
 -- finds is set aside, and so are names that end in `.bznew`.
 abbrev pub OutcomesAgree : Type 0
-OutcomesAgree = (words : List Bytes) (input : Bytes) (folder after after' : Folder) (one other : Run)
+OutcomesAgree = (words : List Bytes) (input : Bytes) (folder after after' : Folder) (one other : Effect)
     → FormatOutcome words (Some input) folder one after → FormatOutcome words (Some input) folder other after'
     → one.cut ≡ c.Whole → other.cut ≡ c.Whole → (format_line words ≡ Err clap_fault → ⊥)
     → IfOk (format_line words) (λ line. All (λ name. IsAside name → ⊥) line.files)

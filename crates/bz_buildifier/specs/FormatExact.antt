@@ -6,7 +6,7 @@ use Rattle.bz_items.specs.Characters.{Bytes}
 use Rattle.bz_files.specs.Folder.{Folder, IsAside, SameFolders, with_file}
 use Rattle.bz_build_format.specs.declared.formatter.FormatFault.{FormatFault}
 use Rattle.bz_buildifier.specs.FileKinds.{FormatsAs, is_bzl}
-use Rattle.bz_buildifier.specs.FormatRun.{Effect, Run, FilesFormatted, begun, grown, output_effect, refused, unopened, file_out, text_status, is_rewritten}
+use Rattle.bz_buildifier.specs.FormatRun.{Effect, FilesFormatted, begun, grown, output_effect, refused, unopened, file_out, text_status, is_rewritten}
 use Rattle.bz_streams.specs.declared.exit.Cut.TheVariants as c
 use Rattle.bz_buildifier.specs.declared.file_type.FileType.{FileType}
 use Rattle.bz_buildifier.specs.declared.mode.Mode.{Mode}
@@ -21,21 +21,21 @@ pub data ExactStep (mode : Mode) (file_type : FileType) (name : Bytes) (folder :
       → effect ≡ output_effect (file_out mode name text new) (text_status mode text new)
       → after ≡ (if is_rewritten mode text new then with_file folder name new else folder) → ExactStep mode file_type name folder effect after
 
-abbrev pub Exact : Mode → FileType → List Bytes → Run → Folder → Run → Folder → Type 0
+abbrev pub Exact : Mode → FileType → List Bytes → Effect → Folder → Effect → Folder → Type 0
 Exact mode file_type [] run folder after folder' = (after ≡ run) × (folder' ≡ folder)
 Exact mode file_type (name ∷ names) run folder after folder' =
     (effect : Effect) × (mid : Folder) × ExactStep mode file_type name folder effect mid × Exact mode file_type names (grown run effect) mid after folder'
 
 -- A whole run over files of other names does exactly that, and the folder then is the one that this gives.
 abbrev pub WholeRunsAreExact : Type 0
-WholeRunsAreExact = (mode : Mode) (file_type : FileType) (names : List Bytes) (run : Run) (folder after : Folder) → FilesFormatted mode file_type names begun folder run after
+WholeRunsAreExact = (mode : Mode) (file_type : FileType) (names : List Bytes) (run : Effect) (folder after : Folder) → FilesFormatted mode file_type names begun folder run after
     → run.cut ≡ c.Whole → All (λ name. IsAside name → ⊥) names
     → (exact : Folder) × Exact mode file_type names begun folder run exact × SameFolders exact after
 
 -- A run that a failure of standard output cuts has done, up to some file, what an exact run over the files so far does; what was to be
 -- written by then is the output of that run, and nothing was written after it.
 abbrev pub CutRunsAreBegun : Type 0
-CutRunsAreBegun = (mode : Mode) (file_type : FileType) (names : List Bytes) (run : Run) (folder after : Folder) → FilesFormatted mode file_type names begun folder run after
+CutRunsAreBegun = (mode : Mode) (file_type : FileType) (names : List Bytes) (run : Effect) (folder after : Folder) → FilesFormatted mode file_type names begun folder run after
     → run.cut ≡ c.Write → All (λ name. IsAside name → ⊥) names
-    → (front rest : List Bytes) × (names ≡ front ++ rest) × (run.closed ≡ true)
-    × (exact : Run) × (last : Folder) × Exact mode file_type front begun folder exact last × (exact.cut ≡ c.Whole) × (exact.out ≡ run.out)
+    → (front rest : List Bytes) × (names ≡ front ++ rest) × (run.closes ≡ true)
+    × (exact : Effect) × (last : Folder) × Exact mode file_type front begun folder exact last × (exact.cut ≡ c.Whole) × (exact.out ≡ run.out)

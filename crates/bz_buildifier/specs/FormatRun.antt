@@ -23,7 +23,7 @@ use Rattle.bz_buildifier.specs.declared.mode.Mode.TheVariants.{Fix, Check, Print
 use Rattle.bz_buildifier.specs.FileKinds.{FormatsAs, is_bzl}
 use Rattle.bz_buildifier.specs.Modes.{FormatLine, FormatUsage, buildifier_app, clap_fault, clap_hint, no_mode, no_type, format_line, mode_names, type_names}
 
--- ---- what one text does
+-- ---- what one text does, or a run so far
 
 -- what it writes on standard output, what it prints on standard error, its status, and the failure that cuts it, if one
 -- does; a failure of standard output closes it
@@ -142,42 +142,34 @@ pub data InputStep (mode : Mode) (file_type : FileType) (known : Option Bytes) (
 
 -- ---- whole runs
 
--- what a run has done so far
-pub record Run : Type 0 where
-  pub out : Bytes
-  pub lines : List Bytes
-  pub status : ℕ
-  pub cut : Cut
-  pub closed : Bool
-
-abbrev pub begun : Run
-begun = record { out = []; lines = []; status = 0; cut = c.Whole; closed = false }
+abbrev pub begun : Effect
+begun = output_effect [] 0
 
 -- 3 where one of two is that, else 1, else 4, else 0
 abbrev pub worse : ℕ → ℕ → ℕ
 worse a b = if a == 3 || b == 3 then 3 else (if a == 1 || b == 1 then 1 else (if a == 4 || b == 4 then 4 else 0))
 
 -- what is to be on standard output after one text more; once it is closed nothing more comes there
-abbrev pub out_after : Run → Effect → Bytes
-out_after run effect = if run.closed then run.out else run.out ++ effect.out
+abbrev pub out_after : Effect → Effect → Bytes
+out_after run effect = if run.closes then run.out else run.out ++ effect.out
 
-abbrev pub grown : Run → Effect → Run
+abbrev pub grown : Effect → Effect → Effect
 grown run effect = record {
   out = out_after run effect;
   lines = run.lines ++ effect.lines;
   status = worse run.status effect.status;
   cut = first_cut run.cut effect.cut;
-  closed = run.closed || effect.closes;
+  closes = run.closes || effect.closes;
 }
 
 -- One file after the other.
-abbrev pub FilesFormatted : Mode → FileType → List Bytes → Run → Folder → Run → Folder → Type 0
+abbrev pub FilesFormatted : Mode → FileType → List Bytes → Effect → Folder → Effect → Folder → Type 0
 FilesFormatted mode file_type [] run folder after folder' = (after ≡ run) × (folder' ≡ folder)
 FilesFormatted mode file_type (name ∷ names) run folder after folder' =
-    (effect : Effect) × (mid : Folder) × FileStep mode file_type name run.closed folder effect mid × FilesFormatted mode file_type names (grown run effect) mid after folder'
+    (effect : Effect) × (mid : Folder) × FileStep mode file_type name run.closes folder effect mid × FilesFormatted mode file_type names (grown run effect) mid after folder'
 
 -- Without files it is standard input.
-abbrev pub RunOf : Mode → FileType → List Bytes → Option Bytes → Folder → Run → Folder → Type 0
+abbrev pub RunOf : Mode → FileType → List Bytes → Option Bytes → Folder → Effect → Folder → Type 0
 RunOf mode file_type [] known folder after folder' = (effect : Effect) × InputStep mode file_type known effect × (after ≡ grown begun effect) × (folder' ≡ folder)
 RunOf mode file_type (name ∷ names) known folder after folder' = FilesFormatted mode file_type (name ∷ names) begun folder after folder'
 
@@ -198,14 +190,14 @@ IsFormatUsageLine words (no_mode name) line = line ≡ no_word_line (codes "mode
 IsFormatUsageLine words (no_type name) line = line ≡ no_word_line (codes "type") name (nearest name type_names)
 
 -- Words that are no line of buildifier's have status 2; nothing is then read.
-abbrev pub FormatOutcomeOf : List Bytes → Result FormatLine FormatUsage → Option Bytes → Folder → Run → Folder → Type 0
+abbrev pub FormatOutcomeOf : List Bytes → Result FormatLine FormatUsage → Option Bytes → Folder → Effect → Folder → Type 0
 FormatOutcomeOf words (Err usage) known folder after folder' =
     (line : Bytes) × IsFormatUsageLine words usage line × (after ≡ record begun { lines = line ∷ []; status = 2 }) × (folder' ≡ folder)
 FormatOutcomeOf words (Ok line) known folder after folder' = RunOf line.mode line.file_type line.files known folder after folder'
 
 -- Words, the bytes of standard input where they are known, and the folder before: what the run has done at its end, and
 -- the folder after. Memory may be refused before anything is done, which is reported.
-abbrev pub FormatOutcome : List Bytes → Option Bytes → Folder → Run → Folder → Type 0
+abbrev pub FormatOutcome : List Bytes → Option Bytes → Folder → Effect → Folder → Type 0
 FormatOutcome words known folder after folder' =
     ((after ≡ record begun { lines = named_line (codes "buildifier") (codes "Memory") ∷ []; status = 3; cut = c.Memory }) × (folder' ≡ folder))
     ⊎ FormatOutcomeOf words (format_line words) known folder after folder'

@@ -16,33 +16,22 @@ use bz_items::{Memory, Text};
 use bz_streams::{STDIN, first_cut, report_fault, report_named, write_whole};
 use std::alloc::Global;
 
-/// What becomes of one text.
+/// What becomes of one text, or of a run so far.
 #[derive(Clone, Copy)]
 pub(crate) struct Effect {
     /// Its part of the status.
     pub(crate) status: u8,
-    /// The failure, if there was one.
+    /// The first failure, if there was one.
     pub(crate) cut: Cut,
-    /// Standard output has failed.
+    /// Standard output has failed, and nothing more is written there.
     pub(crate) closes: bool,
 }
 
-/// How far a run has come.
-#[derive(Clone, Copy)]
-pub(crate) struct Progress {
-    /// The status so far.
-    pub(crate) status: u8,
-    /// The first failure so far.
-    pub(crate) cut: Cut,
-    /// Standard output has failed, and nothing more is written there.
-    pub(crate) closed: bool,
-}
-
-/// The progress of a run that begins.
-pub(crate) const BEGUN: Progress = Progress {
+/// A run that begins.
+pub(crate) const BEGUN: Effect = Effect {
     status: 0,
     cut: Cut::Whole,
-    closed: false,
+    closes: false,
 };
 
 // The statuses of runs, but for usage.
@@ -71,13 +60,13 @@ fn worse(a: u8, b: u8) -> u8
 }
 
 /// What a run comes to by one text more.
-pub(crate) fn grown(progress: Progress, effect: Effect) -> Progress
-    ensures { result ≡ record { status = worse progress.status effect.status; cut = first_cut progress.cut effect.cut; closed = progress.closed || effect.closes } }
+pub(crate) fn grown(progress: Effect, effect: Effect) -> Effect
+    ensures { result ≡ record { status = worse progress.status effect.status; cut = first_cut progress.cut effect.cut; closes = progress.closes || effect.closes } }
 {
-    Progress {
+    Effect {
         status: worse(progress.status, effect.status),
         cut: first_cut(progress.cut, effect.cut),
-        closed: progress.closed || effect.closes,
+        closes: progress.closes || effect.closes,
     }
 }
 

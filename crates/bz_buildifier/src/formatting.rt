@@ -9,11 +9,11 @@ ghost use Rattle.bz_buildifier.specs.Modes.{format_line};
 ghost use Rattle.bz_buildifier.specs.FileKinds.{FormatsAs, is_bzl};
 ghost use Rattle.bz_buildifier.specs.FormatRun as r;
 ghost use Rattle.bz_buildifier.specs.FormatRun.{IsCutBy, Rewrites, FileStep, InputStep, FormatOutcome, IsFormatUsageLine, no_word_line, begun};
-ghost use Rattle.bz_buildifier.specs.private.FormatShown.{effect_seen, progress_of, IsUsageOf};
+ghost use Rattle.bz_buildifier.specs.private.FormatShown.{effect_seen, IsUsageOf};
 
 use crate::effect::{
-    BEGUN, Effect, Progress, fail, file_out, grown, input_out, is_rewritten, print, refused,
-    text_status, unread_file,
+    BEGUN, Effect, fail, file_out, grown, input_out, is_rewritten, print, refused, text_status,
+    unread_file,
 };
 use crate::file_type::FileType;
 use crate::format_line::{FormatLine, FormatUsage, clap_hint, read_format_line};
@@ -161,10 +161,10 @@ fn run_files<F: Files, W: Sink, E: Sink>(
     files: &mut F,
     out: &mut W,
     err: &mut E,
-) -> Progress
-    ensures runs { F.honest files.old ≡ true → (run : r.Run) × (result ≡ progress_of run)
+) -> Effect
+    ensures runs { F.honest files.old ≡ true → (run : r.Effect) × (result ≡ effect_seen run)
         × r.FilesFormatted mode file_type (map (λ name. name.now) names.now) begun (F.folder files.old) run (F.folder files.new)
-        × Writes run.closed (W.faults out.old) (W.faults out.new) (W.contents out.old) (W.contents out.new) run.out
+        × Writes run.closes (W.faults out.old) (W.faults out.new) (W.contents out.old) (W.contents out.new) run.out
         × Reports (E.faults err.old) (E.faults err.new) (E.contents err.old) (E.contents err.new) run.lines }
     ensures status { result.cut ≢ Cut.Whole → result.status ≡ 3 }
     ensures cut { IsCutBy result.cut (F.faults files.old) (F.faults files.new) (W.faults out.old) (W.faults out.new) }
@@ -177,7 +177,7 @@ fn run_files<F: Files, W: Sink, E: Sink>(
             mode,
             file_type,
             name,
-            progress.closed,
+            progress.closes,
             files,
             out,
             err,
@@ -246,8 +246,7 @@ fn memory_exit<E: Sink>(err: &mut E) -> Exit
     ensures exit { result ≡ record { status = 3; cut = Cut.Memory } }
     ensures reported { Reports (E.faults err.old) (E.faults err.new) (E.contents err.old) (E.contents err.new) (named_line (codes "buildifier") (codes "Memory") ∷ []) }
 {
-    let Effect { status, cut, .. } = fail(err, "buildifier", "Memory", Cut::Memory);
-    Exit { status, cut }
+    ended(fail(err, "buildifier", "Memory", Cut::Memory))
 }
 
 // These words are no line of the program's, or memory was refused. Each is reported.
@@ -293,9 +292,9 @@ pub fn buildifier<S: AsStr, R: Source, W: Sink, E: Sink, F: Files>(
 ) -> Exit
     // Where the files are honest, or none is named, a run does what the words, the bytes of standard input and the folder mean.
     ensures run { (F.honest files.old ≡ true) ⊎ IfOk (format_line (map S.text words.now)) (λ line. line.files ≡ [])
-        → (run : r.Run) × FormatOutcome (map S.text words.now) (R.remaining input.old) (F.folder files.old) run (F.folder files.new)
+        → (run : r.Effect) × FormatOutcome (map S.text words.now) (R.remaining input.old) (F.folder files.old) run (F.folder files.new)
         × (result ≡ record { status = run.status; cut = run.cut })
-        × Writes run.closed (W.faults out.old) (W.faults out.new) (W.contents out.old) (W.contents out.new) run.out
+        × Writes run.closes (W.faults out.old) (W.faults out.new) (W.contents out.old) (W.contents out.new) run.out
         × Reports (E.faults err.old) (E.faults err.new) (E.contents err.old) (E.contents err.new) run.lines }
     ensures status { result.cut ≢ Cut.Whole → result.status ≡ 3 }
 
@@ -327,7 +326,7 @@ pub fn buildifier<S: AsStr, R: Source, W: Sink, E: Sink, F: Files>(
     ended(run_files(alloc, line.mode, line.file_type, names, files, out, err))
 }
 
-fn ended(progress: Progress) -> Exit
+fn ended(progress: Effect) -> Exit
     ensures { result ≡ record { status = progress.status; cut = progress.cut } }
 {
     Exit {

@@ -6,7 +6,6 @@ use Rattle.bz_items.specs.Characters.{Bytes}
 use Rattle.bz_buildifier.specs.FormatRun as r
 use Rattle.bz_buildifier.specs.Modes as m
 use Rattle.bz_buildifier.specs.declared.effect.Effect.{Effect}
-use Rattle.bz_buildifier.specs.declared.effect.Progress.{Progress}
 use Rattle.bz_buildifier.specs.declared.format_line.FormatLine.{FormatLine}
 use Rattle.bz_buildifier.specs.declared.format_line.FormatUsage.{FormatUsage}
 use Rattle.bz_buildifier.specs.declared.format_line.FormatUsage.TheVariants as u
@@ -24,7 +23,3 @@ IsUsageOf words u.Memory = Unit {0}
 -- an effect as the code holds it
 abbrev pub effect_seen : r.Effect → Effect
 effect_seen effect = record { status = effect.status; cut = effect.cut; closes = effect.closes }
-
--- how far a run is, as the code holds it
-abbrev pub progress_of : r.Run → Progress
-progress_of run = record { status = run.status; cut = run.cut; closed = run.closed }

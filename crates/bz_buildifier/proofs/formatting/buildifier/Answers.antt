@@ -3,7 +3,7 @@ use Rattle.bz_buildifier.specs.FormatRun as r
 use Rattle.bz_buildifier.specs.private.FormatShown.{seen_line}
 use Rattle.bz_streams.specs.Reported.{named_line}
 use Rattle.bz_streams.specs.declared.exit.Cut.TheVariants as cut
-use Rattle.bz_buildifier.specs.declared.effect.Progress.{Progress}
+use Rattle.bz_buildifier.specs.declared.effect.Effect.{Effect}
 use Rattle.bz_streams.proofs.Outputs.{appends_nothing}
 use Rattle.bz_buildifier.proofs.FormatRuns.{grown_is, files_outcome, input_outcome, usage_outcome, no_names, some_names}
 use Rattle.bz_buildifier.proofs.formatting.buildifier.Goals as goal
@@ -39,11 +39,11 @@ returns-then-is_empty-clause-run g c = λ _.
     let run = r.grown r.begun step.0 in
     let none : map (λ file. file.now) c.in-Ok.line.files.items ≡ [] =
     no_names c.in-Ok.line.files.items c.as_slice-names.result.now _ c.as_slice-names.ensures.value c.is_empty.ensures c.if-is_empty.true in
-    let done : c.grown.result ≡ record { status = run.status; cut = run.cut; closed = run.closed } =
+    let done : c.grown.result ≡ record { status = run.status; cut = run.cut; closes = run.closes } =
     grown_is _ c.grown.result c.input_effect-effect.result r.begun step.0 refl step.2 c.grown.ensures in (
       run,
       input_outcome words (seen_line c.in-Ok.line) known folder step.0 c.in-Ok.ensures.ok none step.1,
-      c.ended.ensures ∙ ap (λ (p : Progress). record { status = p.status; cut = p.cut }) done,
+      c.ended.ensures ∙ ap (λ (p : Effect). record { status = p.status; cut = p.cut }) done,
       step.3,
       step.4,
     )
@@ -62,7 +62,7 @@ returns-clause-run g c = λ cause.
     subst (λ (names : List (Bor (List ℕ))). r.FilesFormatted line.mode line.file_type (map (λ name. name.now) names) r.begun before runs.0 after) c.as_slice-names.ensures.value runs.2 in (
       runs.0,
       files_outcome words line known before after runs.0 c.in-Ok.ensures.ok some files,
-      c.ended-2.ensures ∙ ap (λ (p : Progress). record { status = p.status; cut = p.cut }) runs.1,
+      c.ended-2.ensures ∙ ap (λ (p : Effect). record { status = p.status; cut = p.cut }) runs.1,
       runs.3,
       runs.4,
     )

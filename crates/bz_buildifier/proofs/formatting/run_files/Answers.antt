@@ -1,6 +1,6 @@
 use Rattle.std.proofs.Common.{◌≡◌, ◌∙◌, ◌+◌, inl, refl, ap, subst, arith, List, ℕ, Bor, Bool, [], get_or, map, drop}
 use Rattle.bz_buildifier.specs.FormatRun as r
-use Rattle.bz_buildifier.specs.declared.effect.Progress.{Progress}
+use Rattle.bz_buildifier.specs.declared.effect.Effect.{Effect}
 use Rattle.bz_streams.specs.Outputs.{WritesUnlessClosed}
 use Rattle.bz_streams.proofs.Written.{left-cons}
 use Rattle.bz_streams.proofs.Outputs.{counts_more, appends_nothing, reports_more}
@@ -39,14 +39,14 @@ loop-name-preserved g c =
       runs = λ honest.
           let so_far = l.invariant.runs honest in
           let step = e.ensures.step (l.invariant.honest ∙ honest) in
-          let closed : l.progress.closed ≡ so_far.0.closed = ap (λ (p : Progress). p.closed) so_far.1 in (
+          let closed : l.progress.closes ≡ so_far.0.closes = ap (λ (p : Effect). p.closes) so_far.1 in (
             r.grown so_far.0 step.0,
             grown_is l.progress c.grown-progress.result e.result so_far.0 step.0 so_far.1 step.2 c.grown-progress.ensures,
             files_more mode file_type (texts names) (texts (drop at names)) (texts (drop (at + 1) names)) name r.begun so_far.0
                 (F.folder c.args.files.now) (F.folder l.files) (F.folder e.new.files) step.0
                 (ap texts (left-cons names at none c.loop-name-test.true))
                 (subst (λ (b : Bool). r.FileStep mode file_type name b (F.folder l.files) step.0 (F.folder e.new.files)) closed step.1) so_far.2,
-            writes_on so_far.0.closed step.0.closes (W.faults c.args.out.now) (W.faults l.out) (W.faults e.new.out)
+            writes_on so_far.0.closes step.0.closes (W.faults c.args.out.now) (W.faults l.out) (W.faults e.new.out)
                 (W.contents c.args.out.now) (W.contents l.out) (W.contents e.new.out) so_far.0.out step.0.out so_far.3
                 (subst (λ (b : Bool). WritesUnlessClosed b step.0.closes (W.faults l.out) (W.faults e.new.out) (W.contents l.out)
                 (W.contents e.new.out) step.0.out) closed step.3),

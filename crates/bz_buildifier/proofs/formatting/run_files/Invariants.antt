@@ -1,7 +1,7 @@
 use Rattle.std.proofs.Common.{◌≡◌, true, map, drop}
 use Rattle.bz_files.specs.Folder.{Folder}
 use Rattle.bz_buildifier.specs.FormatRun as r
-use Rattle.bz_buildifier.specs.private.FormatShown.{progress_of}
+use Rattle.bz_buildifier.specs.private.FormatShown.{effect_seen}
 use Rattle.bz_streams.specs.declared.exit.Cut.TheVariants as c
 use Rattle.bz_streams.specs.Outputs.{Writes, Reports, Counts}
 use Rattle.bz_buildifier.proofs.formatting.run_files.Given as goal
@@ -9,10 +9,10 @@ use Rattle.bz_buildifier.proofs.formatting.run_files.Given as goal
 -- what the files that are left do is what all do
 abbrev pub invariant-loop-name : goal.invariant-loop-name
 invariant-loop-name g l = record {
-  runs : g.F.Files.honest l.fn.files ≡ true → (run : r.Run) × (l.progress ≡ progress_of run)
-      × ((after : r.Run) (last : Folder) → r.FilesFormatted l.mode l.file_type (map (λ name. name.now) (drop l.name-index l.names)) run (g.F.Files.folder l.files) after last
+  runs : g.F.Files.honest l.fn.files ≡ true → (run : r.Effect) × (l.progress ≡ effect_seen run)
+      × ((after : r.Effect) (last : Folder) → r.FilesFormatted l.mode l.file_type (map (λ name. name.now) (drop l.name-index l.names)) run (g.F.Files.folder l.files) after last
       → r.FilesFormatted l.mode l.file_type (map (λ name. name.now) l.names) r.begun (g.F.Files.folder l.fn.files) after last)
-      × Writes run.closed (g.W.Sink.faults l.fn.out) (g.W.Sink.faults l.out) (g.W.Sink.contents l.fn.out) (g.W.Sink.contents l.out) run.out
+      × Writes run.closes (g.W.Sink.faults l.fn.out) (g.W.Sink.faults l.out) (g.W.Sink.contents l.fn.out) (g.W.Sink.contents l.out) run.out
       × Reports (g.E.Sink.faults l.fn.err) (g.E.Sink.faults l.err) (g.E.Sink.contents l.fn.err) (g.E.Sink.contents l.err) run.lines;
   status : (l.progress.cut ≡ c.Whole → ⊥) → l.progress.status ≡ 3;
   cut : r.IsCutBy l.progress.cut (g.F.Files.faults l.fn.files) (g.F.Files.faults l.files) (g.W.Sink.faults l.fn.out) (g.W.Sink.faults l.out);
