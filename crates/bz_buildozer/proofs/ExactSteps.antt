@@ -39,9 +39,9 @@ pub same_taken : (words : List Bytes) (world : World) (current name text : Bytes
     → TakesSame words world file file' lines lines'
 same_taken words world current name text file file' lines lines' found (inl (accepted, is, none)) (inl (accepted', is', none')) =
     (is ∙ sym is', same_lines words world lines lines' (none ∙ sym none'))
-same_taken words world current name text file file' lines lines' found (inl (accepted, is, none)) (inr (refused, faults)) = absurd (refused accepted)
-same_taken words world current name text file file' lines lines' found (inr (refused, faults)) (inl (accepted, is, none)) = absurd (refused accepted)
-same_taken words world current name text file file' lines lines' found (inr (refused, (fault, one, is, reported))) (inr (refused', (fault', two, is', reported'))) = (
+same_taken words world current name text file file' lines lines' found (inl (accepted, is, none)) (inr (fault, refused, is', reported)) = absurd (refused.0 accepted)
+same_taken words world current name text file file' lines lines' found (inr (fault, refused, is', reported)) (inl (accepted, is, none)) = absurd (refused.0 accepted)
+same_taken words world current name text file file' lines lines' found (inr (fault, one, is, reported)) (inr (fault', two, is', reported')) = (
   is ∙ sym is',
   same_as words world lines lines' (fault_line name fault ∷ []) (fault_line name fault' ∷ []) reported reported' (
     inr (inl (record {
@@ -51,7 +51,6 @@ same_taken words world current name text file file' lines lines' found (inr (ref
       first = fault;
       second = fault';
       found = found;
-      refused = refused;
       one = one;
       two = two;
       reported = refl;

@@ -1,38 +1,37 @@
 -- The first bytes of a text, one more than a text may have, decide what becomes of it.
-use Rattle.std.proofs.Common.{◌≡◌, ◌⊎◌, ◌↔◌, ◌≤◌, ◌<◌, ◌+◌, inl, inr, List, length, take, Option, arith, subst, sym, length-take}
+use Rattle.std.proofs.Common.{◌≡◌, ◌⊎◌, ◌↔◌, ◌≤◌, ◌<◌, ◌+◌, ◌∙◌, inl, inr, true, List, length, take, Option, arith, ap, subst, sym, length-take}
 use Rattle.std.proofs.lemmas.List.{take_all}
 use Rattle.std.proofs.lemmas.Bool.{cases_lt}
 use Rattle.bz_lex.specs.declared.fault.ReadFault.{ReadFault}
 use Rattle.bz_lex.specs.declared.fault.ReadFault.TheVariants as f
+use Rattle.bz_lex.specs.Faults.{is_of_leaves}
 use Rattle.bz_grammar.specs.Spell.{limit}
 use Rattle.bz_grammar.specs.Legal.{Accepted}
 use Rattle.bz_items.specs.Characters.{Bytes}
-use Rattle.bz_grammar.specs.Faults.{IsFaultOf}
-use Rattle.bz_buildozer.specs.Opens.{FrontsAreReportedAlike, Takes}
+use Rattle.bz_buildozer.specs.Opens.{FrontsAreReportedAlike, IsRefusedFor, Takes}
 use Rattle.bz_buildozer.specs.Packages.{Opened}
 
 fits_limit : (text : Bytes) → Accepted text → length text ≤ limit
 fits_limit text accepted = accepted.1.2
 
--- one fault of two texts that are both too large
-same_fault : (one other : Bytes) (fault : ReadFault) → limit < length one → limit < length other → IsFaultOf one fault → IsFaultOf other fault
-same_fault one other fault long past of_one =
-    let large : fault ≡ f.TooLarge = of_one.too_large.1 long in
-    record {
-      too_large = (λ _. past, λ _. large);
-      not_utf8 = λ at. (λ is. absurd (cc), λ short. let fits = short.0 in absurd (omega arith));
-      other = of_one.other;
-    }
+-- one fault of two texts that are both too large, which is none of leaves
+same_fault : (one other : Bytes) (fault : ReadFault) → limit < length one → limit < length other → IsRefusedFor one fault → IsRefusedFor other fault
+same_fault one other fault long past (refused, of_one, placed) =
+    let large : fault ≡ f.TooLarge = of_one.too_large.1 long in (
+      (λ accepted. let le = fits_limit other accepted in omega arith),
+      record {
+        too_large = (λ _. past, λ _. large);
+        not_utf8 = λ at. (λ is. absurd (cc), λ short. let fits = short.0 in absurd (omega arith));
+        other = of_one.other;
+      },
+      λ (of_leaves : is_of_leaves fault ≡ true). absurd (let e = sym (ap is_of_leaves large) ∙ of_leaves in cc),
+    )
 
 long_takes : (current name one other : Bytes) (file : Option Opened) (lines : List Bytes) → limit < length one → limit < length other
     → Takes current name one file lines → Takes current name other file lines
 long_takes current name one other file lines long past (inl opened) =
     let le = fits_limit one opened.0 in absurd (omega arith)
-long_takes current name one other file lines long past (inr refused) =
-    inr (
-      (λ accepted. let le = fits_limit other accepted in omega arith),
-      (refused.1.0, same_fault one other refused.1.0 long past refused.1.1, refused.1.2, refused.1.3),
-    )
+long_takes current name one other file lines long past (inr (fault, refused, is, reported)) = inr (fault, same_fault one other fault long past refused, is, reported)
 
 front_long : (text : Bytes) → limit < length text → limit < length (take (limit + 1) text)
 front_long text long = let len = length-take (limit + 1) text in omega arith

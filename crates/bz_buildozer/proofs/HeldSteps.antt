@@ -34,7 +34,7 @@ by_reported : (folder : Folder) (name current text : Bytes) (texts : List Bytes)
 by_reported folder name current text texts file lines (inl (none, alone)) accepted takes =
     elim (subst (λ (journal : Option Bytes). TakesBeside journal current name text file lines) none takes) [
       | inl opens ↦ (opened_fresh current name text, opens.1, refl, sym alone)
-      | inr refused ↦ absurd (refused.0 accepted)
+      | inr (fault, refused, is, reported) ↦ absurd (refused.0 accepted)
     ]
 by_reported folder name current text texts file lines (inr (bytes, h, es, place, there, journal, of, is, at)) accepted takes =
     let given = subst (λ (beside : Option Bytes). TakesBeside beside current name text file lines) there takes in

@@ -39,7 +39,7 @@ takes_some : (journal : Option Bytes) (current name text : Bytes) (file : Opened
     → (file.name ≡ name) × (file.read ≡ text) × (lines ≡ [])
 takes_some None current name text file lines (inl (accepted, is, reported)) =
     let same = same_file file _ is in (ap (λ (f : Opened). f.name) same, ap (λ (f : Opened). f.read) same, reported)
-takes_some None current name text file lines (inr (refused, (fault, of, is, reported))) = absurd (let e = is in cc)
+takes_some None current name text file lines (inr (fault, refused, is, reported)) = absurd (let e = is in cc)
 takes_some (Some bytes) current name text file lines (given, comes, is, reported) = given_some name text given file lines is reported
 
 pub taken : (journal : Option Bytes) (current name text : Bytes) (file : Option Opened) (lines : List Bytes) → TakesBeside journal current name text file lines

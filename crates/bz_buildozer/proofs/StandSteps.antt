@@ -263,8 +263,8 @@ pub takes_stand : (folder : Folder) (current name text : Bytes) (journal : Optio
 takes_stand folder current name text None file lines named there beside (inl opens) =
     subst (λ (it : Option Opened). IfSome it (IsKeptIn folder current)) (sym opens.1)
     (record { named = named; stays = refl; holds = record { holds = there; history = inl (beside, refl) } })
-takes_stand folder current name text None file lines named there beside (inr refused) =
-    subst (λ (it : Option Opened). IfSome it (IsKeptIn folder current)) (sym refused.1.2) tt
+takes_stand folder current name text None file lines named there beside (inr (fault, refused, is, reported)) =
+    subst (λ (it : Option Opened). IfSome it (IsKeptIn folder current)) (sym is) tt
 takes_stand folder current name text (Some bytes) file lines named there beside (given, comes, is, reported) =
     subst (λ (it : Option Opened). IfSome it (IsKeptIn folder current)) (sym is) (given_stands folder current name text bytes given named there beside comes)
 

@@ -2,10 +2,8 @@
 -- can't be read is reported, names that end in `.bznew`, the bytes of journals, and whether `regex` takes a pattern.
 use Rattle.std.specs.Prelude.{◌≡◌, ◌⊎◌, ℕ, true, List, [], ◌∷◌, Some, Ok, Err}
 use Rattle.bz_lex.specs.declared.fault.ReadFault.{ReadFault}
-use Rattle.bz_grammar.specs.Legal.{Accepted}
 use Rattle.bz_items.specs.Characters.{Bytes}
 use Rattle.bz_files.specs.Folder.{IsAside, SameBut}
-use Rattle.bz_grammar.specs.Faults.{IsFaultOf}
 use Rattle.bz_resume.specs.Pair.{journal_name}
 use Rattle.bz_command_line.specs.Requested.{Refused, Usage, of_operand, in_line}
 use Rattle.bz_command_line.specs.Line.{Given, operands, script, CommandLine, of_clap, command_line_of}
@@ -13,6 +11,7 @@ use Rattle.bz_command_line.specs.Refused.{IsPatternFault, IsFirstRefused, IsFirs
 use Rattle.bz_command_line.specs.Script.{script_lines}
 use Rattle.bz_streams.specs.Reported.{fault_line}
 use Rattle.bz_buildozer.specs.Ending.{Left}
+use Rattle.bz_buildozer.specs.Opens.{IsRefusedFor}
 use Rattle.bz_buildozer.specs.Outcome.{WordsOutcome, IsScript, reported_name, unused}
 use Rattle.bz_buildozer.specs.Run.{World, Finds}
 use Rattle.bz_buildozer.specs.Reported.{usage_line}
@@ -20,7 +19,7 @@ use Rattle.bz_buildozer.specs.Reported.{usage_line}
 -- ---- lines
 
 -- Two lines report a fault of one text that is read for a package and isn't accepted. The faults are TooLarge or NotUtf8 exactly where
--- the text is that; what else it is, and its place, may differ.
+-- the text is that, and one of leaves is at its place; which of these it is may differ.
 pub record ReportFaults (world : World) (line other : Bytes) : Type 0 where
   pub current : Bytes
   pub name : Bytes
@@ -28,9 +27,8 @@ pub record ReportFaults (world : World) (line other : Bytes) : Type 0 where
   pub first : ReadFault
   pub second : ReadFault
   pub found : Finds world current (Some (name, text))
-  pub refused : Accepted text → ⊥
-  pub one : IsFaultOf text first
-  pub two : IsFaultOf text second
+  pub one : IsRefusedFor text first
+  pub two : IsRefusedFor text second
   pub reported : line ≡ fault_line name first
   pub reported_other : other ≡ fault_line name second
 

@@ -1,7 +1,9 @@
 -- How a package is opened, and what an action does in one.
-use Rattle.std.specs.Prelude.{◌≡◌, ◌⊎◌, ◌↔◌, ◌≤◌, ◌<◌, ◌+◌, ◌++◌, ℕ, List, [], ◌∷◌, length, take, codes, Option, Some, None}
+use Rattle.std.specs.Prelude.{◌≡◌, ◌≢◌, ◌⊎◌, ◌↔◌, ◌≤◌, ◌<◌, ◌+◌, ◌++◌, ℕ, true, List, [], ◌∷◌, length, take, codes, Option, Some, None}
 use Rattle.std.specs.Option.{option_map}
 use Rattle.bz_lex.specs.declared.fault.ReadFault.{ReadFault}
+use Rattle.bz_lex.specs.Faults.{is_of_leaves}
+use Rattle.bz_lex.specs.Stops.{IsFaultAt}
 use Rattle.bz_grammar.specs.Legal.{Accepted}
 use Rattle.bz_grammar.specs.Spell.{limit}
 use Rattle.bz_items.specs.Characters.{Bytes}
@@ -24,11 +26,15 @@ pub record IsUnopened (place : ℕ) (current : Bytes) (used : List Used) : Type 
 abbrev pub opened_fresh : Bytes → Bytes → Bytes → Opened
 opened_fresh current name text = opened_with name text (opened current text)
 
--- An accepted text is opened; of every other text its fault is reported.
+-- A text is not accepted for this fault, which is at its place where it is one of leaves.
+abbrev pub IsRefusedFor : Bytes → ReadFault → Type 0
+IsRefusedFor text fault = (Accepted text → ⊥) × IsFaultOf text fault × (is_of_leaves fault ≡ true → IsFaultAt (λ blanks. blanks ≢ []) text fault)
+
+-- An accepted text is opened; of every other text such a fault is reported.
 abbrev pub Takes : Bytes → Bytes → Bytes → Option Opened → List Bytes → Type 0
 Takes current name text file lines =
     (Accepted text × (file ≡ Some (opened_fresh current name text)) × (lines ≡ []))
-    ⊎ ((Accepted text → ⊥) × ((fault : ReadFault) × IsFaultOf text fault × (file ≡ None) × (lines ≡ fault_line name fault ∷ [])))
+    ⊎ ((fault : ReadFault) × IsRefusedFor text fault × (file ≡ None) × (lines ≡ fault_line name fault ∷ []))
 
 -- A text and its first bytes, one more than a text may have, are opened or reported alike: both are too large, or they are the same.
 abbrev pub FrontsAreReportedAlike : Type 0

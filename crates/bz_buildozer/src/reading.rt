@@ -4,14 +4,13 @@ ghost use Rattle.std.specs.List.{concat};
 ghost use Rattle.std.specs.FinMap.{get};
 ghost use Rattle.bz_grammar.specs.Legal.{Accepted};
 ghost use Rattle.bz_items.specs.Characters.{Bytes};
-ghost use Rattle.bz_grammar.specs.Faults.{IsFaultOf};
 ghost use Rattle.bz_streams.specs.Faults.{Rises, AppendsUnlessFailed};
 ghost use Rattle.bz_streams.specs.Outputs.{Reports};
 ghost use Rattle.bz_streams.specs.Reported.{named_line};
 ghost use Rattle.bz_buildozer.specs.Found.{in_package};
 ghost use Rattle.bz_buildozer.specs.Journals.{fault_lines, of_resuming};
 ghost use Rattle.bz_buildozer.specs.Keeps.{KeepsFolder};
-ghost use Rattle.bz_buildozer.specs.Opens.{opened_fresh};
+ghost use Rattle.bz_buildozer.specs.Opens.{IsRefusedFor, opened_fresh};
 ghost use Rattle.bz_buildozer.specs.private.ShownFiles.{opened_in};
 
 use crate::used::Opened;
@@ -85,7 +84,7 @@ pub(crate) fn opened(
 ) -> Result<Opened, ReadFault>
     requires { length «package».now ≤ 65536 }
     ensures ok { IfOk result (λ file. (opened_in file ≡ opened_fresh «package».now name.now text.items) × Accepted text.items) }
-    ensures err { IfErr result (λ fault. (fault ≡ ReadFault.Memory) ⊎ ((Accepted text.items → ⊥) × IsFaultOf text.items fault)) }
+    ensures err { IfErr result (λ fault. (fault ≡ ReadFault.Memory) ⊎ IsRefusedFor text.items fault) }
 {
     let name = String::from_str(alloc, name)?;
     match Editor::open(alloc, package, text.as_slice()) {

@@ -1,7 +1,5 @@
-use Rattle.bz_journal.specs.State.{SessionState}
 use Rattle.bz_buildozer.proofs.FaultSteps.{refused}
 use Rattle.bz_buildozer.proofs.reading.opened.Goals as goal
 
 pub returns-in-Err-clause-err : goal.returns-in-Err-clause-err
-returns-in-Err-clause-err c = refused SessionState c.as_slice.result.now c.args.text.items c.in-Err.fault c.as_slice.ensures.value c.in-Err.ensures.refused
-    c.in-Err.ensures.too_large c.in-Err.ensures.not_utf8
+returns-in-Err-clause-err c = refused c.args.package.now c.as_slice.result.now c.args.text.items c.in-Err.fault c.as_slice.ensures.value c.in-Err.ensures
