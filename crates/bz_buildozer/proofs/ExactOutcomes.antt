@@ -238,9 +238,9 @@ exactly_given one words bytes options (script name) world left other known plain
 
 -- ---- whole lines
 
--- What clap prints is its own.
+-- What clap prints is its own, and what is below it is the same.
 same_usage : (words : List Bytes) (usage : LineUsage) (world : World) (line line' : Bytes) (left other : Left) → command_line_of words ≡ Err usage
-    → IsLineUsageLine usage line → IsLineUsageLine usage line' → left ≡ unused world.folder line
+    → IsLineUsageLine words usage line → IsLineUsageLine words usage line' → left ≡ unused world.folder line
     → other ≡ unused world.folder line' → SameLeft words world left other
 same_usage words of_clap world line line' left other claps reported reported' is is' = record {
   output = ap (λ (l : Left). l.output) is ∙ sym (ap (λ (l : Left). l.output) is');
@@ -254,7 +254,7 @@ same_usage words beside_stdout world line line' left other claps reported report
     same_left words world left other (is ∙ ap (unused world.folder) (reported ∙ sym reported') ∙ sym is')
 
 exactly_line : OneReading → (words : List Bytes) (bytes : Bytes) (line : Result CommandLine LineUsage) (world : World) (left other : Left) → command_line_of words ≡ line
-    → world.known ≡ Some bytes → LineOutcome line world left → LineOutcome line world other
+    → world.known ≡ Some bytes → LineOutcome words line world left → LineOutcome words line world other
     → ReportsPattern words world left ⊎ ReportsPattern words world other ⊎ SameLeft words world left other
 exactly_line one words bytes (Err usage) world left other says known (line, reported, is) (line', reported', is') =
     inr (inr (same_usage words usage world line line' left other says reported reported' is is'))

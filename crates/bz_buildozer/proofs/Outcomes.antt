@@ -61,11 +61,11 @@ pub some_in_line : (found : Option Usage) (line : ℕ) → IsSome found → IsSo
 some_in_line None line is = is
 some_in_line (Some usage) line is = refl
 
-pub line_usage_reported : (found : Option LineUsage) (f g : ℕ) (old new : Option Bytes) → IsSome found
-    → IfSome found (λ usage. (line : Bytes) × IsLineUsageLine usage line × AppendsUnlessFailed f g old new line)
-    → (usage : LineUsage) × (line : Bytes) × (found ≡ Some usage) × IsLineUsageLine usage line × Reports f g old new (line ∷ [])
-line_usage_reported None f g old new is holds = absurd (true≢false (sym is))
-line_usage_reported (Some usage) f g old new is holds = (usage, holds.0, refl, holds.1, reported_once f g old new holds.0 holds.2)
+pub line_usage_reported : (words : List Bytes) (found : Option LineUsage) (f g : ℕ) (old new : Option Bytes) → IsSome found
+    → IfSome found (λ usage. (line : Bytes) × IsLineUsageLine words usage line × AppendsUnlessFailed f g old new line)
+    → (usage : LineUsage) × (line : Bytes) × (found ≡ Some usage) × IsLineUsageLine words usage line × Reports f g old new (line ∷ [])
+line_usage_reported words None f g old new is holds = absurd (true≢false (sym is))
+line_usage_reported words (Some usage) f g old new is holds = (usage, holds.0, refl, holds.1, reported_once f g old new holds.0 holds.2)
 
 pub at_some : {A : Type 0} (P : A → Type 0) (found : Option A) (x : A) → found ≡ Some x → IfSome found P → P x
 at_some P found x is holds = subst (λ it. IfSome it P) is holds
@@ -255,21 +255,21 @@ script_done options name text text' folder folder' known left same still is outc
 -- ---- words
 
 pub words_refused : (words : List Bytes) (world : World) (found : Option LineUsage) (usage : LineUsage) (line : Bytes) (status : ℕ) (out : Option Bytes)
-    (f g : ℕ) (old new : Option Bytes) → IfSome found (λ usage. command_line_of words ≡ Err usage) → found ≡ Some usage → IsLineUsageLine usage line
+    (f g : ℕ) (old new : Option Bytes) → IfSome found (λ usage. command_line_of words ≡ Err usage) → found ≡ Some usage → IsLineUsageLine words usage line
     → status ≡ 1 → Reports f g old new (line ∷ []) → (left : Left) × WordsOutcome words world left × LeftStands left status world.folder out out f g old new
 words_refused words world found usage line status out f g old new fault is reported exit reports =
     let left = unused world.folder line in
-    let refused : LineOutcome (Err usage) world left = (line, reported, refl) in (
+    let refused : LineOutcome words (Err usage) world left = (line, reported, refl) in (
       left,
-      subst (λ (it : Result CommandLine LineUsage). LineOutcome it world left) (sym (at_some (λ usage. command_line_of words ≡ Err usage) found usage is fault)) refused,
+      subst (λ (it : Result CommandLine LineUsage). LineOutcome words it world left) (sym (at_some (λ usage. command_line_of words ≡ Err usage) found usage is fault)) refused,
       stands_unused world.folder world.folder line status out f g old new refl exit reports,
     )
 
 pub words_done : (words : List Bytes) (line : CommandLine) (given : Given) (world : World) (left : Left) → command_line_of words ≡ Ok line → line.given ≡ given
     → GivenOutcome line.options given world left → WordsOutcome words world left
 words_done words line given world left is same outcome =
-    let whole : LineOutcome (Ok line) world left = subst (λ (it : Given). GivenOutcome line.options it world left) (sym same) outcome in
-    subst (λ (it : Result CommandLine LineUsage). LineOutcome it world left) (sym is) whole
+    let whole : LineOutcome words (Ok line) world left = subst (λ (it : Given). GivenOutcome line.options it world left) (sym same) outcome in
+    subst (λ (it : Result CommandLine LineUsage). LineOutcome words it world left) (sym is) whole
 
 pub words_of_input : (words : List Bytes) (line : CommandLine) (given : Given) → command_line_of words ≡ Ok line → line.given ≡ given → NamesNoFile words → IsOfInput given
 words_of_input words line given is same none =

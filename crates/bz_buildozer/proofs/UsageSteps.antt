@@ -81,17 +81,17 @@ read_reported honest world options name text text' f g old new same is reported 
 -- ---- words
 
 pub words_reported : (honest : Bool) (world : World) (words : List Bytes) (found : Option LineUsage) (usage : LineUsage) (line : Bytes) (f g : ℕ)
-    (old new : Option Bytes) → IfSome found (λ usage. command_line_of words ≡ Err usage) → found ≡ Some usage → IsLineUsageLine usage line
-    → Reports f g old new (line ∷ []) → ReportsOne (LineReports honest world (command_line_of words)) f g old new
+    (old new : Option Bytes) → IfSome found (λ usage. command_line_of words ≡ Err usage) → found ≡ Some usage → IsLineUsageLine words usage line
+    → Reports f g old new (line ∷ []) → ReportsOne (LineReports honest world words (command_line_of words)) f g old new
 words_reported honest world words found usage line f g old new fault is says reports = (
   line,
-  subst (λ (it : Result CommandLine LineUsage). LineReports honest world it line) (sym (at_some (λ usage. command_line_of words ≡ Err usage) found usage is fault)) says,
+  subst (λ (it : Result CommandLine LineUsage). LineReports honest world words it line) (sym (at_some (λ usage. command_line_of words ≡ Err usage) found usage is fault)) says,
   reports,
 )
 
 pub given_reported : (honest : Bool) (world : World) (words : List Bytes) (line : CommandLine) (given : Given) (f g : ℕ) (old new : Option Bytes)
     → command_line_of words ≡ Ok line → line.given ≡ given → ReportsOne (GivenReports honest world line.options given) f g old new
-    → ReportsOne (LineReports honest world (command_line_of words)) f g old new
+    → ReportsOne (LineReports honest world words (command_line_of words)) f g old new
 given_reported honest world words line given f g old new is same reported =
-    let whole : LineReports honest world (Ok line) reported.0 = subst (λ (it : Given). GivenReports honest world line.options it reported.0) (sym same) reported.1 in
-    (reported.0, subst (λ (it : Result CommandLine LineUsage). LineReports honest world it reported.0) (sym is) whole, reported.2)
+    let whole : LineReports honest world words (Ok line) reported.0 = subst (λ (it : Given). GivenReports honest world line.options it reported.0) (sym same) reported.1 in
+    (reported.0, subst (λ (it : Result CommandLine LineUsage). LineReports honest world words it reported.0) (sym is) whole, reported.2)

@@ -2,6 +2,7 @@
 use Rattle.std.specs.Str.{is_utf8, chars}
 use lib.Utf8.{encode}
 use Rattle.std.proofs.Common.{◌≡◌, ◌&&◌, inl, inr, ◌∙◌, ℕ, ◌≤◌, List, [], ◌∷◌, ◌++◌, length, codes, leb-true, Bool, true, false, Option, Some, None, Result, Ok, Err, refl, sym, ap, subst}
+use Rattle.std.proofs.lemmas.List.{append-nil}
 use Rattle.std.proofs.lemmas.Str.{IsUtf8-from_is_utf8}
 use Rattle.std.specs.FinMap.{get}
 use Rattle.std.specs.Fmt.{digits}
@@ -18,6 +19,7 @@ use Rattle.bz_command_line.specs.declared.line.Options.{Options}
 use Rattle.bz_command_line.specs.declared.verb.OperandFault.{OperandFault}
 use Rattle.bz_command_line.specs.declared.verb.OperandFault.TheVariants.{BadTarget, Command}
 use Rattle.bz_command_line.specs.declared.verb.Verb.TheVariants.{Do, Undo, Redo}
+use Rattle.bz_streams.specs.Options.{option_line}
 use Rattle.bz_streams.specs.Reported.{stdin}
 use Rattle.bz_items.specs.Characters.{Bytes}
 use Rattle.bz_command_syntax.specs.declared.command.AttributeOperation.TheVariants as wa
@@ -67,11 +69,11 @@ plain = record { keep_going = false; to_stdout = false; quiet = false; journal =
 usage_of : (words : List Bytes) (usage : Usage) (line : Bytes) (world : World) → command_line_of words ≡ Ok (record { options = plain; given = operands words })
     → IsGroupFault words usage → line ≡ usage_line [] usage → WordsOutcome words world (unused world.folder line)
 usage_of words usage line world is fault reported =
-    subst (λ (whole : Result CommandLine LineUsage). LineOutcome whole world (unused world.folder line)) (sym is) (inl (usage, fault, ap (unused world.folder) reported))
+    subst (λ (whole : Result CommandLine LineUsage). LineOutcome words whole world (unused world.folder line)) (sym is) (inl (usage, fault, ap (unused world.folder) reported))
 
 script_of : (words : List Bytes) (name : Bytes) (world : World) (left : Left) → command_line_of words ≡ Ok (record { options = plain; given = script name })
     → ScriptOutcome plain name world left → WordsOutcome words world left
-script_of words name world left is done = subst (λ (whole : Result CommandLine LineUsage). LineOutcome whole world left) (sym is) done
+script_of words name world left is done = subst (λ (whole : Result CommandLine LineUsage). LineOutcome words whole world left) (sym is) done
 
 abbrev refused : Bytes → OperandFault → Usage
 refused operand fault = of_operand (record { operand = operand; fault = fault })
@@ -116,7 +118,8 @@ usage = (
       (record { front = []; rest = codes "//:x" ∷ []; requested = nothing_requested; split = refl; before = refl; fault = inl refl }) refl),
   (λ world. (codes "buildozer: operands beside -f\n", refl, refl)),
   (λ world. (codes "buildozer: --stdout beside --journal\n", refl, refl)),
-  (λ line world. (line, tt, refl)),
+  (λ line world. (line, (line, sym (append-nil line)), refl)),
+  (λ text world. (text ++ option_line (codes "buildozer") (codes "-r") None, (text, refl), refl)),
   (λ world gone. script_of (codes "-f" ∷ codes "lines" ∷ []) (codes "lines") world (unused world.folder (codes "lines: cannot open\n")) refl
       (None, inr (apart (codes "lines") refl, sym gone), refl)),
   (λ world there. script_of (codes "-f" ∷ codes "lines" ∷ []) (codes "lines") world (unused world.folder (codes "lines: no operands\n")) refl (
@@ -196,7 +199,7 @@ run_of : (words texts : List Bytes) (options : Options) (requested : Requested) 
     → options.journal ≡ false → command_line_of words ≡ Ok (record { options = options; given = operands texts }) → operand_group texts ≡ Ok requested
     → Performs options (all_steps (requested ∷ [])) world left → WordsOutcome words world left
 run_of words texts options requested world left alone is group done =
-    subst (λ (whole : Result CommandLine LineUsage). LineOutcome whole world left) (sym is)
+    subst (λ (whole : Result CommandLine LineUsage). LineOutcome words whole world left) (sym is)
     (inr (requested, group, inr (ap (λ (kept : Bool). kept && names_input (requested ∷ [])) alone, inl (alone, done))))
 
 -- ---- the first step, `set size small` or `undo`, in a file that is found

@@ -80,12 +80,12 @@ abbrev pub GivenOutcome : Options → Given → World → Left → Type 0
 GivenOutcome options (operands texts) world left = OperandsOutcome options texts world left
 GivenOutcome options (script name) world left = ScriptOutcome options name world left
 
-abbrev pub LineOutcome : Result CommandLine LineUsage → World → Left → Type 0
-LineOutcome (Err usage) world left = (line : Bytes) × IsLineUsageLine usage line × (left ≡ unused world.folder line)
-LineOutcome (Ok line) world left = GivenOutcome line.options line.given world left
+abbrev pub LineOutcome : List Bytes → Result CommandLine LineUsage → World → Left → Type 0
+LineOutcome words (Err usage) world left = (line : Bytes) × IsLineUsageLine words usage line × (left ≡ unused world.folder line)
+LineOutcome words (Ok line) world left = GivenOutcome line.options line.given world left
 
 abbrev pub WordsOutcome : List Bytes → World → Left → Type 0
-WordsOutcome words world left = LineOutcome (command_line_of words) world left
+WordsOutcome words world left = LineOutcome words (command_line_of words) world left
 
 -- the words name a file of lines
 abbrev pub TakesScript : List Bytes → Type 0

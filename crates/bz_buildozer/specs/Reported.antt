@@ -4,6 +4,7 @@ use Rattle.bz_items.specs.Characters.{Bytes}
 use Rattle.bz_value.specs.Refusals.{refusal_name, refusal_number}
 use Rattle.bz_value.specs.declared.refusal.Refusal.{Refusal}
 use Rattle.bz_value.specs.declared.refusal.Refusal.TheVariants.{TooFar}
+use Rattle.bz_command_line.specs.App.{line_hint}
 use Rattle.bz_command_line.specs.Requested.{Refused, Usage, of_operand, no_command, no_target, no_line, nul, in_line}
 use Rattle.bz_command_line.specs.Hints.{hint_for}
 use Rattle.bz_command_line.specs.Line.{LineUsage, of_clap, beside_script, beside_stdout}
@@ -84,11 +85,11 @@ usage_line file no_line = named_line file (codes "no operands")
 usage_line file (nul line) = nul_line file line
 usage_line file (in_line line usage) = usage_line file usage ++ refused_place file line
 
--- Words that are no line of the program's. Of a fault that clap finds the text is clap's.
-abbrev pub IsLineUsageLine : LineUsage → Bytes → Type 0
-IsLineUsageLine of_clap line = Unit {0}
-IsLineUsageLine beside_script line = line ≡ codes "buildozer: operands beside -f\n"
-IsLineUsageLine beside_stdout line = line ≡ codes "buildozer: --stdout beside --journal\n"
+-- Words that are no line of the program's. Of a fault that clap finds the text is clap's; below it is the hint, if there is one.
+abbrev pub IsLineUsageLine : List Bytes → LineUsage → Bytes → Type 0
+IsLineUsageLine words of_clap line = (text : Bytes) × (line ≡ text ++ line_hint words)
+IsLineUsageLine words beside_script line = line ≡ codes "buildozer: operands beside -f\n"
+IsLineUsageLine words beside_stdout line = line ≡ codes "buildozer: --stdout beside --journal\n"
 
 -- a target of standard input, where the lines themselves come from there
 abbrev pub input_line : Bytes

@@ -42,6 +42,6 @@ abbrev pub GivenReports : Bool → World → Options → Given → Bytes → Typ
 GivenReports honest world options (operands texts) line = OperandsReport options texts line
 GivenReports honest world options (script name) line = (text : Option Bytes) × (honest ≡ true → IsScript world name text) × TextReports options name text line
 
-abbrev pub LineReports : Bool → World → Result CommandLine LineUsage → Bytes → Type 0
-LineReports honest world (Err usage) line = IsLineUsageLine usage line
-LineReports honest world (Ok whole) line = GivenReports honest world whole.options whole.given line
+abbrev pub LineReports : Bool → World → List Bytes → Result CommandLine LineUsage → Bytes → Type 0
+LineReports honest world words (Err usage) line = IsLineUsageLine words usage line
+LineReports honest world words (Ok whole) line = GivenReports honest world whole.options whole.given line

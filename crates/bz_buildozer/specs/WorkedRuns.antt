@@ -35,8 +35,10 @@ WorkedUsage =
     -- delete -f lines; --stdout --journal undo //:x
     × IsUsage (codes "delete" ∷ codes "-f" ∷ codes "lines" ∷ []) (codes "buildozer: operands beside -f\n")
     × IsUsage (codes "--stdout" ∷ codes "--journal" ∷ codes "undo" ∷ codes "//:x" ∷ []) (codes "buildozer: --stdout beside --journal\n")
-    -- -k -k: what is printed is clap's own.
+    -- -k -k: what is printed is clap's own. -r undo //:x: below it is a line.
     × ((line : Bytes) → IsUsage (codes "-k" ∷ codes "-k" ∷ []) line)
+    × ((text : Bytes) → IsUsage (codes "-r" ∷ codes "undo" ∷ codes "//:x" ∷ [])
+    (text ++ codes "buildozer: there is no option '-r' here: see docs/COMING.md, buildozer-tree and contrib/compat/compat.sh\n"))
     -- -f lines: the file is not there, has comments only, or a line that is refused.
     × ((world : World) → get world.folder (codes "lines") ≡ None → Unused (codes "-f" ∷ codes "lines" ∷ []) (codes "lines: cannot open\n") world)
     × ((world : World) → get world.folder (codes "lines") ≡ Some (codes "# none\n\n")
@@ -47,8 +49,8 @@ WorkedUsage =
     × ((folder : Folder) → Unused (codes "-f" ∷ codes "-" ∷ []) (codes "buildozer: package - cannot be edited beside -f -\n")
     (record { folder = folder; known = Some (codes "undo|-:x\n") }))
     -- --journal -- undo -:x
-    × ((world : World) → LineReports true world (command_line_of (codes "--journal" ∷ codes "--" ∷ codes "undo" ∷ codes "-:x" ∷ []))
-    (codes "buildozer: package - has no journal\n"))
+    × (let words : List Bytes = codes "--journal" ∷ codes "--" ∷ codes "undo" ∷ codes "-:x" ∷ [] in
+    (world : World) → LineReports true world words (command_line_of words) (codes "buildozer: package - has no journal\n"))
 
 -- ---- whole runs over one file, BUILD in the current folder, or over standard input
 

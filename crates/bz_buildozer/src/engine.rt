@@ -236,7 +236,8 @@ pub fn buildozer<S: AsStr, R: Source, W: Sink, E: Sink, F: Files>(
 
     // A run of status 1 that no port cut says in one line why, with journals as without: of operands the first one that is refused.
     ensures usage { result.status ≡ 1 → result.cut ≡ Cut.Whole → (line : List ℕ)
-        × LineReports (F.honest files.old) (world_of R.Source F.Files input.old files.old) (command_line_of (map S.text words.now)) line
+        × LineReports (F.honest files.old) (world_of R.Source F.Files input.old files.old) (map S.text words.now)
+        (command_line_of (map S.text words.now)) line
         × ReportsLines E.Sink err.old err.new (line ∷ []) }
 
     // A run of status 1 leaves the output as it was. So it leaves the input, unless lines are in it, and the files, unless lines
@@ -269,7 +270,7 @@ pub fn buildozer<S: AsStr, R: Source, W: Sink, E: Sink, F: Files>(
 {
     let line = match read_line(alloc, words) {
         Ok(line) => line,
-        Err(fault) => return report_line_usage(alloc, err, &fault),
+        Err(fault) => return report_line_usage(alloc, err, words, &fault),
     };
     match &line.given {
         Given::Operands(operands) => {

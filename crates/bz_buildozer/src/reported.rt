@@ -1,16 +1,18 @@
 //! The lines on standard error that speak of commands, operands and usage. Its faults are passed over.
-ghost use Rattle.std.specs.Prelude.{◌≡◌, ◌≢◌, ◌++◌, List, ℕ, IfOk, IfSome, IsSome, string_bytes};
+ghost use Rattle.std.specs.Prelude.{◌≡◌, ◌≢◌, ◌++◌, List, ℕ, map, OnOk, IfOk, IfSome, IsSome, string_bytes};
+ghost use Rattle.bz_command_line.specs.App.{line_hint};
 ghost use Rattle.bz_command_line.specs.Hints.{hint_for};
 ghost use Rattle.bz_command_line.specs.Shown.{refused_in, usage_in, script_usage_in, line_usage_in, hint_text};
 ghost use Rattle.bz_streams.specs.Reported.{named_line};
 ghost use Rattle.bz_buildozer.specs.Calls.{ReportsLine};
 ghost use Rattle.bz_buildozer.specs.Reported.{numbered, history_hint, refusal_line, operand_line, nul_line, refused_place, unread_line, unread_status, usage_line, IsLineUsageLine};
 
-use bz_command_line::{Hint, LineFault, Refused, ScriptFault, UsageFault, hint_for};
-use bz_streams::{Cut, Exit, STDIN, Sink, report, report_clap, report_named};
+use bz_command_line::{Hint, LineFault, Refused, ScriptFault, UsageFault, hint_for, line_hint};
+use bz_streams::{Cut, Exit, STDIN, Sink, report, report_clap_hinted, report_named};
 use bz_value::Refusal;
 use itoa::Buffer;
 use std::alloc::{AllocError, Global};
+use std::convert::AsStr;
 
 // The status of words that request nothing.
 const USAGE: u8 = 1;
@@ -221,17 +223,36 @@ pub(crate) fn report_script<E: Sink>(
     UNUSED
 }
 
+// Reports a fault that clap finds in words, by clap's own text, and the hint of these words below it. The error: memory was refused.
+fn report_of_clap<S: AsStr, E: Sink>(
+    alloc: Global,
+    err: &mut E,
+    words: &[S],
+    error: &clap::Error,
+) -> Result<(), AllocError>
+    ensures { OnOk result ((text : List ℕ) × ReportsLine E.Sink err.old err.new (text ++ line_hint (map S.text words.now))) }
+{
+    let hint = line_hint(alloc, words)?;
+    report_clap_hinted(alloc, err, error, hint.as_str())?;
+    Ok(())
+}
+
 /// Reports why words are no line of the program's, or that memory was refused. Returned: how the run ends.
-pub(crate) fn report_line_usage<E: Sink>(alloc: Global, err: &mut E, fault: &LineFault) -> Exit
+pub(crate) fn report_line_usage<S: AsStr, E: Sink>(
+    alloc: Global,
+    err: &mut E,
+    words: &[S],
+    fault: &LineFault,
+) -> Exit
     ensures some { result.status ≡ 1 → IsSome (line_usage_in fault.now) }
-    ensures reported { result.status ≡ 1 → IfSome (line_usage_in fault.now) (λ usage. (line : List ℕ) × IsLineUsageLine usage line
+    ensures reported { result.status ≡ 1 → IfSome (line_usage_in fault.now) (λ usage. (line : List ℕ) × IsLineUsageLine (map S.text words.now) usage line
         × ReportsLine E.Sink err.old err.new line) }
     ensures whole { result.cut ≡ Cut.Whole → result.status ≡ 1 }
     ensures cut { result.cut ≢ Cut.Whole → result ≡ record { status = 2; cut = Cut.Memory } }
 {
     match fault {
         LineFault::Clap(error) => {
-            let Ok(()) = report_clap(alloc, err, error) else {
+            let Ok(()) = report_of_clap(alloc, err, words, error) else {
                 return memory_exit(err);
             };
         }

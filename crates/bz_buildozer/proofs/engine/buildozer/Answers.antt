@@ -16,7 +16,7 @@ pub returns-in-Err-clause-leaves : goal.returns-in-Err-clause-leaves
 returns-in-Err-clause-leaves g c premise = record {
   whole = λ is_whole.
       let exit = c.report_line_usage.ensures.whole is_whole in
-      let reported = line_usage_reported (line_usage_in c.in-Err.fault) (g.E.Sink.faults c.args.err.now) (g.E.Sink.faults c.report_line_usage.new.err)
+      let reported = line_usage_reported (map g.S.AsStr.text c.args.words.now) (line_usage_in c.in-Err.fault) (g.E.Sink.faults c.args.err.now) (g.E.Sink.faults c.report_line_usage.new.err)
       (g.E.Sink.contents c.args.err.now) (g.E.Sink.contents c.report_line_usage.new.err) (c.report_line_usage.ensures.some exit) (c.report_line_usage.ensures.reported exit) in
       let world : World = record { folder = g.F.Files.folder c.args.files.now; known = g.R.Source.remaining c.args.input.now } in
       words_refused (map g.S.AsStr.text c.args.words.now) world (line_usage_in c.in-Err.fault) reported.0 reported.1 c.report_line_usage.result.status
@@ -65,7 +65,7 @@ returns-clause-unread g c nothing =
 
 pub returns-in-Err-clause-usage : goal.returns-in-Err-clause-usage
 returns-in-Err-clause-usage g c is is_whole =
-    let reported = line_usage_reported (line_usage_in c.in-Err.fault) (g.E.Sink.faults c.args.err.now) (g.E.Sink.faults c.report_line_usage.new.err)
+    let reported = line_usage_reported (map g.S.AsStr.text c.args.words.now) (line_usage_in c.in-Err.fault) (g.E.Sink.faults c.args.err.now) (g.E.Sink.faults c.report_line_usage.new.err)
     (g.E.Sink.contents c.args.err.now) (g.E.Sink.contents c.report_line_usage.new.err) (c.report_line_usage.ensures.some is) (c.report_line_usage.ensures.reported is) in
     let world : World = record { folder = g.F.Files.folder c.args.files.now; known = g.R.Source.remaining c.args.input.now } in
     words_reported (g.F.Files.honest c.args.files.now) world (map g.S.AsStr.text c.args.words.now) (line_usage_in c.in-Err.fault) reported.0 reported.1
