@@ -5,3 +5,9 @@ pub mod SeenPrograms
 pub mod TreeTokens
 pub mod WrittenPrograms
 pub mod Chunking
+pub mod BzlChunking
+pub mod BzlFormatting
+pub mod BzlSeenPrograms
+pub mod PastLimits
+pub mod SameWords
+pub mod Unread

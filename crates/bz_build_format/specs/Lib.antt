@@ -4,4 +4,7 @@ pub mod Fixed
 pub mod TreePrograms
 pub mod Tokens
 pub mod Writing
+pub mod BzlFormatted
+pub mod BzlTreePrograms
+pub mod Words
 pub mod private

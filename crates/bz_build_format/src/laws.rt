@@ -1,10 +1,15 @@
-//! Facts about the definitions, for readers: the functions do nothing.
+//! Facts about the definitions, for readers and for the proofs of other crates: the functions do nothing.
+ghost use Rattle.bz_build_format.specs.BzlFormatted.{BzlFixedPoint};
+ghost use Rattle.bz_build_format.specs.BzlTreePrograms.{BzlViewsKeepPrograms};
 ghost use Rattle.bz_build_format.specs.Fixed.{FixedPoint};
 ghost use Rattle.bz_build_format.specs.Tokens.{FormattingKeepsTokens, TreeProgramsKeepTokens};
 ghost use Rattle.bz_build_format.specs.TreePrograms.{ViewsKeepPrograms};
+ghost use Rattle.bz_build_format.specs.Words.{FormattingKeepsWords};
 ghost use Rattle.bz_build_format.specs.Writing.{WritingKeepsProgram};
 
-use bz_grammar::laws::one_reading;
+use bz_bzl_layout::{level_keeps_comments, level_keeps_program, level_stays};
+use bz_bzl_value::bzl_comments_kept;
+use bz_grammar::laws::{one_bzl_reading, one_reading};
 use bz_hosts::{comments_kept, views_are_proper};
 use bz_layout::{layout_is_accepted, layout_reads_back};
 use bz_passes::{
@@ -54,4 +59,29 @@ pub fn writing_keeps_program()
     proper_stays();
     tidy_settles();
     program_stays();
+}
+
+/// The program of what a tree says is that of the tree: nothing is lost but gaps, brackets and the marks between parts.
+pub fn bzl_views_keep_programs()
+    ensures { BzlViewsKeepPrograms }
+{}
+
+/// A formatted text is formatted to itself, it says what the text says that it was made of, levelled, each comment is in it
+/// as often as in that text, and the program is the same.
+pub fn formatted_bzl_once()
+    ensures { BzlFixedPoint }
+{
+    one_bzl_reading();
+    level_stays();
+    bzl_comments_kept();
+    level_keeps_comments();
+    level_keeps_program();
+    bzl_views_keep_programs();
+}
+
+/// The formatted text of a .bzl text has the same tokens in the same order, but for commas, semicolons, colons, brackets and newlines.
+pub fn words_kept()
+    ensures { FormattingKeepsWords }
+{
+    formatted_bzl_once();
 }

@@ -1,13 +1,19 @@
-//! The formatted text of a BUILD file: its value, tidied and laid out.
+//! The formatted text of a BUILD file: its value, tidied and laid out; and of a .bzl file: what it says, levelled and laid out.
 #![tactic(auto)]
 
+mod bzl_chunks;
+mod bzl_formatter;
 mod chunks;
 mod cut;
 mod formatter;
 mod laws;
 mod writing;
 
+pub use bzl_formatter::format_bzl;
 pub use cut::{CHUNK, TRIES, Unseen, chunk_end, why_unseen};
 pub use formatter::{FormatFault, format, of_read_fault};
-pub use laws::{formatted_once, tokens_kept, views_keep_programs, writing_keeps_program};
+pub use laws::{
+    bzl_views_keep_programs, formatted_bzl_once, formatted_once, tokens_kept, views_keep_programs,
+    words_kept, writing_keeps_program,
+};
 pub use writing::{formatted, reads_back, written, written_text};

@@ -94,9 +94,9 @@ fn call_suites() {
     bz_bzl_layout::build_items_are_levelled_the_same();
     bz_bzl_layout::build_items_are_the_same_program();
     bz_bzl_layout::build_files_are_laid_out_the_same();
-    bz_bzl_format::formatted_bzl_once();
-    bz_bzl_format::bzl_views_keep_programs();
-    bz_bzl_format::words_kept();
+    bz_build_format::formatted_bzl_once();
+    bz_build_format::bzl_views_keep_programs();
+    bz_build_format::words_kept();
 }
 
 fn call_words() {

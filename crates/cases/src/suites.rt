@@ -1,7 +1,6 @@
 //! .bzl files: the formatted texts.
 use crate::trees::read_fault_text;
-use bz_build_format::FormatFault;
-use bz_bzl_format::format_bzl;
+use bz_build_format::{FormatFault, format_bzl};
 use bz_items::{Memory, Text};
 use sheets::{Case, CaseFault, Page};
 use std::alloc::{AllocError, Global};

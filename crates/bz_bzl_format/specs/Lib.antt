@@ -1,4 +1,0 @@
-pub mod Formatted
-pub mod TreePrograms
-pub mod Words
-pub mod private
