@@ -223,14 +223,15 @@ def a_folder_that_nobody_may_write(p):
 
 
 def names_that_are_no_files(p):
-    """Each is reported once, in the order of the words, and the file beside them is written."""
+    """Each is reported, in the order of the words, where no file can have its name by a line more, and the file beside them is written."""
     put(p.folder, {"f": ODD, "d/g": ODD})
     (p.folder / "itself").symlink_to("itself")
     (p.folder / "one").symlink_to("other")
     (p.folder / "other").symlink_to("one")
     (p.folder / "nowhere").symlink_to("none")
     names = ["d", "d/", ".", "none", "none/f", "f/g", "f/", "itself", "one", "nowhere", "", "n" * 300, "d/" * 3000, "a\nb", "\u00e9"]
-    lines = "".join(f"{name}: cannot open\n" for name in names).encode()
+    told = {name: f"{name}: names a directory: see buildifier-tree\n" for name in names if name.endswith("/") or name == "."}
+    lines = "".join(f"{name}: cannot open\n{told.get(name, '')}" for name in names).encode()
     p.leaves("buildifier", [*names, "f"], (3, b"", lines), {"f": EVEN})
     p.leaves("buildifier", ["/dev/null"], (3, b"", b"/dev/null: cannot open\n"))
     p.leaves("buildozer", ["-f", "d"], (1, b"", b"d: cannot open\n"))
