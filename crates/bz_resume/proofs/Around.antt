@@ -1,6 +1,6 @@
 -- What is tested on the two sides of a tree is that the record's steps are a trail to texts with the record's digests.
 use Rattle.std.proofs.Common.{ℕ, ◌≡◌, ◌+◌, ◌<◌, List, [], ◌∷◌, ◌++◌, length, map, reverse, take, drop, get_or, refl, sym, ap, ◌∙◌, subst, arith, length-append, length-take-le}
-use Rattle.std.proofs.lemmas.List.{length-map, length-reverse, map-append, reverse-reverse, take_at, drop_at, get_or_at, drop_more, take-append-drop}
+use Rattle.std.proofs.lemmas.List.{append_assoc, length-map, length-reverse, map-append, reverse-reverse, take_at, drop_at, get_or_at, drop_more, take-append-drop}
 use Rattle.std.proofs.lemmas.Grind.{reverse_onto}
 use Rattle.sha2.specs.Sha256.{sha256}
 use Rattle.bz_grammar.specs.declared.tree.Node.{Node}
@@ -46,13 +46,9 @@ map_twice g f (x ∷ xs) = ap (λ l. g (f x) ∷ l) (map_twice g f xs)
 cut_at : {X : Type 0} (xs : List X) (i : ℕ) (d : X) → i < length xs → take i xs ++ get_or xs i d ∷ drop (i + 1) xs ≡ xs
 cut_at xs i d lt = ap (λ l. take i xs ++ l) (sym (drop_more xs i d lt)) ∙ take-append-drop i xs
 
-append_one : {X : Type 0} (xs : List X) (y : X) (ys : List X) → (xs ++ y ∷ []) ++ ys ≡ xs ++ y ∷ ys
-append_one [] y ys = refl
-append_one (x ∷ xs) y ys = ap (λ l. x ∷ l) (append_one xs y ys)
-
 after_at : {X : Type 0} (xs : List X) (y : X) (ys : List X) (i : ℕ) → length xs ≡ i → drop (i + 1) (xs ++ y ∷ ys) ≡ ys
 after_at xs y ys i e =
-    ap (drop (i + 1)) (sym (append_one xs y ys)) ∙ drop_at (xs ++ y ∷ []) ys (i + 1) (length-append xs (y ∷ []) ∙ ap (λ k. k + 1) e)
+    ap (drop (i + 1)) (sym (append_assoc xs (y ∷ []) ys)) ∙ drop_at (xs ++ y ∷ []) ys (i + 1) (length-append xs (y ∷ []) ∙ ap (λ k. k + 1) e)
 
 -- ---- both
 

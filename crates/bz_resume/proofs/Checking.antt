@@ -1,5 +1,5 @@
 -- The moments and errors of a keeping that reads the file first.
-use Rattle.std.proofs.Common.{◌≡◌, ◌≢◌, ◌⊎◌, inl, inr, refl, List, ℕ, ap}
+use Rattle.std.proofs.Common.{◌≡◌, ◌≢◌, ◌⊎◌, inl, inr, refl, List, ℕ, subst}
 use Rattle.std.specs.Prelude.{Result, Ok, Err, IfErr, IsErrOf}
 use Rattle.bz_files.specs.Folder.{Folder, Text}
 use Rattle.bz_files.specs.Pair.{IsKeeping, IsChecking}
@@ -25,10 +25,13 @@ module _ {T : Type 0} where
   abbrev IsKept : Result T PairFault → Type 0
   IsKept r = IfErr r (λ fault. (fault ≡ p.Memory) ⊎ (fault ≡ p.Write))
 
-  pub but_write : {B : Type 0} (r : Result T PairFault) → IsKept r → (IsErrOf r p.Memory → B) → IfErr r (λ fault. fault ≢ p.Write → B)
-  but_write (Ok x) either memory = tt
-  but_write (Err fault) (inl is) memory = λ other. memory (ap Err is)
-  but_write (Err fault) (inr is) memory = λ other. absurd (other is)
+  pub but_write : {A B : Type 0} (r : Result T PairFault) → IsKept r → IfErr r (λ fault. fault ≡ p.Memory → A) → (A → B) → IfErr r (λ fault. fault ≢ p.Write → B)
+  but_write (Ok x) either memory step = tt
+  but_write (Err fault) (inl is) memory step = λ other. step (memory is)
+  but_write (Err fault) (inr is) memory step = λ other. absurd (other is)
+
+  pub on_write : {A : Type 0} (r : Result T PairFault) → IfErr r (λ fault. fault ≡ p.Write → A) → IsErrOf r p.Write → A
+  on_write {A} r known is = subst (λ (s : Result T PairFault). IfErr s (λ fault. fault ≡ p.Write → A)) is known refl
 
   pub never_changed : (r : Result T PairFault) → IsKept r → IsErrOf r p.Changed → ⊥
   never_changed (Ok x) either is = cc
@@ -49,9 +52,3 @@ module _ {T : Type 0} where
 
   pub never_write : (fault : PairFault) → fault ≢ p.Write → IsErrOf {T = T} (Err fault) p.Write → ⊥
   never_write fault other is = let same : fault ≡ p.Write = cc in other same
-
-  pub write_no_memory : IsErrOf {T = T} (Err p.Write) p.Memory → ⊥
-  write_no_memory is = cc
-
-  pub memory_no_write : IsErrOf {T = T} (Err p.Memory) p.Write → ⊥
-  memory_no_write is = cc

@@ -10,14 +10,8 @@ pub entries_back : (es : List RecordedStep) → entries_of (notes_of es) (edits_
 entries_back [] = refl
 entries_back (e ∷ es) = ap (λ l. e ∷ l) (entries_back es)
 
-pub entries_edits : (ns : List Text) (es : List (List Edit)) → length ns ≡ length es → edits_of (entries_of ns es) ≡ es
-entries_edits [] [] same = refl
-entries_edits [] (e ∷ es) same = absurd (omega arith)
-entries_edits (n ∷ ns) [] same = absurd (omega arith)
-entries_edits (n ∷ ns) (e ∷ es) same = ap (λ l. e ∷ l) (entries_edits ns es (omega arith))
-
-pub entries_notes : (ns : List Text) (es : List (List Edit)) → length ns ≡ length es → notes_of (entries_of ns es) ≡ ns
-entries_notes [] [] same = refl
-entries_notes [] (e ∷ es) same = absurd (omega arith)
-entries_notes (n ∷ ns) [] same = absurd (omega arith)
-entries_notes (n ∷ ns) (e ∷ es) same = ap (λ l. n ∷ l) (entries_notes ns es (omega arith))
+pub entries_apart : (ns : List Text) (es : List (List Edit)) → length ns ≡ length es → (edits_of (entries_of ns es) ≡ es) × (notes_of (entries_of ns es) ≡ ns)
+entries_apart [] [] same = (refl, refl)
+entries_apart [] (e ∷ es) same = absurd (omega arith)
+entries_apart (n ∷ ns) [] same = absurd (omega arith)
+entries_apart (n ∷ ns) (e ∷ es) same = let rest = entries_apart ns es (omega arith) in (ap (λ l. e ∷ l) rest.0, ap (λ l. n ∷ l) rest.1)

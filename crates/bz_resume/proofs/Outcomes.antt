@@ -7,7 +7,7 @@ use Rattle.std.specs.Str.{bytes_eq}
 use Rattle.std.proofs.lemmas.Slice.Eq.{bytes_eq-Decides}
 use Rattle.sha2.specs.Sha256.{sha256}
 use Rattle.bz_grammar.specs.declared.tree.Node.{Node}
-use Rattle.bz_grammar.specs.Legal.{Reads, NoTree}
+use Rattle.bz_grammar.specs.Legal.{Reads}
 use Rattle.bz_grammar.specs.Spell.{spell_node, limit, depth_limit}
 use Rattle.bz_grammar.proofs.Unique.{one_tree}
 use Rattle.bz_edit.specs.declared.edit.Edit.{Edit}
@@ -26,7 +26,7 @@ use Rattle.bz_resume.specs.Journals.{History, Journal, NoJournal, AreSmall, reco
 use Rattle.bz_journal_format.specs.Contents.{entries_of}
 use Rattle.bz_resume.specs.private.Agreement.{IsCounted, IsOpened, RecordAgrees, NoneAgrees, edits_of, notes_of, standing_place, recorded_trail}
 use Rattle.bz_resume.specs.Resumed.{IsResumed, IsStale, StandsFor, trail_of}
-use Rattle.bz_resume.proofs.Entries.{entries_back, entries_edits, entries_notes}
+use Rattle.bz_resume.proofs.Entries.{entries_back, entries_apart}
 
 pub counted : (j : Text) (r : Record) → IsRead j r → IsCounted r
 counted j r (v, h, e) = (h.cursor, h.before, h.digests_length)
@@ -62,7 +62,7 @@ record_same : (j : Text) (h : History) (es : List (List Edit)) (r : Record) → 
 record_same j h es r (v, k, e) journal = (one_record journal.version v depth_limit (record_of h es) r journal.fits k (sym journal.spelled ∙ e)).1
 
 trail_agrees : (h : History) (es : List (List Edit)) (n : Node) → length h.notes ≡ length es → recorded_trail (record_of h es) n ≡ trail_at n es h.cursor
-trail_agrees h es n noted = ap (λ l. trail_at n l h.cursor) (entries_edits h.notes es noted)
+trail_agrees h es n noted = ap (λ l. trail_at n l h.cursor) (entries_apart h.notes es noted).0
 
 tree_agrees : (h : History) (es : List (List Edit)) (n : Node) → length h.notes ≡ length es → IsTrail (trail_at n es h.cursor) → texts_of (trail_at n es h.cursor) ≡ h.texts
     → Reads (record_of h es).text n × RecordAgrees (record_of h es) n
@@ -86,11 +86,6 @@ no_journal j none h es journal = none (record_of h es) (journal.version, journal
 pub not_other : (j : Text) (h : History) (es : List (List Edit)) → IsOtherVersion j → Journal j h es → ⊥
 not_other j h es other journal = own_version journal.version (record_of h es) (subst IsOtherVersion journal.spelled other)
 
--- ---- what the trees say
-
-pub none_read : (r : Record) → NoTree r.text → NoneAgrees r
-none_read r none n reads agrees = none n reads
-
 -- ---- no bytes are two journals
 
 same_history : (p q : Text) (ts us ns ms : List Text) (c d b a : ℕ) → q ≡ p → us ≡ ts → ms ≡ ns → d ≡ c → a ≡ b
@@ -113,8 +108,8 @@ one_journal j h es g fs k l =
     let m = l.follows in
     let cursors : g.cursor ≡ h.cursor = ap (λ (r : Record). r.cursor) same in
     let both : entries_of g.notes fs ≡ entries_of h.notes es = ap (λ (r : Record). r.steps) same in
-    let steps : fs ≡ es = sym (entries_edits g.notes fs l.noted) ∙ ap edits_of both ∙ entries_edits h.notes es k.noted in
-    let notes : g.notes ≡ h.notes = sym (entries_notes g.notes fs l.noted) ∙ ap notes_of both ∙ entries_notes h.notes es k.noted in
+    let steps : fs ≡ es = sym (entries_apart g.notes fs l.noted).0 ∙ ap edits_of both ∙ (entries_apart h.notes es k.noted).0 in
+    let notes : g.notes ≡ h.notes = sym (entries_apart g.notes fs l.noted).1 ∙ ap notes_of both ∙ (entries_apart h.notes es k.noted).1 in
     let own : text_at g g.cursor ≡ spell_node m.0 = sym (ap (λ t. slice_index_or t g.cursor []) m.2) ∙ present_text (trail_at m.0 fs g.cursor) m.1 in
     let other : text_at h h.cursor ≡ spell_node n.0 = sym (ap (λ t. slice_index_or t h.cursor []) n.2) ∙ present_text (trail_at n.0 es h.cursor) n.1 in
     let shown : spell_node m.0 ≡ spell_node n.0 = sym own ∙ ap (λ (r : Record). r.text) same ∙ other in

@@ -74,13 +74,13 @@ each_held (x ∷ xs) low =
     let s = low.short in
     ((omega arith, fits x (omega (arith, cut)) (omega arith)), each_held xs (record { deep = omega arith; few = omega arith; short = omega (arith, cut) }))
 
-all_taken : {X : Type 0} (P : X → Type 0) (n : ℕ) (xs : List X) → AllByRecursion P xs → AllByRecursion P (take n xs)
+pub all_taken : {X : Type 0} (P : X → Type 0) (n : ℕ) (xs : List X) → AllByRecursion P xs → AllByRecursion P (take n xs)
 all_taken P zero [] h = tt
 all_taken P (suc n) [] h = tt
 all_taken P zero (x ∷ xs) h = tt
 all_taken P (suc n) (x ∷ xs) h = (h.0, all_taken P n xs h.1)
 
-all_dropped : {X : Type 0} (P : X → Type 0) (n : ℕ) (xs : List X) → AllByRecursion P xs → AllByRecursion P (drop n xs)
+pub all_dropped : {X : Type 0} (P : X → Type 0) (n : ℕ) (xs : List X) → AllByRecursion P xs → AllByRecursion P (drop n xs)
 all_dropped P zero [] h = tt
 all_dropped P (suc n) [] h = tt
 all_dropped P zero (x ∷ xs) h = h
@@ -104,30 +104,20 @@ item (y ∷ ys) zero x e =
     }
 item (y ∷ ys) (suc i) x e =
     let r = item ys i x e in
-    let d = r.deep in
-    let f = r.few in
-    let s = r.short in
-    let w = r.within in
     record {
-      deep = omega arith;
-      few = omega arith;
-      short = omega (arith, length-append (spell_part y) (flat_map spell_part ys));
-      within = omega arith;
+      deep = omega (arith, r.deep);
+      few = omega (arith, r.few);
+      short = omega (arith, r.short, length-append (spell_part y) (flat_map spell_part ys));
+      within = omega (arith, r.within);
     }
 
 low_child : (n m : Node) (i : ℕ) → slice_get n.parts i ≡ Some (p.Node m) → IsLow n.parts → IsLow m.parts
 low_child n m i e low =
     let r = item n.parts i (p.Node m) e in
-    let d = low.deep in
-    let f = low.few in
-    let s = low.short in
-    let a = r.deep in
-    let b = r.few in
-    let c = r.short in
     record {
-      deep = omega (arith, depth_Node m);
-      few = omega (arith, parts_Node m);
-      short = omega (arith, ap length (spell_Node m));
+      deep = omega (arith, low.deep, r.deep, depth_Node m);
+      few = omega (arith, low.few, r.few, parts_Node m);
+      short = omega (arith, low.short, r.short, ap length (spell_Node m));
     }
 
 -- ---- places

@@ -21,6 +21,7 @@ use Rattle.bz_edit.specs.declared.edit.Edit.{Edit}
 use Rattle.bz_edit.specs.Steps.{here, if_here, below, if_below, spliced, splice_all, swap_part, swap_list, swap_node}
 use Rattle.bz_edit.proofs.Swaps.{stays, swap_none}
 use Rattle.bz_history.specs.Trails.{IsTree}
+use Rattle.bz_resume.proofs.Sized.{all_taken, all_dropped}
 use Rattle.bz_resume.specs.private.Alone.{IsAlone, AreAlone, EndsLine, IsLineFeed, AreLined, IsAloneAt, IsTouchedAlone, IsHeldAlone, AreTouchedAlone}
 
 -- ---- a legal file has parts that are legal by themselves
@@ -104,19 +105,9 @@ past_end (y ∷ ps) x e = past_end ps x e
 
 -- ---- a step keeps parts legal by themselves where what it touches is
 
-taken : (n : ℕ) (xs : List Part) → AreAlone xs → AreAlone (take n xs)
-taken zero xs h = tt
-taken (suc n) [] h = tt
-taken (suc n) (x ∷ xs) h = (h.0, taken n xs h.1)
-
-dropped : (n : ℕ) (xs : List Part) → AreAlone xs → AreAlone (drop n xs)
-dropped zero xs h = h
-dropped (suc n) [] h = tt
-dropped (suc n) (x ∷ xs) h = dropped n xs h.1
-
 spliced_alone : (e : Edit) (xs : List Part) → AreAlone e.held → AreAlone xs → AreAlone (spliced e xs)
 spliced_alone e xs h g =
-    all_both IsAlone (take e.at xs ++ e.held) (drop (e.at + e.count) xs) (all_both IsAlone (take e.at xs) e.held (taken e.at xs g) h) (dropped (e.at + e.count) xs g)
+    all_both IsAlone (take e.at xs ++ e.held) (drop (e.at + e.count) xs) (all_both IsAlone (take e.at xs) e.held (all_taken IsAlone e.at xs g) h) (all_dropped IsAlone (e.at + e.count) xs g)
 
 held_here : (es : List Edit) → AllByRecursion IsHeldAlone es → here es ≡ es
 held_here [] h = refl

@@ -92,8 +92,8 @@ fn write_pair<F: Files>(alloc: Global, files: &mut F, change: Change<'_>) -> Res
         (λ was now. OnOk result (AreReplaced (journal_name change.entry.file.now) change.entry.stored.now change.entry.file.now change.entry.text.now was now))
         files.old files.new }
     ensures kinds { IfErr result (λ fault. (fault ≡ PairFault.Memory) ⊎ (fault ≡ PairFault.Write)) }
-    ensures memory { IsErrOf result PairFault.Memory → files.new ≡ files.old }
-    ensures cause { IsErrOf result PairFault.Write → Rises (F.faults files.old) (F.faults files.new) }
+    ensures memory { IfErr result (λ fault. fault ≡ PairFault.Memory → files.new ≡ files.old) }
+    ensures cause { IfErr result (λ fault. fault ≡ PairFault.Write → Rises (F.faults files.old) (F.faults files.new)) }
     ensures kept { (IsErrOf result PairFault.Write → ⊥) → F.faults files.new ≡ F.faults files.old }
     ensures count { F.faults files.old ≤ F.faults files.new }
     ensures honest { F.honest files.new ≡ F.honest files.old }

@@ -6,7 +6,7 @@ use Rattle.bz_files.specs.Folder.{Folder, IsUntouched}
 use Rattle.bz_files.specs.Pair.{AreReplaced, IsChecking}
 use Rattle.bz_files.proofs.Acts.{after_look, each, failed_as}
 use Rattle.bz_resume.specs.Pair.{journal_name}
-use Rattle.bz_resume.proofs.Checking.{never_err, but_write, never_changed, never_open, other_fault, never_write}
+use Rattle.bz_resume.proofs.Checking.{never_err, but_write, never_changed, never_open, on_write, other_fault, never_write}
 use Rattle.bz_resume.proofs.pair.replace_pair.Goals as goal
 
 pub returns-in-Ok : goal.returns-in-Ok
@@ -27,10 +27,11 @@ returns-in-Ok g c =
       changed = λ honest changed. absurd (never_changed c.write_pair.result write.kinds changed);
       apart = λ honest. inl (c.in-Ok.ensures.ok honest);
       kinds = λ honest other. absurd (other (c.in-Ok.ensures.ok honest));
-      untouched = λ honest. but_write c.write_pair.result write.kinds
-          (λ memory now stood. each f g.met.F.Files.only_now g.met.F.Files.counts_now old mid IsUntouched IsUntouched refl (read.reads honest) now
-          (subst (λ s. f.since s (f.moment old) now) (write.memory memory) stood));
-      cause = ⊎_elim (λ failed. subst (λ (n : ℕ). Rises n (f.faults c.write_pair.new.files)) (c.in-Ok.ensures.kept (never_err _ _)) (write.cause failed))
+      untouched = λ honest. but_write c.write_pair.result write.kinds write.memory
+          (λ same now stood. each f g.met.F.Files.only_now g.met.F.Files.counts_now old mid IsUntouched IsUntouched refl (read.reads honest) now
+          (subst (λ s. f.since s (f.moment old) now) same stood));
+      cause = ⊎_elim
+          (λ failed. subst (λ (n : ℕ). Rises n (f.faults c.write_pair.new.files)) (c.in-Ok.ensures.kept (never_err _ _)) (on_write c.write_pair.result write.cause failed))
           (λ no_read. absurd (never_open c.write_pair.result write.kinds no_read));
       kept = λ no_write _. write.kept no_write ∙ c.in-Ok.ensures.kept (never_err _ _);
       count = le_trans read.count write.count;

@@ -5,7 +5,6 @@ use Rattle.bz_files.specs.Pair.{AreReplaced, IsChecking}
 use Rattle.bz_files.specs.declared.files.Files.{Ghosts as FilesOf}
 use Rattle.bz_files.proofs.Elapsing.{stays}
 use Rattle.bz_resume.specs.Pair.{journal_name}
-use Rattle.bz_resume.proofs.Checking.{never_err, write_no_memory, memory_no_write}
 use Rattle.bz_resume.proofs.pair.write_pair.Goals as goal
 
 -- what a call does that was given the journal's name
@@ -39,23 +38,8 @@ returns-clause-goes g c honest =
       done = tt;
     }
 
-pub returns-in-Ok-rewrite_pair-clause-memory : goal.returns-in-Ok-rewrite_pair-clause-memory
-returns-in-Ok-rewrite_pair-clause-memory g c is = absurd (never_err _ _ is)
-
-pub returns-in-Ok-rewrite_pair-clause-cause : goal.returns-in-Ok-rewrite_pair-clause-cause
-returns-in-Ok-rewrite_pair-clause-cause g c is = absurd (never_err _ _ is)
-
 pub returns-in-Ok-rewrite_pair-clause-kept : goal.returns-in-Ok-rewrite_pair-clause-kept
 returns-in-Ok-rewrite_pair-clause-kept g c _ = c.in-Ok-rewrite_pair.ensures.counted.kept refl
 
-pub returns-in-Ok-clause-memory : goal.returns-in-Ok-clause-memory
-returns-in-Ok-clause-memory g c is = absurd (write_no_memory is)
-
-pub returns-in-Ok-clause-cause : goal.returns-in-Ok-clause-cause
-returns-in-Ok-clause-cause g c _ = c.in-Err-rewrite_pair.ensures.counted.cause refl
-
 pub returns-in-Ok-clause-kept : goal.returns-in-Ok-clause-kept
 returns-in-Ok-clause-kept g c none = absurd (none refl)
-
-pub returns-clause-cause : goal.returns-clause-cause
-returns-clause-cause g c is = absurd (memory_no_write is)
