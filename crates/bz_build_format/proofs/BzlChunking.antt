@@ -15,8 +15,8 @@ use Rattle.bz_bzl_layout.specs.Laws.{BzlLayoutIsAccepted, BzlLayoutReadsBack, Le
 use Rattle.bz_bzl_layout.specs.Layout.{bzl_layout}
 use Rattle.bz_bzl_layout.specs.Level.{level, level_item}
 use Rattle.bz_build_format.specs.private.BzlChunks.{ReadsAsBzl, IsLastBzl, IsBzlBegun, IsBzlAppended}
-use Rattle.bz_build_format.specs.BzlFormatted.{FormatsBzlTo}
-use Rattle.bz_build_format.proofs.PastLimits.{level_proper}
+use Rattle.bz_build_format.specs.Faults.{FormatsBzlTo}
+use Rattle.bz_build_format.proofs.BzlFormatting.{laid_out_given}
 
 -- What the layers below promise of what is one after the other, and of layouts.
 pub record LayersJoin : Type 0 where
@@ -91,11 +91,9 @@ module _ (laws : LayersJoin) where
   all_formatted text out at last ends g a b =
       let all : at ≡ length text = omega (arith, a, b) in
       let h : IsBzlBegun text out last ends = subst (λ z. IsBzlBegun z out last ends) (ap (λ n. take n text) all ∙ take-length text) g in
-      let leveled : List BzlItem = level (bzl_view_of h.tree) in
-      let is : out ≡ bzl_layout leveled = h.formatted ∙ ap (λ xs. bzl_layout (level xs)) h.says in
-      let shallow : depth_of (bzl_laid_out leveled) ≤ depth_limit = subst (λ xs. depth_of (bzl_laid_out (level xs)) ≤ depth_limit) h.says h.shallow in
-      let proper = level_proper laws.proper laws.keeps text h.tree h.reads in
-      (h.tree, h.reads, is, h.short, (laws.accepted leveled proper (subst (λ t. length t ≤ limit) is h.short) shallow, laws.back leveled proper ∙ laws.stays (bzl_view_of h.tree)))
+      let short : length (bzl_layout (level h.items)) ≤ limit = subst (λ t. length t ≤ limit) h.formatted h.short in
+      laid_out_given laws.proper laws.keeps laws.stays text out h.tree (level h.items) h.reads (ap level h.says) h.formatted short
+      (λ good. laws.accepted (level h.items) good short h.shallow) (laws.back (level h.items))
 
 pub is_bare : (b : Bool) → not b ≡ false → b ≡ true
 is_bare true e = refl

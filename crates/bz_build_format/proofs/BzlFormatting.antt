@@ -1,18 +1,32 @@
 -- A formatted text is formatted to itself, and says what the text says that it was made of.
-use Rattle.std.proofs.Common.{◌≡◌, sym, ap, ◌∙◌, subst}
+use Rattle.std.proofs.Common.{◌≡◌, ◌≤◌, List, length, Ok, sym, ap, ◌∙◌, subst}
 use Rattle.bz_grammar.specs.declared.tree.Node.{Node}
 use Rattle.bz_grammar.specs.Laws.{OneBzlReading}
 use Rattle.bz_grammar.specs.Legal.{ReadsBzl}
+use Rattle.bz_grammar.specs.Spell.{limit}
 use Rattle.bz_items.specs.Characters.{Bytes}
+use Rattle.bz_bzl_value.specs.declared.value.BzlItem.{BzlItem}
 use Rattle.bz_bzl_value.specs.Kept.{BzlCommentsKept, bzl_times}
+use Rattle.bz_bzl_value.specs.Laws.{BzlViewIsProper}
+use Rattle.bz_bzl_value.specs.Proper.{IsProperBzl}
 use Rattle.bz_bzl_value.specs.View.{bzl_view_of}
-use Rattle.bz_bzl_layout.specs.Laws.{LevelKeepsComments, LevelStays}
+use Rattle.bz_bzl_layout.specs.Laws.{LevelKeepsComments, LevelKeepsLayout, LevelStays}
 use Rattle.bz_bzl_layout.specs.LaidOut.{bzl_laid_out}
 use Rattle.bz_bzl_layout.specs.Layout.{bzl_layout}
 use Rattle.bz_bzl_layout.specs.Level.{level}
 use Rattle.bz_bzl_layout.specs.Syntax.{bzl_program, LevelKeepsProgram}
-use Rattle.bz_build_format.specs.BzlTreePrograms.{BzlViewsKeepPrograms}
-use Rattle.bz_build_format.specs.BzlFormatted.{BzlFixedPoint, bzl_formatted, formatted_tree, Lasts}
+use Rattle.bz_build_format.specs.Faults.{bzl_formatted, formatted_tree, FormatsBzlTo, Lasts}
+use Rattle.bz_build_format.specs.Fixed.{BzlFixedPoint}
+use Rattle.bz_build_format.specs.TreePrograms.{BzlViewsKeepPrograms}
+
+-- The layout of what a text says, levelled, is its formatted text where it reads back as a proper value.
+pub laid_out_given : BzlViewIsProper → LevelKeepsLayout → LevelStays → (text formatted : Bytes) (tree : Node) (items : List BzlItem) → ReadsBzl text tree → items ≡ level (bzl_view_of tree)
+    → formatted ≡ bzl_layout items → length (bzl_layout items) ≤ limit → (IsProperBzl items → ReadsBzl (bzl_layout items) (bzl_laid_out items))
+    → (IsProperBzl items → bzl_view_of (bzl_laid_out items) ≡ level items) → FormatsBzlTo text (Ok formatted)
+laid_out_given proper keeps stays text formatted tree items reads says is short accepted back =
+    let good : IsProperBzl items = subst IsProperBzl (sym says) ((keeps (bzl_view_of tree)).1 (proper tree reads.0)) in
+    let lasts : Lasts tree = subst (λ xs. ReadsBzl (bzl_layout xs) (bzl_laid_out xs) × (bzl_view_of (bzl_laid_out xs) ≡ xs)) says (accepted good, back good ∙ (ap level says ∙ (stays (bzl_view_of tree) ∙ sym says))) in
+    (tree, reads, is ∙ ap bzl_layout says, subst (λ t. length t ≤ limit) (sym is) short, lasts)
 
 -- What the layers below promise: of reading, of what a tree says, and of the pass.
 pub record LayersHold : Type 0 where

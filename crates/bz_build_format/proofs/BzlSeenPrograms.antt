@@ -22,9 +22,8 @@ use Rattle.bz_bzl_value.specs.declared.value.BzlItem.TheVariants as b
 use Rattle.bz_bzl_value.specs.View.{bzl_items, block_items, branches, compound_read, head, indented_lines_before, is_compound, simple_statements, statement_read, stated, stated_row, suite_in, walked, with_suite, Stated}
 use Rattle.bz_bzl_layout.specs.Syntax.{head_syntax, statement_syntax, bzl_program}
 use Rattle.bz_bzl_layout.proofs.SameSyntax.{branch_syntax, syntax_Compound}
-use Rattle.bz_build_format.specs.TreePrograms.{before_marks}
 use Rattle.bz_build_format.proofs.SeenPrograms.{Says, EachSays, items_say, part_says, plain_says, row_says, statements_say, dropped_say, taken_say}
-use Rattle.bz_build_format.specs.BzlTreePrograms.{BzlViewsKeepPrograms, bare_head, head_in, headers_in, node_statements, Parsed, parsed, parsed_row, parsed_parts, statements_in, suite_statements, suites_in}
+use Rattle.bz_build_format.specs.TreePrograms.{before_marks, BzlViewsKeepPrograms, bare_head, head_in, headers_in, node_statements, Parsed, parsed, parsed_row, parsed_parts, statements_in, suite_statements, suites_in}
 
 -- whatever is around it, a part that was read says this
 record Agrees (x : Stated) (y : Parsed) : Type 0 where

@@ -8,6 +8,4 @@ pub mod Chunking
 pub mod BzlChunking
 pub mod BzlFormatting
 pub mod BzlSeenPrograms
-pub mod PastLimits
 pub mod SameWords
-pub mod Unread

@@ -1,6 +1,5 @@
 -- The fault that is reported where a text is not formatted.
-use Rattle.std.proofs.Common.{◌≡◌, ◌⊎◌, ◌↔◌, ◌≤◌, ◌<◌, inl, inr, ℕ, true, List, [], length, Result, Err, refl, ap, subst, sym}
-use Rattle.std.specs.Prelude.{◌≢◌}
+use Rattle.std.proofs.Common.{◌≡◌, ◌⊎◌, ◌↔◌, ◌≤◌, ◌<◌, inl, inr, ℕ, true, List, length, Result, Err, refl, ap, subst, sym}
 use Rattle.std.specs.Str.{IsValidUpTo}
 use Rattle.bz_lex.specs.declared.fault.ReadFault.{ReadFault}
 use Rattle.bz_lex.specs.declared.fault.ReadFault.TheVariants as f
@@ -8,17 +7,17 @@ use Rattle.bz_lex.specs.Faults.{is_of_leaves}
 use Rattle.bz_lex.specs.Stops.{IsFaultAt}
 use Rattle.bz_grammar.specs.Spell.{limit}
 use Rattle.bz_grammar.specs.Faults.{IsOfText, IsFaultOf}
-use Rattle.bz_grammar.specs.Legal.{NoTree, Accepted}
-use Rattle.bz_build_format.specs.Faults.{FormatsTo}
+use Rattle.bz_items.specs.Characters.{Bytes}
+use Rattle.bz_build_format.specs.Faults.{IsReported}
 use Rattle.bz_build_format.specs.declared.formatter.FormatFault.{FormatFault}
 use Rattle.bz_build_format.specs.declared.formatter.FormatFault.TheVariants.{Unread, Memory}
 
--- a fault of the text says that it is not accepted
-pub refused_text : (text : List ℕ) (fault : ReadFault) → (IsOfText fault → NoTree text) → (fault ≡ f.Memory → ⊥) → Accepted text → ⊥
-refused_text text f.Memory none memory accepted = memory refl
-refused_text text _ none memory accepted = none tt accepted.0 accepted.1
+-- a fault of the text says that it is refused
+refused_text : (Refused : Type 0) (fault : ReadFault) → (IsOfText fault → Refused) → (fault ≡ f.Memory → ⊥) → Refused
+refused_text Refused f.Memory refused memory = absurd (memory refl)
+refused_text Refused _ refused memory = refused tt
 
-pub fault_of_text : (A : Type 0) (text : List ℕ) (fault : ReadFault)
+fault_of_text : (A : Type 0) (text : Bytes) (fault : ReadFault)
     → (◌≡◌ {A = Result A ReadFault} (Err fault) (Err f.TooLarge) ↔ (limit < length text))
     → ((at : ℕ) → (◌≡◌ {A = Result A ReadFault} (Err fault) (Err (f.NotUtf8 at)) ↔ ((length text ≤ limit) × IsValidUpTo text at)))
     → (fault ≡ f.Memory → ⊥) → IsFaultOf text fault
@@ -29,12 +28,12 @@ fault_of_text A text fault large coding other = record {
 }
 
 -- what is answered for a text that is not read
-pub unread_answered : (A : Type 0) (text : List ℕ) (fault : ReadFault) (answered : FormatFault)
-    → ((answered ≡ Unread fault) × (fault ≡ f.Memory → ⊥)) ⊎ (answered ≡ Memory) → (IsOfText fault → NoTree text)
+pub unread_answered : (A Refused : Type 0) (Indented : Bytes → Type 0) (Answers : FormatFault → Type 0) (text : Bytes) (fault : ReadFault) (answered : FormatFault)
+    → ((answered ≡ Unread fault) × (fault ≡ f.Memory → ⊥)) ⊎ (answered ≡ Memory) → (IsReported Refused Indented text fault → Answers (Unread fault)) → Answers Memory
+    → (IsOfText fault → Refused)
     → (◌≡◌ {A = Result A ReadFault} (Err fault) (Err f.TooLarge) ↔ (limit < length text))
     → ((at : ℕ) → (◌≡◌ {A = Result A ReadFault} (Err fault) (Err (f.NotUtf8 at)) ↔ ((length text ≤ limit) × IsValidUpTo text at)))
-    → (is_of_leaves fault ≡ true → IsFaultAt (λ blanks. blanks ≢ []) text fault) → FormatsTo text (Err answered)
-unread_answered A text fault answered (inl of_text) none large coding placed =
-    subst (λ (t : FormatFault). FormatsTo text (Err t)) (sym of_text.0)
-    (refused_text text fault none of_text.1, fault_of_text A text fault large coding of_text.1, placed)
-unread_answered A text fault answered (inr memory) none large coding placed = subst (λ (t : FormatFault). FormatsTo text (Err t)) (sym memory) tt
+    → (is_of_leaves fault ≡ true → IsFaultAt Indented text fault) → Answers answered
+unread_answered A Refused Indented Answers text fault answered (inl of_text) unread memory refused large coding placed =
+    subst Answers (sym of_text.0) (unread (refused_text Refused fault refused of_text.1, fault_of_text A text fault large coding of_text.1, placed))
+unread_answered A Refused Indented Answers text fault answered (inr is) unread memory refused large coding placed = subst Answers (sym is) memory

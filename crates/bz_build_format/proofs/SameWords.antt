@@ -30,10 +30,9 @@ use Rattle.bz_bzl_value.specs.declared.value.Statement.TheVariants as st
 use Rattle.bz_bzl_value.specs.View.{stated}
 use Rattle.bz_bzl_value.proofs.KeptGaps.{NoColon, nonterminal_plain, token_plain}
 use Rattle.bz_bzl_layout.proofs.Rows.{branches_after, branches_are}
-use Rattle.bz_build_format.specs.TreePrograms.{before_marks, node_syntax, part_syntax}
 use Rattle.bz_build_format.proofs.TreeTokens.{BracketedIn, IsSeparator, Paired, SeparatorAt, call_bracketed, close_round, comma, dict_bracketed, end_of_file, first_is, later_is, list_bracketed, listed_paired, load_bracketed, newline, open_round, semicolon, syntax_map, tuple_bracketed}
-use Rattle.bz_build_format.specs.BzlFormatted.{BzlFixedPoint}
-use Rattle.bz_build_format.specs.BzlTreePrograms.{bzl_tree_program, head_in, headers_in, line_statements, node_statements, Parsed, parsed, parsed_row, parsed_parts, statements_in, suite_statements}
+use Rattle.bz_build_format.specs.Fixed.{BzlFixedPoint}
+use Rattle.bz_build_format.specs.TreePrograms.{before_marks, node_syntax, part_syntax, bzl_tree_program, head_in, headers_in, line_statements, node_statements, Parsed, parsed, parsed_row, parsed_parts, statements_in, suite_statements}
 use Rattle.bz_build_format.specs.Words.{leaf_words, words_in, tree_words, FormattingKeepsWords}
 
 abbrev Words : Type 0

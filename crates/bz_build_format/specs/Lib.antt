@@ -4,7 +4,5 @@ pub mod Fixed
 pub mod TreePrograms
 pub mod Tokens
 pub mod Writing
-pub mod BzlFormatted
-pub mod BzlTreePrograms
 pub mod Words
 pub mod private

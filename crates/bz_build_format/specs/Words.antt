@@ -9,7 +9,7 @@ use Rattle.bz_grammar.specs.Shapes.{colon_mark, is_one_of}
 use Rattle.bz_grammar.specs.Spell.{leaves_of}
 use Rattle.bz_items.specs.Characters.{Bytes}
 use Rattle.bz_build_format.specs.Tokens.{is_mark_between}
-use Rattle.bz_build_format.specs.BzlFormatted.{FormatsBzlTo}
+use Rattle.bz_build_format.specs.Faults.{FormatsBzlTo}
 
 -- what is between parts and around them, a colon too
 abbrev pub is_bzl_separator : Class → Bytes → Bool

@@ -1,7 +1,7 @@
 //! The formatted text of a long .bzl text, made chunk by chunk: its tree and its value are never in memory as a whole.
 ghost use Rattle.std.specs.Prelude.{◌≡◌, ◌≤◌, ◌<◌, IfOk, IfSome, Ok, length, take};
 ghost use Rattle.bz_build_format.specs.private.BzlChunks.{IsBzlAppended, ReadsAsBzl};
-ghost use Rattle.bz_build_format.specs.BzlFormatted.{FormatsBzlTo};
+ghost use Rattle.bz_build_format.specs.Faults.{FormatsBzlTo};
 
 use crate::cut::{CHUNK, TRIES, Unseen, chunk_end, why_unseen};
 use bz_bzl_layout::{
@@ -85,7 +85,7 @@ fn append(out: &mut Vec<u8>, above: &mut Option<BzlItem>, mut file: BzlFile) -> 
 
 /// The formatted text of a long text, made chunk by chunk. None: the text is short, it or its formatted text is past a limit, a chunk of
 /// it is not as simple as most, or memory was refused.
-pub fn chunks_formatted(alloc: Global, text: &[u8]) -> Option<Text>
+pub(crate) fn chunks_formatted(alloc: Global, text: &[u8]) -> Option<Text>
     ensures { IfSome result (λ formatted. FormatsBzlTo text.now (Ok formatted)) }
 {
     bzl_views_join();

@@ -1,14 +1,18 @@
 //! The formatted text of a text.
 ghost use Rattle.std.specs.Prelude.{◌≡◌, ◌≢◌, ◌⊎◌, IfOk};
-ghost use Rattle.bz_build_format.specs.Faults.{FormatsTo};
-ghost use Rattle.bz_build_format.specs.Fixed.{IsFormatted};
+ghost use Rattle.bz_build_format.specs.Faults.{FormatsTo, FormatsBzlTo};
+ghost use Rattle.bz_build_format.specs.Fixed.{IsFormatted, IsFormattedBzl};
 
+use crate::bzl_chunks::chunks_formatted as bzl_chunks_formatted;
 use crate::chunks::chunks_formatted;
-use crate::laws::formatted_once;
+use crate::laws::{formatted_bzl_once, formatted_once};
 use crate::writing::{value_of, written_text};
+use bz_bzl_layout::{level, level_keeps_layout, level_stays, set_bzl};
+use bz_bzl_value::{bzl_view_is_proper, view_bzl};
 use bz_grammar::ReadFault;
 use bz_items::Text;
-use bz_tree::parse;
+use bz_layout::SetFault;
+use bz_tree::{parse, parse_bzl};
 use bz_value::Refusal;
 use std::alloc::Global;
 use thiserror::Error;
@@ -41,9 +45,8 @@ pub fn of_read_fault(fault: ReadFault) -> FormatFault
 }
 
 /// The formatted text of a text: its value tidied and laid out, which keeps the program; to format it once more gives it
-/// again. Errors: `Unread`
-/// where the text is not accepted, with the fault of reading it; `TooLarge` and `TooDeep` where the formatted text would
-/// be past a limit; `Memory`: a growth was refused.
+/// again. Errors: `Unread` where the text is not accepted, with the fault of reading it; `TooLarge` and `TooDeep` where the
+/// formatted text would be past a limit; `Memory`: a growth was refused.
 pub fn format(alloc: Global, text: &[u8]) -> Result<Text, FormatFault>
     ensures formats { FormatsTo text.now result }
     ensures fixed { IfOk result (λ formatted. IsFormatted text.now formatted) }
@@ -64,5 +67,35 @@ pub fn format(alloc: Global, text: &[u8]) -> Result<Text, FormatFault>
         Err(Refusal::TooLarge) => Err(FormatFault::TooLarge),
         Err(Refusal::TooDeep) => Err(FormatFault::TooDeep),
         Err(_) => Err(FormatFault::Memory),
+    }
+}
+
+/// The formatted text of a .bzl text: what it says, levelled and laid out. The program is the same, and to format it once more
+/// gives it again. Errors: as of `format`.
+pub fn format_bzl(alloc: Global, text: &[u8]) -> Result<Text, FormatFault>
+    ensures formats { FormatsBzlTo text.now result }
+    ensures fixed { IfOk result (λ formatted. IsFormattedBzl text.now formatted) }
+{
+    formatted_bzl_once();
+    bzl_view_is_proper();
+    level_keeps_layout();
+    level_stays();
+    if let Some(formatted) = bzl_chunks_formatted(alloc, text) {
+        return Ok(formatted);
+    }
+    let tree = match parse_bzl(alloc, text) {
+        Ok(tree) => tree,
+        Err(unread) => return Err(of_read_fault(unread)),
+    };
+    let Ok(mut file) = view_bzl(alloc, &tree) else {
+        return Err(FormatFault::Memory);
+    };
+    drop(tree);
+    level(&mut file);
+    match set_bzl(alloc, &file) {
+        Ok(new) => Ok(new),
+        Err(SetFault::TooLarge) => Err(FormatFault::TooLarge),
+        Err(SetFault::TooDeep) => Err(FormatFault::TooDeep),
+        Err(SetFault::Memory) => Err(FormatFault::Memory),
     }
 }

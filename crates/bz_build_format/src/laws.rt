@@ -1,9 +1,7 @@
 //! Facts about the definitions, for readers and for the proofs of other crates: the functions do nothing.
-ghost use Rattle.bz_build_format.specs.BzlFormatted.{BzlFixedPoint};
-ghost use Rattle.bz_build_format.specs.BzlTreePrograms.{BzlViewsKeepPrograms};
-ghost use Rattle.bz_build_format.specs.Fixed.{FixedPoint};
+ghost use Rattle.bz_build_format.specs.Fixed.{FixedPoint, BzlFixedPoint};
 ghost use Rattle.bz_build_format.specs.Tokens.{FormattingKeepsTokens, TreeProgramsKeepTokens};
-ghost use Rattle.bz_build_format.specs.TreePrograms.{ViewsKeepPrograms};
+ghost use Rattle.bz_build_format.specs.TreePrograms.{ViewsKeepPrograms, BzlViewsKeepPrograms};
 ghost use Rattle.bz_build_format.specs.Words.{FormattingKeepsWords};
 ghost use Rattle.bz_build_format.specs.Writing.{WritingKeepsProgram};
 

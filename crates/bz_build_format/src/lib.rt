@@ -2,16 +2,14 @@
 #![tactic(auto)]
 
 mod bzl_chunks;
-mod bzl_formatter;
 mod chunks;
 mod cut;
 mod formatter;
 mod laws;
 mod writing;
 
-pub use bzl_formatter::format_bzl;
 pub use cut::{CHUNK, TRIES, Unseen, chunk_end, why_unseen};
-pub use formatter::{FormatFault, format, of_read_fault};
+pub use formatter::{FormatFault, format, format_bzl, of_read_fault};
 pub use laws::{
     bzl_views_keep_programs, formatted_bzl_once, formatted_once, tokens_kept, views_keep_programs,
     words_kept, writing_keeps_program,

@@ -14,7 +14,7 @@ use Rattle.bz_build_format.specs.Meaning.{Meaning, gives, refuses, written, Form
 use Rattle.bz_build_format.specs.declared.formatter.FormatFault.{FormatFault}
 use Rattle.bz_build_format.specs.declared.formatter.FormatFault.TheVariants as f
 use Rattle.bz_value.specs.declared.refusal.Refusal.TheVariants as r
-use Rattle.bz_build_format.specs.BzlFormatted.{bzl_formatted, formatted_tree}
+use Rattle.bz_build_format.specs.Faults.{bzl_formatted, formatted_tree}
 use Rattle.bz_grammar.specs.Legal.{ReadsBzl}
 use Rattle.bz_streams.specs.Reported.{stdin}
 use Rattle.bz_streams.specs.declared.exit.Cut.TheVariants as c

@@ -2,9 +2,8 @@
 use Rattle.std.specs.Prelude.{Bool, true, false, codes, eqb, Result}
 use Rattle.std.specs.List.{ends_with}
 use Rattle.bz_items.specs.Characters.{Bytes}
-use Rattle.bz_build_format.specs.Faults.{FormatsTo}
+use Rattle.bz_build_format.specs.Faults.{FormatsTo, FormatsBzlTo}
 use Rattle.bz_build_format.specs.declared.formatter.FormatFault.{FormatFault}
-use Rattle.bz_build_format.specs.BzlFormatted.{FormatsBzlTo}
 use Rattle.bz_buildifier.specs.declared.file_type.FileType.{FileType}
 use Rattle.bz_buildifier.specs.declared.file_type.FileType.TheVariants.{Auto, Build, Bzl}
 

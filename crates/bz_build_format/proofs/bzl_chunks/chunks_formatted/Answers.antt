@@ -1,5 +1,5 @@
 use Rattle.std.proofs.Common.{arith, None, Ok, refl, subst, sym, take}
-use Rattle.bz_build_format.specs.BzlFormatted.{FormatsBzlTo}
+use Rattle.bz_build_format.specs.Faults.{FormatsBzlTo}
 use Rattle.bz_build_format.proofs.BzlChunking.{LayersJoin, first_begun, next_begun, is_bare, still_within, all_formatted}
 use Rattle.bz_build_format.proofs.bzl_chunks.chunks_formatted.Goals as goal
 

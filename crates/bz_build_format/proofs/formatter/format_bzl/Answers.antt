@@ -1,0 +1,24 @@
+use Rattle.std.proofs.Common.{Err, ap, ◌∙◌}
+use Rattle.bz_grammar.specs.Legal.{NoBzlTree}
+use Rattle.bz_bzl_layout.specs.Level.{level}
+use Rattle.bz_build_format.specs.Faults.{FormatsBzlTo}
+use Rattle.bz_build_format.proofs.BzlFormatting.{laid_out_given}
+use Rattle.bz_build_format.proofs.ReadFaults.{unread_answered}
+use Rattle.bz_build_format.proofs.formatter.format_bzl.Goals as goal
+
+pub returns-in-Err : goal.returns-in-Err
+returns-in-Err c = record {
+  formats = unread_answered _ (NoBzlTree c.args.text.now) (λ _. Unit {0}) (λ fault. FormatsBzlTo c.args.text.now (Err fault)) c.args.text.now c.in-Err.unread c.of_read_fault.result
+      c.of_read_fault.ensures (λ unread. unread) tt c.in-Err.ensures.refused c.in-Err.ensures.too_large c.in-Err.ensures.not_utf8 c.in-Err.ensures.placed;
+  fixed = tt;
+}
+
+pub returns-in-Some-clause-fixed : goal.returns-in-Some-clause-fixed
+returns-in-Some-clause-fixed c = c.formatted_bzl_once.ensures c.args.text.now c.in-Some.formatted c.in-Some.ensures
+
+pub returns-in-Ok-set_bzl-clause-fixed : goal.returns-in-Ok-set_bzl-clause-fixed
+returns-in-Ok-set_bzl-clause-fixed c =
+    let set = c.in-Ok-set_bzl.ensures in
+    c.formatted_bzl_once.ensures c.args.text.now c.in-Ok-set_bzl.new
+    (laid_out_given c.bzl_view_is_proper.ensures c.level_keeps_layout.ensures c.level_stays.ensures c.args.text.now c.in-Ok-set_bzl.new c.in-Ok.tree _ c.in-Ok.ensures.ok
+    (c.level.ensures ∙ ap level c.in-Ok-view_bzl.ensures) set.text set.short set.reads set.says)
