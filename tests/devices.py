@@ -25,7 +25,7 @@ import tempfile
 
 from files import report
 from hostile import PATIENCE, files_in, new_folder, put, told
-from workspace import NOBODY
+from workspace import NOBODY, PACKAGE_HINT
 
 ODD = b"x=1\n"
 EVEN = b"x = 1\n"
@@ -265,8 +265,9 @@ def packages_that_are_no_files(p):
     lines = b"d/BUILD.bazel: cannot open\ne/BUILD: cannot open\nl/BUILD.bazel: cannot open\nl/BUILD: cannot open\n"
     ended = p.ended("buildozer", ["-k", "set k 1", "//d:x", "//e:x", "//l:x", "//:x"])
     # a missing BUILD behind a link that goes round may be reported too, or not: the link was
-    told_lines = ended[2].replace(b"l/BUILD: cannot open\n", b"")
-    wanted = lines.replace(b"l/BUILD: cannot open\n", b"") + b"fixed d/BUILD\n" + FIXED
+    missing = b"l/BUILD: cannot open\n"
+    told_lines = ended[2].replace(missing + PACKAGE_HINT, b"").replace(missing, b"")
+    wanted = lines.replace(missing, b"") + b"fixed d/BUILD\n" + FIXED
     p.expect("packages that are no files", (ended[0], ended[1], told_lines), (2, b"", wanted))
     for target in ("//f:x", "//m:x", f"//{'n' * 300}:x"):
         status, out, err = p.ended("buildozer", ["delete", target])

@@ -24,6 +24,7 @@ import time
 from files import report
 from hostile import PATIENCE, WHOLE, new_folder, told
 from readme import TOP, environment_with
+from workspace import PACKAGE_HINT
 
 TREE = TOP / "contrib" / "tree"
 COMMANDS = ("buildifier-tree", "buildozer-tree")
@@ -418,6 +419,9 @@ def targets_mean_packages(place):
         place.wants(f"{word} in {here}", sorted(found), sorted(names.split()))
     place.wants("none", place.run("buildozer-tree", "delete", "//none/...:all"), (2, b"", ["//none/...:all: there is no package", "1 file refused"]))
     place.wants("no rule", place.run("buildozer-tree", "delete", "//...:none")[2][:1], ["//...:none: no package has such a rule"])
+    absent = place.run("buildozer-tree", "-k", "print name", "//z:all", "//d:r", "//m:all")
+    hint = PACKAGE_HINT.decode().strip()
+    place.wants("absent", (absent[0], absent[1], absent[2][:4]), (2, b"r\n", ["m/BUILD: cannot open", hint, "z/BUILD: cannot open", hint]))
     usage = place.run("buildozer-tree", "delet", "//...:all")
     place.wants("usage", (usage[0], usage[2][:2]), (1, ["buildozer: delet: Unknown (31)", "buildozer: did you mean 'delete'?"]))
     for words in (["delete"], ["//...:all"], ["delete", "//a//b:x"], ["--stdout", "--journal", "delete", "//a:a"], ["-x"], ["delete", "-f"], ["undo"], ["delete", "--", "-:all"]):

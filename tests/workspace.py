@@ -94,7 +94,8 @@ class Workspace:
 
 
 REFUSED = b"buildozer: BUILD.bazel: delete: NoTarget (41)\n"
-MISSING = b"none/BUILD: cannot open\n"
+PACKAGE_HINT = b"buildozer: a package is a directory below the working directory, which is to be the root of the workspace\n"
+MISSING = b"none/BUILD: cannot open\n" + PACKAGE_HINT
 UNKEPT = b"buildozer: to undo or redo what earlier runs did, give --journal, as in those runs\n"
 
 # A run in the three packages for each row: its name, its words, its status, and what it leaves.

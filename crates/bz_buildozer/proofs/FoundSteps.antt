@@ -1,5 +1,5 @@
 -- Which file of a package is opened, by what its names and its journal hold.
-use Rattle.std.proofs.Common.{◌≡◌, ◌+◌, Bool, false, List, [], ◌∷◌, Option, Some, None, refl, sym, ap, subst, ◌∙◌, take, codes}
+use Rattle.std.proofs.Common.{◌≡◌, ◌+◌, Bool, false, List, [], ◌∷◌, ◌++◌, Option, Some, None, refl, sym, ap, subst, ◌∙◌, take, codes}
 use Rattle.std.specs.FinMap.{get}
 use Rattle.bz_grammar.specs.Spell.{limit}
 use Rattle.bz_items.specs.Characters.{Bytes}
@@ -9,6 +9,7 @@ use Rattle.bz_buildozer.specs.Found.{PackagesFound, first_name, found_at, found_
 use Rattle.bz_buildozer.specs.Journals.{OpensBeside, TakesBeside, journal_beside}
 use Rattle.bz_buildozer.specs.Opens.{Opens}
 use Rattle.bz_buildozer.specs.Packages.{Opened}
+use Rattle.bz_buildozer.specs.Reported.{package_hint}
 use Rattle.bz_buildozer.proofs.JournalSteps.{front_beside}
 
 -- a file that is there, of which these first bytes were read; the folder is still the same
@@ -36,10 +37,10 @@ pub second_opens : (journals : Bool) (current name front text : Bytes) (folder n
 second_opens journals current name front text folder now file lines = there_opens journals current (second_name current) name front text folder now None file lines
 
 pub neither_opens : (journals : Bool) (current name : Bytes) (folder : Folder) → name ≡ second_name current → get folder name ≡ None
-    → OpensBeside journals folder current (found_second folder current) None (named_line name (codes "cannot open") ∷ [])
+    → OpensBeside journals folder current (found_second folder current) None ((named_line name (codes "cannot open") ++ package_hint current) ∷ [])
 neither_opens journals current name folder is held =
-    absent_opens journals current (second_name current) name folder None None (named_line name (codes "cannot open") ∷ []) is held
-    (refl, ap (λ (n : Bytes). named_line n (codes "cannot open") ∷ []) is)
+    absent_opens journals current (second_name current) name folder None None ((named_line name (codes "cannot open") ++ package_hint current) ∷ []) is held
+    (refl, ap (λ (n : Bytes). (named_line n (codes "cannot open") ++ package_hint current) ∷ []) is)
 
 pub first_opens : (journals : Bool) (current name front text : Bytes) (folder now : Folder) (file : Option Opened) (lines : List Bytes) → name ≡ first_name current
     → get folder name ≡ Some text → front ≡ take (limit + 1) text → now ≡ folder → TakesBeside (journal_beside journals now name) current name front file lines

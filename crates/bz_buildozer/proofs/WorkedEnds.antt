@@ -325,7 +325,7 @@ abbrev none : Bytes
 none = codes "none"
 
 abbrev none_line : Bytes
-none_line = codes "none/BUILD: cannot open\n"
+none_line = codes "none/BUILD: cannot open\nbuildozer: a package is a directory below the working directory, which is to be the root of the workspace\n"
 
 abbrev after_none : Progress
 after_none = state_of (none_used ∷ []) true

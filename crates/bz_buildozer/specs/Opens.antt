@@ -15,6 +15,7 @@ use Rattle.bz_streams.specs.Reported.{named_line, fault_line}
 use Rattle.bz_streams.specs.declared.sink.Sink.{Ghosts as SinkOf}
 use Rattle.bz_buildozer.specs.Packages.{Opened, Used, file_at, opened_with, with_opened}
 use Rattle.bz_buildozer.specs.Found.{PackagesFound, second_name}
+use Rattle.bz_buildozer.specs.Reported.{package_hint}
 
 -- a package of this path has this number, and its file isn't open
 pub record IsUnopened (place : ℕ) (current : Bytes) (used : List Used) : Type 0 where
@@ -41,10 +42,10 @@ abbrev pub FrontsAreReportedAlike : Type 0
 FrontsAreReportedAlike = (current name text : Bytes) (file : Option Opened) (lines : List Bytes)
     → (Takes current name (take (limit + 1) text) file lines ↔ Takes current name text file lines)
 
--- The file that is found for a package is opened; where none is, that is reported of `BUILD`.
+-- The file that is found for a package is opened; where none is, that is reported of `BUILD`, and below it what a package is.
 abbrev pub Opens : Bytes → Option PackagesFound → Option Opened → List Bytes → Type 0
 Opens current (Some found) file lines = Takes current found.0 found.1 file lines
-Opens current None file lines = (file ≡ None) × (lines ≡ named_line (second_name current) (codes "cannot open") ∷ [])
+Opens current None file lines = (file ≡ None) × (lines ≡ (named_line (second_name current) (codes "cannot open") ++ package_hint current) ∷ [])
 
 -- The package with this number has a file from now on, or none, of which this is so, and the lines were printed. (Its number, where
 -- its file is open; the packages, and standard error, before and after.)

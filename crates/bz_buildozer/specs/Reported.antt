@@ -1,5 +1,6 @@
 -- The lines of buildozer on standard error that speak of commands, operands and usage.
-use Rattle.std.specs.Prelude.{◌≡◌, ◌==◌, ◌&&◌, ℕ, Bool, not, List, [], ◌∷◌, ◌++◌, bytes_eq, codes, decimal, if◌then◌else◌}
+use Rattle.std.specs.Prelude.{◌≡◌, ◌==◌, ◌&&◌, ◌||◌, ℕ, Bool, not, List, [], ◌∷◌, ◌++◌, bytes_eq, eqb, codes, decimal, if◌then◌else◌}
+use Rattle.std.specs.List.{ends_with}
 use Rattle.bz_items.specs.Characters.{Bytes}
 use Rattle.bz_value.specs.Refusals.{refusal_name, refusal_number}
 use Rattle.bz_value.specs.declared.refusal.Refusal.{Refusal}
@@ -33,6 +34,12 @@ refusal_line journals file command refusal =
 -- an operand that is refused; after its line is the hint, if there is one
 abbrev pub operand_line : Refused → Bytes
 operand_line refused = codes "buildozer: " ++ numbered refused.operand (operand_fault_name refused.fault) (operand_fault_number refused.fault) ++ hint_for refused
+
+-- below the line of a package without a file: what a package is, or which program takes all packages below one
+abbrev pub package_hint : Bytes → Bytes
+package_hint current =
+    if bytes_eq current (codes "...") || ends_with eqb current (codes "/...") then codes "buildozer: ... is no package here: see buildozer-tree\n"
+    else codes "buildozer: a package is a directory below the working directory, which is to be the root of the workspace\n"
 
 -- a file that was written
 abbrev pub fixed_line : Bytes → Bytes

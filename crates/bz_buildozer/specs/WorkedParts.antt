@@ -10,6 +10,7 @@ use Rattle.bz_items.specs.Characters.{Bytes}
 use Rattle.bz_buildozer.specs.Found.{found_in, first_name, second_name}
 use Rattle.bz_buildozer.specs.Opens.{opened_fresh}
 use Rattle.bz_buildozer.specs.Packages.{Opened, Used, package_number}
+use Rattle.bz_buildozer.specs.Reported.{package_hint}
 use Rattle.bz_buildozer.specs.Ending.{differs, texts_out, all_writings, fixed_lines, status_of}
 use Rattle.bz_buildozer.specs.Run.{Progress, Finds, reported_of, printed_by, answered, ends_run}
 use Rattle.bz_buildozer.specs.Steps.{RunStep, all_steps, shows_input}
@@ -104,6 +105,10 @@ Reported =
     × (reported_of true name (codes "redo") (Err TooFar) ≡ codes "buildozer: app/BUILD: redo: TooFar (61)\n" ∷ [])
     × (reported_of false name (codes "set size small") (Ok Changed) ≡ []) × (reported_of false name (codes "undo") (Ok Moved) ≡ [])
     × (reported_of false name (codes "print name") (Ok (Printed (codes "x\n"))) ≡ [])
+    -- undo //a/...:x; undo //a...:x, of which no file is there
+    × (package_hint (codes "a/...") ≡ codes "buildozer: ... is no package here: see buildozer-tree\n")
+    × (package_hint (codes "a...")
+    ≡ codes "buildozer: a package is a directory below the working directory, which is to be the root of the workspace\n")
     -- Only what a command prints is printed.
     × (printed_by (Ok (Printed (codes "x\n"))) ≡ codes "x\n") × (printed_by (Ok Same) ≡ []) × (printed_by (Err NotAList) ≡ [])
     -- A refusal after a printed line: the line stays, and the run has failed from then on.

@@ -85,7 +85,8 @@ OverBuild world =
 -- Package `none` has no file: 'set size small' //none:x //:x ends there; with -k it goes on. -k undo redo //none:x reports it once.
 abbrev pub BesideNone : World → Type 0
 BesideNone world =
-    let none : Bytes = codes "none/BUILD: cannot open\n" in let targets : List Bytes = codes "//none:x" ∷ codes "//:x" ∷ [] in
+    let none : Bytes = codes "none/BUILD: cannot open\nbuildozer: a package is a directory below the working directory, which is to be the root of the workspace\n" in
+    let targets : List Bytes = codes "//none:x" ∷ codes "//:x" ∷ [] in
     Still (codes "set size small" ∷ targets) [] (none ∷ []) 2 world
     × BuildWritten (codes "-k" ∷ codes "set size small" ∷ targets) [] (none ∷ codes "fixed BUILD\n" ∷ []) 2 world
     × Still (codes "-k" ∷ codes "undo" ∷ codes "redo" ∷ codes "//none:x" ∷ []) [] (none ∷ []) 2 world

@@ -1,6 +1,6 @@
 //! What opening a file takes: its name, its bytes and its session.
-ghost use Rattle.std.specs.Prelude.{◌≡◌, ◌≢◌, ◌⊎◌, ◌≤◌, [], ◌∷◌, codes, length, map, take, true, Some, None, IfOk, IfErr, IsErrOf, string_bytes};
-ghost use Rattle.std.specs.List.{concat};
+ghost use Rattle.std.specs.Prelude.{◌≡◌, ◌≢◌, ◌⊎◌, ◌≤◌, ◌++◌, [], ◌∷◌, codes, eqb, length, map, take, true, Some, None, IfOk, IfErr, IsErrOf, string_bytes};
+ghost use Rattle.std.specs.List.{concat, ends_with};
 ghost use Rattle.std.specs.FinMap.{get};
 ghost use Rattle.bz_grammar.specs.Legal.{Accepted};
 ghost use Rattle.bz_items.specs.Characters.{Bytes};
@@ -12,6 +12,7 @@ ghost use Rattle.bz_buildozer.specs.Journals.{fault_lines, of_resuming};
 ghost use Rattle.bz_buildozer.specs.Keeps.{KeepsFolder};
 ghost use Rattle.bz_buildozer.specs.Opens.{IsRefusedFor, opened_fresh};
 ghost use Rattle.bz_buildozer.specs.private.ShownFiles.{opened_in};
+ghost use Rattle.bz_buildozer.specs.Reported.{package_hint};
 
 use crate::used::Opened;
 use bz_files::{FileFault, Files};
@@ -101,6 +102,42 @@ pub(crate) fn fail<E: Sink>(err: &mut E, name: &str, word: &str, cut: Cut) -> Op
 {
     report_named(err, name, word);
     Opening::new(None, cut)
+}
+
+// Whether a package is written as all those below another one.
+fn ends_in_dots(package: &str) -> bool
+    ensures { result ≡ ends_with eqb «package».now (codes "/...") }
+{
+    package.ends_with("/...")
+}
+
+// What a package is, or which program takes all packages below one.
+fn package_hint(package: &str) -> &'static str
+    ensures { result.now ≡ package_hint «package».now }
+{
+    if package == "..." || ends_in_dots(package) {
+        "buildozer: ... is no package here: see buildozer-tree\n"
+    } else {
+        "buildozer: a package is a directory below the working directory, which is to be the root of the workspace\n"
+    }
+}
+
+// Reports a word on a file, and this text below the line.
+fn report_above<'a, E: Sink>(err: &mut E, name: &'a str, word: &'a str, below: &'a str)
+    ensures { AppendsUnlessFailed (E.faults err.old) (E.faults err.new) (E.contents err.old) (E.contents err.new)
+        (named_line name.entry.now word.entry.now ++ below.entry.now) }
+{
+    report(err, &[name, ": ", word, "\n", below]);
+}
+
+/// Reports that no file of a package is there, by the name of one, and below it what a package is.
+pub(crate) fn fail_absent<E: Sink>(err: &mut E, name: &str, package: &str) -> Opening
+    ensures opening { result ≡ record { place = None; cut = Cut.Whole } }
+    ensures reported { AppendsUnlessFailed (E.faults err.old) (E.faults err.new) (E.contents err.old) (E.contents err.new)
+        (named_line name.now (codes "cannot open") ++ package_hint «package».now) }
+{
+    report_above(err, name, "cannot open", package_hint(package));
+    Opening::new(None, Cut::Whole)
 }
 
 /// Reports a word on a journal, and by these pieces what may be done; no file is open.

@@ -17,7 +17,7 @@ ghost use Rattle.bz_buildozer.specs.Packages as p;
 ghost use Rattle.bz_buildozer.specs.Packages.{file_at, package_number, with_opened};
 
 use crate::reading::{
-    Opening, bytes_of, fail, fail_with_hint, name_in, opened, unnamed, unresumed,
+    Opening, bytes_of, fail, fail_absent, fail_with_hint, name_in, opened, unnamed, unresumed,
 };
 use crate::used::{Opened, Used, put_file};
 use bz_files::{FileFault, Files};
@@ -244,7 +244,7 @@ impl Workspace {
         }
     }
 
-    /// Reads the second name of a package whose file isn't open.
+    /// Reads the second name of a package whose file isn't open. Where none is there, what a package is is printed below the line.
     fn open_second<F: Files, E: Sink>(
         &mut self,
         place: usize,
@@ -266,7 +266,7 @@ impl Workspace {
         let name = name.as_str();
         match bytes_of(alloc, files, name, MOST) {
             Ok(text) => self.open_found(place, package, name, text, journals, files, err),
-            Err(FileFault::Absent) => fail(err, name, "cannot open", Cut::Whole),
+            Err(FileFault::Absent) => fail_absent(err, name, package),
             Err(FileFault::Memory) => fail(err, name, "Memory", Cut::Memory),
             Err(_) => fail(err, name, "cannot open", Cut::Files),
         }

@@ -10,7 +10,7 @@ returns-clause-parts c = (
   (refl, refl, refl, refl, refl, refl, refl, refl, refl),
   (refl, refl, refl, refl),
   (refl, refl, refl, refl, refl, refl, refl, refl, refl, refl, refl, refl, refl, refl, refl),
-  (refl, refl, refl, refl, refl, refl, refl, refl, refl),
+  (refl, refl, refl, refl, refl, refl, refl, refl, refl, refl, refl),
   (refl, refl, refl, refl, refl, refl),
   (refl, refl, refl, refl, found_first, found_second, found_none, (λ folder. inl (refl, (text_read, refl, refl))), refl, refl),
 )

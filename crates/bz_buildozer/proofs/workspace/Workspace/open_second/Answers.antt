@@ -18,15 +18,15 @@ returns-in-Ok-bytes_of-clause-second g c = λ honest.
 
 pub returns-in-Err-Absent-clause-second : goal.returns-in-Err-Absent-clause-second
 returns-in-Err-Absent-clause-second g c = λ honest.
-    fails_as g.E.Sink c.args.place (λ why. SecondUntil why c.args.journals (g.F.Files.folder c.args.files.now) c.args.package.now) c.fail.result cut.Whole
-    c.args.self.now c.args.err.now c.fail.new.err _ c.requires.closed c.fail.ensures.opening
+    fails_as g.E.Sink c.args.place (λ why. SecondUntil why c.args.journals (g.F.Files.folder c.args.files.now) c.args.package.now) c.fail_absent.result cut.Whole
+    c.args.self.now c.args.err.now c.fail_absent.new.err _ c.requires.closed c.fail_absent.ensures.opening
     (neither_opens c.args.journals c.args.package.now c.as_str-name.result.now (g.F.Files.folder c.args.files.now) (c.as_str-name.ensures.value ∙ c.in-Ok.ensures)
-    (c.in-Err-Absent.ensures.absent honest (ap Err c.in-Err-Absent.field-0-is))) c.fail.ensures.reported
+    (c.in-Err-Absent.ensures.absent honest (ap Err c.in-Err-Absent.field-0-is))) c.fail_absent.ensures.reported
 
 pub returns-in-Err-Memory-clause-second : goal.returns-in-Err-Memory-clause-second
 returns-in-Err-Memory-clause-second g c = λ honest.
-    fails_as g.E.Sink c.args.place (λ why. SecondUntil why c.args.journals (g.F.Files.folder c.args.files.now) c.args.package.now) c.fail-in-Err-Memory.result cut.Memory
-    c.args.self.now c.args.err.now c.fail-in-Err-Memory.new.err _ c.requires.closed c.fail-in-Err-Memory.ensures.opening (refl, (_, refl)) c.fail-in-Err-Memory.ensures.reported
+    fails_as g.E.Sink c.args.place (λ why. SecondUntil why c.args.journals (g.F.Files.folder c.args.files.now) c.args.package.now) c.fail.result cut.Memory
+    c.args.self.now c.args.err.now c.fail.new.err _ c.requires.closed c.fail.ensures.opening (refl, (_, refl)) c.fail.ensures.reported
 
 pub returns-clause-second : goal.returns-clause-second
 returns-clause-second g c = λ honest.
@@ -55,10 +55,10 @@ pub returns-in_default-clause-puts : goal.returns-in_default-clause-puts
 returns-in_default-clause-puts g c = nothing_put c.args.place _ _ c.args.self.now c.args.self.now c.requires.closed (ap (λ (o : Opening). o.place) c.unnamed.ensures.opening) refl
 
 pub returns-in-Err-Absent-clause-puts : goal.returns-in-Err-Absent-clause-puts
-returns-in-Err-Absent-clause-puts g c = nothing_put c.args.place _ _ c.args.self.now c.args.self.now c.requires.closed (ap (λ (o : Opening). o.place) c.fail.ensures.opening) refl
+returns-in-Err-Absent-clause-puts g c = nothing_put c.args.place _ _ c.args.self.now c.args.self.now c.requires.closed (ap (λ (o : Opening). o.place) c.fail_absent.ensures.opening) refl
 
 pub returns-in-Err-Memory-clause-puts : goal.returns-in-Err-Memory-clause-puts
-returns-in-Err-Memory-clause-puts g c = nothing_put c.args.place _ _ c.args.self.now c.args.self.now c.requires.closed (ap (λ (o : Opening). o.place) c.fail-in-Err-Memory.ensures.opening) refl
+returns-in-Err-Memory-clause-puts g c = nothing_put c.args.place _ _ c.args.self.now c.args.self.now c.requires.closed (ap (λ (o : Opening). o.place) c.fail.ensures.opening) refl
 
 pub returns-clause-puts : goal.returns-clause-puts
 returns-clause-puts g c = nothing_put c.args.place _ _ c.args.self.now c.args.self.now c.requires.closed (ap (λ (o : Opening). o.place) c.fail-in-Err.ensures.opening) refl
