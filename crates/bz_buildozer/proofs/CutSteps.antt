@@ -1,5 +1,5 @@
 -- Why several parts of a run are cut, one after the other.
-use Rattle.std.proofs.Common.{◌≡◌, ◌≢◌, ◌⊎◌, ◌∙◌, inl, inr, ℕ, List, refl, subst, sym, arith}
+use Rattle.std.proofs.Common.{◌≡◌, ◌≢◌, ◌⊎◌, ◌∙◌, inl, inr, ℕ, List, Bool, false, refl, subst, sym, arith}
 use Rattle.bz_streams.specs.Outputs.{Counts}
 use Rattle.bz_streams.specs.declared.exit.Cut.{Cut}
 use Rattle.bz_streams.specs.declared.exit.Cut.TheVariants as c
@@ -70,6 +70,7 @@ pub both_whole : (first later result : Cut) → result ≡ first_cut first later
 both_whole first later result is whole = (whole_before first later (sym is ∙ whole), whole_after first later (sym is ∙ whole))
 
 -- what holds for a name holds for one that is the same
-pub by_name : (A : Type 0) (one other wanted : List ℕ) → one ≡ other → A ⊎ (other ≡ wanted) → A ⊎ (one ≡ wanted)
-by_name A one other wanted same (inl held) = inl held
-by_name A one other wanted same (inr is) = inr (same ∙ is)
+pub by_name : (A : Type 0) (journals : Bool) (one other wanted : List ℕ) → one ≡ other → A ⊎ ((journals ≡ false) × (other ≡ wanted))
+    → A ⊎ ((journals ≡ false) × (one ≡ wanted))
+by_name A journals one other wanted same (inl held) = inl held
+by_name A journals one other wanted same (inr (plain, is)) = inr (plain, same ∙ is)

@@ -8,15 +8,15 @@ use Rattle.bz_items.specs.Characters.{Bytes}
 use Rattle.bz_files.specs.Folder.{Folder}
 use Rattle.bz_buildozer.specs.Packages.{Opened, Used, file_at, with_opened}
 use Rattle.bz_buildozer.specs.Sessions.{Action, Answer, History, Leads, Reply, Printed, listing}
-use Rattle.bz_buildozer.specs.Keeping.{AnswersBeside, DoesBeside, FolderAfter, UsesBeside, file_after, state_after}
+use Rattle.bz_buildozer.specs.Keeping.{AnswersBeside, FolderAfter, file_after, state_after}
 use Rattle.bz_buildozer.specs.Run.{Answers, Does, LeadsBy, Progress, Uses, World, answered, reported_of}
 use Rattle.bz_buildozer.specs.Steps.{RunStep, action_of}
 
-same_place : (found : Option Opened) (at place : ℕ) → Some at ≡ option_map (λ _. place) found → at ≡ place
+pub same_place : (found : Option Opened) (at place : ℕ) → Some at ≡ option_map (λ _. place) found → at ≡ place
 same_place None at place is = let e = is in absurd (cc)
 same_place (Some file) at place is = cc
 
-no_file : (found : Option Opened) (place : ℕ) → None ≡ option_map (λ _. place) found → found ≡ None
+pub no_file : (found : Option Opened) (place : ℕ) → None ≡ option_map (λ _. place) found → found ≡ None
 no_file None place is = refl
 no_file (Some file) place is = let e = is in absurd (cc)
 
@@ -49,10 +49,10 @@ done_nowhere world step before used found place name opening named uses is opene
 }
 
 -- the texts of the file are listed
-pub listed_answers : (step : RunStep) (place : ℕ) (found : Option Opened) (file : Opened) (before after : Progress) → found ≡ Some file
+pub listed_plain : (step : RunStep) (place : ℕ) (found : Option Opened) (file : Opened) (before after : Progress) → found ≡ Some file
     → None ≡ action_of step.target step.request.verb → after ≡ answered place file (Ok (Printed (listing file.history))) file.history before
     → Answers step place found before [] after
-listed_answers step place found file before after there none is =
+listed_plain step place found file before after there none is =
     subst (λ (f : Option Opened). Answers step place f before [] after) (sym there) (
       Ok (Printed (listing file.history)),
       file.history,
@@ -61,49 +61,7 @@ listed_answers step place found file before after there none is =
       is,
     )
 
-pub acted_answers : (step : RunStep) (place : ℕ) (found : Option Opened) (file : Opened) (action : Action) (answer : Answer) (history : History) (before after : Progress)
-    → found ≡ Some file → Some action ≡ action_of step.target step.request.verb → Leads action step.request.text file.history answer history
-    → after ≡ answered place file answer history before → Answers step place found before (reported_of false file.name step.request.text answer) after
-acted_answers step place found file action answer history before after there requested leads is =
-    subst (λ (f : Option Opened). Answers step place f before (reported_of false file.name step.request.text answer) after) (sym there) (
-      answer,
-      history,
-      subst (λ (a : Option Action). LeadsBy a step.request.text file.history answer history) requested leads,
-      refl,
-      is,
-    )
-
 -- ---- with journals
-
-pub beside_there : (step : RunStep) (folder between folder' : Folder) (before after : Progress) (used : List Used) (found : Option ℕ) (place at : ℕ) (name : Bytes)
-    (opening answer : List Bytes) → name ≡ step.target.«package» → between ≡ folder → UsesBeside folder name before.used place opening used → found ≡ Some at
-    → found ≡ option_map (λ _. place) (file_at place used) → AnswersBeside step at (file_at at used) between (record before { used = used }) answer folder' after
-    → DoesBeside step folder before (opening ++ answer) folder' after
-beside_there step folder between folder' before after used found place at name opening answer named still uses is opened answers = record {
-  place = place;
-  used = used;
-  opening = opening;
-  answer = answer;
-  uses = subst (λ (text : Bytes). UsesBeside folder text before.used place opening used) named uses;
-  answers = subst (λ (f : Folder). AnswersBeside step place (file_at place used) f (record before { used = used }) answer folder' after) still
-      (subst (λ (n : ℕ). AnswersBeside step n (file_at n used) between (record before { used = used }) answer folder' after)
-      (same_place (file_at place used) at place (sym is ∙ opened)) answers);
-  reported = refl;
-}
-
-pub beside_nowhere : (step : RunStep) (folder folder' : Folder) (before : Progress) (used : List Used) (found : Option ℕ) (place : ℕ) (name : Bytes) (opening : List Bytes)
-    → name ≡ step.target.«package» → folder' ≡ folder → UsesBeside folder name before.used place opening used → found ≡ None
-    → found ≡ option_map (λ _. place) (file_at place used) → DoesBeside step folder before opening folder' (record before { used = used; failed = true })
-beside_nowhere step folder folder' before used found place name opening named still uses is opened = record {
-  place = place;
-  used = used;
-  opening = opening;
-  answer = [];
-  uses = subst (λ (text : Bytes). UsesBeside folder text before.used place opening used) named uses;
-  answers = subst (λ (file : Option Opened). AnswersBeside step place file folder (record before { used = used }) [] folder' (record before { used = used; failed = true }))
-      (sym (no_file (file_at place used) place (sym is ∙ opened))) (refl, still, refl);
-  reported = sym (append-nil opening);
-}
 
 pub or_false : (b : Bool) → b || false ≡ b
 or_false true = refl

@@ -1,11 +1,10 @@
 -- What a run leaves that a failure may cut, by the words that request it.
-use Rattle.std.proofs.Common.{◌≡◌, ◌≢◌, ◌⊎◌, ◌∙◌, inl, inr, ℕ, List, [], ◌∷◌, Option, Some, Ok, Result, Bool, true, false, refl, sym, ap, subst, codes}
-use Rattle.std.specs.Prelude.{IfOk}
+use Rattle.std.proofs.Common.{◌≡◌, ◌≢◌, ◌∙◌, inl, ℕ, List, [], ◌∷◌, Option, Some, Ok, refl, sym, ap, subst, codes}
 use Rattle.bz_items.specs.Characters.{Bytes}
 use Rattle.bz_files.specs.Folder.{Folder}
 use Rattle.bz_files.specs.declared.files.Files.{Ghosts as FilesOf}
 use Rattle.bz_command_line.specs.Requested.{Requested, operand_group}
-use Rattle.bz_command_line.specs.Line.{CommandLine, Given, LineUsage, command_line_of, operands, script}
+use Rattle.bz_command_line.specs.Line.{CommandLine, Given, command_line_of, operands, script}
 use Rattle.bz_command_line.specs.Script.{script_of}
 use Rattle.bz_command_line.specs.declared.line.Options.{Options}
 use Rattle.bz_streams.specs.Faults.{AppendsUnlessFailed}
@@ -15,7 +14,7 @@ use Rattle.bz_streams.specs.declared.exit.Cut.TheVariants as c
 use Rattle.bz_streams.specs.declared.exit.Exit.{Exit}
 use Rattle.bz_streams.specs.declared.sink.Sink.{Ghosts as SinkOf}
 use Rattle.bz_buildozer.specs.Calls.{EndsIn}
-use Rattle.bz_buildozer.specs.Failing.{Ended, GivenUntil, KeepsNoJournal, PerformsUntil, WordsUntil}
+use Rattle.bz_buildozer.specs.Failing.{Ended, GivenUntil, PerformsUntil, WordsUntil}
 use Rattle.bz_buildozer.specs.Outcome.{IsScript}
 use Rattle.bz_buildozer.specs.Reported.{unread_line, unread_status}
 use Rattle.bz_buildozer.specs.Run.{World}
@@ -68,6 +67,3 @@ script_until options name text text' folder folder' known known' ended same stil
 pub words_until : (words : List Bytes) (line : CommandLine) (given : Given) (world : World) (ended : Ended) → command_line_of words ≡ Ok line → line.given ≡ given
     → GivenUntil line.options given world ended → WordsUntil words world ended
 words_until words line given world ended is same until = (line, is, subst (λ (it : Given). GivenUntil line.options it world ended) (sym same) until)
-
-pub words_plain : (words : List Bytes) (line : CommandLine) → command_line_of words ≡ Ok line → KeepsNoJournal words → line.options.journal ≡ false
-words_plain words line is plain = subst (λ (it : Result CommandLine LineUsage). IfOk it (λ line. line.options.journal ≡ false)) is plain

@@ -1,8 +1,9 @@
 -- Steps on rules of standard input use no other package, and so write no file.
-use Rattle.std.proofs.Common.{◌≡◌, inl, inr, ℕ, zero, suc, List, [], ◌∷◌, ◌++◌, map, Option, Some, None, Bool, true, refl, ap, subst, sym, ◌∙◌, bytes_eq}
+use Rattle.std.proofs.Common.{◌≡◌, inl, inr, ℕ, zero, suc, List, [], ◌∷◌, ◌++◌, map, Option, Some, None, Bool, true, false, true≢false, refl, ap, subst, sym, ◌∙◌, bytes_eq}
 use Rattle.std.specs.List.{All, flat_map}
 use Rattle.std.proofs.lemmas.List.Elements.{All-head, All-tail}
 use Rattle.bz_items.specs.Characters.{Bytes}
+use Rattle.bz_files.specs.Folder.{Folder}
 use Rattle.bz_label.specs.declared.target.Target.{Target}
 use Rattle.bz_command_line.specs.Requested.{Requested, Request}
 use Rattle.bz_streams.specs.declared.exit.Cut.{Cut}
@@ -49,42 +50,43 @@ kept zero file (used ∷ more) are = are
 kept (suc place) file (used ∷ more) are = (are.0, kept place file more are.1)
 
 used_on : (why : Cut) (world : World) (current : Bytes) (before : List Used) (number : Option ℕ) (lines : List Bytes) (after : List Used) → current ≡ input_package
-    → UsesUntil why world current before number lines after → AreInput before → AreInput after
+    → UsesUntil why false world current before number lines after → AreInput before → AreInput after
 used_on c.Whole world current before number lines after is (place, inl again, at) are = subst AreInput (sym again.2) are
 used_on c.Whole world current before number lines after is (place, inr (absent, last, (found, file, finds, opens, new)), at) are =
     subst AreInput (sym new) (one_more before _ is are)
 used_on c.Memory world current before number lines after is (at, told, inl same) are = subst AreInput (sym same) are
 used_on c.Memory world current before number lines after is (at, told, inr new) are = subst AreInput (sym new) (one_more before _ is are)
-used_on c.Read world current before number lines after is (of_input, none, at, told, new) are = subst AreInput (sym new) (one_more before _ is are)
+used_on c.Read world current before number lines after is (plain, of_input, none, at, told, new) are = subst AreInput (sym new) (one_more before _ is are)
 used_on c.Write world current before number lines after is uses are = absurd uses
 used_on c.Files world current before number lines after is (none, (file, opens, new, at)) are = subst AreInput (sym new) (one_more before _ is are)
 
-answers_on : (why : Cut) (step : RunStep) (number : Option ℕ) (state : Progress) (lines : List Bytes) (after : Progress) → AnswersUntil why step number state lines after
-    → AreInput state.used → AreInput after.used
-answers_on c.Whole step None state lines after (reported, is) are = subst (λ (now : Progress). AreInput now.used) (sym is) are
-answers_on c.Whole step (Some place) state lines after answers are = go (file_at place state.used) answers
+answers_on : (why : Cut) (step : RunStep) (number : Option ℕ) (folder : Folder) (state : Progress) (lines : List Bytes) (folder' : Folder) (after : Progress)
+    → AnswersUntil why false step number folder state lines folder' after → AreInput state.used → AreInput after.used
+answers_on c.Whole step None folder state lines folder' after (reported, still, is) are = subst (λ (now : Progress). AreInput now.used) (sym is) are
+answers_on c.Whole step (Some place) folder state lines folder' after (still, answers) are = go (file_at place state.used) answers
   where
     go : (file : Option Opened) → Answers step place file state lines after → AreInput after.used
     go None (reported, is) = subst (λ (now : Progress). AreInput now.used) (sym is) are
     go (Some file) (answer, history, leads, reported, is) = subst (λ (now : Progress). AreInput now.used) (sym is) (kept place _ state.used are)
-answers_on c.Memory step None state lines after answers are = absurd answers
-answers_on c.Memory step (Some place) state lines after (told, (file, is)) are = subst (λ (now : Progress). AreInput now.used) (sym is) (kept place file state.used are)
-answers_on c.Read step number state lines after answers are = absurd answers
-answers_on c.Write step number state lines after answers are = absurd answers
-answers_on c.Files step number state lines after answers are = absurd answers
+answers_on c.Memory step None folder state lines folder' after answers are = absurd answers
+answers_on c.Memory step (Some place) folder state lines folder' after ((told, (file, is)), kept_or) are = subst (λ (now : Progress). AreInput now.used) (sym is) (kept place file state.used are)
+answers_on c.Read step number folder state lines folder' after answers are = absurd answers
+answers_on c.Write step number folder state lines folder' after answers are = absurd answers
+answers_on c.Files step None folder state lines folder' after answers are = absurd answers
+answers_on c.Files step (Some place) folder state lines folder' after answers are = absurd (true≢false (sym answers.0))
 
-does_on : (why : Cut) (world : World) (step : RunStep) (before : Progress) (lines : List Bytes) (after : Progress) → step.target.«package» ≡ input_package
-    → DoesUntil why world step before lines after → AreInput before.used → AreInput after.used
-does_on why world step before lines after is does are =
-    answers_on does.acted step does.number (record before { used = does.used }) does.answer after does.answers
+does_on : (why : Cut) (world : World) (step : RunStep) (before : Progress) (lines : List Bytes) (folder : Folder) (after : Progress) → step.target.«package» ≡ input_package
+    → DoesUntil why false world step before lines folder after → AreInput before.used → AreInput after.used
+does_on why world step before lines folder after is does are =
+    answers_on does.acted step does.number world.folder (record before { used = does.used }) does.answer folder after does.answers
     (used_on does.opened world step.target.«package» before.used does.number does.opening does.used is does.uses are)
 
-runs_on : (why : Cut) (world : World) (keep_going : Bool) (steps : List RunStep) (before : Progress) (lines : List Bytes) (after : Progress) → AreStepsOfInput steps
-    → RunsUntil why world keep_going steps before lines after → AreInput before.used → AreInput after.used
-runs_on why world keep_going [] before lines after of_input (whole, reported, is) are = subst (λ (now : Progress). AreInput now.used) (sym is) are
-runs_on why world keep_going (step ∷ steps) before lines after of_input (inl (ended, whole, reported, is)) are = subst (λ (now : Progress). AreInput now.used) (sym is) are
-runs_on why world keep_going (step ∷ steps) before lines after of_input (inr (goes, (one, later, mid, first, rest, does, runs, reported, cut))) are =
-    runs_on later world keep_going steps mid rest after of_input.1 runs (does_on one world step before first mid of_input.0 does are)
+runs_on : (why : Cut) (world : World) (keep_going : Bool) (steps : List RunStep) (before : Progress) (lines : List Bytes) (folder : Folder) (after : Progress)
+    → AreStepsOfInput steps → RunsUntil why false world keep_going steps before lines folder after → AreInput before.used → AreInput after.used
+runs_on why world keep_going [] before lines folder after of_input runs are = subst (λ (now : Progress). AreInput now.used) (sym runs.3) are
+runs_on why world keep_going (step ∷ steps) before lines folder after of_input (inl ended) are = subst (λ (now : Progress). AreInput now.used) (sym ended.4) are
+runs_on why world keep_going (step ∷ steps) before lines folder after of_input (inr (goes, (one, later, between, mid, first, rest, does, runs, reported, cut))) are =
+    runs_on later (record world { folder = between }) keep_going steps mid rest folder after of_input.1 runs (does_on one world step before first between mid of_input.0 does are)
 
 -- ---- the steps of lines
 
@@ -110,7 +112,7 @@ on_lines (line ∷ lines) all =
     (on_lines lines (All-tail (λ (requested : Requested). All (λ target. target.«package» ≡ input_package) requested.targets) line lines all))
 
 -- Lines on rules of standard input alone write no file.
-pub nothing_written : (to_stdout : Bool) (why : Cut) (world : World) (keep_going : Bool) (lines : List Requested) (reported : List Bytes) (state : Progress) → AreOfInput lines
-    → RunsUntil why world keep_going (all_steps lines) nothing_done reported state → all_writings to_stdout state.used ≡ []
-nothing_written to_stdout why world keep_going lines reported state are runs =
-    no_writings to_stdout state.used (runs_on why world keep_going (all_steps lines) nothing_done reported state (on_lines lines are) runs tt)
+pub nothing_written : (to_stdout : Bool) (why : Cut) (world : World) (keep_going : Bool) (lines : List Requested) (reported : List Bytes) (folder : Folder) (state : Progress)
+    → AreOfInput lines → RunsUntil why false world keep_going (all_steps lines) nothing_done reported folder state → all_writings to_stdout state.used ≡ []
+nothing_written to_stdout why world keep_going lines reported folder state are runs =
+    no_writings to_stdout state.used (runs_on why world keep_going (all_steps lines) nothing_done reported folder state (on_lines lines are) runs tt)

@@ -16,9 +16,9 @@ use Rattle.bz_buildozer.proofs.FileSteps.{last_none, last_put}
 use Rattle.bz_buildozer.proofs.FrontSteps.{front_takes}
 use Rattle.bz_streams.specs.declared.exit.Cut.{Cut}
 use Rattle.bz_buildozer.specs.Cuts.{IsLeft}
-use Rattle.bz_buildozer.specs.Run.{Answers, Progress, Uses, World}
+use Rattle.bz_buildozer.specs.Run.{Uses, World}
 use Rattle.bz_streams.specs.Ports.{IsInput}
-use Rattle.bz_buildozer.specs.Steps.{RunStep, input_package}
+use Rattle.bz_buildozer.specs.Steps.{input_package}
 
 -- ---- the first bytes of standard input, one more than a text may have, decide what becomes of it
 
@@ -93,14 +93,6 @@ place_stays current place file [] = refl
 place_stays current zero file (one ∷ more) = refl
 place_stays current (suc place) file (one ∷ more) =
     ap (λ (found : Option ℕ). if bytes_eq one.package current then Some 0 else option_map (λ place. place + 1) found) (place_stays current place file more)
-
-pub left_after : (known remaining : Option Bytes) (step : RunStep) (place : ℕ) (found : Option Opened) (before after : Progress) (lines : List Bytes)
-    → Answers step place found before lines after → IsLeft known before.used remaining → IsLeft known after.used remaining
-left_after known remaining step place None before after lines answers left = λ none.
-    left (sym (ap (λ (state : Progress). package_number input_package state.used) answers.1) ∙ none)
-left_after known remaining step place (Some file) before after lines answers left = λ none.
-    left (sym (ap (λ (state : Progress). package_number input_package state.used) answers.4
-    ∙ place_stays input_package place (Some (record file { history = answers.1 })) before.used) ∙ none)
 
 -- ---- how a package is used
 

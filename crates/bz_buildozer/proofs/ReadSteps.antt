@@ -11,10 +11,10 @@ use Rattle.bz_streams.specs.declared.exit.Cut.{Cut}
 use Rattle.bz_streams.specs.declared.exit.Cut.TheVariants as c
 use Rattle.bz_buildozer.specs.Cuts.{AreClosed, ShowsNothing, UsesInput, OpensInput, ReadsOnce}
 use Rattle.bz_buildozer.specs.Ending.{opened_out, is_input, texts_out}
-use Rattle.bz_buildozer.specs.Run.{Answers, Progress, nothing_done}
-use Rattle.bz_buildozer.specs.Steps.{RunStep, input_package}
-use Rattle.bz_buildozer.proofs.CutSteps.{whole_before, whole_after}
-use Rattle.bz_buildozer.proofs.OpenSteps.{last_is_used, place_stays}
+use Rattle.bz_buildozer.specs.Run.{Progress, nothing_done}
+use Rattle.bz_buildozer.specs.Steps.{input_package}
+use Rattle.bz_buildozer.proofs.CutSteps.{whole_before}
+use Rattle.bz_buildozer.proofs.OpenSteps.{last_is_used}
 
 -- ---- packages without an open file
 
@@ -75,27 +75,15 @@ not_read c.Files later kinds is = is
 some_none : {A : Type 0} (found : Option ℕ) (place : ℕ) → found ≡ Some place → found ≡ None → A
 some_none found place some none = absurd (let e = sym some ∙ none in cc)
 
-answers_use : (step : RunStep) (place : ℕ) (found : Option Opened) (before after : Progress) (lines : List Bytes) → Answers step place found before lines after
-    → UsesInput before.used → UsesInput after.used
-answers_use step place None before after lines answers uses = λ none.
-    uses (sym (ap (λ (state : Progress). package_number input_package state.used) answers.1) ∙ none)
-answers_use step place (Some file) before after lines answers uses = λ none.
-    uses (sym (ap (λ (state : Progress). package_number input_package state.used) answers.4
-    ∙ place_stays input_package place (Some (record file { history = answers.1 })) before.used) ∙ none)
-
 -- A command is done in the file that was opened.
-pub step_there : (step : RunStep) (why later result : Cut) (found : Option ℕ) (place at : ℕ) (before : Progress) (used : List Used) (after : Progress)
+pub step_there : (why later result : Cut) (found : Option ℕ) (at : ℕ) (before : Progress) (used : List Used) (after : Progress)
     → OpensInput why found before.used used → found ≡ Some at → result ≡ first_cut why later → (later ≡ c.Whole) ⊎ (later ≡ c.Memory)
-    → (later ≡ c.Whole → (lines : List Bytes) × Answers step place (file_at place used) (record before { used = used }) lines after)
-    → ReadsOnce result before after
-step_there step why later result found place at before used after opens there is kinds answers = record {
+    → ((current : Bytes) → package_number current after.used ≡ package_number current used) → ReadsOnce result before after
+step_there why later result found at before used after opens there is kinds stays = record {
   failed = λ nothing read. some_none found at there (opens.failed (not_read why later kinds (sym is ∙ read))).0;
   again = λ uses read. let e = sym (opens.again uses).0 ∙ not_read why later kinds (sym is ∙ read) in cc;
   still = λ uses nothing. some_none found at there ((opens.again uses).2 nothing.1);
-  whole = λ whole.
-      let done = answers (whole_after why later (sym is ∙ whole)) in
-      inr (answers_use step place (file_at place used) (record before { used = used }) after done.0 done.1
-      (opens.whole (whole_before why later (sym is ∙ whole))));
+  whole = λ whole. inr (λ none. opens.whole (whole_before why later (sym is ∙ whole)) (sym (stays input_package) ∙ none));
 }
 
 -- There is no open file.

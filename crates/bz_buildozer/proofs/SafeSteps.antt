@@ -80,7 +80,7 @@ others_safe folder now current name (used ∷ more) named apart stay all = (
 )
 
 -- the package of an open file, from which all differ that differ from each
-safe_at : (folder : Folder) (place : ℕ) (used : List Used) (file : Opened) → file_at place used ≡ Some file → AllAreSafe folder used
+pub safe_at : (folder : Folder) (place : ℕ) (used : List Used) (file : Opened) → file_at place used ≡ Some file → AllAreSafe folder used
     → (current : Bytes) × IsSafeOf folder current file × ((other : Bytes) → IsApart other used → current ≢ other)
 safe_at folder place [] file at all = absurd (let e = at in cc)
 safe_at folder zero (used ∷ more) file at all =
@@ -145,6 +145,10 @@ all_meanwhile : (began folder : Folder) (used : List Used) → AllAreSafe folder
 all_meanwhile began folder used all others =
     record { files = λ place file next here there. inl (safe_at folder place used next there all).1.1; others = others }
 
+-- a run may begin where each file is safe
+pub began_safely : (folder : Folder) (used : List Used) → AllAreSafe folder used → IsMeanwhile folder used used folder
+began_safely folder used all = all_meanwhile folder folder used all (λ name unlike aside. refl)
+
 -- ---- a package that is opened
 
 pub file_in_front : (place : ℕ) (used : List Used) (one : Used) (file : Opened) → file_at place used ≡ Some file → file_at place (used ++ one ∷ []) ≡ Some file
@@ -178,7 +182,7 @@ opened_began began folder current used (Some file) apart all others opened =
       opens = subst (λ (beside : Option Bytes). TakesBeside beside current file.name file.read (Some file) []) journal opened.opens;
     }
 
-pub joined : (began folder : Folder) (current : Bytes) (before after : List Used) (found : Option ℕ) → UsesSome folder current found before after
+joined : (began folder : Folder) (current : Bytes) (before after : List Used) (found : Option ℕ) → UsesSome folder current found before after
     → AllAreSafe folder before → IsMeanwhile began before before folder
     → Joins began current before after × AllAreSafe folder after × IsMeanwhile began after after folder
 joined began folder current before after found (inl (place, number, same, at)) all mean =
@@ -194,6 +198,11 @@ joined began folder current before after found (inr (none, inr (file, is, at, op
       subst (λ (used : List Used). IsMeanwhile began used used folder) (sym is) (all_meanwhile began folder (before ++ one ∷ []) more
           (λ name unlike aside. mean.others name (λ place it there. unlike place it (file_in_front place before one it there)) aside)),
     )
+
+pub opened_safely : (folder now : Folder) (current : Bytes) (found : Option ℕ) (before after : List Used) → now ≡ folder → UsesSome folder current found before after
+    → AllAreSafe folder before → AllAreSafe now after
+opened_safely folder now current found before after same uses all =
+    subst (λ (f : Folder). AllAreSafe f after) (sym same) (joined folder folder current before after found uses all (began_safely folder before all)).1
 
 -- the number of the package that is used
 number_last : (current : Bytes) (file : Option Opened) (used : List Used) → package_number current used ≡ None
@@ -312,6 +321,10 @@ module _ {F : Type 0} (files : FilesOf F) (file : Opened) (old new : F) where
       (inl (subst (λ (f : Folder). GoesOn f file.name file.history) (sym same) holds), λ name a b c d. ap (λ (f : Folder). get f name) same)
   at_moment history now holds (inr survives) = (survives.holds, survives.others)
 
+  pub survived : (history : History) (now : Folder) → GoesOn (files.folder old) file.name file.history
+      → (now ≡ files.folder old) ⊎ Survives file.name file.history history (files.folder old) now → Survives file.name file.history history (files.folder old) now
+  survived history now holds is = let both = at_moment history now holds is in record { holds = both.0; others = both.1 }
+
   unmoved : (history : History) → history ≡ file.history → new ≡ old → GoesOn (files.folder old) file.name file.history → GoesOn (files.folder new) file.name history
   unmoved history same still holds =
       subst (GoesOn (files.folder new) file.name) (sym same) (subst (λ (f : F). GoesOn (files.folder f) file.name file.history) (sym still) holds)
@@ -337,7 +350,7 @@ module _ {F : Type 0} (files : FilesOf F) (file : Opened) (old new : F) where
       inr (refl, (file.history, action, note, fault, keeps, between))
 
 -- the file that isn't left alone goes on
-goes_on_there : (folder : Folder) (file : Opened) → file.left ≡ false → IsSafe folder file → GoesOn folder file.name file.history
+pub goes_on_there : (folder : Folder) (file : Opened) → file.left ≡ false → IsSafe folder file → GoesOn folder file.name file.history
 goes_on_there folder file stays (inl safe) = safe.1
 goes_on_there folder file stays (inr left) = absurd (true≢false (sym left.0 ∙ stays))
 

@@ -8,7 +8,7 @@ use Rattle.bz_files.specs.Folder.{Folder, IsReplacing}
 use Rattle.bz_files.specs.declared.files.Files.{Ghosts as FilesOf}
 use Rattle.bz_command_line.specs.declared.line.Options.{Options}
 use Rattle.bz_streams.specs.Exits.{first_cut}
-use Rattle.bz_streams.specs.Faults.{AppendsUnlessFailed, Rises}
+use Rattle.bz_streams.specs.Faults.{Rises}
 use Rattle.bz_streams.specs.Outputs.{Reports}
 use Rattle.bz_streams.specs.Reported.{named_line}
 use Rattle.bz_streams.specs.declared.exit.Cut.{Cut}
@@ -18,7 +18,6 @@ use Rattle.bz_buildozer.specs.Calls.{PrintsSome, PrintsUntil, ReportsLine, Repor
 use Rattle.bz_buildozer.specs.Ending.{Writing, WritesFiles, fixed_lines, fixed_of, writing_of}
 use Rattle.bz_buildozer.specs.Failing.{LeavesUnwritten, TriesFile, TriesFiles}
 use Rattle.bz_buildozer.specs.Packages.{Opened, Used}
-use Rattle.bz_buildozer.specs.Reported.{output_lines}
 use Rattle.bz_buildozer.proofs.FailSteps.{cut_alone, cuts_assoc}
 
 -- what a whole call leaves of the folder, without journals and with them
@@ -127,11 +126,6 @@ tries_more why later options (one ∷ used) last before mid after lines more (fi
 )
 
 -- ---- standard output
-
-pub output_told : (why given : Cut) (f g : ℕ) (old new : Option Bytes) (word : Bytes) → why ≡ given → output_lines given ≡ named_line (codes "<stdout>") word ∷ []
-    → AppendsUnlessFailed f g old new (named_line (codes "<stdout>") word) → Reports f g old new (output_lines why)
-output_told why given f g old new word is says told =
-    subst (Reports f g old new) (sym (ap output_lines is ∙ says)) (g, new, told, (refl, refl))
 
 -- what is reported by a writer that nothing was written to before
 pub reports_from : (f f' g : ℕ) (old old' new : Option Bytes) (lines : List Bytes) → f' ≡ f → old' ≡ old → Reports f' g old' new lines → Reports f g old new lines

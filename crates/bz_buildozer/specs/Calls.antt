@@ -21,7 +21,7 @@ use Rattle.bz_buildozer.specs.Sessions.{Action, Reply}
 use Rattle.bz_buildozer.specs.Cuts.{AreCutBy, IsEndedBy, IsLeft, CutsFiles, ReadsOnce}
 use Rattle.bz_buildozer.specs.Ending.{Left, LeftStands}
 use Rattle.bz_buildozer.specs.Failing.{Ended}
-use Rattle.bz_buildozer.specs.Keeping.{AllAreKept, is_left_at}
+use Rattle.bz_buildozer.specs.Keeping.{is_left_at}
 use Rattle.bz_buildozer.specs.Moments.{AllAreSafe, IsMeanwhile, IsMomentOfSteps}
 use Rattle.bz_buildozer.specs.Run.{World, Progress}
 use Rattle.bz_buildozer.specs.private.Shown.{progress_in}
@@ -142,23 +142,17 @@ spot source files errors run input held err = record {
   faults = errors.faults err;
 }
 
--- This is done from one spot to another in a world with this folder; its lines are printed. (Of standard input all is left until package
--- `-` is used.)
-abbrev pub DoesBetween : Folder → (World → Progress → List Bytes → Progress → Type 0) → RunSpot → RunSpot → Type 0
-DoesBetween folder Does old new = (known : Option Bytes) → IsLeft known old.state.used old.left → (lines : List Bytes)
-    × Does (record { folder = folder; known = known }) old.state lines new.state
+-- This is done from one spot to another, and in the folder; its lines are printed. (Of standard input all is left until package `-` is
+-- used.)
+abbrev pub DoesBetween : (World → Progress → List Bytes → Folder → Progress → Type 0) → RunSpot → RunSpot → Type 0
+DoesBetween Does old new = (known : Option Bytes) → IsLeft known old.state.used old.left → (lines : List Bytes)
+    × Does (record { folder = old.folder; known = known }) old.state lines new.folder new.state
     × IsLeft known new.state.used new.left
     × Reports old.faults new.faults old.reported new.reported lines
 
 -- Nothing is read of standard input, from one spot to another. (Why that is cut.)
 abbrev pub ReadsNoInput : Cut → RunSpot → RunSpot → Type 0
 ReadsNoInput why old new = (new.left ≡ old.left) × (new.read_faults ≡ old.read_faults) × (why ≢ c.Read)
-
--- This is done from one spot to another, and in the folder, where each open file is; and its lines are printed.
-abbrev pub KeepsBetween : (Folder → Progress → List Bytes → Folder → Progress → Type 0) → RunSpot → RunSpot → Type 0
-KeepsBetween Keeps old new = AllAreKept old.folder old.state.used → (lines : List Bytes)
-    × Keeps old.folder old.state lines new.folder new.state
-    × Reports old.faults new.faults old.reported new.reported lines
 
 -- From one spot to another of a run that began with any folder: where each open file was safe each one is again, each folder is at a
 -- moment of these steps, and one that is at a moment of further steps after them is at one of all.
@@ -169,14 +163,16 @@ PassesSafely steps old new = (began : Folder) → AllAreSafe old.folder old.stat
     × ((rest : List RunStep) (now : Folder) → IsMomentOfSteps began rest new.state.used now
     → IsMomentOfSteps began (steps ++ rest) old.state.used now)
 
--- What a run does from one spot to another by these steps, without journals or with them, and why it is cut. Where files are not honest the premise is
--- that only standard input is used. With journals standard input isn't read.
-pub record Proceeds (journals : Bool) (Premise : Type 0) (steps : List RunStep) (Does : Cut → World → Progress → List Bytes → Progress → Type 0)
-    (Keeps : Folder → Progress → List Bytes → Folder → Progress → Type 0) (why : Cut) (old new : RunSpot) : Type 0 where
-  pub does : journals ≡ false → (old.honest ≡ true) ⊎ Premise → DoesBetween old.folder (Does why) old new
-  pub folder : journals ≡ false → (old.honest ≡ true) ⊎ Premise → new.folder ≡ old.folder
+-- What a run is to have: honest files, or no journals and this.
+abbrev pub MayRun : Bool → Bool → Type 0 → Type 0
+MayRun journals honest Premise = (honest ≡ true) ⊎ ((journals ≡ false) × Premise)
+
+-- What a run does from one spot to another by these steps, without journals or with them, where each open file is safe; and why it is cut.
+-- Where files are not honest the premise is that only standard input is used. With journals standard input isn't read.
+pub record Proceeds (journals : Bool) (Premise : Type 0) (steps : List RunStep) (Does : Cut → World → Progress → List Bytes → Folder → Progress → Type 0)
+    (why : Cut) (old new : RunSpot) : Type 0 where
+  pub does : MayRun journals old.honest Premise → (journals ≡ true → AllAreSafe old.folder old.state.used) → DoesBetween (Does why) old new
   pub input : journals ≡ false → Premise → ReadsOnce why old.state new.state
-  pub keeps : journals ≡ true → old.honest ≡ true → why ≡ c.Whole → KeepsBetween Keeps old new
   pub safely : journals ≡ true → old.honest ≡ true → PassesSafely steps old new
   pub unread : journals ≡ true → ReadsNoInput why old new
   pub works : old.sound ≡ true → why ≢ c.Read

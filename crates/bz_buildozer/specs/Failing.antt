@@ -1,14 +1,19 @@
 -- What fails in a run: memory is refused, or a port can't be read or written. Each relation takes why that is cut; where nothing fails
 -- it is what a whole run does.
-use Rattle.std.specs.Prelude.{◌≡◌, ◌≢◌, ◌⊎◌, ◌++◌, Bool, true, false, ℕ, List, [], ◌∷◌, codes, length, if◌then◌else◌, Option, Some, None, Ok, IfOk}
+use Rattle.std.specs.Prelude.{◌≡◌, ◌≢◌, ◌⊎◌, ◌++◌, Bool, true, false, ℕ, List, [], ◌∷◌, codes, length, if◌then◌else◌, Option, Some, None, Ok, Err}
 use Rattle.std.specs.FinMap.{get}
 use Rattle.std.specs.Option.{option_map}
 use Rattle.bz_items.specs.Characters.{Bytes}
 use Rattle.bz_files.specs.Folder.{Folder, IsReplacing, SameBut, new_name}
+use Rattle.bz_journal.specs.declared.keeping.KeepFault.TheVariants.{Pair}
+use Rattle.bz_journal.specs.Keeping.{Keeps}
 use Rattle.bz_command_line.specs.Requested.{Requested}
 use Rattle.bz_command_line.specs.Line.{CommandLine, Given, command_line_of, script}
 use Rattle.bz_command_line.specs.declared.line.Options.{Options}
 use Rattle.bz_resume.specs.Pair.{journal_name}
+use Rattle.bz_resume.specs.Resuming.{Survives}
+use Rattle.bz_resume.specs.declared.pair_fault.PairFault.{PairFault}
+use Rattle.bz_resume.specs.declared.pair_fault.PairFault.TheVariants as f
 use Rattle.bz_streams.specs.Exits.{first_cut}
 use Rattle.bz_streams.specs.Reported.{stdin, named_line}
 use Rattle.bz_streams.specs.declared.exit.Cut.{Cut}
@@ -16,12 +21,15 @@ use Rattle.bz_streams.specs.declared.exit.Cut.TheVariants as c
 use Rattle.bz_buildozer.specs.Ending.{Left, Writing, WritesFiles, fixed_lines, fixed_of, status_of, texts_out, writing_of}
 use Rattle.bz_buildozer.specs.Found.{first_name, found_in, found_second, second_name}
 use Rattle.bz_buildozer.specs.Journals.{OpensBeside, TakesBeside, journal_beside}
+use Rattle.bz_buildozer.specs.Keeping.{AnswersBeside, KeepsHistory, UsesBeside}
+use Rattle.bz_buildozer.specs.Keeps.{after_keeping}
 use Rattle.bz_buildozer.specs.Moments.{RequestsFor}
 use Rattle.bz_buildozer.specs.Outcome.{StandApart, reported_name}
 use Rattle.bz_buildozer.specs.Packages.{Opened, Used, file_at, package_number, with_opened}
-use Rattle.bz_buildozer.specs.Reported.{output_lines, unread_line, unread_status}
+use Rattle.bz_buildozer.specs.Reported.{output_lines, unkept_line, unread_line, unread_status}
 use Rattle.bz_buildozer.specs.Run.{Answers, Progress, Uses, World, ends_run, nothing_done}
-use Rattle.bz_buildozer.specs.Steps.{RunStep, all_steps, input_package, shows_input}
+use Rattle.bz_buildozer.specs.Sessions.{Action, History}
+use Rattle.bz_buildozer.specs.Steps.{RunStep, action_of, all_steps, input_package, shows_input}
 
 -- one line
 abbrev pub AreOneLine : List Bytes → Type 0
@@ -61,18 +69,23 @@ OpensUntil c.Memory journals folder current file lines = (file ≡ None) × AreO
 OpensUntil c.Read journals folder current file lines = ⊥
 OpensUntil c.Write journals folder current file lines = ⊥
 
+-- The package of a step is used as in a run that nothing cuts, without journals or with them.
+abbrev pub UsesWhole : Bool → World → Bytes → List Used → ℕ → List Bytes → List Used → Type 0
+UsesWhole false world current before place lines after = Uses world current before place lines after
+UsesWhole true world current before place lines after = UsesBeside world.folder current before place lines after
+
 -- The package of a step is used, and this is its number where its file is open. One that can't be read has none from now on.
-abbrev pub UsesUntil : Cut → World → Bytes → List Used → Option ℕ → List Bytes → List Used → Type 0
-UsesUntil c.Whole world current before number lines after =
-    (place : ℕ) × Uses world current before place lines after × (number ≡ option_map (λ _. place) (file_at place after))
-UsesUntil c.Files world current before number lines after = (package_number current before ≡ None)
-    × ((file : Option Opened) × OpensUntil c.Files false world.folder current file lines
+abbrev pub UsesUntil : Cut → Bool → World → Bytes → List Used → Option ℕ → List Bytes → List Used → Type 0
+UsesUntil c.Whole journals world current before number lines after =
+    (place : ℕ) × UsesWhole journals world current before place lines after × (number ≡ option_map (λ _. place) (file_at place after))
+UsesUntil c.Files journals world current before number lines after = (package_number current before ≡ None)
+    × ((file : Option Opened) × OpensUntil c.Files journals world.folder current file lines
     × (after ≡ before ++ record { «package» = current; file = file } ∷ []) × (number ≡ option_map (λ _. length before) file))
-UsesUntil c.Read world current before number lines after = (current ≡ input_package) × (package_number current before ≡ None) × (number ≡ None)
-    × (lines ≡ unreadable stdin) × (after ≡ before ++ record { «package» = current; file = None } ∷ [])
-UsesUntil c.Memory world current before number lines after = (number ≡ None) × AreOneLine lines
+UsesUntil c.Read journals world current before number lines after = (journals ≡ false) × (current ≡ input_package) × (package_number current before ≡ None)
+    × (number ≡ None) × (lines ≡ unreadable stdin) × (after ≡ before ++ record { «package» = current; file = None } ∷ [])
+UsesUntil c.Memory journals world current before number lines after = (number ≡ None) × AreOneLine lines
     × ((after ≡ before) ⊎ (after ≡ before ++ record { «package» = current; file = None } ∷ []))
-UsesUntil c.Write world current before number lines after = ⊥
+UsesUntil c.Write journals world current before number lines after = ⊥
 
 -- ---- steps
 
@@ -82,36 +95,73 @@ abbrev pub FailsAt : ℕ → Progress → List Bytes → Progress → Type 0
 FailsAt place state lines after =
     AreOneLine lines × ((file : Option Opened) × (after ≡ record state { used = with_opened place file state.used; failed = true }))
 
--- What a step does in the open file of this number; without one it does nothing and fails.
-abbrev pub AnswersUntil : Cut → RunStep → Option ℕ → Progress → List Bytes → Progress → Type 0
-AnswersUntil c.Whole step None state lines after = (lines ≡ []) × (after ≡ record state { failed = true })
-AnswersUntil c.Whole step (Some place) state lines after = Answers step place (file_at place state.used) state lines after
-AnswersUntil c.Memory step None state lines after = ⊥
-AnswersUntil c.Memory step (Some place) state lines after = FailsAt place state lines after
-AnswersUntil c.Read step number state lines after = ⊥
-AnswersUntil c.Write step number state lines after = ⊥
-AnswersUntil c.Files step number state lines after = ⊥
+-- The open file of this number is kept in the folder with its history.
+abbrev pub IsKeptAt : ℕ → List Used → Folder → Folder → Type 0
+IsKeptAt place used before after = (file : Opened) × (file_at place used ≡ Some file) × KeepsHistory file.name file.history before after
 
-pub record DoesUntil (why : Cut) (world : World) (step : RunStep) (before : Progress) (lines : List Bytes) (after : Progress) : Type 0 where
+-- A step's action is done in the open file of this number, which isn't left alone, and its journal and it could not both be written: that is
+-- reported, the step fails, and the file is left alone from then on. It goes on with the texts of before or after, and holds the present
+-- text of either.
+pub record LeavesUnkept (step : RunStep) (place : ℕ) (folder : Folder) (state : Progress) (lines : List Bytes) (folder' : Folder) (after : Progress) : Type 0 where
+  pub file : Opened
+  pub action : Action
+  pub history : History
+  pub fault : PairFault
+  pub there : file_at place state.used ≡ Some file
+  pub stays : file.left ≡ false
+  pub requested : action_of step.target step.request.verb ≡ Some action
+  pub keeps : Keeps action step.request.text file.history (Err (Pair fault)) history
+  pub failed : (fault ≡ f.Write) ⊎ (fault ≡ f.Open)
+  pub reported : lines ≡ unkept_line file.name fault ∷ []
+  pub survives : Survives file.name file.history history folder folder'
+  pub untouched : fault ≢ f.Write → folder' ≡ folder
+  pub state_is : after ≡ record state { used = with_opened place (Some (after_keeping (Err (Pair fault)) history file)) state.used; failed = true }
+
+-- a file that isn't left alone
+abbrev pub unless_left : Option Opened → Option Opened
+unless_left None = None
+unless_left (Some file) = if file.left then None else Some file
+
+-- What a step does where nothing cuts it, without journals or with them. A file that is left alone is as none.
+abbrev pub AnswersWhole : Bool → RunStep → ℕ → Option Opened → Folder → Progress → List Bytes → Folder → Progress → Type 0
+AnswersWhole false step place file folder state lines folder' after = (folder' ≡ folder) × Answers step place file state lines after
+AnswersWhole true step place file folder state lines folder' after = AnswersBeside step place (unless_left file) folder state lines folder' after
+
+-- What a step does in the open file of this number, and in the folder; without one it does nothing and fails. Where memory is refused the
+-- folder stays, or with journals the file is kept.
+abbrev pub AnswersUntil : Cut → Bool → RunStep → Option ℕ → Folder → Progress → List Bytes → Folder → Progress → Type 0
+AnswersUntil c.Whole journals step None folder state lines folder' after = (lines ≡ []) × (folder' ≡ folder) × (after ≡ record state { failed = true })
+AnswersUntil c.Whole journals step (Some place) folder state lines folder' after =
+    AnswersWhole journals step place (file_at place state.used) folder state lines folder' after
+AnswersUntil c.Memory journals step None folder state lines folder' after = ⊥
+AnswersUntil c.Memory journals step (Some place) folder state lines folder' after =
+    FailsAt place state lines after × ((folder' ≡ folder) ⊎ ((journals ≡ true) × IsKeptAt place after.used folder folder'))
+AnswersUntil c.Read journals step number folder state lines folder' after = ⊥
+AnswersUntil c.Write journals step number folder state lines folder' after = ⊥
+AnswersUntil c.Files journals step None folder state lines folder' after = ⊥
+AnswersUntil c.Files journals step (Some place) folder state lines folder' after = (journals ≡ true) × LeavesUnkept step place folder state lines folder' after
+
+-- Its package is used, and then it is answered. (Whether journals are kept; the folder after it.)
+pub record DoesUntil (why : Cut) (journals : Bool) (world : World) (step : RunStep) (before : Progress) (lines : List Bytes) (folder : Folder) (after : Progress) : Type 0 where
   pub opened : Cut
   pub acted : Cut
   pub number : Option ℕ
   pub used : List Used
   pub opening : List Bytes
   pub answer : List Bytes
-  pub uses : UsesUntil opened world step.target.«package» before.used number opening used
-  pub answers : AnswersUntil acted step number (record before { used = used }) answer after
+  pub uses : UsesUntil opened journals world step.target.«package» before.used number opening used
+  pub answers : AnswersUntil acted journals step number world.folder (record before { used = used }) answer folder after
   pub reported : lines ≡ opening ++ answer
   pub cut : why ≡ first_cut opened acted
 
 -- Steps one after the other: one that failed ends them, unless they are to go on. The first one that was cut says why.
-abbrev pub RunsUntil : Cut → World → Bool → List RunStep → Progress → List Bytes → Progress → Type 0
-RunsUntil why world keep_going [] before lines after = (why ≡ c.Whole) × (lines ≡ []) × (after ≡ before)
-RunsUntil why world keep_going (step ∷ steps) before lines after =
-    ((ends_run keep_going before ≡ true) × (why ≡ c.Whole) × (lines ≡ []) × (after ≡ before))
-    ⊎ ((ends_run keep_going before ≡ false) × ((one : Cut) × (later : Cut) × (mid : Progress) × (first : List Bytes) × (rest : List Bytes)
-    × DoesUntil one world step before first mid × RunsUntil later world keep_going steps mid rest after × (lines ≡ first ++ rest)
-    × (why ≡ first_cut one later)))
+abbrev pub RunsUntil : Cut → Bool → World → Bool → List RunStep → Progress → List Bytes → Folder → Progress → Type 0
+RunsUntil why journals world keep_going [] before lines folder after = (why ≡ c.Whole) × (lines ≡ []) × (folder ≡ world.folder) × (after ≡ before)
+RunsUntil why journals world keep_going (step ∷ steps) before lines folder after =
+    ((ends_run keep_going before ≡ true) × (why ≡ c.Whole) × (lines ≡ []) × (folder ≡ world.folder) × (after ≡ before))
+    ⊎ ((ends_run keep_going before ≡ false) × ((one : Cut) × (later : Cut) × (between : Folder) × (mid : Progress) × (first : List Bytes) × (rest : List Bytes)
+    × DoesUntil one journals world step before first between mid × RunsUntil later journals (record world { folder = between }) keep_going steps mid rest folder after
+    × (lines ≡ first ++ rest) × (why ≡ first_cut one later)))
 
 -- ---- the end of a run
 
@@ -161,10 +211,11 @@ pub record PerformsUntil (options : Options) (steps : List RunStep) (world : Wor
   pub written : Cut
   pub reported : List Bytes
   pub told : List Bytes
+  pub folder : Folder
   pub state : Progress
-  pub runs : RunsUntil stopped world options.keep_going steps nothing_done reported state
+  pub runs : RunsUntil stopped options.journal world options.keep_going steps nothing_done reported folder state
   pub output : ended.left.output ≡ state.printed ++ texts_out (shows_input steps) options.to_stdout state.used
-  pub tries : TriesFiles written options state.used world.folder told ended.left.folder
+  pub tries : TriesFiles written options state.used folder told ended.left.folder
   pub lines : ended.left.lines ≡ reported ++ output_lines ended.printed ++ told
   pub cut : ended.cut ≡ first_cut stopped (first_cut written ended.printed)
   pub status : ended.left.status ≡ status_until ended.cut state
@@ -190,7 +241,3 @@ WordsUntil words world ended = (line : CommandLine) × (command_line_of words �
 -- A port cut the run.
 abbrev pub IsCut : Cut → Type 0
 IsCut why = (why ≢ c.Whole) × (why ≢ c.Memory)
-
--- The words request no journals.
-abbrev pub KeepsNoJournal : List Bytes → Type 0
-KeepsNoJournal words = IfOk (command_line_of words) (λ line. line.options.journal ≡ false)

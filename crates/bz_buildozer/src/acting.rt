@@ -9,11 +9,12 @@ ghost use Rattle.bz_buildozer.specs.Packages.{file_at};
 ghost use Rattle.bz_buildozer.specs.private.ShownFiles.{opened_in, used_in};
 ghost use Rattle.bz_buildozer.specs.Calls.{KeepsSome, KeepsStep, ReportsLine, ReportsLines, WorksOn, spot, Proceeds};
 ghost use Rattle.bz_buildozer.specs.Failing.{AnswersUntil, DoesUntil, FailsAt};
-ghost use Rattle.bz_buildozer.specs.Keeping.{AllAreKept, AnswersBeside, DoesBeside, FolderAfter, is_left_at, state_after};
+ghost use Rattle.bz_buildozer.specs.Keeping.{is_left_at};
+ghost use Rattle.bz_buildozer.specs.Moments.{AllAreSafe};
 ghost use Rattle.bz_buildozer.specs.Reported.{unkept_line};
 ghost use Rattle.bz_buildozer.specs.Run.{printed_in, answered, reported_of};
 ghost use Rattle.bz_buildozer.specs.private.Shown.{progress_in};
-ghost use Rattle.bz_buildozer.specs.Steps.{input_package, step_of};
+ghost use Rattle.bz_buildozer.specs.Steps.{RunStep, action_of, input_package, step_of};
 
 use crate::opening::open_package;
 use crate::reported::{fail, report_refusal};
@@ -171,12 +172,10 @@ fn keep_at<F: Files, E: Sink>(
     err: &mut E,
 ) -> Cut
     requires { IsSome (file_at place run.old.workspace) }
-    ensures whole { F.honest files.old ≡ true → AllAreKept (F.folder files.old) run.old.workspace → result ≡ Cut.Whole
-        → (file : p.Opened) × (answer : Answer) × (history : History) × (file_at place run.old.workspace ≡ Some file)
-        × Leads (action_in action.now) command.now file.history answer history
-        × FolderAfter answer file history (F.folder files.old) (F.folder files.new)
-        × (progress_in run.new ≡ state_after place file answer history (progress_in run.old))
-        × ReportsLines E.Sink err.old err.new (reported_of true file.name command.now answer) }
+    ensures answers { F.honest files.old ≡ true → AllAreSafe (F.folder files.old) run.old.workspace → is_left_at place run.old.workspace ≡ false
+        → (step : RunStep) → action_of step.target step.request.verb ≡ Some (action_in action.now) → step.request.text ≡ command.now → (lines : List (List ℕ))
+        × AnswersUntil result true step (Some place) (F.folder files.old) (progress_in run.old) lines (F.folder files.new) (progress_in run.new)
+        × ReportsLines E.Sink err.old err.new lines }
     ensures keeps { KeepsSome F.Files place (action_in action.now) command.now run.old.workspace run.new.workspace files.old files.new }
     ensures works { WorksOn F.Files result files.old files.new }
 {
@@ -204,17 +203,10 @@ fn act_on<F: Files, E: Sink>(
 ) -> Cut
     requires { IsSome (file_at place run.old.workspace) }
     ensures kinds { journals ≡ false → (result ≡ Cut.Whole) ⊎ (result ≡ Cut.Memory) }
-    ensures answers { journals ≡ false → (lines : List (List ℕ))
-        × AnswersUntil result (step_of target.now (request_in request.now)) (Some place) (progress_in run.old) lines (progress_in run.new)
-        × ReportsLines E.Sink err.old err.new lines }
-    ensures still { journals ≡ false → files.new ≡ files.old }
-    ensures beside { journals ≡ true → F.honest files.old ≡ true → AllAreKept (F.folder files.old) run.old.workspace → result ≡ Cut.Whole
-        → (lines : List (List ℕ)) × AnswersBeside (step_of target.now (request_in request.now)) place (file_at place run.old.workspace)
-        (F.folder files.old) (progress_in run.old) lines (F.folder files.new) (progress_in run.new)
-        × ReportsLines E.Sink err.old err.new lines }
+    ensures answers { (journals ≡ true → F.honest files.old ≡ true) → (journals ≡ true → AllAreSafe (F.folder files.old) run.old.workspace) → (lines : List (List ℕ))
+        × AnswersUntil result journals (step_of target.now (request_in request.now)) (Some place) (F.folder files.old) (progress_in run.old) lines
+        (F.folder files.new) (progress_in run.new) × ReportsLines E.Sink err.old err.new lines }
     ensures keeps { journals ≡ true → KeepsStep F.Files (step_of target.now (request_in request.now)) place run.old.workspace run.new.workspace files.old files.new }
-    ensures left { journals ≡ true → is_left_at place run.old.workspace ≡ true
-        → (result ≡ Cut.Whole) × (files.new ≡ files.old) × (err.new ≡ err.old) × (progress_in run.new ≡ record (progress_in run.old) { failed = true }) }
     ensures works { WorksOn F.Files result files.old files.new }
 {
     if is_left_at(journals, &run.workspace, place) {
@@ -241,8 +233,8 @@ pub(crate) fn do_step<R: Source, F: Files, E: Sink>(
     err: &mut E,
 ) -> Cut
     requires { HasPath target.now }
-    ensures { Proceeds journals (target.now.«package» ≡ input_package) (step_of target.now (request_in request.now) ∷ []) (λ why world. DoesUntil why world (step_of target.now (request_in request.now)))
-        (DoesBeside (step_of target.now (request_in request.now))) result
+    ensures { Proceeds journals (target.now.«package» ≡ input_package) (step_of target.now (request_in request.now) ∷ [])
+        (λ why world. DoesUntil why journals world (step_of target.now (request_in request.now))) result
         (spot R.Source F.Files E.Sink run.old input.old files.old err.old) (spot R.Source F.Files E.Sink run.new input.new files.new err.new) }
 {
     let package = package_of(target);

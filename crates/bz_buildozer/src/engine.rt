@@ -1,5 +1,5 @@
 //! The program buildozer over any reader, writers and files.
-ghost use Rattle.std.specs.Prelude.{bytes_eq, ◌≡◌, ◌≢◌, ◌⊎◌, ◌&&◌, ◌∷◌, [], List, ℕ, Option, true, false, map, Some, Ok, IfOk};
+ghost use Rattle.std.specs.Prelude.{bytes_eq, ◌≡◌, ◌≢◌, ◌⊎◌, ◌&&◌, ◌∷◌, [], List, ℕ, Option, true, map, Some, Ok, IfOk};
 ghost use Rattle.std.specs.List.{All};
 ghost use Rattle.bz_files.specs.Folder.{Folder};
 ghost use Rattle.bz_command_line.specs.Requested as a;
@@ -8,7 +8,7 @@ ghost use Rattle.bz_command_line.specs.Line.{operands as words_given, script};
 ghost use Rattle.bz_command_line.specs.Paths.{HasPath};
 ghost use Rattle.bz_command_line.specs.Script.{script_of};
 ghost use Rattle.bz_command_line.specs.Shown.{requested_in};
-ghost use Rattle.bz_buildozer.specs.Failing.{GivenUntil, IsCut, KeepsNoJournal, PerformsUntil, WordsUntil};
+ghost use Rattle.bz_buildozer.specs.Failing.{GivenUntil, IsCut, PerformsUntil, WordsUntil};
 ghost use Rattle.bz_buildozer.specs.Keeps.{KeepsFolder};
 ghost use Rattle.bz_buildozer.specs.Calls.{ReportsLines, PrintsAll, IsStill, ReadsNothing, world_with, world_of, EndsIn, PassesBy, IsEndedOver, LeavesOutcome};
 ghost use Rattle.bz_buildozer.specs.Moments.{IsMomentOfRun, IsMomentOfSteps};
@@ -52,7 +52,7 @@ fn perform<R: Source, W: Sink, E: Sink, F: Files>(
     requires { All (λ requested. All HasPath requested.targets.items) lines.now }
     ensures leaves { (F.honest files.old ≡ true) ⊎ AreOfInputAndSome (map requested_in lines.now) → LeavesOutcome W.Sink E.Sink F.Files
         (LinesLeave options (map requested_in lines.now) (world_of R.Source F.Files input.old files.old)) result out.old out.new err.old err.new files.new }
-    ensures ends { options.journal ≡ false → (F.honest files.old ≡ true) ⊎ AreOfInputAndSome (map requested_in lines.now) → EndsIn W.Sink E.Sink F.Files
+    ensures ends { (F.honest files.old ≡ true) ⊎ AreOfInputAndSome (map requested_in lines.now) → IsCut result.cut → EndsIn W.Sink E.Sink F.Files
         (PerformsUntil options (all_steps (map requested_in lines.now)) (world_of R.Source F.Files input.old files.old)) result out.old out.new err.old err.new files.new }
     ensures unread { options.journal ≡ true → names_input (map requested_in lines.now) ≡ true → (input.new ≡ input.old) × (out.new ≡ out.old) × (files.new ≡ files.old) }
     ensures reads_nothing { options.journal ≡ true → ReadsNothing R.Source result.cut input.old input.new }
@@ -89,7 +89,7 @@ fn run_operands<R: Source, W: Sink, E: Sink, F: Files>(
 ) -> Exit
     ensures leaves { (F.honest files.old ≡ true) ⊎ IsOfInput (words_given (map (λ s. s.now) operands.now)) → LeavesOutcome W.Sink E.Sink F.Files
         (OperandsOutcome options (map (λ s. s.now) operands.now) (world_of R.Source F.Files input.old files.old)) result out.old out.new err.old err.new files.new }
-    ensures ends { options.journal ≡ false → (F.honest files.old ≡ true) ⊎ IsOfInput (words_given (map (λ s. s.now) operands.now)) → IsCut result.cut → EndsIn W.Sink E.Sink F.Files
+    ensures ends { (F.honest files.old ≡ true) ⊎ IsOfInput (words_given (map (λ s. s.now) operands.now)) → IsCut result.cut → EndsIn W.Sink E.Sink F.Files
         (GivenUntil options (words_given (map (λ s. s.now) operands.now)) (world_of R.Source F.Files input.old files.old)) result out.old out.new err.old err.new files.new }
     ensures unread { GivesNothing options (words_given (map (λ s. s.now) operands.now)) → (input.new ≡ input.old) × (out.new ≡ out.old) × (files.new ≡ files.old) }
     ensures unused { result.status ≡ 1 → (input.new ≡ input.old) × (out.new ≡ out.old) × (files.new ≡ files.old) }
@@ -132,7 +132,7 @@ fn run_text<R: Source, W: Sink, E: Sink, F: Files>(
     ensures leaves { F.honest files.old ≡ true → (known : Option (List ℕ)) → (name.now ≢ input_package → known ≡ R.remaining input.old)
         → LeavesOutcome W.Sink E.Sink F.Files (TextOutcome options name.now (Some bytes.now) (world_with F.Files files.old known))
         result out.old out.new err.old err.new files.new }
-    ensures ends { options.journal ≡ false → F.honest files.old ≡ true → IsCut result.cut → EndsIn W.Sink E.Sink F.Files (λ ended. (lines : List a.Requested)
+    ensures ends { F.honest files.old ≡ true → IsCut result.cut → EndsIn W.Sink E.Sink F.Files (λ ended. (lines : List a.Requested)
         × (script_of bytes.now ≡ Ok lines) × PerformsUntil options (all_steps lines) (world_of R.Source F.Files input.old files.old) ended)
         result out.old out.new err.old err.new files.new }
     ensures unused { result.status ≡ 1 → (input.new ≡ input.old) × (out.new ≡ out.old) × (files.new ≡ files.old) }
@@ -181,7 +181,7 @@ fn run_script<R: Source, W: Sink, E: Sink, F: Files>(
 ) -> Exit
     ensures leaves { F.honest files.old ≡ true → LeavesOutcome W.Sink E.Sink F.Files
         (ScriptOutcome options name.now (world_of R.Source F.Files input.old files.old)) result out.old out.new err.old err.new files.new }
-    ensures ends { options.journal ≡ false → F.honest files.old ≡ true → IsCut result.cut → EndsIn W.Sink E.Sink F.Files
+    ensures ends { F.honest files.old ≡ true → IsCut result.cut → EndsIn W.Sink E.Sink F.Files
         (GivenUntil options (script name.now) (world_of R.Source F.Files input.old files.old)) result out.old out.new err.old err.new files.new }
     ensures unused { result.status ≡ 1 → out.new ≡ out.old }
     ensures unused_input { result.status ≡ 1 → name.now ≢ input_package → input.new ≡ input.old }
@@ -226,9 +226,9 @@ pub fn buildozer<S: AsStr, R: Source, W: Sink, E: Sink, F: Files>(
     ensures leaves { (F.honest files.old ≡ true) ⊎ NamesNoFile (map S.text words.now) → LeavesOutcome W.Sink E.Sink F.Files
         (WordsOutcome (map S.text words.now) (world_of R.Source F.Files input.old files.old)) result out.old out.new err.old err.new files.new }
 
-    // What a port cuts leaves what the words mean where this fails: what was done before, the line of each failure, all that standard output
-    // is to be given unless it failed itself, and each file tried.
-    ensures ends { (F.honest files.old ≡ true) ⊎ NamesNoFile (map S.text words.now) → KeepsNoJournal (map S.text words.now) → IsCut result.cut
+    // What a port cuts leaves what the words mean where this fails, with journals too: what was done before, the line of each failure, all that
+    // standard output is to be given unless it failed itself, and each file tried.
+    ensures ends { (F.honest files.old ≡ true) ⊎ NamesNoFile (map S.text words.now) → IsCut result.cut
         → EndsIn W.Sink E.Sink F.Files (WordsUntil (map S.text words.now) (world_of R.Source F.Files input.old files.old)) result out.old out.new err.old err.new files.new }
 
     // Words that request nothing leave the input, the output and the files as they were.

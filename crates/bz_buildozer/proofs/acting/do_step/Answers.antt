@@ -1,22 +1,18 @@
-use Rattle.std.proofs.Common.{◌≡◌, ◌∙◌, ◌++◌, true, refl, ap, sym, subst, List, [], Some, None}
+use Rattle.std.proofs.Common.{◌≡◌, ◌∙◌, ◌++◌, inl, true, true≢false, refl, sym, subst, List, [], Some, None}
 use Rattle.std.proofs.lemmas.List.{append-nil}
 use Rattle.bz_command_line.specs.Shown.{request_in}
 use Rattle.bz_streams.proofs.Outputs.{counts_more, reports_more}
-use Rattle.bz_files.specs.Folder.{Folder}
 use Rattle.bz_items.specs.Characters.{Bytes}
-use Rattle.bz_streams.specs.declared.exit.Cut.{Cut}
 use Rattle.bz_streams.specs.declared.exit.Cut.TheVariants as cut
 use Rattle.bz_buildozer.specs.Calls.{UsesSome}
-use Rattle.bz_buildozer.specs.Failing.{AnswersUntil, DoesUntil}
-use Rattle.bz_buildozer.specs.Keeping.{AllAreKept}
+use Rattle.bz_buildozer.specs.Failing.{DoesUntil}
 use Rattle.bz_buildozer.specs.Run.{World}
 use Rattle.bz_buildozer.specs.private.Shown.{progress_in}
 use Rattle.bz_buildozer.specs.Steps.{input_package, step_of}
-use Rattle.bz_buildozer.proofs.CutSteps.{both_whole, by_name, cut_after, neither_read, works_unread}
-use Rattle.bz_buildozer.proofs.DoSteps.{beside_there, beside_nowhere}
-use Rattle.bz_buildozer.proofs.FailSteps.{cut_alone, does_until, left_until}
-use Rattle.bz_buildozer.proofs.SafeSteps.{step_acted, step_still}
-use Rattle.bz_buildozer.proofs.StandSteps.{uses_stand}
+use Rattle.bz_buildozer.proofs.CutSteps.{by_name, cut_after, neither_read, works_unread}
+use Rattle.bz_buildozer.proofs.FailSteps.{cut_alone, does_until, left_until, stay_used}
+use Rattle.bz_buildozer.proofs.RunSteps.{honest_kept}
+use Rattle.bz_buildozer.proofs.SafeSteps.{opened_safely, step_acted, step_still}
 use Rattle.bz_buildozer.proofs.ReadSteps.{step_there, step_nowhere}
 use Rattle.bz_buildozer.proofs.acting.do_step.Goals as goal
 
@@ -35,40 +31,33 @@ returns-in-Some g c =
     let works = c.act_on.ensures.works in
     let unread = works_unread c.act_on.result (g.F.Files.faults opening.new.files) (g.F.Files.faults c.act_on.new.files) works.cut in
     record {
-      does = λ plain can known left.
-          let world : World = record { folder = g.F.Files.folder c.args.files.now; known = known } in
-          let opened = opening.ensures.uses plain (by_name is_honest name c.args.target.now.«package» input_package named can) known left in
-          let done = c.act_on.ensures.answers plain in (
+      does = λ can safe known left.
+          let world : World = record { folder = folder c.args.files.now; known = known } in
+          let here = by_name is_honest c.args.journals name c.args.target.now.«package» input_package named can in
+          let opened = opening.ensures.uses here known left in
+          let same = opening.ensures.folder here in
+          let kept = λ (is : c.args.journals ≡ true). honest_kept c.args.journals (g.F.Files.honest c.args.files.now) (c.args.target.now.«package» ≡ input_package) can is in
+          let done = c.act_on.ensures.answers (λ is. opening.ensures.honest ∙ kept is) (λ is.
+          opened_safely (folder c.args.files.now) (folder opening.new.files) name opening.result.place before.used used same (opening.ensures.some is (kept is)) (safe is)) in (
             opened.0 ++ done.0,
-            does_until world step before after used opening.result.cut c.act_on.result c.first_cut.result opening.result.place (Some at) name opened.0 done.0 named
-                opened.1 c.in-Some.is done.1 c.first_cut.ensures,
-            left_until c.act_on.result known (g.R.Source.remaining opening.new.input) step (Some at) (record before { used = used }) after done.0 done.1 opened.2,
+            does_until c.args.journals world step before after used opening.result.cut c.act_on.result c.first_cut.result opening.result.place (Some at) name opened.0 done.0
+                (folder opening.new.files) (folder c.act_on.new.files) named opened.1 c.in-Some.is same done.1 c.first_cut.ensures,
+            left_until c.act_on.result c.args.journals known (g.R.Source.remaining opening.new.input) step (Some at) (folder opening.new.files) (folder c.act_on.new.files)
+                (record before { used = used }) after done.0 done.1 opened.2,
             reports_more (g.E.Sink.faults c.args.err.now) (g.E.Sink.faults opening.new.err) (g.E.Sink.faults c.act_on.new.err)
                 (g.E.Sink.contents c.args.err.now) (g.E.Sink.contents opening.new.err) (g.E.Sink.contents c.act_on.new.err) opened.0 done.0 opened.3 done.2,
           );
-      folder = λ plain can. ap g.F.Files.folder (c.act_on.ensures.still plain)
-          ∙ opening.ensures.folder plain (by_name is_honest name c.args.target.now.«package» input_package named can);
       input = λ plain is.
-          step_there step opening.result.cut c.act_on.result c.first_cut.result opening.result.place at at before used after
+          step_there opening.result.cut c.act_on.result c.first_cut.result opening.result.place at before used after
           (opening.ensures.input plain (named ∙ is)) c.in-Some.is c.first_cut.ensures (c.act_on.ensures.kinds plain)
-          (λ whole. let done = c.act_on.ensures.answers plain in
-          (done.0, subst (λ (it : Cut). AnswersUntil it step (Some at) (record before { used = used }) done.0 after) whole done.1));
-      keeps = λ kept honest whole stand.
-          let both = both_whole opening.result.cut c.act_on.result c.first_cut.result c.first_cut.ensures whole in
-          let opened = opening.ensures.beside kept honest both.0 in
-          let still = opening.ensures.kept kept honest in
-          let stood = uses_stand (folder c.args.files.now) name before.used opened.0 opened.1 used opened.2 stand in
-          let done = c.act_on.ensures.beside kept (opening.ensures.honest ∙ honest) (subst (λ (f : Folder). AllAreKept f used) (sym still) stood) both.1 in (
-            opened.1 ++ done.0,
-            beside_there step (folder c.args.files.now) (folder opening.new.files) (folder c.act_on.new.files) before after used opening.result.place opened.0 at name
-                opened.1 done.0 named still opened.2 c.in-Some.is opened.3 done.1,
-            reports_more (g.E.Sink.faults c.args.err.now) (g.E.Sink.faults opening.new.err) (g.E.Sink.faults c.act_on.new.err)
-                (g.E.Sink.contents c.args.err.now) (g.E.Sink.contents opening.new.err) (g.E.Sink.contents c.act_on.new.err) opened.1 done.0 opened.4 done.2,
-          );
+          (λ current.
+          let done = c.act_on.ensures.answers (λ kept. absurd (true≢false (sym kept ∙ plain))) (λ kept. absurd (true≢false (sym kept ∙ plain))) in
+          stay_used c.act_on.result c.args.journals current step (Some at) (folder opening.new.files) (folder c.act_on.new.files) (record before { used = used }) after
+          done.0 done.1);
       safely = λ kept honest began.
           step_acted g.F.Files g.met.F.Files.counts_now began step at before.used used after.used opening.result.place c.args.files.now opening.new.files
           c.act_on.new.files (subst (λ (n : Bytes). UsesSome (folder c.args.files.now) n opening.result.place before.used used) named (opening.ensures.some kept honest))
-          c.in-Some.is (opening.ensures.kept kept honest) (opening.ensures.time kept honest) (opening.ensures.honest ∙ honest) (c.act_on.ensures.keeps kept);
+          c.in-Some.is (opening.ensures.folder (inl honest)) (opening.ensures.time kept honest) (opening.ensures.honest ∙ honest) (c.act_on.ensures.keeps kept);
       unread = λ kept.
           let same = opening.ensures.unread kept in (
             same.0,
@@ -96,34 +85,28 @@ returns-in-None g c =
     let before = progress_in c.args.run.now in
     let used = opening.new.workspace in
     record {
-      does = λ plain can known left.
-          let opened = opening.ensures.uses plain (by_name is_honest name c.args.target.now.«package» input_package named can) known left in
-          let step = step_of c.args.target.now (request_in c.args.request.now) in (
+      does = λ can safe known left.
+          let here = by_name is_honest c.args.journals name c.args.target.now.«package» input_package named can in
+          let opened = opening.ensures.uses here known left in
+          let step = step_of c.args.target.now (request_in c.args.request.now) in
+          let world : World = record { folder = folder c.args.files.now; known = known } in (
             opened.0,
-            subst (λ (lines : List Bytes). DoesUntil opening.result.cut (record { folder = g.F.Files.folder c.args.files.now; known = known }) step before lines
+            subst (λ (lines : List Bytes). DoesUntil opening.result.cut c.args.journals world step before lines (folder opening.new.files)
                 (record before { used = used; failed = true })) (append-nil opened.0)
-                (does_until (record { folder = g.F.Files.folder c.args.files.now; known = known }) step before (record before { used = used; failed = true }) used
-                opening.result.cut cut.Whole opening.result.cut opening.result.place None name opened.0 [] named opened.1 c.in-None.is (refl, refl)
-                (sym (cut_alone opening.result.cut))),
+                (does_until c.args.journals world step before (record before { used = used; failed = true }) used
+                opening.result.cut cut.Whole opening.result.cut opening.result.place None name opened.0 [] (folder opening.new.files) (folder opening.new.files) named opened.1
+                c.in-None.is (opening.ensures.folder here) (refl, refl, refl) (sym (cut_alone opening.result.cut))),
             opened.2,
             opened.3,
           );
-      folder = λ plain can. opening.ensures.folder plain (by_name is_honest name c.args.target.now.«package» input_package named can);
       input = λ plain is.
           step_nowhere opening.result.cut opening.result.place before used (record before { used = used; failed = true })
           (opening.ensures.input plain (named ∙ is)) refl;
-      keeps = λ kept honest whole stand.
-          let opened = opening.ensures.beside kept honest whole in (
-            opened.1,
-            beside_nowhere (step_of c.args.target.now (request_in c.args.request.now)) (folder c.args.files.now) (folder opening.new.files) before used
-                opening.result.place opened.0 name opened.1 named (opening.ensures.kept kept honest) opened.2 c.in-None.is opened.3,
-            opened.4,
-          );
       safely = λ kept honest began.
           step_still g.F.Files g.met.F.Files.counts_now began (step_of c.args.target.now (request_in c.args.request.now)) before.used used used opening.result.place
           c.args.files.now opening.new.files
           (subst (λ (n : Bytes). UsesSome (folder c.args.files.now) n opening.result.place before.used used) named (opening.ensures.some kept honest))
-          (opening.ensures.kept kept honest) (opening.ensures.time kept honest) refl;
+          (opening.ensures.folder (inl honest)) (opening.ensures.time kept honest) refl;
       unread = opening.ensures.unread;
       works = opening.ensures.works;
       sound = opening.ensures.sound;

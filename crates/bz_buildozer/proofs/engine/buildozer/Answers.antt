@@ -6,7 +6,7 @@ use Rattle.bz_streams.proofs.Outputs.{appends_nothing}
 use Rattle.bz_buildozer.specs.Outcome.{GivesNothing, LineGivesNothing}
 use Rattle.bz_buildozer.specs.Run.{World}
 use Rattle.bz_buildozer.proofs.Outcomes.{leaves_more, unwritten, line_usage_reported, words_refused, words_done, words_kept, words_premise, words_of_input, script_premise}
-use Rattle.bz_buildozer.proofs.EndedSteps.{ends_more, not_cut, words_plain, words_until}
+use Rattle.bz_buildozer.proofs.EndedSteps.{ends_more, not_cut, words_until}
 use Rattle.bz_buildozer.proofs.MomentSteps.{by_words, each_of, no_words}
 use Rattle.bz_buildozer.proofs.UnusedSteps.{no_time, lines_apart, lines_of_input}
 use Rattle.bz_buildozer.proofs.UsageSteps.{words_reported, given_reported}
@@ -163,10 +163,10 @@ returns-clause-moments g c honest =
     (g.met.F.Files.only_now c.args.files.now) (c.run_script.ensures.moments kept honest))
 
 pub returns-in-Err-clause-ends : goal.returns-in-Err-clause-ends
-returns-in-Err-clause-ends g c premise plain is_cut = not_cut c.report_line_usage.result c.report_line_usage.ensures.cut is_cut
+returns-in-Err-clause-ends g c premise is_cut = not_cut c.report_line_usage.result c.report_line_usage.ensures.cut is_cut
 
 pub returns-in-Operands-clause-ends : goal.returns-in-Operands-clause-ends
-returns-in-Operands-clause-ends g c premise plain is_cut =
+returns-in-Operands-clause-ends g c premise is_cut =
     let words = map g.S.AsStr.text c.args.words.now in
     let line = line_in c.in-Ok.line in
     let texts = map (λ (s : Bor (List ℕ)). s.now) c.deref.result.now in
@@ -174,11 +174,10 @@ returns-in-Operands-clause-ends g c premise plain is_cut =
     let world : World = record { folder = g.F.Files.folder c.args.files.now; known = g.R.Source.remaining c.args.input.now } in
     ends_more g.W.Sink g.E.Sink g.F.Files _ _ c.run_operands.result c.args.out.now c.run_operands.new.out c.args.err.now c.run_operands.new.err c.run_operands.new.files
     (λ ended. words_until words line (operands texts) world ended c.in-Ok.ensures.ok same)
-    (c.run_operands.ensures.ends (words_plain words line c.in-Ok.ensures.ok plain)
-    (words_premise (g.F.Files.honest c.args.files.now) words line (operands texts) c.in-Ok.ensures.ok same premise) is_cut)
+    (c.run_operands.ensures.ends (words_premise (g.F.Files.honest c.args.files.now) words line (operands texts) c.in-Ok.ensures.ok same premise) is_cut)
 
 pub returns-clause-ends : goal.returns-clause-ends
-returns-clause-ends g c premise plain is_cut =
+returns-clause-ends g c premise is_cut =
     let words = map g.S.AsStr.text c.args.words.now in
     let line = line_in c.in-Ok.line in
     let name = c.in-Script.name.now in
@@ -188,4 +187,4 @@ returns-clause-ends g c premise plain is_cut =
     (words_premise (g.F.Files.honest c.args.files.now) words line (script name) c.in-Ok.ensures.ok same premise) in
     ends_more g.W.Sink g.E.Sink g.F.Files _ _ c.run_script.result c.args.out.now c.run_script.new.out c.args.err.now c.run_script.new.err c.run_script.new.files
     (λ ended. words_until words line (script name) world ended c.in-Ok.ensures.ok same)
-    (c.run_script.ensures.ends (words_plain words line c.in-Ok.ensures.ok plain) honest is_cut)
+    (c.run_script.ensures.ends honest is_cut)

@@ -1,17 +1,16 @@
-use Rattle.std.proofs.Common.{append_assoc, [], ◌++◌, Bool, ◌∙◌, true≢false, inl, inr, refl, map, ap, subst, sym}
+use Rattle.std.proofs.Common.{append_assoc, [], ◌≡◌, ◌⊎◌, ◌++◌, Bool, ◌∙◌, true≢false, inl, inr, refl, map, ap, subst, sym}
 use Rattle.bz_command_line.specs.Shown.{requested_in}
 use Rattle.bz_streams.specs.Outputs.{Reports}
 use Rattle.bz_streams.proofs.Outputs.{reports_more}
 use Rattle.bz_buildozer.specs.Calls.{PassesBy, PrintsUntil}
 use Rattle.bz_buildozer.specs.Ending.{texts_out}
-use Rattle.bz_buildozer.specs.Keeping.{AllAreKept}
-use Rattle.bz_buildozer.specs.Moments.{AllAreSafe, IsMeanwhile, IsMomentOfSteps}
-use Rattle.bz_buildozer.specs.Outcome.{AreOfInput, unused}
+use Rattle.bz_buildozer.specs.Moments.{IsMeanwhile, IsMomentOfSteps}
+use Rattle.bz_buildozer.specs.Outcome.{unused}
 use Rattle.bz_buildozer.specs.Run.{World, Progress}
+use Rattle.bz_streams.specs.declared.exit.Cut.TheVariants as cut
 use Rattle.bz_buildozer.specs.private.Shown.{progress_in}
 use Rattle.bz_buildozer.specs.Steps.{all_steps, names_input}
-use Rattle.bz_buildozer.proofs.FailSteps.{whole_runs}
-use Rattle.bz_buildozer.proofs.Performing.{ended_until, input_premise, performs_until, status_is, performed, performed_beside, broken_off, broken_beside, honest_still, uncut, reported_apart, plain_premise, kept_premise}
+use Rattle.bz_buildozer.proofs.Performing.{begins_safely, broken_off, ended_until, honest_still, performed, performs_until, reported_apart, status_is, steps_leave, uncut}
 use Rattle.bz_buildozer.specs.Reported.{no_journal_line, output_lines}
 use Rattle.bz_buildozer.proofs.Outcomes.{both_true, lines_premise, stands_unused, reported_once}
 use Rattle.bz_buildozer.proofs.MomentSteps.{unused_yet}
@@ -56,86 +55,59 @@ returns-clause-unread g c kept named =
 pub returns-clause-leaves : goal.returns-clause-leaves
 returns-clause-leaves g c given =
     let neither = sym c.lacks_journal.ensures ∙ c.if-lacks_journal.false in
-    let premise = lines_premise (g.F.Files.honest c.args.files.now) c.args.options.journal (map requested_in c.args.lines.now) neither given in
     let ran = c.run_lines-cut in
     let lines = map requested_in c.args.lines.now in
     let folder = g.F.Files.folder in
+    let is_honest = g.F.Files.honest c.args.files.now in
     let known = g.R.Source.remaining c.args.input.now in
     let world : World = record { folder = folder c.args.files.now; known = known } in
     let options = c.args.options in
-    let begun_is = c.begun-run.ensures in
     let start = progress_in c.begun-run.result in
     let state = progress_in ran.new.run in
     let shown = c.shows_input-shown.ensures ∙ sym (shown_by_lines c.args.lines.now) in
+    let can = lines_premise is_honest options.journal lines neither given in
+    let done = ran.ensures.does can (λ kept. begins_safely (folder c.args.files.now) start c.begun-run.ensures) known (λ _. refl) in
+    let still = honest_still is_honest (g.F.Files.honest ran.new.files) options.journal options.to_stdout ran.result world options.keep_going lines start done.0
+    (folder ran.new.files) state ran.ensures.honest c.begun-run.ensures done.1 can in
+    let leaves = λ (whole : ran.result ≡ cut.Whole) (end : (c.finish.result.cut ≡ cut.Whole) ⊎ (c.finish.result.cut ≡ cut.Write)).
+    steps_leave options (all_steps lines) world ran.result start done.0 state (folder ran.new.files) (folder c.finish.new.files) whole c.begun-run.ensures done.1
+    (λ plain. c.finish.ensures.writes plain (still plain) whole end) (λ kept. ap folder (c.finish.ensures.kept kept)) in
     record {
       whole = λ is_whole.
           let ended = c.finish.ensures.whole is_whole in
-          elim (reported_apart options.journal) [
-            | inl plain ↦
-                let can = plain_premise (g.F.Files.honest c.args.files.now) options.journal (AreOfInput lines) premise in
-                let done = ran.ensures.does plain can known (λ _. refl) in
-                let runs = whole_runs ran.result world options.keep_going (all_steps lines) start state done.0 ended.0 done.1 in
-                let still = honest_still (g.F.Files.honest c.args.files.now) (g.F.Files.honest ran.new.files) options.to_stdout ran.result world
-                options.keep_going lines start done.0 state ran.ensures.honest begun_is done.1 can in
-                performed options lines world start done.0 state c.shows_input-shown.result c.finish.result.status
-                (folder ran.new.files) (folder c.finish.new.files) (g.W.Sink.contents c.args.out.now) (g.W.Sink.contents c.finish.new.out)
-                (g.E.Sink.faults c.args.err.now) (g.E.Sink.faults ran.new.err) (g.E.Sink.faults c.finish.new.err)
-                (g.E.Sink.contents c.args.err.now) (g.E.Sink.contents ran.new.err) (g.E.Sink.contents c.finish.new.err)
-                neither plain begun_is runs shown ended.1 (ran.ensures.folder plain can) (c.finish.ensures.writes plain still ended.0 (inl is_whole))
-                ended.2 done.3 ended.5
-            | inr kept ↦
-                let honest = kept_premise (g.F.Files.honest c.args.files.now) options.journal (AreOfInput lines) kept premise in
-                let done = ran.ensures.keeps kept honest ended.0 (subst (λ (from : Progress). AllAreKept (folder c.args.files.now) from.used) (sym begun_is) tt) in
-                performed_beside options lines world start done.0 state c.shows_input-shown.result c.finish.result.status
-                (folder ran.new.files) (folder c.finish.new.files) (g.W.Sink.contents c.args.out.now) (g.W.Sink.contents c.finish.new.out)
-                (g.E.Sink.faults c.args.err.now) (g.E.Sink.faults ran.new.err) (g.E.Sink.faults c.finish.new.err)
-                (g.E.Sink.contents c.args.err.now) (g.E.Sink.contents ran.new.err) (g.E.Sink.contents c.finish.new.err)
-                neither kept begun_is done.1 shown ended.1 (ap folder (c.finish.ensures.kept kept)) ended.2 done.2 ended.5
-          ];
+          performed options lines world done.0 state c.shows_input-shown.result c.finish.result.status (folder c.finish.new.files)
+          (g.W.Sink.contents c.args.out.now) (g.W.Sink.contents c.finish.new.out) (g.E.Sink.faults c.args.err.now) (g.E.Sink.faults ran.new.err)
+          (g.E.Sink.faults c.finish.new.err) (g.E.Sink.contents c.args.err.now) (g.E.Sink.contents ran.new.err) (g.E.Sink.contents c.finish.new.err)
+          neither (leaves ended.0 (inl is_whole)) shown ended.1 ended.2 done.3 ended.5;
       write = λ is_write.
           let ended = c.finish.ensures.write is_write (λ is. uncut ran.result (g.R.Source.faults c.args.input.now) (g.R.Source.faults ran.new.input)
           (g.F.Files.faults c.args.files.now) (g.F.Files.faults ran.new.files) is ran.ensures.cut) in
-          elim (reported_apart options.journal) [
-            | inl plain ↦
-                let can = plain_premise (g.F.Files.honest c.args.files.now) options.journal (AreOfInput lines) premise in
-                let done = ran.ensures.does plain can known (λ _. refl) in
-                let runs = whole_runs ran.result world options.keep_going (all_steps lines) start state done.0 ended.0 done.1 in
-                let still = honest_still (g.F.Files.honest c.args.files.now) (g.F.Files.honest ran.new.files) options.to_stdout ran.result world
-                options.keep_going lines start done.0 state ran.ensures.honest begun_is done.1 can in
-                broken_off options lines world start done.0 state c.shows_input-shown.result (folder ran.new.files) (folder c.finish.new.files)
-                (g.W.Sink.contents c.args.out.now) (g.W.Sink.contents c.finish.new.out) neither plain begun_is runs shown
-                (ran.ensures.folder plain can) (c.finish.ensures.writes plain still ended.0 (inr is_write)) ended.1
-            | inr kept ↦
-                let honest = kept_premise (g.F.Files.honest c.args.files.now) options.journal (AreOfInput lines) kept premise in
-                let done = ran.ensures.keeps kept honest ended.0 (subst (λ (from : Progress). AllAreKept (folder c.args.files.now) from.used) (sym begun_is) tt) in
-                broken_beside options lines world start done.0 state c.shows_input-shown.result (folder ran.new.files) (folder c.finish.new.files)
-                (g.W.Sink.contents c.args.out.now) (g.W.Sink.contents c.finish.new.out) neither kept begun_is done.1 shown
-                (ap folder (c.finish.ensures.kept kept)) ended.1
-          ];
+          broken_off options lines world done.0 state c.shows_input-shown.result (folder c.finish.new.files) (g.W.Sink.contents c.args.out.now)
+          (g.W.Sink.contents c.finish.new.out) neither (leaves ended.0 (inr is_write)) shown ended.1;
     }
 
 pub returns-then-lacks_journal-clause-ends : goal.returns-then-lacks_journal-clause-ends
-returns-then-lacks_journal-clause-ends g c plain premise =
-    absurd (true≢false (sym (both_true c.args.options.journal (names_input (map requested_in c.args.lines.now)) (sym c.lacks_journal.ensures ∙ c.if-lacks_journal.true)).0 ∙ plain))
+returns-then-lacks_journal-clause-ends g c premise is_cut = absurd (is_cut.0 refl)
 
 pub returns-clause-ends : goal.returns-clause-ends
-returns-clause-ends g c plain premise =
+returns-clause-ends g c given is_cut =
     let ran = c.run_lines-cut in
     let options = c.args.options in
     let lines = map requested_in c.args.lines.now in
     let folder = g.F.Files.folder in
+    let is_honest = g.F.Files.honest c.args.files.now in
     let known = g.R.Source.remaining c.args.input.now in
     let world : World = record { folder = folder c.args.files.now; known = known } in
+    let start = progress_in c.begun-run.result in
     let state = progress_in ran.new.run in
-    let can = input_premise (g.F.Files.honest c.args.files.now) lines premise in
-    let done = ran.ensures.does plain can known (λ _. refl) in
-    let still = honest_still (g.F.Files.honest c.args.files.now) (g.F.Files.honest ran.new.files) options.to_stdout ran.result world
-    options.keep_going lines (progress_in c.begun-run.result) done.0 state ran.ensures.honest c.begun-run.ensures done.1 can in
-    let ends = c.finish.ensures.ends (λ _. still) in
+    let can = lines_premise is_honest options.journal lines (sym c.lacks_journal.ensures ∙ c.if-lacks_journal.false) given in
+    let done = ran.ensures.does can (λ kept. begins_safely (folder c.args.files.now) start c.begun-run.ensures) known (λ _. refl) in
+    let ends = c.finish.ensures.ends (honest_still is_honest (g.F.Files.honest ran.new.files) options.journal options.to_stdout ran.result world options.keep_going lines start done.0
+    (folder ran.new.files) state ran.ensures.honest c.begun-run.ensures done.1 can) in
     let ended = ended_until options (all_steps lines) state (folder c.finish.new.files) done.0 ends.2 c.finish.result ends.0 in (
       ended,
-      performs_until options (all_steps lines) world (progress_in c.begun-run.result) state (folder ran.new.files) (folder c.finish.new.files) done.0 ends.2 c.finish.result ran.result
-          ends.1 ends.0 c.begun-run.ensures done.1 (ran.ensures.folder plain can) ends.3 ends.6
+      performs_until options (all_steps lines) world start state (folder ran.new.files) (folder c.finish.new.files) done.0 ends.2 c.finish.result ran.result
+          ends.1 ends.0 c.begun-run.ensures done.1 ends.3 ends.6
           (status_is c.finish.result.cut c.finish.result.status state c.finish.ensures.status (λ whole. (c.finish.ensures.whole whole).1)),
       record {
         exit_is = refl;
@@ -172,7 +144,7 @@ returns-clause-moments g c kept honest =
     let folder = files.folder c.args.files.now in
     let steps = all_steps (map requested_in c.args.lines.now) in
     let begun_is = c.begun-run.ensures in
-    let done = ran.ensures.safely kept honest folder (subst (λ (from : Progress). AllAreSafe folder from.used) (sym begun_is) tt)
+    let done = ran.ensures.safely kept honest folder (begins_safely folder (progress_in c.begun-run.result) begun_is)
     (subst (λ (from : Progress). IsMeanwhile folder from.used from.used folder) (sym begun_is) (unused_yet folder)) in
     no_more_time files.moment files.since c.args.files.now ran.new.files c.finish.new.files (IsMomentOfSteps folder steps []) (c.finish.ensures.kept kept)
     (subst (λ (from : Progress). PassesBy files (IsMomentOfSteps folder steps from.used) c.args.files.now ran.new.files) begun_is done.2)

@@ -97,7 +97,7 @@ returns-in-Err-clause-moments g c kept honest = no_time g.F.Files.moment g.F.Fil
     (operands (map (λ (s : Bor (List ℕ)). s.now) c.args.operands.now))) refl
 
 pub returns-in-Ok-clause-ends : goal.returns-in-Ok-clause-ends
-returns-in-Ok-clause-ends g c plain premise is_cut =
+returns-in-Ok-clause-ends g c premise is_cut =
     let texts = map (λ (s : Bor (List ℕ)). s.now) c.args.operands.now in
     let requested = requested_in c.in-Ok.requested in
     let lines = map requested_in c.from_ref.result.now in
@@ -105,7 +105,7 @@ returns-in-Ok-clause-ends g c plain premise is_cut =
     let world : World = record { folder = g.F.Files.folder c.args.files.now; known = g.R.Source.remaining c.args.input.now } in
     ends_more g.W.Sink g.E.Sink g.F.Files _ _ c.perform.result c.args.out.now c.perform.new.out c.args.err.now c.perform.new.err c.perform.new.files
     (λ ended. operands_until c.args.options texts world requested lines ended c.in-Ok.ensures.ok same)
-    (c.perform.ensures.ends plain (operands_premise (g.F.Files.honest c.args.files.now) texts requested lines c.in-Ok.ensures.ok same premise))
+    (c.perform.ensures.ends (operands_premise (g.F.Files.honest c.args.files.now) texts requested lines c.in-Ok.ensures.ok same premise) is_cut)
 
 pub returns-in-Err-clause-ends : goal.returns-in-Err-clause-ends
-returns-in-Err-clause-ends g c plain premise is_cut = not_cut c.report_usage.result c.report_usage.ensures.cut is_cut
+returns-in-Err-clause-ends g c premise is_cut = not_cut c.report_usage.result c.report_usage.ensures.cut is_cut

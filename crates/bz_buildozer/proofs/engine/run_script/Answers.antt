@@ -49,7 +49,7 @@ pub returns-in-Err-clause-status : goal.returns-in-Err-clause-status
 returns-in-Err-clause-status g c = λ cut. unread_either c.report_unread.result.status c.in-Err.cut c.report_unread.ensures.status
 
 pub returns-in-Err-clause-ends : goal.returns-in-Err-clause-ends
-returns-in-Err-clause-ends g c plain honest is_cut = (
+returns-in-Err-clause-ends g c honest is_cut = (
   unread_script c.in-Err.cut c.args.name.now (g.F.Files.folder c.args.files.now),
   inr (c.args.name.now, refl, refl),
   record {
@@ -63,13 +63,13 @@ returns-in-Err-clause-ends g c plain honest is_cut = (
 )
 
 pub returns-in-Ok-clause-ends : goal.returns-in-Ok-clause-ends
-returns-in-Ok-clause-ends g c plain honest is_cut =
+returns-in-Ok-clause-ends g c honest is_cut =
     let known = g.R.Source.remaining c.args.input.now in
     ends_more g.W.Sink g.E.Sink g.F.Files _ _ c.run_text.result c.args.out.now c.run_text.new.out c.args.err.now c.run_text.new.err c.run_text.new.files
     (λ ended. script_until c.args.options c.args.name.now c.in-Ok.bytes.items c.deref.result.now (g.F.Files.folder c.args.files.now)
     (g.F.Files.folder c.read_bytes.new.files) known (g.R.Source.remaining c.read_bytes.new.input) ended c.deref.ensures.value (c.read_bytes.ensures.folder honest)
     (c.in-Ok.ensures.ok.0 honest) (λ other. ap g.R.Source.remaining (c.read_bytes.ensures.input other)))
-    (c.run_text.ensures.ends plain (c.read_bytes.ensures.honest ∙ honest) is_cut)
+    (c.run_text.ensures.ends (c.read_bytes.ensures.honest ∙ honest) is_cut)
 
 pub returns-in-Ok-clause-usage : goal.returns-in-Ok-clause-usage
 returns-in-Ok-clause-usage g c is is_whole =

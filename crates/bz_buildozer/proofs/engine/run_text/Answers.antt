@@ -116,18 +116,18 @@ returns-in-Err-read_script-clause-moments g c kept honest = no_time g.F.Files.mo
     (IsMomentOfText (g.F.Files.folder c.args.files.now) c.args.bytes.now) refl
 
 pub returns-in-Err-clause-ends : goal.returns-in-Err-clause-ends
-returns-in-Err-clause-ends g c plain honest is_cut = absurd (is_cut.0 refl)
+returns-in-Err-clause-ends g c honest is_cut = absurd (is_cut.0 refl)
 
 pub returns-then-edits_input-clause-ends : goal.returns-then-edits_input-clause-ends
-returns-then-edits_input-clause-ends g c plain honest is_cut = absurd (is_cut.0 refl)
+returns-then-edits_input-clause-ends g c honest is_cut = absurd (is_cut.0 refl)
 
 pub returns-in-Err-read_script-clause-ends : goal.returns-in-Err-read_script-clause-ends
-returns-in-Err-read_script-clause-ends g c plain honest is_cut = not_cut c.report_script.result c.report_script.ensures.cut is_cut
+returns-in-Err-read_script-clause-ends g c honest is_cut = not_cut c.report_script.result c.report_script.ensures.cut is_cut
 
 pub returns-clause-ends : goal.returns-clause-ends
-returns-clause-ends g c plain honest is_cut =
+returns-clause-ends g c honest is_cut =
     let world : World = record { folder = g.F.Files.folder c.args.files.now; known = g.R.Source.remaining c.args.input.now } in
     ends_more g.W.Sink g.E.Sink g.F.Files _ _ c.perform.result c.args.out.now c.perform.new.out c.args.err.now c.perform.new.err c.perform.new.files
     (λ ended. text_until c.args.options c.args.bytes.now c.in-Ok.text.now world (map requested_in c.in-Ok-read_script.lines.items)
     (map requested_in c.as_slice-lines.result.now) ended c.in-Ok.ensures.cases.0 c.in-Ok-read_script.ensures.ok (ap (map requested_in) c.as_slice-lines.ensures.value))
-    (c.perform.ensures.ends plain (inl honest))
+    (c.perform.ensures.ends (inl honest) is_cut)

@@ -1,4 +1,4 @@
-use Rattle.std.proofs.Common.{◌∙◌, ◌++◌, ◌∷◌, [], inl, inr, ap, refl, None, codes}
+use Rattle.std.proofs.Common.{◌∙◌, ◌++◌, ◌∷◌, [], false, inr, ap, refl, None, codes}
 use Rattle.bz_items.specs.Characters.{Bytes}
 use Rattle.bz_streams.specs.Reported.{stdin}
 use Rattle.bz_streams.specs.declared.exit.Cut.TheVariants as cut
@@ -40,7 +40,7 @@ returns-in-Err-Read-clause-uses g c = λ world left.
     let old = c.args.workspace.now in
     let added = c.in-Ok.ensures.ok ∙ ap (λ (text : Bytes). old ++ record { «package» = text; file = None } ∷ []) c.as_bytes.ensures.value in
     input_failed g.E.Sink world c.refused_opening-in-Err-Read.result cut.Read (g.R.Source.remaining c.read_most.new.source) old c.add.new.self (codes "cannot open")
-    c.args.err.now c.refused_opening-in-Err-Read.new.err c.refused_opening-in-Err-Read.ensures.opening (refl, c.requires, refl, refl, added) added
+    c.args.err.now c.refused_opening-in-Err-Read.new.err c.refused_opening-in-Err-Read.ensures.opening (refl, refl, c.requires, refl, refl, added) added
     c.refused_opening-in-Err-Read.ensures.reported
 
 pub returns-in-Err-Memory-clause-uses : goal.returns-in-Err-Memory-clause-uses
@@ -53,5 +53,5 @@ returns-in-Err-Memory-clause-uses g c = λ world left.
 
 pub returns-in_default-clause-uses : goal.returns-in_default-clause-uses
 returns-in_default-clause-uses g c = λ world left.
-    memory_uses g.E.Sink world input_package (g.R.Source.remaining c.args.input.now) c.args.workspace.now c.add.new.self c.refused_opening.result c.args.err.now
+    memory_uses g.E.Sink world false input_package (g.R.Source.remaining c.args.input.now) c.args.workspace.now c.add.new.self c.refused_opening.result c.args.err.now
     c.refused_opening.new.err (c.refused_opening.ensures.opening, c.in_default.ensures.err, (_, c.refused_opening.ensures.reported)) left

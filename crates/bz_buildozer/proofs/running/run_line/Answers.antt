@@ -3,8 +3,7 @@ use Rattle.std.specs.List.{All, flat_map}
 use Rattle.bz_label.specs.declared.target.Target.{Target}
 use Rattle.bz_command_line.specs.Shown.{request_in, requested_in}
 use Rattle.bz_command_line.specs.declared.requested.Request.{Request}
-use Rattle.bz_buildozer.specs.Calls.{KeepsBetween, PassesSafely, spot}
-use Rattle.bz_buildozer.specs.Keeping.{RunsBeside}
+use Rattle.bz_buildozer.specs.Calls.{PassesSafely, spot}
 use Rattle.bz_buildozer.specs.Steps.{RunStep, input_package, step_of, steps_requested}
 use Rattle.bz_buildozer.proofs.RunSteps.{Done, Goes, part_none, part_more, all_done, left_at, none_at, all_at}
 use Rattle.bz_buildozer.proofs.running.run_line.Goals as goal
@@ -33,17 +32,13 @@ loop-target-preserved g c =
     let mid = spot g.R.Source g.F.Files g.E.Sink l.run l.input l.files l.err in
     let new = spot g.R.Source g.F.Files g.E.Sink e.new.run e.new.input e.new.files e.new.err in
     let done : Done c.args.options.journal (IsOfInput target) c.args.options.keep_going (on_target commands target) e.result mid new = record {
-      does = λ plain honest. subst (λ (all : List Request). Goes e.result mid.folder c.args.options.keep_going (on_target all target) mid new) c.as_slice-commands.ensures.value
-          (e.ensures.does plain honest);
-      folder = e.ensures.folder;
+      does = λ can safe. subst (λ (all : List Request). Goes c.args.options.journal c.args.options.keep_going (on_target all target) e.result mid new)
+          c.as_slice-commands.ensures.value (e.ensures.does can safe);
       cut = e.ensures.cut;
       read_faults = e.ensures.read_faults;
       counts = e.ensures.counts;
       honest = e.ensures.honest;
       input = e.ensures.input;
-      keeps = λ kept honest whole.
-          subst (λ (all : List Request). KeepsBetween (RunsBeside c.args.options.keep_going (on_target all target)) mid new) c.as_slice-commands.ensures.value
-          (e.ensures.keeps kept honest whole);
       safely = λ kept honest. subst (λ (all : List Request). PassesSafely (on_target all target) mid new) c.as_slice-commands.ensures.value (e.ensures.safely kept honest);
       unread = e.ensures.unread;
       works = e.ensures.works;

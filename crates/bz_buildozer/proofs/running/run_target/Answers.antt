@@ -7,7 +7,7 @@ use Rattle.bz_buildozer.specs.Run.{ends_run}
 use Rattle.bz_buildozer.specs.private.Shown.{progress_in}
 use Rattle.bz_buildozer.specs.Steps.{RunStep, input_package, step_of}
 use Rattle.bz_buildozer.proofs.FailSteps.{one_runs}
-use Rattle.bz_buildozer.proofs.RunSteps.{Done, one_beside, part_none, part_more, all_done, done_early, left_at, none_at}
+use Rattle.bz_buildozer.proofs.RunSteps.{Done, part_none, part_more, all_done, done_early, left_at, none_at}
 use Rattle.bz_buildozer.proofs.running.run_target.Goals as goal
 use Rattle.bz_buildozer.proofs.running.run_target.Goals.{else-run-via-then-run+else-not-options, else-run-via-else-run}
 
@@ -43,14 +43,14 @@ loop-request-preserved g c =
       | else-run-via-else-run w ↦ (let works = w.if-run.false in rw (works) refl)
     ] in
     let done : Done c.args.options.journal (target.«package» ≡ input_package) c.args.options.keep_going (step ∷ []) e.result mid new = record {
-      does = λ plain honest known left.
-          let does = e.ensures.does plain honest known left in
-          (does.0, one_runs e.result (record { folder = mid.folder; known = known }) c.args.options.keep_going step mid.state new.state does.0 on does.1, does.2, does.3);
-      folder = e.ensures.folder;
+      does = λ can safe known left.
+          let does = e.ensures.does can safe known left in (
+            does.0,
+            one_runs e.result c.args.options.journal (record { folder = mid.folder; known = known }) c.args.options.keep_going step mid.state new.state does.0 new.folder on does.1,
+            does.2,
+            does.3,
+          );
       input = e.ensures.input;
-      keeps = λ kept honest whole stand.
-          let does = e.ensures.keeps kept honest whole stand in
-          (does.0, one_beside c.args.options.keep_going step mid.folder new.folder mid.state new.state does.0 on does.1, does.2);
       safely = e.ensures.safely;
       unread = e.ensures.unread;
       works = e.ensures.works;
