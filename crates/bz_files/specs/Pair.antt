@@ -40,7 +40,8 @@ pub record PutsNewest {F : Type 0} (files : FilesOf F) (P Q : Text → List ℕ 
   pub waiting : files.honest old ≡ true → OfNewest (files.waiting old) (λ _ _ rest. files.waiting new ≡ rest)
   pub counted : Counted files.faults files.honest result old new
 
--- The same for files that are replaced only where one of them holds the bytes `standing`: else nothing is touched at any moment.
+-- Files are replaced where one of them holds the bytes `standing`, and else nothing is touched at any moment. Each folder that occurs during the call is
+-- P of the one before it, and after an Ok the last is Q of that. No new file is left waiting.
 pub record RewritesHeld {F : Type 0} (files : FilesOf F) (file standing : Text) (P Q : Folder → Folder → Type 0) (result : Result (Unit {0}) FileFault) (old new : F) : Type 0 where
   pub held : files.honest old ≡ true → OnOk result (get (files.folder old) file ≡ Some standing)
   pub replaced : files.honest old ≡ true → OnOk result (Q (files.folder old) (files.folder new))

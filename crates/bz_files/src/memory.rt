@@ -8,9 +8,15 @@ ghost use Rattle.bz_files.specs.Folder.{with_file, folder_of};
 ghost use Rattle.bz_files.specs.Log.{folder_after, shown_entry, StoodSince, stands_now, only_stands, folder_in, plan_in, waiting_in, moments_in, folder_then};
 ghost use Rattle.bz_files.specs.Failing.{no_plan, IsNextCall, IsToFail, IsToFailAfter, IsUnreadable};
 
-use crate::entry::Entry;
 use crate::{FileFault, FileStamp, Files};
 use std::alloc::{AllocError, Global};
+
+// A file that was written.
+#[derive(Drop)]
+struct Entry {
+    name: String,
+    bytes: Vec<u8>,
+}
 
 /// Files in memory, which keep each write, and whose calls can be made to fail. A new file is no part of the folder until it takes
 /// its place.

@@ -11,7 +11,7 @@ pub struct FileStamp {
     size: u64,
     seconds: i64,
     nanoseconds: i64,
-    rights: Rights,
+    pub(crate) rights: Rights,
 }
 
 impl FileStamp {
@@ -24,9 +24,5 @@ impl FileStamp {
             nanoseconds: metadata.mtime_nsec(),
             rights: Rights::of(metadata),
         }
-    }
-
-    pub(crate) fn rights(self) -> Rights {
-        self.rights
     }
 }
