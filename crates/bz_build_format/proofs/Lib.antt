@@ -2,10 +2,9 @@ pub mod Writes
 pub mod Formatting
 pub mod ReadFaults
 pub mod SeenPrograms
-pub mod TreeTokens
+pub mod TreeWords
 pub mod WrittenPrograms
 pub mod Chunking
 pub mod BzlChunking
 pub mod BzlFormatting
 pub mod BzlSeenPrograms
-pub mod SameWords

@@ -4,5 +4,4 @@ pub mod Fixed
 pub mod TreePrograms
 pub mod Tokens
 pub mod Writing
-pub mod Words
 pub mod private

@@ -1,4 +1,4 @@
-use Rattle.bz_build_format.proofs.SameWords.{formatted_words}
+use Rattle.bz_build_format.proofs.TreeWords.{formatted_words}
 use Rattle.bz_build_format.proofs.laws.words_kept.Goals as goal
 
 pub returns : goal.returns
