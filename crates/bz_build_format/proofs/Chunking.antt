@@ -1,78 +1,108 @@
 -- Chunk by chunk a text is formatted as a whole.
-use Rattle.std.proofs.Common.{◌≡◌, ◌≤◌, ◌+◌, ◌-◌, ℕ, Bool, true, false, List, [], ◌∷◌, ◌++◌, ◌⊎◌, inl, inr, Option, None, Some, length, length-drop, length-take, min, take, drop, refl, sym, ap, ap₂, ◌∙◌, subst, append_assoc, arith}
+use Rattle.std.proofs.Common.{◌≡◌, ◌≤◌, ◌<◌, ◌+◌, ◌-◌, ℕ, Bool, true, false, List, [], ◌∷◌, ◌++◌, ◌⊎◌, inl, inr, Option, None, Some, Ok, length, length-drop, length-take, min, take, drop, refl, sym, ap, ap₂, ◌∙◌, subst, append_assoc, arith}
 use Rattle.std.proofs.Math.Seq.{take-add, take-length}
+use Rattle.std.proofs.lemmas.List.{map-append}
+use Rattle.bz_items.specs.Characters.{Bytes}
 use Rattle.bz_token.proofs.Tokens.{whole_rest}
+use Rattle.bz_grammar.specs.declared.tree.Node.{Node}
 use Rattle.bz_grammar.specs.Spell.{depth_of, depth_limit, limit}
 use Rattle.bz_value.specs.declared.value.Item.{Item}
-use Rattle.bz_items.specs.Characters.{Bytes}
-use Rattle.bz_hosts.specs.Joined.{EmptyReads, ViewsJoin}
+use Rattle.bz_hosts.specs.Joined.{ViewsJoin}
 use Rattle.bz_hosts.specs.View.{view_of}
-use Rattle.bz_layout.specs.Appended.{gap_below, LayoutsJoin, DepthsJoin}
-use Rattle.bz_layout.specs.LaidOut.{laid_out}
-use Rattle.bz_layout.specs.Written.{layout}
+use Rattle.bz_bzl_value.specs.declared.value.BzlItem.{BzlItem}
+use Rattle.bz_bzl_value.specs.Joined.{BzlViewsJoin}
+use Rattle.bz_bzl_value.specs.Laws.{BzlViewIsProper}
+use Rattle.bz_layout.specs.Appended.{LayoutsJoin, DepthsJoin}
 use Rattle.bz_passes.specs.Joined.{TidiedApart}
 use Rattle.bz_passes.specs.Passes.{tidied}
-use Rattle.bz_passes.specs.Spliced.{begins_with_load}
-use Rattle.bz_build_format.specs.private.Chunks.{ReadsAs, IsLast, IsBegun, IsAppended}
+use Rattle.bz_bzl_layout.specs.Joined.{BzlLayoutsJoin, BzlDepthsJoin}
+use Rattle.bz_bzl_layout.specs.Laws.{BzlLayoutIsAccepted, BzlLayoutReadsBack, LevelKeepsLayout, LevelStays}
+use Rattle.bz_bzl_layout.specs.Layout.{bzl_layout}
+use Rattle.bz_bzl_layout.specs.Level.{level, level_item}
+use Rattle.bz_build_format.specs.private.Chunks.{FileKind, build_files, bzl_files, ReadsAs, IsLast, IsFormattedAs, IsBegun, IsAppended}
+use Rattle.bz_build_format.specs.Faults.{FormatsBzlTo}
 use Rattle.bz_build_format.specs.Meaning.{gives, Formats}
+use Rattle.bz_build_format.proofs.BzlFormatting.{laid_out_given}
 use Rattle.bz_build_format.proofs.Writes.{written_given}
 
-pub nothing_begun : EmptyReads → IsBegun [] [] None true
-nothing_begun (tree, reads, none, ends) = record {
-  items = [];
-  reads = (tree, reads, sym none, λ _. ends);
-  formatted = refl;
-  short = omega arith;
-  shallow = omega arith;
-  last = refl;
+-- What the layers below promise of what is one after the other.
+pub record LayersJoin {I : Type 0} (kind : FileKind I) : Type 0 where
+  pub views : (s t : Bytes) (n m : Node) → kind.ends n → kind.begins m → kind.reads s n → kind.reads t m → length (s ++ t) ≤ limit
+      → (new : Node) × kind.reads (s ++ t) new × (kind.view new ≡ kind.view n ++ kind.view m) × (kind.ends m → kind.ends new)
+  pub begins : (items : List I) (bare : Bool) (tree : Node) → kind.apart items bare → (bare ≡ true → kind.begins tree) → kind.begins tree
+  pub settled : (front items : List I) (bare : Bool) → kind.apart items bare → kind.settled (front ++ items) ≡ kind.settled front ++ kind.settled items
+  pub first : (items : List I) → kind.gap None items ≡ []
+  pub layouts : (front : List I) (item : I) (items : List I) → kind.text ((front ++ item ∷ []) ++ items) ≡ kind.text (front ++ item ∷ []) ++ (kind.gap (Some item) items ++ kind.text items)
+  pub depths : (front items : List I) (depth : ℕ) → depth_of (kind.tree front) ≤ depth → depth_of (kind.tree items) ≤ depth → depth_of (kind.tree (front ++ items)) ≤ depth
+
+pub build_layers : ViewsJoin → TidiedApart → LayoutsJoin → DepthsJoin → LayersJoin build_files
+build_layers views apart layouts depths = record {
+  views = λ s t n m ends begins. views s t n m ends;
+  begins = λ items bare tree is begins. tt;
+  settled = λ front items bare is. apart front items is;
+  first = λ items. refl;
+  layouts = layouts;
+  depths = depths;
 }
 
--- What the layers below promise of what is one after the other.
-pub record LayersJoin : Type 0 where
-  pub views : ViewsJoin
-  pub tidy : TidiedApart
-  pub layouts : LayoutsJoin
-  pub depths : DepthsJoin
+pub bzl_layers : BzlViewsJoin → BzlLayoutsJoin → BzlDepthsJoin → LayersJoin bzl_files
+bzl_layers views layouts depths = record {
+  views = views;
+  begins = λ items bare tree is begins. begins is;
+  settled = λ front items bare is. map-append level_item front items;
+  first = λ items. refl;
+  layouts = layouts;
+  depths = depths;
+}
 
-module _ (laws : LayersJoin) where
-  tidied_both : (above : Option Item) (front items : List Item) → IsLast above front → ((above ≡ None) ⊎ (begins_with_load items ≡ false)) → tidied (front ++ items) ≡ tidied front ++ tidied items
-  tidied_both above front items h (inr n) = laws.tidy front items n
-  tidied_both None front items h (inl e) = ap (λ xs. tidied (xs ++ items)) h ∙ sym (ap (λ xs. tidied xs ++ tidied items) h)
-  tidied_both (Some item) front items h (inl e) = absurd cc
+module _ {I : Type 0} (kind : FileKind I) (laws : LayersJoin kind) where
+  apart_below : (above : Option I) (item : I) (items : List I) (bare : Bool) → above ≡ Some item → (above ≡ None) ⊎ kind.apart items bare → kind.apart items bare
+  apart_below above item items bare is (inl none) = let e : Some item ≡ None = sym is ∙ none in absurd cc
+  apart_below above item items bare is (inr apart) = apart
 
-  laid_both : (above : Option Item) (front items : List Item) → IsLast above front → layout (tidied front ++ items) ≡ layout (tidied front) ++ (gap_below above items ++ layout items)
-  laid_both None front items h = ap (λ xs. layout (tidied xs ++ items)) h ∙ sym (ap (λ xs. layout (tidied xs) ++ layout items) h)
-  laid_both (Some item) front items (before, is) = ap (λ xs. layout (xs ++ items)) is ∙ (laws.layouts before item items ∙ sym (ap (λ xs. layout xs ++ (gap_below (Some item) items ++ layout items)) is))
+  laid_both : (above : Option I) (front items : List I) → IsLast kind above front → kind.text (kind.settled front ++ items) ≡ kind.text (kind.settled front) ++ (kind.gap above items ++ kind.text items)
+  laid_both above front items (item, there, before, is) =
+      ap (λ xs. kind.text (xs ++ items)) is ∙ (laws.layouts before item items ∙ sym (ap₂ (λ xs last. kind.text xs ++ (kind.gap last items ++ kind.text items)) is there))
 
-  last_both : (last : Option Item) (item : Item) (front items : List Item) → tidied (front ++ items) ≡ tidied front ++ tidied items → last ≡ Some item → IsLast (Some item) items → IsLast last (front ++ items)
-  last_both last item front items e i (before, is) =
-      subst (λ l. IsLast l (front ++ items)) (sym i) (tidied front ++ before, e ∙ (ap (λ xs. tidied front ++ xs) is ∙ sym (append_assoc (tidied front) before (item ∷ []))))
+  last_both : (below : Option I) (front items : List I) → kind.settled (front ++ items) ≡ kind.settled front ++ kind.settled items → IsLast kind below items → IsLast kind below (front ++ items)
+  last_both below front items two (item, there, before, is) =
+      (item, there, kind.settled front ++ before, two ∙ (ap (λ xs. kind.settled front ++ xs) is ∙ sym (append_assoc (kind.settled front) before (item ∷ []))))
 
-  pub one_more : (s t before formatted : Bytes) (above last : Option Item) (items : List Item) (ends : Bool) → IsBegun s before above true → ReadsAs t items ends → IsAppended before above items formatted last → length (s ++ t) ≤ limit
-      → IsBegun (s ++ t) formatted last ends
-  one_more s t before formatted above last items ends h (m, reads, is, end) k le =
-      let (n, own, seen, closed) = h.reads in
-      let (new, read, view, closes) = laws.views s t n m (closed refl) own reads le in
-      let two : tidied (h.items ++ items) ≡ tidied h.items ++ tidied items = tidied_both above h.items items h.last k.apart in
+  one_more : (s t before out : Bytes) (above below : Option I) (items : List I) (bare ends : Bool) → IsBegun kind s before above true → ReadsAs kind t items bare ends → IsAppended kind before above items bare out below → length (s ++ t) ≤ limit
+      → IsFormattedAs kind (s ++ t) out below ends
+  one_more s t before out above below items bare ends (inl (none, empty, first)) (m, reads, says, begins, closes) k le = record {
+    items = items;
+    reads = (m, subst (λ z. kind.reads (z ++ t) m) (sym none) reads, says, λ e. absurd cc, closes);
+    formatted = k.formatted ∙ (ap₂ (λ z last. z ++ (kind.gap last (kind.settled items) ++ kind.text (kind.settled items))) empty first ∙ ap (λ z. z ++ kind.text (kind.settled items)) (laws.first (kind.settled items)));
+    short = k.short;
+    shallow = k.shallow;
+    last = k.last;
+  }
+  one_more s t before out above below items bare ends (inr h) (m, reads, says, begins, closes) k le =
+      let (n, own, seen, begin, closed) = h.reads in
+      let apart : kind.apart items bare = apart_below above h.last.0 items bare h.last.1 k.apart in
+      let (new, read, view, joins) = laws.views s t n m (closed refl) (laws.begins items bare m apart begins) own reads le in
+      let two : kind.settled (h.items ++ items) ≡ kind.settled h.items ++ kind.settled items = laws.settled h.items items bare apart in
       record {
         items = h.items ++ items;
-        reads = (new, read, ap₂ (λ xs ys. xs ++ ys) seen is ∙ sym view, λ e. closes (end e));
+        reads = (new, read, ap₂ (λ xs ys. xs ++ ys) seen says ∙ sym view, λ e. absurd cc, λ e. joins (closes e));
         formatted =
-            k.formatted ∙ (ap (λ z. z ++ (gap_below above (tidied items) ++ layout (tidied items))) h.formatted
-            ∙ (sym (laid_both above h.items (tidied items) h.last) ∙ ap layout (sym two)));
+            k.formatted ∙ (ap (λ z. z ++ (kind.gap above (kind.settled items) ++ kind.text (kind.settled items))) h.formatted
+            ∙ (sym (laid_both above h.items (kind.settled items) h.last) ∙ ap kind.text (sym two)));
         short = k.short;
-        shallow = subst (λ xs. depth_of (laid_out xs) ≤ depth_limit) (sym two) (laws.depths (tidied h.items) (tidied items) depth_limit h.shallow k.shallow);
-        last = last_both last k.last.0 h.items items two k.last.1 k.last.2;
+        shallow = subst (λ xs. depth_of (kind.tree xs) ≤ depth_limit) (sym two) (laws.depths (kind.settled h.items) (kind.settled items) depth_limit h.shallow k.shallow);
+        last = last_both below h.items items two k.last;
       }
 
   -- the same of a text that is read from its begin on
-  pub next_begun : (text before out : Bytes) (at len : ℕ) (above below : Option Item) (items : List Item) (ends more : Bool) → at ≤ length text → IsBegun (take at text) before above ends → ends ≡ true → ReadsAs (take len (take (length text - at) (drop at text))) items more
-      → IsAppended before above items out below → length text ≤ limit → IsBegun (take (at + len) text) out below more
-  next_begun text before out at len above below items ends more inside h e r k le =
-      let own : ReadsAs (take len (drop at text)) items more = subst (λ z. ReadsAs (take len z) items more) (whole_rest text at inside) r in
+  pub next_begun : (text before out : Bytes) (at len : ℕ) (above below : Option I) (items : List I) (ends bare more : Bool) → at ≤ length text → IsBegun kind (take at text) before above ends → ends ≡ true
+      → ReadsAs kind (take len (take (length text - at) (drop at text))) items bare more → IsAppended kind before above items bare out below → length text ≤ limit → IsBegun kind (take (at + len) text) out below more
+  next_begun text before out at len above below items ends bare more inside h e r k le =
+      let own : ReadsAs kind (take len (drop at text)) items bare more = subst (λ z. ReadsAs kind (take len z) items bare more) (whole_rest text at inside) r in
       let whole : take (at + len) text ≡ take at text ++ take len (drop at text) = take-add at len text in
       let short : length (take at text ++ take len (drop at text)) ≤ limit = subst (λ z. length z ≤ limit) whole (within (length-take (at + len) text) le) in
-      subst (λ z. IsBegun z out below more) (sym whole) (one_more (take at text) (take len (drop at text)) before out above below items more (subst (IsBegun (take at text) before above) e h) own k short)
+      subst (λ z. IsBegun kind z out below more) (sym whole)
+      (inr (one_more (take at text) (take len (drop at text)) before out above below items bare more (subst (IsBegun kind (take at text) before above) e h) own k short))
     where
       within : length (take (at + len) text) ≡ min (at + len) (length text) → length text ≤ limit → length (take (at + len) text) ≤ limit
       within a b = omega (arith, a, b)
@@ -80,9 +110,28 @@ module _ (laws : LayersJoin) where
 pub still_within : (text : Bytes) (at len : ℕ) → at ≤ length text → len ≤ length (take (length text - at) (drop at text)) → at + len ≤ length text
 still_within text at len inside h = omega (arith, inside, h, ap length (whole_rest text at inside), length-drop at text)
 
-pub all_formatted : (text out : Bytes) (at : ℕ) (last : Option Item) (ends : Bool) → IsBegun (take at text) out last ends → at ≤ length text → length text ≤ at → Formats text (gives out None)
-all_formatted text out at last ends g a b =
+-- a text that is not empty, up to its end
+whole_formatted : {I : Type 0} (kind : FileKind I) (text out : Bytes) (at : ℕ) (last : Option I) (ends : Bool) → IsBegun kind (take at text) out last ends → at ≤ length text → length text ≤ at → 0 < length text → IsFormattedAs kind text out last ends
+whole_formatted kind text out at last ends g a b some =
     let all : at ≡ length text = omega (arith, a, b) in
-    let h : IsBegun text out last ends = subst (λ z. IsBegun z out last ends) (ap (λ n. take n text) all ∙ take-length text) g in
-    let (tree, reads, seen, closed) = h.reads in
+    elim (subst (λ z. IsBegun kind z out last ends) (ap (λ n. take n text) all ∙ take-length text) g) [
+      | inl none ↦ absurd (never (ap length none.0) some)
+      | inr h ↦ h
+    ]
+  where
+    never : length text ≡ 0 → 0 < length text → ⊥
+    never e h = omega (arith, e, h)
+
+pub build_formatted : (text out : Bytes) (at : ℕ) (last : Option Item) (ends : Bool) → IsBegun build_files (take at text) out last ends → at ≤ length text → length text ≤ at → 0 < length text → Formats text (gives out None)
+build_formatted text out at last ends g a b some =
+    let h : IsFormattedAs build_files text out last ends = whole_formatted build_files text out at last ends g a b some in
+    let (tree, reads, seen, begins, closed) = h.reads in
     (tree, reads, sym (written_given (view_of tree) (tidied h.items) out (ap tidied seen) h.formatted (subst (λ t. length t ≤ limit) h.formatted h.short) h.shallow None))
+
+pub bzl_formatted : BzlViewIsProper → LevelKeepsLayout → LevelStays → BzlLayoutIsAccepted → BzlLayoutReadsBack → (text out : Bytes) (at : ℕ) (last : Option BzlItem) (ends : Bool)
+    → IsBegun bzl_files (take at text) out last ends → at ≤ length text → length text ≤ at → 0 < length text → FormatsBzlTo text (Ok out)
+bzl_formatted proper keeps stays accepted back text out at last ends g a b some =
+    let h : IsFormattedAs bzl_files text out last ends = whole_formatted bzl_files text out at last ends g a b some in
+    let (tree, reads, says, begins, closed) = h.reads in
+    let short : length (bzl_layout (level h.items)) ≤ limit = subst (λ t. length t ≤ limit) h.formatted h.short in
+    laid_out_given proper keeps stays text out tree (level h.items) reads (ap level says) h.formatted short (λ good. accepted (level h.items) good short h.shallow) (back (level h.items))

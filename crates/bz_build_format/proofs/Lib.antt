@@ -5,6 +5,4 @@ pub mod SeenPrograms
 pub mod TreeWords
 pub mod WrittenPrograms
 pub mod Chunking
-pub mod BzlChunking
 pub mod BzlFormatting
-pub mod BzlSeenPrograms

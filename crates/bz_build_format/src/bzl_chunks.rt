@@ -1,6 +1,6 @@
 //! The formatted text of a long .bzl text, made chunk by chunk: its tree and its value are never in memory as a whole.
 ghost use Rattle.std.specs.Prelude.{◌≡◌, ◌≤◌, ◌<◌, IfOk, IfSome, Ok, length, take};
-ghost use Rattle.bz_build_format.specs.private.BzlChunks.{IsBzlAppended, ReadsAsBzl};
+ghost use Rattle.bz_build_format.specs.private.Chunks.{bzl_files, IsAppended, ReadsAs};
 ghost use Rattle.bz_build_format.specs.Faults.{FormatsBzlTo};
 
 use crate::cut::{CHUNK, TRIES, Unseen, chunk_end, why_unseen};
@@ -30,7 +30,7 @@ struct Chunk {
 
 /// What a text says, and whether it begins without comments and ends with a statement. One that does not is taken at the end alone.
 fn seen(alloc: Global, text: &[u8], is_last: bool) -> Result<(BzlFile, bool, bool), Unseen>
-    ensures { IfOk result (λ seen. ReadsAsBzl text.now seen.0.items seen.1 seen.2) }
+    ensures { IfOk result (λ seen. ReadsAs bzl_files text.now seen.0.items seen.1 seen.2) }
 {
     let tree = match parse_bzl(alloc, text) {
         Ok(tree) => tree,
@@ -49,7 +49,7 @@ fn seen(alloc: Global, text: &[u8], is_last: bool) -> Result<(BzlFile, bool, boo
 /// The first chunk of a text that is read by itself.
 fn first_chunk(alloc: Global, text: &[u8]) -> Option<Chunk>
     requires { 0 < length text.now }
-    ensures reads { IfSome result (λ chunk. ReadsAsBzl (take chunk.len text.now) chunk.file.items chunk.bare chunk.ends) }
+    ensures reads { IfSome result (λ chunk. ReadsAs bzl_files (take chunk.len text.now) chunk.file.items chunk.bare chunk.ends) }
     ensures len { IfSome result (λ chunk. (0 < chunk.len) × (chunk.len ≤ length text.now)) }
 {
     for doublings in 0..TRIES {
@@ -70,11 +70,19 @@ fn first_chunk(alloc: Global, text: &[u8]) -> Option<Chunk>
     None
 }
 
-/// Appends the formatted text of what a chunk says, below the item above it, whose place its last one takes. None: it has no items, a limit
-/// is passed, or memory was refused.
-fn append(out: &mut Vec<u8>, above: &mut Option<BzlItem>, mut file: BzlFile) -> Option<()>
-    ensures { IfSome result (λ _. IsBzlAppended out.old.items above.old file.items out.new.items above.new) }
+/// Appends the formatted text of what a chunk says, below the item above it, whose place its last one takes. None: it has no items, or
+/// begins with comments below an item, a limit is passed, or memory was refused.
+fn append(
+    out: &mut Vec<u8>,
+    above: &mut Option<BzlItem>,
+    mut file: BzlFile,
+    bare: bool,
+) -> Option<()>
+    ensures { IfSome result (λ _. IsAppended bzl_files out.old.items above.old file.items bare out.new.items above.new) }
 {
+    if above.is_some() && !bare {
+        return None;
+    }
     level(&mut file);
     append_bzl(out, above, &file)?;
     let BzlFile { mut items } = file;
@@ -101,20 +109,15 @@ pub(crate) fn chunks_formatted(alloc: Global, text: &[u8]) -> Option<Text>
     let Ok(mut out) = Vec::with_capacity(alloc, text.len() + text.len() / 16) else {
         return None;
     };
-    let first = first_chunk(alloc, text)?;
     let mut last = None;
-    append(&mut out, &mut last, first.file)?;
-    let mut ends = first.ends;
-    let mut at = first.len;
+    let mut ends = true;
+    let mut at = 0;
     while at < text.len() {
         if !ends {
             return None;
         }
         let chunk = first_chunk(alloc, &text[at..])?;
-        if !chunk.bare {
-            return None;
-        }
-        append(&mut out, &mut last, chunk.file)?;
+        append(&mut out, &mut last, chunk.file, chunk.bare)?;
         ends = chunk.ends;
         at += chunk.len;
     }

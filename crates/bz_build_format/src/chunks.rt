@@ -1,6 +1,6 @@
 //! The formatted text of a long text, made chunk by chunk: its tree and its value are never in memory as a whole.
-ghost use Rattle.std.specs.Prelude.{◌≡◌, ◌≤◌, ◌<◌, ◌++◌, None, IfOk, IfSome, length, take};
-ghost use Rattle.bz_build_format.specs.private.Chunks.{IsAppended, ReadsAs};
+ghost use Rattle.std.specs.Prelude.{◌≡◌, ◌≤◌, ◌<◌, ◌++◌, true, None, IfOk, IfSome, length, take};
+ghost use Rattle.bz_build_format.specs.private.Chunks.{build_files, IsAppended, ReadsAs};
 ghost use Rattle.bz_build_format.specs.Meaning.{gives, Formats};
 
 use crate::cut::{CHUNK, TRIES, Unseen, chunk_end, why_unseen};
@@ -26,7 +26,7 @@ struct Chunk {
 
 /// What a text says. One that does not end with a line is taken at the end alone.
 fn seen(alloc: Global, text: &[u8], is_last: bool) -> Result<(File, bool), Unseen>
-    ensures { IfOk result (λ seen. ReadsAs text.now seen.0 seen.1) }
+    ensures { IfOk result (λ seen. ReadsAs build_files text.now seen.0 true seen.1) }
 {
     let tree = match parse(alloc, text) {
         Ok(tree) => tree,
@@ -45,7 +45,7 @@ fn seen(alloc: Global, text: &[u8], is_last: bool) -> Result<(File, bool), Unsee
 /// The first chunk of a text that is read by itself.
 fn first_chunk(alloc: Global, text: &[u8]) -> Option<Chunk>
     requires { 0 < length text.now }
-    ensures reads { IfSome result (λ chunk. ReadsAs (take chunk.len text.now) chunk.file chunk.ends) }
+    ensures reads { IfSome result (λ chunk. ReadsAs build_files (take chunk.len text.now) chunk.file true chunk.ends) }
     ensures len { IfSome result (λ chunk. (0 < chunk.len) × (chunk.len ≤ length text.now)) }
 {
     for doublings in 0..TRIES {
@@ -62,7 +62,7 @@ fn first_chunk(alloc: Global, text: &[u8]) -> Option<Chunk>
 /// Appends the formatted text of what a chunk says, below the item above it, whose place its last one takes. None: it has no items, or
 /// begins with a load that is sorted with the one above, a limit is passed, or memory was refused.
 fn append(alloc: Global, out: &mut Vec<u8>, above: &mut Option<Item>, file: File) -> Option<()>
-    ensures { IfSome result (λ _. IsAppended out.old.items above.old file out.new.items above.new) }
+    ensures { IfSome result (λ _. IsAppended build_files out.old.items above.old file true out.new.items above.new) }
 {
     if above.is_some() && begins_with_load(file.items.as_slice()) {
         return None;

@@ -1,5 +1,5 @@
-use Rattle.bz_build_format.proofs.BzlSeenPrograms.{views_keep_programs}
+use Rattle.bz_build_format.proofs.SeenPrograms.{bzl_views_keep_programs}
 use Rattle.bz_build_format.proofs.laws.bzl_views_keep_programs.Goals as goal
 
 pub returns : goal.returns
-returns c = views_keep_programs
+returns c = bzl_views_keep_programs
