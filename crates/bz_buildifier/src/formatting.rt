@@ -240,14 +240,6 @@ fn report_unusable<S: AsStr, E: Sink>(
     }
 }
 
-// Memory was refused before anything was done, which is reported.
-fn memory_exit<E: Sink>(err: &mut E) -> Exit
-    ensures exit { result ≡ record { status = 3; cut = Cut.Memory } }
-    ensures reported { Reports (E.faults err.old) (E.faults err.new) (E.contents err.old) (E.contents err.new) (named_line (codes "buildifier") (codes "Memory") ∷ []) }
-{
-    ended(fail(err, "buildifier", "Memory", Cut::Memory))
-}
-
 // These words are no line of the program's, or memory was refused. Each is reported.
 fn unusable<S: AsStr, E: Sink>(
     alloc: Global,
@@ -267,7 +259,7 @@ fn unusable<S: AsStr, E: Sink>(
             status: USAGE,
             cut: Cut::Whole,
         },
-        Err(_) => memory_exit(err),
+        Err(_) => ended(fail(err, "buildifier", "Memory", Cut::Memory)),
     }
 }
 
@@ -279,8 +271,9 @@ fn unusable<S: AsStr, E: Sink>(
 /// text there. Statuses: 2 where the words are no line of the program's (nothing is then read); else 3 where a file could
 /// not be opened, read or written, memory was refused, or a formatted text would be past a limit or would not last; else 1 where a text is
 /// not accepted; else 4 where `check` found a difference; else 0. Each fault is reported by one line on `err`, whose faults are
-/// passed over, and that of an unknown mode or type by one more where one is near; where memory is refused to the words, or to that
-/// search, the line is `buildifier: Memory`. After a fault of `out` nothing more is written there; files still are.
+/// passed over, and by one more that of an unknown mode or type where one is near, that of a word that is written as an option and is
+/// none, and that of a name which no file can have; where memory is refused to the words, or to these lines on them, the line is
+/// `buildifier: Memory`. After a fault of `out` nothing more is written there; files still are.
 pub fn buildifier<S: AsStr, R: Source, W: Sink, E: Sink, F: Files>(
     alloc: Global,
     words: &[S],
