@@ -27,6 +27,7 @@ import tempfile
 import worked
 from files import report
 from hostile import PATIENCE, files_in, library_of, new_folder, put, sample, told
+from workspace import PACKAGE_HINT
 
 # Calls at most of one kind in one run; there are a few tens.
 MOST = 1000
@@ -113,6 +114,11 @@ def is_within(part, whole):
     return all(any(other.startswith(line) for other in rest) for line in part.splitlines(keepends=True))
 
 
+def without_hints(left):
+    """What a run left, but for what it says a package is, which is said only where no file of it is there."""
+    return left._replace(err=left.err.replace(PACKAGE_HINT, b""))
+
+
 class Allowed:
     """What a row leaves when nothing fails, and when some of its files are not there."""
 
@@ -139,7 +145,7 @@ class Allowed:
         """What is wrong with what a run left in which these calls failed."""
         if left.status < 0:
             return [f"signal {-left.status}"]
-        if left in self.whole:
+        if without_hints(left) in map(without_hints, self.whole):
             return []
         if all(line == "write 2" for line in failed):
             same = left._replace(err=b"") == self.ample._replace(err=b"")
