@@ -214,6 +214,21 @@ fn is_cut_once(part: &[u8], whole: &[u8]) -> bool {
     false
 }
 
+/// Whether a line says what a package is.
+fn is_package_hint(line: &[u8]) -> bool {
+    line.starts_with(b"buildozer: a package is ") || line.starts_with(b"buildozer: ... is ")
+}
+
+/// Whether the lines of a text are those of another one, which may say of more packages what one is.
+fn lacks_hints(part: &[u8], whole: &[u8]) -> bool {
+    for line in whole.split(|byte| *byte == b'\n') {
+        if !is_package_hint(line) && !has_line(part, line) {
+            return false;
+        }
+    }
+    is_within(part, whole)
+}
+
 /// Whether a line says that a device or a file failed.
 fn is_fault_line(line: &[u8]) -> bool {
     line.ends_with(b": cannot open") || line.ends_with(b": cannot write")
@@ -491,6 +506,11 @@ impl<'a> Trial<'a> {
                 .any(|other| has_line(other.err.bytes(), line))
     }
 
+    /// Whether all is as in the sound run, but what is said only of a package that is not there.
+    fn is_unchanged(&self, left: &Left) -> bool {
+        self.is_sound_beside(left) && lacks_hints(left.err.bytes(), self.sound.err.bytes())
+    }
+
     /// Each line is one of a sound run or says what failed, and one says what failed unless that changed nothing.
     fn breach_of_lines(&self, left: &Left) -> Option<Breach> {
         let mut is_reported = false;
@@ -501,7 +521,7 @@ impl<'a> Trial<'a> {
                 return Some(Breach::Line);
             }
         }
-        if is_reported || self.change(left).is_none() {
+        if is_reported || self.is_unchanged(left) {
             None
         } else {
             Some(Breach::Unreported)
