@@ -20,7 +20,7 @@ use crate::format_line::{FormatLine, FormatUsage, clap_hint, read_format_line};
 use crate::mode::Mode;
 use crate::{Cut, Exit, Sink, Source};
 use bz_build_format::{FormatFault, format, format_bzl};
-use bz_files::Files;
+use bz_files::{FileKind, Files};
 use bz_items::Text;
 use bz_streams::{InputFault, MOST, STDIN, read_most, report, report_clap_hinted};
 use std::alloc::{AllocError, Global};
@@ -95,7 +95,7 @@ fn file_effect<F: Files, W: Sink, E: Sink>(
     ensures honest { F.honest files.new ≡ F.honest files.old }
 {
     let mut text = Vec::new(alloc);
-    match files.read_most(name, MOST, &mut text) {
+    match files.read_most(name, FileKind::Regular, MOST, &mut text) {
         Ok(()) => {}
         Err(fault) => return unread_file(err, name, fault),
     }

@@ -15,10 +15,11 @@ use Rattle.bz_streams.specs.declared.exit.Exit.{Exit}
 use Rattle.bz_streams.specs.declared.sink.Sink.{Ghosts as SinkOf}
 use Rattle.bz_buildozer.specs.Calls.{EndsIn}
 use Rattle.bz_buildozer.specs.Failing.{Ended, GivenUntil, PerformsUntil, WordsUntil}
-use Rattle.bz_buildozer.specs.Outcome.{IsScript}
+use Rattle.bz_buildozer.specs.Outcome.{IsScript, IsText}
 use Rattle.bz_buildozer.specs.Reported.{unread_line, unread_status}
 use Rattle.bz_buildozer.specs.Run.{World}
 use Rattle.bz_buildozer.specs.Steps.{all_steps, input_package}
+use Rattle.bz_buildozer.proofs.TextSteps.{IsReadOf, whole_requests}
 
 -- ---- how a run ends
 
@@ -46,23 +47,25 @@ pub operands_until : (options : Options) (texts : List Bytes) (world : World) (r
     → lines ≡ requested ∷ [] → PerformsUntil options (all_steps lines) world ended → GivenUntil options (operands texts) world ended
 operands_until options texts world requested lines ended is same performs = inl (lines, world.known, (requested, is, same), (λ apart. refl), performs)
 
-pub text_until : (options : Options) (text text' : Bytes) (world : World) (lines lines' : List Requested) (ended : Ended) → text' ≡ text → script_of text' ≡ Ok lines
+pub text_until : (options : Options) (text text' : Bytes) (world : World) (lines lines' : List Requested) (ended : Ended) → text' ≡ text → IsText text → script_of text' ≡ Ok lines
     → lines' ≡ lines → PerformsUntil options (all_steps lines') world ended
-    → (lines : List Requested) × (script_of text ≡ Ok lines) × PerformsUntil options (all_steps lines) world ended
-text_until options text text' world lines lines' ended same is these performs =
-    (lines, ap script_of (sym same) ∙ is, subst (λ (all : List Requested). PerformsUntil options (all_steps all) world ended) these performs)
+    → (lines : List Requested) × IsText text × (script_of text ≡ Ok lines) × PerformsUntil options (all_steps lines) world ended
+text_until options text text' world lines lines' ended same valid is these performs =
+    (lines, valid, ap script_of (sym same) ∙ is, subst (λ (all : List Requested). PerformsUntil options (all_steps all) world ended) these performs)
 
-pub script_until : (options : Options) (name text text' : Bytes) (folder folder' : Folder) (known known' : Option Bytes) (ended : Ended) → text' ≡ text → folder' ≡ folder
-    → IsScript (record { folder = folder; known = known }) name (Some text) → (name ≢ input_package → known' ≡ known)
-    → (lines : List Requested) × (script_of text' ≡ Ok lines) × PerformsUntil options (all_steps lines) (record { folder = folder'; known = known' }) ended
+pub script_until : (options : Options) (name whole text text' : Bytes) (folder folder' : Folder) (known known' : Option Bytes) (ended : Ended) → text' ≡ text → folder' ≡ folder
+    → IsScript (record { folder = folder; known = known }) name (Some whole) → IsReadOf whole text → (name ≢ input_package → known' ≡ known)
+    → (lines : List Requested) × IsText text' × (script_of text' ≡ Ok lines) × PerformsUntil options (all_steps lines) (record { folder = folder'; known = known' }) ended
     → GivenUntil options (script name) (record { folder = folder; known = known }) ended
-script_until options name text text' folder folder' known known' ended same still is apart (lines, read, performs) = inl (
-  lines,
-  known',
-  (text, is, ap script_of (sym same) ∙ read),
-  apart,
-  subst (λ (f : Folder). PerformsUntil options (all_steps lines) (record { folder = f; known = known' }) ended) still performs,
-)
+script_until options name whole text text' folder folder' known known' ended same still is read apart (lines, valid, requests, performs) =
+    let all = whole_requests whole text text' lines same read valid requests in
+    inl (
+      lines,
+      known',
+      (whole, is, all.0, all.1),
+      apart,
+      subst (λ (f : Folder). PerformsUntil options (all_steps lines) (record { folder = f; known = known' }) ended) still performs,
+    )
 
 pub words_until : (words : List Bytes) (line : CommandLine) (given : Given) (world : World) (ended : Ended) → command_line_of words ≡ Ok line → line.given ≡ given
     → GivenUntil line.options given world ended → WordsUntil words world ended

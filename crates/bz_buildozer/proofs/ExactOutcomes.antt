@@ -5,6 +5,7 @@ use Rattle.std.specs.List.{list_any}
 use Rattle.std.specs.Str.{IsUtf8, IsValidUpTo}
 use Rattle.std.proofs.Math.Seq.{take-length}
 use Rattle.std.proofs.lemmas.Bool.{cases_lt}
+use Rattle.bz_lex.specs.declared.fault.ReadFault.{ReadFault}
 use Rattle.bz_lex.specs.declared.fault.ReadFault.TheVariants.{NotUtf8}
 use Rattle.bz_grammar.specs.Laws.{OneReading}
 use Rattle.bz_items.specs.Characters.{Bytes}
@@ -17,7 +18,7 @@ use Rattle.bz_command_line.specs.declared.line.Options.{Options}
 use Rattle.bz_streams.specs.Reported.{fault_line}
 use Rattle.bz_buildozer.specs.Ending.{Left}
 use Rattle.bz_buildozer.specs.Exact.{IsLeftOpen, SameLeft, ReportsPattern, GivenReportsPattern, IsReportedPattern, OutcomesAreExact}
-use Rattle.bz_buildozer.specs.Outcome.{unused, LinesLeave, IsScript, reported_name, OperandsOutcome, LinesOutcome, TextOutcome, GivenOutcome, LineOutcome}
+use Rattle.bz_buildozer.specs.Outcome.{unused, LinesLeave, IsScript, IsText, IsTextFault, reported_name, OperandsOutcome, LinesOutcome, TextOutcome, GivenOutcome, LineOutcome}
 use Rattle.bz_buildozer.specs.Run.{World}
 use Rattle.bz_buildozer.specs.Steps.{all_steps, names_input, input_package}
 use Rattle.bz_buildozer.specs.Reported.{usage_line, IsLineUsageLine}
@@ -84,8 +85,16 @@ one_valid text n m a b = elim (cases_lt n m) [
   ]
 ]
 
-not_whole : (text : Bytes) (n : ℕ) → IsUtf8 text → IsValidUpTo text n → ⊥
-not_whole text n whole valid = valid.longest (length text) valid.short (subst IsUtf8 (sym (take-length text)) whole)
+one_fault : (text : Bytes) (fault other : ReadFault) → IsTextFault text fault → IsTextFault text other → fault ≡ other
+one_fault text fault other (inl (long, is)) (inl (long', is')) = is ∙ sym is'
+one_fault text fault other (inl (long, is)) (inr (short, valid)) = absurd (omega arith)
+one_fault text fault other (inr (short, valid)) (inl (long, is)) = absurd (omega arith)
+one_fault text fault other (inr (short, (at, valid, is))) (inr (short', (at', valid', is'))) =
+    is ∙ ap (λ (n : ℕ). NotUtf8 n) (one_valid text at at' valid valid') ∙ sym is'
+
+no_fault : (text : Bytes) (fault : ReadFault) → IsText text → IsTextFault text fault → ⊥
+no_fault text fault (fits, whole) (inl (long, is)) = omega arith
+no_fault text fault (fits, whole) (inr (short, (at, valid, is))) = valid.longest (length text) valid.short (subst IsUtf8 (sym (take-length text)) whole)
 
 -- where no step reads standard input, what is left of it is the same to them
 lines_unread : (options : Options) (lines : List Requested) (world : World) (known : Option Bytes) (left : Left) → list_any reads_input (all_steps lines) ≡ false
@@ -148,7 +157,7 @@ TextDecided options name text world left = Decided (reported_name name) (LinesOu
 
 abbrev TextExact : Options → Bytes → Bytes → World → Left → Type 0
 TextExact options name text world left =
-    ((at : ℕ) × IsValidUpTo text at × (left ≡ unused world.folder (fault_line (reported_name name) (NotUtf8 at)))) ⊎ (IsUtf8 text × TextDecided options name text world left)
+    ((fault : ReadFault) × IsTextFault text fault × (left ≡ unused world.folder (fault_line (reported_name name) fault))) ⊎ (IsText text × TextDecided options name text world left)
 
 -- a pattern of a line of this text is reported
 abbrev TextReports : Bytes → Bytes → World → Left → Type 0
@@ -177,11 +186,11 @@ text_exact options name text world left (inr (inr (whole, (lines, is, done)))) =
 
 same_text : OneReading → (words : List Bytes) (bytes : Bytes) (options : Options) (name text : Bytes) (world : World) (left other : Left)
     → world.known ≡ Some bytes → OpensJournals words options → TextExact options name text world left → TextExact options name text world other → SameLeft words world left other
-same_text one words bytes options name text world left other known plain (inl (at, valid, is)) (inl (at', valid', is')) =
+same_text one words bytes options name text world left other known plain (inl (fault, invalid, is)) (inl (fault', invalid', is')) =
     same_left words world left other
-    (is ∙ ap (λ (n : ℕ). unused world.folder (fault_line (reported_name name) (NotUtf8 n))) (one_valid text at at' valid valid') ∙ sym is')
-same_text one words bytes options name text world left other known plain (inl (at, valid, is)) (inr (whole, decided)) = absurd (not_whole text at whole valid)
-same_text one words bytes options name text world left other known plain (inr (whole, decided)) (inl (at, valid, is)) = absurd (not_whole text at whole valid)
+    (is ∙ ap (λ (it : ReadFault). unused world.folder (fault_line (reported_name name) it)) (one_fault text fault fault' invalid invalid') ∙ sym is')
+same_text one words bytes options name text world left other known plain (inl (fault, invalid, is)) (inr (whole, decided)) = absurd (no_fault text fault whole invalid)
+same_text one words bytes options name text world left other known plain (inr (whole, decided)) (inl (fault, invalid, is)) = absurd (no_fault text fault whole invalid)
 same_text one words bytes options name text world left other known plain (inr (whole, decided)) (inr (whole', decided')) =
     same_decided words (reported_name name) (LinesOutcome options (bytes_eq name input_package)) (script_of text) world left other
     (λ lines l o done done'. same_lines_done one words bytes options (bytes_eq name input_package) lines world l o known plain done done') decided decided'

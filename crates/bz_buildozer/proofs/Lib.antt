@@ -33,6 +33,7 @@ pub mod RunSteps
 pub mod SafeSteps
 pub mod StandSteps
 pub mod StepLists
+pub mod TextSteps
 pub mod TrySteps
 pub mod UnusedSteps
 pub mod UsageSteps

@@ -11,9 +11,10 @@ use Rattle.bz_command_line.specs.Script.{script_of}
 use Rattle.bz_buildozer.specs.Keeps.{KeepsFolder}
 use Rattle.bz_buildozer.specs.Calls.{PassesBy}
 use Rattle.bz_buildozer.specs.Moments.{IsMeanwhile, IsMomentOfRun, IsMomentOfSteps}
-use Rattle.bz_buildozer.specs.Outcome.{IsScript}
+use Rattle.bz_buildozer.specs.Outcome.{IsScript, IsText}
 use Rattle.bz_buildozer.specs.Run.{World}
 use Rattle.bz_buildozer.specs.Steps.{all_steps}
+use Rattle.bz_buildozer.proofs.TextSteps.{IsReadOf, whole_requests}
 
 -- where no package was used, each name is as it is
 pub unused_yet : (folder : Folder) → IsMeanwhile folder [] [] folder
@@ -21,7 +22,7 @@ unused_yet folder = record { files = λ place file then here there. absurd (let 
 
 -- a folder at a moment of what a text of lines requests, in a run that began with one
 abbrev pub IsMomentOfText : Folder → Bytes → Folder → Type 0
-IsMomentOfText folder text now = (lines : List Requested) × (script_of text ≡ Ok lines) × IsMomentOfSteps folder (all_steps lines) [] now
+IsMomentOfText folder text now = (lines : List Requested) × IsText text × (script_of text ≡ Ok lines) × IsMomentOfSteps folder (all_steps lines) [] now
 
 module _ {F : Type 0} (files : FilesOf F) (old new : F) where
   pub by_operands : (known : Option Bytes) (texts : List Bytes) (requested : Requested) (lines : List Requested) → operand_group texts ≡ Ok requested → lines ≡ requested ∷ []
@@ -35,12 +36,13 @@ module _ {F : Type 0} (files : FilesOf F) (old new : F) where
         subst (λ (these : List Requested). IsMomentOfSteps (files.folder old) (all_steps these) [] now) same moment,
       ))
 
-  pub by_text : (text text' : Bytes) (lines lines' : List Requested) → text' ≡ text → script_of text' ≡ Ok lines → lines' ≡ lines
+  pub by_text : (text text' : Bytes) (lines lines' : List Requested) → text' ≡ text → IsText text → script_of text' ≡ Ok lines → lines' ≡ lines
       → PassesBy files (IsMomentOfSteps (files.folder old) (all_steps lines') []) old new → PassesBy files (IsMomentOfText (files.folder old) text) old new
-  by_text text text' lines lines' same is these =
+  by_text text text' lines lines' same valid is these =
       weakened (files.moment old) (files.moment new) (files.since old) (files.since new) (IsMomentOfSteps (files.folder old) (all_steps lines') [])
       (IsMomentOfText (files.folder old) text) (λ now moment. (
         lines,
+        valid,
         subst (λ (it : Bytes). script_of it ≡ Ok lines) same is,
         subst (λ (it : List Requested). IsMomentOfSteps (files.folder old) (all_steps it) [] now) these moment,
       ))
@@ -52,17 +54,19 @@ module _ {F : Type 0} (files : FilesOf F) (old new : F) where
       weakened (files.moment old) (files.moment new) (files.since old) (files.since new) (λ (now : Folder). now ≡ files.folder old)
       (IsMomentOfRun (record { folder = files.folder old; known = known }) (script name)) (λ now is. inl is)
 
-  pub by_script : (known : Option Bytes) (name text text' : Bytes) (mid : F) → files.folder mid ≡ files.folder old → text' ≡ text
-      → IsScript (record { folder = files.folder old; known = known }) name (Some text) → KeepsFolder files old mid
+  pub by_script : (known : Option Bytes) (name whole text text' : Bytes) (mid : F) → files.folder mid ≡ files.folder old → text' ≡ text
+      → IsScript (record { folder = files.folder old; known = known }) name (Some whole) → IsReadOf whole text → KeepsFolder files old mid
       → PassesBy files (IsMomentOfText (files.folder mid) text') mid new
       → PassesBy files (IsMomentOfRun (record { folder = files.folder old; known = known }) (script name)) old new
-  by_script known name text text' mid still same is first second =
+  by_script known name whole text text' mid still same is read first second =
       let world : World = record { folder = files.folder old; known = known } in
       elapsed_on (files.moment old) (files.moment mid) (files.moment new) (files.since old) (files.since mid) (files.since new) (IsMomentOfRun world (script name))
-      (IsMomentOfText (files.folder mid) text') (λ now moment. inr (
+      (IsMomentOfText (files.folder mid) text') (λ now moment.
+      let requests = whole_requests whole text text' moment.0 same read moment.1 moment.2 in
+      inr (
         moment.0,
-        (text, is, subst (λ (it : Bytes). script_of it ≡ Ok moment.0) same moment.1),
-        subst (λ (f : Folder). IsMomentOfSteps f (all_steps moment.0) [] now) still moment.2,
+        (whole, is, requests.0, requests.1),
+        subst (λ (f : Folder). IsMomentOfSteps f (all_steps moment.0) [] now) still moment.3,
       )) (weakened (files.moment old) (files.moment mid) (files.since old) (files.since mid) (λ (now : Folder). now ≡ files.folder old)
       (IsMomentOfRun world (script name)) (λ now was. inl was) first) second
 

@@ -1,11 +1,10 @@
 -- What words and lines come to, by what was read of them.
-use Rattle.std.proofs.Common.{◌≡◌, ◌≢◌, ◌⊎◌, ◌&&◌, ◌||◌, ◌++◌, option_map, inl, inr, ℕ, ◌<◌, List, [], ◌∷◌, length, take, codes, Option, Some, None, IfSome, IsSome, Result, Ok, Err, IfOk, Bool, true, false, true≢false, refl, sym, ap, subst, ◌∙◌, arith, bytes_eq}
+use Rattle.std.proofs.Common.{◌≡◌, ◌≢◌, ◌⊎◌, ◌&&◌, ◌||◌, ◌++◌, option_map, inl, inr, ℕ, List, [], ◌∷◌, codes, Option, Some, None, IfSome, IsSome, Result, Ok, Err, IfOk, Bool, true, false, true≢false, refl, sym, ap, subst, ◌∙◌, bytes_eq}
 use Rattle.std.specs.List.{All, list_any}
-use Rattle.std.specs.Str.{IsUtf8, IsValidUpTo}
-use Rattle.std.proofs.lemmas.List.{append-nil, take_all, length-take}
+use Rattle.std.proofs.lemmas.List.{append-nil}
 use Rattle.std.proofs.lemmas.List.Elements.{All-head}
 use Rattle.std.proofs.lemmas.Slice.Eq.{bytes_eq-Decides}
-use Rattle.bz_lex.specs.declared.fault.ReadFault.TheVariants.{NotUtf8}
+use Rattle.bz_lex.specs.declared.fault.ReadFault.{ReadFault}
 use Rattle.bz_items.specs.Characters.{Bytes}
 use Rattle.bz_files.specs.Folder.{Folder}
 use Rattle.bz_label.specs.declared.target.Target.{Target}
@@ -24,11 +23,11 @@ use Rattle.bz_streams.specs.declared.sink.Sink.{Ghosts as SinkOf}
 use Rattle.bz_files.specs.declared.files.Files.{Ghosts as FilesOf}
 use Rattle.bz_buildozer.specs.Calls.{LeavesOutcome}
 use Rattle.bz_buildozer.specs.Ending.{Left, LeftStands}
-use Rattle.bz_buildozer.specs.Outcome.{unused, LinesLeave, AreOfInput, AreOfInputAndSome, IsOfInput, NamesNoFile, KeepsJournals, IsScript, reported_name, OperandsOutcome, LinesOutcome, TextOutcome, ScriptOutcome, GivenOutcome, LineOutcome, WordsOutcome}
+use Rattle.bz_buildozer.specs.Outcome.{unused, LinesLeave, AreOfInput, AreOfInputAndSome, IsOfInput, NamesNoFile, KeepsJournals, IsScript, IsText, IsTextFault, reported_name, OperandsOutcome, LinesOutcome, TextOutcome, ScriptOutcome, GivenOutcome, LineOutcome, WordsOutcome}
 use Rattle.bz_buildozer.specs.Run.{World}
-use Rattle.bz_streams.specs.Ports.{IsInput}
 use Rattle.bz_buildozer.specs.Steps.{is_of_input, names_input, input_package}
 use Rattle.bz_buildozer.specs.Reported.{usage_line, refused_place, IsLineUsageLine, input_line}
+use Rattle.bz_buildozer.proofs.TextSteps.{IsReadOf, whole_outcome}
 
 -- ---- lines on standard error
 
@@ -88,15 +87,6 @@ pub unwritten : (exit : Exit) → (exit.cut ≢ c.Whole → exit ≡ record { st
 unwritten exit memory is =
     let out : exit.cut ≡ c.Memory = ap (λ (it : Exit). it.cut) (memory (λ whole. absurd (cc (sym is ∙ whole)))) in
     absurd (cc (sym is ∙ out))
-
--- ---- the bytes of standard input
-
--- Fewer bytes than could be taken are all.
-pub all_taken : (known : Option Bytes) (bytes : Bytes) (most : ℕ) → length bytes < most → IfSome known (λ all. bytes ≡ take most all) → IsInput known bytes
-all_taken None bytes most less is = tt
-all_taken (Some all) bytes most less is =
-    let short : length (take most all) < most = subst (λ (it : Bytes). length it < most) is less in
-    is ∙ take_all most all (omega (arith, short, length-take most all))
 
 pub apart : (name : Bytes) → bytes_eq name input_package ≡ false → name ≢ input_package
 apart name differs same = true≢false (ap (λ (it : Bytes). bytes_eq it input_package) (sym same) ∙ differs)
@@ -184,49 +174,48 @@ lines_premise honest journals lines neither (inr named) = inr (not_both journals
 
 -- ---- the text of a file of lines
 
-pub text_invalid : (options : Options) (name text reported : Bytes) (world : World) (at at' : ℕ) (out : Option Bytes) (f g : ℕ) (old new : Option Bytes)
-    → IsValidUpTo text at → at' ≡ at → reported ≡ reported_name name → AppendsUnlessFailed f g old new (fault_line reported (NotUtf8 at'))
+pub text_invalid : (options : Options) (name text reported : Bytes) (world : World) (fault : ReadFault) (out : Option Bytes) (f g : ℕ) (old new : Option Bytes)
+    → IsTextFault text fault → reported ≡ reported_name name → AppendsUnlessFailed f g old new (fault_line reported fault)
     → (left : Left) × TextOutcome options name (Some text) world left × LeftStands left 1 world.folder out out f g old new
-text_invalid options name text reported world at at' out f g old new valid same called appends =
-    let line : Bytes = fault_line reported (NotUtf8 at') in
-    let is : line ≡ fault_line (reported_name name) (NotUtf8 at) = ap (λ (n : ℕ). fault_line reported (NotUtf8 n)) same ∙ ap (λ (it : Bytes). fault_line it (NotUtf8 at)) called in (
+text_invalid options name text reported world fault out f g old new invalid called appends =
+    let line : Bytes = fault_line reported fault in (
       unused world.folder line,
-      inl (at, valid, ap (unused world.folder) is),
+      inl (fault, invalid, ap (λ (it : Bytes). unused world.folder (fault_line it fault)) called),
       stands_unused world.folder world.folder line 1 out f g old new refl refl (reported_once f g old new line appends),
     )
 
 pub text_refused : (options : Options) (name text text' reported : Bytes) (world : World) (found : Option Usage) (usage : Usage) (line : Bytes) (status : ℕ)
-    (out : Option Bytes) (f g : ℕ) (old new : Option Bytes) → text' ≡ text → IsUtf8 text → IfSome found (IsScriptFault text') → found ≡ Some usage
+    (out : Option Bytes) (f g : ℕ) (old new : Option Bytes) → text' ≡ text → IsText text → IfSome found (IsScriptFault text') → found ≡ Some usage
     → reported ≡ reported_name name → line ≡ usage_line reported usage → status ≡ 1 → Reports f g old new (line ∷ [])
     → (left : Left) × TextOutcome options name (Some text) world left × LeftStands left status world.folder out out f g old new
-text_refused options name text text' reported world found usage line status out f g old new same utf8 fault is called says exit reports =
+text_refused options name text text' reported world found usage line status out f g old new same valid fault is called says exit reports =
     let why : IsScriptFault text usage = subst (λ (it : Bytes). IsScriptFault it usage) same (at_some (IsScriptFault text') found usage is fault) in
     let as_reported : line ≡ usage_line (reported_name name) usage = says ∙ ap (λ (it : Bytes). usage_line it usage) called in (
       unused world.folder line,
-      inr (inl (utf8, (usage, why, ap (unused world.folder) as_reported))),
+      inr (inl (valid, (usage, why, ap (unused world.folder) as_reported))),
       stands_unused world.folder world.folder line status out f g old new refl exit reports,
     )
 
 -- its lines mean rules of standard input, where they are there
 pub text_refuses : (options : Options) (name text text' : Bytes) (world : World) (lines lines' : List Requested) (status : ℕ) (out : Option Bytes) (f g : ℕ)
-    (old new : Option Bytes) → text' ≡ text → IsUtf8 text → script_of text' ≡ Ok lines → lines' ≡ lines → bytes_eq name input_package && names_input lines' ≡ true
+    (old new : Option Bytes) → text' ≡ text → IsText text → script_of text' ≡ Ok lines → lines' ≡ lines → bytes_eq name input_package && names_input lines' ≡ true
     → status ≡ 1 → AppendsUnlessFailed f g old new input_line
     → (left : Left) × TextOutcome options name (Some text) world left × LeftStands left status world.folder out out f g old new
-text_refuses options name text text' world lines lines' status out f g old new same utf8 is these both exit reported = (
+text_refuses options name text text' world lines lines' status out f g old new same valid is these both exit reported = (
   unused world.folder input_line,
-  inr (inr (utf8, (lines, ap script_of (sym same) ∙ is, inl (ap (λ (l : List Requested). bytes_eq name input_package && names_input l) (sym these) ∙ both, refl)))),
+  inr (inr (valid, (lines, ap script_of (sym same) ∙ is, inl (ap (λ (l : List Requested). bytes_eq name input_package && names_input l) (sym these) ∙ both, refl)))),
   stands_unused world.folder world.folder input_line status out f g old new refl exit (reported_once f g old new input_line reported),
 )
 
 pub text_done : (options : Options) (name text text' : Bytes) (folder : Folder) (known left_over : Option Bytes) (lines lines' : List Requested) (left : Left)
-    → text' ≡ text → IsUtf8 text → script_of text' ≡ Ok lines → lines' ≡ lines → bytes_eq name input_package && names_input lines' ≡ false
+    → text' ≡ text → IsText text → script_of text' ≡ Ok lines → lines' ≡ lines → bytes_eq name input_package && names_input lines' ≡ false
     → (name ≢ input_package → known ≡ left_over) → LinesLeave options lines' (record { folder = folder; known = left_over }) left
     → TextOutcome options name (Some text) (record { folder = folder; known = known }) left
-text_done options name text text' folder known left_over lines lines' left same utf8 is these neither unread leave =
+text_done options name text text' folder known left_over lines lines' left same valid is these neither unread leave =
     let world : World = record { folder = folder; known = known } in
     let outcome : LinesOutcome options (bytes_eq name input_package) lines' world left =
     inr (neither, (left_over, λ other. sym (unread (apart name other)), leave)) in
-    inr (inr (utf8, (lines, ap script_of (sym same) ∙ is, subst (λ (it : List Requested). LinesOutcome options (bytes_eq name input_package) it world left) these outcome)))
+    inr (inr (valid, (lines, ap script_of (sym same) ∙ is, subst (λ (it : List Requested). LinesOutcome options (bytes_eq name input_package) it world left) these outcome)))
 
 -- ---- a file of lines
 
@@ -241,16 +230,17 @@ script_unread options name reported world folder' status out f g old new same is
       stands_unused world.folder folder' line status out f g old new same exit (reported_once f g old new line appends),
     )
 
-pub script_done : (options : Options) (name text text' : Bytes) (folder folder' : Folder) (known : Option Bytes) (left : Left) → text' ≡ text
-    → folder' ≡ folder → IsScript (record { folder = folder; known = known }) name (Some text)
+pub script_done : (options : Options) (name whole text text' : Bytes) (folder folder' : Folder) (known : Option Bytes) (left : Left) → text' ≡ text
+    → folder' ≡ folder → IsScript (record { folder = folder; known = known }) name (Some whole) → IsReadOf whole text
     → TextOutcome options name (Some text') (record { folder = folder'; known = known }) left
     → ScriptOutcome options name (record { folder = folder; known = known }) left
-script_done options name text text' folder folder' known left same still is outcome = (
-  Some text,
-  is,
-  subst (λ (it : Folder). TextOutcome options name (Some text) (record { folder = it; known = known }) left) still
-      (subst (λ (it : Bytes). TextOutcome options name (Some it) (record { folder = folder'; known = known }) left) same outcome),
-)
+script_done options name whole text text' folder folder' known left same still is read outcome =
+    let world : World = record { folder = folder'; known = known } in (
+      Some whole,
+      is,
+      subst (λ (it : Folder). TextOutcome options name (Some whole) (record { folder = it; known = known }) left) still
+          (whole_outcome options name whole text world left read (subst (λ (it : Bytes). TextOutcome options name (Some it) world left) same outcome)),
+    )
 
 -- ---- words
 

@@ -1,7 +1,6 @@
 -- What a run of status 1 prints, by what was read of the words and of the lines.
-use Rattle.std.proofs.Common.{◌≡◌, inl, inr, ℕ, List, [], ◌∷◌, codes, Option, Some, None, IfSome, Result, Ok, Err, Bool, true, refl, sym, ap, subst, ◌∙◌, bytes_eq}
-use Rattle.std.specs.Str.{IsUtf8, IsValidUpTo}
-use Rattle.bz_lex.specs.declared.fault.ReadFault.TheVariants.{NotUtf8}
+use Rattle.std.proofs.Common.{◌≡◌, inl, inr, ℕ, List, [], ◌∷◌, codes, Option, Some, None, IfSome, Result, Ok, Err, Bool, true, false, refl, sym, ap, subst, ◌∙◌, bytes_eq}
+use Rattle.bz_lex.specs.declared.fault.ReadFault.{ReadFault}
 use Rattle.bz_items.specs.Characters.{Bytes}
 use Rattle.bz_command_line.specs.Requested.{Requested, Usage, operand_group}
 use Rattle.bz_command_line.specs.Line.{Given, script, CommandLine, LineUsage, command_line_of}
@@ -11,12 +10,13 @@ use Rattle.bz_command_line.specs.declared.line.Options.{Options}
 use Rattle.bz_streams.specs.Faults.{AppendsUnlessFailed}
 use Rattle.bz_streams.specs.Outputs.{Reports}
 use Rattle.bz_streams.specs.Reported.{named_line, fault_line}
-use Rattle.bz_buildozer.specs.Outcome.{IsScript, reported_name}
+use Rattle.bz_buildozer.specs.Outcome.{IsScript, IsScriptFront, IsText, IsTextFault, reported_name}
 use Rattle.bz_buildozer.specs.Run.{World}
 use Rattle.bz_buildozer.specs.Steps.{input_package, names_input}
 use Rattle.bz_buildozer.specs.Reported.{usage_line, IsLineUsageLine, no_journal_line}
 use Rattle.bz_buildozer.specs.Usage.{OperandsReport, LinesReport, TextReports, GivenReports, LineReports}
 use Rattle.bz_buildozer.proofs.Outcomes.{reported_once, at_some}
+use Rattle.bz_buildozer.proofs.TextSteps.{script_read, whole_reports}
 
 -- one line that passes was printed
 abbrev pub ReportsOne : (Bytes → Type 0) → ℕ → ℕ → Option Bytes → Option Bytes → Type 0
@@ -38,28 +38,28 @@ operands_named options texts requested lines f g old new is same journal named r
 
 -- ---- the text of a file of lines
 
-pub text_reported : (options : Options) (name text reported : Bytes) (at at' : ℕ) (f g : ℕ) (old new : Option Bytes) → IsValidUpTo text at → at' ≡ at
-    → reported ≡ reported_name name → AppendsUnlessFailed f g old new (fault_line reported (NotUtf8 at')) → ReportsOne (TextReports options name (Some text)) f g old new
-text_reported options name text reported at at' f g old new valid same called appends = (
-  fault_line reported (NotUtf8 at'),
-  inl (at, valid, ap (λ (n : ℕ). fault_line reported (NotUtf8 n)) same ∙ ap (λ (it : Bytes). fault_line it (NotUtf8 at)) called),
-  reported_once f g old new (fault_line reported (NotUtf8 at')) appends,
+pub text_reported : (options : Options) (name text reported : Bytes) (fault : ReadFault) (f g : ℕ) (old new : Option Bytes) → IsTextFault text fault
+    → reported ≡ reported_name name → AppendsUnlessFailed f g old new (fault_line reported fault) → ReportsOne (TextReports options name (Some text)) f g old new
+text_reported options name text reported fault f g old new invalid called appends = (
+  fault_line reported fault,
+  inl (fault, invalid, ap (λ (it : Bytes). fault_line it fault) called),
+  reported_once f g old new (fault_line reported fault) appends,
 )
 
 pub script_reported : (options : Options) (name text text' reported : Bytes) (found : Option Usage) (usage : Usage) (line : Bytes) (f g : ℕ) (old new : Option Bytes)
-    → text' ≡ text → IsUtf8 text → IfSome found (IsScriptFault text') → found ≡ Some usage → reported ≡ reported_name name → line ≡ usage_line reported usage
+    → text' ≡ text → IsText text → IfSome found (IsScriptFault text') → found ≡ Some usage → reported ≡ reported_name name → line ≡ usage_line reported usage
     → Reports f g old new (line ∷ []) → ReportsOne (TextReports options name (Some text)) f g old new
-script_reported options name text text' reported found usage line f g old new same utf8 fault is called says reports =
+script_reported options name text text' reported found usage line f g old new same valid fault is called says reports =
     let why : IsScriptFault text usage = subst (λ (it : Bytes). IsScriptFault it usage) same (at_some (IsScriptFault text') found usage is fault) in
     let as_reported : line ≡ usage_line (reported_name name) usage = says ∙ ap (λ (it : Bytes). usage_line it usage) called in
-    (line, inr (inl (utf8, (usage, why, as_reported))), reports)
+    (line, inr (inl (valid, (usage, why, as_reported))), reports)
 
 pub script_lines_reported : (options : Options) (name text text' : Bytes) (lines lines' : List Requested) (f g : ℕ) (old new : Option Bytes)
-    → text' ≡ text → IsUtf8 text → script_of text' ≡ Ok lines → lines' ≡ lines
+    → text' ≡ text → IsText text → script_of text' ≡ Ok lines → lines' ≡ lines
     → ReportsOne (LinesReport options (bytes_eq name input_package) lines') f g old new → ReportsOne (TextReports options name (Some text)) f g old new
-script_lines_reported options name text text' lines lines' f g old new same utf8 is these reported =
+script_lines_reported options name text text' lines lines' f g old new same valid is these reported =
     let reports = subst (λ (it : List Requested). LinesReport options (bytes_eq name input_package) it reported.0) these reported.1 in
-    (reported.0, inr (inr (utf8, (lines, ap script_of (sym same) ∙ is, reports))), reported.2)
+    (reported.0, inr (inr (valid, (lines, ap script_of (sym same) ∙ is, reports))), reported.2)
 
 -- There is no file of lines.
 pub script_missing : (honest : Bool) (world : World) (options : Options) (name reported : Bytes) (f g : ℕ) (old new : Option Bytes)
@@ -73,10 +73,14 @@ script_missing honest world options name reported f g old new is called appends 
 
 -- The text was read of the file of lines.
 pub read_reported : (honest : Bool) (world : World) (options : Options) (name text text' : Bytes) (f g : ℕ) (old new : Option Bytes) → text' ≡ text
-    → (honest ≡ true → IsScript world name (Some text)) → ReportsOne (TextReports options name (Some text')) f g old new
+    → (honest ≡ true → IsScriptFront world name text) → ReportsOne (TextReports options name (Some text')) f g old new
     → ReportsOne (GivenReports honest world options (script name)) f g old new
-read_reported honest world options name text text' f g old new same is reported =
-    (reported.0, (Some text, is, subst (λ (it : Bytes). TextReports options name (Some it) reported.0) same reported.1), reported.2)
+read_reported true world options name text text' f g old new same is reported =
+    let read = script_read world name text (is refl) in
+    let reports = subst (λ (it : Bytes). TextReports options name (Some it) reported.0) same reported.1 in
+    (reported.0, (Some read.0, (λ _. read.1), whole_reports options name read.0 text reported.0 read.2 reports), reported.2)
+read_reported false world options name text text' f g old new same is reported =
+    (reported.0, (Some text, (λ honest. absurd (cc)), subst (λ (it : Bytes). TextReports options name (Some it) reported.0) same reported.1), reported.2)
 
 -- ---- words
 

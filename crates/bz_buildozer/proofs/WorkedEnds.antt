@@ -1,12 +1,14 @@
 -- How runs end, for the worked rows.
 use Rattle.std.specs.Str.{is_utf8, chars}
 use lib.Utf8.{encode}
-use Rattle.std.proofs.Common.{◌≡◌, ◌&&◌, inl, inr, ◌∙◌, ℕ, ◌≤◌, List, [], ◌∷◌, ◌++◌, length, codes, leb-true, Bool, true, false, Option, Some, None, Result, Ok, Err, refl, sym, ap, subst}
+use Rattle.std.proofs.Common.{◌≡◌, ◌&&◌, inl, inr, ◌∙◌, ℕ, ◌≤◌, List, [], ◌∷◌, ◌++◌, length, codes, leb, leb-true, Bool, true, false, Option, Some, None, Result, Ok, Err, refl, sym, ap, subst}
 use Rattle.std.proofs.lemmas.List.{append-nil}
 use Rattle.std.proofs.lemmas.Str.{IsUtf8-from_is_utf8}
 use Rattle.std.specs.FinMap.{get}
 use Rattle.std.specs.Fmt.{digits}
 use Rattle.clap.proofs.OnLiterals.{clap_on_literals}
+use Rattle.bz_lex.specs.declared.fault.ReadFault.TheVariants.{TooLarge}
+use Rattle.bz_grammar.specs.Spell.{limit}
 use Rattle.bz_value.specs.declared.refusal.Refusal.TheVariants.{TooFar}
 use Rattle.bz_files.specs.Folder.{Folder, with_file}
 use Rattle.bz_buildozer.specs.Sessions.{History, Answer, changed, undone, opened, note_limit, gives, Changed, Moved}
@@ -30,7 +32,7 @@ use Rattle.bz_buildozer.specs.Found.{found_in, found_at, first_name, second_name
 use Rattle.bz_buildozer.specs.Opens.{opened_fresh}
 use Rattle.bz_buildozer.specs.Packages.{opened_with, Opened, Used, package_number, file_at}
 use Rattle.bz_buildozer.specs.Ending.{Left, Performs}
-use Rattle.bz_buildozer.specs.Outcome.{WordsOutcome, LineOutcome, ScriptOutcome, unused}
+use Rattle.bz_buildozer.specs.Outcome.{WordsOutcome, IsText, LineOutcome, ScriptOutcome, unused}
 use Rattle.bz_buildozer.specs.Run.{World, Progress, Finds, Uses, Answers, Does, RunsSteps, nothing_done, reported_of, answered, ends_run}
 use Rattle.bz_buildozer.specs.Steps.{RunStep, all_steps, names_input}
 use Rattle.bz_buildozer.specs.Reported.{usage_line}
@@ -102,6 +104,9 @@ undo_is_text : is_utf8 (codes "undo|-:x\n") ≡ true
 unfolding is_utf8 chars encode
 undo_is_text = refl
 
+read_text : (text : Bytes) → leb (length text) limit ≡ true → is_utf8 text ≡ true → IsText text
+read_text text short utf8 = (leb-true (length text) limit short, IsUtf8-from_is_utf8 text utf8)
+
 pub usage : WorkedUsage
 unfolding clap_on_literals digits
 usage = (
@@ -125,18 +130,22 @@ usage = (
   (λ world there. script_of (codes "-f" ∷ codes "lines" ∷ []) (codes "lines") world (unused world.folder (codes "lines: no operands\n")) refl (
     Some (codes "# none\n\n"),
     inr (apart (codes "lines") refl, sym there),
-    inr (inl (IsUtf8-from_is_utf8 (codes "# none\n\n") comment_is_text, (no_line, inl refl, refl))),
+    inr (inl (read_text (codes "# none\n\n") refl comment_is_text, (no_line, inl refl, refl))),
   )),
   (λ world there. script_of (codes "-f" ∷ codes "lines" ∷ []) (codes "lines") world (unused world.folder (codes "buildozer: no target\nlines:2: refused\n")) refl (
     Some (codes "# none\ndelete\n"),
     inr (apart (codes "lines") refl, sym there),
-    inr (inl (IsUtf8-from_is_utf8 (codes "# none\ndelete\n") delete_is_text, (in_line 2 no_target, inl refl, refl))),
+    inr (inl (read_text (codes "# none\ndelete\n") refl delete_is_text, (in_line 2 no_target, inl refl, refl))),
   )),
+  (λ world text there long. script_of (codes "-f" ∷ codes "lines" ∷ []) (codes "lines") world (unused world.folder (codes "lines: TooLarge\n")) refl
+      (Some text, inr (apart (codes "lines") refl, sym there), inl (TooLarge, inl (long, refl), refl))),
+  (λ folder text long. script_of (codes "-f" ∷ codes "-" ∷ []) (codes "-") (record { folder = folder; known = Some text })
+      (unused folder (codes "<stdin>: TooLarge\n")) refl (Some text, inl (refl, (text, refl, refl)), inl (TooLarge, inl (long, refl), refl))),
   (λ folder. script_of (codes "-f" ∷ codes "-" ∷ []) (codes "-") (record { folder = folder; known = Some (codes "undo|-:x\n") })
       (unused folder (codes "buildozer: package - cannot be edited beside -f -\n")) refl (
         Some (codes "undo|-:x\n"),
         inl (refl, (codes "undo|-:x\n", refl, refl)),
-        inr (inr (IsUtf8-from_is_utf8 (codes "undo|-:x\n") undo_is_text, (undo_input ∷ [], refl, inl (refl, refl)))),
+        inr (inr (read_text (codes "undo|-:x\n") refl undo_is_text, (undo_input ∷ [], refl, inl (refl, refl)))),
       )),
   (λ world. inr (undo_input, refl, (refl, refl, refl))),
 )

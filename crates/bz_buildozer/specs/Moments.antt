@@ -18,7 +18,7 @@ use Rattle.bz_buildozer.specs.Keeps.{after_keeping}
 use Rattle.bz_buildozer.specs.Packages.{Opened, Used, package_number, file_at, with_opened}
 use Rattle.bz_buildozer.specs.Sessions.{Action, History, Reply, present}
 use Rattle.bz_buildozer.specs.Keeping.{IsApart}
-use Rattle.bz_buildozer.specs.Outcome.{IsScript}
+use Rattle.bz_buildozer.specs.Outcome.{IsScript, IsText}
 use Rattle.bz_buildozer.specs.Run.{World}
 use Rattle.bz_buildozer.specs.Steps.{RunStep, action_of, all_steps}
 
@@ -80,7 +80,7 @@ IsMomentOfSteps began (step ∷ steps) used now = (mid : List Used) × (after : 
 -- what is requested by operands, or by the lines of a file
 abbrev pub RequestsFor : World → Given → List Requested → Type 0
 RequestsFor world (operands texts) lines = (requested : Requested) × (operand_group texts ≡ Ok requested) × (lines ≡ requested ∷ [])
-RequestsFor world (script name) lines = (text : Bytes) × IsScript world name (Some text) × (script_of text ≡ Ok lines)
+RequestsFor world (script name) lines = (text : Bytes) × IsScript world name (Some text) × IsText text × (script_of text ≡ Ok lines)
 
 -- a folder at a moment of a run: it is as it was, or at a moment of the steps that are requested
 abbrev pub IsMomentOfRun : World → Given → Folder → Type 0

@@ -1,9 +1,11 @@
 -- What a run of buildozer does, by its words, the bytes of standard input and the folder.
-use Rattle.std.specs.Prelude.{◌≡◌, ◌≢◌, ◌⊎◌, ◌&&◌, ℕ, List, [], ◌∷◌, codes, bytes_eq, if◌then◌else◌, Bool, true, false, Option, Some, None, Result, Ok, Err, IfOk, IsErr}
+use Rattle.std.specs.Prelude.{◌≡◌, ◌≢◌, ◌⊎◌, ◌&&◌, ◌≤◌, ◌<◌, ◌+◌, ℕ, List, [], ◌∷◌, length, take, codes, bytes_eq, if◌then◌else◌, Bool, true, false, Option, Some, None, Result, Ok, Err, IfOk, IfSome, IsErr}
 use Rattle.std.specs.List.{All}
 use Rattle.std.specs.FinMap.{get}
 use Rattle.std.specs.Str.{IsUtf8, IsValidUpTo}
-use Rattle.bz_lex.specs.declared.fault.ReadFault.TheVariants.{NotUtf8}
+use Rattle.bz_lex.specs.declared.fault.ReadFault.{ReadFault}
+use Rattle.bz_lex.specs.declared.fault.ReadFault.TheVariants.{NotUtf8, TooLarge}
+use Rattle.bz_grammar.specs.Spell.{limit}
 use Rattle.bz_items.specs.Characters.{Bytes}
 use Rattle.bz_files.specs.Folder.{Folder}
 use Rattle.bz_command_line.specs.Requested.{Requested, Usage, operand_group}
@@ -51,6 +53,20 @@ IsScript world name text =
     ((name ≡ input_package) × ((bytes : Bytes) × IsInput world.known bytes × (text ≡ Some bytes)))
     ⊎ ((name ≢ input_package) × (text ≡ get world.folder name))
 
+-- Its first bytes, one more than a text may have.
+abbrev pub IsScriptFront : World → Bytes → Bytes → Type 0
+IsScriptFront world name front =
+    ((name ≡ input_package) × IfSome world.known (λ all. front ≡ take (limit + 1) all))
+    ⊎ ((name ≢ input_package) × ((text : Bytes) × (get world.folder name ≡ Some text) × (front ≡ take (limit + 1) text)))
+
+-- A file of lines is a text: no longer than one may be, and UTF-8.
+abbrev pub IsText : Bytes → Type 0
+IsText bytes = (length bytes ≤ limit) × IsUtf8 bytes
+
+-- It is none, and why; its length is looked at first.
+abbrev pub IsTextFault : Bytes → ReadFault → Type 0
+IsTextFault bytes fault = ((limit < length bytes) × (fault ≡ TooLarge)) ⊎ ((length bytes ≤ limit) × ((at : ℕ) × IsValidUpTo bytes at × (fault ≡ NotUtf8 at)))
+
 -- the name by which the file of lines is reported
 abbrev pub reported_name : Bytes → Bytes
 reported_name name = if bytes_eq name input_package then stdin else name
@@ -67,9 +83,9 @@ LinesOutcome options of_input lines world left =
 abbrev pub TextOutcome : Options → Bytes → Option Bytes → World → Left → Type 0
 TextOutcome options name None world left = left ≡ unused world.folder (named_line (reported_name name) (codes "cannot open"))
 TextOutcome options name (Some text) world left =
-    ((at : ℕ) × IsValidUpTo text at × (left ≡ unused world.folder (fault_line (reported_name name) (NotUtf8 at))))
-    ⊎ (IsUtf8 text × ((usage : Usage) × IsScriptFault text usage × (left ≡ unused world.folder (usage_line (reported_name name) usage))))
-    ⊎ (IsUtf8 text × ((lines : List Requested) × (script_of text ≡ Ok lines) × LinesOutcome options (bytes_eq name input_package) lines world left))
+    ((fault : ReadFault) × IsTextFault text fault × (left ≡ unused world.folder (fault_line (reported_name name) fault)))
+    ⊎ (IsText text × ((usage : Usage) × IsScriptFault text usage × (left ≡ unused world.folder (usage_line (reported_name name) usage))))
+    ⊎ (IsText text × ((lines : List Requested) × (script_of text ≡ Ok lines) × LinesOutcome options (bytes_eq name input_package) lines world left))
 
 abbrev pub ScriptOutcome : Options → Bytes → World → Left → Type 0
 ScriptOutcome options name world left = (text : Option Bytes) × IsScript world name text × TextOutcome options name text world left

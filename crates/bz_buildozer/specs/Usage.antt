@@ -1,7 +1,6 @@
 -- Why a run has status 1, by the one line that it prints.
-use Rattle.std.specs.Prelude.{◌≡◌, ◌⊎◌, ◌&&◌, ℕ, List, [], ◌∷◌, codes, bytes_eq, Bool, true, Option, Some, None, Result, Ok, Err}
-use Rattle.std.specs.Str.{IsUtf8, IsValidUpTo}
-use Rattle.bz_lex.specs.declared.fault.ReadFault.TheVariants.{NotUtf8}
+use Rattle.std.specs.Prelude.{◌≡◌, ◌⊎◌, ◌&&◌, List, [], ◌∷◌, codes, bytes_eq, Bool, true, Option, Some, None, Result, Ok, Err}
+use Rattle.bz_lex.specs.declared.fault.ReadFault.{ReadFault}
 use Rattle.bz_items.specs.Characters.{Bytes}
 use Rattle.bz_command_line.specs.Requested.{Requested, Usage, operand_group}
 use Rattle.bz_command_line.specs.Line.{Given, operands, script, CommandLine, LineUsage}
@@ -9,7 +8,7 @@ use Rattle.bz_command_line.specs.Refused.{IsGroupFault, IsScriptFault}
 use Rattle.bz_command_line.specs.Script.{script_of}
 use Rattle.bz_command_line.specs.declared.line.Options.{Options}
 use Rattle.bz_streams.specs.Reported.{named_line, fault_line}
-use Rattle.bz_buildozer.specs.Outcome.{IsScript, reported_name}
+use Rattle.bz_buildozer.specs.Outcome.{IsScript, IsText, IsTextFault, reported_name}
 use Rattle.bz_buildozer.specs.Run.{World}
 use Rattle.bz_buildozer.specs.Steps.{input_package, names_input}
 use Rattle.bz_buildozer.specs.Reported.{usage_line, IsLineUsageLine, input_line, no_journal_line}
@@ -33,9 +32,9 @@ LinesReport options of_input lines line =
 abbrev pub TextReports : Options → Bytes → Option Bytes → Bytes → Type 0
 TextReports options name None line = line ≡ named_line (reported_name name) (codes "cannot open")
 TextReports options name (Some text) line =
-    ((at : ℕ) × IsValidUpTo text at × (line ≡ fault_line (reported_name name) (NotUtf8 at)))
-    ⊎ (IsUtf8 text × ((usage : Usage) × IsScriptFault text usage × (line ≡ usage_line (reported_name name) usage)))
-    ⊎ (IsUtf8 text × ((lines : List Requested) × (script_of text ≡ Ok lines) × LinesReport options (bytes_eq name input_package) lines line))
+    ((fault : ReadFault) × IsTextFault text fault × (line ≡ fault_line (reported_name name) fault))
+    ⊎ (IsText text × ((usage : Usage) × IsScriptFault text usage × (line ≡ usage_line (reported_name name) usage)))
+    ⊎ (IsText text × ((lines : List Requested) × (script_of text ≡ Ok lines) × LinesReport options (bytes_eq name input_package) lines line))
 
 -- The file of lines is that of the world, where the files are honest.
 abbrev pub GivenReports : Bool → World → Options → Given → Bytes → Type 0

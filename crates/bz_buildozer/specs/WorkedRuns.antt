@@ -1,10 +1,11 @@
 -- Worked rows: how whole runs of buildozer end. Above a row is what is typed (in a shell).
-use Rattle.std.specs.Prelude.{◌≡◌, ℕ, true, List, [], ◌∷◌, ◌++◌, codes, Some, None}
+use Rattle.std.specs.Prelude.{◌≡◌, ◌<◌, ℕ, true, List, [], ◌∷◌, ◌++◌, length, codes, Some, None}
 use Rattle.std.specs.FinMap.{get}
 use Rattle.bz_files.specs.Folder.{Folder, with_file}
 use Rattle.bz_buildozer.specs.Sessions.{gives, Means}
 use Rattle.bz_label.specs.declared.target.Which.TheVariants.{Name}
 use Rattle.bz_command_line.specs.Line.{command_line_of}
+use Rattle.bz_grammar.specs.Spell.{limit}
 use Rattle.bz_items.specs.Characters.{Bytes}
 use Rattle.bz_command_syntax.specs.declared.command.AttributeOperation.TheVariants as wa
 use Rattle.bz_command_syntax.specs.declared.command.Operation.TheVariants as w
@@ -45,6 +46,11 @@ WorkedUsage =
     → Unused (codes "-f" ∷ codes "lines" ∷ []) (codes "lines: no operands\n") world)
     × ((world : World) → get world.folder (codes "lines") ≡ Some (codes "# none\ndelete\n")
     → Unused (codes "-f" ∷ codes "lines" ∷ []) (codes "buildozer: no target\nlines:2: refused\n") world)
+    -- -f lines, and -f -: the text is longer than one may be.
+    × ((world : World) (text : Bytes) → get world.folder (codes "lines") ≡ Some text → limit < length text
+    → Unused (codes "-f" ∷ codes "lines" ∷ []) (codes "lines: TooLarge\n") world)
+    × ((folder : Folder) (text : Bytes) → limit < length text
+    → Unused (codes "-f" ∷ codes "-" ∷ []) (codes "<stdin>: TooLarge\n") (record { folder = folder; known = Some text }))
     -- -f - with the line undo|-:x
     × ((folder : Folder) → Unused (codes "-f" ∷ codes "-" ∷ []) (codes "buildozer: package - cannot be edited beside -f -\n")
     (record { folder = folder; known = Some (codes "undo|-:x\n") }))

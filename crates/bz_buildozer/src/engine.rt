@@ -12,7 +12,7 @@ ghost use Rattle.bz_buildozer.specs.Failing.{GivenUntil, IsCut, PerformsUntil, W
 ghost use Rattle.bz_buildozer.specs.Keeps.{KeepsFolder};
 ghost use Rattle.bz_buildozer.specs.Calls.{ReportsLines, PrintsAll, IsStill, ReadsNothing, world_with, world_of, EndsIn, PassesBy, IsEndedOver, LeavesOutcome};
 ghost use Rattle.bz_buildozer.specs.Moments.{IsMomentOfRun, IsMomentOfSteps};
-ghost use Rattle.bz_buildozer.specs.Outcome.{LinesLeave, WordsOutcome, OperandsOutcome, TextOutcome, ScriptOutcome, AreOfInput, AreOfInputAndSome, IsOfInput, GivesNothing, KeepsJournals, LineGivesNothing, NamesNoFile, TakesNoFile, TakesNoInput, TakesScript};
+ghost use Rattle.bz_buildozer.specs.Outcome.{LinesLeave, WordsOutcome, OperandsOutcome, TextOutcome, ScriptOutcome, AreOfInput, AreOfInputAndSome, IsOfInput, GivesNothing, IsText, KeepsJournals, LineGivesNothing, NamesNoFile, TakesNoFile, TakesNoInput, TakesScript};
 ghost use Rattle.bz_buildozer.specs.Steps.{all_steps, input_package, names_input};
 ghost use Rattle.bz_buildozer.specs.Reported.{no_journal_line};
 ghost use Rattle.bz_buildozer.specs.Usage.{OperandsReport, TextReports, GivenReports, LineReports};
@@ -21,11 +21,10 @@ use crate::ending::finish;
 use crate::reported::{UNUSED, report_line_usage, report_script, report_unread, report_usage};
 use crate::run::begun;
 use crate::running::run_lines;
-use crate::script::{INPUT, read_bytes, reported_name};
+use crate::script::{INPUT, read_bytes, reported_name, text_in};
 use crate::step::{are_one_step, names_input, shows_input};
 use bz_command_line::{Given, Options, Requested, read_group, read_line, read_script};
 use bz_files::Files;
-use bz_grammar::ReadFault;
 use bz_streams::{Cut, Exit, Sink, Source, report, report_fault};
 use std::alloc::Global;
 use std::convert::AsStr;
@@ -133,24 +132,23 @@ fn run_text<R: Source, W: Sink, E: Sink, F: Files>(
         → LeavesOutcome W.Sink E.Sink F.Files (TextOutcome options name.now (Some bytes.now) (world_with F.Files files.old known))
         result out.old out.new err.old err.new files.new }
     ensures ends { F.honest files.old ≡ true → IsCut result.cut → EndsIn W.Sink E.Sink F.Files (λ ended. (lines : List a.Requested)
-        × (script_of bytes.now ≡ Ok lines) × PerformsUntil options (all_steps lines) (world_of R.Source F.Files input.old files.old) ended)
+        × IsText bytes.now × (script_of bytes.now ≡ Ok lines) × PerformsUntil options (all_steps lines) (world_of R.Source F.Files input.old files.old) ended)
         result out.old out.new err.old err.new files.new }
     ensures unused { result.status ≡ 1 → (input.new ≡ input.old) × (out.new ≡ out.old) × (files.new ≡ files.old) }
     ensures usage { result.status ≡ 1 → (line : List ℕ) × TextReports options name.now (Some bytes.now) line
         × ReportsLines E.Sink err.old err.new (line ∷ []) }
     ensures unread_kept { options.journal ≡ true → IsStill R.Source input.old input.new }
     ensures moments { options.journal ≡ true → F.honest files.old ≡ true → PassesBy F.Files (λ now. (lines : List a.Requested)
-        × (script_of bytes.now ≡ Ok lines) × IsMomentOfSteps (F.folder files.old) (all_steps lines) [] now) files.old files.new }
+        × IsText bytes.now × (script_of bytes.now ≡ Ok lines) × IsMomentOfSteps (F.folder files.old) (all_steps lines) [] now) files.old files.new }
     ensures sound { R.sound input.old ≡ true → result.cut ≢ Cut.Read }
     ensures status { result.cut ≢ Cut.Whole → result.status ≡ 2 }
     ensures ended { IsEndedOver R.Source W.Sink F.Files result.cut input.old input.new out.old out.new files.old files.new }
     ensures honest { F.honest files.new ≡ F.honest files.old }
 {
-    let text = match str::from_utf8(bytes) {
+    let text = match text_in(bytes) {
         Ok(text) => text,
         Err(fault) => {
-            let at = fault.valid_up_to();
-            report_fault(err, reported_name(name), &ReadFault::NotUtf8 { at });
+            report_fault(err, reported_name(name), &fault);
             return UNUSED;
         }
     };

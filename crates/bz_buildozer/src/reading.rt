@@ -15,7 +15,7 @@ ghost use Rattle.bz_buildozer.specs.private.ShownFiles.{opened_in};
 ghost use Rattle.bz_buildozer.specs.Reported.{package_hint};
 
 use crate::used::Opened;
-use bz_files::{FileFault, Files};
+use bz_files::{FileFault, FileKind, Files};
 use bz_items::{Memory, Text};
 use bz_journal::{Editor, ResumeFault};
 use bz_lex::ReadFault;
@@ -72,7 +72,7 @@ pub(crate) fn bytes_of<F: Files>(
     ensures honest { F.honest files.new ≡ F.honest files.old }
 {
     let mut text = Vec::new(alloc);
-    files.read_most(name, most, &mut text)?;
+    files.read_most(name, FileKind::Regular, most, &mut text)?;
     Ok(text)
 }
 

@@ -1,13 +1,14 @@
 //! Files of lines.
-ghost use Rattle.std.specs.Prelude.{◌≡◌, ◌≢◌, ℕ, Some, None, true, IfOk, IfErr};
+ghost use Rattle.std.specs.Prelude.{◌≡◌, ◌≢◌, None, true, IfOk, IfErr};
 ghost use Rattle.bz_streams.specs.Outputs.{Counts};
 ghost use Rattle.bz_buildozer.specs.Calls.{world_of, AreCutOver};
 ghost use Rattle.bz_buildozer.specs.Keeps.{KeepsFolder};
-ghost use Rattle.bz_buildozer.specs.Outcome.{IsScript, reported_name};
+ghost use Rattle.bz_buildozer.specs.Outcome.{IsScript, IsScriptFront, IsText, IsTextFault, reported_name};
 ghost use Rattle.bz_buildozer.specs.Steps.{input_package};
 
-use bz_files::{FileFault, Files};
-use bz_streams::{Cut, InputFault, STDIN, Source, read_most};
+use bz_files::{FileFault, FileKind, Files};
+use bz_lex::{LENGTH_LIMIT, ReadFault};
+use bz_streams::{Cut, InputFault, MOST, STDIN, Source, read_most};
 use std::alloc::Global;
 
 /// The name of the file of lines, and the path of the package, that means standard input.
@@ -20,8 +21,8 @@ pub(crate) fn reported_name(name: &str) -> &str
     if name == INPUT { STDIN } else { name }
 }
 
-/// The bytes of a file of lines: those of standard input for `-`, else of a file. The error: why the run is cut, whole where there is no
-/// such file.
+/// The first bytes of a file of lines: all of standard input for `-`, else of a file, or one more than a text may have where there are more.
+/// The error: why the run is cut, whole where there is no such file.
 pub(crate) fn read_bytes<R: Source, F: Files>(
     alloc: Global,
     name: &str,
@@ -29,7 +30,7 @@ pub(crate) fn read_bytes<R: Source, F: Files>(
     files: &mut F,
 ) -> Result<Vec<u8>, Cut>
     ensures ok { IfOk result (λ bytes. (F.honest files.old ≡ true
-        → IsScript (world_of R.Source F.Files input.old files.old) name.now (Some bytes.items))
+        → IsScriptFront (world_of R.Source F.Files input.old files.old) name.now bytes.items)
         × (R.faults input.new ≡ R.faults input.old) × (F.faults files.new ≡ F.faults files.old)) }
     ensures err { IfErr result (λ cut. (cut ≡ Cut.Whole → F.honest files.old ≡ true
         → IsScript (world_of R.Source F.Files input.old files.old) name.now None)
@@ -44,18 +45,36 @@ pub(crate) fn read_bytes<R: Source, F: Files>(
     ensures honest { F.honest files.new ≡ F.honest files.old }
 {
     if name == INPUT {
-        match read_most(alloc, input, usize::MAX) {
+        match read_most(alloc, input, MOST) {
             Ok(bytes) => Ok(bytes),
             Err(InputFault::Read) => Err(Cut::Read),
             Err(InputFault::Memory) => Err(Cut::Memory),
         }
     } else {
         let mut bytes = Vec::new(alloc);
-        match files.read(name, &mut bytes) {
+        match files.read_most(name, FileKind::Any, MOST, &mut bytes) {
             Ok(()) => Ok(bytes),
             Err(FileFault::Absent) => Err(Cut::Whole),
             Err(FileFault::Memory) => Err(Cut::Memory),
             Err(FileFault::Open | FileFault::Write) => Err(Cut::Files),
+        }
+    }
+}
+
+/// The text of a file of lines. Errors: `TooLarge`, where it is longer than a text may be; else `NotUtf8`, with the length of the longest
+/// beginning that is.
+pub(crate) fn text_in(bytes: &[u8]) -> Result<&str, ReadFault>
+    ensures ok { IfOk result (λ text. (text.now ≡ bytes.now) × IsText bytes.now) }
+    ensures err { IfErr result (IsTextFault bytes.now) }
+{
+    if bytes.len() > LENGTH_LIMIT {
+        return Err(ReadFault::TooLarge);
+    }
+    match str::from_utf8(bytes) {
+        Ok(text) => Ok(text),
+        Err(fault) => {
+            let at = fault.valid_up_to();
+            Err(ReadFault::NotUtf8 { at })
         }
     }
 }

@@ -1,16 +1,11 @@
 -- The front of a list.
-use Rattle.std.proofs.Common.{◌≡◌, ◌<◌, ◌+◌, ◌++◌, ◌∷◌, ◌∙◌, ◌||◌, Bool, ℕ, List, [], length, map, take, ap, refl, sym, arith, length-append, length-take}
+use Rattle.std.proofs.Common.{◌≡◌, ◌<◌, ◌+◌, ◌++◌, ◌∷◌, ◌∙◌, ◌||◌, Bool, ℕ, List, [], length, map, take, ap, refl, sym, arith, length-take}
 use Rattle.std.specs.List.{list_any}
 use Rattle.std.proofs.lemmas.List.{take_all}
 
 -- Fewer than could be taken are all.
-pub all_taken : (most : ℕ) (bytes : List ℕ) → length (take most bytes) < most → take most bytes ≡ bytes
+all_taken : (most : ℕ) (bytes : List ℕ) → length (take most bytes) < most → take most bytes ≡ bytes
 all_taken most bytes short = take_all most bytes (omega (arith, short, length-take most bytes))
-
-pub all_added : (most : ℕ) (bytes start items : List ℕ) → items ≡ start ++ take most bytes → length items < most → items ≡ start ++ bytes
-all_added most bytes start items is short =
-    let len : length items ≡ length start + length (take most bytes) = ap length is ∙ length-append start (take most bytes) in
-    is ∙ ap (λ (front : List ℕ). start ++ front) (all_taken most bytes (omega (arith, len, short)))
 
 -- what was read after nothing, up to one byte more than a list has, shows whether the bytes are that list
 pub shows : (held bytes start items read : List ℕ) → items ≡ start ++ take (length held + 1) bytes → start ≡ [] → read ≡ items

@@ -8,7 +8,7 @@ ghost use Rattle.bz_files.specs.Folder.{with_file, folder_of};
 ghost use Rattle.bz_files.specs.Log.{folder_after, shown_entry, StoodSince, stands_now, only_stands, folder_in, plan_in, waiting_in, moments_in, folder_then};
 ghost use Rattle.bz_files.specs.Failing.{no_plan, IsNextCall, IsToFail, IsToFailAfter, IsUnreadable};
 
-use crate::{FileFault, FileStamp, Files};
+use crate::{FileFault, FileKind, FileStamp, Files};
 use std::alloc::{AllocError, Global};
 
 // A file that was written.
@@ -280,7 +280,13 @@ impl Files for MemoryFiles {
 
     ghost only_now = { λ m now stood. only_stands m.log.items now stood };
 
-    fn read_most(&mut self, name: &str, most: usize, into: &mut Vec<u8>) -> Result<(), FileFault> {
+    fn read_most(
+        &mut self,
+        name: &str,
+        _kind: FileKind,
+        most: usize,
+        into: &mut Vec<u8>,
+    ) -> Result<(), FileFault> {
         if !self.reads(name) {
             return Err(self.failed(FileFault::Open));
         }
@@ -291,15 +297,6 @@ impl Files for MemoryFiles {
                 Err(_) => Err(FileFault::Memory),
             },
         }
-    }
-
-    fn read(&mut self, name: &str, into: &mut Vec<u8>) -> Result<(), FileFault> {
-        if let Err(fault) = self.read_most(name, usize::MAX, into) {
-            return Err(fault);
-        }
-        // No list is so long, so that these are all the bytes.
-        prove!(into.len() < usize::MAX);
-        Ok(())
     }
 
     fn look(

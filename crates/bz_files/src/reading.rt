@@ -2,18 +2,15 @@
 ghost use Rattle.std.specs.Prelude.{◌≡◌, ◌≢◌, ◌⊎◌, ◌++◌, take, IfSome, IfErr, OnOk, OnErr};
 ghost use Rattle.std.specs.Io.{StartsWith};
 
-use crate::{FileFault, FileStamp};
+use crate::{FileFault, FileKind, FileStamp};
 use std::alloc::Global;
 use std::fs::File;
 use std::io::{ErrorKind, Read};
 use std::{fs, io};
 
-/// Opens a file, if it is a regular one. A pipe or a device isn't opened, since that may wait, or do something: so it is looked at
-/// before. One that takes the name in between is opened, since no call opens without waiting; it is looked at again, and not read.
-pub(crate) fn open_regular<R: std::rt::Files<File = File>>(
-    system: &R,
-    name: &str,
-) -> io::Result<File> {
+// Opens a file, if it is a regular one. A pipe or a device isn't opened, since that may wait, or do something: so it is looked at
+// before. One that takes the name in between is opened, since no call opens without waiting; it is looked at again, and not read.
+fn open_regular<R: std::rt::Files<File = File>>(system: &R, name: &str) -> io::Result<File> {
     if fs::metadata(system, name)?.is_file() {
         let file = fs::open(system, name)?;
         if file.metadata()?.is_file() {
@@ -21,6 +18,18 @@ pub(crate) fn open_regular<R: std::rt::Files<File = File>>(
         }
     }
     Err(io::Error::from(ErrorKind::InvalidInput))
+}
+
+/// Opens what has a name, if it is of this kind.
+pub(crate) fn open_kind<R: std::rt::Files<File = File>>(
+    system: &R,
+    name: &str,
+    kind: FileKind,
+) -> io::Result<File> {
+    match kind {
+        FileKind::Regular => open_regular(system, name),
+        FileKind::Any => fs::open(system, name),
+    }
 }
 
 fn fault_of(error: &io::Error) -> FileFault

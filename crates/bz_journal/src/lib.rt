@@ -21,7 +21,7 @@ mod session;
 mod texts;
 
 pub use action::{Action, Reply};
-pub use bz_files::{DiskFiles, FileFault, Files, MemoryFiles};
+pub use bz_files::{DiskFiles, FileFault, FileKind, Files, MemoryFiles};
 pub use bz_resume::ResumeFault;
 pub use editor::Editor;
 pub use keeping::KeepFault;

@@ -11,7 +11,7 @@ ghost use Rattle.bz_resume.specs.Pair.{journal_name};
 ghost use Rattle.bz_resume.specs.Resuming.{MayResume, Replaces, Survives, Resumes, Holds, OthersStay, present};
 
 use crate::PairFault;
-use bz_files::{FileFault, Files, rewrite_pair};
+use bz_files::{FileFault, FileKind, Files, rewrite_pair};
 use bz_items::Memory;
 use std::alloc::Global;
 
@@ -78,7 +78,7 @@ fn check_file<F: Files>(
     ensures honest { F.honest files.new ≡ F.honest files.old }
 {
     let mut held = Vec::new(alloc);
-    match files.read_most(file, standing.len() + 1, &mut held) {
+    match files.read_most(file, FileKind::Regular, standing.len() + 1, &mut held) {
         Ok(()) => compare(held.as_slice(), standing),
         Err(fault) => Err(fault_of(fault)),
     }

@@ -4,5 +4,5 @@
 
 pub use bz_buildifier::buildifier;
 pub use bz_buildozer::buildozer;
-pub use bz_files::{DiskFiles, FileFault, Files, MemoryFiles};
+pub use bz_files::{DiskFiles, FileFault, FileKind, Files, MemoryFiles};
 pub use bz_streams::{Cut, Device, Exit, MemorySink, MemorySource, PortFault, Sink, Source};

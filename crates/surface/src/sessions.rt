@@ -1,6 +1,8 @@
 //! A session and its journal by the names of bz_journal.
 use bz_command::{Command, Refusal};
-use bz_journal::{Action, FileFault, Files, KeepFault, MemoryFiles, Reply, ResumeFault, Session};
+use bz_journal::{
+    Action, FileFault, FileKind, Files, KeepFault, MemoryFiles, Reply, ResumeFault, Session,
+};
 use bz_label::Target;
 use std::alloc::Global;
 
@@ -24,7 +26,8 @@ pub(crate) fn outcome(alloc: Global) -> Option<String> {
     let target = Target::read(alloc, "//p:x").ok()?;
     let mut files = MemoryFiles::of(alloc, &[("BUILD", TEXT)]).ok()?;
     let mut held = Vec::new(alloc);
-    let read: Result<(), FileFault> = files.read("BUILD", &mut held);
+    let read: Result<(), FileFault> =
+        files.read_most("BUILD", FileKind::Regular, TEXT.len(), &mut held);
     read.ok()?;
     let action = Action::Do(&command, &target);
     let kept: Result<Reply, KeepFault> = session.keep(&action, "BUILD", &mut files);

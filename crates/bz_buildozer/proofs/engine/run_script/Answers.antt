@@ -9,6 +9,7 @@ use Rattle.bz_buildozer.proofs.EndedSteps.{ends_more, exit_of, script_until, unr
 use Rattle.bz_buildozer.proofs.FailSteps.{unread_either}
 use Rattle.bz_buildozer.proofs.Outcomes.{leaves_more, reported_once, script_unread, script_done}
 use Rattle.bz_buildozer.proofs.MomentSteps.{by_no_script, by_script}
+use Rattle.bz_buildozer.proofs.TextSteps.{script_read}
 use Rattle.bz_buildozer.proofs.UnusedSteps.{no_more_time}
 use Rattle.bz_buildozer.proofs.UsageSteps.{read_reported, script_missing}
 use Rattle.bz_buildozer.proofs.engine.run_script.Goals as goal
@@ -30,9 +31,11 @@ returns-in-Err-clause-leaves g c honest = record {
 pub returns-in-Ok-clause-leaves : goal.returns-in-Ok-clause-leaves
 returns-in-Ok-clause-leaves g c honest =
     let known = g.R.Source.remaining c.args.input.now in
+    let world : World = record { folder = g.F.Files.folder c.args.files.now; known = g.R.Source.remaining c.args.input.now } in
+    let read = script_read world c.args.name.now c.in-Ok.bytes.items (c.in-Ok.ensures.ok.0 honest) in
     leaves_more g.W.Sink g.E.Sink g.F.Files _ _ c.run_text.result c.args.out.now c.run_text.new.out c.args.err.now c.run_text.new.err c.run_text.new.files
-    (λ left. script_done c.args.options c.args.name.now c.in-Ok.bytes.items c.deref.result.now (g.F.Files.folder c.args.files.now)
-    (g.F.Files.folder c.read_bytes.new.files) known left c.deref.ensures.value (c.read_bytes.ensures.folder honest) (c.in-Ok.ensures.ok.0 honest))
+    (λ left. script_done c.args.options c.args.name.now read.0 c.in-Ok.bytes.items c.deref.result.now (g.F.Files.folder c.args.files.now)
+    (g.F.Files.folder c.read_bytes.new.files) known left c.deref.ensures.value (c.read_bytes.ensures.folder honest) read.1 read.2)
     (c.run_text.ensures.leaves (c.read_bytes.ensures.honest ∙ honest) known (λ other. ap g.R.Source.remaining (sym (c.read_bytes.ensures.input other))))
 
 pub returns-in-Err-clause-usage : goal.returns-in-Err-clause-usage
@@ -65,10 +68,12 @@ returns-in-Err-clause-ends g c honest is_cut = (
 pub returns-in-Ok-clause-ends : goal.returns-in-Ok-clause-ends
 returns-in-Ok-clause-ends g c honest is_cut =
     let known = g.R.Source.remaining c.args.input.now in
+    let world : World = record { folder = g.F.Files.folder c.args.files.now; known = g.R.Source.remaining c.args.input.now } in
+    let read = script_read world c.args.name.now c.in-Ok.bytes.items (c.in-Ok.ensures.ok.0 honest) in
     ends_more g.W.Sink g.E.Sink g.F.Files _ _ c.run_text.result c.args.out.now c.run_text.new.out c.args.err.now c.run_text.new.err c.run_text.new.files
-    (λ ended. script_until c.args.options c.args.name.now c.in-Ok.bytes.items c.deref.result.now (g.F.Files.folder c.args.files.now)
+    (λ ended. script_until c.args.options c.args.name.now read.0 c.in-Ok.bytes.items c.deref.result.now (g.F.Files.folder c.args.files.now)
     (g.F.Files.folder c.read_bytes.new.files) known (g.R.Source.remaining c.read_bytes.new.input) ended c.deref.ensures.value (c.read_bytes.ensures.folder honest)
-    (c.in-Ok.ensures.ok.0 honest) (λ other. ap g.R.Source.remaining (c.read_bytes.ensures.input other)))
+    read.1 read.2 (λ other. ap g.R.Source.remaining (c.read_bytes.ensures.input other)))
     (c.run_text.ensures.ends (c.read_bytes.ensures.honest ∙ honest) is_cut)
 
 pub returns-in-Ok-clause-usage : goal.returns-in-Ok-clause-usage
@@ -99,8 +104,10 @@ returns-in-Err-clause-moments g c kept honest =
 
 pub returns-in-Ok-clause-moments : goal.returns-in-Ok-clause-moments
 returns-in-Ok-clause-moments g c kept honest =
-    by_script g.F.Files c.args.files.now c.run_text.new.files (g.R.Source.remaining c.args.input.now) c.args.name.now c.in-Ok.bytes.items c.deref.result.now
-    c.read_bytes.new.files (c.read_bytes.ensures.folder honest) c.deref.ensures.value (c.in-Ok.ensures.ok.0 honest) (c.read_bytes.ensures.time honest)
+    let world : World = record { folder = g.F.Files.folder c.args.files.now; known = g.R.Source.remaining c.args.input.now } in
+    let read = script_read world c.args.name.now c.in-Ok.bytes.items (c.in-Ok.ensures.ok.0 honest) in
+    by_script g.F.Files c.args.files.now c.run_text.new.files (g.R.Source.remaining c.args.input.now) c.args.name.now read.0 c.in-Ok.bytes.items c.deref.result.now
+    c.read_bytes.new.files (c.read_bytes.ensures.folder honest) c.deref.ensures.value read.1 read.2 (c.read_bytes.ensures.time honest)
     (c.run_text.ensures.moments kept (c.read_bytes.ensures.honest ∙ honest))
 
 pub returns-in-Ok-clause-sound : goal.returns-in-Ok-clause-sound

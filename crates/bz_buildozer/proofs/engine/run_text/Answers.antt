@@ -1,6 +1,5 @@
 use Rattle.std.proofs.Common.{List, refl, map, ap, sym, subst, ◌∙◌, inl, inr}
 use Rattle.std.specs.List.{All}
-use Rattle.std.specs.Str.{valid_up_to}
 use Rattle.bz_command_line.specs.Paths.{HasPath}
 use Rattle.bz_command_line.specs.Shown.{requested_in, script_usage_in}
 use Rattle.bz_command_line.specs.declared.requested.Requested.{Requested}
@@ -17,9 +16,9 @@ pub returns-in-Err-clause-leaves : goal.returns-in-Err-clause-leaves
 returns-in-Err-clause-leaves g c honest known before = record {
   whole = λ is_whole.
       let world : World = record { folder = g.F.Files.folder c.args.files.now; known = known } in
-      text_invalid c.args.options c.args.name.now c.args.bytes.now c.reported_name.result.now world (valid_up_to c.in-Err.fault) c.valid_up_to-at.result
+      text_invalid c.args.options c.args.name.now c.args.bytes.now c.reported_name.result.now world c.in-Err.fault
       (g.W.Sink.contents c.args.out.now) (g.E.Sink.faults c.args.err.now) (g.E.Sink.faults c.report_fault.new.err) (g.E.Sink.contents c.args.err.now)
-      (g.E.Sink.contents c.report_fault.new.err) c.in-Err.ensures.cases.1 c.valid_up_to-at.ensures c.reported_name.ensures c.report_fault.ensures;
+      (g.E.Sink.contents c.report_fault.new.err) c.in-Err.ensures.err c.reported_name.ensures c.report_fault.ensures;
   write = λ is. absurd (cc is);
 }
 
@@ -33,7 +32,7 @@ returns-then-edits_input-clause-leaves g c honest known before = record {
       let world : World = record { folder = g.F.Files.folder c.args.files.now; known = known } in
       text_refuses c.args.options c.args.name.now c.args.bytes.now c.in-Ok.text.now world (map requested_in c.in-Ok-read_script.lines.items)
       (map requested_in c.as_slice-lines.result.now) 1 (g.W.Sink.contents c.args.out.now) (g.E.Sink.faults c.args.err.now) (g.E.Sink.faults c.report.new.err)
-      (g.E.Sink.contents c.args.err.now) (g.E.Sink.contents c.report.new.err) c.in-Ok.ensures.cases.0 c.in-Ok.ensures.cases.1 c.in-Ok-read_script.ensures.ok
+      (g.E.Sink.contents c.args.err.now) (g.E.Sink.contents c.report.new.err) c.in-Ok.ensures.ok.0 c.in-Ok.ensures.ok.1 c.in-Ok-read_script.ensures.ok
       (ap (map requested_in) c.as_slice-lines.ensures.value) (sym c.edits_input.ensures ∙ c.if-edits_input.true) refl c.report.ensures;
   write = λ is. absurd (cc is);
 }
@@ -42,7 +41,7 @@ pub returns-clause-leaves : goal.returns-clause-leaves
 returns-clause-leaves g c honest known before =
     leaves_more g.W.Sink g.E.Sink g.F.Files _ _ c.perform.result c.args.out.now c.perform.new.out c.args.err.now c.perform.new.err c.perform.new.files
     (λ left. text_done c.args.options c.args.name.now c.args.bytes.now c.in-Ok.text.now (g.F.Files.folder c.args.files.now) known (g.R.Source.remaining c.args.input.now)
-    (map requested_in c.in-Ok-read_script.lines.items) (map requested_in c.as_slice-lines.result.now) left c.in-Ok.ensures.cases.0 c.in-Ok.ensures.cases.1
+    (map requested_in c.in-Ok-read_script.lines.items) (map requested_in c.as_slice-lines.result.now) left c.in-Ok.ensures.ok.0 c.in-Ok.ensures.ok.1
     c.in-Ok-read_script.ensures.ok (ap (map requested_in) c.as_slice-lines.ensures.value) (sym c.edits_input.ensures ∙ c.if-edits_input.false) before)
     (c.perform.ensures.leaves (inl honest))
 
@@ -56,21 +55,21 @@ returns-in-Err-read_script-clause-leaves g c honest known before = record {
       text_refused c.args.options c.args.name.now c.args.bytes.now c.in-Ok.text.now c.reported_name-in-Err-read_script.result.now world
       (script_usage_in c.in-Err-read_script.fault) reported.0 reported.1 c.report_script.result.status (g.W.Sink.contents c.args.out.now) (g.E.Sink.faults c.args.err.now)
       (g.E.Sink.faults c.report_script.new.err) (g.E.Sink.contents c.args.err.now) (g.E.Sink.contents c.report_script.new.err)
-      c.in-Ok.ensures.cases.0 c.in-Ok.ensures.cases.1 c.in-Err-read_script.ensures.err reported.2 c.reported_name-in-Err-read_script.ensures reported.3 exit reported.4;
+      c.in-Ok.ensures.ok.0 c.in-Ok.ensures.ok.1 c.in-Err-read_script.ensures.err reported.2 c.reported_name-in-Err-read_script.ensures reported.3 exit reported.4;
   write = λ is. absurd (unwritten c.report_script.result c.report_script.ensures.cut is);
 }
 
 pub returns-in-Err-clause-usage : goal.returns-in-Err-clause-usage
 returns-in-Err-clause-usage g c is =
-    text_reported c.args.options c.args.name.now c.args.bytes.now c.reported_name.result.now (valid_up_to c.in-Err.fault) c.valid_up_to-at.result
+    text_reported c.args.options c.args.name.now c.args.bytes.now c.reported_name.result.now c.in-Err.fault
     (g.E.Sink.faults c.args.err.now) (g.E.Sink.faults c.report_fault.new.err) (g.E.Sink.contents c.args.err.now) (g.E.Sink.contents c.report_fault.new.err)
-    c.in-Err.ensures.cases.1 c.valid_up_to-at.ensures c.reported_name.ensures c.report_fault.ensures
+    c.in-Err.ensures.err c.reported_name.ensures c.report_fault.ensures
 
 pub returns-then-edits_input-clause-usage : goal.returns-then-edits_input-clause-usage
 returns-then-edits_input-clause-usage g c is =
     script_lines_reported c.args.options c.args.name.now c.args.bytes.now c.in-Ok.text.now (map requested_in c.in-Ok-read_script.lines.items)
     (map requested_in c.as_slice-lines.result.now) (g.E.Sink.faults c.args.err.now) (g.E.Sink.faults c.report.new.err) (g.E.Sink.contents c.args.err.now)
-    (g.E.Sink.contents c.report.new.err) c.in-Ok.ensures.cases.0 c.in-Ok.ensures.cases.1 c.in-Ok-read_script.ensures.ok
+    (g.E.Sink.contents c.report.new.err) c.in-Ok.ensures.ok.0 c.in-Ok.ensures.ok.1 c.in-Ok-read_script.ensures.ok
     (ap (map requested_in) c.as_slice-lines.ensures.value) (
       input_line,
       inl (sym c.edits_input.ensures ∙ c.if-edits_input.true, refl),
@@ -83,7 +82,7 @@ returns-clause-usage g c is =
     let reported = c.perform.ensures.usage is in
     script_lines_reported c.args.options c.args.name.now c.args.bytes.now c.in-Ok.text.now (map requested_in c.in-Ok-read_script.lines.items)
     (map requested_in c.as_slice-lines.result.now) (g.E.Sink.faults c.args.err.now) (g.E.Sink.faults c.perform.new.err) (g.E.Sink.contents c.args.err.now)
-    (g.E.Sink.contents c.perform.new.err) c.in-Ok.ensures.cases.0 c.in-Ok.ensures.cases.1 c.in-Ok-read_script.ensures.ok
+    (g.E.Sink.contents c.perform.new.err) c.in-Ok.ensures.ok.0 c.in-Ok.ensures.ok.1 c.in-Ok-read_script.ensures.ok
     (ap (map requested_in) c.as_slice-lines.ensures.value) (no_journal_line, inr (reported.0, reported.1, refl), reported.2)
 
 pub returns-clause-unread_kept : goal.returns-clause-unread_kept
@@ -95,7 +94,7 @@ returns-in-Err-read_script-clause-usage g c is =
     (g.E.Sink.contents c.args.err.now) (g.E.Sink.contents c.report_script.new.err) (c.report_script.ensures.some is) (c.report_script.ensures.reported is) in
     script_reported c.args.options c.args.name.now c.args.bytes.now c.in-Ok.text.now c.reported_name-in-Err-read_script.result.now (script_usage_in c.in-Err-read_script.fault)
     reported.0 reported.1 (g.E.Sink.faults c.args.err.now) (g.E.Sink.faults c.report_script.new.err) (g.E.Sink.contents c.args.err.now) (g.E.Sink.contents c.report_script.new.err)
-    c.in-Ok.ensures.cases.0 c.in-Ok.ensures.cases.1 c.in-Err-read_script.ensures.err reported.2 c.reported_name-in-Err-read_script.ensures reported.3 reported.4
+    c.in-Ok.ensures.ok.0 c.in-Ok.ensures.ok.1 c.in-Err-read_script.ensures.err reported.2 c.reported_name-in-Err-read_script.ensures reported.3 reported.4
 
 pub returns-in-Err-clause-moments : goal.returns-in-Err-clause-moments
 returns-in-Err-clause-moments g c kept honest = no_time g.F.Files.moment g.F.Files.since c.args.files.now c.args.files.now
@@ -108,7 +107,7 @@ returns-then-edits_input-clause-moments g c kept honest = no_time g.F.Files.mome
 pub returns-clause-moments : goal.returns-clause-moments
 returns-clause-moments g c kept honest =
     by_text g.F.Files c.args.files.now c.perform.new.files c.args.bytes.now c.in-Ok.text.now (map requested_in c.in-Ok-read_script.lines.items)
-    (map requested_in c.as_slice-lines.result.now) c.in-Ok.ensures.cases.0 c.in-Ok-read_script.ensures.ok (ap (map requested_in) c.as_slice-lines.ensures.value)
+    (map requested_in c.as_slice-lines.result.now) c.in-Ok.ensures.ok.0 c.in-Ok.ensures.ok.1 c.in-Ok-read_script.ensures.ok (ap (map requested_in) c.as_slice-lines.ensures.value)
     (c.perform.ensures.moments kept honest)
 
 pub returns-in-Err-read_script-clause-moments : goal.returns-in-Err-read_script-clause-moments
@@ -129,5 +128,5 @@ returns-clause-ends g c honest is_cut =
     let world : World = record { folder = g.F.Files.folder c.args.files.now; known = g.R.Source.remaining c.args.input.now } in
     ends_more g.W.Sink g.E.Sink g.F.Files _ _ c.perform.result c.args.out.now c.perform.new.out c.args.err.now c.perform.new.err c.perform.new.files
     (λ ended. text_until c.args.options c.args.bytes.now c.in-Ok.text.now world (map requested_in c.in-Ok-read_script.lines.items)
-    (map requested_in c.as_slice-lines.result.now) ended c.in-Ok.ensures.cases.0 c.in-Ok-read_script.ensures.ok (ap (map requested_in) c.as_slice-lines.ensures.value))
+    (map requested_in c.as_slice-lines.result.now) ended c.in-Ok.ensures.ok.0 c.in-Ok.ensures.ok.1 c.in-Ok-read_script.ensures.ok (ap (map requested_in) c.as_slice-lines.ensures.value))
     (c.perform.ensures.ends (inl honest) is_cut)
