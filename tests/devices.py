@@ -257,6 +257,14 @@ def a_file_without_an_end(p):
     p.leaves("buildifier", [], (1, b"", b"<stdin>: TooLarge\n"), redirect="</dev/zero", preexec_fn=held_to(ENOUGH))
 
 
+def lines_without_an_end(p):
+    """Of a file of lines, whatever it is, no more is read than a text may have and one byte by which that is known; nothing is requested."""
+    put(p.folder, {"BUILD": RULE})
+    for words in (["-f", "/dev/zero"], ["--journal", "-k", "-f", "/dev/zero"]):
+        p.leaves("buildozer", words, (1, b"", b"/dev/zero: TooLarge\n"), preexec_fn=held_to(ADDRESSES))
+    p.leaves("buildozer", ["-f", "-"], (1, b"", b"<stdin>: TooLarge\n"), redirect="</dev/zero", preexec_fn=held_to(ADDRESSES))
+
+
 def packages_that_are_no_files(p):
     put(p.folder, {"BUILD": RULE, "f": ODD, "d/BUILD.bazel/g": ODD, "d/BUILD": RULE, "e/BUILD/g": ODD})
     (p.folder / "l").mkdir()
@@ -320,7 +328,8 @@ def files_of_odd_rights(p):
 
 FUNCTIONS = [
     a_full_output, an_input_that_cannot_be_read, closed_errors, a_reader_that_goes, packages_of_any_length, a_limit_of_files, a_full_disk,
-    a_folder_that_nobody_may_write, names_that_are_no_files, a_file_without_an_end, packages_that_are_no_files, what_stands_in_the_way, links_to_files, files_of_odd_rights,
+    a_folder_that_nobody_may_write, names_that_are_no_files, a_file_without_an_end, lines_without_an_end, packages_that_are_no_files, what_stands_in_the_way, links_to_files,
+    files_of_odd_rights,
 ]  # fmt: skip
 
 # Each scene by its name; each gives what is wrong.
