@@ -19,14 +19,14 @@ use Rattle.bz_bzl_layout.specs.Joined.{BzlLayoutsJoin, BzlDepthsJoin}
 use Rattle.bz_bzl_layout.specs.Laws.{BzlLayoutIsAccepted, BzlLayoutReadsBack, LevelKeepsLayout, LevelStays}
 use Rattle.bz_bzl_layout.specs.Layout.{bzl_layout}
 use Rattle.bz_bzl_layout.specs.Level.{level, level_item}
-use Rattle.bz_build_format.specs.private.Chunks.{FileKind, build_files, bzl_files, ReadsAs, IsLast, IsFormattedAs, IsBegun, IsAppended}
+use Rattle.bz_build_format.specs.private.Chunks.{SourceKind, build_files, bzl_files, ReadsAs, IsLast, IsFormattedAs, IsBegun, IsAppended}
 use Rattle.bz_build_format.specs.Faults.{FormatsBzlTo}
 use Rattle.bz_build_format.specs.Meaning.{gives, Formats}
 use Rattle.bz_build_format.proofs.BzlFormatting.{laid_out_given}
 use Rattle.bz_build_format.proofs.Writes.{written_given}
 
 -- What the layers below promise of what is one after the other.
-pub record LayersJoin {I : Type 0} (kind : FileKind I) : Type 0 where
+pub record LayersJoin {I : Type 0} (kind : SourceKind I) : Type 0 where
   pub views : (s t : Bytes) (n m : Node) → kind.ends n → kind.begins m → kind.reads s n → kind.reads t m → length (s ++ t) ≤ limit
       → (new : Node) × kind.reads (s ++ t) new × (kind.view new ≡ kind.view n ++ kind.view m) × (kind.ends m → kind.ends new)
   pub begins : (items : List I) (bare : Bool) (tree : Node) → kind.apart items bare → (bare ≡ true → kind.begins tree) → kind.begins tree
@@ -55,7 +55,7 @@ bzl_layers views layouts depths = record {
   depths = depths;
 }
 
-module _ {I : Type 0} (kind : FileKind I) (laws : LayersJoin kind) where
+module _ {I : Type 0} (kind : SourceKind I) (laws : LayersJoin kind) where
   apart_below : (above : Option I) (item : I) (items : List I) (bare : Bool) → above ≡ Some item → (above ≡ None) ⊎ kind.apart items bare → kind.apart items bare
   apart_below above item items bare is (inl none) = let e : Some item ≡ None = sym is ∙ none in absurd cc
   apart_below above item items bare is (inr apart) = apart
@@ -111,7 +111,7 @@ pub still_within : (text : Bytes) (at len : ℕ) → at ≤ length text → len 
 still_within text at len inside h = omega (arith, inside, h, ap length (whole_rest text at inside), length-drop at text)
 
 -- a text that is not empty, up to its end
-whole_formatted : {I : Type 0} (kind : FileKind I) (text out : Bytes) (at : ℕ) (last : Option I) (ends : Bool) → IsBegun kind (take at text) out last ends → at ≤ length text → length text ≤ at → 0 < length text → IsFormattedAs kind text out last ends
+whole_formatted : {I : Type 0} (kind : SourceKind I) (text out : Bytes) (at : ℕ) (last : Option I) (ends : Bool) → IsBegun kind (take at text) out last ends → at ≤ length text → length text ≤ at → 0 < length text → IsFormattedAs kind text out last ends
 whole_formatted kind text out at last ends g a b some =
     let all : at ≡ length text = omega (arith, a, b) in
     elim (subst (λ z. IsBegun kind z out last ends) (ap (λ n. take n text) all ∙ take-length text) g) [

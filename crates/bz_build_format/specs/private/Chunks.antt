@@ -22,7 +22,7 @@ use Rattle.bz_bzl_layout.specs.Level.{level}
 
 -- A kind of files: the trees of its texts, which of them may follow others and be followed, and what they say; which items, of a text
 -- that begins bare, are settled apart from those above; how items are settled, and laid out below others.
-pub record FileKind (I : Type 0) : Type 1 where
+pub record SourceKind (I : Type 0) : Type 1 where
   pub reads : Bytes → Node → Type 0
   pub begins : Node → Type 0
   pub ends : Node → Type 0
@@ -33,22 +33,22 @@ pub record FileKind (I : Type 0) : Type 1 where
   pub text : List I → Bytes
   pub tree : List I → Node
 
-abbrev pub build_files : FileKind Item
+abbrev pub build_files : SourceKind Item
 build_files = record { reads = Reads; begins = λ tree. Unit {0}; ends = EndsWithLine; view = view_of; apart = λ items bare. begins_with_load items ≡ false; settled = tidied; gap = gap_below; text = layout; tree = laid_out }
 
-abbrev pub bzl_files : FileKind BzlItem
+abbrev pub bzl_files : SourceKind BzlItem
 bzl_files = record { reads = ReadsBzl; begins = BeginsBare; ends = EndsWithStatement; view = bzl_view_of; apart = λ items bare. bare ≡ true; settled = level; gap = bzl_gap_below; text = bzl_layout; tree = bzl_laid_out }
 
 -- The text reads as a file of these items, and where `bare` and `ends` say so it may follow another one, and be followed.
-abbrev pub ReadsAs : {I : Type 0} → FileKind I → Bytes → List I → Bool → Bool → Type 0
+abbrev pub ReadsAs : {I : Type 0} → SourceKind I → Bytes → List I → Bool → Bool → Type 0
 ReadsAs kind text items bare ends = (tree : Node) × kind.reads text tree × (items ≡ kind.view tree) × (bare ≡ true → kind.begins tree) × (ends ≡ true → kind.ends tree)
 
 -- the last of the items, settled
-abbrev pub IsLast : {I : Type 0} → FileKind I → Option I → List I → Type 0
+abbrev pub IsLast : {I : Type 0} → SourceKind I → Option I → List I → Type 0
 IsLast {I} kind last items = (item : I) × (last ≡ Some item) × (front : List I) × (kind.settled items ≡ front ++ item ∷ [])
 
 -- The formatted text of a text, within the limits, and the last of its items.
-pub record IsFormattedAs {I : Type 0} (kind : FileKind I) (text out : Bytes) (above : Option I) (ends : Bool) : Type 0 where
+pub record IsFormattedAs {I : Type 0} (kind : SourceKind I) (text out : Bytes) (above : Option I) (ends : Bool) : Type 0 where
   pub items : List I
   pub reads : ReadsAs kind text items false ends
   pub formatted : out ≡ kind.text (kind.settled items)
@@ -57,11 +57,11 @@ pub record IsFormattedAs {I : Type 0} (kind : FileKind I) (text out : Bytes) (ab
   pub last : IsLast kind above items
 
 -- That, or nothing yet.
-abbrev pub IsBegun : {I : Type 0} → FileKind I → Bytes → Bytes → Option I → Bool → Type 0
+abbrev pub IsBegun : {I : Type 0} → SourceKind I → Bytes → Bytes → Option I → Bool → Type 0
 IsBegun kind text out above ends = ((text ≡ []) × (out ≡ []) × (above ≡ None)) ⊎ IsFormattedAs kind text out above ends
 
 -- After what was formatted is the layout of further items, settled apart.
-pub record IsAppended {I : Type 0} (kind : FileKind I) (before : Bytes) (above : Option I) (items : List I) (bare : Bool) (out : Bytes) (below : Option I) : Type 0 where
+pub record IsAppended {I : Type 0} (kind : SourceKind I) (before : Bytes) (above : Option I) (items : List I) (bare : Bool) (out : Bytes) (below : Option I) : Type 0 where
   pub apart : (above ≡ None) ⊎ kind.apart items bare
   pub formatted : out ≡ before ++ (kind.gap above (kind.settled items) ++ kind.text (kind.settled items))
   pub short : length out ≤ limit
