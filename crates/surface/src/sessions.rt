@@ -26,8 +26,12 @@ pub(crate) fn outcome(alloc: Global) -> Option<String> {
     let target = Target::read(alloc, "//p:x").ok()?;
     let mut files = MemoryFiles::of(alloc, &[("BUILD", TEXT)]).ok()?;
     let mut held = Vec::new(alloc);
-    let read: Result<(), FileFault> =
-        files.read_most("BUILD", FileKind::Regular, TEXT.len(), &mut held);
+    let read: Result<(), FileFault> = files.read_most(
+        "BUILD",
+        FileKind::Regular,
+        TEXT.len(),
+        &mut held,
+    );
     read.ok()?;
     let action = Action::Do(&command, &target);
     let kept: Result<Reply, KeepFault> = session.keep(&action, "BUILD", &mut files);
