@@ -1,10 +1,11 @@
 -- A loop that writes the rest of some bytes.
-use Rattle.std.proofs.Common.{◌≡◌, ◌≤◌, ◌<◌, ◌+◌, ◌-◌, ◌++◌, ◌∷◌, ℕ, List, [], length, get_or, add-one, take, drop, Option, Some, None, arith, refl, ap, sym, subst, ◌∙◌, append_assoc, length-append, length-drop}
+use Rattle.std.proofs.Common.{◌≡◌, ◌≤◌, ◌<◌, ◌+◌, ◌-◌, ◌++◌, ◌∷◌, ℕ, List, [], length, get_or, add-one, take, drop, Option, Some, None, arith, refl, ap, sym, subst, ◌∙◌, append_assoc, length-append, length-drop, inl, inr}
+use Rattle.std.specs.Prelude.{Result, Ok, Err, OnOk, OnErr, IsOk, IsErr}
 use Rattle.std.specs.Io.KnownBytes.{Appends, Keeps}
 use Rattle.std.proofs.lemmas.Grind.{common_steps}
 use Rattle.std.proofs.Math.Seq.{drop-cons, take-add, take-append_seam, drop-append_seam}
-use Rattle.std.proofs.lemmas.List.{drop-drop, take_all, take-append-le}
-use Rattle.bz_streams.specs.Faults.{AppendsSome, AppendsPart}
+use Rattle.std.proofs.lemmas.List.{append-nil, drop-drop, take_all, take-append-le}
+use Rattle.bz_streams.specs.Faults.{Rises, AppendsSome, AppendsPart, AppendsUnlessFailed}
 
 pub record SoFar (old now : Option (List ℕ)) (bytes rest : List ℕ) : Type 0 where
   pub some : AppendsSome old now bytes
@@ -98,3 +99,21 @@ all_written old now bytes so =
 -- what is left at a place is the item there and what is left after it
 pub left-cons : {A : Type 0} (items : List A) (at : ℕ) (default : A) → at < length items → drop at items ≡ get_or items at default ∷ drop (at + 1) items
 left-cons items at default within = rw (add-one) (drop-cons items at default within)
+
+-- ---- the bytes below all pieces
+
+pub last_written : {T E : Type 0} (answer : Result T E) (f g : ℕ) (old new : Option (List ℕ)) (bytes : List ℕ) → OnOk answer (Appends old new bytes)
+    → OnErr answer (AppendsPart old new bytes) → (IsErr answer → Rises f g) → (IsOk answer → g ≡ f) → AppendsUnlessFailed f g old new bytes
+last_written (Ok x) f g old new bytes ok part cause steady = inl (steady refl, ok)
+last_written (Err e) f g old new bytes ok part cause steady = inr (cause refl, part)
+
+pub below_written : (f m g : ℕ) (old mid new : Option (List ℕ)) (bytes below : List ℕ) → m ≡ f → SoFar old mid bytes below
+    → AppendsUnlessFailed m g mid new below → AppendsUnlessFailed f g old new bytes
+below_written f m g old mid new bytes below steady so (inl whole) =
+    inl (whole.0 ∙ steady, all_written old new bytes (piece_written old mid new bytes below below [] (sym (append-nil below)) so whole.1))
+below_written f m g old mid new bytes below steady so (inr failed) =
+    inr (subst (λ (n : ℕ). Rises n g) steady failed.0, piece_cut old mid new bytes below below [] (sym (append-nil below)) so failed.1)
+
+pub nothing_below : (f g : ℕ) (old new : Option (List ℕ)) (bytes : List ℕ) → AppendsUnlessFailed f g old new (bytes ++ [])
+    → AppendsUnlessFailed f g old new bytes
+nothing_below f g old new bytes = subst (AppendsUnlessFailed f g old new) (append-nil bytes)

@@ -1,3 +1,4 @@
+pub mod Excerpts
 pub mod Exits
 pub mod Faults
 pub mod Laws

@@ -3,6 +3,7 @@
 #![tactic(auto)]
 
 mod device;
+mod excerpt;
 mod exit;
 mod laws;
 mod memory;
@@ -21,7 +22,9 @@ pub use memory::{MemorySink, MemorySource};
 pub use near::nearest;
 pub use options::option_hint;
 pub use process::process_words;
-pub use reported::{STDIN, report, report_clap, report_clap_hinted, report_fault, report_named};
+pub use reported::{
+    STDIN, report, report_clap, report_clap_hinted, report_fault, report_fault_in, report_named,
+};
 pub use sink::{Sink, write_whole};
 pub use source::{InputFault, MOST, PortFault, Source, read_most};
 pub use words::{argument_text, argument_texts};

@@ -2,8 +2,10 @@
 ghost use Rattle.std.specs.Prelude.{◌≡◌, ◌++◌, List, ℕ, OnOk, OnErr, map};
 ghost use Rattle.std.specs.List.{concat};
 ghost use Rattle.bz_streams.specs.Faults.{AppendsUnlessFailed};
+ghost use Rattle.bz_streams.specs.Excerpts.{fault_excerpt};
 ghost use Rattle.bz_streams.specs.Reported.{place_line, named_line, fault_line};
 
+use crate::excerpt::fault_excerpt;
 use crate::{Sink, write_whole};
 use bz_lex::ReadFault;
 use itoa::Buffer;
@@ -12,11 +14,18 @@ use std::alloc::{AllocError, Global};
 /// The name by which standard input is reported.
 pub const STDIN: &str = "<stdin>";
 
-/// Writes these pieces to `err`, one after the other, up to its first fault: a beginning of them then is there, and
-/// what is left is dropped. It takes no memory itself.
-pub fn report<E: Sink>(err: &mut E, pieces: &[&str])
+// Writes the last bytes of a report. A fault is passed over.
+fn write_last<E: Sink>(err: &mut E, bytes: &[u8])
     ensures { AppendsUnlessFailed (E.faults err.old) (E.faults err.new) (E.contents err.old) (E.contents err.new)
-        (concat (map (λ piece. piece.now) pieces.now)) }
+        bytes.now }
+{
+    let _ = write_whole(err, bytes);
+}
+
+// Writes these pieces, and below them these bytes, up to the first fault.
+fn report_pieces<E: Sink>(err: &mut E, pieces: &[&str], below: &[u8])
+    ensures { AppendsUnlessFailed (E.faults err.old) (E.faults err.new) (E.contents err.old) (E.contents err.new)
+        (concat (map (λ piece. piece.now) pieces.now) ++ below.now) }
 {
     for &piece in pieces {
         match write_whole(err, piece.as_bytes()) {
@@ -24,52 +33,82 @@ pub fn report<E: Sink>(err: &mut E, pieces: &[&str])
             Err(_) => return,
         }
     }
+    write_last(err, below);
+}
+
+/// Writes these pieces to `err`, one after the other, up to its first fault: a beginning of them then is there, and
+/// what is left is dropped. It takes no memory itself.
+#[tactic(auto, using(crate::proofs::Written::nothing_below))]
+pub fn report<E: Sink>(err: &mut E, pieces: &[&str])
+    ensures { AppendsUnlessFailed (E.faults err.old) (E.faults err.new) (E.contents err.old) (E.contents err.new)
+        (concat (map (λ piece. piece.now) pieces.now)) }
+{
+    report_pieces(err, pieces, b"");
 }
 
 // Reports where a file is not accepted, and why.
-fn report_place<'a, E: Sink>(err: &mut E, file: &'a str, line: u32, column: u32, name: &'a str)
+fn report_place<'a, E: Sink>(
+    err: &mut E,
+    file: &'a str,
+    line: u32,
+    column: u32,
+    name: &'a str,
+    below: &[u8],
+)
     ensures { AppendsUnlessFailed (E.faults err.old) (E.faults err.new) (E.contents err.old) (E.contents err.new)
-        (place_line file.entry.now line column name.entry.now) }
+        (place_line file.entry.now line column name.entry.now ++ below.now) }
 {
     let mut lines = Buffer::new();
     let mut columns = Buffer::new();
     let line = lines.format(line);
     let column = columns.format(column);
-    report(err, &[file, ":", line, ":", column, ": ", name, "\n"]);
+    report_pieces(
+        err,
+        &[file, ":", line, ":", column, ": ", name, "\n"],
+        below,
+    );
 }
 
-fn report_not_utf8<E: Sink>(err: &mut E, file: &str, at: usize)
+fn report_not_utf8<E: Sink>(err: &mut E, file: &str, at: usize, below: &[u8])
     ensures { AppendsUnlessFailed (E.faults err.old) (E.faults err.new) (E.contents err.old) (E.contents err.new)
-        (fault_line file.now (ReadFault.NotUtf8 at)) }
+        (fault_line file.now (ReadFault.NotUtf8 at) ++ below.now) }
 {
     let mut places = Buffer::new();
     let at = places.format(at);
-    report(err, &[file, ": NotUtf8 at ", at, "\n"]);
+    report_pieces(err, &[file, ": NotUtf8 at ", at, "\n"], below);
+}
+
+fn report_word<'a, E: Sink>(err: &mut E, file: &'a str, word: &'a str, below: &[u8])
+    ensures { AppendsUnlessFailed (E.faults err.old) (E.faults err.new) (E.contents err.old) (E.contents err.new)
+        (named_line file.entry.now word.entry.now ++ below.now) }
+{
+    report_pieces(err, &[file, ": ", word, "\n"], below);
 }
 
 /// Reports a word on a file: writes `FILE: WORD` and a newline to `err`, up to its first fault. It takes no memory itself.
+#[tactic(auto, using(crate::proofs::Written::nothing_below))]
 pub fn report_named<'a, E: Sink>(err: &mut E, file: &'a str, word: &'a str)
     ensures { AppendsUnlessFailed (E.faults err.old) (E.faults err.new) (E.contents err.old) (E.contents err.new)
         (named_line file.entry.now word.entry.now) }
 {
-    report(err, &[file, ": ", word, "\n"]);
+    report_word(err, file, word, b"");
 }
 
-/// Reports why a file is not accepted: writes `FILE:LINE:COLUMN: NAME` to `err`, `FILE: NotUtf8 at BYTE` or, where the
-/// fault has no place, `FILE: NAME`, and a newline, up to its first fault. It takes no memory itself.
-pub fn report_fault<E: Sink>(err: &mut E, file: &str, fault: &ReadFault)
+// Reports why a file is not accepted, and these bytes below that.
+fn report_fault_above<E: Sink>(err: &mut E, file: &str, fault: &ReadFault, below: &[u8])
     ensures { AppendsUnlessFailed (E.faults err.old) (E.faults err.new) (E.contents err.old) (E.contents err.new)
-        (fault_line file.now fault.now) }
+        (fault_line file.now fault.now ++ below.now) }
 {
     match fault {
-        ReadFault::NotUtf8 { at } => report_not_utf8(err, file, *at),
-        ReadFault::TooLarge => report_named(err, file, "TooLarge"),
+        ReadFault::NotUtf8 { at } => report_not_utf8(err, file, *at, below),
+        ReadFault::TooLarge => report_word(err, file, "TooLarge", below),
         ReadFault::BadCharacter { line, column } => report_place(
             err,
             file,
             *line,
             *column,
             "BadCharacter",
+            below,
         ),
         ReadFault::OpenString { line, column } => report_place(
             err,
@@ -77,18 +116,46 @@ pub fn report_fault<E: Sink>(err: &mut E, file: &str, fault: &ReadFault)
             *line,
             *column,
             "OpenString",
+            below,
         ),
-        ReadFault::Indented { line, column } => report_place(err, file, *line, *column, "Indented"),
+        ReadFault::Indented { line, column } => report_place(
+            err, file, *line, *column, "Indented", below,
+        ),
         ReadFault::Unexpected { line, column } => report_place(
             err,
             file,
             *line,
             *column,
             "Unexpected",
+            below,
         ),
-        ReadFault::TooDeep { line, column } => report_place(err, file, *line, *column, "TooDeep"),
-        ReadFault::Memory => report_named(err, file, "Memory"),
+        ReadFault::TooDeep { line, column } => report_place(
+            err, file, *line, *column, "TooDeep", below,
+        ),
+        ReadFault::Memory => report_word(err, file, "Memory", below),
     }
+}
+
+/// Reports why a file is not accepted: writes `FILE:LINE:COLUMN: NAME` to `err`, `FILE: NotUtf8 at BYTE` or, where the
+/// fault has no place, `FILE: NAME`, and a newline, up to its first fault. It takes no memory itself.
+#[tactic(auto, using(crate::proofs::Written::nothing_below))]
+pub fn report_fault<E: Sink>(err: &mut E, file: &str, fault: &ReadFault)
+    ensures { AppendsUnlessFailed (E.faults err.old) (E.faults err.new) (E.contents err.old) (E.contents err.new)
+        (fault_line file.now fault.now) }
+{
+    report_fault_above(err, file, fault, b"");
+}
+
+/// Reports why a file that holds this text is not accepted: as `report_fault`, and where the fault has a place the line of the text
+/// below that, and a caret below the place, each after four spaces, and each ended by a newline; up to the first fault of `err`.
+/// A control character of the line is written as a space. A line of more than 200 bytes is left out, with its caret. The caret is
+/// after as many spaces as there are characters before the place. It takes no memory itself.
+pub fn report_fault_in<E: Sink>(err: &mut E, file: &str, text: &[u8], fault: &ReadFault)
+    ensures { AppendsUnlessFailed (E.faults err.old) (E.faults err.new) (E.contents err.old) (E.contents err.new)
+        (fault_line file.now fault.now ++ fault_excerpt text.now fault.now) }
+{
+    let below = fault_excerpt(text, fault);
+    report_fault_above(err, file, fault, below.as_slice());
 }
 
 /// Reports a fault that clap finds in words, by clap's own text, and this text below it, up to the first fault of `err`. The error:

@@ -6,7 +6,7 @@ pub returns : goal.returns
 returns g c =
     let file = c.args.file.now in
     let place = decimal c.args.at in
-    subst (λ (line : List ℕ). AppendsUnlessFailed (g.E.Sink.faults c.args.err.now) (g.E.Sink.faults c.report.new.err)
-    (g.E.Sink.contents c.args.err.now) (g.E.Sink.contents c.report.new.err) line)
+    subst (λ (line : List ℕ). AppendsUnlessFailed (g.E.Sink.faults c.args.err.now) (g.E.Sink.faults c.report_pieces.new.err)
+    (g.E.Sink.contents c.args.err.now) (g.E.Sink.contents c.report_pieces.new.err) (line ++ c.args.below.now))
     (sym (append_assoc (file ++ codes ": NotUtf8 at ") place (codes "\n") ∙ append_assoc file (codes ": NotUtf8 at ") (place ++ codes "\n")))
-    (rw (c.format-at.ensures.text) at c.report.ensures)
+    (rw (c.format-at.ensures.text) at c.report_pieces.ensures)

@@ -1,0 +1,11 @@
+use Rattle.std.proofs.Common.{rules}
+use Rattle.std.proofs.lemmas.Iterator.Consumers.{nth_from_yields_List}
+use Rattle.std.proofs.lemmas.Iterator.Splits.{YieldsList-from_slice_split}
+use borrow.Author.Tests.{tests}
+use Rattle.bz_lex.specs.Positions.{is_newline}
+use Rattle.bz_streams.proofs.excerpt.line_after.Goals as goal
+
+pub returns : goal.returns
+returns c = nth_from_yields_List c.nth.result c.nth.new.self c.args.count c.nth.ensures.ran
+    (YieldsList-from_slice_split _ is_newline c.args.text.now c.split-lines.ensures.rest c.split-lines.ensures.done c.split-lines.ensures.closure
+    (λ x b q k. search (rules, tests)))

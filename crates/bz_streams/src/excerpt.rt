@@ -1,0 +1,121 @@
+//! What is printed of a text below the line on its fault. It takes no memory.
+ghost use Rattle.std.specs.Prelude.{◌≡◌, ◌≤◌, ◌+◌, ◌++◌, length, map, option_map, replicate, true};
+ghost use Rattle.std.specs.List.{slice_get, slice_split};
+ghost use Rattle.arrayvec.specs.ArrayVec.{array_vec_len};
+ghost use Rattle.bz_streams.specs.Excerpts.{line_numbered, printable, is_narrow, excerpt, fault_place, fault_excerpt};
+ghost use Rattle.bz_items.specs.Characters.{space};
+ghost use Rattle.bz_lex.specs.Positions.{is_newline};
+
+use arrayvec::ArrayVec;
+use bz_lex::ReadFault;
+
+// The most bytes of a line that is printed.
+const WIDEST: usize = 200;
+
+// The most bytes of an excerpt: two lines of that width, two margins of four, a caret and two newlines.
+const LONGEST: usize = 411;
+
+const SPACES: [u8; WIDEST] = [b' '; WIDEST];
+
+pub(crate) type Excerpt = ArrayVec<u8, LONGEST>;
+
+fn is_newline(byte: u8) -> bool
+    ensures { result ≡ is_newline byte }
+{
+    byte == b'\n'
+}
+
+fn line_after(text: &[u8], count: usize) -> Option<&[u8]>
+    ensures { option_map (λ line. line.now) result ≡ slice_get (slice_split is_newline text.now) count }
+{
+    let mut lines = text.split(|byte| is_newline(*byte));
+    lines.nth(count)
+}
+
+fn line_numbered(text: &[u8], number: usize) -> &[u8]
+    ensures { result.now ≡ line_numbered text.now number }
+{
+    match line_after(text, number.saturating_sub(1)) {
+        Some(line) => line,
+        None => &[],
+    }
+}
+
+fn printable(byte: u8) -> u8
+    ensures { result ≡ printable byte }
+{
+    if byte.is_ascii_control() { b' ' } else { byte }
+}
+
+fn put(text: &mut Excerpt, bytes: &[u8])
+    requires { array_vec_len text.old + length bytes.now ≤ 411 }
+    ensures items { text.new.items ≡ text.old.items ++ bytes.now }
+    ensures len { array_vec_len text.new ≡ array_vec_len text.old + length bytes.now }
+{
+    text.try_extend_from_slice(bytes).unwrap();
+}
+
+fn put_printable(text: &mut Excerpt, line: &[u8])
+    requires { array_vec_len text.old + length line.now ≤ 411 }
+    ensures items { text.new.items ≡ text.old.items ++ map printable line.now }
+    ensures len { array_vec_len text.new ≡ array_vec_len text.old + length line.now }
+{
+    for &byte in line {
+        text.push(printable(byte));
+    }
+}
+
+fn put_spaces(text: &mut Excerpt, count: usize)
+    requires room { array_vec_len text.old + count ≤ 411 }
+    requires narrow { count ≤ 200 }
+    ensures items { text.new.items ≡ text.old.items ++ replicate count space }
+    ensures len { array_vec_len text.new ≡ array_vec_len text.old + count }
+{
+    put(text, &SPACES[..count]);
+}
+
+fn is_narrow(line: &[u8], column: usize) -> bool
+    ensures value { result ≡ is_narrow line.now column }
+    ensures line { result ≡ true → length line.now ≤ 200 }
+    ensures column { result ≡ true → column ≤ 201 }
+{
+    line.len() <= WIDEST && column <= WIDEST + 1
+}
+
+fn excerpt(line: &[u8], column: usize) -> Excerpt
+    ensures { result.items ≡ excerpt line.now column }
+{
+    let mut text = ArrayVec::new();
+    if !is_narrow(line, column) {
+        return text;
+    }
+    put(&mut text, b"    ");
+    put_printable(&mut text, line);
+    put(&mut text, b"\n    ");
+    put_spaces(&mut text, column.saturating_sub(1));
+    put(&mut text, b"^\n");
+    text
+}
+
+fn fault_place(fault: &ReadFault) -> Option<(u32, u32)>
+    ensures { result ≡ fault_place fault.now }
+{
+    match fault {
+        ReadFault::BadCharacter { line, column }
+        | ReadFault::OpenString { line, column }
+        | ReadFault::Indented { line, column }
+        | ReadFault::Unexpected { line, column }
+        | ReadFault::TooDeep { line, column } => Some((*line, *column)),
+        ReadFault::NotUtf8 { .. } | ReadFault::TooLarge | ReadFault::Memory => None,
+    }
+}
+
+/// The line of the place of a fault and a caret below it; nothing where the fault has no place or the line is too long.
+pub(crate) fn fault_excerpt(text: &[u8], fault: &ReadFault) -> Excerpt
+    ensures { result.items ≡ fault_excerpt text.now fault.now }
+{
+    match fault_place(fault) {
+        Some((line, column)) => excerpt(line_numbered(text, line as usize), column as usize),
+        None => ArrayVec::new(),
+    }
+}
