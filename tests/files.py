@@ -98,7 +98,7 @@ def all_are_tried(folder):
     file = folder.file("f", ODD)
     folder.file("d/BUILD", EVEN)
     folder.file("g", b"x(\n")
-    err = b"none: cannot open\nd: cannot open\ng:2:1: Unexpected\n"
+    err = b"none: cannot open\nd: cannot open\ng:2:1: Unexpected\n    \n    ^\n"
     return folder.leaves(["none", "d", "g", "f"], 3, err=err) and file.read_bytes() == EVEN
 
 
@@ -110,7 +110,7 @@ def by_its_name(folder):
     before = file.stat()
     folder.file("g.bzl", b"if x:\ny = 1\n")
     folder.file("bzl", EVEN_BZL)
-    err = b"g.bzl:2:1: Indented\nbzl:1:1: Unexpected\n"
+    err = b"g.bzl:2:1: Indented\n    y = 1\n    ^\nbzl:1:1: Unexpected\n    def f(a, b = 1, *c):  # doc\n    ^\n"
     after = folder.leaves(["p/f.bzl", "g.bzl", "bzl"], 1, err=err) and file.stat()
     return after and (after.st_ino, after.st_mtime_ns) == (before.st_ino, before.st_mtime_ns)
 

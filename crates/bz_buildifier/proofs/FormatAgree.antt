@@ -93,31 +93,31 @@ more_reports (line ∷ lines) (other ∷ others) more others' same again = (same
 same_effect : (one other : Effect) → other ≡ one → Agree one other
 same_effect one other same = subst (λ (e : Effect). Agree one e) (sym same) (record { out = refl; lines = same_reports one.lines; status = refl; cut = refl; closes = refl })
 
-not_memory_effect : (name : Bytes) → (refused name f.Memory).cut ≡ c.Whole → ⊥
-not_memory_effect name is = cc is
+not_memory_effect : (name text : Bytes) → (refused name text f.Memory).cut ≡ c.Whole → ⊥
+not_memory_effect name text is = cc is
 
 same_refusal : OneEach → (bzl : Bool) (text name : Bytes) (fault other : FormatFault) → FormatsAs bzl text (Err fault) → FormatsAs bzl text (Err other)
-    → (refused name fault).cut ≡ c.Whole → (refused name other).cut ≡ c.Whole → Agree (refused name fault) (refused name other)
+    → (refused name text fault).cut ≡ c.Whole → (refused name text other).cut ≡ c.Whole → Agree (refused name text fault) (refused name text other)
 same_refusal laws bzl text name (f.Unread fault) (f.Unread other) one two whole whole' =
-    record { out = refl; lines = (inr (name, fault, other, refl, refl), tt); status = refl; cut = refl; closes = refl }
-same_refusal laws bzl text name f.TooLarge f.TooLarge one two whole whole' = same_effect (refused name f.TooLarge) (refused name f.TooLarge) refl
-same_refusal laws bzl text name f.TooDeep f.TooDeep one two whole whole' = same_effect (refused name f.TooDeep) (refused name f.TooDeep) refl
+    record { out = refl; lines = (inr (name, text, fault, other, refl, refl), tt); status = refl; cut = refl; closes = refl }
+same_refusal laws bzl text name f.TooLarge f.TooLarge one two whole whole' = same_effect (refused name text f.TooLarge) (refused name text f.TooLarge) refl
+same_refusal laws bzl text name f.TooDeep f.TooDeep one two whole whole' = same_effect (refused name text f.TooDeep) (refused name text f.TooDeep) refl
 same_refusal laws bzl text name (f.Unread fault) f.TooLarge one two whole whole' = absurd (unread_or_large bzl text fault one two)
 same_refusal laws bzl text name (f.Unread fault) f.TooDeep one two whole whole' = absurd (unread_or_deep bzl text fault one two)
 same_refusal laws bzl text name f.TooLarge (f.Unread other) one two whole whole' = absurd (unread_or_large bzl text other two one)
 same_refusal laws bzl text name f.TooDeep (f.Unread other) one two whole whole' = absurd (unread_or_deep bzl text other two one)
 same_refusal laws bzl text name f.TooLarge f.TooDeep one two whole whole' = absurd (large_or_deep laws bzl text one two)
 same_refusal laws bzl text name f.TooDeep f.TooLarge one two whole whole' = absurd (large_or_deep laws bzl text two one)
-same_refusal laws bzl text name f.Memory other one two whole whole' = absurd (not_memory_effect name whole)
-same_refusal laws bzl text name (f.Unread fault) f.Memory one two whole whole' = absurd (not_memory_effect name whole')
-same_refusal laws bzl text name f.TooLarge f.Memory one two whole whole' = absurd (not_memory_effect name whole')
-same_refusal laws bzl text name f.TooDeep f.Memory one two whole whole' = absurd (not_memory_effect name whole')
+same_refusal laws bzl text name f.Memory other one two whole whole' = absurd (not_memory_effect name text whole)
+same_refusal laws bzl text name (f.Unread fault) f.Memory one two whole whole' = absurd (not_memory_effect name text whole')
+same_refusal laws bzl text name f.TooLarge f.Memory one two whole whole' = absurd (not_memory_effect name text whole')
+same_refusal laws bzl text name f.TooDeep f.Memory one two whole whole' = absurd (not_memory_effect name text whole')
 
-not_both : OneEach → (bzl : Bool) (text name new : Bytes) (fault : FormatFault) → FormatsAs bzl text (Ok new) → FormatsAs bzl text (Err fault) → (refused name fault).cut ≡ c.Whole → ⊥
+not_both : OneEach → (bzl : Bool) (text name new : Bytes) (fault : FormatFault) → FormatsAs bzl text (Ok new) → FormatsAs bzl text (Err fault) → (refused name text fault).cut ≡ c.Whole → ⊥
 not_both laws bzl text name new (f.Unread fault) formats reported whole = unread_or_ok bzl text new fault reported formats
 not_both laws bzl text name new f.TooLarge formats reported whole = ok_or_large laws bzl text new formats reported
 not_both laws bzl text name new f.TooDeep formats reported whole = ok_or_deep laws bzl text new formats reported
-not_both laws bzl text name new f.Memory formats reported whole = not_memory_effect name whole
+not_both laws bzl text name new f.Memory formats reported whole = not_memory_effect name text whole
 
 -- by effects that are these
 alike_as : (one other one' other' : Effect) → one' ≡ one → other' ≡ other → Agree one other → Agree one' other'
@@ -131,6 +131,9 @@ cut_as one one' is whole = sym (ap (λ (e : Effect). e.cut) is) ∙ whole
 
 same_text : (folder : Folder) (name text other : Bytes) → get folder name ≡ Some text → get folder name ≡ Some other → other ≡ text
 same_text folder name text other there there' = let same = sym there' ∙ there in cc
+
+same_words : (name text text' : Bytes) (fault : FormatFault) (effect : Effect) → text' ≡ text → effect ≡ refused name text' fault → effect ≡ refused name text fault
+same_words name text text' fault effect same is = is ∙ ap (λ (t : Bytes). refused name t fault) same
 
 never_both : (folder : Folder) (name text : Bytes) → get folder name ≡ None → get folder name ≡ Some text → ⊥
 never_both folder name text none there = let same = sym none ∙ there in cc same
@@ -152,19 +155,20 @@ one_step laws mode file_type name folder after after' one other (exact_unformatt
 one_step laws mode file_type name folder after after' one other (exact_formatted text new there formats is rewritten) (exact_absent none is' stays') =
     absurd (never_both folder name text none there)
 one_step laws mode file_type name folder after after' one other (exact_unformatted text fault there formats is whole stays) (exact_unformatted text' fault' there' formats' is' whole' stays') = (
-  alike_as (refused name fault) (refused name fault') one other is is' (same_refusal laws (is_bzl file_type name) text name fault fault' formats
+  alike_as (refused name text fault) (refused name text fault') one other is (same_words name text text' fault' other (same_text folder name text text' there there') is') (same_refusal laws (is_bzl file_type name) text name fault fault' formats
       (subst (λ (t : Bytes). FormatsAs (is_bzl file_type name) t (Err fault')) (same_text folder name text text' there there') formats')
-      (cut_as (refused name fault) one is whole) (cut_as (refused name fault') other is' whole')),
+      (cut_as (refused name text fault) one is whole)
+      (cut_as (refused name text fault') other (same_words name text text' fault' other (same_text folder name text text' there there') is') whole')),
   stays' ∙ sym stays,
 )
 one_step laws mode file_type name folder after after' one other (exact_unformatted text fault there formats is whole stays) (exact_formatted text' new there' formats' is' rewritten) =
     absurd (not_both laws (is_bzl file_type name) text name new fault
     (subst (λ (t : Bytes). FormatsAs (is_bzl file_type name) t (Ok new)) (same_text folder name text text' there there') formats') formats
-    (cut_as (refused name fault) one is whole))
+    (cut_as (refused name text fault) one is whole))
 one_step laws mode file_type name folder after after' one other (exact_formatted text new there formats is rewritten) (exact_unformatted text' fault there' formats' is' whole stays') =
     absurd (not_both laws (is_bzl file_type name) text name new fault formats
     (subst (λ (t : Bytes). FormatsAs (is_bzl file_type name) t (Err fault)) (same_text folder name text text' there there') formats')
-    (cut_as (refused name fault) other is' whole))
+    (cut_as (refused name text fault) other (same_words name text text' fault other (same_text folder name text text' there there') is') whole))
 one_step laws mode file_type name folder after after' one other (exact_formatted text new there formats is rewritten) (exact_formatted text' new' there' formats' is' rewritten') =
     let texts : text' ≡ text = same_text folder name text text' there there' in
     let news : new' ≡ new = one_formatted laws (is_bzl file_type name) text new new' formats (subst (λ (t : Bytes). FormatsAs (is_bzl file_type name) t (Ok new')) texts formats') in (
@@ -208,7 +212,7 @@ files_agree laws mode file_type names one other folder after after' runs runs' w
 -- ---- standard input
 
 data Exactly (mode : Mode) (file_type : FileType) (input : Bytes) (effect : Effect) : Type 0 where
-  not_formatted : (fault : FormatFault) → FormatsAs (is_bzl file_type stdin) input (Err fault) → effect ≡ refused stdin fault → Exactly mode file_type input effect
+  not_formatted : (fault : FormatFault) → FormatsAs (is_bzl file_type stdin) input (Err fault) → effect ≡ refused stdin input fault → Exactly mode file_type input effect
   was_printed : (new : Bytes) → FormatsAs (is_bzl file_type stdin) input (Ok new) → effect ≡ output_effect (input_out mode input new) (text_status mode input new)
       → Exactly mode file_type input effect
 
@@ -216,7 +220,7 @@ exactly : (mode : Mode) (file_type : FileType) (input : Bytes) (effect : Effect)
 exactly mode file_type input effect (input_unread is) whole = absurd (cc (sym (ap (λ (e : Effect). e.cut) is) ∙ whole))
 exactly mode file_type input effect (input_without_memory is) whole = absurd (cc (sym (ap (λ (e : Effect). e.cut) is) ∙ whole))
 exactly mode file_type input effect (input_unformatted text fault of formats is) whole =
-    not_formatted fault (subst (λ (t : Bytes). FormatsAs (is_bzl file_type stdin) t (Err fault)) of formats) is
+    not_formatted fault (subst (λ (t : Bytes). FormatsAs (is_bzl file_type stdin) t (Err fault)) of formats) (same_words stdin input text fault effect of is)
 exactly mode file_type input effect (input_printed text new of formats (inl is)) whole =
     was_printed new (subst (λ (t : Bytes). FormatsAs (is_bzl file_type stdin) t (Ok new)) of formats) (is ∙ ap (λ (t : Bytes). output_effect (input_out mode t new) (text_status mode t new)) of)
 exactly mode file_type input effect (input_printed text new of formats (inr failed)) whole = absurd (cc (sym (ap (λ (e : Effect). e.cut) failed.1) ∙ whole))
@@ -224,12 +228,12 @@ exactly mode file_type input effect (input_printed text new of formats (inr fail
 inputs_alike : OneEach → (mode : Mode) (file_type : FileType) (input : Bytes) (one other : Effect) → Exactly mode file_type input one → Exactly mode file_type input other
     → one.cut ≡ c.Whole → other.cut ≡ c.Whole → Agree one other
 inputs_alike laws mode file_type input one other (not_formatted fault formats is) (not_formatted fault' formats' is') whole whole' =
-    alike_as (refused stdin fault) (refused stdin fault') one other is is' (same_refusal laws (is_bzl file_type stdin) input stdin fault fault' formats formats'
-    (cut_as (refused stdin fault) one is whole) (cut_as (refused stdin fault') other is' whole'))
+    alike_as (refused stdin input fault) (refused stdin input fault') one other is is' (same_refusal laws (is_bzl file_type stdin) input stdin fault fault' formats formats'
+    (cut_as (refused stdin input fault) one is whole) (cut_as (refused stdin input fault') other is' whole'))
 inputs_alike laws mode file_type input one other (not_formatted fault formats is) (was_printed new formats' is') whole whole' =
-    absurd (not_both laws (is_bzl file_type stdin) input stdin new fault formats' formats (cut_as (refused stdin fault) one is whole))
+    absurd (not_both laws (is_bzl file_type stdin) input stdin new fault formats' formats (cut_as (refused stdin input fault) one is whole))
 inputs_alike laws mode file_type input one other (was_printed new formats is) (not_formatted fault formats' is') whole whole' =
-    absurd (not_both laws (is_bzl file_type stdin) input stdin new fault formats formats' (cut_as (refused stdin fault) other is' whole'))
+    absurd (not_both laws (is_bzl file_type stdin) input stdin new fault formats formats' (cut_as (refused stdin input fault) other is' whole'))
 inputs_alike laws mode file_type input one other (was_printed new formats is) (was_printed new' formats' is') whole whole' =
     let news : new' ≡ new = one_formatted laws (is_bzl file_type stdin) input new new' formats formats' in
     same_effect one other (is' ∙ (rw (news) (sym is)))

@@ -46,7 +46,7 @@ whole_open : (mode : Mode) (file_type : FileType) (name : Bytes) (closed : Bool)
     → effect.cut ≡ c.Whole → effect.closes ≡ false
 whole_open mode file_type name closed folder after effect (unread fault none is stays) whole = ap (λ (e : Effect). e.closes) is ∙ (unread_quiet name fault).stays
 whole_open mode file_type name closed folder after effect (without_memory is stays) whole = ap (λ (e : Effect). e.closes) is
-whole_open mode file_type name closed folder after effect (unformatted text fault there formats is stays) whole = ap (λ (e : Effect). e.closes) is ∙ (refused_quiet name fault).stays
+whole_open mode file_type name closed folder after effect (unformatted text fault there formats is stays) whole = ap (λ (e : Effect). e.closes) is ∙ (refused_quiet name text fault).stays
 whole_open mode file_type name closed folder after effect (kept text new there formats unchanged (inl is) stays) whole = ap (λ (e : Effect). e.closes) is
 whole_open mode file_type name closed folder after effect (kept text new there formats unchanged (inr failed) stays) whole =
     absurd (cc (sym (ap (λ (e : Effect). e.cut) failed.1) ∙ whole))
@@ -68,7 +68,7 @@ failed_step mode file_type name closed pure folder after effect (unread fault no
 failed_step mode file_type name closed pure folder after effect (without_memory is stays) cut same other =
     absurd (cc (sym (ap (λ (e : Effect). e.cut) is) ∙ cut))
 failed_step mode file_type name closed pure folder after effect (unformatted text fault there formats is stays) cut same other =
-    absurd ((refused_quiet name fault).other (sym (ap (λ (e : Effect). e.cut) is) ∙ cut))
+    absurd ((refused_quiet name text fault).other (sym (ap (λ (e : Effect). e.cut) is) ∙ cut))
 failed_step mode file_type name closed pure folder after effect (kept text new there formats unchanged (inl is) stays) cut same other =
     absurd (cc (sym (ap (λ (e : Effect). e.cut) is) ∙ cut))
 failed_step mode file_type name closed pure folder after effect (kept text new there formats unchanged (inr failed) stays) cut same other = record {

@@ -2,6 +2,8 @@
 use Rattle.std.proofs.Common.{◌≡◌, ◌⊎◌, ◌≤◌, ◌<◌, ◌∙◌, ◌++◌, ◌+◌, inl, inr, ℕ, List, [], take, length, Option, Some, None, Ok, Err, Bool, true, false, refl, sym, ap, subst, arith, length-take}
 use Rattle.std.specs.Prelude.{◌≢◌, IfSome}
 use Rattle.std.specs.FinMap.{get}
+use Rattle.bz_lex.specs.declared.fault.ReadFault.{ReadFault}
+use Rattle.bz_lex.specs.declared.fault.ReadFault.TheVariants as read
 use Rattle.bz_grammar.specs.Spell.{limit}
 use Rattle.bz_files.specs.Folder.{Folder}
 use Rattle.bz_files.specs.declared.files.FileFault.{FileFault}
@@ -36,11 +38,11 @@ unread_quiet name file.Open = record { stays = refl; nothing = refl; other = λ 
 unread_quiet name file.Write = record { stays = refl; nothing = refl; other = λ is. cc is }
 unread_quiet name file.Memory = record { stays = refl; nothing = refl; other = λ is. cc is }
 
-pub refused_quiet : (name : List ℕ) (fault : FormatFault) → IsQuiet (refused name fault)
-refused_quiet name (f.Unread fault) = record { stays = refl; nothing = refl; other = λ is. cc is }
-refused_quiet name f.TooLarge = record { stays = refl; nothing = refl; other = λ is. cc is }
-refused_quiet name f.TooDeep = record { stays = refl; nothing = refl; other = λ is. cc is }
-refused_quiet name f.Memory = record { stays = refl; nothing = refl; other = λ is. cc is }
+pub refused_quiet : (name text : List ℕ) (fault : FormatFault) → IsQuiet (refused name text fault)
+refused_quiet name text (f.Unread fault) = record { stays = refl; nothing = refl; other = λ is. cc is }
+refused_quiet name text f.TooLarge = record { stays = refl; nothing = refl; other = λ is. cc is }
+refused_quiet name text f.TooDeep = record { stays = refl; nothing = refl; other = λ is. cc is }
+refused_quiet name text f.Memory = record { stays = refl; nothing = refl; other = λ is. cc is }
 
 pub rewrites_quiet : (name text new : List ℕ) (folder after : Folder) (effect : Effect) → Rewrites name text new folder effect after → IsQuiet effect
 rewrites_quiet name text new folder after effect (inl done) = rw (done.0) (record { stays = refl; nothing = refl; other = λ is. cc is })
@@ -84,17 +86,43 @@ longer true all long f.TooLarge of_front = absurd (long_front all long of_front.
 longer true all long f.TooDeep of_front = absurd (long_front all long of_front.1.2)
 longer true all long f.Memory of_front = tt
 
+no_excerpt : (name all other : List ℕ) (fault : ReadFault) → fault ≡ read.TooLarge → refused name other (f.Unread fault) ≡ refused name all (f.Unread fault)
+no_excerpt name all other fault is =
+    ap (λ (large : ReadFault). refused name other (f.Unread large)) is ∙ sym (ap (λ (large : ReadFault). refused name all (f.Unread large)) is)
+
+-- in the same words: the front of a longer text is too large, which has no place
+longer_alike : (bzl : Bool) (all : List ℕ) → limit < length all → (reported : FormatFault) → FormatsAs bzl (take (limit + 1) all) (Err reported) → (name : List ℕ)
+    → refused name (take (limit + 1) all) reported ≡ refused name all reported
+longer_alike false all long (f.Unread fault) of_front name =
+    no_excerpt name all (take (limit + 1) all) fault ((fault_of_front all fault long of_front.1).too_large.1 long)
+longer_alike true all long (f.Unread fault) of_front name =
+    no_excerpt name all (take (limit + 1) all) fault ((fault_of_front all fault long of_front.1).too_large.1 long)
+longer_alike bzl all long f.TooLarge of_front name = refl
+longer_alike bzl all long f.TooDeep of_front name = refl
+longer_alike bzl all long f.Memory of_front name = refl
+
 pub err_of_front : (bzl : Bool) (known : Option (List ℕ)) (front : List ℕ) (fault : FormatFault) → IfSome known (λ all. front ≡ take (limit + 1) all) → FormatsAs bzl front (Err fault)
-    → (input : List ℕ) × IsInput known input × FormatsAs bzl input (Err fault)
-err_of_front bzl None front fault read formats = (front, tt, formats)
+    → (input : List ℕ) × IsInput known input × FormatsAs bzl input (Err fault) × ((name : List ℕ) → refused name front fault ≡ refused name input fault)
+err_of_front bzl None front fault read formats = (front, tt, formats, λ name. refl)
 err_of_front bzl (Some all) front fault read formats = go (cut_at_limit all)
   where
     of_all : FormatsAs bzl (take (limit + 1) all) (Err fault)
     of_all = subst (λ (text : List ℕ). FormatsAs bzl text (Err fault)) read formats
 
-    go : (take (limit + 1) all ≡ all) ⊎ (limit < length all) → (input : List ℕ) × IsInput (Some all) input × FormatsAs bzl input (Err fault)
-    go (inl whole) = (all, refl, subst (λ (text : List ℕ). FormatsAs bzl text (Err fault)) whole of_all)
-    go (inr long) = (all, refl, longer bzl all long fault of_all)
+    go : (take (limit + 1) all ≡ all) ⊎ (limit < length all)
+        → (input : List ℕ) × IsInput (Some all) input × FormatsAs bzl input (Err fault) × ((name : List ℕ) → refused name front fault ≡ refused name input fault)
+    go (inl whole) = (
+      all,
+      refl,
+      subst (λ (text : List ℕ). FormatsAs bzl text (Err fault)) whole of_all,
+      λ name. ap (λ (text : List ℕ). refused name text fault) (read ∙ whole),
+    )
+    go (inr long) = (
+      all,
+      refl,
+      longer bzl all long fault of_all,
+      λ name. ap (λ (text : List ℕ). refused name text fault) read ∙ longer_alike bzl all long fault of_all name,
+    )
 
 -- ---- so does the front of a file, which is read after nothing
 
@@ -108,9 +136,11 @@ formatted_file bzl folder name bytes start items text new at is empty same forma
     let own : FormatsAs bzl items (Ok new) = subst (λ (t : List ℕ). FormatsAs bzl t (Ok new)) same formats in
     let all = ok_of_front bzl (Some bytes) items new (front_read bytes start items is empty) own in (at ∙ ap Some (sym all.1 ∙ all.2), own)
 
--- and what is reported of it is reported of the file
+-- and what is reported of it is reported of the file, in the same words
 pub refused_file : (bzl : Bool) (bytes start items : List ℕ) (fault : FormatFault) → items ≡ start ++ take (limit + 1) bytes → start ≡ []
-    → FormatsAs bzl items (Err fault) → FormatsAs bzl bytes (Err fault)
+    → FormatsAs bzl items (Err fault) → FormatsAs bzl bytes (Err fault) × ((name : List ℕ) → refused name items fault ≡ refused name bytes fault)
 refused_file bzl bytes start items fault is empty formats =
-    let all = err_of_front bzl (Some bytes) items fault (front_read bytes start items is empty) formats in
-    subst (λ (text : List ℕ). FormatsAs bzl text (Err fault)) all.1 all.2
+    let all = err_of_front bzl (Some bytes) items fault (front_read bytes start items is empty) formats in (
+      subst (λ (text : List ℕ). FormatsAs bzl text (Err fault)) all.1 all.2,
+      λ name. all.3 name ∙ ap (λ (text : List ℕ). refused name text fault) all.1,
+    )

@@ -1,17 +1,19 @@
 -- What buildifier does is a function of its words, standard input and the folder, where no failure cuts a run.
-use Rattle.std.specs.Prelude.{◌≡◌, ◌⊎◌, List, [], ◌∷◌, Some, Err, IfOk}
+use Rattle.std.specs.Prelude.{◌≡◌, ◌⊎◌, List, [], ◌∷◌, ◌++◌, Some, Err, IfOk}
 use Rattle.std.specs.List.{All}
 use Rattle.bz_items.specs.Characters.{Bytes}
 use Rattle.bz_files.specs.Folder.{Folder, IsAside, SameFolders}
 use Rattle.bz_lex.specs.declared.fault.ReadFault.{ReadFault}
 use Rattle.bz_streams.specs.declared.exit.Cut.TheVariants as c
+use Rattle.bz_streams.specs.Excerpts.{fault_excerpt}
 use Rattle.bz_streams.specs.Reported.{fault_line}
 use Rattle.bz_buildifier.specs.FormatRun.{Effect, FormatOutcome}
 use Rattle.bz_buildifier.specs.Modes.{clap_fault, format_line}
 
--- Two lines are the same, or both report a fault of the same file: of a text that is not accepted it is not fixed which.
+-- Two lines are the same, or both report a fault of the same file and text: of a text that is not accepted it is not fixed which.
 abbrev pub LinesAreAlike : Bytes → Bytes → Type 0
-LinesAreAlike line other = (other ≡ line) ⊎ ((name : Bytes) × (fault other_fault : ReadFault) × (line ≡ fault_line name fault) × (other ≡ fault_line name other_fault))
+LinesAreAlike line other = (other ≡ line) ⊎ ((name text : Bytes) × (fault other_fault : ReadFault) × (line ≡ fault_line name fault ++ fault_excerpt text fault)
+    × (other ≡ fault_line name other_fault ++ fault_excerpt text other_fault))
 
 -- as many lines, each like the other's
 abbrev pub SameReports : List Bytes → List Bytes → Type 0

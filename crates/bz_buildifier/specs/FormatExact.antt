@@ -15,7 +15,7 @@ use Rattle.bz_buildifier.specs.declared.mode.Mode.{Mode}
 -- mode rewrites it, and all else leaves the folder.
 pub data ExactStep (mode : Mode) (file_type : FileType) (name : Bytes) (folder : Folder) (effect : Effect) (after : Folder) : Type 0 where
   exact_absent : get folder name ≡ None → effect ≡ unopened name c.Whole → after ≡ folder → ExactStep mode file_type name folder effect after
-  exact_unformatted : (text : Bytes) (fault : FormatFault) → get folder name ≡ Some text → FormatsAs (is_bzl file_type name) text (Err fault) → effect ≡ refused name fault
+  exact_unformatted : (text : Bytes) (fault : FormatFault) → get folder name ≡ Some text → FormatsAs (is_bzl file_type name) text (Err fault) → effect ≡ refused name text fault
       → effect.cut ≡ c.Whole → after ≡ folder → ExactStep mode file_type name folder effect after
   exact_formatted : (text new : Bytes) → get folder name ≡ Some text → FormatsAs (is_bzl file_type name) text (Ok new)
       → effect ≡ output_effect (file_out mode name text new) (text_status mode text new)

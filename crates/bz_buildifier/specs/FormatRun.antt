@@ -12,6 +12,7 @@ use Rattle.bz_build_format.specs.declared.formatter.FormatFault.{FormatFault}
 use Rattle.bz_build_format.specs.declared.formatter.FormatFault.TheVariants as f
 use Rattle.bz_streams.specs.declared.exit.Cut.{Cut}
 use Rattle.bz_streams.specs.declared.exit.Cut.TheVariants as c
+use Rattle.bz_streams.specs.Excerpts.{fault_excerpt}
 use Rattle.bz_streams.specs.Exits.{first_cut}
 use Rattle.bz_streams.specs.Faults.{Rises}
 use Rattle.bz_streams.specs.Near.{nearest}
@@ -53,12 +54,12 @@ memory_effect name = report_effect (named_line name (codes "Memory")) 3 c.Memory
 abbrev pub unwritten : Bytes → Effect
 unwritten name = report_effect (named_line name (codes "cannot write")) 3 c.Files
 
--- a text that is not formatted
-abbrev pub refused : Bytes → FormatFault → Effect
-refused name (f.Unread fault) = report_effect (fault_line name fault) 1 c.Whole
-refused name f.TooLarge = report_effect (named_line name (codes "TooLarge")) 3 c.Whole
-refused name f.TooDeep = report_effect (named_line name (codes "TooDeep")) 3 c.Whole
-refused name f.Memory = memory_effect name
+-- a text that is not formatted; below the line on a fault that has a place is the line of the text, with a caret
+abbrev pub refused : Bytes → Bytes → FormatFault → Effect
+refused name text (f.Unread fault) = report_effect (fault_line name fault ++ fault_excerpt text fault) 1 c.Whole
+refused name text f.TooLarge = report_effect (named_line name (codes "TooLarge")) 3 c.Whole
+refused name text f.TooDeep = report_effect (named_line name (codes "TooDeep")) 3 c.Whole
+refused name text f.Memory = memory_effect name
 
 -- ---- the modes
 
@@ -122,7 +123,7 @@ pub data FileStep (mode : Mode) (file_type : FileType) (name : Bytes) (closed : 
   unread : (fault : FileFault) → (fault ≡ file.Absent → get folder name ≡ None) → effect ≡ unread_file name fault → after ≡ folder
       → FileStep mode file_type name closed folder effect after
   without_memory : effect ≡ memory_effect name → after ≡ folder → FileStep mode file_type name closed folder effect after
-  unformatted : (text : Bytes) (fault : FormatFault) → get folder name ≡ Some text → FormatsAs (is_bzl file_type name) text (Err fault) → effect ≡ refused name fault
+  unformatted : (text : Bytes) (fault : FormatFault) → get folder name ≡ Some text → FormatsAs (is_bzl file_type name) text (Err fault) → effect ≡ refused name text fault
       → after ≡ folder → FileStep mode file_type name closed folder effect after
   kept : (text new : Bytes) → get folder name ≡ Some text → FormatsAs (is_bzl file_type name) text (Ok new) → is_rewritten mode text new ≡ false
       → Prints closed (file_out mode name text new) (text_status mode text new) effect → after ≡ folder
@@ -135,7 +136,7 @@ pub data FileStep (mode : Mode) (file_type : FileType) (name : Bytes) (closed : 
 pub data InputStep (mode : Mode) (file_type : FileType) (known : Option Bytes) (effect : Effect) : Type 0 where
   input_unread : effect ≡ unopened stdin c.Read → InputStep mode file_type known effect
   input_without_memory : effect ≡ memory_effect stdin → InputStep mode file_type known effect
-  input_unformatted : (text : Bytes) (fault : FormatFault) → IsInput known text → FormatsAs (is_bzl file_type stdin) text (Err fault) → effect ≡ refused stdin fault
+  input_unformatted : (text : Bytes) (fault : FormatFault) → IsInput known text → FormatsAs (is_bzl file_type stdin) text (Err fault) → effect ≡ refused stdin text fault
       → InputStep mode file_type known effect
   input_printed : (text new : Bytes) → IsInput known text → FormatsAs (is_bzl file_type stdin) text (Ok new)
       → Prints false (input_out mode text new) (text_status mode text new) effect → InputStep mode file_type known effect

@@ -2,7 +2,7 @@
 use Rattle.std.specs.Prelude.{◌≡◌, [], ◌∷◌, codes, Ok, Err, true, false}
 use Rattle.clap.specs.Words.{fault_of}
 use Rattle.clap.specs.declared.error.kind.ErrorKind.TheVariants as kind
-use Rattle.bz_lex.specs.declared.fault.ReadFault.TheVariants.{Unexpected}
+use Rattle.bz_lex.specs.declared.fault.ReadFault.TheVariants.{NotUtf8, Unexpected}
 use Rattle.bz_files.specs.declared.files.FileFault.TheVariants.{Absent, Open}
 use Rattle.bz_build_format.specs.declared.formatter.FormatFault.TheVariants.{Unread, TooLarge}
 use Rattle.bz_streams.specs.Reported.{stdin}
@@ -41,8 +41,10 @@ abbrev FileKinds : Type 0
 FileKinds = (is_bzl Auto (codes "a/b.bzl") ≡ true) × (is_bzl Auto (codes "bzl") ≡ false) × (is_bzl Auto stdin ≡ false) × (is_bzl Bzl stdin ≡ true) × (is_bzl Build (codes "b.bzl") ≡ false)
 
 abbrev FormatReported : Type 0
-FormatReported = ((refused (codes "a/BUILD") (Unread (Unexpected 1 7))).lines ≡ codes "a/BUILD:1:7: Unexpected\n" ∷ [])
-    × ((refused stdin TooLarge).lines ≡ codes "<stdin>: TooLarge\n" ∷ [])
+FormatReported = ((refused (codes "a/BUILD") (codes "x(a b)\n") (Unread (Unexpected 1 5))).lines ≡ codes "a/BUILD:1:5: Unexpected\n    x(a b)\n        ^\n" ∷ [])
+    × ((refused stdin (codes "x\n\ty=1") (Unread (Unexpected 2 5))).lines ≡ codes "<stdin>:2:5: Unexpected\n     y=1\n        ^\n" ∷ [])
+    × ((refused stdin (codes "x\n") (Unread (NotUtf8 1))).lines ≡ codes "<stdin>: NotUtf8 at 1\n" ∷ [])
+    × ((refused stdin (codes "x\n") TooLarge).lines ≡ codes "<stdin>: TooLarge\n" ∷ [])
     × ((unread_file (codes "BUILD") Absent).lines ≡ codes "BUILD: cannot open\n" ∷ [])
     × ((unread_file (codes "app/") Open).lines ≡ codes "app/: cannot open\n" ∷ codes "app/: names a directory: see buildifier-tree\n" ∷ [])
     × ((unread_file (codes "app") Open).lines ≡ codes "app: cannot open\n" ∷ [])

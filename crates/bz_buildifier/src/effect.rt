@@ -13,7 +13,7 @@ use crate::{Cut, Sink};
 use bz_build_format::FormatFault;
 use bz_files::FileFault;
 use bz_items::{Memory, Text};
-use bz_streams::{STDIN, first_cut, report_fault, report_named, write_whole};
+use bz_streams::{STDIN, first_cut, report_fault_in, report_named, write_whole};
 use std::alloc::Global;
 
 /// What becomes of one text, or of a run so far.
@@ -114,14 +114,14 @@ pub(crate) fn unread_file<E: Sink>(err: &mut E, name: &str, fault: FileFault) ->
     }
 }
 
-/// Reports why a text has no formatted text.
-pub(crate) fn refused<E: Sink>(err: &mut E, name: &str, fault: &FormatFault) -> Effect
-    ensures effect { result ≡ effect_seen (refused name.now fault.now) }
-    ensures reported { Reports (E.faults err.old) (E.faults err.new) (E.contents err.old) (E.contents err.new) (refused name.now fault.now).lines }
+/// Reports why this text has no formatted text.
+pub(crate) fn refused<E: Sink>(err: &mut E, name: &str, text: &[u8], fault: &FormatFault) -> Effect
+    ensures effect { result ≡ effect_seen (refused name.now text.now fault.now) }
+    ensures reported { Reports (E.faults err.old) (E.faults err.new) (E.contents err.old) (E.contents err.new) (refused name.now text.now fault.now).lines }
 {
     match fault {
         FormatFault::Unread(fault) => {
-            report_fault(err, name, fault);
+            report_fault_in(err, name, text, fault);
             Effect {
                 status: REFUSED,
                 cut: Cut::Whole,

@@ -101,7 +101,7 @@ fn file_effect<F: Files, W: Sink, E: Sink>(
     }
     let new = match format_named(alloc, file_type, name, &text) {
         Ok(new) => new,
-        Err(fault) => return refused(err, name, &fault),
+        Err(fault) => return refused(err, name, &text, &fault),
     };
     if is_rewritten(mode, &text, new.as_slice()) {
         return rewrite(files, err, name, &text, new.as_slice());
@@ -142,7 +142,7 @@ fn input_effect<R: Source, W: Sink, E: Sink>(
     };
     let new = match format_named(alloc, file_type, STDIN, &text) {
         Ok(new) => new,
-        Err(fault) => return refused(err, STDIN, &fault),
+        Err(fault) => return refused(err, STDIN, &text, &fault),
     };
     let status = text_status(mode, &text, new.as_slice());
     match input_out(alloc, mode, &text, new) {
@@ -272,8 +272,9 @@ fn unusable<S: AsStr, E: Sink>(
 /// not be opened, read or written, memory was refused, or a formatted text would be past a limit or would not last; else 1 where a text is
 /// not accepted; else 4 where `check` found a difference; else 0. Each fault is reported by one line on `err`, whose faults are
 /// passed over, and by one more that of an unknown mode or type where one is near, that of a word that is written as an option and is
-/// none, and that of a name which no file can have; where memory is refused to the words, or to these lines on them, the line is
-/// `buildifier: Memory`. After a fault of `out` nothing more is written there; files still are.
+/// none, and that of a name which no file can have; below one with a place is the line of the text with a caret; where memory is refused
+/// to the words, or to these lines on them, the line is `buildifier: Memory`. After a fault of `out` nothing more is written there; files
+/// still are.
 pub fn buildifier<S: AsStr, R: Source, W: Sink, E: Sink, F: Files>(
     alloc: Global,
     words: &[S],

@@ -23,12 +23,15 @@ returns-in-Err-format_named-clause-step g c = λ honest.
     let text = c.read_most.new.into.items in
     let found = c.in-Ok.ensures.found honest in
     let formats : FormatsAs (is_bzl c.args.file_type c.args.name.now) text (Err fault) = subst (λ (t : List ℕ). FormatsAs (is_bzl c.args.file_type c.args.name.now) t (Err fault)) c.deref.ensures.value c.in-Err-format_named.ensures in
-    let of_file : FormatsAs (is_bzl c.args.file_type c.args.name.now) found.0 (Err fault) = refused_file (is_bzl c.args.file_type name) found.0 c.new-text.result.items text fault found.2 c.new-text.ensures.items formats in
-    let effect = r.refused name fault in (
+    let of_file = refused_file (is_bzl c.args.file_type name) found.0 c.new-text.result.items text fault found.2 c.new-text.ensures.items formats in
+    let slice = c.deref-in-Err-format_named.result.now in
+    let alike : r.refused name slice fault ≡ r.refused name found.0 fault =
+    ap (λ (t : List ℕ). r.refused name t fault) c.deref-in-Err-format_named.ensures.value ∙ of_file.1 name in
+    let effect = r.refused name slice fault in (
       effect,
-      unformatted found.0 fault found.1 of_file refl (c.in-Ok.ensures.same honest),
+      unformatted found.0 fault found.1 of_file.0 alike (c.in-Ok.ensures.same honest),
       c.refused.ensures.effect,
-      quiet c.args.closed effect (g.W.Sink.faults c.args.out.now) (g.W.Sink.contents c.args.out.now) (refused_quiet name fault),
+      quiet c.args.closed effect (g.W.Sink.faults c.args.out.now) (g.W.Sink.contents c.args.out.now) (refused_quiet name slice fault),
       c.refused.ensures.reported,
     )
 

@@ -1,4 +1,4 @@
-use Rattle.std.proofs.Common.{◌≡◌, ◌∙◌, refl, sym, subst, List, ℕ, false, Ok, Err}
+use Rattle.std.proofs.Common.{◌≡◌, ◌∙◌, refl, sym, subst, ap, List, ℕ, false, Ok, Err}
 use Rattle.bz_buildifier.specs.FileKinds.{FormatsAs, is_bzl}
 use Rattle.bz_streams.specs.Reported.{stdin}
 use Rattle.bz_buildifier.specs.FormatRun as r
@@ -32,11 +32,14 @@ returns-in-Err-clause-step g c =
     let fault = c.in-Err.fault in
     let formats : FormatsAs (is_bzl c.args.file_type stdin) c.in-Ok.text.items (Err fault) = subst (λ (t : List ℕ). FormatsAs (is_bzl c.args.file_type stdin) t (Err fault)) c.deref.ensures.value c.in-Err.ensures in
     let some = err_of_front (is_bzl c.args.file_type stdin) (g.R.Source.remaining c.args.input.now) c.in-Ok.text.items fault c.in-Ok.ensures.ok formats in
-    let effect = r.refused stdin fault in (
+    let slice = c.deref-in-Err.result.now in
+    let alike : r.refused stdin slice fault ≡ r.refused stdin some.0 fault =
+    ap (λ (t : List ℕ). r.refused stdin t fault) c.deref-in-Err.ensures.value ∙ some.3 stdin in
+    let effect = r.refused stdin slice fault in (
       effect,
-      input_unformatted some.0 fault some.1 some.2 refl,
+      input_unformatted some.0 fault some.1 some.2 alike,
       c.refused.ensures.effect,
-      quiet false effect (g.W.Sink.faults c.args.out.now) (g.W.Sink.contents c.args.out.now) (refused_quiet stdin fault),
+      quiet false effect (g.W.Sink.faults c.args.out.now) (g.W.Sink.contents c.args.out.now) (refused_quiet stdin slice fault),
       c.refused.ensures.reported,
     )
 
