@@ -36,7 +36,7 @@ COMPAT = [
     (["buildifier", "-type=workspace", "--", "sub/app/BUILD"], "", (0, "")),
     (["buildifier", "-type=default"], ODD_BZL, (0, EVEN_BZL)),
     (["buildifier", "-r", "-mode=check", "sub"], "", (0, "1 file already formatted\n")),
-    (["buildifier", "-d", "-type=build", "my lines"], "", (1, "my lines:1:5: Unexpected\n1 file refused\n")),
+    (["buildifier", "-d", "-type=build", "my lines"], "", (1, "my lines:1:5: Unexpected\n    set size small|//app:all\n        ^\n1 file refused\n")),
     (["buildifier", "-d"], ODD, (2, "compat.sh: buildifier has no -d of standard input here\n")),
     (["buildifier", "-lint=fix", "."], "", (2, "compat.sh: buildifier has no -lint=fix here\n")),
     (["buildifier", "-mode"], "", (2, "compat.sh: buildifier: -mode has no value\n")),

@@ -34,7 +34,7 @@ function! s:format() abort
   let l:new = systemlist('buildifier --type=' . l:type, l:old)
   call s:list(v:shell_error ? l:new : [])
   if v:shell_error
-    let b:buildifier_refusal = 'buildifier: ' . join(l:new, ' ')
+    let b:buildifier_refusal = 'buildifier: ' . get(l:new, 0, '')
     return
   endif
   if l:new ==# l:old

@@ -8,7 +8,7 @@ const TYPES = { "bazel-build": "build", "bazel-bzl": "bzl" };
 function formatted(text, type) {
   return new Promise((resolve, reject) => {
     const child = execFile("buildifier", [`--type=${type}`], { maxBuffer: 1 << 26 }, (fault, output, refusal) =>
-      fault ? reject(new Error(refusal.trim() || fault.message)) : resolve(output)
+      fault ? reject(new Error(refusal.split("\n")[0] || fault.message)) : resolve(output)
     );
     child.stdin.on("error", () => {}); // what becomes of the program is reported above
     child.stdin.end(text);
