@@ -3,6 +3,7 @@ use Rattle.std.proofs.Common.{◌≡◌, inl, inr, ℕ, List, [], ◌∷◌, ◌
 use Rattle.bz_grammar.specs.Laws.{OneReading}
 use Rattle.bz_items.specs.Characters.{Bytes}
 use Rattle.bz_streams.specs.Ports.{IsInput}
+use Rattle.bz_streams.specs.Excerpts.{fault_excerpt}
 use Rattle.bz_streams.specs.Reported.{stdin, fault_line}
 use Rattle.bz_buildozer.specs.Sessions.{History, Answer}
 use Rattle.bz_buildozer.specs.Found.{PackagesFound}
@@ -43,7 +44,7 @@ same_taken words world current name text file file' lines lines' found (inl (acc
 same_taken words world current name text file file' lines lines' found (inr (fault, refused, is', reported)) (inl (accepted, is, none)) = absurd (refused.0 accepted)
 same_taken words world current name text file file' lines lines' found (inr (fault, one, is, reported)) (inr (fault', two, is', reported')) = (
   is ∙ sym is',
-  same_as words world lines lines' (fault_line name fault ∷ []) (fault_line name fault' ∷ []) reported reported' (
+  same_as words world lines lines' ((fault_line name fault ++ fault_excerpt text fault) ∷ []) ((fault_line name fault' ++ fault_excerpt text fault') ∷ []) reported reported' (
     inr (inl (record {
       current = current;
       name = name;

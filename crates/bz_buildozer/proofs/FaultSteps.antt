@@ -1,9 +1,10 @@
 -- The fault that is reported where a text is not opened.
-use Rattle.std.proofs.Common.{◌≡◌, ◌⊎◌, inl, inr, ℕ, List, Err, refl, ap, subst, [], ◌∷◌, None}
+use Rattle.std.proofs.Common.{◌≡◌, ◌⊎◌, inl, inr, ℕ, List, Err, refl, ap, subst, [], ◌∷◌, ◌++◌, None}
 use Rattle.bz_lex.specs.declared.fault.ReadFault.{ReadFault}
 use Rattle.bz_lex.specs.declared.fault.ReadFault.TheVariants as f
 use Rattle.bz_grammar.specs.Faults.{IsOfText}
 use Rattle.bz_journal.specs.Shown.{OpensText}
+use Rattle.bz_streams.specs.Excerpts.{fault_excerpt}
 use Rattle.bz_streams.specs.Reported.{fault_line}
 use Rattle.bz_buildozer.specs.Opens.{IsRefusedFor, Takes}
 
@@ -34,7 +35,8 @@ pub refused : (current slice text : List ℕ) (fault : ReadFault) → slice ≡ 
 refused current slice text fault same opens =
     refused_text current text fault (subst (λ (t : List ℕ). OpensText current t (Err fault)) same opens) (memory_or fault)
 
-pub refused_takes : (current name text : List ℕ) (fault : ReadFault) → (fault ≡ f.Memory) ⊎ IsRefusedFor text fault → (fault ≡ f.Memory → ⊥)
-    → Takes current name text None (fault_line name fault ∷ [])
-refused_takes current name text fault (inl is) other = absurd (other is)
-refused_takes current name text fault (inr refused) other = inr (fault, refused, refl, refl)
+pub refused_takes : (current name slice text : List ℕ) (fault : ReadFault) → slice ≡ text → (fault ≡ f.Memory) ⊎ IsRefusedFor text fault
+    → (fault ≡ f.Memory → ⊥) → Takes current name text None ((fault_line name fault ++ fault_excerpt slice fault) ∷ [])
+refused_takes current name slice text fault same (inl is) other = absurd (other is)
+refused_takes current name slice text fault same (inr refused) other =
+    inr (fault, refused, refl, ap (λ (t : List ℕ). (fault_line name fault ++ fault_excerpt t fault) ∷ []) same)

@@ -1,5 +1,5 @@
 -- The first bytes of a text, one more than a text may have, decide what becomes of it.
-use Rattle.std.proofs.Common.{◌≡◌, ◌⊎◌, ◌↔◌, ◌≤◌, ◌<◌, ◌+◌, ◌∙◌, inl, inr, true, List, length, take, Option, arith, ap, subst, sym, length-take}
+use Rattle.std.proofs.Common.{◌≡◌, ◌⊎◌, ◌↔◌, ◌≤◌, ◌<◌, ◌+◌, ◌++◌, ◌∷◌, [], ◌∙◌, inl, inr, true, List, length, take, Option, arith, ap, subst, sym, length-take}
 use Rattle.std.proofs.lemmas.List.{take_all}
 use Rattle.std.proofs.lemmas.Bool.{cases_lt}
 use Rattle.bz_lex.specs.declared.fault.ReadFault.{ReadFault}
@@ -8,6 +8,8 @@ use Rattle.bz_lex.specs.Faults.{is_of_leaves}
 use Rattle.bz_grammar.specs.Spell.{limit}
 use Rattle.bz_grammar.specs.Legal.{Accepted}
 use Rattle.bz_items.specs.Characters.{Bytes}
+use Rattle.bz_streams.specs.Excerpts.{fault_excerpt}
+use Rattle.bz_streams.specs.Reported.{fault_line}
 use Rattle.bz_buildozer.specs.Opens.{FrontsAreReportedAlike, IsRefusedFor, Takes}
 use Rattle.bz_buildozer.specs.Packages.{Opened}
 
@@ -27,11 +29,19 @@ same_fault one other fault long past (refused, of_one, placed) =
       λ (of_leaves : is_of_leaves fault ≡ true). absurd (let e = sym (ap is_of_leaves large) ∙ of_leaves in cc),
     )
 
+-- which is reported in the same line
+same_line : (name one other : Bytes) (fault : ReadFault) → fault ≡ f.TooLarge
+    → ◌≡◌ {A = List Bytes} ((fault_line name fault ++ fault_excerpt one fault) ∷ []) ((fault_line name fault ++ fault_excerpt other fault) ∷ [])
+same_line name one other fault is =
+    ap (λ (large : ReadFault). (fault_line name large ++ fault_excerpt one large) ∷ []) is
+    ∙ sym (ap (λ (large : ReadFault). (fault_line name large ++ fault_excerpt other large) ∷ []) is)
+
 long_takes : (current name one other : Bytes) (file : Option Opened) (lines : List Bytes) → limit < length one → limit < length other
     → Takes current name one file lines → Takes current name other file lines
 long_takes current name one other file lines long past (inl opened) =
     let le = fits_limit one opened.0 in absurd (omega arith)
-long_takes current name one other file lines long past (inr (fault, refused, is, reported)) = inr (fault, same_fault one other fault long past refused, is, reported)
+long_takes current name one other file lines long past (inr (fault, refused, is, reported)) =
+    inr (fault, same_fault one other fault long past refused, is, reported ∙ same_line name one other fault (refused.1.too_large.1 long))
 
 front_long : (text : Bytes) → limit < length text → limit < length (take (limit + 1) text)
 front_long text long = let len = length-take (limit + 1) text in omega arith

@@ -1,6 +1,6 @@
 -- Words, standard input and a folder have at most one outcome, but for what is left open: clap's text, which fault of a text that
 -- can't be read is reported, names that end in `.bznew`, the bytes of journals, and whether `regex` takes a pattern.
-use Rattle.std.specs.Prelude.{◌≡◌, ◌⊎◌, ℕ, true, List, [], ◌∷◌, Some, Ok, Err}
+use Rattle.std.specs.Prelude.{◌≡◌, ◌⊎◌, ℕ, true, List, [], ◌∷◌, ◌++◌, Some, Ok, Err}
 use Rattle.bz_lex.specs.declared.fault.ReadFault.{ReadFault}
 use Rattle.bz_items.specs.Characters.{Bytes}
 use Rattle.bz_files.specs.Folder.{IsAside, SameBut}
@@ -9,6 +9,7 @@ use Rattle.bz_command_line.specs.Requested.{Refused, Usage, of_operand, in_line}
 use Rattle.bz_command_line.specs.Line.{Given, operands, script, CommandLine, of_clap, command_line_of}
 use Rattle.bz_command_line.specs.Refused.{IsPatternFault, IsFirstRefused, IsFirstFault}
 use Rattle.bz_command_line.specs.Script.{script_lines}
+use Rattle.bz_streams.specs.Excerpts.{fault_excerpt}
 use Rattle.bz_streams.specs.Reported.{fault_line}
 use Rattle.bz_buildozer.specs.Ending.{Left}
 use Rattle.bz_buildozer.specs.Opens.{IsRefusedFor}
@@ -29,8 +30,8 @@ pub record ReportFaults (world : World) (line other : Bytes) : Type 0 where
   pub found : Finds world current (Some (name, text))
   pub one : IsRefusedFor text first
   pub two : IsRefusedFor text second
-  pub reported : line ≡ fault_line name first
-  pub reported_other : other ≡ fault_line name second
+  pub reported : line ≡ fault_line name first ++ fault_excerpt text first
+  pub reported_other : other ≡ fault_line name second ++ fault_excerpt text second
 
 -- clap finds a fault in the words, and reports it in its own text
 abbrev pub AreClaps : List Bytes → Type 0

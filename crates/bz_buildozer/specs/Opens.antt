@@ -10,6 +10,7 @@ use Rattle.bz_items.specs.Characters.{Bytes}
 use Rattle.bz_journal.specs.Actions.{Action}
 use Rattle.bz_grammar.specs.Faults.{IsFaultOf}
 use Rattle.bz_journal.specs.History.{History, Answer, opened, Acts}
+use Rattle.bz_streams.specs.Excerpts.{fault_excerpt}
 use Rattle.bz_streams.specs.Outputs.{Reports}
 use Rattle.bz_streams.specs.Reported.{named_line, fault_line}
 use Rattle.bz_streams.specs.declared.sink.Sink.{Ghosts as SinkOf}
@@ -31,11 +32,11 @@ opened_fresh current name text = opened_with name text (opened current text)
 abbrev pub IsRefusedFor : Bytes → ReadFault → Type 0
 IsRefusedFor text fault = (Accepted text → ⊥) × IsFaultOf text fault × (is_of_leaves fault ≡ true → IsFaultAt (λ blanks. blanks ≢ []) text fault)
 
--- An accepted text is opened; of every other text such a fault is reported.
+-- An accepted text is opened; of every other text such a fault is reported, and below it the line of its place.
 abbrev pub Takes : Bytes → Bytes → Bytes → Option Opened → List Bytes → Type 0
 Takes current name text file lines =
     (Accepted text × (file ≡ Some (opened_fresh current name text)) × (lines ≡ []))
-    ⊎ ((fault : ReadFault) × IsRefusedFor text fault × (file ≡ None) × (lines ≡ fault_line name fault ∷ []))
+    ⊎ ((fault : ReadFault) × IsRefusedFor text fault × (file ≡ None) × (lines ≡ (fault_line name fault ++ fault_excerpt text fault) ∷ []))
 
 -- A text and its first bytes, one more than a text may have, are opened or reported alike: both are too large, or they are the same.
 abbrev pub FrontsAreReportedAlike : Type 0

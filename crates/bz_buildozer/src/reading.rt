@@ -76,21 +76,24 @@ pub(crate) fn bytes_of<F: Files>(
     Ok(text)
 }
 
-/// The open file of a text that was read. Errors: those of reading the text; `Memory` where a growth was refused.
+/// The open file of a text that was read. Errors, each with the text: those of reading the text; `Memory` where a growth was refused.
 pub(crate) fn opened(
     alloc: Global,
     package: &str,
     name: &str,
     text: Vec<u8>,
-) -> Result<Opened, ReadFault>
+) -> Result<Opened, (Vec<u8>, ReadFault)>
     requires { length «package».now ≤ 65536 }
     ensures ok { IfOk result (λ file. (opened_in file ≡ opened_fresh «package».now name.now text.items) × Accepted text.items) }
-    ensures err { IfErr result (λ fault. (fault ≡ ReadFault.Memory) ⊎ IsRefusedFor text.items fault) }
+    ensures err { IfErr result (λ refused. (refused.1 ≡ ReadFault.Memory) ⊎ IsRefusedFor text.items refused.1) }
+    ensures text { IfErr result (λ refused. refused.0.items ≡ text.items) }
 {
-    let name = String::from_str(alloc, name)?;
+    let Ok(name) = String::from_str(alloc, name) else {
+        return Err((text, ReadFault::Memory));
+    };
     match Editor::open(alloc, package, text.as_slice()) {
         Ok(editor) => Ok(Opened::new(name, Text::from_vec(text), editor)),
-        Err(fault) => Err(fault),
+        Err(fault) => Err((text, fault)),
     }
 }
 

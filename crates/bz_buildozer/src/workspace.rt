@@ -25,7 +25,7 @@ use bz_items::{Memory, Text, at};
 use bz_journal::{Action, Editor, KeepFault, Reply, Session};
 use bz_lex::ReadFault;
 use bz_resume::journal_name;
-use bz_streams::{Cut, MOST, Sink, report_fault, report_named};
+use bz_streams::{Cut, MOST, Sink, report_fault_in, report_named};
 use bz_value::Refusal;
 use indexmap::IndexSet;
 use std::alloc::Global;
@@ -117,8 +117,8 @@ impl Workspace {
         Opening::new(Some(place), Cut::Whole)
     }
 
-    /// Opens the file of a used package with what was read of it, or reports its fault: `NAME:LINE:COLUMN: FAULT`,
-    /// `NAME: NotUtf8 at BYTE` or `NAME: FAULT`. The name and the package are taken as given. It is cut where memory was
+    /// Opens the file of a used package with what was read of it, or reports its fault: `NAME:LINE:COLUMN: FAULT` and below it the
+    /// line of the text with a caret, `NAME: NotUtf8 at BYTE` or `NAME: FAULT`. The name and the package are taken as given. It is cut where memory was
     /// refused, which is reported as `NAME: Memory`; all packages are then as before.
     pub(crate) fn open_text<E: Sink>(
         &mut self,
@@ -137,14 +137,14 @@ impl Workspace {
         ensures there { IfSome result.place (λ at. IsSome (file_at at self.new)) }
     {
         let alloc = *self.used.allocator();
-        let fault = match opened(alloc, package, name, text) {
+        let (text, fault) = match opened(alloc, package, name, text) {
             Ok(file) => return self.put(place, file),
-            Err(fault) => fault,
+            Err(refused) => refused,
         };
-        report_fault(err, name, &fault);
         match fault {
-            ReadFault::Memory => Opening::new(None, Cut::Memory),
+            ReadFault::Memory => fail(err, name, "Memory", Cut::Memory),
             _ => {
+                report_fault_in(err, name, &text, &fault);
                 put_file(&mut self.used, place, None);
                 Opening::new(None, Cut::Whole)
             }
@@ -306,7 +306,7 @@ impl Workspace {
 
     /// A package: one that was used is not read again; of a new one the file `BUILD.bazel` is read, else `BUILD`, and it is
     /// a used one from then on, whatever comes. Of a file no more is read than one byte past the limit of a text. Where journals are kept, `FILE.journal` is read too, and resumed where it is
-    /// there. A fault is reported by one line for each file: those of the text, `NAME: cannot
+    /// there. A fault is reported by one line for each file: those of the text, below which its line is, `NAME: cannot
     /// open` where neither is there or one could not be read, and `NAME: Memory` where memory was refused; of
     /// a journal `NAME.journal: cannot open`, or `NAME.journal: FAULT (NUMBER)`. Cuts: `Memory` and `Files`, the first that
     /// came; the second file may be open after a `Files` of the first.
