@@ -40,8 +40,9 @@ LEVELS = 500
 
 PIECES = ["a", "load", '"x"', "1.", "(", ")", "[", "]", ",", "=", "+", ".", " ", "\n", "# c\n", "\\\n"]
 
-# what may be reported of a text that is refused
-REFUSED = re.compile(rb"p(\d+)/BUILD:(?: (?:NotUtf8 at \d+|TooLarge)|\d+:\d+: (?:BadCharacter|OpenString|Indented|Unexpected|TooDeep))\n")
+# what may be reported of a text that is refused: a line, and below it that of the text with a caret
+NAMES = rb"(?:BadCharacter|OpenString|Indented|Unexpected|TooDeep)"
+REFUSED = re.compile(rb"p(\d+)/BUILD:(?: (?:NotUtf8 at \d+|TooLarge)\n|\d+:\d+: " + NAMES + rb"\n(?:    [^\n]*\n    [ ]*\^\n)?)")
 PLACE = re.compile(rb"p\d+/BUILD")
 # a string between three marks, or one; or a comment
 QUOTED = re.compile(rb"('''|\"\"\")(?:\\.|(?!\1).)*\1|(['\"])(?:\\\r\n|\\.|(?!\2).)*\2|(#[^\n]*)", re.DOTALL)
@@ -200,7 +201,7 @@ def levels_at_the_limit(*programs):
     deeper = {nested(nest, LEVELS + 1): name for name, nest in NESTS.items()}
     wrong, refused = tried(programs, [*accepted, *deeper])
     wrong += [f"{name} at {LEVELS} levels: {refused[text]}" for text, name in accepted.items() if text in refused]
-    too_deep = {text for text, line in refused.items() if line.endswith(b" TooDeep\n")}
+    too_deep = {text for text, line in refused.items() if b": TooDeep\n" in line}
     return wrong + [f"{name} at {LEVELS + 1} levels is not TooDeep" for text, name in deeper.items() if text not in too_deep]
 
 

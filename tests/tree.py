@@ -465,7 +465,7 @@ def failures_end_a_run(place):
     words = shlex.split(err[-1].partition(": ")[2])
     status, _, err = place.run(words[0], "-k", *words[1:])
     count = FEW + 1 - done
-    wanted = ["p1/bad/BUILD:2:1: Unexpected", f"{count} files fixed, 1 refused", "to go on with just these: buildozer-tree -k --processes=1 'set size small' //p1/bad:all"]
+    wanted = ["p1/bad/BUILD:2:1: Unexpected", "    ", "    ^", f"{count} files fixed, 1 refused", "to go on with just these: buildozer-tree -k --processes=1 'set size small' //p1/bad:all"]
     place.wants("going on", (status, err[count:]), (2, wanted))
     place.wants("files", sum(b"size" in text for text in place.files().values()), FEW + 1)
 

@@ -269,7 +269,7 @@ def a_file_by_a_second_path_keeps_the_first_edit(w):
 def a_refused_text_is_told(w):
     """Its place is reported, it stays, and with -k the others are edited."""
     (w.path / "a/b/BUILD").write_bytes(b'f(name="x")\ng(\n')
-    err = b"a/b/BUILD:3:1: Unexpected\n" + fixed("a/BUILD.bazel")
+    err = b"a/b/BUILD:3:1: Unexpected\n    \n    ^\n" + fixed("a/BUILD.bazel")
     return w.leaves(["-k", "delete", "//a/b:x", "//a:x"], 2, err=err, after={"a/BUILD.bazel": NO_X})
 
 
