@@ -12,7 +12,7 @@ use Rattle.bz_lex.specs.declared.fault.ReadFault.TheVariants as f
 abbrev pub line_numbered : Bytes → ℕ → Bytes
 line_numbered text number = unwrap_or (slice_get (slice_split is_newline text) (number - 1)) []
 
--- A control character is printed as a space, so that nothing in a file moves a terminal.
+-- A control character of ASCII, as a tab, is printed as a space, so that the caret is at its place.
 abbrev pub printable : ℕ → ℕ
 printable byte = if is_ascii_control byte then space else byte
 
