@@ -49,7 +49,8 @@ def files_of(paths, options, refusals):
     files, seen = {}, set()
     for path in paths:
         for name, row in files_at(path, wanted, options.get("--diff-from"), refusals):
-            place = os.path.join(os.path.realpath(os.path.dirname(name) or "."), os.path.basename(name))
+            # below one path no file is met twice
+            place = name if len(paths) == 1 else os.path.join(os.path.realpath(os.path.dirname(name) or "."), os.path.basename(name))
             if place not in seen:
                 seen.add(place)
                 files[name] = row
