@@ -1,18 +1,14 @@
 -- The front of a list.
-use Rattle.std.proofs.Common.{◌≡◌, ◌<◌, ◌+◌, ◌++◌, ◌∷◌, ◌∙◌, ◌||◌, Bool, ℕ, List, [], length, map, take, ap, refl, sym, arith, length-take}
+use Rattle.std.proofs.Common.{◌≡◌, ◌+◌, ◌++◌, ◌∷◌, ◌∙◌, ◌||◌, Bool, ℕ, List, [], length, map, take, ap, refl, sym, arith, length-take}
 use Rattle.std.specs.List.{list_any}
 use Rattle.std.proofs.lemmas.List.{take_all}
-
--- Fewer than could be taken are all.
-all_taken : (most : ℕ) (bytes : List ℕ) → length (take most bytes) < most → take most bytes ≡ bytes
-all_taken most bytes short = take_all most bytes (omega (arith, short, length-take most bytes))
 
 -- what was read after nothing, up to one byte more than a list has, shows whether the bytes are that list
 pub shows : (held bytes start items read : List ℕ) → items ≡ start ++ take (length held + 1) bytes → start ≡ [] → read ≡ items
     → (read ≡ held → bytes ≡ held) × (bytes ≡ held → read ≡ held)
 shows held bytes start items read is empty same = (
   (λ equal. let front : take (length held + 1) bytes ≡ held = sym front_read ∙ equal in
-      sym (all_taken (length held + 1) bytes (omega (arith, ap length front))) ∙ front),
+      sym (take_all (length held + 1) bytes (omega (arith, ap length front, length-take (length held + 1) bytes))) ∙ front),
   λ equal. front_read ∙ take_all (length held + 1) bytes (omega (arith, ap length equal)) ∙ equal,
 )
   where

@@ -77,6 +77,7 @@ impl MemoryFiles {
     pub fn new(alloc: Global) -> MemoryFiles
         ensures held { folder_in result ≡ empty }
         ensures plan { plan_in result ≡ no_plan }
+        ensures fresh { (result.faults ≡ 0) × (waiting_in result ≡ []) }
     {
         MemoryFiles {
             alloc,
@@ -96,6 +97,7 @@ impl MemoryFiles {
     pub fn of(alloc: Global, files: &[(&str, &[u8])]) -> Result<MemoryFiles, AllocError>
         ensures held { IfOk result (λ made. folder_in made ≡ folder_of (map (λ file. (file.0.now, file.1.now)) files.now)) }
         ensures plan { IfOk result (λ made. plan_in made ≡ no_plan) }
+        ensures fresh { IfOk result (λ made. (made.faults ≡ 0) × (waiting_in made ≡ [])) }
     {
         let mut made = MemoryFiles::new(alloc);
         for &(name, bytes) in files {
@@ -106,8 +108,7 @@ impl MemoryFiles {
 
     /// Makes the k-th call from now on fail, counted from 1.
     pub fn fail_at(&mut self, k: u64)
-        ensures same { folder_in self.new ≡ folder_in self.old }
-        ensures plan { plan_in self.new ≡ record (plan_in self.old) { calls = 0; fails_at = Some k } }
+        ensures { self.new ≡ record self.old { calls = 0; fails_at = Some k } }
     {
         self.calls = 0;
         self.fails_at = Some(k);
@@ -116,8 +117,7 @@ impl MemoryFiles {
     /// Makes the k-th call from now on, counted from 1, answer `Write` where it is a `take_place`, but only when the file is
     /// replaced. Every other one goes on.
     pub fn fail_after(&mut self, k: u64)
-        ensures same { folder_in self.new ≡ folder_in self.old }
-        ensures plan { plan_in self.new ≡ record (plan_in self.old) { calls = 0; fails_after = Some k } }
+        ensures { self.new ≡ record self.old { calls = 0; fails_after = Some k } }
     {
         self.calls = 0;
         self.fails_after = Some(k);
@@ -125,8 +125,7 @@ impl MemoryFiles {
 
     /// Makes each call from the k-th from now on fail, counted from 1.
     pub fn stop_at(&mut self, k: u64)
-        ensures same { folder_in self.new ≡ folder_in self.old }
-        ensures plan { plan_in self.new ≡ record (plan_in self.old) { calls = 0; stops_at = Some k } }
+        ensures { self.new ≡ record self.old { calls = 0; stops_at = Some k } }
     {
         self.calls = 0;
         self.stops_at = Some(k);
@@ -134,7 +133,7 @@ impl MemoryFiles {
 
     /// Makes each read of this name answer `Open`, and each look at it `Write`. The error: memory was refused, and nothing has changed.
     pub fn refuse(&mut self, name: &str) -> Result<(), AllocError>
-        ensures same { folder_in self.new ≡ folder_in self.old }
+        ensures same { self.new ≡ record self.old { unreadable = self.new.unreadable } }
         ensures ok { OnOk result (plan_in self.new ≡ record (plan_in self.old) { unreadable = (plan_in self.old).unreadable ++ name.now ∷ [] }) }
         ensures err { OnErr result (plan_in self.new ≡ plan_in self.old) }
     {
@@ -226,28 +225,6 @@ impl MemoryFiles {
         self.bytes_at(name) == Some(held)
     }
 
-    // Whether a file can be read and holds these bytes. The call is counted.
-    fn sees(&mut self, name: &str, held: &[u8]) -> bool
-        ensures same { self.new ≡ record self.old { calls = self.new.calls; looked = false } }
-        ensures next { IsNextCall (plan_in self.old) (plan_in self.new) }
-        ensures sees { IsTrue result → ((IsToFail (plan_in self.new)) ⊎ IsUnreadable name.now (plan_in self.new) → ⊥)
-            × (get (folder_in self.old) name.now ≡ Some held.now) }
-        ensures misses { (IsTrue result → ⊥) → ((IsToFail (plan_in self.new)) ⊎ IsUnreadable name.now (plan_in self.new) → ⊥)
-            → get (folder_in self.old) name.now ≡ Some held.now → ⊥ }
-    {
-        self.reads(name) && self.contains(name, held)
-    }
-
-    // One write more.
-    fn add(&mut self, entry: Entry) -> Result<(), AllocError>
-        ensures same { self.new ≡ record self.old { log = self.new.log } }
-        ensures ok { OnOk result (self.new.log.items ≡ self.old.log.items ++ entry ∷ []) }
-        ensures err { OnErr result (self.new.log.items ≡ self.old.log.items) }
-    {
-        self.log.push(entry)?;
-        Ok(())
-    }
-
     // One new file more.
     fn make(&mut self, name: &str, bytes: &[u8]) -> Result<(), AllocError>
         ensures same { self.new ≡ record self.old { waiting = self.new.waiting } }
@@ -305,7 +282,11 @@ impl Files for MemoryFiles {
         held: &[u8],
         _before: Option<FileStamp>,
     ) -> Result<FileStamp, FileFault> {
-        if !self.sees(name, held) {
+        let can_read = self.reads(name);
+        if !can_read {
+            return Err(self.failed(FileFault::Write));
+        }
+        if !self.contains(name, held) {
             return Err(self.failed(FileFault::Write));
         }
         self.looked = true;
@@ -330,7 +311,7 @@ impl Files for MemoryFiles {
         let Some(entry) = newest else {
             return Err(self.failed(FileFault::Write));
         };
-        if self.add(entry).is_err() {
+        if self.log.push(entry).is_err() {
             return Err(self.failed(FileFault::Memory));
         }
         if self.fails_now() {

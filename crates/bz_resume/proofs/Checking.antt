@@ -1,54 +1,156 @@
--- The moments and errors of a keeping that reads the file first.
-use Rattle.std.proofs.Common.{◌≡◌, ◌≢◌, ◌⊎◌, inl, inr, refl, List, ℕ, subst}
-use Rattle.std.specs.Prelude.{Result, Ok, Err, IfErr, IsErrOf}
-use Rattle.bz_files.specs.Folder.{Folder, Text}
-use Rattle.bz_files.specs.Pair.{IsKeeping, IsChecking}
-use Rattle.bz_files.proofs.Keeping.{at_start}
+-- A keeping that reads the file first.
+use Rattle.std.proofs.Common.{◌≡◌, ◌≢◌, ◌∙◌, ◌⊎◌, ⊎_elim, ◌≤◌, inl, inr, refl, ap, true, List, ℕ, Some, subst}
+use Rattle.std.proofs.lemmas.Bool.{false≢true}
+use Rattle.std.proofs.lemmas.Result.{on_ok_weaker}
+use Rattle.std.specs.Prelude.{Result, Ok, Err, IsOk, IsErr, IfErr, OnOk, IsErrOf}
+use Rattle.std.specs.FinMap.{get}
+use Rattle.bz_files.specs.Faults.{Rises}
+use Rattle.bz_files.specs.Folder.{Folder, Text, Elapses, IsUntouched, with_file}
+use Rattle.bz_files.specs.Pair.{AreReplaced, IsChecking, RewritesHeld}
+use Rattle.bz_files.specs.declared.files.FileFault.{FileFault}
+use Rattle.bz_files.specs.declared.files.Files.{Ghosts as FilesOf}
+use Rattle.bz_files.proofs.Acts.{Do, after_look, each}
+use Rattle.bz_files.proofs.Elapsing.{weakened, each_since}
+use Rattle.bz_files.proofs.Folders.{reads_back, other_stays}
 use Rattle.bz_resume.specs.declared.pair_fault.PairFault.{PairFault}
 use Rattle.bz_resume.specs.declared.pair_fault.PairFault.TheVariants as p
-
--- a moment of a keeping is one where the folder is as it was or both are kept
-pub keeping : (standing journal : Text) (stored : List ℕ) (file : Text) (text : List ℕ) (old now : Folder) → IsChecking standing journal stored file text old now
-    → IsKeeping journal stored file text old now
-keeping standing journal stored file text old now (inl same) = at_start journal stored file text old now same
-keeping standing journal stored file text old now (inr (there, is)) = is
+use Rattle.bz_resume.specs.Pair.{journal_name}
+use Rattle.bz_resume.specs.Resuming.{KeepsHeld, Survives, WhereResuming}
+use Rattle.bz_resume.proofs.Names.{journal_file, journal_is_old}
+use Rattle.bz_resume.proofs.Surviving.{checked, kept, others_kept, goes_on}
 
 -- a value is no error
 pub never_err : {T E : Type 0} (x : T) (y : E) → IsErrOf {T = T} {E = E} (Ok x) y → ⊥
 never_err x y is = cc
 
-pub same_err : {T E : Type 0} {x y : E} → IsErrOf {T = T} {E = E} (Err x) y → x ≡ y
-same_err is = cc
+pub of_ok : {T E : Type 0} (r : Result T E) (P : Type 0) → IsOk r → OnOk r P → P
+of_ok (Ok x) P is p = p
+of_ok (Err e) P is p = absurd (false≢true is)
 
-module _ {T : Type 0} where
-  -- the errors of what keeps both
-  abbrev IsKept : Result T PairFault → Type 0
-  IsKept r = IfErr r (λ fault. (fault ≡ p.Memory) ⊎ (fault ≡ p.Write))
+-- the errors of what only reads
+other_fault : (fault : PairFault) → fault ≢ p.Write → IsErrOf {T = Unit {0}} (Err fault) p.Changed ⊎ (IsErrOf {T = Unit {0}} (Err fault) p.Open ⊎ IsErrOf {T = Unit {0}} (Err fault) p.Memory)
+other_fault p.Memory other = inr (inr refl)
+other_fault p.Open other = inr (inl refl)
+other_fault p.Changed other = inl refl
+other_fault p.Write other = absurd (other refl)
 
-  pub but_write : {A B : Type 0} (r : Result T PairFault) → IsKept r → IfErr r (λ fault. fault ≡ p.Memory → A) → (A → B) → IfErr r (λ fault. fault ≢ p.Write → B)
-  but_write (Ok x) either memory step = tt
-  but_write (Err fault) (inl is) memory step = λ other. step (memory is)
-  but_write (Err fault) (inr is) memory step = λ other. absurd (other is)
+no_write : (fault : PairFault) → fault ≢ p.Write → IsErrOf {T = Unit {0}} (Err fault) p.Write → ⊥
+no_write fault other is = let same : fault ≡ p.Write = cc in other same
 
-  pub on_write : {A : Type 0} (r : Result T PairFault) → IfErr r (λ fault. fault ≡ p.Write → A) → IsErrOf r p.Write → A
-  on_write {A} r known is = subst (λ (s : Result T PairFault). IfErr s (λ fault. fault ≡ p.Write → A)) is known refl
+-- where both are replaced the journal has its bytes
+both_there : (file : Text) (stored text : List ℕ) (old now : Folder) → AreReplaced (journal_name file) stored file text old now → get now (journal_name file) ≡ Some stored
+both_there file stored text old now same = same (journal_name file) (journal_is_old file)
+    ∙ other_stays (with_file old (journal_name file) stored) file (journal_name file) text (journal_file file) ∙ reads_back old (journal_name file) stored
 
-  pub never_changed : (r : Result T PairFault) → IsKept r → IsErrOf r p.Changed → ⊥
-  never_changed (Ok x) either is = cc
-  never_changed (Err fault) (inl a) is = cc
-  never_changed (Err fault) (inr a) is = cc
+-- at a moment the journal is as it was, or has its bytes
+journal_then : (file standing : Text) (stored text : List ℕ) (old now : Folder) → IsChecking standing (journal_name file) stored file text old now
+    → (get now (journal_name file) ≡ get old (journal_name file)) ⊎ (get now (journal_name file) ≡ Some stored)
+journal_then file standing stored text old now (inl same) = inl (ap (λ (f : Folder). get f (journal_name file)) same)
+journal_then file standing stored text old now (inr (there, inl same)) = inl (same (journal_name file) (journal_is_old file))
+journal_then file standing stored text old now (inr (there, inr (inl same))) =
+    inr (same (journal_name file) (journal_is_old file) ∙ reads_back old (journal_name file) stored)
+journal_then file standing stored text old now (inr (there, inr (inr same))) = inr (both_there file stored text old now same)
 
-  pub never_open : (r : Result T PairFault) → IsKept r → IsErrOf r p.Open → ⊥
-  never_open (Ok x) either is = cc
-  never_open (Err fault) (inl a) is = cc
-  never_open (Err fault) (inr a) is = cc
+-- what comes of a rewrite is an Ok, or a Write
+abbrev pub answered : Result (Unit {0}) FileFault → Result (Unit {0}) PairFault
+answered (Ok x) = Ok x
+answered (Err fault) = Err p.Write
 
-  -- the errors of what only reads
-  pub other_fault : (fault : PairFault) → fault ≢ p.Write → IsErrOf {T = T} (Err fault) p.Changed ⊎ (IsErrOf {T = T} (Err fault) p.Open ⊎ IsErrOf {T = T} (Err fault) p.Memory)
-  other_fault p.Memory other = inr (inr refl)
-  other_fault p.Open other = inr (inl refl)
-  other_fault p.Changed other = inl refl
-  other_fault p.Write other = absurd (other refl)
+carried : (X : Type 0) (r : Result (Unit {0}) FileFault) → OnOk r X → OnOk (answered r) X
+carried X (Ok x) is = is
+carried X (Err fault) is = tt
 
-  pub never_write : (fault : PairFault) → fault ≢ p.Write → IsErrOf {T = T} (Err fault) p.Write → ⊥
-  never_write fault other is = let same : fault ≡ p.Write = cc in other same
+only_write : (X : Type 0) (r : Result (Unit {0}) FileFault) → IfErr (answered r) (λ fault. fault ≢ p.Write → X)
+only_write X (Ok x) = tt
+only_write X (Err fault) = λ other. absurd (other refl)
+
+no_changed : (r : Result (Unit {0}) FileFault) → IsErrOf (answered r) p.Changed → ⊥
+no_changed (Ok x) is = cc
+no_changed (Err fault) is = cc
+
+is_err : (r : Result (Unit {0}) FileFault) (fault : PairFault) → IsErrOf (answered r) fault → IsErr r
+is_err (Ok x) fault is = absurd cc
+is_err (Err cause) fault is = refl
+
+is_ok : (r : Result (Unit {0}) FileFault) → (IsErrOf (answered r) p.Write → ⊥) → IsOk r
+is_ok (Ok x) none = refl
+is_ok (Err fault) none = absurd (none refl)
+
+module _ {F : Type 0} (files : FilesOf F) (only : (held : F) (now : Folder) → files.since held (files.moment held) now → now ≡ files.folder held)
+    (counts : (held : F) (t : ℕ) → t ≤ files.moment held → files.since held t (files.folder held)) (file standing stored text : Text) where
+  abbrev P : Folder → Folder → Type 0
+  P = IsChecking standing (journal_name file) stored file text
+
+  abbrev Q : Folder → Folder → Type 0
+  Q = AreReplaced (journal_name file) stored file text
+
+  -- where nothing was touched
+  pub unkept : (fault : PairFault) (old new : F) → fault ≢ p.Write → (files.honest old ≡ true → Do files IsUntouched IsUntouched old new)
+      → (files.honest old ≡ true → IsErrOf {T = Unit {0}} (Err fault) p.Changed → get (files.folder old) file ≢ Some standing)
+      → (IsErrOf {T = Unit {0}} (Err fault) p.Open → Rises (files.faults old) (files.faults new))
+      → ((IsErrOf {T = Unit {0}} (Err fault) p.Open → ⊥) → files.faults new ≡ files.faults old) → files.faults old ≤ files.faults new → files.honest new ≡ files.honest old
+      → KeepsHeld files file standing stored text (Err fault) old new
+  unkept fault old new kinds reads changed cause rest count honest =
+      let still : files.honest old ≡ true → (now : Folder) → files.since new (files.moment old) now → now ≡ files.folder old =
+      λ is. each files only counts old new IsUntouched IsUntouched refl (reads is) in
+      record {
+        each = λ is h after es may now stood. inl (still is now stood);
+        time = λ is h after es may. weakened (files.moment old) (files.moment new) (files.since old) (files.since new) (IsUntouched (files.folder old)) _
+            (λ now same. inl same) (reads is).time;
+        resumes = λ is h after es may now stood. goes_on file h after (files.folder old) now may.resumes (inl (still is now stood));
+        kept = λ _. tt;
+        stored = λ is now stood. inl (ap (λ (f : Folder). get f (journal_name file)) (still is now stood));
+        journal = λ _. tt;
+        checked = λ _ _. other_fault fault kinds;
+        apart = λ is _. still is;
+        changed = changed;
+        untouched = λ is _. still is;
+        cause = ⊎_elim (λ err. absurd (no_write fault kinds err)) cause;
+        rest = λ _. rest;
+        count = count;
+        honest = honest;
+      }
+
+  -- where the file was read, and what it holds is replaced
+  module _ (old mid new : F) (honest : files.honest mid ≡ files.honest old) (faults : files.faults mid ≡ files.faults old)
+      (there : files.honest old ≡ true → get (files.folder old) file ≡ Some standing) (reads : files.honest old ≡ true → Do files IsUntouched IsUntouched old mid) where
+    goes : (r : Result (Unit {0}) FileFault) → RewritesHeld files file standing P Q r mid new → files.honest old ≡ true → Do files P (λ was now. OnOk r (Q was now)) old new
+    goes r acts is = after_look files old mid new P (λ was now. OnOk r (Q was now)) P (λ was now. OnOk r (Q was now)) (λ now same. inl same) (λ now it. it) (λ ok. ok) (reads is)
+        (record { time = acts.time (honest ∙ is); done = acts.replaced (honest ∙ is) })
+
+    by_name : (r : Result (Unit {0}) FileFault) → RewritesHeld files file standing P Q r mid new → KeepsHeld files file standing stored text (answered r) old new
+    by_name r acts = record {
+      each = λ is. each_now is;
+      time = λ is. time is;
+      resumes = λ is h after es may now stood. goes_on file h after (files.folder old) now may.resumes (each_now is h after es may now stood);
+      kept = λ is. carried _ r (on_ok_weaker r (λ same h after es may. (
+        kept file standing stored text h after es (files.folder old) may (there is) (files.folder new) same,
+        others_kept file standing stored text h after es (files.folder old) may (there is) (files.folder new) same,
+      )) (goes r acts is).done);
+      stored = λ is now stood. journal_then file standing stored text (files.folder old) now
+          (each files only counts old new P (λ was now. OnOk r (Q was now)) (inl refl) (goes r acts is) now stood);
+      journal = λ is. carried _ r (on_ok_weaker r (λ same. both_there file stored text (files.folder old) (files.folder new) same) (goes r acts is).done);
+      checked = λ is other. absurd (other (there is));
+      apart = λ is other. absurd (other (there is));
+      changed = λ _ err. absurd (no_changed r err);
+      untouched = λ _. only_write _ r;
+      cause = λ err. subst (λ (n : ℕ). Rises n (files.faults new)) faults (acts.counted.cause (⊎_elim (is_err r p.Write) (is_err r p.Open) err));
+      rest = λ none _. acts.counted.kept (is_ok r none) ∙ faults;
+      count = subst (λ (n : ℕ). n ≤ files.faults new) faults acts.counted.count;
+      honest = acts.counted.honest ∙ honest;
+    }
+      where
+        time : (is : files.honest old ≡ true) → WhereResuming (files.folder old) file standing stored text (λ h after. Elapses (files.moment old) (files.moment new)
+            (files.since old) (files.since new) (λ now. (now ≡ files.folder old) ⊎ Survives file h after (files.folder old) now))
+        time is h after es may = weakened (files.moment old) (files.moment new) (files.since old) (files.since new) (P (files.folder old)) _
+            (checked file standing stored text h after es (files.folder old) may) (goes r acts is).time
+
+        each_now : (is : files.honest old ≡ true) → WhereResuming (files.folder old) file standing stored text (λ h after. (now : Folder) → files.since new (files.moment old) now
+            → (now ≡ files.folder old) ⊎ Survives file h after (files.folder old) now)
+        each_now is h after es may = each_since (files.moment old) (files.moment new) (files.since old) (files.since new) _ (time is h after es may)
+            (λ now stood. inl (only old now stood))
+
+    pub held : (journal : Text) → journal ≡ journal_name file → (r : Result (Unit {0}) FileFault)
+        → RewritesHeld files file standing (IsChecking standing journal stored file text) (AreReplaced journal stored file text) r mid new
+        → KeepsHeld files file standing stored text (answered r) old new
+    held journal named r acts = by_name r (subst (λ (j : Text). RewritesHeld files file standing (IsChecking standing j stored file text) (AreReplaced j stored file text) r mid new) named acts)

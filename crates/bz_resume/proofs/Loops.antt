@@ -1,7 +1,8 @@
 -- The loops over steps, and the test of a tree by its spelling.
-use Rattle.std.proofs.Common.{ℕ, ◌≡◌, ◌+◌, ◌<◌, ◌≤◌, ◌↔◌, Bool, List, [], ◌∷◌, length, drop, get_or, sym, ap, ◌∙◌, subst}
-use Rattle.std.specs.Prelude.{IsTrue, IfOk, MatchOption, Result, Ok, Err, Option, Some, None}
-use Rattle.std.proofs.lemmas.List.{drop_more, drop_all}
+use Rattle.std.proofs.Common.{ℕ, ◌≡◌, ◌≤◌, ◌↔◌, Bool, List, [], ◌∷◌, length, sym, ap, ◌∙◌, subst}
+use Rattle.std.specs.Prelude.{IsTrue, MatchOption, Option, Some, None}
+use Rattle.std.specs.Str.{bytes_eq}
+use Rattle.std.proofs.lemmas.Slice.Eq.{bytes_eq-Decides}
 use Rattle.bz_grammar.specs.declared.tree.Node.{Node}
 use Rattle.bz_grammar.specs.Legal.{Reads}
 use Rattle.bz_grammar.specs.Spell.{spell_node, limit}
@@ -13,66 +14,49 @@ use Rattle.bz_resume.specs.private.Outlines.{outline_node}
 use Rattle.bz_resume.specs.private.Agreement.{StepAgrees, StepsAgree}
 use Rattle.bz_resume.proofs.Outlined.{one_outline}
 
--- a text reads as a node that spells it, where the tree that it reads as has the outline of the node, and else the node is no tree
-pub same_tree : (n root : Node) (text outline : List ℕ) → Reads text root → text ≡ spell_node n → outline ≡ outline_node n → outline_node root ≡ outline → (root ≡ n) × IsTree n
-same_tree n root text outline reads is outline_is same =
-    let equal : root ≡ n = one_outline root n (same ∙ outline_is) in
-    (equal, subst IsTree equal (reads.0, subst (λ (s : List ℕ). length s ≤ limit) (sym reads.1) reads.2))
+-- what was found, or that nothing was
+pub when_some : {T : Type 0} (P : Type 0) (Q : T → Type 0) (o : Option T) (x : T) → o ≡ Some x → MatchOption o P Q → Q x
+when_some P Q o x is = subst (λ found. MatchOption found P Q) is
 
-pub other_tree : (n root : Node) (text outline : List ℕ) → Reads text root → text ≡ spell_node n → outline ≡ outline_node n → (outline_node root ≡ outline → ⊥) → IsTree n → ⊥
-other_tree n root text outline reads is outline_is other tree = other (ap outline_node (one_tree root n reads.0 tree.0 (reads.1 ∙ is)) ∙ sym outline_is)
+pub when_none : {T : Type 0} (P : Type 0) (Q : T → Type 0) (o : Option T) → o ≡ None → MatchOption o P Q → P
+when_none P Q o is = subst (λ found. MatchOption found P Q) is
 
-pub same_read : {E : Type 0} (result : Result (Option Node) E) (tree : Node) (text outline : List ℕ) → Reads text tree
-    → IfOk result (λ found. MatchOption found (outline_node tree ≡ outline → ⊥) (λ root. (root ≡ tree) × (outline_node tree ≡ outline)))
-    → (n : Node) → text ≡ spell_node n → outline ≡ outline_node n → IfOk result (λ found. MatchOption found (IsTree n → ⊥) (λ root. (root ≡ n) × IsTree n))
-same_read (Ok (Some root)) tree text outline reads h n is outline_is = let s = same_tree n tree text outline reads is outline_is h.1 in (h.0 ∙ s.0, s.1)
-same_read (Ok None) tree text outline reads h n is outline_is = other_tree n tree text outline reads is outline_is h
-same_read (Err e) tree text outline reads h n is outline_is = h
+-- a text reads as a node that spells it just where the tree that it reads as has the outline of the node
+pub by_outline : (n root : Node) (text outline own : List ℕ) (r : Bool) → Reads text root → text ≡ spell_node n → outline ≡ outline_node n → own ≡ outline_node root
+    → r ≡ bytes_eq own outline → (IsTrue r ↔ IsTree n) × (IsTrue r → root ≡ n)
+by_outline n root text outline own r reads shown first second is =
+    let same = bytes_eq-Decides own outline in
+    let equal : IsTrue r → root ≡ n = λ t. one_outline root n (sym second ∙ same.0 (sym is ∙ t) ∙ first) in (
+      (
+        λ t. subst IsTree (equal t) (reads.0, subst (λ (s : List ℕ). length s ≤ limit) (sym reads.1) reads.2),
+        λ tree. is ∙ same.1 (second ∙ ap outline_node (one_tree root n reads.0 tree.0 (reads.1 ∙ shown)) ∙ sym first),
+      ),
+      equal,
+    )
 
--- after i steps: the tree and its text, and all steps are known just where those that are left are
-pub record IsGoing (n : Node) (es : List (List Edit)) (ds : List (List ℕ)) (i : ℕ) (m : Node) (text : List ℕ) : Type 0 where
+-- after some steps: the tree and its text, and all steps are known just where those that are left are
+pub record IsGoing (n : Node) (es : List (List Edit)) (ds : List (List ℕ)) (m : Node) (text : List ℕ) (left : List (List Edit)) (others : List (List ℕ)) : Type 0 where
   pub tree : IsTree m
   pub text_is : text ≡ spell_node m
-  pub left : StepsAgree n es ds → StepsAgree m (drop i es) (drop i ds)
-  pub back : StepsAgree m (drop i es) (drop i ds) → StepsAgree n es ds
+  pub same : StepsAgree n es ds ↔ StepsAgree m left others
 
-pub begins : (n m : Node) (es : List (List Edit)) (ds : List (List ℕ)) (text : List ℕ) → IsTree n → m ≡ n → text ≡ spell_node n → IsGoing n es ds 0 m text
-begins n m es ds text tree is shown = record {
-  tree = subst IsTree (sym is) tree;
-  text_is = shown ∙ ap spell_node (sym is);
-  left = λ h. subst (λ (z : Node). StepsAgree z es ds) (sym is) h;
-  back = λ h. subst (λ (z : Node). StepsAgree z es ds) is h;
-}
+module _ {n m : Node} {es left later : List (List Edit)} {ds others : List (List ℕ)} {text : List ℕ} {e : List Edit} (going : IsGoing n es ds m text left others) (first : left ≡ e ∷ later)
+    {d : List ℕ} {rest : List (List ℕ)} (next : others ≡ d ∷ rest) where
+  opened : StepsAgree m left others → StepAgrees e m d × StepsAgree (swap_node e m) later rest
+  opened h = rw (first, next) at h
 
-module _ (n m : Node) (es : List (List Edit)) (ds : List (List ℕ)) (i : ℕ) (text : List ℕ) (a : List Edit) (b : List ℕ) (same : length es ≡ length ds) (lt : i < length es) (going : IsGoing n es ds i m text) where
-  abbrev e : List Edit
-  e = get_or es i a
+  closed : StepAgrees e m d × StepsAgree (swap_node e m) later rest → StepsAgree m left others
+  closed h = rw (first, next) h
 
-  abbrev d : List ℕ
-  d = get_or ds i b
-
-  opened : StepsAgree m (drop i es) (drop i ds) → StepAgrees e m d × StepsAgree (swap_node e m) (drop (i + 1) es) (drop (i + 1) ds)
-  opened h =
-      subst (λ l. StepsAgree m (e ∷ drop (i + 1) es) l) (drop_more ds i b (subst (λ k. i < k) same lt)) (subst (λ l. StepsAgree m l (drop i ds)) (drop_more es i a lt) h)
-
-  closed : StepAgrees e m d × StepsAgree (swap_node e m) (drop (i + 1) es) (drop (i + 1) ds) → StepsAgree m (drop i es) (drop i ds)
-  closed h =
-      subst (λ l. StepsAgree m l (drop i ds)) (sym (drop_more es i a lt)) (subst (λ l. StepsAgree m (e ∷ drop (i + 1) es) l) (sym (drop_more ds i b (subst (λ k. i < k) same lt))) h)
-
-  pub goes_further : (m' : Node) (text' : List ℕ) → StepAgrees e m d → m' ≡ swap_node e m → text' ≡ spell_node m' → IsGoing n es ds (i + 1) m' text'
-  goes_further m' text' agrees is shown = record {
+  pub went : (m' : Node) (text' : List ℕ) → StepAgrees e m d → m' ≡ swap_node e m → text' ≡ spell_node m' → IsGoing n es ds m' text' later rest
+  went m' text' agrees is shown = record {
     tree = subst IsTree (sym is) agrees.0.tree;
     text_is = shown;
-    left = λ h. subst (λ (z : Node). StepsAgree z (drop (i + 1) es) (drop (i + 1) ds)) (sym is) (opened (going.left h)).1;
-    back = λ h. going.back (closed (agrees, subst (λ (z : Node). StepsAgree z (drop (i + 1) es) (drop (i + 1) ds)) is h));
+    same = (
+      λ h. subst (λ (z : Node). StepsAgree z later rest) (sym is) (opened (going.same.0 h)).1,
+      λ h. going.same.1 (closed (agrees, subst (λ (z : Node). StepsAgree z later rest) is h)),
+    );
   }
-
-  pub stops : (StepAgrees e m d → ⊥) → StepsAgree n es ds → ⊥
-  stops none h = none (opened (going.left h)).0
-
-pub ends : (n m : Node) (es : List (List Edit)) (ds : List (List ℕ)) (i : ℕ) (text : List ℕ) → length es ≡ length ds → length es ≤ i → IsGoing n es ds i m text → StepsAgree n es ds
-ends n m es ds i text same past going =
-    going.back (subst (λ l. StepsAgree m l (drop i ds)) (sym (drop_all i es past)) (subst (λ l. StepsAgree m [] l) (sym (drop_all i ds (subst (λ k. k ≤ i) same past))) tt))
 
 -- what is said of the tree that was read of a text is said of each that the text reads as
 pub agrees_of : (P : Node → Type 0) (text : List ℕ) (tree : Node) (t : Bool) → Reads text tree → (IsTrue t ↔ P tree) → (n : Node) → Reads text n → IsTrue t ↔ P n

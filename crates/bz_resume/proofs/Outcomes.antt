@@ -1,10 +1,8 @@
 -- What each outcome says of the journals that the bytes may be.
 use Rattle.std.proofs.Common.{ℕ, ◌≡◌, ◌≤◌, List, ◌∷◌, length, map, refl, sym, ap, ◌∙◌, subst, arith, Some, None}
 use Rattle.std.proofs.lemmas.List.{length-map}
-use Rattle.std.specs.Prelude.{IsUtf8, slice_index_or, [], true}
+use Rattle.std.specs.Prelude.{IsUtf8, slice_index_or, []}
 use Rattle.std.specs.List.{AllByRecursion}
-use Rattle.std.specs.Str.{bytes_eq}
-use Rattle.std.proofs.lemmas.Slice.Eq.{bytes_eq-Decides}
 use Rattle.sha2.specs.Sha256.{sha256}
 use Rattle.bz_grammar.specs.declared.tree.Node.{Node}
 use Rattle.bz_grammar.specs.Legal.{Reads}
@@ -24,12 +22,9 @@ use Rattle.bz_journal_format.proofs.Own.{own_version}
 use Rattle.bz_resume.specs.declared.resumed.Resumed.{Resumed}
 use Rattle.bz_resume.specs.Journals.{History, Journal, NoJournal, AreSmall, record_of, stands, text_at}
 use Rattle.bz_journal_format.specs.Contents.{entries_of}
-use Rattle.bz_resume.specs.private.Agreement.{IsCounted, IsOpened, RecordAgrees, NoneAgrees, edits_of, notes_of, standing_place, recorded_trail}
+use Rattle.bz_resume.specs.private.Agreement.{IsOpened, RecordAgrees, NoneAgrees, edits_of, notes_of, standing_place, recorded_trail}
 use Rattle.bz_resume.specs.Resumed.{IsResumed, IsStale, StandsFor, trail_of}
 use Rattle.bz_resume.proofs.Entries.{entries_back, entries_apart}
-
-pub counted : (j : Text) (r : Record) → IsRead j r → IsCounted r
-counted j r (v, h, e) = (h.cursor, h.before, h.digests_length)
 
 -- ---- a record and the journal that it is
 
@@ -38,10 +33,7 @@ history_at r n = record { «package» = r.package; texts = texts_of (recorded_tr
 
 record_is : (r : Record) (text : Text) (ds : List Text) (es : List RecordedStep) → text ≡ r.text → ds ≡ r.digests → es ≡ r.steps
     → (let q : Record = record { «package» = r.package; text = text; cursor = r.cursor; before = r.before; digests = ds; steps = es } in q) ≡ r
-record_is r text ds es t d e =
-    ap (λ z. let q : Record = record { «package» = r.package; text = z; cursor = r.cursor; before = r.before; digests = ds; steps = es } in q) t
-    ∙ ap (λ z. let q : Record = record { «package» = r.package; text = r.text; cursor = r.cursor; before = r.before; digests = z; steps = es } in q) d
-    ∙ ap (λ z. let q : Record = record { «package» = r.package; text = r.text; cursor = r.cursor; before = r.before; digests = r.digests; steps = z } in q) e
+record_is r text ds es t d e = rw (t, d, e) refl
 
 same_record : (r : Record) (n : Node) → Reads r.text n → RecordAgrees r n → record_of (history_at r n) (edits_of r.steps) ≡ r
 same_record r n reads agrees =
@@ -90,12 +82,7 @@ not_other j h es other journal = own_version journal.version (record_of h es) (s
 
 same_history : (p q : Text) (ts us ns ms : List Text) (c d b a : ℕ) → q ≡ p → us ≡ ts → ms ≡ ns → d ≡ c → a ≡ b
     → (let h : History = record { «package» = q; texts = us; notes = ms; cursor = d; before = a } in h) ≡ (let h : History = record { «package» = p; texts = ts; notes = ns; cursor = c; before = b } in h)
-same_history p q ts us ns ms c d b a e f g h i =
-    ap (λ z. let h : History = record { «package» = z; texts = us; notes = ms; cursor = d; before = a } in h) e
-    ∙ ap (λ z. let h : History = record { «package» = p; texts = z; notes = ms; cursor = d; before = a } in h) f
-    ∙ ap (λ z. let h : History = record { «package» = p; texts = ts; notes = z; cursor = d; before = a } in h) g
-    ∙ ap (λ z. let h : History = record { «package» = p; texts = ts; notes = ns; cursor = z; before = a } in h) h
-    ∙ ap (λ z. let h : History = record { «package» = p; texts = ts; notes = ns; cursor = c; before = z } in h) i
+same_history p q ts us ns ms c d b a e f g h i = rw (e, f, g, h, i) refl
 
 pub record SameJournal (h : History) (es : List (List Edit)) (g : History) (fs : List (List Edit)) : Type 0 where
   pub history : g ≡ h
@@ -162,9 +149,6 @@ module _ (j text : Text) (r : Record) (read : IsRead j r) (s : Resumed) (opened 
   pub opened_trail : IsTrail (trail_of s)
   opened_trail = subst (λ (t : Trail). IsTrail t) (sym trail_is) opened.agrees.0
 
-  pub within : r.before ≤ length s.steps
-  within = omega (arith, (counted j r read).1, ap length opened.steps, length-map r.steps (λ t. t.edits))
-
   placed : standing_place (texts_of (trail_of s)) s.cursor r.before text ≡ stands here text
   placed = ap (λ (t : Trail). standing_place (texts_of t) s.cursor r.before text) trail_is ∙ ap (λ c. standing_place (texts_of (recorded_trail r s.tree)) c r.before text) opened.cursor
 
@@ -209,8 +193,3 @@ module _ (j text : Text) (r : Record) (read : IsRead j r) (s : Resumed) (opened 
 
       notes_of_read : (j : Text) (r : Record) → IsRead j r → AllByRecursion (IsNote Two) (notes_of r.steps)
       notes_of_read j r (v, h, e) = notes_two v r.steps h.steps
-
--- ---- laws
-
-pub stands_at_cursor : (h : History) → stands h (text_at h h.cursor) ≡ Some h.cursor
-stands_at_cursor h = let e : bytes_eq (text_at h h.cursor) (text_at h h.cursor) ≡ true = (bytes_eq-Decides (text_at h h.cursor) (text_at h h.cursor)).1 refl in rw e refl

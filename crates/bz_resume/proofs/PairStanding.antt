@@ -1,5 +1,5 @@
 -- Where a history is.
-use Rattle.std.proofs.Common.{◌≡◌, ap, sym, refl, true≢false, ℕ, Bool, true, false, Some, None, if◌then◌else◌}
+use Rattle.std.proofs.Common.{◌≡◌, sym, refl, true≢false, ℕ, Bool, true, false, Some, None, if◌then◌else◌}
 use Rattle.std.specs.Str.{bytes_eq}
 use Rattle.std.proofs.lemmas.Slice.Eq.{bytes_eq-Decides}
 use Rattle.bz_files.specs.Folder.{Text}
@@ -19,5 +19,4 @@ stands_before h text is =
 
 -- and for its present one
 pub stands_now : (h : History) → stands h (present h) ≡ Some h.cursor
-stands_now h = ap (λ b. if b then Some h.cursor else (if bytes_eq (present h) (text_at h h.before) then Some h.before else None))
-    ((bytes_eq-Decides (present h) (present h)).1 refl)
+stands_now h = let same : bytes_eq (present h) (present h) ≡ true = (bytes_eq-Decides (present h) (present h)).1 refl in rw same refl

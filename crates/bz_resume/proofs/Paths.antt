@@ -1,7 +1,7 @@
 -- A place in a tree is no deeper than the tree, so the steps of a trail have short paths.
-use Rattle.std.proofs.Common.{ℕ, zero, suc, ◌≡◌, ◌≤◌, ◌<◌, true, List, [], ◌∷◌, ◌++◌, length, reverse, take, drop, Some, refl, sym, ap, subst, arith}
-use Rattle.std.specs.Prelude.{slice_get, Bool, ◌&&◌}
-use Rattle.std.specs.List.{AllByRecursion}
+use Rattle.std.proofs.Common.{ℕ, zero, suc, ◌≡◌, ◌≤◌, ◌<◌, true, List, [], ◌∷◌, length, reverse, take, drop, Some, refl, sym, ap, subst, arith}
+use Rattle.std.specs.Prelude.{slice_get, nat_lt, Bool, ◌&&◌}
+use Rattle.std.specs.List.{AllByRecursion, list_all}
 use Rattle.std.proofs.lemmas.Bool.{and_parts, lt-ltb}
 use Rattle.std.proofs.lemmas.Option.{same_Some}
 use Rattle.std.proofs.lemmas.List.{reverse-reverse, take-append-drop}
@@ -11,25 +11,26 @@ use Rattle.bz_grammar.specs.declared.tree.Part.{Part}
 use Rattle.bz_grammar.specs.declared.tree.Part.TheVariants as p
 use Rattle.bz_grammar.specs.Spell.{depth_part, deepest, depth_limit}
 use Rattle.bz_grammar.proofs.Spells.{depth_Node}
+use Rattle.bz_grammar.proofs.Split.{all_both}
 use Rattle.bz_edit.specs.declared.edit.Edit.{Edit}
 use Rattle.bz_edit.specs.Places.{has_place}
 use Rattle.bz_edit.specs.Steps.{all_there, swap_node}
 use Rattle.bz_edit.proofs.Puts.{child_found}
 use Rattle.bz_history.specs.Trails.{Trail, IsTrail, IsTree, StepLeads, LeadOn}
-use Rattle.bz_resume.specs.private.Agreement.{MayLead, are_short}
+use Rattle.bz_resume.specs.private.Agreement.{MayLead}
 
 item_depth : (xs : List Part) (i : ℕ) (x : Part) → slice_get xs i ≡ Some x → depth_part x ≤ deepest xs
 item_depth [] i x e = cc
 item_depth (y ∷ ys) zero x e = let s = same_Some y x e in omega (arith, ap depth_part s)
 item_depth (y ∷ ys) (suc i) x e = omega (arith, item_depth ys i x e)
 
-place_within : (path : List ℕ) (at count : ℕ) (n : Node) → has_place path at count n ≡ true → length path ≤ deepest n.parts
+pub place_within : (path : List ℕ) (at count : ℕ) (n : Node) → has_place path at count n ≡ true → length path ≤ deepest n.parts
 place_within [] at count n h = omega arith
 place_within (i ∷ path) at count n h =
     let w = child_found i n (has_place path at count) h in
     omega (arith, place_within path at count w.0 w.2, item_depth n.parts i (p.Node w.0) w.1, depth_Node w.0)
 
-short_edits : (es : List Edit) (n : Node) → all_there es n ≡ true → deepest n.parts < depth_limit → are_short es ≡ true
+short_edits : (es : List Edit) (n : Node) → all_there es n ≡ true → deepest n.parts < depth_limit → list_all (λ e. nat_lt (length e.path) depth_limit) es ≡ true
 short_edits [] n h d = refl
 short_edits (e ∷ es) n h d =
     let w = and_parts (has_place e.path e.at e.count n) (all_there es n) h in
@@ -38,25 +39,22 @@ short_edits (e ∷ es) n h d =
     both_true : {a b : Bool} → a ≡ true → b ≡ true → (a && b) ≡ true
     both_true a b = rw (a, b) refl
 
-may_lead : (n : Node) (e : List Edit) → IsTree n → StepLeads e n → MayLead e
+pub may_lead : (n : Node) (e : List Edit) → IsTree n → StepLeads e n → MayLead e
 may_lead n e t l = let d = t.0.depth in (l.is_step, short_edits e n l.there (omega arith))
 
-each_may : (n : Node) (es : List (List Edit)) → IsTree n → LeadOn n es → AllByRecursion MayLead es
-each_may n [] t l = tt
-each_may n (e ∷ es) t l = (may_lead n e t l.0, each_may (swap_node e n) es l.0.tree l.1)
+-- what is so of each step that leads on from a tree is so of those of a trail
+module _ (P : List Edit → Type 0) (each : (n : Node) (e : List Edit) → IsTree n → StepLeads e n → P e) where
+  on_side : (n : Node) (es : List (List Edit)) → IsTree n → LeadOn n es → AllByRecursion P es
+  on_side n [] t l = tt
+  on_side n (e ∷ es) t l = (each n e t l.0, on_side (swap_node e n) es l.0.tree l.1)
 
-pub all_joined : {X : Type 0} (P : X → Type 0) (xs ys : List X) → AllByRecursion P xs → AllByRecursion P ys → AllByRecursion P (xs ++ ys)
-all_joined P [] ys h k = k
-all_joined P (x ∷ xs) ys h k = (h.0, all_joined P xs ys h.1 k)
+  reversed : (es : List (List Edit)) → AllByRecursion P es → AllByRecursion P (reverse es)
+  reversed [] h = h
+  reversed (e ∷ es) h = subst (AllByRecursion P) (sym (reverse_onto es e [])) (all_both P (reverse es) (e ∷ []) (reversed es h.1) (h.0, tt))
 
-pub all_reversed : {X : Type 0} (P : X → Type 0) (xs : List X) → AllByRecursion P xs → AllByRecursion P (reverse xs)
-all_reversed P [] h = h
-all_reversed P (x ∷ xs) h = subst (AllByRecursion P) (sym (reverse_onto xs x [])) (all_joined P (reverse xs) (x ∷ []) (all_reversed P xs h.1) (h.0, tt))
-
-pub trail_may : (t : Trail) → IsTrail t → AllByRecursion MayLead t.steps
-trail_may w h =
-    let back = take w.cursor w.steps in
-    subst (AllByRecursion MayLead) (take-append-drop w.cursor w.steps)
-    (all_joined MayLead back (drop w.cursor w.steps)
-    (subst (AllByRecursion MayLead) (reverse-reverse back) (all_reversed MayLead (reverse back) (each_may w.tree (reverse back) h.tree h.back)))
-    (each_may w.tree (drop w.cursor w.steps) h.tree h.forward))
+  pub trail_all : (t : Trail) → IsTrail t → AllByRecursion P t.steps
+  trail_all t h =
+      let back = take t.cursor t.steps in
+      subst (AllByRecursion P) (take-append-drop t.cursor t.steps) (all_both P back (drop t.cursor t.steps)
+      (subst (AllByRecursion P) (reverse-reverse back) (reversed (reverse back) (on_side t.tree (reverse back) h.tree h.back)))
+      (on_side t.tree (drop t.cursor t.steps) h.tree h.forward))

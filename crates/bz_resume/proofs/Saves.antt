@@ -1,14 +1,13 @@
 -- A history whose numbers fit has a journal.
-use Rattle.std.proofs.Common.{◌≡◌, ◌<◌, List, [], ◌∷◌, length, map, reverse, take, drop, refl, sym, ap, ◌∙◌, subst, arith}
+use Rattle.std.proofs.Common.{◌≡◌, ◌<◌, List, [], ◌∷◌, length, map, refl, sym, ap, ◌∙◌, arith}
 use Rattle.std.specs.Prelude.{slice_index_or}
 use Rattle.std.specs.List.{AllByRecursion}
-use Rattle.std.proofs.lemmas.List.{length-map, reverse-reverse, take-append-drop}
+use Rattle.std.proofs.lemmas.List.{length-map}
 use Rattle.sha2.specs.Sha256.{sha256}
 use Rattle.bz_grammar.specs.declared.tree.Node.{Node}
 use Rattle.bz_grammar.specs.Spell.{spell_node, depth_limit}
 use Rattle.bz_edit.specs.declared.edit.Edit.{Edit}
-use Rattle.bz_edit.specs.Steps.{swap_node}
-use Rattle.bz_history.specs.Trails.{Trail, IsTrail, IsTree, LeadOn, trail_at}
+use Rattle.bz_history.specs.Trails.{Trail, IsTrail, trail_at}
 use Rattle.bz_history.specs.Shown.{Text, texts_of}
 use Rattle.bz_history.proofs.Keeps.{present_text, texts_length}
 use Rattle.bz_journal_format.specs.declared.content.Record.{Record}
@@ -19,7 +18,7 @@ use Rattle.bz_journal_format.proofs.Digests.{digest_fits}
 use Rattle.bz_resume.specs.Journals.{History, Journal, MaySave, journal_text, record_of, text_at}
 use Rattle.bz_journal_format.specs.Contents.{entries_of}
 use Rattle.bz_journal_format.proofs.Paired.{entries_length}
-use Rattle.bz_resume.proofs.Paths.{all_joined, all_reversed}
+use Rattle.bz_resume.proofs.Paths.{trail_all}
 use Rattle.bz_resume.proofs.Sized.{step_fits}
 use Rattle.bz_resume.proofs.Slots.{few_edits}
 
@@ -28,17 +27,8 @@ use Rattle.bz_resume.proofs.Slots.{few_edits}
 abbrev Fits : List Edit → Type 0
 Fits e = (length e < number_limit) × AllByRecursion (IsEdit depth_limit) e
 
-each_fits : (n : Node) (es : List (List Edit)) → IsTree n → LeadOn n es → AllByRecursion Fits es
-each_fits n [] t l = tt
-each_fits n (e ∷ es) t l = ((few_edits n e t l.0, step_fits n e l.0), each_fits (swap_node e n) es l.0.tree l.1)
-
 trail_fits : (t : Trail) → IsTrail t → AllByRecursion Fits t.steps
-trail_fits t h =
-    let back = take t.cursor t.steps in
-    subst (AllByRecursion Fits) (take-append-drop t.cursor t.steps)
-    (all_joined Fits back (drop t.cursor t.steps)
-    (subst (AllByRecursion Fits) (reverse-reverse back) (all_reversed Fits (reverse back) (each_fits t.tree (reverse back) h.tree h.back)))
-    (each_fits t.tree (drop t.cursor t.steps) h.tree h.forward))
+trail_fits = trail_all Fits (λ n e t l. (few_edits n e t l, step_fits n e l))
 
 entries_fit : (ns : List Text) (es : List (List Edit)) → AllByRecursion (IsNote Two) ns → AllByRecursion Fits es → AllByRecursion (IsNotedStep Two depth_limit) (entries_of ns es)
 entries_fit [] es h k = tt
@@ -79,6 +69,4 @@ module _ (h : History) (es : List (List Edit)) (n : Node) (trail : IsTrail (trai
 
 pub record_made : (h : History) (es : List (List Edit)) (t : Text) (ds : List Text) → t ≡ text_at h h.cursor → ds ≡ map sha256 h.texts
     → (let r : Record = record { «package» = h.package; text = t; cursor = h.cursor; before = h.before; digests = ds; steps = entries_of h.notes es } in r) ≡ record_of h es
-record_made h es t ds e g =
-    ap (λ z. let r : Record = record { «package» = h.package; text = z; cursor = h.cursor; before = h.before; digests = ds; steps = entries_of h.notes es } in r) e
-    ∙ ap (λ z. let r : Record = record { «package» = h.package; text = text_at h h.cursor; cursor = h.cursor; before = h.before; digests = z; steps = entries_of h.notes es } in r) g
+record_made h es t ds e g = rw (e, g) refl

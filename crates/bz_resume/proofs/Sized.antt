@@ -3,14 +3,16 @@ use Rattle.std.proofs.Common.{ℕ, zero, suc, ◌≡◌, ◌+◌, ◌<◌, ◌�
 use Rattle.std.specs.Prelude.{slice_get}
 use Rattle.std.specs.List.{AllByRecursion, flat_map}
 use Rattle.std.proofs.lemmas.Bool.{and_parts, leb-true}
-use Rattle.std.proofs.lemmas.Option.{same_Some}
+use Rattle.std.proofs.lemmas.List.{take-append-drop}
+use Rattle.std.proofs.lemmas.Option.{same_Some, slice_get_within}
 use Rattle.bz_grammar.specs.declared.tree.Node.{Node}
 use Rattle.bz_grammar.specs.declared.tree.Part.{Part, Row_of-Part, end_of-Part, more_of-Part, items-the_row-Part}
 use Rattle.bz_grammar.specs.declared.tree.Part.TheVariants as p
 use Rattle.bz_grammar.specs.declared.tree.Part.TheViews.{outs-Node}
-use Rattle.bz_grammar.specs.Spell.{depth_part, deepest, spell_part, depth_limit, limit}
+use Rattle.bz_grammar.specs.Spell.{deepest, spell_part, depth_limit, limit}
 use Rattle.bz_grammar.proofs.Nested.{part_ind, row_of, items_of_row}
 use Rattle.bz_grammar.proofs.Spells.{depth_Node, spell_Node}
+use Rattle.bz_grammar.proofs.Split.{all_back, all_front}
 use Rattle.bz_edit.specs.declared.edit.Edit.{Edit}
 use Rattle.bz_edit.specs.Places.{has_place, covered, if_node, node_in, opened_node}
 use Rattle.bz_edit.specs.private.Plans.{parts_in, total_length}
@@ -21,6 +23,7 @@ use Rattle.bz_edit.proofs.Sizes.{counted}
 use Rattle.bz_edit.proofs.Turns.{apart_of}
 use Rattle.bz_edit.proofs.Twice.{twice}
 use Rattle.bz_history.specs.Trails.{IsTree, StepLeads}
+use Rattle.bz_resume.proofs.Paths.{place_within}
 use Rattle.bz_journal_format.specs.Spellings.{number_limit}
 use Rattle.bz_journal_format.specs.Texts.{row_length, IsSmallPart, AreSmallParts, IsHeld, IsEdit}
 
@@ -65,67 +68,47 @@ pub record IsLow (xs : List Part) : Type 0 where
   pub few : total_length xs < number_limit
   pub short : length (flat_map spell_part xs) ≤ limit
 
+low_first : (x : Part) (xs : List Part) → IsLow (x ∷ xs) → IsLow (x ∷ [])
+low_first x xs low =
+    let cut = length-append (spell_part x) (flat_map spell_part xs) in
+    let one = length-append (spell_part x) [] in
+    record { deep = omega (arith, low.deep); few = omega (arith, low.few); short = omega (arith, low.short, cut, one) }
+
+low_rest : (x : Part) (xs : List Part) → IsLow (x ∷ xs) → IsLow xs
+low_rest x xs low =
+    record { deep = omega (arith, low.deep); few = omega (arith, low.few); short = omega (arith, low.short, length-append (spell_part x) (flat_map spell_part xs)) }
+
 each_held : (xs : List Part) → IsLow xs → AllByRecursion (IsHeld depth_limit) xs
 each_held [] low = tt
 each_held (x ∷ xs) low =
-    let cut = length-append (spell_part x) (flat_map spell_part xs) in
-    let d = low.deep in
-    let f = low.few in
-    let s = low.short in
-    ((omega arith, fits x (omega (arith, cut)) (omega arith)), each_held xs (record { deep = omega arith; few = omega arith; short = omega (arith, cut) }))
+    let own = low_first x xs low in
+    ((omega (arith, own.deep), fits x (omega (arith, own.short, length-append (spell_part x) [])) (omega (arith, own.few))), each_held xs (low_rest x xs low))
 
-pub all_taken : {X : Type 0} (P : X → Type 0) (n : ℕ) (xs : List X) → AllByRecursion P xs → AllByRecursion P (take n xs)
-all_taken P zero [] h = tt
-all_taken P (suc n) [] h = tt
-all_taken P zero (x ∷ xs) h = tt
-all_taken P (suc n) (x ∷ xs) h = (h.0, all_taken P n xs h.1)
-
-pub all_dropped : {X : Type 0} (P : X → Type 0) (n : ℕ) (xs : List X) → AllByRecursion P xs → AllByRecursion P (drop n xs)
-all_dropped P zero [] h = tt
-all_dropped P (suc n) [] h = tt
-all_dropped P zero (x ∷ xs) h = h
-all_dropped P (suc n) (x ∷ xs) h = all_dropped P n xs h.1
-
-record IsItem (xs : List Part) (i : ℕ) (x : Part) : Type 0 where
-  deep : depth_part x ≤ deepest xs
-  few : parts_in x ≤ total_length xs
-  short : length (spell_part x) ≤ length (flat_map spell_part xs)
-  within : i < length xs
-
-item : (xs : List Part) (i : ℕ) (x : Part) → slice_get xs i ≡ Some x → IsItem xs i x
-item [] i x e = cc
-item (y ∷ ys) zero x e =
-    let s = same_Some y x e in
-    record {
-      deep = omega (arith, ap depth_part s);
-      few = omega (arith, ap parts_in s);
-      short = omega (arith, ap (λ z. length (spell_part z)) s, length-append (spell_part y) (flat_map spell_part ys));
-      within = omega arith;
-    }
-item (y ∷ ys) (suc i) x e =
-    let r = item ys i x e in
-    record {
-      deep = omega (arith, r.deep);
-      few = omega (arith, r.few);
-      short = omega (arith, r.short, length-append (spell_part y) (flat_map spell_part ys));
-      within = omega (arith, r.within);
-    }
+low_item : (xs : List Part) (i : ℕ) (x : Part) → slice_get xs i ≡ Some x → IsLow xs → IsLow (x ∷ [])
+low_item [] i x e low = cc
+low_item (y ∷ ys) zero x e low = subst (λ (z : Part). IsLow (z ∷ [])) (same_Some y x e) (low_first y ys low)
+low_item (y ∷ ys) (suc i) x e low = low_item ys i x e (low_rest y ys low)
 
 low_child : (n m : Node) (i : ℕ) → slice_get n.parts i ≡ Some (p.Node m) → IsLow n.parts → IsLow m.parts
 low_child n m i e low =
-    let r = item n.parts i (p.Node m) e in
+    let r = low_item n.parts i (p.Node m) e low in
     record {
-      deep = omega (arith, low.deep, r.deep, depth_Node m);
-      few = omega (arith, low.few, r.few, parts_Node m);
-      short = omega (arith, low.short, r.short, ap length (spell_Node m));
+      deep = omega (arith, r.deep, depth_Node m);
+      few = omega (arith, r.few, parts_Node m);
+      short = omega (arith, r.short, length-append (spell_part (p.Node m)) [], ap length (spell_Node m));
     }
+
+pub all_taken : {X : Type 0} (P : X → Type 0) (n : ℕ) (xs : List X) → AllByRecursion P xs → AllByRecursion P (take n xs)
+all_taken P n xs h = all_front P (take n xs) (drop n xs) (subst (AllByRecursion P) (sym (take-append-drop n xs)) h)
+
+pub all_dropped : {X : Type 0} (P : X → Type 0) (n : ℕ) (xs : List X) → AllByRecursion P xs → AllByRecursion P (drop n xs)
+all_dropped P n xs h = all_back P (take n xs) (drop n xs) (subst (AllByRecursion P) (sym (take-append-drop n xs)) h)
 
 -- ---- places
 
 record IsPlaced (path : List ℕ) (at count : ℕ) (n : Node) : Type 0 where
   entries : AllByRecursion (λ k. k < number_limit) path
   first : at < number_limit
-  size : length path ≤ deepest n.parts
   held : AllByRecursion (IsHeld depth_limit) (covered path at count n)
 
 placed : (path : List ℕ) (at count : ℕ) (n : Node) → has_place path at count n ≡ true → IsLow n.parts → IsPlaced path at count n
@@ -134,7 +117,6 @@ placed [] at count n h low =
     record {
       entries = tt;
       first = omega (arith, leb-true (at + count) (length n.parts) h, length_total n.parts);
-      size = omega arith;
       held = all_taken (IsHeld depth_limit) count (drop at n.parts) (all_dropped (IsHeld depth_limit) at n.parts (each_held n.parts low));
     }
 placed (i ∷ path) at count n h low =
@@ -142,16 +124,12 @@ placed (i ∷ path) at count n h low =
     let m : Node = w.0 in
     let r = placed path at count m w.2 (low_child n m i w.1 low) in
     let f = low.few in
-    let there = item n.parts i (p.Node m) w.1 in
-    let k = there.within in
-    let d = there.deep in
-    let s = r.size in
+    let k = slice_get_within n.parts i (p.Node m) w.1 in
     let same : covered (i ∷ path) at count n ≡ covered path at count m =
     ap (λ o. if_node [] (covered path at count) (node_in o)) w.1 ∙ ap (λ z. if_node [] (covered path at count) (opened_node z)) (outs-Node m) in
     record {
       entries = (omega (arith, length_total n.parts), r.entries);
       first = r.first;
-      size = omega (arith, depth_Node m);
       held = subst (AllByRecursion (IsHeld depth_limit)) (sym same) r.held;
     }
 
@@ -161,7 +139,7 @@ edits_fit m (f ∷ fs) h low sizes =
     let w = and_parts (has_place f.path f.at f.count m) (all_there fs m) h in
     let r = placed f.path f.at f.count m w.0 low in
     let d = low.deep in
-    let s = r.size in (
+    let s = place_within f.path f.at f.count m w.0 in (
       record {
         path_length = omega arith;
         path = r.entries;

@@ -1,6 +1,5 @@
 -- What each moment of a keeping leaves.
 use Rattle.std.proofs.Common.{◌≡◌, ◌≢◌, ◌∙◌, ◌⊎◌, ap, sym, refl, subst, inl, inr, List, [], Some}
-use Rattle.std.specs.Prelude.{Result, Ok, Err, OnOk, IsOk}
 use Rattle.std.specs.Option.{unwrap_or}
 use Rattle.std.specs.FinMap.{get}
 use Rattle.bz_edit.specs.declared.edit.Edit.{Edit}
@@ -12,11 +11,6 @@ use Rattle.bz_resume.specs.Pair.{journal_name}
 use Rattle.bz_resume.specs.Resuming.{IsRecordedBy, Holds, Resumes, MayResume, OthersStay, Survives, present}
 use Rattle.bz_resume.proofs.Names.{file_journal, journal_file, file_is_old, journal_is_old}
 use Rattle.bz_resume.proofs.PairStanding.{stands_before, stands_now}
-
--- what a value says, where there is one
-pub on_ok_too : {T E P Q : Type 0} (r : Result T E) → (IsOk r → P → Q) → OnOk r P → OnOk r Q
-on_ok_too (Ok x) f p = f refl p
-on_ok_too (Err e) f p = tt
 
 module _ (file : Text) where
   -- what is recorded stays where the journal does

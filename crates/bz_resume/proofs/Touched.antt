@@ -12,6 +12,7 @@ use Rattle.bz_grammar.specs.Spell.{leaves_part, spell_node, spell_part, limit}
 use Rattle.bz_grammar.specs.Legal.{Legal, IsNonterminal}
 use Rattle.bz_grammar.specs.Shapes.{Several, line}
 use Rattle.bz_grammar.specs.Joined.{AreWholeLines, file_with, last_token}
+use Rattle.bz_items.specs.Characters.{line_feed}
 use Rattle.bz_grammar.specs.Split.{bare_end}
 use Rattle.bz_grammar.proofs.Balance.{no_such}
 use Rattle.bz_grammar.proofs.Spells.{leaves_Node}
@@ -22,7 +23,7 @@ use Rattle.bz_edit.specs.Steps.{here, if_here, below, if_below, spliced, splice_
 use Rattle.bz_edit.proofs.Swaps.{stays, swap_none}
 use Rattle.bz_history.specs.Trails.{IsTree}
 use Rattle.bz_resume.proofs.Sized.{all_taken, all_dropped}
-use Rattle.bz_resume.specs.private.Alone.{IsAlone, AreAlone, EndsLine, IsLineFeed, AreLined, IsAloneAt, IsTouchedAlone, IsHeldAlone, AreTouchedAlone}
+use Rattle.bz_resume.specs.private.Alone.{IsAlone, AreAlone, EndsLine, AreLined, IsAloneAt, IsTouchedAlone, IsHeldAlone, AreTouchedAlone}
 
 -- ---- a legal file has parts that are legal by themselves
 
@@ -86,18 +87,11 @@ last_leaf [] l = refl
 last_leaf (m ∷ []) l = refl
 last_leaf (m ∷ k ∷ ls) l = last_leaf (k ∷ ls) l
 
-pub newline_last : (ps rest : List Part) (last : Part) → ps ≡ rest ++ last ∷ [] → IsLineFeed last → AreWholeLines ps
-newline_last ps rest last is feed =
-    ap (λ qs. last_token (flat_map leaves_part qs)) (is ∙ ap (λ x. rest ++ x ∷ []) feed.1)
-    ∙ ap last_token (leaves_both rest (p.Leaf feed.0 ∷ []))
-    ∙ last_leaf (flat_map leaves_part rest) feed.0
-    ∙ feed.2
-
-node_whole : (n : Node) → AreWholeLines n.parts → EndsLine (p.Node n)
-node_whole n h = ap last_token (append-nil (leaves_part (p.Node n)) ∙ leaves_Node n) ∙ h
-
-pub node_ends : (x : Part) (n : Node) (ps : List Part) → x ≡ p.Node n → ps ≡ n.parts → AreWholeLines ps → EndsLine x
-node_ends x n ps is parts h = subst EndsLine (sym is) (node_whole n (subst AreWholeLines parts h))
+pub node_ends : (x : Part) (n : Node) (ps rest : List Part) (last : Part) (l : Leaf) → x ≡ p.Node n → ps ≡ n.parts → ps ≡ rest ++ last ∷ [] → last ≡ p.Leaf l
+    → l.token ≡ line_feed ∷ [] → EndsLine x
+node_ends x n ps rest last l is parts cut leaf feed = subst EndsLine (sym is) (ap last_token (append-nil (leaves_part (p.Node n)) ∙ leaves_Node n)
+    ∙ ap (λ qs. last_token (flat_map leaves_part qs)) (sym parts ∙ cut ∙ ap (λ y. rest ++ y ∷ []) leaf) ∙ ap last_token (leaves_both rest (p.Leaf l ∷ []))
+    ∙ last_leaf (flat_map leaves_part rest) l ∙ feed)
 
 pub past_end : (ps : List Part) → IsAloneAt ps (length ps)
 past_end [] x e = absurd cc
@@ -128,16 +122,16 @@ held_keeps n es h g =
 
 within_here : (ps : List Part) (es : List Edit) → AllByRecursion (IsTouchedAlone ps) es → here es ≡ []
 within_here ps [] h = refl
-within_here ps (e ∷ es) h = ap (λ path. if_here path e (here es)) h.0.1.1 ∙ within_here ps es h.1
+within_here ps (e ∷ es) h = ap (λ path. if_here path e (here es)) h.0.2 ∙ within_here ps es h.1
 
 -- no edit is made in a part, or that part makes a legal file by itself
 touched_at : (ps : List Part) (j : ℕ) (es : List Edit) → AllByRecursion (IsTouchedAlone ps) es → (below j es ≡ []) ⊎ IsAloneAt ps j
 touched_at ps j [] h = inl refl
 touched_at ps j (e ∷ es) h =
     elim (cases_Bool (nat_eq h.0.0 j)) [
-      | inl is ↦ inr (subst (IsAloneAt ps) (eqb-true h.0.0 j is) h.0.2)
+      | inl is ↦ inr (subst (IsAloneAt ps) (eqb-true h.0.0 j is) h.0.3)
       | inr not ↦ elim (touched_at ps j es h.1) [
-        | inl none ↦ inl (ap (λ path. if_below j path e (below j es)) h.0.1.1 ∙ cond-false (nat_eq h.0.0 j) _ (below j es) not ∙ none)
+        | inl none ↦ inl (ap (λ path. if_below j path e (below j es)) h.0.2 ∙ cond-false (nat_eq h.0.0 j) _ (below j es) not ∙ none)
         | inr alone ↦ inr alone
       ]
     ]

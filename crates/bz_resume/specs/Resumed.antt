@@ -42,5 +42,4 @@ abbrev pub IsKnown : History → List (List Edit) → Text → Result Resumed Re
 IsKnown h es text (Ok s) = StandsFor h es text s
 IsKnown h es text (Err f.Stale) = stands h text ≡ None
 IsKnown h es text (Err f.Memory) = Unit {0}
-IsKnown h es text (Err f.Damaged) = ⊥
-IsKnown h es text (Err f.Version) = ⊥
+IsKnown h es text (Err _) = ⊥

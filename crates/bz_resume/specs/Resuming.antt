@@ -1,11 +1,9 @@
 -- A file whose journal records its history, and what a stop leaves of the two.
-use Rattle.std.specs.Prelude.{◌≡◌, ◌≢◌, ◌⊎◌, ◌≤◌, ℕ, true, List, [], ◌∷◌, Some, None, Result, IfErr, OnOk, IsOk, IsErrOf}
+use Rattle.std.specs.Prelude.{◌≡◌, ◌≢◌, ◌⊎◌, ◌≤◌, ℕ, true, List, [], ◌∷◌, Some, None, Result, IfErr, OnOk, IsErrOf}
 use Rattle.std.specs.FinMap.{get}
 use Rattle.bz_edit.specs.declared.edit.Edit.{Edit}
-use Rattle.bz_files.specs.Acts.{GoesThrough}
-use Rattle.bz_files.specs.Folder.{Folder, Text, new_name}
+use Rattle.bz_files.specs.Folder.{Folder, Text, Elapses, new_name}
 use Rattle.bz_files.specs.Faults.{Rises}
-use Rattle.bz_files.specs.Pair.{AreReplaced, IsChecking}
 use Rattle.bz_files.specs.declared.files.Files.{Ghosts as FilesOf}
 use Rattle.bz_resume.specs.declared.pair_fault.PairFault.{PairFault}
 use Rattle.bz_resume.specs.declared.pair_fault.PairFault.TheVariants as f
@@ -57,23 +55,36 @@ pub record Survives (file : Text) (h after : History) (old now : Folder) : Type 
       ⊎ (Holds now file h.package (present h) after.texts ⊎ Holds now file h.package (present after) after.texts)
   pub others : OthersStay file old now
 
+-- what is so of any two histories where an action leads from one to the other, and the folder resumes with the first
+abbrev pub WhereResuming : Folder → Text → Text → Text → Text → (History → History → Type 0) → Type 0
+WhereResuming folder file standing stored text P = (h after : History) (es : List (List Edit)) → MayResume folder file standing stored text h after es → P h after
+
 -- A journal and then its file are given these bytes, where the file still holds the text at which that was begun. (The file's name, that
 -- text, the bytes of both, what came of it, and the files before and after.)
-pub record Replaces {F : Type 0} (files : FilesOf F) (file standing stored text : Text) (answer : Result (Unit {0}) PairFault) (old new : F) : Type 0 where
-  pub goes : files.honest old ≡ true → GoesThrough files.folder files.moment files.since (IsChecking standing (journal_name file) stored file text)
-      (λ was now. OnOk answer (AreReplaced (journal_name file) stored file text was now)) old new
-  -- Only where the file holds the text is anything replaced, and only where it doesn't is that said.
-  pub checked : files.honest old ≡ true → (IsOk answer) ⊎ (IsErrOf answer f.Write)
-      → get (files.folder old) file ≡ Some standing
-  pub changed : files.honest old ≡ true → IsErrOf answer f.Changed → get (files.folder old) file ≢ Some standing
-  pub apart : files.honest old ≡ true → (get (files.folder old) file ≡ Some standing)
-      ⊎ ((now : Folder) → files.since new (files.moment old) now → now ≡ files.folder old)
-  pub kinds : files.honest old ≡ true → get (files.folder old) file ≢ Some standing
+pub record KeepsHeld {F : Type 0} (files : FilesOf F) (file standing bytes text : Text) (answer : Result (Unit {0}) PairFault) (old new : F) : Type 0 where
+  -- At each moment the file goes on with the texts of the one history or of the other, and at an Ok with those of the other.
+  pub each : files.honest old ≡ true → WhereResuming (files.folder old) file standing bytes text (λ h after. (now : Folder) → files.since new (files.moment old) now
+      → (now ≡ files.folder old) ⊎ Survives file h after (files.folder old) now)
+  pub time : files.honest old ≡ true → WhereResuming (files.folder old) file standing bytes text (λ h after. Elapses (files.moment old) (files.moment new)
+      (files.since old) (files.since new) (λ now. (now ≡ files.folder old) ⊎ Survives file h after (files.folder old) now))
+  pub resumes : files.honest old ≡ true → WhereResuming (files.folder old) file standing bytes text (λ h after. (now : Folder) → files.since new (files.moment old) now
+      → Resumes now file h.package h.texts ⊎ Resumes now file h.package after.texts)
+  pub kept : files.honest old ≡ true → OnOk answer (WhereResuming (files.folder old) file standing bytes text (λ h after.
+      Holds (files.folder new) file h.package (present after) after.texts × OthersStay file (files.folder old) (files.folder new)))
+  -- The journal is as it was, or has its bytes.
+  pub stored : files.honest old ≡ true → (now : Folder) → files.since new (files.moment old) now
+      → (get now (journal_name file) ≡ get (files.folder old) (journal_name file)) ⊎ (get now (journal_name file) ≡ Some bytes)
+  pub journal : files.honest old ≡ true → OnOk answer (get (files.folder new) (journal_name file) ≡ Some bytes)
+  -- Where the file holds another text, that is said, and at no moment is anything touched.
+  pub checked : files.honest old ≡ true → get (files.folder old) file ≢ Some standing
       → (IsErrOf answer f.Changed) ⊎ ((IsErrOf answer f.Open) ⊎ (IsErrOf answer f.Memory))
+  pub apart : files.honest old ≡ true → get (files.folder old) file ≢ Some standing
+      → (now : Folder) → files.since new (files.moment old) now → now ≡ files.folder old
+  pub changed : files.honest old ≡ true → IsErrOf answer f.Changed → get (files.folder old) file ≢ Some standing
   pub untouched : files.honest old ≡ true → IfErr answer (λ fault. fault ≢ f.Write
       → (now : Folder) → files.since new (files.moment old) now → now ≡ files.folder old)
   -- A Write and an Open are counted, and nothing else.
   pub cause : (IsErrOf answer f.Write) ⊎ (IsErrOf answer f.Open) → Rises (files.faults old) (files.faults new)
-  pub kept : (IsErrOf answer f.Write → ⊥) → (IsErrOf answer f.Open → ⊥) → files.faults new ≡ files.faults old
+  pub rest : (IsErrOf answer f.Write → ⊥) → (IsErrOf answer f.Open → ⊥) → files.faults new ≡ files.faults old
   pub count : files.faults old ≤ files.faults new
   pub honest : files.honest new ≡ files.honest old

@@ -1,4 +1,4 @@
-use std::alloc::{AllocError, AllocFailed};
+use std::alloc::AllocError;
 use thiserror::Error;
 
 /// Why a journal was not resumed.
@@ -26,34 +26,5 @@ impl From<AllocError> for ResumeFault {
 
     fn from(_refused: AllocError) -> ResumeFault {
         ResumeFault::Memory
-    }
-}
-
-/// Why a record was not opened.
-#[derive(Drop)]
-pub enum Halt {
-    Memory,
-    Damaged,
-}
-
-impl From<AllocError> for Halt {
-    ghost use Rattle.std.specs.Prelude.{◌≡◌};
-    ghost use Rattle.bz_resume.specs.declared.fault.Halt.TheVariants as h;
-
-    ghost from_gives = { λ _ halt. halt ≡ h.Memory };
-
-    fn from(_refused: AllocError) -> Halt {
-        Halt::Memory
-    }
-}
-
-impl<T: Drop> From<AllocFailed<T>> for Halt {
-    ghost use Rattle.std.specs.Prelude.{◌≡◌};
-    ghost use Rattle.bz_resume.specs.declared.fault.Halt.TheVariants as h;
-
-    ghost from_gives = { λ _ halt. halt ≡ h.Memory };
-
-    fn from(_refused: AllocFailed<T>) -> Halt {
-        Halt::Memory
     }
 }

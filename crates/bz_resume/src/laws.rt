@@ -5,6 +5,7 @@ ghost use Rattle.bz_history.specs.Shown.{Text};
 ghost use Rattle.bz_resume.specs.Journals.{History, Journal, stands, text_at};
 
 /// A history is at its cursor for the text there.
+#[tactic(auto, using(crate::proofs::PairStanding::stands_now))]
 pub fn reopened()
     ensures { (h : History) → stands h (text_at h h.cursor) ≡ Some h.cursor }
 {}

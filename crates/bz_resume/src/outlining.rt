@@ -1,24 +1,16 @@
 //! Outlines of nodes: with one, a node can be dropped before the tree is read that it is compared with.
 ghost use Rattle.std.specs.Prelude.{◌≡◌, ◌∷◌, [], ◌++◌, OnOk, IfOk};
-ghost use Rattle.std.specs.List.{flat_map};
-ghost use Rattle.bz_resume.specs.private.Outlines.{marked, marked_byte, outline_all, outline_leaf, outline_node, outline_part};
+ghost use Rattle.bz_resume.specs.private.Outlines.{outline_list, marked, outline_leaf, outline_node, outline_part};
 
 use bz_grammar::{Node, Part};
 use bz_items::Memory;
 use bz_lex::Leaf;
 
-fn push_byte(byte: u8, out: &mut Vec<u8>) -> Result<(), Memory>
-    ensures { OnOk result (out.new.items ≡ out.old.items ++ marked_byte byte) }
-{
-    out.extend_from_slice(&[1, byte])?;
-    Ok(())
-}
-
 fn push_text(text: &[u8], out: &mut Vec<u8>) -> Result<(), Memory>
     ensures { OnOk result (out.new.items ≡ out.old.items ++ marked text.now) }
 {
     for byte in text {
-        push_byte(*byte, out)?;
+        out.extend_from_slice(&[1, *byte])?;
     }
     out.push(0)?;
     Ok(())
@@ -48,9 +40,10 @@ fn push_part(part: &Part, out: &mut Vec<u8>) -> Result<(), Memory>
 
 #[cycle(outline)]
 fn push_all(parts: &[Part], out: &mut Vec<u8>) -> Result<(), Memory>
-    ensures { OnOk result (out.new.items ≡ out.old.items ++ outline_all parts.now) }
+    ensures { OnOk result (out.new.items ≡ out.old.items ++ outline_list outline_part parts.now) }
 {
     for part in parts {
+        out.push(1)?;
         push_part(part, out)?;
     }
     out.push(0)?;

@@ -1,8 +1,9 @@
 //! Steps made on a node that may be left half changed where memory is refused, so that neither of the two is copied as a whole.
-ghost use Rattle.std.specs.Prelude.{◌≡◌, ◌↔◌, false, true, Err, OnOk};
+ghost use Rattle.std.specs.Prelude.{◌≡◌, IsTrue, true, IfOk, OnOk};
+ghost use Rattle.bz_grammar.specs.Spell.{spell_node};
 ghost use Rattle.bz_edit.specs.Steps.{IsStep, all_there, swap_node};
 
-use bz_edit::{EditFault, Step, all_places, swap_each};
+use bz_edit::{Step, all_places, swap_each};
 use bz_grammar::Node;
 use bz_items::Memory;
 
@@ -19,18 +20,19 @@ fn swap_by_copy(node: &mut Node, step: &Step) -> Result<(), Memory>
     Ok(())
 }
 
-/// The node becomes the one that a step makes of it. The errors: a place is not in the node, which is then as before, or a growth
+/// The node becomes the one that a step makes of it, and `text` its text. `false`: a place of the step is not in the node. The error: a growth
 /// was refused; the node is then somewhere between.
-pub(crate) fn swap(node: &mut Node, step: &Step) -> Result<(), EditFault>
+pub(crate) fn go_on(node: &mut Node, text: &mut Vec<u8>, step: &Step) -> Result<bool, Memory>
     ensures step { IsStep step.now }
-    ensures node { OnOk result (node.new ≡ swap_node step.now node.old) }
-    ensures bad_place { (result ≡ Err EditFault.BadPlace) ↔ (all_there step.now node.old ≡ false) }
+    ensures there { IfOk result (λ there. there ≡ all_there step.now node.old) }
+    ensures node { IfOk result (λ there. IsTrue there → node.new ≡ swap_node step.now node.old) }
+    ensures text { IfOk result (λ there. IsTrue there → text.new.items ≡ spell_node node.new) }
 {
     if !all_places(node, step.edits.as_slice()) {
-        return Err(EditFault::BadPlace);
+        return Ok(false);
     }
-    match swap_by_copy(node, step) {
-        Ok(()) => Ok(()),
-        Err(_) => Err(EditFault::Memory),
-    }
+    swap_by_copy(node, step)?;
+    text.clear();
+    node.spell_into(text)?;
+    Ok(true)
 }

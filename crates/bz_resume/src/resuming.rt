@@ -6,7 +6,7 @@ ghost use Rattle.bz_resume.specs.declared.fault.ResumeFault.TheVariants as f;
 ghost use Rattle.bz_resume.specs.Journals.{History, Journal, NoJournal};
 ghost use Rattle.bz_resume.specs.Resumed.{IsKnown, IsResumed, IsStale};
 
-use crate::fault::{Halt, ResumeFault};
+use crate::fault::ResumeFault;
 use crate::opening::open;
 use crate::resumed::Resumed;
 use crate::standing::stand;
@@ -32,10 +32,8 @@ pub fn resume(alloc: Global, journal: &[u8], text: &[u8]) -> Result<Resumed, Res
         Err(RecordFault::Version) => return Err(ResumeFault::Version),
     };
     let before = record.before as usize;
-    let mut resumed = match open(alloc, record) {
-        Ok(resumed) => resumed,
-        Err(Halt::Memory) => return Err(ResumeFault::Memory),
-        Err(Halt::Damaged) => return Err(ResumeFault::Damaged),
+    let Some(mut resumed) = open(alloc, record)? else {
+        return Err(ResumeFault::Damaged);
     };
     let cursor = resumed.cursor;
     let steps = resumed.steps.as_mut_slice();

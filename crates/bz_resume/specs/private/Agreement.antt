@@ -1,5 +1,6 @@
 -- What is tested of a record: step by step, and on the whole.
-use Rattle.std.specs.Prelude.{ℕ, ◌≡◌, ◌+◌, ◌-◌, ◌≤◌, Bool, true, ◌&&◌, nat_lt, List, [], ◌∷◌, map, length, reverse, take, drop, slice_index_or, Option, Some, None, if◌then◌else◌}
+use Rattle.std.specs.Prelude.{ℕ, ◌≡◌, ◌+◌, ◌≤◌, IsTrue, nat_lt, List, [], ◌∷◌, map, length, reverse, take, drop, slice_index_or, Option, Some, None, if◌then◌else◌}
+use Rattle.std.specs.List.{list_all}
 use Rattle.std.specs.Str.{bytes_eq}
 use Rattle.sha2.specs.Sha256.{sha256}
 use Rattle.bz_grammar.specs.declared.tree.Node.{Node}
@@ -21,34 +22,24 @@ edits_of = map (λ t. t.edits)
 abbrev pub notes_of : List RecordedStep → List Text
 notes_of = map (λ t. t.note)
 
--- whether no path is as long as a tree is deep
-abbrev pub are_short : List Edit → Bool
-are_short [] = true
-are_short (e ∷ es) = nat_lt (length e.path) depth_limit && are_short es
-
--- the edits make a step, of which no path is so long
+-- the edits make a step, of which no path is as long as a tree is deep
 abbrev pub MayLead : List Edit → Type 0
-MayLead es = IsStep es × (are_short es ≡ true)
+MayLead es = IsStep es × IsTrue (list_all (λ e. nat_lt (length e.path) depth_limit) es)
 
 -- the step leads to a text with this digest
 abbrev pub StepAgrees : List Edit → Node → Text → Type 0
 StepAgrees e n d = StepLeads e n × (sha256 (spell_node (swap_node e n)) ≡ d)
 
--- the steps in the order in which they are taken this way, and the place of the one with this number
+-- the steps in the order in which they are taken this way
 abbrev pub as_taken : {A : Type 0} → Way → List A → List A
 as_taken w.On xs = xs
 as_taken w.Back xs = reverse xs
 
-abbrev pub place_taken : Way → ℕ → ℕ → ℕ
-place_taken w.On i count = i
-place_taken w.Back i count = count - 1 - i
-
 -- each step leads on from the tree that those before it lead to, to a text with its digest
 abbrev pub StepsAgree : Node → List (List Edit) → List Text → Type 0
 StepsAgree n [] [] = Unit {0}
-StepsAgree n [] (d ∷ ds) = ⊥
-StepsAgree n (e ∷ es) [] = ⊥
 StepsAgree n (e ∷ es) (d ∷ ds) = StepAgrees e n d × StepsAgree (swap_node e n) es ds
+StepsAgree n _ _ = ⊥
 
 -- the trail of a record's steps from a tree
 abbrev pub recorded_trail : Record → Node → Trail

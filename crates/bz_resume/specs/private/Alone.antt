@@ -1,7 +1,6 @@
 -- Statements of a file by themselves.
 use Rattle.std.specs.Prelude.{◌≡◌, ◌⊎◌, ℕ, List, [], ◌∷◌, ◌++◌, Some, slice_get}
 use Rattle.std.specs.List.{AllByRecursion}
-use Rattle.bz_items.specs.Characters.{line_feed}
 use Rattle.bz_lex.specs.declared.leaf.Leaf.{Leaf}
 use Rattle.bz_grammar.specs.declared.tree.Part.{Part, Node'}
 use Rattle.bz_grammar.specs.declared.tree.Part.TheVariants as p
@@ -10,14 +9,10 @@ use Rattle.bz_grammar.specs.Joined.{AreWholeLines, file_with}
 use Rattle.bz_grammar.specs.Split.{bare_end}
 use Rattle.bz_edit.specs.declared.edit.Edit.{Edit}
 
--- what is after a part in a file that has it alone
-abbrev pub after_alone : Part → List Part
-after_alone (p.Leaf l) = []
-after_alone (Node' k s r) = bare_end ∷ []
-
 -- the part makes a legal file by itself
 abbrev pub IsAlone : Part → Type 0
-IsAlone x = Legal (file_with (x ∷ after_alone x))
+IsAlone (p.Leaf l) = Legal (file_with (p.Leaf l ∷ []))
+IsAlone (Node' k s r) = Legal (file_with (Node' k s r ∷ bare_end ∷ []))
 
 abbrev pub AreAlone : List Part → Type 0
 AreAlone xs = AllByRecursion IsAlone xs
@@ -26,10 +21,6 @@ AreAlone xs = AllByRecursion IsAlone xs
 abbrev pub EndsLine : Part → Type 0
 EndsLine (p.Leaf l) = ⊥
 EndsLine (Node' k s r) = AreWholeLines (Node' k s r ∷ [])
-
--- the part is a line feed, with what is before it
-abbrev pub IsLineFeed : Part → Type 0
-IsLineFeed x = (l : Leaf) × (x ≡ p.Leaf l) × (l.token ≡ line_feed ∷ [])
 
 -- the parts are statements that each end with a newline of their own, and one leaf after them
 abbrev pub AreLined : List Part → Type 0
@@ -41,13 +32,9 @@ AreLined ps = (xs : List Part) × (l : Leaf) × (ps ≡ xs ++ p.Leaf l ∷ []) �
 abbrev pub IsAloneAt : List Part → ℕ → Type 0
 IsAloneAt ps i = (x : Part) → slice_get ps i ≡ Some x → IsAlone x
 
--- the edit is made in the part of a number
-abbrev pub IsWithin : Edit → ℕ → Type 0
-IsWithin e i = (path : List ℕ) × (e.path ≡ i ∷ path)
-
 -- the edit is made in a part that makes a legal file by itself
 abbrev pub IsTouchedAlone : List Part → Edit → Type 0
-IsTouchedAlone ps e = (i : ℕ) × IsWithin e i × IsAloneAt ps i
+IsTouchedAlone ps e = (i : ℕ) × (path : List ℕ) × (e.path ≡ i ∷ path) × IsAloneAt ps i
 
 -- the edit puts parts into the root that each make a legal file by itself
 abbrev pub IsHeldAlone : Edit → Type 0

@@ -9,19 +9,18 @@ use Rattle.bz_grammar.specs.declared.tree.Part.{Part, Row_of-Part, end_of-Part, 
 use Rattle.bz_grammar.specs.declared.tree.Part as p
 use Rattle.bz_grammar.specs.Kinds.{kind_number}
 
--- a byte after a 1
-abbrev pub marked_byte : ℕ → List ℕ
-marked_byte b = 1 ∷ b ∷ []
+-- a list: a 1 before what says an item, and a 0 after the last; and a text, by its bytes
+abbrev pub outline_list : {A : Type 0} → (A → List ℕ) → List A → List ℕ
+outline_list say xs = flat_map (λ x. 1 ∷ say x) xs ++ 0 ∷ []
 
--- a text: a 1 before each byte, and a 0 after the last
 abbrev pub marked : List ℕ → List ℕ
-marked s = flat_map marked_byte s ++ 0 ∷ []
+marked s = outline_list (λ b. b ∷ []) s
 
 -- a 1, the class, the gap and the token
 abbrev pub outline_leaf : Leaf → List ℕ
 outline_leaf l = (1 ∷ class_number l.class ∷ []) ++ marked l.gap ++ marked l.token
 
--- of a node a 2, the kind, its parts and a 0
+-- of a node a 2, the kind, and its parts
 abbrev mutual
   pub outline_part : Part → List ℕ
   outline_part (p.Leaf l) = outline_leaf l
@@ -29,10 +28,7 @@ abbrev mutual
 
   pub outline_row : {m : _} → Row_of-Part m → List ℕ
   outline_row end_of-Part = []
-  outline_row (more_of-Part x rest) = outline_part x ++ outline_row rest
-
-abbrev pub outline_all : List Part → List ℕ
-outline_all xs = flat_map outline_part xs ++ 0 ∷ []
+  outline_row (more_of-Part x rest) = (1 ∷ outline_part x) ++ outline_row rest
 
 abbrev pub outline_node : Node → List ℕ
-outline_node n = (2 ∷ kind_number n.kind ∷ []) ++ outline_all n.parts
+outline_node n = (2 ∷ kind_number n.kind ∷ []) ++ outline_list outline_part n.parts

@@ -1,7 +1,7 @@
-use Rattle.std.proofs.Common.{◌≡◌, ◌++◌, take}
+use Rattle.std.proofs.Common.{◌≡◌, ◌++◌, ◌∷◌, take}
 use Rattle.std.specs.List.{flat_map}
 use Rattle.bz_resume.specs.private.Outlines.{outline_part}
 use Rattle.bz_resume.proofs.outlining.+outline.Given as goal
 
 abbrev pub invariant-push_all-loop-part : goal.invariant-push_all-loop-part
-invariant-push_all-loop-part l = l.out.items ≡ l.fn.out.items ++ flat_map outline_part (take l.part-index l.parts)
+invariant-push_all-loop-part l = l.out.items ≡ l.fn.out.items ++ flat_map (λ x. 1 ∷ outline_part x) (take l.part-index l.parts)

@@ -1,7 +1,6 @@
-use Rattle.std.proofs.Common.{◌≡◌, ◌++◌, take}
+use Rattle.std.proofs.Common.{◌≡◌, ◌++◌, ◌∷◌, [], take}
 use Rattle.std.specs.List.{flat_map}
-use Rattle.bz_resume.specs.private.Outlines.{marked_byte}
 use Rattle.bz_resume.proofs.outlining.push_text.Given as goal
 
 abbrev pub invariant-loop-byte : goal.invariant-loop-byte
-invariant-loop-byte l = l.out.items ≡ l.fn.out.items ++ flat_map marked_byte (take l.byte-index l.text)
+invariant-loop-byte l = l.out.items ≡ l.fn.out.items ++ flat_map (λ b. 1 ∷ b ∷ []) (take l.byte-index l.text)

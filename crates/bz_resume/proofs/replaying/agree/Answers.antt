@@ -1,7 +1,11 @@
+use Rattle.std.proofs.Common.{sym, subst}
+use Rattle.bz_grammar.specs.Legal.{NoTree, Reads}
 use Rattle.bz_resume.specs.private.Agreement.{StepsAgree, as_taken}
-use Rattle.bz_resume.proofs.Loops.{agrees_of}
+use Rattle.bz_resume.proofs.Loops.{agrees_of, when_some}
 use Rattle.bz_resume.proofs.replaying.agree.Goals as goal
 
-pub returns-clause-agrees : goal.returns-clause-agrees
-returns-clause-agrees c =
-    agrees_of (λ z. StepsAgree z (as_taken c.args.way c.args.steps.now) (as_taken c.args.way c.args.digests.now)) c.args.text.now c.in_ok-tree.tree c.in_ok-agrees.agrees c.in_ok-tree.ensures.ok c.in_ok-agrees.ensures
+pub returns : goal.returns
+returns c =
+    let text = c.args.text.now in
+    agrees_of (λ z. StepsAgree z (as_taken c.args.way c.args.steps.now) (as_taken c.args.way c.args.digests.now)) text c.tree.inside.root c.in_ok-agrees.agrees
+    (subst (Reads text) (sym c.tree.view_is) (when_some (NoTree text) (Reads text) c.in_ok-tree.field-0 c.in-Some.tree c.in-Some.is c.in_ok-tree.ensures)) c.in_ok-agrees.ensures

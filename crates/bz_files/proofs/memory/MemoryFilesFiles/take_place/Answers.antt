@@ -1,7 +1,6 @@
-use Rattle.std.proofs.Common.{◌≡◌, ◌∙◌, ⊎_elim, Some, ap, sym, subst, rules}
+use Rattle.std.proofs.Common.{◌∙◌, ⊎_elim, refl, sym, rules}
 use Rattle.std.proofs.lemmas.Bool.{false≢true}
 use Rattle.bz_files.specs.Log.{plan_in}
-use Rattle.bz_files.specs.Failing.{IsToFailAfter}
 use Rattle.bz_files.proofs.Logs.{placed}
 use Rattle.bz_files.proofs.Plans.{goes_on}
 use Rattle.bz_files.proofs.memory.MemoryFilesFiles.take_place.Goals as goal
@@ -14,13 +13,11 @@ returns-then-fails_now-clause-replaced c = λ honest rest name bytes is.
 
 pub returns-clause-replaced : goal.returns-clause-replaced
 returns-clause-replaced c = λ honest rest name bytes is.
-    let step = placed c.args.self.now.log.items c.add.new.self.log.items c.args.self.now.waiting.items c.pop-newest.new.self.items
+    let step = placed c.args.self.now.log.items c.push.new.self.items c.args.self.now.waiting.items c.pop-newest.new.self.items
     c.in-Some.entry rest name bytes (search rules) c.in-Some.ensures.items is in
     record { time = step.0; done = step.1 }
 
 pub returns-clause-planned : goal.returns-clause-planned
 returns-clause-planned c =
-    let same : plan_in c.add.new.self ≡ plan_in c.goes_on.new.self = ap plan_in c.add.ensures.same in
-    goes_on (plan_in c.args.self.now) (plan_in c.goes_on.new.self) _ (ap Some same) c.goes_on.ensures.next
-    (⊎_elim (c.goes_on.ensures.goes c.if-not-goes_on.false)
-    (λ after. false≢true (sym c.if-fails_now.false ∙ c.fails_now.ensures.1 (subst IsToFailAfter (sym same) after)))) (λ _. tt)
+    goes_on (plan_in c.args.self.now) (plan_in c.goes_on.new.self) _ refl c.goes_on.ensures.next
+    (⊎_elim (c.goes_on.ensures.goes c.if-not-goes_on.false) (λ after. false≢true (sym c.if-fails_now.false ∙ c.fails_now.ensures.1 after))) (λ _. tt)
