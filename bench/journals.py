@@ -3,6 +3,7 @@
 for commands in one run with --journal, each of which is kept as soon as it is done, on made rules that are laid out as the program
 lays them out, 144 bytes each; and for a further run that resumes the journal which this one leaves, and lists its texts. Beside each
 is the same run without --journal. The program writes into a folder in memory, where that can be, so the disk's time is not in it.
+Last come many commands that all set one attribute of one rule: most of what these cost is the SHA-256 of each journal.
 
     bench/journals.py [PROGRAM [RULES COMMANDS]..]
 
@@ -16,8 +17,9 @@ import tempfile
 
 from commands import ADD, CHANGED, RULE, RUNS, SAME, TOP, of_nothing, spread
 
-# How many rules there are, and how many commands.
-ROWS = [(100, 1000), (10_000, 100)]
+SET = "set size s%d"
+# What is done to how many rules, by how many commands.
+ROWS = [(ADD, 100, 1000), (ADD, 10_000, 100), (SET, 1, 2_000), (SET, 1, 10_000)]
 MEMORY = pathlib.Path("/dev/shm")
 
 
@@ -36,18 +38,18 @@ def run(program, words, folder, wanted):
     return used.ru_utime + used.ru_stime, used.ru_maxrss
 
 
-def folder_of(rules, commands, above):
+def folder_of(command, rules, commands, above):
     """A folder with the file and the lines."""
     folder = tempfile.mkdtemp(dir=above)
-    lines = [line.replace("|-:", "|//:") + "\n" for line in spread(ADD, commands, rules)]
+    lines = [line.replace("|-:", "|//:") + "\n" for line in spread(command, commands, rules)]
     pathlib.Path(folder, "BUILD").write_text("\n".join(RULE % (i, i, i, i) for i in range(rules)))
     pathlib.Path(folder, "lines").write_text("".join(lines))
     return folder
 
 
-def once(program, rules, commands, above):
+def once(program, command, rules, commands, above):
     """The runs of one round, in folders of their own, and how many bytes the journal has."""
-    plain, kept = (folder_of(rules, commands, above) for _ in range(2))
+    plain, kept = (folder_of(command, rules, commands, above) for _ in range(2))
     found = [
         run(program, ["-f", "lines"], plain, CHANGED),
         run(program, ["--journal", "-f", "lines"], kept, CHANGED),
@@ -62,15 +64,15 @@ def cell(runs):
     return f"{min(seconds for seconds, _ in runs):9.3f} s, {max(memory for _, memory in runs) / 1024:6.1f} MB"
 
 
-def show(program, rules, commands):
+def show(program, command, rules, commands):
     """Prints a line for the commands, and one for the run that resumes their journal."""
     rounds = []
     for _ in range(RUNS):
         with tempfile.TemporaryDirectory(dir=MEMORY if os.access(MEMORY, os.W_OK | os.X_OK) else None) as above:
-            rounds.append(once(program, rules, commands, above))
+            rounds.append(once(program, command, rules, commands, above))
     plain, kept, unread, resumed = map(cell, zip(*(found for found, _ in rounds)))
     size = rounds[0][1]
-    print(f"| {commands:6,} `add` | {rules:6,} | {size:11,} | {kept} | {plain} |", flush=True)
+    print(f"| {commands:6,} `{command.split()[0]}` | {rules:6,} | {size:11,} | {kept} | {plain} |", flush=True)
     print(f"| resuming them | {rules:6,} | {size:11,} | {resumed} | {unread} |", flush=True)
 
 
@@ -82,8 +84,9 @@ def main():
     if len(numbers) % 2:
         sys.exit("bench/journals.py: rules without commands")
     print(f"| {'run':12} | {'rules':>6} | {'journal':>11} | {'with --journal':>22} | {'without':>22} |\n|---|---|---|---|---|")
-    for rules, commands in list(zip(numbers[::2], numbers[1::2])) or ROWS:
-        show(str(program), rules, commands)
+    named = [(ADD, rules, commands) for rules, commands in zip(numbers[::2], numbers[1::2])]
+    for command, rules, commands in named or ROWS:
+        show(str(program), command, rules, commands)
     print(f"a program that does nothing shows {of_nothing() / 1024:.1f} MB")
 
 

@@ -92,6 +92,7 @@ taken w next h k fine other =
       };
       tree = refl;
       texts = texts_after w next h.within l.leads;
+      steps = take_at (take w.cursor w.steps) (s ∷ []) w.cursor size;
       small = λ i. (
         subst (AreSteps next) (sym back) (ap (λ (z : Node). step z next) (sym l.leads), subst (λ (z : Node). AreSteps z (steps_back w)) (sym l.leads) i.0),
         subst (AreSteps next) (sym on) tt,

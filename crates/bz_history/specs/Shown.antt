@@ -39,11 +39,12 @@ pub record Moves (old new : Trail) : Type 0 where
   pub texts : texts_of new ≡ texts_of old
   pub small : IsSmall old → IsSmall new
 
--- The texts after the present one are cut, and that of the next tree is appended and is the present one.
+-- The texts after the present one are cut, and that of the next tree is appended and is the present one; the steps before it stay.
 pub record TakesUp (old : Trail) (next : Node) (new : Trail) : Type 0 where
   pub trail : IsTrail new
   pub tree : new.tree ≡ next
   pub texts : texts_of new ≡ take (old.cursor + 1) (texts_of old) ++ spell_node next ∷ []
+  pub steps : take old.cursor new.steps ≡ take old.cursor old.steps
   pub small : IsSmall old → IsSmall new
 
 -- ---- the steps by their numbers

@@ -1,16 +1,22 @@
 -- What the histories of sessions keep, and what a new text makes of a session.
-use Rattle.std.proofs.Common.{◌≡◌, ◌<◌, ◌+◌, ◌-◌, ℕ, zero, suc, List, [], ◌∷◌, ◌++◌, length, take, sym, ap, subst, ◌∙◌, arith, length-append, length-take-le}
+use Rattle.std.proofs.Common.{◌≡◌, ◌<◌, ◌+◌, ◌-◌, ℕ, zero, suc, List, [], ◌∷◌, ◌++◌, length, take, sym, ap, subst, ◌∙◌, ◌≤◌, map, arith, length-append, length-take-le}
 use Rattle.std.specs.List.{AllByRecursion}
+use Rattle.std.proofs.lemmas.List.{length-map, take-map, take_at}
+use Rattle.sha2.specs.Sha256.{sha256}
 use Rattle.bz_grammar.specs.declared.tree.Node.{Node}
 use Rattle.bz_grammar.specs.Spell.{spell_node}
 use Rattle.bz_edit.specs.declared.edit.Edit.{Edit}
-use Rattle.bz_history.specs.Trails.{IsSmall, trail_at}
-use Rattle.bz_history.specs.Shown.{SmallIsBetween, SmallIsLeast, TakesUp, TrailsKeep, TrailsLead, texts_of}
+use Rattle.bz_history.specs.Trails.{IsSmall, IsTrail, trail_at}
+use Rattle.bz_history.specs.Shown.{Moves, SmallIsBetween, SmallIsLeast, TakesUp, TrailsKeep, TrailsLead, texts_of}
+use Rattle.bz_journal_format.proofs.Beginnings.{lines_stay}
+use Rattle.bz_journal_format.specs.FirstLines.{AreFirstLines}
 use Rattle.bz_journal_format.specs.Texts.{IsNote}
 use Rattle.bz_journal_format.specs.declared.content.Version.TheVariants.{Two}
+use Rattle.bz_journal_format.specs.declared.kept.KeptLines.{KeptLines}
 use Rattle.bz_items.specs.Characters.{Bytes}
 use Rattle.bz_journal.specs.History.{History, IsKept, changed, most_steps, present}
 use Rattle.bz_journal.specs.State.{SessionState, IsSession, session_trail}
+use Rattle.bz_journal.specs.private.Kept.{AreKeptOf}
 use Rattle.bz_journal.specs.Shown.{HoldsSteps, session_history}
 
 pub session_kept : TrailsKeep → (s : SessionState) → IsSession s → IsKept (session_history s)
@@ -42,6 +48,27 @@ as_before was s tree steps notes is same_tree same_steps same_notes =
 
 pub small_as_before : (s t : SessionState) → t ≡ s → IsSmall (session_trail s) → IsSmall (session_trail t)
 small_as_before s t same small = subst (λ (v : SessionState). IsSmall (session_trail v)) (sym same) small
+
+-- ---- the cursor moves
+
+-- what a slice of the steps wrote back
+pub session_moved : TrailsKeep → (s : SessionState) (tree : Node) (steps rest : List (List Edit)) (len cursor : ℕ) → IsSession s → Moves (session_trail s) (trail_at tree steps cursor) → len ≡ length s.steps
+    → IsSession (record { tree = tree; steps = take len (steps ++ rest); notes = s.notes; «package» = s.«package»; cursor = cursor; before = s.cursor })
+session_moved keep s tree steps rest len cursor h m all =
+    let old = keep (session_trail s) h.trail in
+    let new = keep (trail_at tree steps cursor) m.trail in
+    let count : length steps ≡ length s.steps = omega (arith, new.counted, old.counted, ap length m.texts) in
+    let same : take len (steps ++ rest) ≡ steps = take_at steps rest len (count ∙ sym all) in
+    let size : length (take len (steps ++ rest)) ≡ length s.steps = ap length same ∙ count in
+    record {
+      trail = subst (λ (l : List (List Edit)). IsTrail (trail_at tree l cursor)) (sym same) m.trail;
+      named = h.named;
+      spelled = h.spelled;
+      noted = h.noted ∙ sym size;
+      notes = h.notes;
+      known = omega (arith, size, h.trail.within);
+      bounded = omega (arith, size, h.bounded);
+    }
 
 -- ---- a new text
 
@@ -86,3 +113,29 @@ extended keep s next tree steps notes note h room fits t put =
           ∙ ap (λ (l : List Bytes). let g : History = record { «package» = s.«package»; texts = take to texts ++ spell_node next ∷ []; notes = l; cursor = to; before = s.cursor } in g) put;
       small = t.small;
     }
+
+-- ---- the lines that are kept
+
+-- those of equal lists
+pub first_of_same : (ds es ns ms : List Bytes) (ss ts : List (List Edit)) (kept : KeptLines) → es ≡ ds → ms ≡ ns → ts ≡ ss → AreFirstLines Two ds ns ss kept → AreFirstLines Two es ms ts kept
+first_of_same ds es ns ms ss ts kept digests notes steps first =
+    subst (λ (l : List Bytes). AreFirstLines Two l ms ts kept) (sym digests)
+    (subst (λ (l : List Bytes). AreFirstLines Two ds l ts kept) (sym notes) (subst (λ (l : List (List Edit)). AreFirstLines Two ds ns l kept) (sym steps) first))
+
+-- those before a new text stay
+pub kept_on : TrailsKeep → (s : SessionState) (next tree : Node) (steps : List (List Edit)) (notes : List Bytes) (note : Bytes) (kept : KeptLines) → IsSession s
+    → TakesUp (session_trail s) next (trail_at tree steps (s.cursor + 1)) → notes ≡ take s.cursor s.notes ++ note ∷ [] → kept.steps ≤ s.cursor → kept.digests ≤ s.cursor + 1
+    → AreKeptOf s kept → AreKeptOf (record { tree = tree; steps = steps; notes = notes; «package» = s.«package»; cursor = s.cursor + 1; before = s.cursor }) kept
+kept_on keep s next tree steps notes note kept h t put few few_digests first =
+    let to = s.cursor + 1 in
+    let texts = texts_of (session_trail s) in
+    let new = texts_of (trail_at tree steps to) in
+    let old = keep (session_trail s) h.trail in
+    let now = keep (trail_at tree steps to) t.trail in
+    let cut : length (take to texts) ≡ to = length-take-le to texts (omega (arith, old.within)) in
+    let size : length new ≡ to + 1 = ap length t.texts ∙ length-append (take to texts) (spell_node next ∷ []) ∙ ap (λ k. k + 1) cut in
+    let own : length (take s.cursor s.notes) ≡ s.cursor = length-take-le s.cursor s.notes (omega (arith, h.noted, h.trail.within)) in
+    let same : take to new ≡ take to texts = ap (take to) t.texts ∙ take_at (take to texts) (spell_node next ∷ []) to cut in
+    lines_stay Two s.cursor (map sha256 texts) (map sha256 new) s.notes notes s.steps steps kept first few few_digests (omega (arith, length-map new sha256, size))
+    (omega (arith, now.counted, size)) (take-map sha256 to new ∙ ap (map sha256) same ∙ sym (take-map sha256 to texts))
+    (ap (take s.cursor) put ∙ take_at (take s.cursor s.notes) (note ∷ []) s.cursor own) t.steps

@@ -3,5 +3,6 @@ pub mod Alone
 pub mod Doing
 pub mod Edited
 pub mod Filling
+pub mod Kept
 pub mod Lines
 pub mod Moving

@@ -12,6 +12,7 @@ use bz_grammar::{ReadFault, Tree};
 use bz_history::laws::{starts_small, texts_kept};
 use bz_history::{go_back, go_forward, put_after};
 use bz_items::{Memory, Text};
+use bz_journal_format::KeptLines;
 use bz_tree::parse;
 use bz_value::Refusal;
 use std::alloc::Global;
@@ -22,7 +23,8 @@ const MOST_STEPS: u32 = 100_000;
 /// The most bytes of a note.
 pub(crate) const MOST_NOTE: usize = 65_536;
 
-/// The fields of a `Session`, but for the digests. Contracts speak of its history.
+/// The fields of a `Session`, but for the digests, and the lines that are kept for its next journal: none before the first one. Contracts
+/// speak of its history.
 #[derive(Drop)]
 pub(crate) struct Course {
     pub(crate) tree: Tree,
@@ -31,6 +33,7 @@ pub(crate) struct Course {
     pub(crate) package: String,
     pub(crate) cursor: u32,
     pub(crate) before: u32,
+    pub(crate) kept: KeptLines,
 }
 
 impl Model for Course {
@@ -38,6 +41,7 @@ impl Model for Course {
     ghost use Rattle.bz_grammar.specs.contracts.tree.Tree as t;
     ghost use Rattle.bz_edit.specs.contracts.step.Step as s;
     ghost use Rattle.bz_journal.specs.State.{SessionState, IsSession, state_code};
+    ghost use Rattle.bz_journal.specs.private.Kept.{AreKeptOf};
 
     ghost Value = { SessionState };
 
@@ -45,7 +49,8 @@ impl Model for Course {
 
     ghost view = { λ course. record { tree = course.tree; steps = course.steps.items; notes = course.notes.items; «package» = string_bytes course.«package»; cursor = course.cursor; before = course.before } };
 
-    ghost invariant = { λ course. IsSession (record { tree = course.tree; steps = course.steps.items; notes = course.notes.items; «package» = string_bytes course.«package»; cursor = course.cursor; before = course.before }) };
+    ghost invariant = { λ course. IsSession (record { tree = course.tree; steps = course.steps.items; notes = course.notes.items; «package» = string_bytes course.«package»; cursor = course.cursor; before = course.before })
+        × AreKeptOf (record { tree = course.tree; steps = course.steps.items; notes = course.notes.items; «package» = string_bytes course.«package»; cursor = course.cursor; before = course.before }) course.kept };
 }
 
 /// The course of a file of the package with this path, at its first text, as `Session::open` says. The errors are those.
@@ -67,6 +72,7 @@ pub(crate) fn begin(alloc: Global, package: &str, text: &[u8]) -> Result<Course,
         package,
         cursor: 0,
         before: 0,
+        kept: KeptLines::new(alloc),
     })
 }
 
@@ -128,10 +134,12 @@ impl Course {
             steps,
             notes,
             package,
+            kept,
             ..
         } = self;
         drop(steps);
         drop(notes);
+        drop(kept);
         (tree, package)
     }
 
@@ -173,6 +181,7 @@ impl Course {
             return Ok(Reply::Moved);
         }
         let cursor = self.cursor;
+        self.kept = KeptLines::new(self.alloc()); // the steps turn forward
         let steps = self.steps.as_mut_slice();
         go_back(&mut self.tree, steps, cursor as usize, n as usize)?;
         self.before = cursor;
@@ -195,6 +204,7 @@ impl Course {
             return Ok(Reply::Moved);
         }
         let cursor = self.cursor;
+        self.kept = KeptLines::new(self.alloc()); // the steps turn back
         let steps = self.steps.as_mut_slice();
         go_forward(&mut self.tree, steps, cursor as usize, n as usize)?;
         self.before = cursor;
@@ -281,6 +291,7 @@ impl Course {
         if !taken {
             return Ok(false);
         }
+        self.kept.drop_past(cursor);
         put_after(&mut self.notes, cursor as usize, note);
         self.before = cursor;
         self.cursor = cursor + 1;

@@ -82,15 +82,19 @@ pub(crate) fn editor_of(course: Course, digests: Vec<[u8; 32]>, text: Option<Vec
 }
 
 /// The journal of a course at this text, by the digests that are there. The error: a growth was refused.
-fn journal_by(course: &Course, digests: &[[u8; 32]], text: &[u8]) -> Result<Vec<u8>, Memory>
-    requires first { AreFirstDigests digests.now (session_history course.now).texts }
-    requires text { text.now ≡ present (session_history course.now) }
-    ensures stored { IfOk result (λ stored. stored.items ≡ saved course.now) }
-    ensures journal { OnOk result (IsSavedSession course.now) }
+fn journal_by(course: &mut Course, digests: &[[u8; 32]], text: &[u8]) -> Result<Vec<u8>, Memory>
+    requires first { AreFirstDigests digests.now (session_history course.old).texts }
+    requires text { text.now ≡ present (session_history course.old) }
+    ensures stored { IfOk result (λ stored. stored.items ≡ saved course.old) }
+    ensures journal { OnOk result (IsSavedSession course.old) }
+    ensures stays { course.new ≡ course.old }
 {
     match known(digests, course) {
         Some(digests) => course.journal(digests, text),
-        None => course.journal(course.hashed()?.as_slice(), text),
+        None => {
+            let hashed = course.hashed()?;
+            course.journal(hashed.as_slice(), text)
+        }
     }
 }
 
@@ -246,7 +250,7 @@ impl Editor {
             return Ok(None);
         }
         let text = self.take_text()?;
-        let journal = journal_by(&self.course, self.digests.as_slice(), text.as_slice())?;
+        let journal = journal_by(&mut self.course, self.digests.as_slice(), text.as_slice())?;
         Ok(Some(Written { journal, text }))
     }
 

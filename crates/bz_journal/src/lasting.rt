@@ -10,6 +10,7 @@ use crate::session::Session;
 use bz_grammar::laws::one_reading;
 use bz_history::laws::texts_kept;
 use bz_items::{Memory, Text};
+use bz_journal_format::{Version, record_bytes};
 use bz_resume::laws::reopened;
 use bz_resume::{Content, ResumeFault, Resumed, Saved, resume, save_into};
 use std::alloc::Global;
@@ -24,30 +25,26 @@ impl Course {
         listed(alloc, self.cursor as usize, self.notes.as_slice(), digests)
     }
 
-    /// The journal of the session with this present text, whose texts have these digests, in version 2. The error: a growth was refused.
-    pub(crate) fn journal(&self, digests: &[[u8; 32]], text: &[u8]) -> Result<Vec<u8>, Memory>
-        requires digests { digests.now ≡ map sha256 (session_history self.now).texts }
-        requires text { text.now ≡ present (session_history self.now) }
-        ensures stored { IfOk result (λ stored. stored.items ≡ saved self.now) }
-        ensures journal { IsSavedSession self.now }
+    /// The journal of the session with this present text, whose texts have these digests, in version 2. What the next one has again is
+    /// kept. The error: a growth was refused.
+    pub(crate) fn journal(&mut self, digests: &[[u8; 32]], text: &[u8]) -> Result<Vec<u8>, Memory>
+        requires digests { digests.now ≡ map sha256 (session_history self.old).texts }
+        requires text { text.now ≡ present (session_history self.old) }
+        ensures stored { IfOk result (λ stored. stored.items ≡ saved self.old) }
+        ensures journal { IsSavedSession self.old }
+        ensures stays { self.new ≡ self.old }
     {
-        texts_kept();
-        let _here = self.present();
-        let saved = Saved {
-            tree: &self.tree,
-            content: Content {
-                package: self.package.as_bytes(),
-                text,
-                cursor: self.cursor,
-                before: self.before,
-                digests,
-                notes: self.notes.as_slice(),
-                steps: self.steps.as_slice(),
-            },
+        let alloc = self.alloc();
+        let content = Content {
+            package: self.package.as_bytes(),
+            text,
+            cursor: self.cursor,
+            before: self.before,
+            digests,
+            notes: self.notes.as_slice(),
+            steps: self.steps.as_slice(),
         };
-        let mut stored = Vec::new(*self.steps.allocator());
-        save_into(&saved, &mut stored)?;
-        Ok(stored)
+        record_bytes(alloc, Version::Two, &content, &mut self.kept)
     }
 }
 

@@ -15,6 +15,7 @@ use bz_grammar::{ReadFault, Tree};
 use bz_history::laws::texts_kept;
 use bz_history::put_after;
 use bz_items::{Memory, Text};
+use bz_journal_format::KeptLines;
 use bz_value::Refusal;
 use core::mem::replace_with;
 use sha2::{Digest, Sha256};
@@ -255,6 +256,7 @@ impl Session {
         ensures course { result.0 ≡ self }
         ensures digests { result.1.items ≡ map sha256 (session_history self).texts }
     {
+        let kept = KeptLines::new(*self.steps.allocator());
         let course = Course {
             tree: self.tree,
             steps: self.steps,
@@ -262,6 +264,7 @@ impl Session {
             package: self.package,
             cursor: self.cursor,
             before: self.before,
+            kept,
         };
         (course, self.digests)
     }

@@ -1,5 +1,6 @@
 pub mod Added
 pub mod Appends
+pub mod Beginnings
 pub mod Chains
 pub mod Counting
 pub mod Digests

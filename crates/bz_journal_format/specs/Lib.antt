@@ -1,4 +1,5 @@
 pub mod Contents
+pub mod FirstLines
 pub mod Laws
 pub mod Outcomes
 pub mod Readers

@@ -6,6 +6,7 @@ mod content;
 mod entries;
 mod fault;
 mod fields;
+mod kept;
 pub mod laws;
 mod limits;
 mod lines;
@@ -20,6 +21,7 @@ mod writing;
 
 pub use content::{Content, Record, RecordedStep, Version};
 pub use fault::RecordFault;
+pub use kept::KeptLines;
 pub use limits::{SHORT_LIMIT, STEP_LIMIT};
 pub use mark_fields::{
     read_counted, read_digest, read_field, read_mark, read_number, read_number_up_to, split_line,
@@ -28,4 +30,4 @@ pub use mark_fields::{
 pub use pushing::{hex_digits, push_counted, push_number};
 pub use reading::read_record;
 pub use unread::Unread;
-pub use writing::write_record;
+pub use writing::{record_bytes, write_record};

@@ -1,19 +1,23 @@
-//! Writing a record: each function appends what it is named for. Where a growth is refused a part of it may be there; `write_record`
-//! writes into a list of its own first.
-ghost use Rattle.std.specs.Prelude.{◌≡◌, ◌∷◌, ◌++◌, ◌<◌, ◌≤◌, [], ℕ, codes, decimal, length, take, OnOk, OnErr};
+//! Writing a record: each function appends what it is named for. Where a growth is refused a part of it may be there; `record_bytes`
+//! writes into a list of its own.
+ghost use Rattle.std.specs.Prelude.{◌≡◌, ◌∷◌, ◌++◌, ◌<◌, ◌≤◌, [], ℕ, codes, decimal, length, take, IfOk, OnOk, OnErr};
 ghost use Rattle.std.specs.List.{flat_map};
 ghost use Rattle.hex.specs.Hex.{encode_lower};
 ghost use Rattle.bz_journal_format.specs.Spellings.{counted_text, numeral};
 ghost use Rattle.bz_journal_format.specs.Contents.{entries_of, entry_of, record_in};
+ghost use Rattle.bz_journal_format.specs.FirstLines.{AreAllLines, AreFirstLines};
 ghost use Rattle.bz_journal_format.specs.Texts.{counts_text, digest_text, edit_text, end_line, entry_text, last_number, leaf_text, lines_text, note_line, part_text, record_text, spaced_number, texts_text};
 
 use crate::content::{Content, Version};
 use crate::fields::version_line;
+use crate::kept::KeptLines;
 use crate::{hex_digits, push_counted, push_number};
 use bz_edit::{Edit, Step};
 use bz_grammar::{Leaf, Part};
 use bz_items::{Memory, Text};
 use sha2::{Digest, Sha256};
+use std::alloc::Global;
+use std::mem;
 
 fn push_leaf(out: &mut Vec<u8>, leaf: &Leaf) -> Result<(), Memory>
     ensures { OnOk result (out.new.items ≡ out.old.items ++ leaf_text leaf.now) }
@@ -116,7 +120,7 @@ fn push_digest(out: &mut Vec<u8>, digest: &[u8; 32]) -> Result<(), Memory>
     Ok(())
 }
 
-fn push_digests(out: &mut Vec<u8>, digests: &[[u8; 32]]) -> Result<(), Memory>
+pub(crate) fn push_digests(out: &mut Vec<u8>, digests: &[[u8; 32]]) -> Result<(), Memory>
     ensures { OnOk result (out.new.items ≡ out.old.items ++ flat_map digest_text digests.now) }
 {
     'digests: for digest in digests {
@@ -125,7 +129,7 @@ fn push_digests(out: &mut Vec<u8>, digests: &[[u8; 32]]) -> Result<(), Memory>
     Ok(())
 }
 
-fn push_entries(
+pub(crate) fn push_entries(
     out: &mut Vec<u8>,
     version: Version,
     notes: &[Text],
@@ -176,32 +180,64 @@ fn push_counts(out: &mut Vec<u8>, content: &Content) -> Result<(), Memory>
     Ok(())
 }
 
-/// All lines but the last.
-#[tactic(auto, using(crate::proofs::Appends::four_pushed))]
-fn push_lines(out: &mut Vec<u8>, version: Version, content: &Content) -> Result<(), Memory>
-    requires { length content.now.notes.now ≡ length content.now.steps.now }
+/// All lines but the last, by those of the digests and of the steps.
+fn push_lines(
+    out: &mut Vec<u8>,
+    version: Version,
+    content: &Content,
+    lines: &KeptLines,
+) -> Result<(), Memory>
+    requires noted { length content.now.notes.now ≡ length content.now.steps.now }
+    requires lines { AreAllLines version content.now.digests.now content.now.notes.now content.now.steps.now lines.now }
     ensures { OnOk result (out.new.items ≡ out.old.items ++ lines_text version (record_in content.now)) }
 {
     push_texts(out, version, content)?;
     push_counts(out, content)?;
-    push_digests(out, content.digests)?;
-    push_entries(out, version, content.notes, content.steps)
+    out.extend_from_slice(lines.digest_lines.as_slice())?;
+    out.extend_from_slice(lines.step_lines.as_slice())?;
+    Ok(())
 }
 
-/// Appends the bytes of a record. Whether it is one that can be read again is no question here. The error: a growth was refused; `out`
-/// is then as before.
-#[tactic(auto, using(crate::proofs::Appends::end_pushed))]
+/// The last line of a record that has these others.
+fn push_end(lines: &mut Vec<u8>) -> Result<(), Memory>
+    ensures { OnOk result (lines.new.items ≡ lines.old.items ++ end_line lines.old.items) }
+{
+    let digits = hex_digits(&Sha256::digest(lines.as_slice()));
+    lines.extend_from_slice(b"end ")?;
+    lines.extend_from_slice(&digits)?;
+    lines.push(b'\n')?;
+    Ok(())
+}
+
+/// The bytes of a record, by the lines that are kept of one that begins with the same digests and steps; all of its own are kept then.
+/// Whether it is one that can be read again is no question here. The error: a growth was refused, and no lines are kept.
+pub fn record_bytes(
+    alloc: Global,
+    version: Version,
+    content: &Content,
+    kept: &mut KeptLines,
+) -> Result<Vec<u8>, Memory>
+    requires noted { length content.now.notes.now ≡ length content.now.steps.now }
+    requires first { AreFirstLines version content.now.digests.now content.now.notes.now content.now.steps.now kept.old }
+    ensures ok { IfOk result (λ bytes. bytes.items ≡ record_text version (record_in content.now)) }
+    ensures first { AreFirstLines version content.now.digests.now content.now.notes.now content.now.steps.now kept.new }
+{
+    let lines = mem::replace(kept, KeptLines::new(alloc)).with_all(version, content)?;
+    let mut bytes = Vec::new(alloc);
+    push_lines(&mut bytes, version, content, &lines)?;
+    push_end(&mut bytes)?;
+    *kept = lines;
+    Ok(bytes)
+}
+
+/// Appends the bytes of a record. The error: a growth was refused; `out` is then as before.
 pub fn write_record(version: Version, content: &Content, out: &mut Vec<u8>) -> Result<(), Memory>
     requires { length content.now.notes.now ≡ length content.now.steps.now }
     ensures ok { OnOk result (out.new.items ≡ out.old.items ++ record_text version (record_in content.now)) }
     ensures err { OnErr result (out.new.items ≡ out.old.items) }
 {
-    let mut lines = Vec::new(*out.allocator());
-    push_lines(&mut lines, version, content)?;
-    let digits = hex_digits(&Sha256::digest(lines.as_slice()));
-    lines.extend_from_slice(b"end ")?;
-    lines.extend_from_slice(&digits)?;
-    lines.push(b'\n')?;
-    out.extend_from_slice(lines.as_slice())?;
+    let alloc = *out.allocator();
+    let bytes = record_bytes(alloc, version, content, &mut KeptLines::new(alloc))?;
+    out.extend_from_slice(bytes.as_slice())?;
     Ok(())
 }

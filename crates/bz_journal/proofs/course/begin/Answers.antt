@@ -1,5 +1,6 @@
 use Rattle.std.proofs.Common.{rules}
 use Rattle.std.proofs.lemmas.Result.{err_from_is_err_and}
+use Rattle.bz_journal_format.specs.declared.content.Version.TheVariants.{Two}
 use Rattle.bz_journal.proofs.Opening.{opened_of, passed_of, refused_of}
 use Rattle.bz_journal.proofs.course.begin.Goals as goal
 
@@ -16,3 +17,6 @@ returns-in_err-package c =
 pub returns : goal.returns
 returns c =
     opened_of c.args.«package».now c.args.text.now c.in-Ok.tree _ c.in-Ok.ensures.too_large c.in-Ok.ensures.not_utf8 (c.in-Ok.tree, c.in-Ok.ensures.ok) (search rules) (search rules)
+
+pub invariant_of-result : goal.invariant_of-result
+invariant_of-result c = (search rules, c.new-3.ensures Two _ _ _)

@@ -6,4 +6,4 @@ use Rattle.bz_journal.proofs.laws.course_holds.Goals as goal
 pub returns : goal.returns
 returns c =
     steps_held c.texts_kept.ensures c.steps_lead.ensures c.small_steps.ensures.between c.small_steps.ensures.least c.args.course.now
-    (subst (λ (s : SessionState). IsSession s) c.course.view_is c.course.invariant)
+    (subst (λ (s : SessionState). IsSession s) c.course.view_is c.course.invariant.0)

@@ -1,13 +1,16 @@
-use Rattle.std.proofs.Common.{List, refl, ◌≡◌, ◌<◌, ◌+◌, ◌++◌, ◌∷◌, [], ◌∙◌, ap, sym, subst, rules, take, string_bytes}
+use Rattle.std.proofs.Common.{List, refl, map, ◌≡◌, ◌<◌, ◌+◌, ◌++◌, ◌∷◌, [], ◌∙◌, ap, sym, subst, rules, take, string_bytes}
+use Rattle.sha2.specs.Sha256.{sha256}
 use Rattle.bz_grammar.specs.declared.tree.Node.{Node}
 use Rattle.bz_grammar.specs.Spell.{spell_node}
 use Rattle.bz_items.specs.Characters.{Bytes}
-use Rattle.bz_history.specs.Shown.{TakesUp}
+use Rattle.bz_history.specs.Shown.{TakesUp, texts_of}
 use Rattle.bz_history.specs.Trails.{IsSmall, trail_at}
+use Rattle.bz_journal_format.specs.declared.content.Version.TheVariants.{Two}
 use Rattle.bz_journal.specs.History.{most_steps}
+use Rattle.bz_journal.specs.private.Kept.{AreKeptOf}
 use Rattle.bz_journal.specs.private.Lines.{tree_with}
 use Rattle.bz_journal.specs.State.{SessionState, IsSession, session_trail}
-use Rattle.bz_journal.proofs.Kept.{HasExtended, as_before, extended, session_present, small_as_before}
+use Rattle.bz_journal.proofs.Kept.{HasExtended, as_before, extended, kept_on, session_present, small_as_before}
 use Rattle.bz_journal.proofs.course.Course.extend.Goals as goal
 
 pub take_up_lines-requires-clause-other : goal.take_up_lines-requires-clause-other
@@ -16,7 +19,7 @@ take_up_lines-requires-clause-other c = λ same.
     let own : tree_with c.args.lines c.self.inside.tree ≡ tree_with c.args.lines s.tree =
     ap (λ (t : SessionState). tree_with c.args.lines t.tree) c.self.view_is in
     c.requires.other (ap spell_node (sym own) ∙ same ∙ ap (λ (t : SessionState). spell_node t.tree) c.self.view_is
-    ∙ session_present c.texts_kept.ensures s (subst (λ (t : SessionState). IsSession t) c.self.view_is c.self.invariant))
+    ∙ session_present c.texts_kept.ensures s (subst (λ (t : SessionState). IsSession t) c.self.view_is c.self.invariant.0))
 
 pub invariant_of-self-2 : goal.invariant_of-self-2
 invariant_of-self-2 c =
@@ -27,12 +30,17 @@ invariant_of-self-2 c =
     c.put_after.ensures ∙ ap (λ (l : List Bytes). take c.self.inside.cursor l ++ c.in_ok-note.note ∷ []) c.reserve.ensures.items
     ∙ ap (λ (d : Bytes). take c.self.inside.cursor c.self.inside.notes.items ++ d ∷ []) (c.in_ok-note.ensures ∙ c.as_bytes.ensures.value) in
     let takes : TakesUp (session_trail s) next (trail_at c.take_up_lines.new.tree c.take_up_lines.new.steps.items (c.self.inside.cursor + 1)) = c.in_ok-taken.ensures.ok c.if-not-taken.false in
-    HasExtended.session (extended c.texts_kept.ensures s next c.take_up_lines.new.tree c.take_up_lines.new.steps.items c.put_after.new.items.items c.args.note.now c.self.invariant room (c.requires.short, search rules) takes notes)
+    let steps = c.take_up_lines.new.steps.items in (
+      HasExtended.session (extended c.texts_kept.ensures s next c.take_up_lines.new.tree steps c.put_after.new.items.items c.args.note.now c.self.invariant.0 room (c.requires.short, search rules) takes notes),
+      kept_on c.texts_kept.ensures s next c.take_up_lines.new.tree steps c.put_after.new.items.items c.args.note.now c.drop_past.new.self c.self.invariant.0 takes notes c.drop_past.ensures.few.0 c.drop_past.ensures.few.1
+          (c.drop_past.ensures.first Two (map sha256 (texts_of (session_trail s))) s.notes s.steps c.self.invariant.1),
+    )
 
 pub invariant_of-self : goal.invariant_of-self
 invariant_of-self c =
     let was : SessionState = record { tree = c.self.inside.tree; steps = c.self.inside.steps.items; notes = c.self.inside.notes.items; «package» = string_bytes c.self.inside.«package»; cursor = c.self.inside.cursor; before = c.self.inside.before } in
-    subst (λ (t : SessionState). IsSession t) (sym (as_before was was c.self.inside.tree c.self.inside.steps.items c.reserve.new.self.items refl refl refl c.reserve.ensures.items)) c.self.invariant
+    subst (λ (t : SessionState). IsSession t × AreKeptOf t c.self.inside.kept)
+    (sym (as_before was was c.self.inside.tree c.self.inside.steps.items c.reserve.new.self.items refl refl refl c.reserve.ensures.items)) c.self.invariant
 
 pub returns-then-not-taken-clause-stays : goal.returns-then-not-taken-clause-stays
 returns-then-not-taken-clause-stays c = λ _.

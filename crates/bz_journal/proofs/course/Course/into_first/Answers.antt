@@ -10,9 +10,9 @@ use Rattle.bz_journal.proofs.course.Course.into_first.Goals as goal
 pub returns-clause-first : goal.returns-clause-first
 returns-clause-first c =
     let s : SessionState = c.args.self in
-    let own : IsSession s = subst (λ (t : SessionState). IsSession t) c.self.view_is c.self.invariant in
+    let own : IsSession s = subst (λ (t : SessionState). IsSession t) c.self.view_is c.self.invariant.0 in
     subst (λ (t : SessionState). session_history s ≡ opened t.«package» (spell_node t.tree)) (sym c.self.view_is)
     (opened_first (session_history s) (spell_node s.tree) (session_kept c.texts_kept.ensures s own) c.requires (session_present c.texts_kept.ensures s own))
 
 pub returns-clause-path : goal.returns-clause-path
-returns-clause-path c = c.self.invariant.named
+returns-clause-path c = c.self.invariant.0.named

@@ -9,7 +9,7 @@ use Rattle.bz_journal.proofs.course.Course.listed.Goals as goal
 pub listed-requires : goal.listed-requires
 listed-requires c =
     let s : SessionState = c.args.self.now in
-    let own : IsSession s = subst (λ (t : SessionState). IsSession t) c.self.view_is c.self.invariant in
+    let own : IsSession s = subst (λ (t : SessionState). IsSession t) c.self.view_is c.self.invariant.0 in
     omega (
       arith,
       ap length c.requires,
