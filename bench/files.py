@@ -15,10 +15,10 @@ import tempfile
 import time
 
 TOP = pathlib.Path(__file__).resolve().parent.parent
-# in front of this folder, which has a script of a name that is there too
-sys.path.insert(0, str(TOP / "tests"))
-from hostile import library_of, put
-from power import Programs
+sys.path.append(str(TOP / "tests"))
+from lib.disks import Recording
+from lib.folders import put
+from lib.preloaded import preloaded
 
 FILES, FOLDERS = 2700, 100
 RUNS = int(os.environ.get("BEST_OF", 3))
@@ -61,9 +61,10 @@ def main():
     with tempfile.TemporaryDirectory(dir=os.environ.get("DISK")) as above:
         each = [seconds(buildifier, above, count) for _ in range(RUNS)]
         print(f"{count:,} files: {min(each):.2f} s of {', '.join(f'{one:.2f}' for one in each)}", flush=True)
-        library = library_of("recorded.c", above)
-        if library:
-            programs = Programs(buildozer, buildifier, library)
+        with preloaded("recorded") as (library,):
+            if not library:
+                return
+            programs = Recording({"buildozer": buildozer, "buildifier": buildifier}, library)
             folder, names = made(above, count)
             print(f"flushes of these: {flushes(programs, folder, 'buildifier', names):,}")
             for name, words in EDITS.items():

@@ -1,6 +1,6 @@
 -- Two runs that no failure cuts agree.
-use Rattle.std.proofs.Common.{◌≡◌, ◌≤◌, ◌<◌, ◌∙◌, ◌∷◌, ◌++◌, inl, inr, List, [], length, Bool, true, false, Some, None, Ok, Err, Result, refl, sym, ap, subst, arith}
-use Rattle.std.specs.Prelude.{IfOk}
+use Rattle.std.proofs.Common.{◌≡◌, ◌≤◌, ◌<◌, ◌∙◌, ◌∷◌, ◌++◌, ◌⊎◌, inl, inr, List, [], length, Bool, true, false, Some, None, Ok, Err, Result, refl, sym, ap, subst, arith}
+use Rattle.std.specs.Prelude.{IfOk, if◌then◌else◌}
 use Rattle.std.specs.List.{All}
 use Rattle.std.specs.FinMap.{get}
 use Rattle.bz_items.specs.Characters.{Bytes}
@@ -8,7 +8,7 @@ use Rattle.bz_lex.specs.declared.fault.ReadFault.{ReadFault}
 use Rattle.bz_grammar.specs.declared.tree.Node.{Node}
 use Rattle.bz_grammar.specs.Laws.{OneReading, OneBzlReading}
 use Rattle.bz_grammar.specs.Spell.{limit}
-use Rattle.bz_files.specs.Folder.{Folder, IsAside, SameFolders}
+use Rattle.bz_files.specs.Folder.{Folder, IsAside, SameFolders, with_file}
 use Rattle.bz_hosts.specs.View.{view_of}
 use Rattle.bz_build_format.specs.Meaning.{Meaning, gives, refuses, written, Formats}
 use Rattle.bz_build_format.specs.declared.formatter.FormatFault.{FormatFault}
@@ -19,10 +19,9 @@ use Rattle.bz_grammar.specs.Legal.{ReadsBzl}
 use Rattle.bz_streams.specs.Reported.{stdin}
 use Rattle.bz_streams.specs.declared.exit.Cut.TheVariants as c
 use Rattle.bz_buildifier.specs.Modes as m
-use Rattle.bz_buildifier.specs.FileKinds.{FormatsAs, is_bzl}
-use Rattle.bz_buildifier.specs.FormatRun.{Effect, FilesFormatted, InputStep, input_unread, input_without_memory, input_unformatted, input_printed, FormatOutcomeOf, RunOf, IsFormatUsageLine, begun, grown, output_effect, input_out, text_status, refused}
-use Rattle.bz_buildifier.specs.FormatExact.{ExactStep, exact_absent, exact_unformatted, exact_formatted, Exact}
-use Rattle.bz_buildifier.specs.FormatAgree.{SameReports, Agree, OutcomesAgree}
+use Rattle.bz_buildifier.specs.FormatRun.{FormatsAs, Effect, FilesFormatted, InputStep, input_unread, input_without_memory, input_unformatted, input_printed, FormatOutcomeOf, RunOf, IsFormatUsageLine, begun, grown, output_effect, unopened, input_out, file_out, is_rewritten, text_status, refused}
+use Rattle.bz_buildifier.specs.Modes.{is_bzl}
+use Rattle.bz_buildifier.specs.Laws.{ExactStep, exact_absent, exact_unformatted, exact_formatted, Exact, SameReports, Agree, OutcomesAgree}
 use Rattle.bz_buildifier.specs.declared.file_type.FileType.{FileType}
 use Rattle.bz_buildifier.specs.declared.mode.Mode.{Mode}
 use Rattle.bz_buildifier.proofs.FormatWhole.{exact_run}
@@ -127,54 +126,62 @@ alike_as one other one' other' is is' alike =
 cut_as : (one one' : Effect) → one' ≡ one → one'.cut ≡ c.Whole → one.cut ≡ c.Whole
 cut_as one one' is whole = sym (ap (λ (e : Effect). e.cut) is) ∙ whole
 
+-- ---- one text
+
+-- What formatting a text under a name does: it is reported, or something is made of the formatted text.
+data Answered (bzl : Bool) (name text : Bytes) (output : Bytes → Effect) (left : Bytes → Folder) (folder : Folder) (effect : Effect) (after : Folder) : Type 0 where
+  was_refused : (fault : FormatFault) → FormatsAs bzl text (Err fault) → effect ≡ refused name text fault → effect.cut ≡ c.Whole → after ≡ folder
+      → Answered bzl name text output left folder effect after
+  was_formatted : (new : Bytes) → FormatsAs bzl text (Ok new) → effect ≡ output new → after ≡ left new → Answered bzl name text output left folder effect after
+
+answers_agree : OneEach → (bzl : Bool) (name text : Bytes) (output : Bytes → Effect) (left : Bytes → Folder) (folder : Folder) (one other : Effect) (after after' : Folder)
+    → Answered bzl name text output left folder one after → Answered bzl name text output left folder other after' → Agree one other × (after' ≡ after)
+answers_agree laws bzl name text output left folder one other after after' (was_refused fault formats is whole stays) (was_refused fault' formats' is' whole' stays') = (
+  alike_as (refused name text fault) (refused name text fault') one other is is' (same_refusal laws bzl text name fault fault' formats formats'
+      (cut_as (refused name text fault) one is whole) (cut_as (refused name text fault') other is' whole')),
+  stays' ∙ sym stays,
+)
+answers_agree laws bzl name text output left folder one other after after' (was_refused fault formats is whole stays) (was_formatted new formats' is' made) =
+    absurd (not_both laws bzl text name new fault formats' formats (cut_as (refused name text fault) one is whole))
+answers_agree laws bzl name text output left folder one other after after' (was_formatted new formats is made) (was_refused fault formats' is' whole stays) =
+    absurd (not_both laws bzl text name new fault formats formats' (cut_as (refused name text fault) other is' whole))
+answers_agree laws bzl name text output left folder one other after after' (was_formatted new formats is made) (was_formatted new' formats' is' made') =
+    let news : new' ≡ new = one_formatted laws bzl text new new' formats formats' in
+    (same_effect one other (is' ∙ ap output news ∙ sym is), made' ∙ ap left news ∙ sym made)
+
 -- ---- one file
 
-same_text : (folder : Folder) (name text other : Bytes) → get folder name ≡ Some text → get folder name ≡ Some other → other ≡ text
-same_text folder name text other there there' = let same = sym there' ∙ there in cc
+abbrev FileAnswer : Mode → FileType → Bytes → Folder → Bytes → Effect → Folder → Type 0
+FileAnswer mode file_type name folder text effect after =
+    Answered (is_bzl file_type name) name text (λ new. output_effect (file_out mode name text new) (text_status mode text new))
+    (λ new. if is_rewritten mode text new then with_file folder name new else folder) folder effect after
 
-same_words : (name text text' : Bytes) (fault : FormatFault) (effect : Effect) → text' ≡ text → effect ≡ refused name text' fault → effect ≡ refused name text fault
-same_words name text text' fault effect same is = is ∙ ap (λ (t : Bytes). refused name t fault) same
+-- by what is at its name
+abbrev Found : Mode → FileType → Bytes → Folder → Effect → Folder → Type 0
+Found mode file_type name folder effect after = ((get folder name ≡ None) × (effect ≡ unopened name c.Whole) × (after ≡ folder))
+    ⊎ ((text : Bytes) × (get folder name ≡ Some text) × FileAnswer mode file_type name folder text effect after)
+
+found : (mode : Mode) (file_type : FileType) (name : Bytes) (folder : Folder) (effect : Effect) (after : Folder) → ExactStep mode file_type name folder effect after
+    → Found mode file_type name folder effect after
+found mode file_type name folder effect after (exact_absent none is stays) = inl (none, is, stays)
+found mode file_type name folder effect after (exact_unformatted text fault there formats is whole stays) = inr (text, there, was_refused fault formats is whole stays)
+found mode file_type name folder effect after (exact_formatted text new there formats is made) = inr (text, there, was_formatted new formats is made)
 
 never_both : (folder : Folder) (name text : Bytes) → get folder name ≡ None → get folder name ≡ Some text → ⊥
 never_both folder name text none there = let same = sym none ∙ there in cc same
 
-Same : Effect → Effect → Folder → Folder → Type 0
-Same one other after after' = Agree one other × (after' ≡ after)
+same_text : (folder : Folder) (name text other : Bytes) → get folder name ≡ Some text → get folder name ≡ Some other → other ≡ text
+same_text folder name text other there there' = let same = sym there' ∙ there in cc
 
-one_step : OneEach → (mode : Mode) (file_type : FileType) (name : Bytes) (folder after after' : Folder) (one other : Effect)
-    → ExactStep mode file_type name folder one after → ExactStep mode file_type name folder other after' → Same one other after after'
-unfolding Same
-one_step laws mode file_type name folder after after' one other (exact_absent none is stays) (exact_absent none' is' stays') =
-    (same_effect one other (is' ∙ sym is), stays' ∙ sym stays)
-one_step laws mode file_type name folder after after' one other (exact_absent none is stays) (exact_unformatted text fault there formats is' whole stays') =
-    absurd (never_both folder name text none there)
-one_step laws mode file_type name folder after after' one other (exact_absent none is stays) (exact_formatted text new there formats is' rewritten) =
-    absurd (never_both folder name text none there)
-one_step laws mode file_type name folder after after' one other (exact_unformatted text fault there formats is whole stays) (exact_absent none is' stays') =
-    absurd (never_both folder name text none there)
-one_step laws mode file_type name folder after after' one other (exact_formatted text new there formats is rewritten) (exact_absent none is' stays') =
-    absurd (never_both folder name text none there)
-one_step laws mode file_type name folder after after' one other (exact_unformatted text fault there formats is whole stays) (exact_unformatted text' fault' there' formats' is' whole' stays') = (
-  alike_as (refused name text fault) (refused name text fault') one other is (same_words name text text' fault' other (same_text folder name text text' there there') is') (same_refusal laws (is_bzl file_type name) text name fault fault' formats
-      (subst (λ (t : Bytes). FormatsAs (is_bzl file_type name) t (Err fault')) (same_text folder name text text' there there') formats')
-      (cut_as (refused name text fault) one is whole)
-      (cut_as (refused name text fault') other (same_words name text text' fault' other (same_text folder name text text' there there') is') whole')),
-  stays' ∙ sym stays,
-)
-one_step laws mode file_type name folder after after' one other (exact_unformatted text fault there formats is whole stays) (exact_formatted text' new there' formats' is' rewritten) =
-    absurd (not_both laws (is_bzl file_type name) text name new fault
-    (subst (λ (t : Bytes). FormatsAs (is_bzl file_type name) t (Ok new)) (same_text folder name text text' there there') formats') formats
-    (cut_as (refused name text fault) one is whole))
-one_step laws mode file_type name folder after after' one other (exact_formatted text new there formats is rewritten) (exact_unformatted text' fault there' formats' is' whole stays') =
-    absurd (not_both laws (is_bzl file_type name) text name new fault formats
-    (subst (λ (t : Bytes). FormatsAs (is_bzl file_type name) t (Err fault)) (same_text folder name text text' there there') formats')
-    (cut_as (refused name text fault) other (same_words name text text' fault other (same_text folder name text text' there there') is') whole))
-one_step laws mode file_type name folder after after' one other (exact_formatted text new there formats is rewritten) (exact_formatted text' new' there' formats' is' rewritten') =
-    let texts : text' ≡ text = same_text folder name text text' there there' in
-    let news : new' ≡ new = one_formatted laws (is_bzl file_type name) text new new' formats (subst (λ (t : Bytes). FormatsAs (is_bzl file_type name) t (Ok new')) texts formats') in (
-      same_effect one other (is' ∙ (rw (texts, news) (sym is))),
-      rewritten' ∙ (rw (texts, news) (sym rewritten)),
-    )
+one_found : OneEach → (mode : Mode) (file_type : FileType) (name : Bytes) (folder after after' : Folder) (one other : Effect)
+    → Found mode file_type name folder one after → Found mode file_type name folder other after' → Agree one other × (after' ≡ after)
+one_found laws mode file_type name folder after after' one other (inl a) (inl b) = (same_effect one other (b.1 ∙ sym a.1), b.2 ∙ sym a.2)
+one_found laws mode file_type name folder after after' one other (inl a) (inr b) = absurd (never_both folder name b.0 a.0 b.1)
+one_found laws mode file_type name folder after after' one other (inr a) (inl b) = absurd (never_both folder name a.0 b.0 a.1)
+one_found laws mode file_type name folder after after' one other (inr a) (inr b) =
+    answers_agree laws (is_bzl file_type name) name a.0 (λ new. output_effect (file_out mode name a.0 new) (text_status mode a.0 new))
+    (λ new. if is_rewritten mode a.0 new then with_file folder name new else folder) folder one other after after' a.2
+    (subst (λ (text : Bytes). FileAnswer mode file_type name folder text other after') (same_text folder name a.0 b.0 a.1 b.1) b.2)
 
 -- ---- runs
 
@@ -189,13 +196,13 @@ grown_agree run run' one other agree alike = record {
 
 runs_agree : OneEach → (mode : Mode) (file_type : FileType) (names : List Bytes) (run run' one other : Effect) (folder after after' : Folder) → Agree run run'
     → Exact mode file_type names run folder one after → Exact mode file_type names run' folder other after' → Agree one other × (after' ≡ after)
-unfolding Same
 runs_agree laws mode file_type [] run run' one other folder after after' agree exact exact' = (
   subst (λ (r : Effect). Agree r other) (sym exact.0) (subst (λ (r : Effect). Agree run r) (sym exact'.0) agree),
   exact'.1 ∙ sym exact.1,
 )
 runs_agree laws mode file_type (name ∷ names) run run' one other folder after after' agree exact exact' =
-    let step = one_step laws mode file_type name folder exact.1 exact'.1 exact.0 exact'.0 exact.2 exact'.2 in
+    let step = one_found laws mode file_type name folder exact.1 exact'.1 exact.0 exact'.0 (found mode file_type name folder exact.0 exact.1 exact.2)
+    (found mode file_type name folder exact'.0 exact'.1 exact'.2) in
     runs_agree laws mode file_type names (grown run exact.0) (grown run' exact'.0) one other exact.1 after after'
     (grown_agree run run' exact.0 exact'.0 agree step.0) exact.3
     (subst (λ (mid : Folder). Exact mode file_type names (grown run' exact'.0) mid other after') step.1 exact'.3)
@@ -211,32 +218,20 @@ files_agree laws mode file_type names one other folder after after' runs runs' w
 
 -- ---- standard input
 
-data Exactly (mode : Mode) (file_type : FileType) (input : Bytes) (effect : Effect) : Type 0 where
-  not_formatted : (fault : FormatFault) → FormatsAs (is_bzl file_type stdin) input (Err fault) → effect ≡ refused stdin input fault → Exactly mode file_type input effect
-  was_printed : (new : Bytes) → FormatsAs (is_bzl file_type stdin) input (Ok new) → effect ≡ output_effect (input_out mode input new) (text_status mode input new)
-      → Exactly mode file_type input effect
+abbrev InputAnswer : Mode → FileType → Bytes → Folder → Effect → Type 0
+InputAnswer mode file_type input folder effect =
+    Answered (is_bzl file_type stdin) stdin input (λ new. output_effect (input_out mode input new) (text_status mode input new)) (λ new. folder) folder effect folder
 
-exactly : (mode : Mode) (file_type : FileType) (input : Bytes) (effect : Effect) → InputStep mode file_type (Some input) effect → effect.cut ≡ c.Whole → Exactly mode file_type input effect
-exactly mode file_type input effect (input_unread is) whole = absurd (cc (sym (ap (λ (e : Effect). e.cut) is) ∙ whole))
-exactly mode file_type input effect (input_without_memory is) whole = absurd (cc (sym (ap (λ (e : Effect). e.cut) is) ∙ whole))
-exactly mode file_type input effect (input_unformatted text fault of formats is) whole =
-    not_formatted fault (subst (λ (t : Bytes). FormatsAs (is_bzl file_type stdin) t (Err fault)) of formats) (same_words stdin input text fault effect of is)
-exactly mode file_type input effect (input_printed text new of formats (inl is)) whole =
-    was_printed new (subst (λ (t : Bytes). FormatsAs (is_bzl file_type stdin) t (Ok new)) of formats) (is ∙ ap (λ (t : Bytes). output_effect (input_out mode t new) (text_status mode t new)) of)
-exactly mode file_type input effect (input_printed text new of formats (inr failed)) whole = absurd (cc (sym (ap (λ (e : Effect). e.cut) failed.1) ∙ whole))
-
-inputs_alike : OneEach → (mode : Mode) (file_type : FileType) (input : Bytes) (one other : Effect) → Exactly mode file_type input one → Exactly mode file_type input other
-    → one.cut ≡ c.Whole → other.cut ≡ c.Whole → Agree one other
-inputs_alike laws mode file_type input one other (not_formatted fault formats is) (not_formatted fault' formats' is') whole whole' =
-    alike_as (refused stdin input fault) (refused stdin input fault') one other is is' (same_refusal laws (is_bzl file_type stdin) input stdin fault fault' formats formats'
-    (cut_as (refused stdin input fault) one is whole) (cut_as (refused stdin input fault') other is' whole'))
-inputs_alike laws mode file_type input one other (not_formatted fault formats is) (was_printed new formats' is') whole whole' =
-    absurd (not_both laws (is_bzl file_type stdin) input stdin new fault formats' formats (cut_as (refused stdin input fault) one is whole))
-inputs_alike laws mode file_type input one other (was_printed new formats is) (not_formatted fault formats' is') whole whole' =
-    absurd (not_both laws (is_bzl file_type stdin) input stdin new fault formats formats' (cut_as (refused stdin input fault) other is' whole'))
-inputs_alike laws mode file_type input one other (was_printed new formats is) (was_printed new' formats' is') whole whole' =
-    let news : new' ≡ new = one_formatted laws (is_bzl file_type stdin) input new new' formats formats' in
-    same_effect one other (is' ∙ (rw (news) (sym is)))
+exactly : (mode : Mode) (file_type : FileType) (input : Bytes) (folder : Folder) (effect : Effect) → InputStep mode file_type (Some input) effect → effect.cut ≡ c.Whole
+    → InputAnswer mode file_type input folder effect
+exactly mode file_type input folder effect (input_unread is) whole = absurd (cc (sym (ap (λ (e : Effect). e.cut) is) ∙ whole))
+exactly mode file_type input folder effect (input_without_memory is) whole = absurd (cc (sym (ap (λ (e : Effect). e.cut) is) ∙ whole))
+exactly mode file_type input folder effect (input_unformatted text fault of formats is) whole =
+    was_refused fault (subst (λ (t : Bytes). FormatsAs (is_bzl file_type stdin) t (Err fault)) of formats) (is ∙ ap (λ (t : Bytes). refused stdin t fault) of) whole refl
+exactly mode file_type input folder effect (input_printed text new of formats (inl is)) whole =
+    was_formatted new (subst (λ (t : Bytes). FormatsAs (is_bzl file_type stdin) t (Ok new)) of formats)
+    (is ∙ ap (λ (t : Bytes). output_effect (input_out mode t new) (text_status mode t new)) of) refl
+exactly mode file_type input folder effect (input_printed text new of formats (inr failed)) whole = absurd (cc (sym (ap (λ (e : Effect). e.cut) failed.1) ∙ whole))
 
 -- a run over one text is whole where its effect is
 begun_cut : (effect : Effect) (run : Effect) → run ≡ grown begun effect → run.cut ≡ c.Whole → effect.cut ≡ c.Whole
@@ -250,7 +245,8 @@ run_of_agree : OneEach → (mode : Mode) (file_type : FileType) (names : List By
 run_of_agree laws mode file_type [] input one other folder after after' run run' whole whole' others =
     let w = begun_cut run.0 one run.2 whole in
     let w' = begun_cut run'.0 other run'.2 whole' in
-    let alike = inputs_alike laws mode file_type input run.0 run'.0 (exactly mode file_type input run.0 run.1 w) (exactly mode file_type input run'.0 run'.1 w') w w' in (
+    let alike = (answers_agree laws (is_bzl file_type stdin) stdin input (λ new. output_effect (input_out mode input new) (text_status mode input new)) (λ new. folder) folder
+    run.0 run'.0 folder folder (exactly mode file_type input folder run.0 run.1 w) (exactly mode file_type input folder run'.0 run'.1 w')).0 in (
       subst (λ (r : Effect). Agree r other) (sym run.2) (subst (λ (r : Effect). Agree (grown begun run.0) r) (sym run'.2) (grown_agree begun begun run.0 run'.0 (same_effect begun begun refl) alike)),
       λ name aside. ap (λ (g : Folder). get g name) (run'.3 ∙ sym run.3),
     )

@@ -61,7 +61,7 @@ files_more mode file_type names left rest name start run before folder mid effec
     runs after last (rw (split) (effect, mid, step, more))
 
 -- what the code holds of a run that goes on
-made : e.Effect → e.Effect → e.Effect
+abbrev made : e.Effect → e.Effect → e.Effect
 made progress effect = record {
   status = worse progress.status effect.status;
   cut = first_cut progress.cut effect.cut;
@@ -69,12 +69,7 @@ made progress effect = record {
 }
 
 pub grown_is : (progress result : e.Effect) (held : e.Effect) (run : Effect) (effect : Effect) → progress ≡ effect_seen run → held ≡ effect_seen effect
-    → result ≡ record {
-      status = worse progress.status held.status;
-      cut = first_cut progress.cut held.cut;
-      closes = progress.closes || held.closes;
-    } → result ≡ effect_seen (grown run effect)
-unfolding made
+    → result ≡ made progress held → result ≡ effect_seen (grown run effect)
 grown_is progress result held run effect at is made_so =
     made_so ∙ ap (λ (p : e.Effect). made p held) at ∙ ap (made (effect_seen run)) is
 

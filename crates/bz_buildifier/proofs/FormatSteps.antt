@@ -1,10 +1,16 @@
 -- What one text of buildifier's does.
 use Rattle.std.proofs.Common.{◌≡◌, ◌⊎◌, ◌≤◌, ◌<◌, ◌∙◌, ◌++◌, ◌+◌, inl, inr, ℕ, List, [], take, length, Option, Some, None, Ok, Err, Bool, true, false, refl, sym, ap, subst, arith, length-take}
 use Rattle.std.specs.Prelude.{◌≢◌, IfSome}
+use Rattle.std.proofs.lemmas.List.{take_all}
+use Rattle.std.proofs.lemmas.Bool.{cases_lt}
 use Rattle.std.specs.FinMap.{get}
 use Rattle.bz_lex.specs.declared.fault.ReadFault.{ReadFault}
 use Rattle.bz_lex.specs.declared.fault.ReadFault.TheVariants as read
+use Rattle.bz_lex.specs.Faults.{is_of_leaves}
+use Rattle.bz_lex.specs.Stops.{IsFaultAt}
 use Rattle.bz_grammar.specs.Spell.{limit}
+use Rattle.bz_grammar.specs.Legal.{Accepted}
+use Rattle.bz_grammar.specs.Faults.{IsFaultOf}
 use Rattle.bz_files.specs.Folder.{Folder}
 use Rattle.bz_files.specs.declared.files.FileFault.{FileFault}
 use Rattle.bz_files.specs.declared.files.FileFault.TheVariants as file
@@ -14,9 +20,7 @@ use Rattle.bz_streams.specs.declared.exit.Cut.TheVariants as c
 use Rattle.bz_streams.specs.Outputs.{WritesUnlessClosed}
 use Rattle.bz_streams.specs.Ports.{IsInput}
 use Rattle.bz_streams.proofs.Outputs.{appends_nothing}
-use Rattle.bz_buildifier.specs.FileKinds.{FormatsAs}
-use Rattle.bz_buildifier.specs.FormatRun.{Effect, refused, unread_file, Rewrites}
-use Rattle.bz_buildifier.proofs.Fronts.{cut_at_limit, fault_of_front, placed_of_front, within_limit}
+use Rattle.bz_buildifier.specs.FormatRun.{FormatsAs, Effect, refused, unread_file, Rewrites}
 
 -- an effect that writes nothing on standard output, which does not fail
 pub record IsQuiet (effect : Effect) : Type 0 where
@@ -24,13 +28,13 @@ pub record IsQuiet (effect : Effect) : Type 0 where
   pub nothing : effect.out ≡ []
   pub other : effect.cut ≡ c.Write → ⊥
 
+pub nothing_more : (closed : Bool) (faults : ℕ) (held : Option (List ℕ)) → WritesUnlessClosed closed false faults faults held held []
+nothing_more true faults held = (refl, refl, refl)
+nothing_more false faults held = (refl, appends_nothing held)
+
 pub quiet : (closed : Bool) (effect : Effect) (faults : ℕ) (held : Option (List ℕ)) → IsQuiet effect
     → WritesUnlessClosed closed effect.closes faults faults held held effect.out
-quiet closed effect faults held is = rw (is.stays, is.nothing) (none closed)
-  where
-    none : (b : Bool) → WritesUnlessClosed b false faults faults held held []
-    none true = (refl, refl, refl)
-    none false = (refl, appends_nothing held)
+quiet closed effect faults held is = rw (is.stays, is.nothing) (nothing_more closed faults held)
 
 pub unread_quiet : (name : List ℕ) (fault : FileFault) → IsQuiet (unread_file name fault)
 unread_quiet name file.Absent = record { stays = refl; nothing = refl; other = λ is. cc is }
@@ -50,6 +54,33 @@ rewrites_quiet name text new folder after effect (inr failed) = rw (failed.0) (r
 
 -- ---- the front of an input, one byte longer than a text may be, decides what becomes of it
 
+within_limit : (text : List ℕ) → Accepted text → length text ≤ limit
+within_limit text accepted = accepted.1.2
+
+fault_of_front : (all : List ℕ) (fault : ReadFault) → limit < length all → IsFaultOf (take (limit + 1) all) fault → IsFaultOf all fault
+fault_of_front all fault long of_front =
+    let len = length-take (limit + 1) all in
+    let large : fault ≡ read.TooLarge = of_front.too_large.1 (omega arith) in
+    record {
+      too_large = (λ _. long, λ _. large);
+      not_utf8 = λ at. (λ is. absurd (cc), λ short. let fits = short.0 in absurd (omega arith));
+      other = of_front.other;
+    }
+
+-- the front of a longer text has no fault of its leaves
+placed_of_front : (wrong : List ℕ → Type 0) (all : List ℕ) (fault : ReadFault) → limit < length all → IsFaultOf (take (limit + 1) all) fault
+    → is_of_leaves fault ≡ true → IsFaultAt wrong all fault
+placed_of_front wrong all fault long of_front of_leaves =
+    let large : fault ≡ read.TooLarge = (fault_of_front all fault long of_front).too_large.1 long in absurd (cc (sym (ap is_of_leaves large) ∙ of_leaves))
+
+-- the whole text, or what its front shows of a longer one
+cut_at_limit : (all : List ℕ) → (take (limit + 1) all ≡ all) ⊎ (limit < length all)
+cut_at_limit all = go (cases_lt limit (length all))
+  where
+    go : (limit < length all) ⊎ (length all ≤ limit) → (take (limit + 1) all ≡ all) ⊎ (limit < length all)
+    go (inr short) = inl (take_all (limit + 1) all (omega arith))
+    go (inl long) = inr long
+
 -- what is formatted, or isn't by its formatted text, is no longer than a text may be
 short_ok : (bzl : Bool) (text new : List ℕ) → FormatsAs bzl text (Ok new) → length text ≤ limit
 short_ok true text new formats = formats.1.2
@@ -67,39 +98,37 @@ ok_of_front bzl (Some all) front new read formats = go (cut_at_limit all)
     go (inl whole) = (all, refl, sym (read ∙ whole))
     go (inr long) = absurd (long_front all long (subst (λ (text : List ℕ). length text ≤ limit) read (short_ok bzl front new formats)))
 
--- what is reported of the front of a longer text is reported of the text
-longer : (bzl : Bool) (all : List ℕ) → limit < length all → (reported : FormatFault) → FormatsAs bzl (take (limit + 1) all) (Err reported) → FormatsAs bzl all (Err reported)
-longer false all long (f.Unread fault) of_front = (
-  (λ accepted. let le = within_limit all accepted in omega (arith, le, long)),
-  fault_of_front all fault long of_front.1,
-  placed_of_front (λ blanks. blanks ≢ []) all fault long of_front.1,
-)
-longer false all long f.TooLarge of_front = absurd (long_front all long of_front.1.2)
-longer false all long f.TooDeep of_front = absurd (long_front all long of_front.1.2)
-longer false all long f.Memory of_front = tt
-longer true all long (f.Unread fault) of_front = (
-  (λ tree reads. let le : length all ≤ limit = reads.2 in omega (arith, le, long)),
-  fault_of_front all fault long of_front.1,
-  placed_of_front (λ _. Unit {0}) all fault long of_front.1,
-)
-longer true all long f.TooLarge of_front = absurd (long_front all long of_front.1.2)
-longer true all long f.TooDeep of_front = absurd (long_front all long of_front.1.2)
-longer true all long f.Memory of_front = tt
-
 no_excerpt : (name all other : List ℕ) (fault : ReadFault) → fault ≡ read.TooLarge → refused name other (f.Unread fault) ≡ refused name all (f.Unread fault)
 no_excerpt name all other fault is =
     ap (λ (large : ReadFault). refused name other (f.Unread large)) is ∙ sym (ap (λ (large : ReadFault). refused name all (f.Unread large)) is)
 
--- in the same words: the front of a longer text is too large, which has no place
-longer_alike : (bzl : Bool) (all : List ℕ) → limit < length all → (reported : FormatFault) → FormatsAs bzl (take (limit + 1) all) (Err reported) → (name : List ℕ)
-    → refused name (take (limit + 1) all) reported ≡ refused name all reported
-longer_alike false all long (f.Unread fault) of_front name =
-    no_excerpt name all (take (limit + 1) all) fault ((fault_of_front all fault long of_front.1).too_large.1 long)
-longer_alike true all long (f.Unread fault) of_front name =
-    no_excerpt name all (take (limit + 1) all) fault ((fault_of_front all fault long of_front.1).too_large.1 long)
-longer_alike bzl all long f.TooLarge of_front name = refl
-longer_alike bzl all long f.TooDeep of_front name = refl
-longer_alike bzl all long f.Memory of_front name = refl
+-- What is reported of the front of a longer text is reported of the text, in the same words: it is too large, which has no place.
+longer : (bzl : Bool) (all : List ℕ) → limit < length all → (reported : FormatFault) → FormatsAs bzl (take (limit + 1) all) (Err reported)
+    → FormatsAs bzl all (Err reported) × ((name : List ℕ) → refused name (take (limit + 1) all) reported ≡ refused name all reported)
+longer false all long (f.Unread fault) of_front =
+    let whole = fault_of_front all fault long of_front.1 in (
+      (
+        (λ accepted. let le = within_limit all accepted in omega (arith, le, long)),
+        whole,
+        placed_of_front (λ blanks. blanks ≢ []) all fault long of_front.1,
+      ),
+      λ name. no_excerpt name all (take (limit + 1) all) fault (whole.too_large.1 long),
+    )
+longer true all long (f.Unread fault) of_front =
+    let whole = fault_of_front all fault long of_front.1 in (
+      (
+        (λ tree reads. let le : length all ≤ limit = reads.2 in omega (arith, le, long)),
+        whole,
+        placed_of_front (λ _. Unit {0}) all fault long of_front.1,
+      ),
+      λ name. no_excerpt name all (take (limit + 1) all) fault (whole.too_large.1 long),
+    )
+longer false all long f.TooLarge of_front = absurd (long_front all long of_front.1.2)
+longer true all long f.TooLarge of_front = absurd (long_front all long of_front.1.2)
+longer false all long f.TooDeep of_front = absurd (long_front all long of_front.1.2)
+longer true all long f.TooDeep of_front = absurd (long_front all long of_front.1.2)
+longer false all long f.Memory of_front = (tt, λ name. refl)
+longer true all long f.Memory of_front = (tt, λ name. refl)
 
 pub err_of_front : (bzl : Bool) (known : Option (List ℕ)) (front : List ℕ) (fault : FormatFault) → IfSome known (λ all. front ≡ take (limit + 1) all) → FormatsAs bzl front (Err fault)
     → (input : List ℕ) × IsInput known input × FormatsAs bzl input (Err fault) × ((name : List ℕ) → refused name front fault ≡ refused name input fault)
@@ -117,12 +146,9 @@ err_of_front bzl (Some all) front fault read formats = go (cut_at_limit all)
       subst (λ (text : List ℕ). FormatsAs bzl text (Err fault)) whole of_all,
       λ name. ap (λ (text : List ℕ). refused name text fault) (read ∙ whole),
     )
-    go (inr long) = (
-      all,
-      refl,
-      longer bzl all long fault of_all,
-      λ name. ap (λ (text : List ℕ). refused name text fault) read ∙ longer_alike bzl all long fault of_all name,
-    )
+    go (inr long) =
+        let of_text = longer bzl all long fault of_all in
+        (all, refl, of_text.0, λ name. ap (λ (text : List ℕ). refused name text fault) read ∙ of_text.1 name)
 
 -- ---- so does the front of a file, which is read after nothing
 

@@ -1,5 +1,6 @@
--- Whole runs over files, as exact ones.
-use Rattle.std.proofs.Common.{◌≡◌, ◌∙◌, ◌∷◌, inl, inr, List, [], Bool, true, cond, Some, None, refl, sym, ap, subst}
+-- Whole runs over files, as exact ones, and those that a failure of standard output cuts, up to that failure.
+use Rattle.std.proofs.Common.{◌≡◌, ◌∙◌, ◌∷◌, ◌++◌, ◌||◌, inl, inr, List, [], Bool, true, false, cond, Some, None, refl, sym, ap, subst}
+use Rattle.std.specs.Prelude.{if◌then◌else◌}
 use Rattle.std.specs.List.{All}
 use Rattle.std.specs.FinMap.{get, get-insert}
 use Rattle.std.specs.Ordering.{nat_cmp, eq_by_cmp}
@@ -11,7 +12,8 @@ use Rattle.bz_files.specs.Folder.{Folder, IsAside, SameFolders, SameBut, with_fi
 use Rattle.bz_files.specs.declared.files.FileFault.{FileFault}
 use Rattle.bz_files.specs.declared.files.FileFault.TheVariants as file
 use Rattle.bz_buildifier.specs.FormatRun.{Effect, FilesFormatted, FileStep, unread, without_memory, unformatted, kept, rewritten, grown, output_effect, file_out, text_status, is_rewritten, unread_file}
-use Rattle.bz_buildifier.specs.FormatExact.{ExactStep, exact_absent, exact_unformatted, exact_formatted, Exact}
+use Rattle.bz_buildifier.specs.Laws.{ExactStep, exact_absent, exact_unformatted, exact_formatted, Exact}
+use Rattle.bz_buildifier.proofs.FormatSteps.{unread_quiet, refused_quiet}
 use Rattle.bz_streams.specs.Exits.{first_cut}
 use Rattle.bz_streams.specs.declared.exit.Cut.{Cut}
 use Rattle.bz_streams.specs.declared.exit.Cut.TheVariants as c
@@ -19,26 +21,19 @@ use Rattle.bz_buildifier.specs.declared.file_type.FileType.{FileType}
 use Rattle.bz_buildifier.specs.declared.mode.Mode.{Mode}
 use Rattle.bz_buildifier.specs.declared.mode.Mode.TheVariants as m
 
-whole_first : (a b : Cut) → first_cut a b ≡ c.Whole → a ≡ c.Whole
-whole_first c.Whole b is = refl
-whole_first c.Memory b is = is
-whole_first c.Read b is = is
-whole_first c.Write b is = is
-whole_first c.Files b is = is
-
-whole_later : (a b : Cut) → first_cut a b ≡ c.Whole → b ≡ c.Whole
-whole_later c.Whole b is = is
-whole_later c.Memory b is = absurd (cc is)
-whole_later c.Read b is = absurd (cc is)
-whole_later c.Write b is = absurd (cc is)
-whole_later c.Files b is = absurd (cc is)
+both_whole : (a b : Cut) → first_cut a b ≡ c.Whole → (a ≡ c.Whole) × (b ≡ c.Whole)
+both_whole c.Whole b is = (refl, is)
+both_whole c.Memory b is = absurd (cc is)
+both_whole c.Read b is = absurd (cc is)
+both_whole c.Write b is = absurd (cc is)
+both_whole c.Files b is = absurd (cc is)
 
 -- a run that is whole at its end was so at each file
 whole_start : (mode : Mode) (file_type : FileType) (names : List Bytes) (run last : Effect) (folder after : Folder) → FilesFormatted mode file_type names run folder last after
     → last.cut ≡ c.Whole → run.cut ≡ c.Whole
 whole_start mode file_type [] run last folder after runs is = ap (λ (r : Effect). r.cut) (sym runs.0) ∙ is
 whole_start mode file_type (name ∷ names) run last folder after runs is =
-    whole_first run.cut runs.0.cut (whole_start mode file_type names (grown run runs.0) last runs.1 after runs.3 is)
+    (both_whole run.cut runs.0.cut (whole_start mode file_type names (grown run runs.0) last runs.1 after runs.3 is)).0
 
 -- ---- folders
 
@@ -53,19 +48,19 @@ same_rewritten : (pure folder after : Folder) (name new : Bytes) → SameFolders
 same_rewritten pure folder after name new same done other aside =
     done other (λ is. aside (name, is)) ∙ same_with pure folder name new same other aside
 
--- ---- one file
+-- ---- one file, at which nothing fails: standard output stays open
 
 abbrev pub Stepped : Mode → FileType → Bytes → Folder → Effect → Folder → Type 0
-Stepped mode file_type name pure effect after = (exact : Folder) × ExactStep mode file_type name pure effect exact × SameFolders exact after
+Stepped mode file_type name pure effect after = (exact : Folder) × ExactStep mode file_type name pure effect exact × SameFolders exact after × (effect.closes ≡ false)
 
 left_as_is : (mode : Mode) (file_type : FileType) (name : Bytes) (pure folder after : Folder) (effect : Effect) → SameFolders pure folder → after ≡ folder
-    → ExactStep mode file_type name pure effect pure → Stepped mode file_type name pure effect after
-left_as_is mode file_type name pure folder after effect same stays step = (pure, step, subst (λ (f : Folder). SameFolders pure f) (sym stays) same)
+    → effect.closes ≡ false → ExactStep mode file_type name pure effect pure → Stepped mode file_type name pure effect after
+left_as_is mode file_type name pure folder after effect same stays open_still step = (pure, step, subst (λ (f : Folder). SameFolders pure f) (sym stays) same, open_still)
 
 by_fault : (mode : Mode) (file_type : FileType) (name : Bytes) (pure folder after : Folder) (effect : Effect) (fault : FileFault) → (fault ≡ file.Absent → get pure name ≡ None)
     → effect ≡ unread_file name fault → effect.cut ≡ c.Whole → SameFolders pure folder → after ≡ folder → Stepped mode file_type name pure effect after
 by_fault mode file_type name pure folder after effect file.Absent none is whole same stays =
-    left_as_is mode file_type name pure folder after effect same stays (exact_absent (none refl) is refl)
+    left_as_is mode file_type name pure folder after effect same stays (ap (λ (e : Effect). e.closes) is) (exact_absent (none refl) is refl)
 by_fault mode file_type name pure folder after effect file.Open none is whole same stays =
     absurd (cc (sym (ap (λ (e : Effect). e.cut) is) ∙ whole))
 by_fault mode file_type name pure folder after effect file.Write none is whole same stays =
@@ -87,10 +82,10 @@ exact_step mode file_type name closed pure folder after effect (unread fault non
 exact_step mode file_type name closed pure folder after effect (without_memory is stays) whole same other =
     absurd (cc (sym (ap (λ (e : Effect). e.cut) is) ∙ whole))
 exact_step mode file_type name closed pure folder after effect (unformatted text fault there formats is stays) whole same other =
-    left_as_is mode file_type name pure folder after effect same stays
+    left_as_is mode file_type name pure folder after effect same stays (ap (λ (e : Effect). e.closes) is ∙ (refused_quiet name text fault).stays)
     (exact_unformatted text fault (sym (same name other) ∙ there) formats is whole refl)
 exact_step mode file_type name closed pure folder after effect (kept text new there formats unchanged (inl is) stays) whole same other =
-    left_as_is mode file_type name pure folder after effect same stays
+    left_as_is mode file_type name pure folder after effect same stays (ap (λ (e : Effect). e.closes) is)
     (exact_formatted text new (sym (same name other) ∙ there) formats is (rw (unchanged) refl))
 exact_step mode file_type name closed pure folder after effect (kept text new there formats unchanged (inr failed) stays) whole same other =
     absurd (cc (sym (ap (λ (e : Effect). e.cut) failed.1) ∙ whole))
@@ -98,6 +93,7 @@ exact_step mode file_type name closed pure folder after effect (rewritten text n
   with_file pure name new,
   exact_formatted text new (sym (same name other) ∙ there) formats (done.0 ∙ fixed_effect mode name text new differs) (rw (differs) refl),
   same_rewritten pure folder after name new same done.2,
+  ap (λ (e : Effect). e.closes) done.0,
 )
 exact_step mode file_type name closed pure folder after effect (rewritten text new there formats differs (inr failed)) whole same other =
     absurd (cc (sym (ap (λ (e : Effect). e.cut) failed.0) ∙ whole))
@@ -116,6 +112,112 @@ exact_run mode file_type (name ∷ names) run last pure folder after runs whole 
     let effect = runs.0 in
     let mid = runs.1 in
     let so_far = whole_start mode file_type names (grown run effect) last mid after runs.3 whole in
-    let step = exact_step mode file_type name run.closes pure folder mid effect runs.2 (whole_later run.cut effect.cut so_far) same (All-head Other name names others) in
+    let step = exact_step mode file_type name run.closes pure folder mid effect runs.2 (both_whole run.cut effect.cut so_far).1 same (All-head Other name names others) in
     let rest = exact_run mode file_type names (grown run effect) last step.0 mid after runs.3 whole step.2 (All-tail Other name names others) in
     (rest.0, (effect, step.0, step.1, rest.1), rest.2)
+
+-- ---- what stays to the end of a run
+
+cut_stays : (mode : Mode) (file_type : FileType) (names : List Bytes) (run last : Effect) (folder after : Folder) → FilesFormatted mode file_type names run folder last after
+    → (run.cut ≡ c.Whole → ⊥) → last.cut ≡ run.cut
+cut_stays mode file_type [] run last folder after runs other = ap (λ (r : Effect). r.cut) runs.0
+cut_stays mode file_type (name ∷ names) run last folder after runs other =
+    let first : first_cut run.cut runs.0.cut ≡ run.cut = first_stays run.cut runs.0.cut other in
+    cut_stays mode file_type names (grown run runs.0) last runs.1 after runs.3 (λ whole. other (sym first ∙ whole)) ∙ first
+  where
+    first_stays : (cut later : Cut) → (cut ≡ c.Whole → ⊥) → first_cut cut later ≡ cut
+    first_stays c.Whole later other = absurd (other refl)
+    first_stays c.Memory later other = refl
+    first_stays c.Read later other = refl
+    first_stays c.Write later other = refl
+    first_stays c.Files later other = refl
+
+-- Once standard output is closed it stays so, and nothing more comes there.
+closed_stays : (mode : Mode) (file_type : FileType) (names : List Bytes) (run last : Effect) (folder after : Folder) → FilesFormatted mode file_type names run folder last after
+    → run.closes ≡ true → (last.closes ≡ true) × (last.out ≡ run.out)
+closed_stays mode file_type [] run last folder after runs closed = (ap (λ (r : Effect). r.closes) runs.0 ∙ closed, ap (λ (r : Effect). r.out) runs.0)
+closed_stays mode file_type (name ∷ names) run last folder after runs closed =
+    let rest = closed_stays mode file_type names (grown run runs.0) last runs.1 after runs.3 (rw (closed) refl) in
+    (rest.0, rest.1 ∙ (rw (closed) refl))
+
+-- ---- one file
+
+-- a file at which standard output failed: what was to be written of it, and by an exact step
+record Failed (mode : Mode) (file_type : FileType) (name : Bytes) (pure : Folder) (effect : Effect) : Type 0 where
+  pub closes : effect.closes ≡ true
+  pub exact : Effect
+  pub step : ExactStep mode file_type name pure exact pure
+  pub whole : exact.cut ≡ c.Whole
+  pub out : exact.out ≡ effect.out
+
+failed_step : (mode : Mode) (file_type : FileType) (name : Bytes) (closed : Bool) (pure folder after : Folder) (effect : Effect) → FileStep mode file_type name closed folder effect after
+    → effect.cut ≡ c.Write → SameFolders pure folder → (IsAside name → ⊥) → Failed mode file_type name pure effect
+failed_step mode file_type name closed pure folder after effect (unread fault none is stays) cut same other =
+    absurd ((unread_quiet name fault).other (sym (ap (λ (e : Effect). e.cut) is) ∙ cut))
+failed_step mode file_type name closed pure folder after effect (without_memory is stays) cut same other =
+    absurd (cc (sym (ap (λ (e : Effect). e.cut) is) ∙ cut))
+failed_step mode file_type name closed pure folder after effect (unformatted text fault there formats is stays) cut same other =
+    absurd ((refused_quiet name text fault).other (sym (ap (λ (e : Effect). e.cut) is) ∙ cut))
+failed_step mode file_type name closed pure folder after effect (kept text new there formats unchanged (inl is) stays) cut same other =
+    absurd (cc (sym (ap (λ (e : Effect). e.cut) is) ∙ cut))
+failed_step mode file_type name closed pure folder after effect (kept text new there formats unchanged (inr failed) stays) cut same other = record {
+  closes = ap (λ (e : Effect). e.closes) failed.1;
+  exact = output_effect (file_out mode name text new) (text_status mode text new);
+  step = exact_formatted text new (sym (same name other) ∙ there) formats refl (rw (unchanged) refl);
+  whole = refl;
+  out = sym (ap (λ (e : Effect). e.out) failed.1);
+}
+failed_step mode file_type name closed pure folder after effect (rewritten text new there formats differs (inl done)) cut same other =
+    absurd (cc (sym (ap (λ (e : Effect). e.cut) done.0) ∙ cut))
+failed_step mode file_type name closed pure folder after effect (rewritten text new there formats differs (inr failed)) cut same other =
+    absurd (cc (sym (ap (λ (e : Effect). e.cut) failed.0) ∙ cut))
+
+-- ---- runs
+
+-- a run of which the files so far were written as an exact run writes them
+abbrev pub Begins : Mode → FileType → List Bytes → Effect → Effect → Folder → Type 0
+Begins mode file_type names run last pure = (front rest : List Bytes) × (names ≡ front ++ rest) × (last.closes ≡ true)
+    × (exact : Effect) × (end : Folder) × Exact mode file_type front run pure exact end × (exact.cut ≡ c.Whole) × (exact.out ≡ last.out)
+
+pub cut_run : (mode : Mode) (file_type : FileType) (names : List Bytes) (run last : Effect) (pure folder after : Folder) → FilesFormatted mode file_type names run folder last after
+    → run.cut ≡ c.Whole → run.closes ≡ false → last.cut ≡ c.Write → SameFolders pure folder → All (λ name. IsAside name → ⊥) names
+    → Begins mode file_type names run last pure
+cut_run mode file_type [] run last pure folder after runs whole opened cut same others =
+    absurd (cc (sym whole ∙ sym (ap (λ (r : Effect). r.cut) runs.0) ∙ cut))
+cut_run mode file_type (name ∷ names) run last pure folder after runs whole opened cut same others =
+    go (λ mid still left alike. cut_run mode file_type names (grown run runs.0) last mid runs.1 after runs.3 still left cut alike (All-tail Other name names others))
+    runs.0.cut refl
+  where
+    -- what the rest of the run does
+    Rest : Type 0
+    Rest = (mid : Folder) → (grown run runs.0).cut ≡ c.Whole → (grown run runs.0).closes ≡ false → SameFolders mid runs.1
+        → Begins mode file_type names (grown run runs.0) last mid
+
+    effect : Effect
+    effect = runs.0
+
+    other : IsAside name → ⊥
+    other = All-head Other name names others
+
+    grown_cut : first_cut run.cut effect.cut ≡ effect.cut
+    grown_cut = ap (λ (first : Cut). first_cut first effect.cut) whole
+
+    -- a failure that is none of standard output would be that of the run
+    not_other : (effect.cut ≡ c.Whole → ⊥) → effect.cut ≡ c.Write
+    not_other some =
+        sym (cut_stays mode file_type names (grown run effect) last runs.1 after runs.3 (λ is. some (sym grown_cut ∙ is)) ∙ grown_cut) ∙ cut
+
+    go : Rest → (found : Cut) → effect.cut ≡ found → Begins mode file_type (name ∷ names) run last pure
+    go more c.Whole is =
+        let step = exact_step mode file_type name run.closes pure folder runs.1 effect runs.2 is same other in
+        let rest = more step.0 (grown_cut ∙ is) (ap (λ (b : Bool). b || effect.closes) opened ∙ step.3) step.2 in
+        (name ∷ rest.0, rest.1, ap (λ (ns : List Bytes). name ∷ ns) rest.2, rest.3, rest.4, rest.5, (effect, step.0, step.1, rest.6), rest.7, rest.8)
+    go more c.Write is =
+        let step = failed_step mode file_type name run.closes pure folder runs.1 effect runs.2 is same other in
+        let stays = closed_stays mode file_type names (grown run effect) last runs.1 after runs.3 (ap (λ (b : Bool). b || effect.closes) opened ∙ step.closes) in
+        let still = ap (λ (first : Cut). first_cut first step.exact.cut) whole ∙ step.whole in
+        let out = ap (λ (bytes : Bytes). if run.closes then run.out else run.out ++ bytes) step.out ∙ sym stays.1 in
+        (name ∷ [], names, refl, stays.0, grown run step.exact, pure, (step.exact, pure, step.step, (refl, refl)), still, out)
+    go more c.Memory is = absurd (cc (sym is ∙ not_other (λ w. cc (sym is ∙ w))))
+    go more c.Read is = absurd (cc (sym is ∙ not_other (λ w. cc (sym is ∙ w))))
+    go more c.Files is = absurd (cc (sym is ∙ not_other (λ w. cc (sym is ∙ w))))

@@ -1,10 +1,11 @@
 -- What buildifier makes of standard input, or of files one after the other.
-use Rattle.std.specs.Prelude.{◌≡◌, ◌⊎◌, ◌==◌, ◌||◌, ℕ, List, [], ◌∷◌, ◌++◌, codes, bytes_eq, eqb, Bool, true, false, not, if◌then◌else◌, Option, Some, None, Result, Ok, Err}
+use Rattle.std.specs.Prelude.{◌≡◌, ◌⊎◌, ◌==◌, ◌||◌, ℕ, List, [], ◌∷◌, ◌++◌, reverse, take_while, codes, bytes_eq, eqb, Bool, true, false, not, if◌then◌else◌, Option, Some, None, Result, Ok, Err}
 use Rattle.std.specs.FinMap.{get}
-use Rattle.std.specs.List.{ends_with}
+use Rattle.std.specs.List.{ends_with, list_any}
+use Rattle.std.specs.Option.{option_map_or}
 use Rattle.clap.specs.Words.{IsAmong, fault_of}
 use Rattle.clap.specs.declared.error.kind.ErrorKind.{ErrorKind}
-use Rattle.bz_items.specs.Characters.{Bytes}
+use Rattle.bz_items.specs.Characters.{Bytes, full_stop}
 use Rattle.bz_files.specs.Folder.{Folder, SameBut, new_name, with_file, IsReplacing}
 use Rattle.bz_files.specs.declared.files.FileFault.{FileFault}
 use Rattle.bz_files.specs.declared.files.FileFault.TheVariants as file
@@ -12,6 +13,7 @@ use Rattle.bz_build_format.specs.declared.formatter.FormatFault.{FormatFault}
 use Rattle.bz_build_format.specs.declared.formatter.FormatFault.TheVariants as f
 use Rattle.bz_streams.specs.declared.exit.Cut.{Cut}
 use Rattle.bz_streams.specs.declared.exit.Cut.TheVariants as c
+use Rattle.bz_streams.specs.Controls.{escaped_text}
 use Rattle.bz_streams.specs.Excerpts.{fault_excerpt}
 use Rattle.bz_streams.specs.Exits.{first_cut}
 use Rattle.bz_streams.specs.Faults.{Rises}
@@ -21,8 +23,13 @@ use Rattle.bz_streams.specs.Reported.{stdin, named_line, fault_line}
 use Rattle.bz_buildifier.specs.declared.file_type.FileType.{FileType}
 use Rattle.bz_buildifier.specs.declared.mode.Mode.{Mode}
 use Rattle.bz_buildifier.specs.declared.mode.Mode.TheVariants.{Fix, Check, PrintIfChanged}
-use Rattle.bz_buildifier.specs.FileKinds.{FormatsAs, is_bzl}
-use Rattle.bz_buildifier.specs.Modes.{FormatLine, FormatUsage, buildifier_app, clap_fault, clap_hint, no_mode, no_type, format_line, mode_names, type_names}
+use Rattle.bz_build_format.specs.Faults.{FormatsTo, FormatsBzlTo}
+use Rattle.bz_buildifier.specs.Modes.{FormatLine, FormatUsage, buildifier_app, clap_fault, clap_hint, no_mode, no_type, format_line, is_bzl, mode_names, type_names}
+
+-- what formatting a text as one of a .bzl file, or as one of a BUILD file, answers
+abbrev pub FormatsAs : Bool → Bytes → Result Bytes FormatFault → Type 0
+FormatsAs true text answer = FormatsBzlTo text answer
+FormatsAs false text answer = FormatsTo text answer
 
 -- ---- what one text does, or a run so far
 
@@ -66,8 +73,7 @@ refused name text f.Memory = memory_effect name
 -- A file is rewritten where it differs.
 abbrev pub is_rewritten : Mode → Bytes → Bytes → Bool
 is_rewritten Fix text new = not (bytes_eq new text)
-is_rewritten Check text new = false
-is_rewritten PrintIfChanged text new = false
+is_rewritten _ text new = false
 
 -- what a file writes on standard output
 abbrev pub file_out : Mode → Bytes → Bytes → Bytes → Bytes
@@ -78,14 +84,12 @@ file_out PrintIfChanged name text new = if bytes_eq new text then [] else new
 -- Standard input has no place to be rewritten: its formatted text goes to standard output.
 abbrev pub input_out : Mode → Bytes → Bytes → Bytes
 input_out Fix text new = new
-input_out Check text new = file_out Check stdin text new
-input_out PrintIfChanged text new = file_out PrintIfChanged stdin text new
+input_out mode text new = file_out mode stdin text new
 
 -- 4 where `check` finds a difference
 abbrev pub text_status : Mode → Bytes → Bytes → ℕ
-text_status Fix text new = 0
 text_status Check text new = if bytes_eq new text then 0 else 4
-text_status PrintIfChanged text new = 0
+text_status _ text new = 0
 
 -- Standard output takes a text, or fails, unless it is closed.
 abbrev pub Prints : Bool → Bytes → ℕ → Effect → Type 0
@@ -104,18 +108,34 @@ Rewrites name text new folder effect after =
 abbrev pub is_directory_name : Bytes → Bool
 is_directory_name name = ends_with eqb name (codes "/") || (bytes_eq name (codes ".") || bytes_eq name (codes ".."))
 
+-- what is after the last slash, from the end on
+abbrev pub last_part : Bytes → Bytes
+last_part name = take_while (λ byte. not (byte == 47)) (reverse name)
+
+-- a name of no BUILD file and no .bzl file
+abbrev pub may_be_directory : Bytes → Bool
+may_be_directory name =
+    not ((list_any (λ byte. byte == full_stop) (last_part name)
+    || (bytes_eq name (codes "BUILD") || ends_with eqb name (codes "/BUILD")))
+    || (bytes_eq name (codes "WORKSPACE") || ends_with eqb name (codes "/WORKSPACE")))
+
+-- what formats a directory, where the name may be of one
+abbrev pub directory_words : Bytes → Option Bytes
+directory_words name =
+    if is_directory_name name then Some (codes "names a directory: see buildifier-tree")
+    else (if may_be_directory name then Some (codes "if this is a directory, see buildifier-tree") else None)
+
 -- what is there and isn't opened; below that, what formats a directory
 abbrev pub unopened_there : Bytes → Effect
 unopened_there name = record (unopened name c.Files) {
-  lines = named_line name (codes "cannot open") ∷ (if is_directory_name name then named_line name (codes "names a directory: see buildifier-tree") ∷ [] else []);
+  lines = named_line name (codes "cannot open") ∷ option_map_or (λ words. named_line name words ∷ []) (directory_words name) [];
 }
 
 -- a file that is not read
 abbrev pub unread_file : Bytes → FileFault → Effect
 unread_file name file.Memory = memory_effect name
 unread_file name file.Absent = unopened name c.Whole
-unread_file name file.Open = unopened_there name
-unread_file name file.Write = unopened_there name
+unread_file name _ = unopened_there name
 
 -- A file that is not read is reported, an absent one among them. What is read is formatted, or reported. Where the mode rewrites
 -- a file the folder changes; all else leaves the folder.
@@ -150,13 +170,10 @@ begun = output_effect [] 0
 abbrev pub worse : ℕ → ℕ → ℕ
 worse a b = if a == 3 || b == 3 then 3 else (if a == 1 || b == 1 then 1 else (if a == 4 || b == 4 then 4 else 0))
 
--- what is to be on standard output after one text more; once it is closed nothing more comes there
-abbrev pub out_after : Effect → Effect → Bytes
-out_after run effect = if run.closes then run.out else run.out ++ effect.out
-
+-- Once standard output is closed nothing more comes there.
 abbrev pub grown : Effect → Effect → Effect
 grown run effect = record {
-  out = out_after run effect;
+  out = if run.closes then run.out else run.out ++ effect.out;
   lines = run.lines ++ effect.lines;
   status = worse run.status effect.status;
   cut = first_cut run.cut effect.cut;
@@ -174,14 +191,11 @@ abbrev pub RunOf : Mode → FileType → List Bytes → Option Bytes → Folder 
 RunOf mode file_type [] known folder after folder' = (effect : Effect) × InputStep mode file_type known effect × (after ≡ grown begun effect) × (folder' ≡ folder)
 RunOf mode file_type (name ∷ names) known folder after folder' = FilesFormatted mode file_type (name ∷ names) begun folder after folder'
 
--- a word of an option that may have been meant
-abbrev pub meant_word : Bytes → Option Bytes → Bytes
-meant_word option None = []
-meant_word option (Some word) = codes "buildifier: did you mean '--" ++ (option ++ (codes "=" ++ (word ++ codes "'?\n")))
-
 -- a text that is none of an option's words; after its line is one of the word that is near, if one is
 abbrev pub no_word_line : Bytes → Bytes → Option Bytes → Bytes
-no_word_line option name near = codes "buildifier: no " ++ (option ++ (codes ": " ++ (name ++ (codes "\n" ++ meant_word option near))))
+no_word_line option name None = codes "buildifier: no " ++ (option ++ (codes ": " ++ (escaped_text name ++ codes "\n")))
+no_word_line option name (Some word) = codes "buildifier: no "
+    ++ (option ++ (codes ": " ++ (escaped_text name ++ (codes "\nbuildifier: did you mean '--" ++ (option ++ (codes "=" ++ (word ++ codes "'?\n")))))))
 
 -- Of a fault that clap finds the text is clap's, and below it is what may help.
 abbrev pub IsFormatUsageLine : List Bytes → FormatUsage → Bytes → Type 0

@@ -1,7 +1,5 @@
-pub mod FileKinds
-pub mod FormatExact
 pub mod FormatRun
+pub mod Laws
 pub mod Modes
 pub mod Worked
-pub mod FormatAgree
 pub mod private

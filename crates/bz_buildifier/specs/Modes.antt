@@ -1,5 +1,6 @@
 -- The command line of buildifier: what its words say.
-use Rattle.std.specs.Prelude.{◌==◌, Bool, false, List, [], ◌∷◌, length, codes, bytes_eq, if◌then◌else◌, unwrap_or, Option, Some, None, Result, Ok, Err, true}
+use Rattle.std.specs.Prelude.{◌==◌, Bool, false, List, [], ◌∷◌, length, codes, bytes_eq, eqb, if◌then◌else◌, unwrap_or, Option, Some, None, Result, Ok, Err, true}
+use Rattle.std.specs.List.{ends_with}
 use Rattle.clap.specs.Words.{App, Rule, Row, all_of, first_of, fault_of, matches_of, new_app, new_rule, with_rule}
 use Rattle.clap.specs.declared.builder.action.ArgAction.TheVariants.{Append}
 use Rattle.clap.specs.declared.error.kind.ErrorKind.{ErrorKind}
@@ -13,11 +14,8 @@ use Rattle.bz_buildifier.specs.declared.mode.Mode.TheVariants.{Fix, Check, Print
 
 -- ---- the line as clap's rules: `--mode` and `--type`, each with a text, and any number of files
 
-abbrev pub mode_rule : Rule
-mode_rule = record (new_rule (codes "mode")) { long = Some (codes "mode"); value_names = 1 }
-
-abbrev pub type_rule : Rule
-type_rule = record (new_rule (codes "type")) { long = Some (codes "type"); value_names = 1 }
+abbrev pub option_rule : Bytes → Rule
+option_rule name = record (new_rule name) { long = Some name; value_names = 1 }
 
 abbrev pub files_rule : Rule
 files_rule = record (new_rule (codes "file")) { action = Some Append; value_names = 1 }
@@ -27,7 +25,7 @@ abbrev pub nameless_buildifier : App
 nameless_buildifier = let app = new_app (codes "buildifier") in record { top = record app.top { no_binary_name = true; has_version = true }; subs = [] }
 
 abbrev pub buildifier_app : App
-buildifier_app = with_rule (with_rule (with_rule nameless_buildifier mode_rule) type_rule) files_rule
+buildifier_app = with_rule (with_rule (with_rule nameless_buildifier (option_rule (codes "mode"))) (option_rule (codes "type"))) files_rule
 
 -- ---- what is below clap's text
 
@@ -83,16 +81,19 @@ format_line_of mode_word (Some mode) type_word None files = Err (no_type type_wo
 format_line_of mode_word (Some mode) type_word (Some file_type) files = Ok (record { mode = mode; file_type = file_type; files = files })
 
 -- The mode is `fix` where none is named, and the type `auto`.
-abbrev pub mode_name : List Row → Bytes
-mode_name rows = unwrap_or (first_of (codes "mode") rows) (codes "fix")
-
-abbrev pub type_name : List Row → Bytes
-type_name rows = unwrap_or (first_of (codes "type") rows) (codes "auto")
-
 abbrev pub format_line_in : List Row → Result FormatLine FormatUsage
-format_line_in rows = format_line_of (mode_name rows) (mode_called (mode_name rows)) (type_name rows) (type_called (type_name rows)) (unwrap_or (all_of (codes "file") rows) [])
+format_line_in rows =
+    let mode = unwrap_or (first_of (codes "mode") rows) (codes "fix") in
+    let file_type = unwrap_or (first_of (codes "type") rows) (codes "auto") in
+    format_line_of mode (mode_called mode) file_type (type_called file_type) (unwrap_or (all_of (codes "file") rows) [])
 
 -- the line of the words, or why they are none
 abbrev pub format_line : List Bytes → Result FormatLine FormatUsage
 format_line words =
     if length (fault_of buildifier_app words) == 0 then format_line_in (matches_of buildifier_app words) else Err clap_fault
+
+-- Whether a file of this name is formatted as a .bzl file: as it is said of all, or else where the name ends in `.bzl`.
+abbrev pub is_bzl : FileType → Bytes → Bool
+is_bzl Auto name = ends_with eqb name (codes ".bzl")
+is_bzl Build name = false
+is_bzl Bzl name = true

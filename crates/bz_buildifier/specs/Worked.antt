@@ -7,8 +7,7 @@ use Rattle.bz_files.specs.declared.files.FileFault.TheVariants.{Absent, Open}
 use Rattle.bz_build_format.specs.declared.formatter.FormatFault.TheVariants.{Unread, TooLarge}
 use Rattle.bz_streams.specs.Reported.{stdin}
 use Rattle.bz_buildifier.specs.FormatRun.{file_out, input_out, is_rewritten, text_status, worse, refused, unread_file, unwritten, unprinted}
-use Rattle.bz_buildifier.specs.FileKinds.{is_bzl}
-use Rattle.bz_buildifier.specs.Modes.{buildifier_app, clap_hint, format_line, no_mode, no_type, clap_fault}
+use Rattle.bz_buildifier.specs.Modes.{is_bzl, buildifier_app, clap_hint, format_line, no_mode, no_type, clap_fault}
 use Rattle.bz_buildifier.specs.declared.file_type.FileType.TheVariants.{Auto, Build, Bzl}
 use Rattle.bz_buildifier.specs.declared.mode.Mode.TheVariants.{Fix, Check, PrintIfChanged}
 
@@ -41,13 +40,15 @@ abbrev FileKinds : Type 0
 FileKinds = (is_bzl Auto (codes "a/b.bzl") ≡ true) × (is_bzl Auto (codes "bzl") ≡ false) × (is_bzl Auto stdin ≡ false) × (is_bzl Bzl stdin ≡ true) × (is_bzl Build (codes "b.bzl") ≡ false)
 
 abbrev FormatReported : Type 0
-FormatReported = ((refused (codes "a/BUILD") (codes "x(a b)\n") (Unread (Unexpected 1 5))).lines ≡ codes "a/BUILD:1:5: Unexpected\n    x(a b)\n        ^\n" ∷ [])
-    × ((refused stdin (codes "x\n\ty=1") (Unread (Unexpected 2 5))).lines ≡ codes "<stdin>:2:5: Unexpected\n     y=1\n        ^\n" ∷ [])
+FormatReported = ((refused (codes "a/BUILD") (codes "x(a b)\n") (Unread (Unexpected 1 5))).lines ≡ codes "a/BUILD:1:5: Unexpected\n    x(a b)\n        ^ the word 'b'\n" ∷ [])
+    × ((refused stdin (codes "x\n\ty=1") (Unread (Unexpected 2 5))).lines ≡ codes "<stdin>:2:5: Unexpected\n     y=1\n        ^ the end of the file\n" ∷ [])
     × ((refused stdin (codes "x\n") (Unread (NotUtf8 1))).lines ≡ codes "<stdin>: NotUtf8 at 1\n" ∷ [])
     × ((refused stdin (codes "x\n") TooLarge).lines ≡ codes "<stdin>: TooLarge\n" ∷ [])
     × ((unread_file (codes "BUILD") Absent).lines ≡ codes "BUILD: cannot open\n" ∷ [])
     × ((unread_file (codes "app/") Open).lines ≡ codes "app/: cannot open\n" ∷ codes "app/: names a directory: see buildifier-tree\n" ∷ [])
-    × ((unread_file (codes "app") Open).lines ≡ codes "app: cannot open\n" ∷ [])
+    × ((unread_file (codes "a.d/app") Open).lines ≡ codes "a.d/app: cannot open\n" ∷ codes "a.d/app: if this is a directory, see buildifier-tree\n" ∷ [])
+    × ((unread_file (codes "app/BUILD") Open).lines ≡ codes "app/BUILD: cannot open\n" ∷ []) × ((unread_file (codes "a.bzl") Open).lines ≡ codes "a.bzl: cannot open\n" ∷ [])
+    × ((unread_file (codes "a\nb.bzl") Absent).lines ≡ codes "a\\nb.bzl: cannot open\n" ∷ [])
     × ((unwritten (codes "BUILD")).lines ≡ codes "BUILD: cannot write\n" ∷ [])
     × ((unprinted (codes "x")).lines ≡ codes "<stdout>: cannot write\n" ∷ [])
 

@@ -1,9 +1,11 @@
 //! What becomes of a text that buildifier reads, and of a run over several.
-ghost use Rattle.std.specs.Prelude.{◌≡◌, ◌⊎◌, ◌||◌, ◌∷◌, ◌++◌, [], false, codes, IfOk, OnOk};
+ghost use Rattle.std.specs.Prelude.{◌≡◌, ◌⊎◌, ◌||◌, ◌∷◌, ◌++◌, ◌==◌, [], false, codes, option_map, IfOk, OnOk};
+ghost use Rattle.std.specs.List.{list_any};
+ghost use Rattle.bz_items.specs.Characters.{full_stop};
 ghost use Rattle.bz_streams.specs.Exits.{first_cut};
 ghost use Rattle.bz_streams.specs.Outputs.{Reports, Counts, WritesUnlessClosed};
 ghost use Rattle.bz_streams.specs.Reported.{stdin, named_line};
-ghost use Rattle.bz_buildifier.specs.FormatRun.{Prints, IsCutBy, is_directory_name, unopened_there, unread_file, refused, file_out, input_out, is_rewritten, text_status, worse};
+ghost use Rattle.bz_buildifier.specs.FormatRun.{Prints, IsCutBy, is_directory_name, last_part, may_be_directory, directory_words, unopened_there, unread_file, refused, file_out, input_out, is_rewritten, text_status, worse};
 ghost use Rattle.bz_buildifier.specs.FormatRun as r;
 ghost use Rattle.bz_buildifier.specs.private.FormatShown.{effect_seen};
 
@@ -70,17 +72,23 @@ pub(crate) fn grown(progress: Effect, effect: Effect) -> Effect
     }
 }
 
+fn effect_of(status: u8, cut: Cut) -> Effect
+    ensures { result ≡ record { status = status; cut = cut; closes = false } }
+{
+    Effect {
+        status,
+        cut,
+        closes: false,
+    }
+}
+
 /// A failure, or a file that is absent, is reported.
 pub(crate) fn fail<'a, E: Sink>(err: &mut E, name: &'a str, word: &'a str, cut: Cut) -> Effect
     ensures effect { result ≡ record { status = 3; cut = cut; closes = false } }
     ensures reported { Reports (E.faults err.old) (E.faults err.new) (E.contents err.old) (E.contents err.new) (named_line name.entry.now word.entry.now ∷ []) }
 {
     report_named(err, name, word);
-    Effect {
-        status: FAILED,
-        cut,
-        closes: false,
-    }
+    effect_of(FAILED, cut)
 }
 
 // Whether no file can have a name: it ends in a slash, or is the one of this directory or of the one above.
@@ -90,14 +98,45 @@ fn is_directory_name(name: &str) -> bool
     ends_in(name, "/") || name == "." || name == ".."
 }
 
+fn has_dot(name: &[u8]) -> bool
+    ensures { result ≡ list_any (λ byte. byte == full_stop) (last_part name.now) }
+{
+    let backwards = name.iter().rev();
+    backwards
+        .take_while(|byte| **byte != b'/')
+        .any(|byte| *byte == b'.')
+}
+
+// Whether a name's last part is like none of a BUILD file's or .bzl file's.
+fn may_be_directory(name: &str) -> bool
+    ensures { result ≡ may_be_directory name.now }
+{
+    !(has_dot(name.as_bytes())
+        || (name == "BUILD" || ends_in(name, "/BUILD"))
+        || (name == "WORKSPACE" || ends_in(name, "/WORKSPACE")))
+}
+
+// What is said of a directory's name.
+fn directory_words(name: &str) -> Option<&'static str>
+    ensures { option_map (λ s. s.now) result ≡ directory_words name.now }
+{
+    if is_directory_name(name) {
+        return Some("names a directory: see buildifier-tree");
+    }
+    if may_be_directory(name) {
+        return Some("if this is a directory, see buildifier-tree");
+    }
+    None
+}
+
 // Reports that what is there can't be opened, and what formats a directory.
 fn fail_to_open<E: Sink>(err: &mut E, name: &str) -> Effect
     ensures effect { result ≡ effect_seen (unopened_there name.now) }
     ensures reported { Reports (E.faults err.old) (E.faults err.new) (E.contents err.old) (E.contents err.new) (unopened_there name.now).lines }
 {
     let effect = fail(err, name, "cannot open", Cut::Files);
-    if is_directory_name(name) {
-        report_named(err, name, "names a directory: see buildifier-tree");
+    if let Some(words) = directory_words(name) {
+        report_named(err, name, words);
     }
     effect
 }
@@ -122,11 +161,7 @@ pub(crate) fn refused<E: Sink>(err: &mut E, name: &str, text: &[u8], fault: &For
     match fault {
         FormatFault::Unread(fault) => {
             report_fault_in(err, name, text, fault);
-            Effect {
-                status: REFUSED,
-                cut: Cut::Whole,
-                closes: false,
-            }
+            effect_of(REFUSED, Cut::Whole)
         }
         FormatFault::TooLarge => fail(err, name, "TooLarge", Cut::Whole),
         FormatFault::TooDeep => fail(err, name, "TooDeep", Cut::Whole),
@@ -148,12 +183,10 @@ pub(crate) fn is_rewritten(mode: Mode, text: &[u8], new: &[u8]) -> bool
 pub(crate) fn text_status(mode: Mode, text: &[u8], new: &[u8]) -> u8
     ensures { result ≡ text_status mode text.now new.now }
 {
-    if let Mode::Check = mode
-        && new != text
-    {
-        return DIFFERS;
+    match mode {
+        Mode::Check if new != text => DIFFERS,
+        _ => DONE,
     }
-    DONE
 }
 
 // The line of a file that differs.
@@ -207,23 +240,16 @@ pub(crate) fn print<W: Sink, E: Sink>(
     ensures cut { IsCutBy result.cut 0 0 (W.faults out.old) (W.faults out.new) }
     ensures counts { Counts (W.faults out.old) (W.faults out.new) }
 {
-    let done = Effect {
-        status,
-        cut: Cut::Whole,
-        closes: false,
-    };
+    let done = effect_of(status, Cut::Whole);
     if closed {
         return done;
     }
     match write_whole(out, text) {
         Ok(()) => done,
         Err(_) => {
-            let _ = fail(err, "<stdout>", "cannot write", Cut::Write);
-            Effect {
-                status: FAILED,
-                cut: Cut::Write,
-                closes: true,
-            }
+            let mut effect = fail(err, "<stdout>", "cannot write", Cut::Write);
+            effect.closes = true;
+            effect
         }
     }
 }

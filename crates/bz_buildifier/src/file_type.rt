@@ -1,12 +1,7 @@
 //! How the files of a run are read.
-ghost use Rattle.std.specs.Prelude.{◌≡◌, IfOk, eqb, option_map};
+ghost use Rattle.std.specs.Prelude.{◌≡◌, eqb};
 ghost use Rattle.std.specs.List.{ends_with};
-ghost use Rattle.bz_streams.specs.Near.{nearest};
-ghost use Rattle.bz_buildifier.specs.FileKinds.{is_bzl};
-ghost use Rattle.bz_buildifier.specs.Modes.{type_called, type_names};
-
-use bz_streams::nearest;
-use std::alloc::{AllocError, Global};
+ghost use Rattle.bz_buildifier.specs.Modes.{is_bzl, type_called};
 
 /// What the files of a run are, standard input among them.
 #[derive(Clone, Copy, PartialEq, Eq)]
@@ -18,6 +13,9 @@ pub(crate) enum FileType {
     /// .bzl files, whatever their names are.
     Bzl,
 }
+
+/// All names of types.
+pub(crate) const TYPES: [&str; 3] = ["auto", "build", "bzl"];
 
 /// Whether a name ends in this.
 pub(crate) fn ends_in(name: &str, end: &str) -> bool
@@ -37,13 +35,6 @@ impl FileType {
             "bzl" => Some(FileType::Bzl),
             _ => None,
         }
-    }
-
-    /// The name of the type that is nearest to this text, where one is near. The error: memory was refused.
-    pub(crate) fn near(alloc: Global, name: &str) -> Result<Option<&'static str>, AllocError>
-        ensures { IfOk result (λ near. option_map (λ s. s.now) near ≡ nearest name.now type_names) }
-    {
-        nearest(alloc, name, &["auto", "build", "bzl"])
     }
 
     /// Whether a file of this name is a .bzl file.

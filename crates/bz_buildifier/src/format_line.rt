@@ -1,23 +1,30 @@
 //! The words of buildifier's line.
-ghost use Rattle.std.specs.Prelude.{◌≡◌, [], false, Ok, IfOk, IfErr, map, string_bytes};
+ghost use Rattle.std.specs.Prelude.{◌≡◌, [], false, Ok, IfOk, IfErr, codes, map};
 ghost use Rattle.clap.specs.Values.{kind_of};
 ghost use Rattle.clap.specs.Words.{app_of, rule_of, found_of, fault_of, matches_of, rows_of};
-ghost use Rattle.bz_buildifier.specs.Modes.{nameless_buildifier, buildifier_app, mode_rule, type_rule, files_rule, format_line, is_request, clap_hint};
+ghost use Rattle.bz_streams.specs.Options.{option_hint_text};
+ghost use Rattle.bz_buildifier.specs.Modes.{buildifier_app, option_rule, files_rule, format_line, is_request, clap_hint};
 ghost use Rattle.bz_buildifier.specs.private.FormatShown.{seen_line, IsUsageOf};
 
 use crate::file_type::FileType;
 use crate::mode::Mode;
-use bz_streams::{VERSION, argument_text, argument_texts, option_hint};
+use bz_streams::{OptionHint, VERSION, argument_text, argument_texts, option_hint};
 use clap::error::ErrorKind;
 use clap::{Arg, ArgAction, ArgMatches, Command};
 use std::alloc::{AllocError, Global};
 use std::convert::AsStr;
 
-/// The mode, the type and the files of a line.
-#[derive(Drop)]
-pub(crate) struct FormatLine<'a> {
+/// What is to be done with texts.
+#[derive(Clone, Copy)]
+pub(crate) struct Options {
     pub(crate) mode: Mode,
     pub(crate) file_type: FileType,
+}
+
+/// The options and the files of a line.
+#[derive(Drop)]
+pub(crate) struct FormatLine<'a> {
+    pub(crate) options: Options,
     pub(crate) files: Vec<&'a str>,
 }
 
@@ -37,6 +44,11 @@ pub(crate) enum FormatUsage<'a> {
 const ABOUT: &str =
     "Formats BUILD and .bzl files in one canonical layout. Without files, it formats standard input.";
 
+const MODE_HELP: &str =
+    "What to do with a file that is not formatted: fix, check or print_if_changed";
+
+const TYPE_HELP: &str = "The type of the files: auto (by their names), build or bzl";
+
 const EXAMPLES: &str = "Modes:
   fix               rewrites each file that is not formatted (the default)
   check             reports which files would change
@@ -51,50 +63,35 @@ Examples:
   buildifier --mode=check lib/BUILD
   buildifier --type=bzl < lib/rules.bzl";
 
-fn mode<'a>(alloc: Global) -> Arg<'a>
-    ensures rule { rule_of result ≡ mode_rule }
+fn option<'a>(alloc: Global, name: &'a str, value: &'a str, help: &'a str) -> Arg<'a>
+    ensures rule { rule_of result ≡ option_rule name.entry.now }
     ensures local { result.global ≡ false }
 {
-    Arg::new(alloc, "mode").long("mode").value_name("MODE").help(
-        "What to do with a file that is not formatted: fix, check or print_if_changed",
-    )
-}
-
-fn file_type<'a>(alloc: Global) -> Arg<'a>
-    ensures rule { rule_of result ≡ type_rule }
-    ensures local { result.global ≡ false }
-{
-    Arg::new(alloc, "type").long("type").value_name("TYPE").help(
-        "The type of the files: auto (by their names), build or bzl",
-    )
+    Arg::new(alloc, name)
+        .long(name)
+        .value_name(value)
+        .help(help)
 }
 
 fn file<'a>(alloc: Global) -> Arg<'a>
     ensures rule { rule_of result ≡ files_rule }
     ensures local { result.global ≡ false }
 {
-    Arg::new(alloc, "file")
-        .value_name("FILE")
-        .action(ArgAction::Append)
+    let file = Arg::new(alloc, "file").value_name("FILE");
+    file.action(ArgAction::Append)
         .help("BUILD and .bzl files, as paths")
 }
 
-fn described<'a>(alloc: Global) -> Command<'a>
-    ensures { app_of result ≡ nameless_buildifier }
+fn buildifier_command<'a>(alloc: Global) -> Result<Command<'a>, AllocError>
+    ensures { IfOk result (λ command. app_of command ≡ buildifier_app) }
 {
     Command::new(alloc, "buildifier")
         .no_binary_name(true)
         .version(VERSION)
         .about(ABOUT)
         .after_help(EXAMPLES)
-}
-
-fn buildifier_command<'a>(alloc: Global) -> Result<Command<'a>, AllocError>
-    ensures { IfOk result (λ command. app_of command ≡ buildifier_app) }
-{
-    described(alloc)
-        .arg(mode(alloc))?
-        .arg(file_type(alloc))?
+        .arg(option(alloc, "mode", "MODE", MODE_HELP))?
+        .arg(option(alloc, "type", "TYPE", TYPE_HELP))?
         .arg(file(alloc))
 }
 
@@ -103,9 +100,8 @@ fn parse<'a, S: AsStr>(alloc: Global, words: &'a [S]) -> Result<ArgMatches<'a>, 
         × (rows_of (found_of m) ≡ matches_of buildifier_app (map S.text words.entry.now))) }
     ensures err { IfErr result (IsUsageOf (map S.text words.entry.now)) }
 {
-    let command = match buildifier_command(alloc) {
-        Ok(command) => command,
-        Err(_) => return Err(FormatUsage::Memory),
+    let Ok(command) = buildifier_command(alloc) else {
+        return Err(FormatUsage::Memory);
     };
     match command.try_get_matches_from(words) {
         Ok(matches) => Ok(matches),
@@ -134,8 +130,7 @@ pub(crate) fn read_format_line<'a, S: AsStr>(
     };
     match argument_texts(alloc, &matches, "file") {
         Ok(files) => Ok(FormatLine {
-            mode,
-            file_type,
+            options: Options { mode, file_type },
             files,
         }),
         Err(_) => Err(FormatUsage::Memory),
@@ -151,22 +146,15 @@ fn is_request(kind: ErrorKind) -> bool
 
 /// What is printed below clap's text of a fault that it finds in these words: which option may have been meant, or where those of
 /// other programs are listed; nothing below help and the version. The error: memory was refused.
-pub(crate) fn clap_hint<S: AsStr>(
+pub(crate) fn clap_hint<'a, S: AsStr>(
     alloc: Global,
     error: &clap::Error,
-    words: &[S],
-) -> Result<String, AllocError>
-    ensures { IfOk result (λ hint. string_bytes hint ≡ clap_hint (kind_of error.now) (map S.text words.now)) }
+    words: &'a [S],
+) -> Result<OptionHint<'a>, AllocError>
+    ensures { IfOk result (λ hint. option_hint_text (codes "buildifier") hint ≡ clap_hint (kind_of error.now) (map S.text words.entry.now)) }
 {
     if is_request(error.kind()) {
-        return Ok(String::new(alloc));
+        return Ok(OptionHint::Nothing);
     }
-    let hint = option_hint(
-        alloc,
-        "buildifier",
-        &["mode", "type", "help", "version"],
-        b"hV",
-        words,
-    )?;
-    Ok(hint)
+    option_hint(alloc, &["mode", "type", "help", "version"], b"hV", words)
 }

@@ -5,24 +5,24 @@ ghost use Rattle.bz_streams.specs.Faults.{Rises, AppendsUnlessFailed};
 ghost use Rattle.bz_streams.specs.Outputs.{Reports, Counts, Writes, WritesUnlessClosed};
 ghost use Rattle.bz_streams.specs.Reported.{stdin, named_line};
 ghost use Rattle.bz_buildifier.specs.Modes as m;
-ghost use Rattle.bz_buildifier.specs.Modes.{format_line};
-ghost use Rattle.bz_buildifier.specs.FileKinds.{FormatsAs, is_bzl};
+ghost use Rattle.bz_buildifier.specs.Modes.{format_line, is_bzl};
+ghost use Rattle.bz_buildifier.specs.FormatRun.{FormatsAs, IsCutBy, Rewrites, FileStep, InputStep, FormatOutcome, IsFormatUsageLine, no_word_line, begun};
 ghost use Rattle.bz_buildifier.specs.FormatRun as r;
-ghost use Rattle.bz_buildifier.specs.FormatRun.{IsCutBy, Rewrites, FileStep, InputStep, FormatOutcome, IsFormatUsageLine, no_word_line, begun};
 ghost use Rattle.bz_buildifier.specs.private.FormatShown.{effect_seen, IsUsageOf};
 
 use crate::effect::{
     BEGUN, Effect, fail, file_out, grown, input_out, is_rewritten, print, refused, text_status,
     unread_file,
 };
-use crate::file_type::FileType;
-use crate::format_line::{FormatLine, FormatUsage, clap_hint, read_format_line};
-use crate::mode::Mode;
+use crate::file_type::{FileType, TYPES};
+use crate::format_line::{FormatUsage, Options, clap_hint, read_format_line};
+use crate::mode::MODES;
 use crate::{Cut, Exit, Sink, Source};
 use bz_build_format::{FormatFault, format, format_bzl};
 use bz_files::{FileKind, Files};
 use bz_items::Text;
-use bz_streams::{InputFault, MOST, STDIN, read_most, report, report_clap_hinted};
+use bz_streams::LinePiece::{Outside, Own};
+use bz_streams::{InputFault, MOST, STDIN, nearest, read_most, report_clap_hinted, report_pieces};
 use std::alloc::{AllocError, Global};
 use std::convert::AsStr;
 
@@ -48,11 +48,7 @@ fn rewrite<F: Files, E: Sink>(
     ensures honest { F.honest files.new ≡ F.honest files.old }
 {
     match bz_files::rewrite(files, name, text, new) {
-        Ok(()) => Effect {
-            status: 0,
-            cut: Cut::Whole,
-            closes: false,
-        },
+        Ok(()) => BEGUN,
         Err(_) => fail(err, name, "cannot write", Cut::Files),
     }
 }
@@ -76,15 +72,14 @@ fn format_named(
 // Reads a file, formats it, and does what the mode wants. Of a text that is too long no more is read than the byte that shows it.
 fn file_effect<F: Files, W: Sink, E: Sink>(
     alloc: Global,
-    mode: Mode,
-    file_type: FileType,
+    options: Options,
     name: &str,
     closed: bool,
     files: &mut F,
     out: &mut W,
     err: &mut E,
 ) -> Effect
-    ensures step { F.honest files.old ≡ true → (effect : r.Effect) × FileStep mode file_type name.now closed (F.folder files.old) effect (F.folder files.new)
+    ensures step { F.honest files.old ≡ true → (effect : r.Effect) × FileStep options.mode options.file_type name.now closed (F.folder files.old) effect (F.folder files.new)
         × (result ≡ effect_seen effect)
         × WritesUnlessClosed closed effect.closes (W.faults out.old) (W.faults out.new) (W.contents out.old) (W.contents out.new) effect.out
         × Reports (E.faults err.old) (E.faults err.new) (E.contents err.old) (E.contents err.new) effect.lines }
@@ -99,15 +94,15 @@ fn file_effect<F: Files, W: Sink, E: Sink>(
         Ok(()) => {}
         Err(fault) => return unread_file(err, name, fault),
     }
-    let new = match format_named(alloc, file_type, name, &text) {
+    let new = match format_named(alloc, options.file_type, name, &text) {
         Ok(new) => new,
         Err(fault) => return refused(err, name, &text, &fault),
     };
-    if is_rewritten(mode, &text, new.as_slice()) {
+    if is_rewritten(options.mode, &text, new.as_slice()) {
         return rewrite(files, err, name, &text, new.as_slice());
     }
-    let status = text_status(mode, &text, new.as_slice());
-    match file_out(alloc, mode, name, &text, new) {
+    let status = text_status(options.mode, &text, new.as_slice());
+    match file_out(alloc, options.mode, name, &text, new) {
         Ok(bytes) => print(out, err, closed, bytes.as_slice(), status),
         Err(_) => fail(err, name, "Memory", Cut::Memory),
     }
@@ -116,13 +111,12 @@ fn file_effect<F: Files, W: Sink, E: Sink>(
 // Reads standard input, formats it, and does what the mode wants.
 fn input_effect<R: Source, W: Sink, E: Sink>(
     alloc: Global,
-    mode: Mode,
-    file_type: FileType,
+    options: Options,
     input: &mut R,
     out: &mut W,
     err: &mut E,
 ) -> Effect
-    ensures step { (effect : r.Effect) × InputStep mode file_type (R.remaining input.old) effect
+    ensures step { (effect : r.Effect) × InputStep options.mode options.file_type (R.remaining input.old) effect
         × (result ≡ effect_seen effect)
         × Writes effect.closes (W.faults out.old) (W.faults out.new) (W.contents out.old) (W.contents out.new) effect.out
         × Reports (E.faults err.old) (E.faults err.new) (E.contents err.old) (E.contents err.new) effect.lines }
@@ -140,12 +134,12 @@ fn input_effect<R: Source, W: Sink, E: Sink>(
         Err(InputFault::Read) => return fail(err, STDIN, "cannot open", Cut::Read),
         Err(InputFault::Memory) => return fail(err, STDIN, "Memory", Cut::Memory),
     };
-    let new = match format_named(alloc, file_type, STDIN, &text) {
+    let new = match format_named(alloc, options.file_type, STDIN, &text) {
         Ok(new) => new,
         Err(fault) => return refused(err, STDIN, &text, &fault),
     };
-    let status = text_status(mode, &text, new.as_slice());
-    match input_out(alloc, mode, &text, new) {
+    let status = text_status(options.mode, &text, new.as_slice());
+    match input_out(alloc, options.mode, &text, new) {
         Ok(bytes) => print(out, err, false, bytes.as_slice(), status),
         Err(_) => fail(err, STDIN, "Memory", Cut::Memory),
     }
@@ -154,15 +148,14 @@ fn input_effect<R: Source, W: Sink, E: Sink>(
 // One file after the other.
 fn run_files<F: Files, W: Sink, E: Sink>(
     alloc: Global,
-    mode: Mode,
-    file_type: FileType,
+    options: Options,
     names: &[&str],
     files: &mut F,
     out: &mut W,
     err: &mut E,
 ) -> Effect
     ensures runs { F.honest files.old ≡ true → (run : r.Effect) × (result ≡ effect_seen run)
-        × r.FilesFormatted mode file_type (map (λ name. name.now) names.now) begun (F.folder files.old) run (F.folder files.new)
+        × r.FilesFormatted options.mode options.file_type (map (λ name. name.now) names.now) begun (F.folder files.old) run (F.folder files.new)
         × Writes run.closes (W.faults out.old) (W.faults out.new) (W.contents out.old) (W.contents out.new) run.out
         × Reports (E.faults err.old) (E.faults err.new) (E.contents err.old) (E.contents err.new) run.lines }
     ensures status { result.cut ≢ Cut.Whole → result.status ≡ 3 }
@@ -171,16 +164,7 @@ fn run_files<F: Files, W: Sink, E: Sink>(
 {
     let mut progress = BEGUN;
     for &name in names {
-        let effect = file_effect(
-            alloc,
-            mode,
-            file_type,
-            name,
-            progress.closes,
-            files,
-            out,
-            err,
-        );
+        let effect = file_effect(alloc, options, name, progress.closes, files, out, err);
         progress = grown(progress, effect);
     }
     progress
@@ -191,22 +175,16 @@ fn report_no_word<'a, E: Sink>(err: &mut E, option: &'a str, name: &'a str, near
     ensures { AppendsUnlessFailed (E.faults err.old) (E.faults err.new) (E.contents err.old) (E.contents err.new)
         (no_word_line option.entry.now name.entry.now (option_map (λ s. s.now) near.entry)) }
 {
+    let no = Own("buildifier: no ");
+    let (option, colon, name) = (Own(option), Own(": "), Outside(name));
     match near {
-        Some(word) => report(
-            err,
-            &[
-                "buildifier: no ",
-                option,
-                ": ",
-                name,
-                "\nbuildifier: did you mean '--",
-                option,
-                "=",
-                word,
-                "'?\n",
-            ],
-        ),
-        None => report(err, &["buildifier: no ", option, ": ", name, "\n"]),
+        Some(word) => {
+            let meant = Own("\nbuildifier: did you mean '--");
+            let (is, word, end) = (Own("="), Own(word), Own("'?\n"));
+            let pieces = &[no, option, colon, name, meant, option, is, word, end];
+            report_pieces(err, pieces);
+        }
+        None => report_pieces(err, &[no, option, colon, name, Own("\n")]),
     }
 }
 
@@ -226,14 +204,14 @@ fn report_unusable<S: AsStr, E: Sink>(
     match fault {
         FormatUsage::Line(error) => {
             let hint = clap_hint(alloc, error, words)?;
-            report_clap_hinted(alloc, err, error, hint.as_str())
+            report_clap_hinted(alloc, err, error, "buildifier", hint)
         }
         FormatUsage::NoMode(name) => {
-            report_no_word(err, "mode", name, Mode::near(alloc, name)?);
+            report_no_word(err, "mode", name, nearest(alloc, name, &MODES)?);
             Ok(())
         }
         FormatUsage::NoType(name) => {
-            report_no_word(err, "type", name, FileType::near(alloc, name)?);
+            report_no_word(err, "type", name, nearest(alloc, name, &TYPES)?);
             Ok(())
         }
         FormatUsage::Memory => Err(AllocError),
@@ -263,18 +241,14 @@ fn unusable<S: AsStr, E: Sink>(
     }
 }
 
-/// Reads the words of a line. Without files it formats standard input, else each file in order; all are tried. By type `auto` a file
-/// whose name ends in `.bzl` is formatted as one, every other file and standard input as a BUILD file; by `build` and `bzl` all are
-/// formatted as such files. Mode `fix`
-/// rewrites a file that differs, where it still holds the text that was formatted, and writes the formatted text of
-/// standard input to `out`; `check` writes a line there for a text that differs; `print_if_changed` writes its formatted
-/// text there. Statuses: 2 where the words are no line of the program's (nothing is then read); else 3 where a file could
-/// not be opened, read or written, memory was refused, or a formatted text would be past a limit or would not last; else 1 where a text is
-/// not accepted; else 4 where `check` found a difference; else 0. Each fault is reported by one line on `err`, whose faults are
-/// passed over, and by one more that of an unknown mode or type where one is near, that of a word that is written as an option and is
-/// none, and that of a name which no file can have; below one with a place is the line of the text with a caret; where memory is refused
-/// to the words, or to these lines on them, the line is `buildifier: Memory`. After a fault of `out` nothing more is written there; files
-/// still are.
+/// Reads the words of a line. Without files it formats standard input, else each file in order; all are tried. Mode `fix` rewrites a
+/// file that differs, where it still holds the text that was formatted, and writes the formatted text of standard input to `out`;
+/// `check` writes a line there for a text that differs; `print_if_changed` writes its formatted text there. Statuses: 2 where the words
+/// are no line of the program's (nothing is then read); else 3 where a file could not be opened, read or written, memory was refused, or
+/// a formatted text would be past a limit or would not last; else 1 where a text is not accepted; else 4 where `check` found a
+/// difference; else 0. Each fault is reported on `err`, whose faults are passed over, by one line and by what may help below it; where
+/// memory is refused to the words, or to these lines on them, the line is `buildifier: Memory`. After a fault of `out` nothing more is
+/// written there; files still are.
 pub fn buildifier<S: AsStr, R: Source, W: Sink, E: Sink, F: Files>(
     alloc: Global,
     words: &[S],
@@ -313,10 +287,10 @@ pub fn buildifier<S: AsStr, R: Source, W: Sink, E: Sink, F: Files>(
     };
     let names = line.files.as_slice();
     if names.is_empty() {
-        let effect = input_effect(alloc, line.mode, line.file_type, input, out, err);
+        let effect = input_effect(alloc, line.options, input, out, err);
         return ended(grown(BEGUN, effect));
     }
-    ended(run_files(alloc, line.mode, line.file_type, names, files, out, err))
+    ended(run_files(alloc, line.options, names, files, out, err))
 }
 
 fn ended(progress: Effect) -> Exit

@@ -1,6 +1,5 @@
 //! Facts about the definitions, for readers: the functions do nothing.
-ghost use Rattle.bz_buildifier.specs.FormatAgree.{OutcomesAgree};
-ghost use Rattle.bz_buildifier.specs.FormatExact.{CutRunsAreBegun, WholeRunsAreExact};
+ghost use Rattle.bz_buildifier.specs.Laws.{OutcomesAgree, CutRunsAreBegun, WholeRunsAreExact};
 ghost use Rattle.bz_buildifier.specs.Worked.{WorkedFormats};
 
 use bz_grammar::laws::{one_bzl_reading, one_reading};

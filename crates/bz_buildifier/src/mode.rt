@@ -1,10 +1,6 @@
 //! The modes of buildifier.
-ghost use Rattle.std.specs.Prelude.{◌≡◌, IfOk, option_map};
-ghost use Rattle.bz_streams.specs.Near.{nearest};
-ghost use Rattle.bz_buildifier.specs.Modes.{mode_called, mode_names};
-
-use bz_streams::nearest;
-use std::alloc::{AllocError, Global};
+ghost use Rattle.std.specs.Prelude.{◌≡◌};
+ghost use Rattle.bz_buildifier.specs.Modes.{mode_called};
 
 /// What buildifier does with a text that formatting changes.
 #[derive(Clone, Copy, PartialEq, Eq)]
@@ -17,6 +13,9 @@ pub(crate) enum Mode {
     PrintIfChanged,
 }
 
+/// All names of modes.
+pub(crate) const MODES: [&str; 3] = ["fix", "check", "print_if_changed"];
+
 impl Mode {
     /// The mode of this name, if it is one.
     pub(crate) fn called(name: &str) -> Option<Mode>
@@ -28,12 +27,5 @@ impl Mode {
             "print_if_changed" => Some(Mode::PrintIfChanged),
             _ => None,
         }
-    }
-
-    /// The name of the mode that is nearest to this text, where one is near. The error: memory was refused.
-    pub(crate) fn near(alloc: Global, name: &str) -> Result<Option<&'static str>, AllocError>
-        ensures { IfOk result (λ near. option_map (λ s. s.now) near ≡ nearest name.now mode_names) }
-    {
-        nearest(alloc, name, &["fix", "check", "print_if_changed"])
     }
 }

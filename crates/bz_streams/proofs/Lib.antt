@@ -3,3 +3,7 @@ pub mod Outputs
 pub mod Lines
 pub mod Least
 pub mod Excerpted
+pub mod ControlSteps
+pub mod BeginningSteps
+pub mod PieceSteps
+pub mod Escapes

@@ -5,7 +5,7 @@ use Rattle.std.specs.Io.KnownBytes.{Appends, Keeps}
 use Rattle.std.proofs.lemmas.Grind.{common_steps}
 use Rattle.std.proofs.Math.Seq.{drop-cons, take-add, take-append_seam, drop-append_seam}
 use Rattle.std.proofs.lemmas.List.{append-nil, drop-drop, take_all, take-append-le}
-use Rattle.bz_streams.specs.Faults.{Rises, AppendsSome, AppendsPart, AppendsUnlessFailed}
+use Rattle.bz_streams.specs.Faults.{Rises, AppendsSome, AppendsPart, AppendsUnlessFailed, AnswersAppends}
 
 pub record SoFar (old now : Option (List ℕ)) (bytes rest : List ℕ) : Type 0 where
   pub some : AppendsSome old now bytes
@@ -100,12 +100,33 @@ all_written old now bytes so =
 pub left-cons : {A : Type 0} (items : List A) (at : ℕ) (default : A) → at < length items → drop at items ≡ get_or items at default ∷ drop (at + 1) items
 left-cons items at default within = rw (add-one) (drop-cons items at default within)
 
--- ---- the bytes below all pieces
+-- ---- an answer that says what was written
 
-pub last_written : {T E : Type 0} (answer : Result T E) (f g : ℕ) (old new : Option (List ℕ)) (bytes : List ℕ) → OnOk answer (Appends old new bytes)
-    → OnErr answer (AppendsPart old new bytes) → (IsErr answer → Rises f g) → (IsOk answer → g ≡ f) → AppendsUnlessFailed f g old new bytes
-last_written (Ok x) f g old new bytes ok part cause steady = inl (steady refl, ok)
-last_written (Err e) f g old new bytes ok part cause steady = inr (cause refl, part)
+pub answered : {T E : Type 0} (answer : Result T E) (f g : ℕ) (old new : Option (List ℕ)) (bytes : List ℕ) → OnOk answer (Appends old new bytes)
+    → OnErr answer (AppendsPart old new bytes) → (IsErr answer → Rises f g) → (IsOk answer → g ≡ f) → AnswersAppends answer f g old new bytes
+answered (Ok x) f g old new bytes ok part cause steady = (steady refl, ok)
+answered (Err e) f g old new bytes ok part cause steady = (cause refl, part)
+
+pub told : {T E : Type 0} (answer : Result T E) (f g : ℕ) (old new : Option (List ℕ)) (bytes : List ℕ) → AnswersAppends answer f g old new bytes
+    → AppendsUnlessFailed f g old new bytes
+told (Ok x) f g old new bytes whole = inl whole
+told (Err e) f g old new bytes failed = inr failed
+
+-- a piece of what is left was written, or cut, after writes that did not fail
+pub next_written : (f m g : ℕ) (old mid new : Option (List ℕ)) (bytes left piece rest : List ℕ) → m ≡ f → SoFar old mid bytes left → left ≡ piece ++ rest
+    → (g ≡ m) × Appends mid new piece → SoFar old new bytes rest × (g ≡ f)
+next_written f m g old mid new bytes left piece rest steady so split whole = (piece_written old mid new bytes left piece rest split so whole.1, whole.0 ∙ steady)
+
+pub next_cut : (f m g : ℕ) (old mid new : Option (List ℕ)) (bytes left piece rest : List ℕ) → m ≡ f → SoFar old mid bytes left → left ≡ piece ++ rest
+    → Rises m g × AppendsPart mid new piece → Rises f g × AppendsPart old new bytes
+next_cut f m g old mid new bytes left piece rest steady so split failed =
+    (subst (λ (n : ℕ). Rises n g) steady failed.0, piece_cut old mid new bytes left piece rest split so failed.1)
+
+pub rest_answered : {T E : Type 0} (answer : Result T E) (f m g : ℕ) (old mid new : Option (List ℕ)) (bytes left : List ℕ) → m ≡ f → SoFar old mid bytes left
+    → AnswersAppends answer m g mid new left → AnswersAppends answer f g old new bytes
+rest_answered (Ok x) f m g old mid new bytes left steady so whole =
+    (whole.0 ∙ steady, all_written old new bytes (piece_written old mid new bytes left left [] (sym (append-nil left)) so whole.1))
+rest_answered (Err e) f m g old mid new bytes left steady so failed = next_cut f m g old mid new bytes left left [] steady so (sym (append-nil left)) failed
 
 pub below_written : (f m g : ℕ) (old mid new : Option (List ℕ)) (bytes below : List ℕ) → m ≡ f → SoFar old mid bytes below
     → AppendsUnlessFailed m g mid new below → AppendsUnlessFailed f g old new bytes
@@ -113,6 +134,25 @@ below_written f m g old mid new bytes below steady so (inl whole) =
     inl (whole.0 ∙ steady, all_written old new bytes (piece_written old mid new bytes below below [] (sym (append-nil below)) so whole.1))
 below_written f m g old mid new bytes below steady so (inr failed) =
     inr (subst (λ (n : ℕ). Rises n g) steady failed.0, piece_cut old mid new bytes below below [] (sym (append-nil below)) so failed.1)
+
+-- one text after the other
+pub first_written : (old new : Option (List ℕ)) (first second : List ℕ) → Appends old new first → SoFar old new (first ++ second) second
+first_written old new first second whole = piece_written old old new (first ++ second) (first ++ second) first second refl (begins old (first ++ second)) whole
+
+pub first_cut : (f g : ℕ) (old new : Option (List ℕ)) (first second : List ℕ) → Rises f g × AppendsPart old new first → Rises f g × AppendsPart old new (first ++ second)
+first_cut f g old new first second failed = (failed.0, piece_cut old old new (first ++ second) (first ++ second) first second refl (begins old (first ++ second)) failed.1)
+
+pub both_answered : {T E : Type 0} (answer : Result T E) (f m g : ℕ) (old mid new : Option (List ℕ)) (first second : List ℕ) → (m ≡ f) × Appends old mid first
+    → AnswersAppends answer m g mid new second → AnswersAppends answer f g old new (first ++ second)
+both_answered answer f m g old mid new first second whole last =
+    rest_answered answer f m g old mid new (first ++ second) second whole.0 (first_written old mid first second whole.1) last
+
+pub both_told : (f m g : ℕ) (old mid new : Option (List ℕ)) (first second : List ℕ) → (m ≡ f) × Appends old mid first
+    → AppendsUnlessFailed m g mid new second → AppendsUnlessFailed f g old new (first ++ second)
+both_told f m g old mid new first second whole last =
+    below_written f m g old mid new (first ++ second) second whole.0 (first_written old mid first second whole.1) last
+
+-- ---- the bytes below all pieces
 
 pub nothing_below : (f g : ℕ) (old new : Option (List ℕ)) (bytes : List ℕ) → AppendsUnlessFailed f g old new (bytes ++ [])
     → AppendsUnlessFailed f g old new bytes

@@ -1,3 +1,5 @@
+pub mod Beginnings
+pub mod Controls
 pub mod Excerpts
 pub mod Exits
 pub mod Faults
@@ -5,5 +7,7 @@ pub mod Laws
 pub mod Near
 pub mod Options
 pub mod Outputs
+pub mod Pieces
 pub mod Ports
 pub mod Reported
+pub mod Worked

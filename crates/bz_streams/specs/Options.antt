@@ -4,7 +4,10 @@ use Rattle.std.specs.List.{list_any, before_first}
 use Rattle.std.specs.Option.{option_map_or}
 use Rattle.std.specs.Char.{is_ascii_alphabetic}
 use Rattle.bz_items.specs.Characters.{Bytes, equals_sign}
+use Rattle.bz_streams.specs.Controls.{escaped_text}
 use Rattle.bz_streams.specs.Near.{nearest}
+use Rattle.bz_streams.specs.declared.options.OptionHint.{OptionHint}
+use Rattle.bz_streams.specs.declared.options.OptionHint.TheVariants as h
 
 -- the options of a program: its name, the names after two dashes, and the letters after one
 pub record OptionTable : Type 0 where
@@ -47,11 +50,24 @@ strange_option names letters [] = None
 strange_option names letters (word ∷ words) =
     if bytes_eq word (codes "--") then None else (if is_no_option names letters word then Some word else strange_option names letters words)
 
--- the option that may have been meant by this word, or where those of the programs by Bazel's makers are listed
+-- the option that may have been meant
+abbrev pub meant_line : Bytes → Bytes → Bytes
+meant_line program name = program ++ (codes ": did you mean '--" ++ (name ++ codes "'?\n"))
+
+-- where the options of the programs by Bazel's makers are listed
+abbrev pub unknown_line : Bytes → Bytes → Bytes
+unknown_line program word = program
+    ++ (codes ": there is no option '" ++ (escaped_text word ++ (codes "' here: see docs/COMING.md, " ++ (program ++ codes "-tree and contrib/compat/compat.sh\n"))))
+
 abbrev pub option_line : Bytes → Bytes → Option Bytes → Bytes
-option_line program word (Some name) = program ++ codes ": did you mean '--" ++ name ++ codes "'?\n"
-option_line program word None =
-    program ++ codes ": there is no option '" ++ word ++ codes "' here: see docs/COMING.md, " ++ program ++ codes "-tree and contrib/compat/compat.sh\n"
+option_line program word (Some name) = meant_line program name
+option_line program word None = unknown_line program word
+
+-- a hint, as the program of this name prints it
+abbrev pub option_hint_text : Bytes → OptionHint → Bytes
+option_hint_text program h.Nothing = []
+option_hint_text program (h.Meant name) = meant_line program name.now
+option_hint_text program (h.Unknown word) = unknown_line program word.now
 
 -- what is printed of these words, which clap refuses: a line or nothing
 abbrev pub option_hint : OptionTable → List Bytes → Bytes

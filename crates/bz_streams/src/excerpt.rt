@@ -1,19 +1,23 @@
 //! What is printed of a text below the line on its fault. It takes no memory.
-ghost use Rattle.std.specs.Prelude.{◌≡◌, ◌≤◌, ◌+◌, ◌++◌, length, map, option_map, replicate, true};
+ghost use Rattle.std.specs.Prelude.{◌≡◌, ◌≤◌, ◌+◌, ◌++◌, length, option_map, replicate, true};
 ghost use Rattle.std.specs.List.{slice_get, slice_split};
 ghost use Rattle.arrayvec.specs.ArrayVec.{array_vec_len};
-ghost use Rattle.bz_streams.specs.Excerpts.{line_numbered, printable, is_narrow, excerpt, fault_place, fault_excerpt};
+ghost use Rattle.bz_streams.specs.Controls.{printable};
+ghost use Rattle.bz_streams.specs.Beginnings.{beginning};
+ghost use Rattle.bz_streams.specs.Excerpts.{line_numbered, is_last_line, is_narrow, excerpt, fault_place, fault_excerpt};
 ghost use Rattle.bz_items.specs.Characters.{space};
 ghost use Rattle.bz_lex.specs.Positions.{is_newline};
 
+use crate::beginning::{beginning, from_column};
+use crate::controls::next_control;
 use arrayvec::ArrayVec;
 use bz_lex::ReadFault;
 
 // The most bytes of a line that is printed.
 const WIDEST: usize = 200;
 
-// The most bytes of an excerpt: two lines of that width, two margins of four, a caret and two newlines.
-const LONGEST: usize = 411;
+// The most bytes of an excerpt: two lines of that width, two margins of four, a caret, a space, what is there and two newlines.
+const LONGEST: usize = 463;
 
 const SPACES: [u8; WIDEST] = [b' '; WIDEST];
 
@@ -41,14 +45,14 @@ fn line_numbered(text: &[u8], number: usize) -> &[u8]
     }
 }
 
-fn printable(byte: u8) -> u8
-    ensures { result ≡ printable byte }
+fn is_last_line(text: &[u8], number: usize) -> bool
+    ensures { result ≡ is_last_line text.now number }
 {
-    if byte.is_ascii_control() { b' ' } else { byte }
+    line_after(text, number).is_none()
 }
 
 fn put(text: &mut Excerpt, bytes: &[u8])
-    requires { array_vec_len text.old + length bytes.now ≤ 411 }
+    requires { array_vec_len text.old + length bytes.now ≤ 463 }
     ensures items { text.new.items ≡ text.old.items ++ bytes.now }
     ensures len { array_vec_len text.new ≡ array_vec_len text.old + length bytes.now }
 {
@@ -56,17 +60,21 @@ fn put(text: &mut Excerpt, bytes: &[u8])
 }
 
 fn put_printable(text: &mut Excerpt, line: &[u8])
-    requires { array_vec_len text.old + length line.now ≤ 411 }
-    ensures items { text.new.items ≡ text.old.items ++ map printable line.now }
-    ensures len { array_vec_len text.new ≡ array_vec_len text.old + length line.now }
+    requires { array_vec_len text.old + length line.now ≤ 463 }
+    ensures items { text.new.items ≡ text.old.items ++ printable line.now }
+    ensures len { array_vec_len text.new ≤ array_vec_len text.old + length line.now }
 {
-    for &byte in line {
-        text.push(printable(byte));
+    let mut left = line;
+    while let Some((plain, _, rest)) = next_control(left) {
+        put(text, plain);
+        text.push(b' ');
+        left = rest;
     }
+    put(text, left);
 }
 
 fn put_spaces(text: &mut Excerpt, count: usize)
-    requires room { array_vec_len text.old + count ≤ 411 }
+    requires room { array_vec_len text.old + count ≤ 463 }
     requires narrow { count ≤ 200 }
     ensures items { text.new.items ≡ text.old.items ++ replicate count space }
     ensures len { array_vec_len text.new ≡ array_vec_len text.old + count }
@@ -82,8 +90,20 @@ fn is_narrow(line: &[u8], column: usize) -> bool
     line.len() <= WIDEST && column <= WIDEST + 1
 }
 
-fn excerpt(line: &[u8], column: usize) -> Excerpt
-    ensures { result.items ≡ excerpt line.now column }
+// The words on what is at this rest of a line.
+fn put_beginning(text: &mut Excerpt, rest: &[u8], last: bool)
+    requires { array_vec_len text.old ≤ 412 }
+    ensures items { text.new.items ≡ text.old.items ++ beginning rest.now last }
+    ensures len { array_vec_len text.new ≤ array_vec_len text.old + 51 }
+{
+    let (words, shown, end) = beginning(rest, last);
+    put(text, words.as_bytes());
+    put(text, shown);
+    put(text, end.as_bytes());
+}
+
+fn excerpt(line: &[u8], column: usize, last: bool) -> Excerpt
+    ensures { result.items ≡ excerpt line.now column last }
 {
     let mut text = ArrayVec::new();
     if !is_narrow(line, column) {
@@ -93,7 +113,9 @@ fn excerpt(line: &[u8], column: usize) -> Excerpt
     put_printable(&mut text, line);
     put(&mut text, b"\n    ");
     put_spaces(&mut text, column.saturating_sub(1));
-    put(&mut text, b"^\n");
+    put(&mut text, b"^ ");
+    put_beginning(&mut text, from_column(line, column), last);
+    put(&mut text, b"\n");
     text
 }
 
@@ -115,7 +137,11 @@ pub(crate) fn fault_excerpt(text: &[u8], fault: &ReadFault) -> Excerpt
     ensures { result.items ≡ fault_excerpt text.now fault.now }
 {
     match fault_place(fault) {
-        Some((line, column)) => excerpt(line_numbered(text, line as usize), column as usize),
+        Some((line, column)) => excerpt(
+            line_numbered(text, line as usize),
+            column as usize,
+            is_last_line(text, line as usize),
+        ),
         None => ArrayVec::new(),
     }
 }

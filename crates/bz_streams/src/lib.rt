@@ -2,6 +2,8 @@
 //! the process, what clap finds among the words of a line, and how runs end.
 #![tactic(auto)]
 
+mod beginning;
+mod controls;
 mod device;
 mod excerpt;
 mod exit;
@@ -9,6 +11,7 @@ mod laws;
 mod memory;
 mod near;
 mod options;
+mod pieces;
 mod process;
 mod reported;
 mod sink;
@@ -17,14 +20,13 @@ mod words;
 
 pub use device::Device;
 pub use exit::{Cut, Exit, first_cut};
-pub use laws::{lines_are_whole, nearest_is_least};
+pub use laws::{lines_are_whole, nearest_is_least, no_controls, worked_reports};
 pub use memory::{MemorySink, MemorySource};
 pub use near::nearest;
-pub use options::option_hint;
+pub use options::{OptionHint, option_hint};
+pub use pieces::{LinePiece, report_pieces};
 pub use process::process_words;
-pub use reported::{
-    STDIN, report, report_clap, report_clap_hinted, report_fault, report_fault_in, report_named,
-};
+pub use reported::{STDIN, report_clap_hinted, report_fault, report_fault_in, report_named};
 pub use sink::{Sink, write_whole};
 pub use source::{InputFault, MOST, PortFault, Source, read_most};
 pub use words::{argument_text, argument_texts};

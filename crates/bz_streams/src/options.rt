@@ -1,11 +1,25 @@
 //! What is printed below clap's text of a word that is written as an option and is none.
-ghost use Rattle.std.specs.Prelude.{◌≡◌, ◌==◌, IfOk, codes, map, option_map, string_bytes};
-ghost use Rattle.std.specs.List.{list_any};
-ghost use Rattle.bz_streams.specs.Options.{has_front, after_dashes, option_name, is_among, is_no_option, strange_option, option_line, option_hint};
+ghost use Rattle.std.specs.Prelude.{◌≡◌, ◌++◌, IfOk, codes, map, option_map};
+ghost use Rattle.bz_streams.specs.Options.{has_front, after_dashes, option_name, is_among, is_no_option, strange_option, option_hint, option_hint_text};
+ghost use Rattle.bz_streams.specs.Faults.{AppendsUnlessFailed};
+ghost use Rattle.bz_items.specs.Characters.{Bytes};
 
-use crate::nearest;
+use crate::beginning::is_one_of;
+use crate::pieces::write_part;
+use crate::{LinePiece, Sink, nearest, report_pieces};
 use std::alloc::{AllocError, Global};
 use std::convert::AsStr;
+
+/// What helps with words that clap refuses.
+#[derive(Clone, Copy)]
+pub enum OptionHint<'a> {
+    /// No word is written as an option and is none.
+    Nothing,
+    /// The option of this name may have been meant.
+    Meant(&'a str),
+    /// This word is written as an option and is none, nor near one.
+    Unknown(&'a str),
+}
 
 fn has_two_dashes(word: &str) -> bool
     ensures { result ≡ has_front (codes "--") word.now }
@@ -44,12 +58,6 @@ fn is_among(table: &[&str], word: &str) -> bool
     false
 }
 
-fn has_letter(letters: &[u8], letter: u8) -> bool
-    ensures { result ≡ list_any (λ other. other == letter) letters.now }
-{
-    letters.contains(&letter)
-}
-
 // Whether a word is written as an option, and is none with these names and letters.
 fn is_no_option(names: &[&str], letters: &[u8], word: &str) -> bool
     ensures { result ≡ is_no_option (map (λ s. s.now) names.now) letters.now word.now }
@@ -64,7 +72,7 @@ fn is_no_option(names: &[&str], letters: &[u8], word: &str) -> bool
     if has_two_dashes(word) {
         !is_among(names, option_name(text))
     } else {
-        !has_letter(letters, first)
+        !is_one_of(letters, first)
     }
 }
 
@@ -84,51 +92,71 @@ fn strange_option<'a, S: AsStr>(names: &[&str], letters: &[u8], words: &'a [S]) 
     None
 }
 
-// The option of this name that may have been meant by this word, or where those of the programs by Bazel's makers are listed.
-fn option_line(
-    alloc: Global,
-    program: &str,
-    word: &str,
-    near: Option<&str>,
-) -> Result<String, AllocError>
-    ensures { IfOk result (λ line. string_bytes line ≡ option_line program.now word.now (option_map (λ s. s.now) near.entry)) }
+fn report_hint<'a, E: Sink>(err: &mut E, program: &'a str, hint: OptionHint<'a>)
+    ensures { AppendsUnlessFailed (E.faults err.old) (E.faults err.new) (E.contents err.old) (E.contents err.new) (option_hint_text program.entry.now hint.entry) }
 {
-    let mut line = String::from_str(alloc, program)?;
-    match near {
-        Some(name) => {
-            line.push_str(": did you mean '--")?;
-            line.push_str(name)?;
-            line.push_str("'?\n")?;
-        }
-        None => {
-            line.push_str(": there is no option '")?;
-            line.push_str(word)?;
-            line.push_str("' here: see docs/COMING.md, ")?;
-            line.push_str(program)?;
-            line.push_str("-tree and contrib/compat/compat.sh\n")?;
-        }
+    let program = LinePiece::Own(program);
+    match hint {
+        OptionHint::Nothing => report_pieces(err, &[]),
+        OptionHint::Meant(name) => report_pieces(
+            err,
+            &[
+                program,
+                LinePiece::Own(": did you mean '--"),
+                LinePiece::Own(name),
+                LinePiece::Own("'?\n"),
+            ],
+        ),
+        OptionHint::Unknown(word) => report_pieces(
+            err,
+            &[
+                program,
+                LinePiece::Own(": there is no option '"),
+                LinePiece::Outside(word),
+                LinePiece::Own("' here: see docs/COMING.md, "),
+                program,
+                LinePiece::Own("-tree and contrib/compat/compat.sh\n"),
+            ],
+        ),
     }
-    Ok(line)
 }
 
-/// What is printed below clap's text of words that it refuses, where a word before `--` is written as an option and is none of the
-/// program of this name, whose options have these names after two dashes and these letters after one: the option that is nearest to
+/// Writes these bytes, and below them a hint, up to the first fault.
+#[tactic(auto, using(crate::proofs::Written::first_cut, crate::proofs::Written::both_told))]
+pub(crate) fn report_above_hint<'a, E: Sink>(
+    err: &mut E,
+    above: &[u8],
+    program: &'a str,
+    hint: OptionHint<'a>,
+)
+    ensures { AppendsUnlessFailed (E.faults err.old) (E.faults err.new) (E.contents err.old) (E.contents err.new)
+        (above.now ++ option_hint_text program.entry.now hint.entry) }
+{
+    match write_part(err, above) {
+        Ok(()) => {}
+        Err(_) => return,
+    }
+    report_hint(err, program, hint);
+}
+
+/// What is printed below clap's text of words that it refuses, where a word before `--` is written as an option and is none of a
+/// program whose options have these names after two dashes and these letters after one: the option that is nearest to
 /// the first such word, or else where those of other programs are listed. Nothing where there is no such word. The error: memory was
 /// refused.
-pub fn option_hint<S: AsStr>(
+pub fn option_hint<'a, S: AsStr>(
     alloc: Global,
-    program: &str,
-    names: &[&str],
+    names: &[&'a str],
     letters: &[u8],
-    words: &[S],
-) -> Result<String, AllocError>
-    ensures { IfOk result (λ hint. string_bytes hint
-        ≡ option_hint (record { program = program.now; names = map (λ s. s.now) names.now; letters = letters.now }) (map S.text words.now)) }
+    words: &'a [S],
+) -> Result<OptionHint<'a>, AllocError>
+    ensures { IfOk result (λ hint. (program : Bytes) → option_hint_text program hint
+        ≡ option_hint (record { program = program; names = map (λ s. s.now) names.now; letters = letters.now }) (map S.text words.entry.now)) }
 {
     let Some(word) = strange_option(names, letters, words) else {
-        return Ok(String::new(alloc));
+        return Ok(OptionHint::Nothing);
     };
-    let near = nearest(alloc, option_name(after_dashes(word)), names)?;
-    let line = option_line(alloc, program, word, near)?;
-    Ok(line)
+    match nearest(alloc, option_name(after_dashes(word)), names)? {
+        Some(name) => Ok(OptionHint::Meant(name)),
+        None => Ok(OptionHint::Unknown(word)),
+    }
 }

@@ -1,12 +1,14 @@
 //! The lines on standard error that speak of files. Its faults are passed over.
-ghost use Rattle.std.specs.Prelude.{◌≡◌, ◌++◌, List, ℕ, OnOk, OnErr, map};
-ghost use Rattle.std.specs.List.{concat};
+ghost use Rattle.std.specs.Prelude.{◌≡◌, ◌++◌, List, ℕ, OnOk, OnErr};
 ghost use Rattle.bz_streams.specs.Faults.{AppendsUnlessFailed};
 ghost use Rattle.bz_streams.specs.Excerpts.{fault_excerpt};
-ghost use Rattle.bz_streams.specs.Reported.{place_line, named_line, fault_line};
+ghost use Rattle.bz_streams.specs.Options.{option_hint_text};
+ghost use Rattle.bz_streams.specs.Reported.{spot_line, place_line, byte_line, named_line, fault_line};
 
 use crate::excerpt::fault_excerpt;
-use crate::{Sink, write_whole};
+use crate::options::report_above_hint;
+use crate::pieces::report_above;
+use crate::{LinePiece, OptionHint, Sink};
 use bz_lex::ReadFault;
 use itoa::Buffer;
 use std::alloc::{AllocError, Global};
@@ -14,36 +16,24 @@ use std::alloc::{AllocError, Global};
 /// The name by which standard input is reported.
 pub const STDIN: &str = "<stdin>";
 
-// Writes the last bytes of a report. A fault is passed over.
-fn write_last<E: Sink>(err: &mut E, bytes: &[u8])
-    ensures { AppendsUnlessFailed (E.faults err.old) (E.faults err.new) (E.contents err.old) (E.contents err.new)
-        bytes.now }
-{
-    let _ = write_whole(err, bytes);
-}
+const END: LinePiece<'static> = LinePiece::Own("\n");
 
-// Writes these pieces, and below them these bytes, up to the first fault.
-fn report_pieces<E: Sink>(err: &mut E, pieces: &[&str], below: &[u8])
+fn report_spot<'a, E: Sink>(
+    err: &mut E,
+    file: &'a str,
+    line: &'a str,
+    column: &'a str,
+    name: &'a str,
+    below: &[u8],
+)
     ensures { AppendsUnlessFailed (E.faults err.old) (E.faults err.new) (E.contents err.old) (E.contents err.new)
-        (concat (map (λ piece. piece.now) pieces.now) ++ below.now) }
+        (spot_line file.entry.now line.entry.now column.entry.now name.entry.now ++ below.now) }
 {
-    for &piece in pieces {
-        match write_whole(err, piece.as_bytes()) {
-            Ok(()) => {}
-            Err(_) => return,
-        }
-    }
-    write_last(err, below);
-}
-
-/// Writes these pieces to `err`, one after the other, up to its first fault: a beginning of them then is there, and
-/// what is left is dropped. It takes no memory itself.
-#[tactic(auto, using(crate::proofs::Written::nothing_below))]
-pub fn report<E: Sink>(err: &mut E, pieces: &[&str])
-    ensures { AppendsUnlessFailed (E.faults err.old) (E.faults err.new) (E.contents err.old) (E.contents err.new)
-        (concat (map (λ piece. piece.now) pieces.now)) }
-{
-    report_pieces(err, pieces, b"");
+    let (file, line) = (LinePiece::Outside(file), LinePiece::Own(line));
+    let (column, name) = (LinePiece::Own(column), LinePiece::Own(name));
+    let (colon, space) = (LinePiece::Own(":"), LinePiece::Own(": "));
+    let pieces = &[file, colon, line, colon, column, space, name, END];
+    report_above(err, pieces, below);
 }
 
 // Reports where a file is not accepted, and why.
@@ -62,11 +52,15 @@ fn report_place<'a, E: Sink>(
     let mut columns = Buffer::new();
     let line = lines.format(line);
     let column = columns.format(column);
-    report_pieces(
-        err,
-        &[file, ":", line, ":", column, ": ", name, "\n"],
-        below,
-    );
+    report_spot(err, file, line, column, name, below);
+}
+
+fn report_byte<'a, E: Sink>(err: &mut E, file: &'a str, at: &'a str, below: &[u8])
+    ensures { AppendsUnlessFailed (E.faults err.old) (E.faults err.new) (E.contents err.old) (E.contents err.new)
+        (byte_line file.entry.now at.entry.now ++ below.now) }
+{
+    let (file, is) = (LinePiece::Outside(file), LinePiece::Own(": NotUtf8 at "));
+    report_above(err, &[file, is, LinePiece::Own(at), END], below);
 }
 
 fn report_not_utf8<E: Sink>(err: &mut E, file: &str, at: usize, below: &[u8])
@@ -75,14 +69,15 @@ fn report_not_utf8<E: Sink>(err: &mut E, file: &str, at: usize, below: &[u8])
 {
     let mut places = Buffer::new();
     let at = places.format(at);
-    report_pieces(err, &[file, ": NotUtf8 at ", at, "\n"], below);
+    report_byte(err, file, at, below);
 }
 
 fn report_word<'a, E: Sink>(err: &mut E, file: &'a str, word: &'a str, below: &[u8])
     ensures { AppendsUnlessFailed (E.faults err.old) (E.faults err.new) (E.contents err.old) (E.contents err.new)
         (named_line file.entry.now word.entry.now ++ below.now) }
 {
-    report_pieces(err, &[file, ": ", word, "\n"], below);
+    let (file, space) = (LinePiece::Outside(file), LinePiece::Own(": "));
+    report_above(err, &[file, space, LinePiece::Own(word), END], below);
 }
 
 /// Reports a word on a file: writes `FILE: WORD` and a newline to `err`, up to its first fault. It takes no memory itself.
@@ -158,35 +153,20 @@ pub fn report_fault_in<E: Sink>(err: &mut E, file: &str, text: &[u8], fault: &Re
     report_fault_above(err, file, fault, below.as_slice());
 }
 
-/// Reports a fault that clap finds in words, by clap's own text, and this text below it, up to the first fault of `err`. The error:
-/// there was no memory for clap's text; nothing is then printed.
-pub fn report_clap_hinted<E: Sink>(
+/// Reports a fault that clap finds in words, by clap's own text, and this hint of the program of this name below it, up to the first
+/// fault of `err`. The error: there was no memory for clap's text; nothing is then printed.
+pub fn report_clap_hinted<'a, E: Sink>(
     alloc: Global,
     err: &mut E,
     error: &clap::Error,
-    hint: &str,
+    program: &'a str,
+    hint: OptionHint<'a>,
 ) -> Result<(), AllocError>
     ensures ok { OnOk result ((text : List ℕ) × AppendsUnlessFailed (E.faults err.old) (E.faults err.new)
-        (E.contents err.old) (E.contents err.new) (text ++ hint.now)) }
+        (E.contents err.old) (E.contents err.new) (text ++ option_hint_text program.entry.now hint.entry)) }
     ensures err { OnErr result (err.new ≡ err.old) }
 {
     let text = error.to_string(alloc)?;
-    report(err, &[text.as_str(), hint]);
-    Ok(())
-}
-
-/// Reports a fault that clap finds in words, by clap's own text, up to the first fault of `err`. The error: there was no
-/// memory for that text; nothing is then printed.
-pub fn report_clap<E: Sink>(
-    alloc: Global,
-    err: &mut E,
-    error: &clap::Error,
-) -> Result<(), AllocError>
-    ensures ok { OnOk result ((line : List ℕ) × AppendsUnlessFailed (E.faults err.old) (E.faults err.new)
-        (E.contents err.old) (E.contents err.new) line) }
-    ensures err { OnErr result (err.new ≡ err.old) }
-{
-    let line = error.to_string(alloc)?;
-    report(err, &[line.as_str()]);
+    report_above_hint(err, text.as_str().as_bytes(), program, hint);
     Ok(())
 }

@@ -11,7 +11,7 @@ use Rattle.bz_buildifier.specs.declared.format_line.FormatUsage.{FormatUsage}
 use Rattle.bz_buildifier.specs.declared.format_line.FormatUsage.TheVariants as u
 
 abbrev pub seen_line : FormatLine → m.FormatLine
-seen_line line = record { mode = line.mode; file_type = line.file_type; files = map (λ file. file.now) line.files.items }
+seen_line line = record { mode = line.options.mode; file_type = line.options.file_type; files = map (λ file. file.now) line.files.items }
 
 -- why these words are no line of buildifier's, where memory is not the cause
 abbrev pub IsUsageOf : List Bytes → FormatUsage → Type 0

@@ -1,9 +1,9 @@
 use Rattle.std.proofs.Common.{◌≡◌, ◌∙◌, refl, sym, subst, ap, List, ℕ, true, false, Err}
 use Rattle.bz_files.specs.Folder.{Folder}
-use Rattle.bz_buildifier.specs.FileKinds.{FormatsAs, is_bzl}
+use Rattle.bz_buildifier.specs.FormatRun.{FormatsAs, unread, without_memory, unformatted, kept, rewritten, Rewrites, Prints, is_rewritten, file_out, text_status}
+use Rattle.bz_buildifier.specs.Modes.{is_bzl}
 use Rattle.bz_buildifier.specs.FormatRun as r
-use Rattle.bz_buildifier.specs.FormatRun.{unread, without_memory, unformatted, kept, rewritten, Rewrites, Prints, is_rewritten, file_out, text_status}
-use Rattle.bz_buildifier.proofs.FormatSteps.{quiet, unread_quiet, refused_quiet, rewrites_quiet, formatted_file, refused_file}
+use Rattle.bz_buildifier.proofs.FormatSteps.{nothing_more, quiet, unread_quiet, refused_quiet, rewrites_quiet, formatted_file, refused_file}
 use Rattle.bz_buildifier.proofs.formatting.file_effect.Goals as goal
 
 pub returns-in-Err-clause-step : goal.returns-in-Err-clause-step
@@ -22,8 +22,8 @@ returns-in-Err-format_named-clause-step g c = λ honest.
     let fault = c.in-Err-format_named.fault in
     let text = c.read_most.new.into.items in
     let found = c.in-Ok.ensures.found honest in
-    let formats : FormatsAs (is_bzl c.args.file_type c.args.name.now) text (Err fault) = subst (λ (t : List ℕ). FormatsAs (is_bzl c.args.file_type c.args.name.now) t (Err fault)) c.deref.ensures.value c.in-Err-format_named.ensures in
-    let of_file = refused_file (is_bzl c.args.file_type name) found.0 c.new-text.result.items text fault found.2 c.new-text.ensures.items formats in
+    let formats : FormatsAs (is_bzl c.args.options.file_type c.args.name.now) text (Err fault) = subst (λ (t : List ℕ). FormatsAs (is_bzl c.args.options.file_type c.args.name.now) t (Err fault)) c.deref.ensures.value c.in-Err-format_named.ensures in
+    let of_file = refused_file (is_bzl c.args.options.file_type name) found.0 c.new-text.result.items text fault found.2 c.new-text.ensures.items formats in
     let slice = c.deref-in-Err-format_named.result.now in
     let alike : r.refused name slice fault ≡ r.refused name found.0 fault =
     ap (λ (t : List ℕ). r.refused name t fault) c.deref-in-Err-format_named.ensures.value ∙ of_file.1 name in
@@ -43,8 +43,8 @@ returns-then-is_rewritten-clause-step g c = λ honest.
     let new = c.in-Ok-format_named.new in
     let text = c.read_most.new.into.items in
     let found = c.in-Ok.ensures.found honest in
-    let file = formatted_file (is_bzl c.args.file_type name) before name found.0 c.new-text.result.items text c.deref.result.now new found.1 found.2 c.new-text.ensures.items c.deref.ensures.value c.in-Ok-format_named.ensures in
-    let differs : is_rewritten c.args.mode text new ≡ true =
+    let file = formatted_file (is_bzl c.args.options.file_type name) before name found.0 c.new-text.result.items text c.deref.result.now new found.1 found.2 c.new-text.ensures.items c.deref.ensures.value c.in-Ok-format_named.ensures in
+    let differs : is_rewritten c.args.options.mode text new ≡ true =
     rw (c.deref-2.ensures.value, c.as_slice.ensures) at (sym c.is_rewritten.ensures ∙ c.if-is_rewritten.true) in
     let step = c.rewrite.ensures.step (c.in-Ok.ensures.honest ∙ honest) in
     let rewrites : Rewrites name text new before step.0 after =
@@ -62,12 +62,12 @@ returns-then-is_rewritten-clause-step g c = λ honest.
 pub returns-in-Ok-file_out-clause-step : goal.returns-in-Ok-file_out-clause-step
 returns-in-Ok-file_out-clause-step g c = λ honest.
     let name = c.args.name.now in
-    let mode = c.args.mode in
+    let mode = c.args.options.mode in
     let before = g.F.Files.folder c.args.files.now in
     let new = c.in-Ok-format_named.new in
     let text = c.read_most.new.into.items in
     let found = c.in-Ok.ensures.found honest in
-    let file = formatted_file (is_bzl c.args.file_type name) before name found.0 c.new-text.result.items text c.deref.result.now new found.1 found.2 c.new-text.ensures.items c.deref.ensures.value c.in-Ok-format_named.ensures in
+    let file = formatted_file (is_bzl c.args.options.file_type name) before name found.0 c.new-text.result.items text c.deref.result.now new found.1 found.2 c.new-text.ensures.items c.deref.ensures.value c.in-Ok-format_named.ensures in
     let stays : is_rewritten mode text new ≡ false =
     rw (c.deref-2.ensures.value, c.as_slice.ensures) at (sym c.is_rewritten.ensures ∙ c.if-is_rewritten.false) in
     let out : c.as_slice-in-Ok-file_out.result.now ≡ file_out mode name text new =
@@ -81,11 +81,6 @@ returns-in-Ok-file_out-clause-step g c = λ honest.
     (step.0, kept text new file.0 file.1 stays prints (c.in-Ok.ensures.same honest), step.2, step.3, step.4)
 
 pub returns-clause-step : goal.returns-clause-step
-returns-clause-step g c = λ honest.
-    let effect = r.memory_effect c.args.name.now in (
-      effect,
-      without_memory refl (c.in-Ok.ensures.same honest),
-      c.fail.ensures.effect,
-      quiet c.args.closed effect (g.W.Sink.faults c.args.out.now) (g.W.Sink.contents c.args.out.now) (record { stays = refl; nothing = refl; other = λ is. cc is }),
-      c.fail.ensures.reported,
-    )
+returns-clause-step g c =
+    let e = c.fail.ensures in
+    λ honest. (r.memory_effect c.args.name.now, without_memory refl (c.in-Ok.ensures.same honest), e.effect, nothing_more c.args.closed (g.W.Sink.faults c.args.out.now) (g.W.Sink.contents c.args.out.now), e.reported)

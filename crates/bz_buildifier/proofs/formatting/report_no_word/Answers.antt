@@ -1,7 +1,7 @@
 use Rattle.bz_buildifier.proofs.formatting.report_no_word.Goals as goal
 
 pub returns-in-Some : goal.returns-in-Some
-returns-in-Some g c = rw (c.in-Some.is) c.report.ensures
+returns-in-Some g c = rw (c.in-Some.is) c.report_pieces.ensures
 
 pub returns-in-None : goal.returns-in-None
-returns-in-None g c = rw (c.in-None.is) c.report-in-None.ensures
+returns-in-None g c = rw (c.in-None.is) c.report_pieces-in-None.ensures

@@ -25,8 +25,8 @@ loop-name-init g c = record {
 
 pub loop-name-preserved : goal.loop-name-preserved
 loop-name-preserved g c =
-    let mode = c.args.mode in
-    let file_type = c.args.file_type in
+    let mode = c.args.options.mode in
+    let file_type = c.args.options.file_type in
     let names = c.args.names.now in
     let at = c.loop-name.name-index in
     let name = (get_or names at none).now in

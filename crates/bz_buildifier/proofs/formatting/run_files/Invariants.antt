@@ -10,8 +10,8 @@ use Rattle.bz_buildifier.proofs.formatting.run_files.Given as goal
 abbrev pub invariant-loop-name : goal.invariant-loop-name
 invariant-loop-name g l = record {
   runs : g.F.Files.honest l.fn.files ≡ true → (run : r.Effect) × (l.progress ≡ effect_seen run)
-      × ((after : r.Effect) (last : Folder) → r.FilesFormatted l.mode l.file_type (map (λ name. name.now) (drop l.name-index l.names)) run (g.F.Files.folder l.files) after last
-      → r.FilesFormatted l.mode l.file_type (map (λ name. name.now) l.names) r.begun (g.F.Files.folder l.fn.files) after last)
+      × ((after : r.Effect) (last : Folder) → r.FilesFormatted l.options.mode l.options.file_type (map (λ name. name.now) (drop l.name-index l.names)) run (g.F.Files.folder l.files) after last
+      → r.FilesFormatted l.options.mode l.options.file_type (map (λ name. name.now) l.names) r.begun (g.F.Files.folder l.fn.files) after last)
       × Writes run.closes (g.W.Sink.faults l.fn.out) (g.W.Sink.faults l.out) (g.W.Sink.contents l.fn.out) (g.W.Sink.contents l.out) run.out
       × Reports (g.E.Sink.faults l.fn.err) (g.E.Sink.faults l.err) (g.E.Sink.contents l.fn.err) (g.E.Sink.contents l.err) run.lines;
   status : (l.progress.cut ≡ c.Whole → ⊥) → l.progress.status ≡ 3;

@@ -1,9 +1,8 @@
 use Rattle.std.proofs.Common.{refl}
 use Rattle.bz_buildifier.specs.FormatRun.{begun}
-use Rattle.bz_buildifier.proofs.FormatCut.{cut_run}
+use Rattle.bz_buildifier.proofs.FormatWhole.{cut_run}
 use Rattle.bz_buildifier.proofs.laws.cut_runs_are_begun.Goals as goal
 
 pub returns : goal.returns
 returns c = λ mode file_type names run folder after runs cut others.
-    let found = cut_run mode file_type names begun run folder folder after runs refl refl cut (λ name aside. refl) others in
-    (found.front, found.rest, found.split, found.closed, found.exact, found.end, found.runs, found.whole, found.out)
+    cut_run mode file_type names begun run folder folder after runs refl refl cut (λ name aside. refl) others

@@ -1,11 +1,14 @@
-use Rattle.std.proofs.Common.{◌≡◌, ◌+◌, ◌++◌, map, drop}
+use Rattle.std.proofs.Common.{◌≡◌, ◌≤◌, ◌+◌, ◌++◌, length}
 use Rattle.arrayvec.specs.ArrayVec.{array_vec_len}
-use Rattle.bz_streams.specs.Excerpts.{printable}
+use Rattle.bz_streams.specs.Controls.{printable}
 use Rattle.bz_streams.proofs.excerpt.put_printable.Given as goal
 
 -- what is there and what is left are all, and there is room for what is left
-abbrev pub invariant-loop-byte : goal.invariant-loop-byte
-invariant-loop-byte l = record {
-  items : l.text.items ++ map printable (drop l.byte-index l.line) ≡ l.fn.text.items ++ map printable l.line;
-  len : array_vec_len l.text ≡ array_vec_len l.fn.text + l.byte-index;
+abbrev pub invariant-loop-plain : goal.invariant-loop-plain
+invariant-loop-plain l = record {
+  items : l.text.items ++ printable l.left ≡ l.fn.text.items ++ printable l.line;
+  len : array_vec_len l.text + length l.left ≤ array_vec_len l.fn.text + length l.line;
 }
+
+abbrev pub decreases-loop-plain : goal.decreases-loop-plain
+decreases-loop-plain l = length l.left

@@ -1,18 +1,24 @@
-use Rattle.std.proofs.Common.{◌≡◌, ◌∙◌, ap, List, [], Option, Some, map, option_map, string_bytes}
+use Rattle.std.proofs.Common.{◌≡◌, ◌∙◌, ap, ℕ, List, [], Bor, Option, Some, None, map, option_map, sym}
 use Rattle.std.specs.Option.{option_map_or}
 use Rattle.bz_items.specs.Characters.{Bytes}
 use Rattle.bz_streams.specs.Near.{nearest}
 use Rattle.bz_streams.specs.Options.{OptionTable, after_dashes, option_name, strange_option, option_line, option_hint}
 use Rattle.bz_streams.proofs.options.option_hint.Goals as goal
 
-hint_is : (options : OptionTable) (words : List Bytes) (word name line : Bytes) (near : Option Bytes) → Some word ≡ strange_option options.names options.letters words
-    → name ≡ option_name (after_dashes word) → near ≡ nearest name options.names → line ≡ option_line options.program word near → line ≡ option_hint options words
-hint_is options words word name line near found named is told =
-    told ∙ ap (option_line options.program word) (is ∙ ap (λ (it : Bytes). nearest it options.names) named)
+hint_is : (options : OptionTable) (words : List Bytes) (word name : Bytes) (near : Option Bytes) → Some word ≡ strange_option options.names options.letters words
+    → name ≡ option_name (after_dashes word) → near ≡ nearest name options.names → option_line options.program word near ≡ option_hint options words
+hint_is options words word name near found named is =
+    ap (option_line options.program word) (is ∙ ap (λ (it : Bytes). nearest it options.names) named)
     ∙ ap (λ (it : Option Bytes). option_map_or (λ one. option_line options.program one (nearest (option_name (after_dashes one)) options.names)) it []) found
 
-pub returns : goal.returns
-returns g c =
-    hint_is (record { program = c.args.program.now; names = map (λ s. s.now) c.args.names.now; letters = c.args.letters.now }) (map g.S.AsStr.text c.args.words.now)
-    c.in-Some.word.now c.option_name.result.now (string_bytes c.in_ok-line.line) (option_map (λ s. s.now) c.in_ok-near.near)
-    c.in-Some.ensures (c.option_name.ensures ∙ ap option_name c.after_dashes.ensures) c.in_ok-near.ensures c.in_ok-line.ensures
+pub returns-in-Some-2 : goal.returns-in-Some-2
+returns-in-Some-2 g c = λ program.
+    hint_is (record { program = program; names = map (λ s. s.now) c.args.names.now; letters = c.args.letters.now }) (map g.S.AsStr.text c.args.words.now)
+    c.in-Some.word.now c.option_name.result.now (Some c.in-Some-2.name.now) c.in-Some.ensures (c.option_name.ensures ∙ ap option_name c.after_dashes.ensures)
+    (ap (λ (it : Option (Bor (List ℕ))). option_map (λ s. s.now) it) (sym c.in-Some-2.is) ∙ c.in_ok-name.ensures)
+
+pub returns-in-None : goal.returns-in-None
+returns-in-None g c = λ program.
+    hint_is (record { program = program; names = map (λ s. s.now) c.args.names.now; letters = c.args.letters.now }) (map g.S.AsStr.text c.args.words.now)
+    c.in-Some.word.now c.option_name.result.now None c.in-Some.ensures (c.option_name.ensures ∙ ap option_name c.after_dashes.ensures)
+    (ap (λ (it : Option (Bor (List ℕ))). option_map (λ s. s.now) it) (sym c.in-None.is) ∙ c.in_ok-name.ensures)

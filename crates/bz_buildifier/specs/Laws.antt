@@ -1,12 +1,16 @@
--- What whole runs over files do: no failure cuts them, and names that end in `.bznew` are set aside.
-use Rattle.std.specs.Prelude.{◌≡◌, List, [], ◌∷◌, ◌++◌, if◌then◌else◌, true, Some, None, Ok, Err}
+-- Laws of runs: what whole runs over files do, which no failure cuts, and what a run up to a failure of standard output does; that what buildifier
+-- does is a function of its words, standard input and the folder. Names that end in `.bznew` are set aside.
+use Rattle.std.specs.Prelude.{◌≡◌, ◌⊎◌, List, [], ◌∷◌, ◌++◌, if◌then◌else◌, true, Some, None, Ok, Err, IfOk}
 use Rattle.std.specs.List.{All}
 use Rattle.std.specs.FinMap.{get}
 use Rattle.bz_items.specs.Characters.{Bytes}
 use Rattle.bz_files.specs.Folder.{Folder, IsAside, SameFolders, with_file}
 use Rattle.bz_build_format.specs.declared.formatter.FormatFault.{FormatFault}
-use Rattle.bz_buildifier.specs.FileKinds.{FormatsAs, is_bzl}
-use Rattle.bz_buildifier.specs.FormatRun.{Effect, FilesFormatted, begun, grown, output_effect, refused, unopened, file_out, text_status, is_rewritten}
+use Rattle.bz_lex.specs.declared.fault.ReadFault.{ReadFault}
+use Rattle.bz_streams.specs.Excerpts.{fault_excerpt}
+use Rattle.bz_streams.specs.Reported.{fault_line}
+use Rattle.bz_buildifier.specs.FormatRun.{Effect, FilesFormatted, FormatOutcome, FormatsAs, begun, grown, output_effect, refused, unopened, file_out, text_status, is_rewritten}
+use Rattle.bz_buildifier.specs.Modes.{clap_fault, format_line, is_bzl}
 use Rattle.bz_streams.specs.declared.exit.Cut.TheVariants as c
 use Rattle.bz_buildifier.specs.declared.file_type.FileType.{FileType}
 use Rattle.bz_buildifier.specs.declared.mode.Mode.{Mode}
@@ -39,3 +43,34 @@ CutRunsAreBegun = (mode : Mode) (file_type : FileType) (names : List Bytes) (run
     → run.cut ≡ c.Write → All (λ name. IsAside name → ⊥) names
     → (front rest : List Bytes) × (names ≡ front ++ rest) × (run.closes ≡ true)
     × (exact : Effect) × (last : Folder) × Exact mode file_type front begun folder exact last × (exact.cut ≡ c.Whole) × (exact.out ≡ run.out)
+
+-- ---- one meaning
+
+-- Two lines are the same, or both report a fault of the same file and text: of a text that is not accepted it is not fixed which.
+abbrev pub LinesAreAlike : Bytes → Bytes → Type 0
+LinesAreAlike line other = (other ≡ line) ⊎ ((name text : Bytes) × (fault other_fault : ReadFault) × (line ≡ fault_line name fault ++ fault_excerpt text fault)
+    × (other ≡ fault_line name other_fault ++ fault_excerpt text other_fault))
+
+-- as many lines, each like the other's
+abbrev pub SameReports : List Bytes → List Bytes → Type 0
+SameReports [] [] = Unit {0}
+SameReports [] (line ∷ lines) = ⊥
+SameReports (line ∷ lines) [] = ⊥
+SameReports (line ∷ lines) (other ∷ others) = LinesAreAlike line other × SameReports lines others
+
+-- Two runs, or parts of them, write the same, report the same, and end alike.
+pub record Agree (one other : Effect) : Type 0 where
+  pub out : other.out ≡ one.out
+  pub lines : SameReports one.lines other.lines
+  pub status : other.status ≡ one.status
+  pub cut : other.cut ≡ one.cut
+  pub closes : other.closes ≡ one.closes
+
+-- Two runs over the same words, input and folder agree, and leave the same folder, where neither is cut; the text of a fault that clap
+-- finds is set aside, and so are names that end in `.bznew`.
+abbrev pub OutcomesAgree : Type 0
+OutcomesAgree = (words : List Bytes) (input : Bytes) (folder after after' : Folder) (one other : Effect)
+    → FormatOutcome words (Some input) folder one after → FormatOutcome words (Some input) folder other after'
+    → one.cut ≡ c.Whole → other.cut ≡ c.Whole → (format_line words ≡ Err clap_fault → ⊥)
+    → IfOk (format_line words) (λ line. All (λ name. IsAside name → ⊥) line.files)
+    → Agree one other × SameFolders after after'

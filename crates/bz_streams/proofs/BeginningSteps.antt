@@ -1,0 +1,10 @@
+-- The first bytes of a text.
+use Rattle.std.proofs.Common.{◌≡◌, ◌<◌, ◌≤◌, ℕ, length, take, sym, arith}
+use Rattle.std.proofs.lemmas.List.{length-take-le, take_all}
+use Rattle.bz_items.specs.Characters.{Bytes}
+
+pub front_cut : (count : ℕ) (text : Bytes) → count < length text → length (take count text) ≡ count
+front_cut count text long = length-take-le count text (omega (arith, long))
+
+pub whole_front : (count : ℕ) (text : Bytes) → length text ≤ count → text ≡ take count text
+whole_front count text short = sym (take_all count text short)

@@ -1,0 +1,82 @@
+-- What is shown of a text whose first control character is at a place.
+use Rattle.std.proofs.Common.{◌≡◌, ◌<◌, ◌+◌, ◌-◌, ◌++◌, ◌∷◌, ◌∙◌, ℕ, [], Bool, true, false, length, get_or, take, drop, refl, sym, ap, arith, append_assoc, length-drop}
+use Rattle.std.specs.Prelude.{if◌then◌else◌}
+use Rattle.std.specs.Char.{is_ascii_control}
+use Rattle.std.proofs.Math.Seq.{take-length}
+use Rattle.std.proofs.lemmas.List.{append-nil}
+use Rattle.bz_items.specs.Characters.{Bytes}
+use Rattle.bz_streams.specs.Controls.{is_control_pair, with_controls}
+use Rattle.bz_streams.proofs.Written.{left-cons}
+
+pub where_true : {A : Type 0} (test : Bool) (x y : A) → test ≡ true → (if test then x else y) ≡ x
+where_true true x y is = refl
+where_true false x y is = absurd (cc is)
+
+pub where_false : {A : Type 0} (test : Bool) (x y : A) → test ≡ false → (if test then x else y) ≡ y
+where_false false x y is = refl
+where_false true x y is = absurd (cc is)
+
+-- a control character of ASCII comes first
+pub one_shown : (shown : ℕ → Bytes) (byte : ℕ) (rest : Bytes) → is_ascii_control byte ≡ true → with_controls shown (byte ∷ rest) ≡ shown byte ++ with_controls shown rest
+one_shown shown byte [] is = where_true (is_ascii_control byte) (shown byte) (byte ∷ []) is ∙ sym (append-nil (shown byte))
+one_shown shown byte (next ∷ rest) is =
+    where_true (is_ascii_control byte) (shown byte ++ with_controls shown (next ∷ rest))
+    (if is_control_pair byte next then shown next ++ with_controls shown rest else byte ∷ with_controls shown (next ∷ rest)) is
+
+-- one of two bytes comes first
+pub pair_shown : (shown : ℕ → Bytes) (byte next : ℕ) (rest : Bytes) → is_ascii_control byte ≡ false → is_control_pair byte next ≡ true
+    → with_controls shown (byte ∷ next ∷ rest) ≡ shown next ++ with_controls shown rest
+pair_shown shown byte next rest plain is =
+    where_false (is_ascii_control byte) (shown byte ++ with_controls shown (next ∷ rest))
+    (if is_control_pair byte next then shown next ++ with_controls shown rest else byte ∷ with_controls shown (next ∷ rest)) plain
+    ∙ where_true (is_control_pair byte next) (shown next ++ with_controls shown rest) (byte ∷ with_controls shown (next ∷ rest)) is
+
+-- none comes first
+pub none_shown : (shown : ℕ → Bytes) (byte : ℕ) (rest : Bytes) → is_ascii_control byte ≡ false
+    → ((next : ℕ) (back : Bytes) → rest ≡ next ∷ back → is_control_pair byte next ≡ false)
+    → with_controls shown (byte ∷ rest) ≡ byte ∷ with_controls shown rest
+none_shown shown byte [] plain single = where_false (is_ascii_control byte) (shown byte) (byte ∷ []) plain
+none_shown shown byte (next ∷ rest) plain single =
+    where_false (is_ascii_control byte) (shown byte ++ with_controls shown (next ∷ rest))
+    (if is_control_pair byte next then shown next ++ with_controls shown rest else byte ∷ with_controls shown (next ∷ rest)) plain
+    ∙ where_false (is_control_pair byte next) (shown next ++ with_controls shown rest) (byte ∷ with_controls shown (next ∷ rest)) (single next rest refl)
+
+-- ---- the cut at a place before which none begins
+
+whole_rest : (text : Bytes) (at : ℕ) → take (length text - at) (drop at text) ≡ drop at text
+whole_rest text at = rw (← length-drop at text) (take-length (drop at text))
+
+pub one_cut : (shown : ℕ → Bytes) (text : Bytes) (at : ℕ) → with_controls shown text ≡ take at text ++ with_controls shown (drop at text) → at < length text
+    → is_ascii_control (get_or text at 0) ≡ true
+    → with_controls shown text
+    ≡ take at text ++ (shown (get_or text at 0) ++ with_controls shown (take (length text - (at + 1)) (drop (at + 1) text)))
+one_cut shown text at so_far within is =
+    so_far ∙ ap (λ (left : Bytes). take at text ++ left) (ap (with_controls shown) (left-cons text at 0 within)
+    ∙ one_shown shown (get_or text at 0) (drop (at + 1) text) is
+    ∙ ap (λ (rest : Bytes). shown (get_or text at 0) ++ with_controls shown rest) (sym (whole_rest text (at + 1))))
+
+two_left : (text : Bytes) (at : ℕ) → at + 1 < length text → drop at text ≡ get_or text at 0 ∷ get_or text (at + 1) 0 ∷ drop (at + 2) text
+two_left text at within =
+    let after : at + 1 + 1 ≡ at + 2 = omega arith in
+    left-cons text at 0 (omega (arith, within))
+    ∙ ap (λ (rest : Bytes). get_or text at 0 ∷ rest) (left-cons text (at + 1) 0 within ∙ ap (λ (n : ℕ). get_or text (at + 1) 0 ∷ drop n text) after)
+
+pub pair_cut : (shown : ℕ → Bytes) (text : Bytes) (at : ℕ) → with_controls shown text ≡ take at text ++ with_controls shown (drop at text) → at + 1 < length text
+    → is_ascii_control (get_or text at 0) ≡ false → is_control_pair (get_or text at 0) (get_or text (at + 1) 0) ≡ true
+    → with_controls shown text
+    ≡ take at text ++ (shown (get_or text (at + 1) 0) ++ with_controls shown (take (length text - (at + 2)) (drop (at + 2) text)))
+pair_cut shown text at so_far within plain is =
+    so_far ∙ ap (λ (left : Bytes). take at text ++ left) (ap (with_controls shown) (two_left text at within)
+    ∙ pair_shown shown (get_or text at 0) (get_or text (at + 1) 0) (drop (at + 2) text) plain is
+    ∙ ap (λ (rest : Bytes). shown (get_or text (at + 1) 0) ++ with_controls shown rest) (sym (whole_rest text (at + 2))))
+
+-- ---- what is shown so far
+
+-- a plain text and then a control character are shown, in front of what is shown of the rest
+pub shown_next : (plain escape shown left rest : Bytes) → left ≡ plain ++ (shown ++ rest) → escape ≡ shown → left ≡ (plain ++ escape) ++ rest
+shown_next plain escape shown left rest cut is =
+    cut ∙ sym (append_assoc plain shown rest) ∙ ap (λ (it : Bytes). (plain ++ it) ++ rest) (sym is)
+
+pub put_next : (made plain shown left rest all : Bytes) → made ++ left ≡ all → left ≡ plain ++ (shown ++ rest) → ((made ++ plain) ++ shown) ++ rest ≡ all
+put_next made plain shown left rest all so_far cut =
+    append_assoc (made ++ plain) shown rest ∙ append_assoc made plain (shown ++ rest) ∙ ap (λ (it : Bytes). made ++ it) (sym cut) ∙ so_far

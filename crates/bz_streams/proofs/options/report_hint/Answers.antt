@@ -1,0 +1,11 @@
+use Rattle.std.proofs.Common.{sym, subst}
+use Rattle.bz_streams.specs.declared.options.OptionHint.{OptionHint}
+use Rattle.bz_streams.specs.Faults.{AppendsUnlessFailed}
+use Rattle.bz_streams.specs.Options.{option_hint_text}
+use Rattle.bz_streams.proofs.options.report_hint.Goals as goal
+
+pub returns-in-Meant : goal.returns-in-Meant
+returns-in-Meant g c =
+    let new = c.report_pieces-in-Meant.new.err in
+    subst (λ (hint : OptionHint). AppendsUnlessFailed (g.E.Sink.faults c.args.err.now) (g.E.Sink.faults new) (g.E.Sink.contents c.args.err.now)
+    (g.E.Sink.contents new) (option_hint_text c.args.program.now hint)) (sym c.in-Meant.is) c.report_pieces-in-Meant.ensures
