@@ -1,5 +1,5 @@
 pub mod Counts
-pub mod Hinted
 pub mod InTurn
+pub mod Lines
 pub mod PathTexts
 pub mod Texts

@@ -5,6 +5,7 @@ pub mod Line
 pub mod Operands
 pub mod Paths
 pub mod Refused
+pub mod Reported
 pub mod Script
 pub mod Shown
 pub mod Verbs

@@ -1,9 +1,8 @@
 -- What was read, as contracts see it.
-use Rattle.std.specs.Prelude.{map, option_map, ◌++◌, Option, Some, None}
-use Rattle.bz_items.specs.Characters.{Bytes}
+use Rattle.std.specs.Prelude.{map, option_map, Option, Some, None}
 use Rattle.bz_command_line.specs.Requested as a
 use Rattle.bz_command_line.specs.Line as l
-use Rattle.bz_command_line.specs.declared.{requested.Requested.Requested, requested.Request.Request, verb.Refused.Refused, requested.UsageFault.UsageFault, script.ScriptFault.ScriptFault, verb.Hint.Hint, line.Given.Given, line.CommandLine.CommandLine, line.LineFault.LineFault}
+use Rattle.bz_command_line.specs.declared.{requested.Requested.Requested, requested.Request.Request, verb.Refused.Refused, requested.UsageFault.UsageFault, script.ScriptFault.ScriptFault, line.Given.Given, line.CommandLine.CommandLine, line.LineFault.LineFault}
 use Rattle.bz_command_line.specs.declared.requested.UsageFault.TheVariants as u
 use Rattle.bz_command_line.specs.declared.script.ScriptFault.TheVariants as s
 use Rattle.bz_command_line.specs.declared.line.Given.TheVariants as g
@@ -45,7 +44,3 @@ script_usage_in (s.Line number fault) = option_map (a.in_line number) (usage_in 
 script_usage_in s.NoLine = Some a.no_line
 script_usage_in (s.Nul number) = Some (a.nul number)
 script_usage_in s.Memory = None
-
--- the line that the pieces of a hint give, or nothing
-abbrev pub hint_text : Hint → Bytes
-hint_text hint = hint.front.now ++ hint.word.now ++ hint.back.now

@@ -10,6 +10,7 @@ use Rattle.bz_command_line.specs.Requested.{Requested, Request, Usage, of_operan
 use Rattle.bz_command_line.specs.App.{line_hint}
 use Rattle.bz_command_line.specs.Hints.{hint_for}
 use Rattle.bz_command_line.specs.Line.{operands, script, of_clap, beside_script, beside_stdout, command_line_of}
+use Rattle.bz_command_line.specs.Reported.{operand_line}
 use Rattle.bz_command_line.specs.Script.{byte_order_mark, script_of}
 use Rattle.bz_command_line.specs.declared.{verb.OperandFault.OperandFault, verb.Verb.Verb}
 use Rattle.bz_command_line.specs.declared.verb.OperandFault.TheVariants.{BadTarget, Command}
@@ -87,5 +88,9 @@ Strange = (line_hint (codes "-kf" ∷ codes "--quiet" ∷ codes "-r" ∷ [])
     ≡ codes "buildozer: there is no option '-r' here: see docs/COMING.md, buildozer-tree and contrib/compat/compat.sh\n")
     × (line_hint (codes "delete" ∷ codes "-:x" ∷ codes "--" ∷ codes "-r" ∷ []) ≡ [])
 
+-- an escape sequence and a line feed in an operand
+abbrev Escaped : Type 0
+Escaped = operand_line (record { operand = codes "//a" ++ 27 ∷ codes "[31m\n/:x"; fault = BadTarget }) ≡ codes "buildozer: //a\\x1b[31m\\n/:x: BadTarget (12)\n"
+
 abbrev pub WorkedCommandLines : Type 0
-WorkedCommandLines = Words × Groups × Lines × Faults × Forms × Meant × Strange
+WorkedCommandLines = Words × Groups × Lines × Faults × Forms × Meant × Strange × Escaped

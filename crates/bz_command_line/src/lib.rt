@@ -2,13 +2,13 @@
 #![tactic(auto)]
 
 mod line;
+mod reported;
 mod requested;
 mod script;
 mod verb;
 
-pub use line::{
-    CommandLine, Given, LineFault, Options, line_hint, read_line, worked_command_lines,
-};
+pub use line::{CommandLine, Given, LineFault, Options, read_line, worked_command_lines};
+pub use reported::{report_line_usage, report_script, report_usage};
 pub use requested::{Request, Requested, UsageFault, read_group};
 pub use script::{ScriptFault, read_script};
-pub use verb::{Hint, OperandFault, Refused, Verb, hint_for};
+pub use verb::{OperandFault, Refused, Verb};

@@ -1,12 +1,13 @@
 //! The words of a command line: options, and where commands and targets are.
-ghost use Rattle.std.specs.Prelude.{◌≡◌, [], false, Ok, Err, IfOk, IfErr, IfSome, map, string_bytes};
+ghost use Rattle.std.specs.Prelude.{◌≡◌, [], false, Ok, Err, IfOk, IfErr, IfSome, map, codes};
 ghost use Rattle.clap.specs.Words.{app_of, rule_of, found_of, fault_of, matches_of, rows_of};
+ghost use Rattle.bz_streams.specs.Options.{option_hint_text};
 ghost use Rattle.bz_command_line.specs.App.{buildozer_app, lines_app, flag_rule, keep_going_rule, script_rule, operand_rule, line_hint};
 ghost use Rattle.bz_command_line.specs.Line.{is_flag_set, options_of, given_of, command_line_of};
 ghost use Rattle.bz_command_line.specs.Shown.{given_in, line_in, line_usage_in};
 ghost use Rattle.bz_command_line.specs.Worked.{WorkedCommandLines};
 
-use bz_streams::{VERSION, argument_text, argument_texts, option_hint};
+use bz_streams::{OptionHint, VERSION, argument_text, argument_texts, option_hint};
 use clap::error::ErrorKind;
 use clap::{Arg, ArgAction, ArgMatches, Command};
 use std::alloc::{AllocError, Global};
@@ -209,12 +210,14 @@ pub fn read_line<'a, S: AsStr>(alloc: Global, words: &'a [S]) -> Result<CommandL
 
 /// What is printed below clap's text of words that it refuses: a line on the first word before `--` that is written as an option and is
 /// none, or nothing. The error: memory was refused.
-pub fn line_hint<S: AsStr>(alloc: Global, words: &[S]) -> Result<String, AllocError>
-    ensures { IfOk result (λ hint. string_bytes hint ≡ line_hint (map S.text words.now)) }
+pub(crate) fn line_hint<'a, S: AsStr>(
+    alloc: Global,
+    words: &'a [S],
+) -> Result<OptionHint<'a>, AllocError>
+    ensures { IfOk result (λ hint. option_hint_text (codes "buildozer") hint ≡ line_hint (map S.text words.entry.now)) }
 {
     let names = &["stdout", "quiet", "journal", "help", "version"];
-    let hint = option_hint(alloc, "buildozer", names, b"kfhV", words)?;
-    Ok(hint)
+    Ok(option_hint(alloc, names, b"kfhV", words)?)
 }
 
 /// A fact about the definitions, for readers: what lines of words and files of lines say, worked out by hand. It does nothing.

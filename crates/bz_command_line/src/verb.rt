@@ -1,5 +1,5 @@
 //! What a command's text requests, and what is printed after the line of an operand that is refused.
-ghost use Rattle.std.specs.Prelude.{◌≡◌, ◌⊎◌, ◌++◌, ◌||◌, codes, Ok, Err, IfOk, IfErr, map, option_map};
+ghost use Rattle.std.specs.Prelude.{◌≡◌, ◌⊎◌, ◌++◌, ◌||◌, codes, Ok, Err, IfOk, IfErr, map, option_map, string_bytes};
 ghost use Rattle.bz_label.specs.Pieces.{has_slash, has_colon};
 ghost use Rattle.bz_command_syntax.specs.Commands.{row_named};
 ghost use Rattle.bz_command_syntax.specs.Proper.{AreUtf8};
@@ -7,7 +7,7 @@ ghost use Rattle.bz_streams.specs.Near.{nearest};
 ghost use Rattle.bz_command_line.specs.Operands.{verb_of, of_command, count_of, history_verb_in, steps_of};
 ghost use Rattle.bz_command_line.specs.Hints.{verb_forms, fix_names, did_you_mean, target_hint, name_hint, is_fix, near_word, words_end, form_end, form_hint, words_hint, hint_for};
 ghost use Rattle.bz_command_line.specs.Refused.{IsPatternFault};
-ghost use Rattle.bz_command_line.specs.Shown.{refused_in, hint_text};
+ghost use Rattle.bz_command_line.specs.Shown.{refused_in};
 ghost use Rattle.bz_command_line.specs.Verbs.{prints, operand_fault_name, operand_fault_number};
 
 use bz_command_syntax::{
@@ -173,14 +173,6 @@ pub(crate) fn read_verb(alloc: Global, text: &str) -> Result<Verb, OperandFault>
     }
 }
 
-/// What is printed after the line of a refused operand, a line or two, in three pieces. All of them are empty where nothing is printed.
-#[derive(Clone, Copy)]
-pub struct Hint {
-    pub front: &'static str,
-    pub word: &'static str,
-    pub back: &'static str,
-}
-
 const HELP_HINT: &str = "buildozer: see buildozer --help, or man buildozer\n";
 
 const LENGTH_HINT: &str = "buildozer: a command has at most 65,536 bytes\n";
@@ -197,19 +189,22 @@ const FIELDS_END: &str =
 const TEXT_END: &str =
     "\nbuildozer: the text of a comment is one word, so put a backslash before each space of it\n";
 
-fn hint_of(front: &'static str, word: &'static str, back: &'static str) -> Hint
-    ensures { hint_text result ≡ front.now ++ word.now ++ back.now }
+fn joined(alloc: Global, front: &str, word: &str, back: &str) -> Result<String, AllocError>
+    ensures { IfOk result (λ text. string_bytes text ≡ front.now ++ word.now ++ back.now) }
 {
-    Hint { front, word, back }
+    let mut text = String::from_str(alloc, front)?;
+    text.push_str(word)?;
+    text.push_str(back)?;
+    Ok(text)
 }
 
-// The word that may have been meant, or where there is none this hint.
-fn did_you_mean(near: Option<&'static str>, hint: Hint) -> Hint
-    ensures { hint_text result ≡ did_you_mean (option_map (λ s. s.now) near.entry) (hint_text hint) }
+// The word that may have been meant, or where there is none these lines.
+fn did_you_mean(alloc: Global, near: Option<&str>, lines: &str) -> Result<String, AllocError>
+    ensures { IfOk result (λ hint. string_bytes hint ≡ did_you_mean (option_map (λ s. s.now) near.entry) lines.now) }
 {
     match near {
-        Some(word) => hint_of("buildozer: did you mean '", word, "'?\n"),
-        None => hint,
+        Some(word) => joined(alloc, "buildozer: did you mean '", word, "'?\n"),
+        None => joined(alloc, lines, "", ""),
     }
 }
 
@@ -220,25 +215,22 @@ fn may_be_target(name: &str) -> bool
 }
 
 // What has a slash or a colon may be meant as a target.
-fn target_hint(name: &str) -> Hint
-    ensures { hint_text result ≡ target_hint name.now }
+fn target_hint(name: &str) -> &'static str
+    ensures { result.now ≡ target_hint name.now }
 {
-    if may_be_target(name) {
-        hint_of("", "", TARGET_HINT)
-    } else {
-        hint_of("", "", "")
-    }
+    if may_be_target(name) { TARGET_HINT } else { "" }
 }
 
-fn name_hint(alloc: Global, name: &str) -> Result<Hint, AllocError>
-    ensures { IfOk result (λ hint. hint_text hint ≡ name_hint name.now) }
+fn name_hint(alloc: Global, name: &str) -> Result<String, AllocError>
+    ensures { IfOk result (λ hint. string_bytes hint ≡ name_hint name.now) }
 {
     if name == "help" {
-        return Ok(hint_of("", "", HELP_HINT));
+        return joined(alloc, HELP_HINT, "", "");
     }
     let mut names = Vec::from_slice(alloc, COMMAND_NAMES)?;
     names.extend_from_slice(&["undo", "redo", "journal"])?;
-    Ok(did_you_mean(nearest(alloc, name, &names)?, target_hint(name)))
+    let near = nearest(alloc, name, &names)?;
+    did_you_mean(alloc, near, target_hint(name))
 }
 
 fn is_fix(word: &str) -> bool
@@ -306,20 +298,27 @@ fn form_end(name: &str, words: &[Text]) -> &'static str
     }
 }
 
-fn form_hint(name: &str, words: &[Text]) -> Hint
-    ensures { hint_text result ≡ form_hint name.now words.now }
+fn form_hint(alloc: Global, name: &str, words: &[Text]) -> Result<String, AllocError>
+    ensures { IfOk result (λ hint. string_bytes hint ≡ form_hint name.now words.now) }
 {
     match forms_of(name) {
-        Some(forms) => hint_of("buildozer: the form is ", forms, form_end(name, words)),
-        None => hint_of("", "", ""),
+        Some(forms) => joined(
+            alloc,
+            "buildozer: the form is ",
+            forms,
+            form_end(name, words),
+        ),
+        None => joined(alloc, "", "", ""),
     }
 }
 
-fn words_hint(alloc: Global, name: &str, words: &[Text]) -> Result<Hint, AllocError>
+fn words_hint(alloc: Global, name: &str, words: &[Text]) -> Result<String, AllocError>
     requires { AreUtf8 words.now }
-    ensures { IfOk result (λ hint. hint_text hint ≡ words_hint name.now words.now) }
+    ensures { IfOk result (λ hint. string_bytes hint ≡ words_hint name.now words.now) }
 {
-    Ok(did_you_mean(near_word(alloc, name, words)?, form_hint(name, words)))
+    let near = near_word(alloc, name, words)?;
+    let form = form_hint(alloc, name, words)?;
+    did_you_mean(alloc, near, form.as_str())
 }
 
 /// What is printed after the line of an operand that is refused. Of a name that no command has: the command that is nearest, where
@@ -327,15 +326,15 @@ fn words_hint(alloc: Global, name: &str, words: &[Text]) -> Result<Hint, AllocEr
 /// the one of `fix` that is nearest to a word that it doesn't know, else the forms of the command, and where it has no words, that they
 /// go with it in one pair of quotation marks; of `print` the fields, and of `comment` how spaces are written in its text. Of a command
 /// that is too long: how long one may be. The error: memory was refused.
-pub fn hint_for(alloc: Global, refused: &Refused<'_>) -> Result<Hint, AllocError>
-    ensures { IfOk result (λ answered. hint_text answered ≡ hint_for (refused_in refused.now)) }
+pub(crate) fn hint_for(alloc: Global, refused: &Refused<'_>) -> Result<String, AllocError>
+    ensures { IfOk result (λ hint. string_bytes hint ≡ hint_for (refused_in refused.now)) }
 {
     let OperandFault::Command(fault) = refused.fault else {
-        return Ok(hint_of("", "", ""));
+        return Ok(String::new(alloc));
     };
     let words = read_words(alloc, refused.operand.as_bytes())?;
     let Some((name, words)) = words.split_first() else {
-        return Ok(hint_of("", "", ""));
+        return Ok(String::new(alloc));
     };
     let name = as_text(name);
     match fault {
@@ -343,7 +342,7 @@ pub fn hint_for(alloc: Global, refused: &Refused<'_>) -> Result<Hint, AllocError
         CommandFault::Arguments if refused.operand.len() <= TEXT_LIMIT => {
             Ok(words_hint(alloc, name, words)?)
         }
-        CommandFault::Arguments => Ok(hint_of("", "", LENGTH_HINT)),
-        CommandFault::BadPattern | CommandFault::Memory => Ok(hint_of("", "", "")),
+        CommandFault::Arguments => Ok(joined(alloc, LENGTH_HINT, "", "")?),
+        CommandFault::BadPattern | CommandFault::Memory => Ok(String::new(alloc)),
     }
 }
