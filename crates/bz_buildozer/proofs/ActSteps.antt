@@ -1,18 +1,16 @@
 -- What an action leaves in the files of a run.
-use Rattle.std.proofs.Common.{◌≡◌, ◌∙◌, ◌++◌, ◌||◌, inl, inr, ℕ, zero, suc, List, [], ◌∷◌, Bool, true, false, Option, Some, None, Ok, Err, refl, sym, ap, subst, true≢false}
+use Rattle.std.proofs.Common.{◌≡◌, ◌∙◌, inl, inr, ℕ, zero, suc, List, [], ◌∷◌, Bool, Option, Some, None, Ok, Err, refl, sym, ap, subst, true≢false}
 use Rattle.std.specs.Prelude.{map, slice_get, is_some, unwrap_or, IsSome}
-use Rattle.std.proofs.lemmas.List.{append-nil}
 use Rattle.bz_items.specs.Characters.{Bytes}
 use Rattle.bz_value.specs.declared.refusal.Refusal.{Refusal}
 use Rattle.bz_value.specs.declared.refusal.Refusal.TheVariants.{Memory}
 use Rattle.bz_buildozer.specs.Sessions.{Action, Reply, History, Acts, Leads}
 use Rattle.bz_streams.specs.Faults.{AppendsUnlessFailed}
 use Rattle.bz_streams.specs.Outputs.{Reports}
-use Rattle.bz_buildozer.specs.Packages.{Opened, Used, file_at, with_opened}
+use Rattle.bz_buildozer.specs.Found.{Opened, Used, file_at, with_opened}
 use Rattle.bz_buildozer.specs.private.ShownFiles.{used_in}
 use Rattle.bz_buildozer.specs.declared.used.Used as d
-use Rattle.bz_buildozer.specs.Run.{Progress, answered, reported_of}
-use Rattle.bz_buildozer.specs.Failing.{FailsAt}
+use Rattle.bz_buildozer.specs.Run.{reported_of}
 use Rattle.bz_buildozer.specs.Reported.{refusal_line}
 
 -- the file that takes the place of one that is there
@@ -62,66 +60,11 @@ put_again place [] file there = refl
 put_again zero (one ∷ more) file there = ap (λ (f : Option Opened). record one { file = f } ∷ more) (sym there)
 put_again (suc place) (one ∷ more) file there = ap (λ (rest : List Used). one ∷ rest) (put_again place more file there)
 
--- the state after a refusal
-abbrev state : List Used → Bytes → Bool → Progress
-state used printed failed = record { used = used; printed = printed; failed = failed }
-
-or_true : (b : Bool) → true ≡ (b || true)
-or_true true = refl
-or_true false = refl
-
-or_false : (b : Bool) → b ≡ (b || false)
-or_false true = refl
-or_false false = refl
-
-pub was_refused : (place : ℕ) (file : Opened) (refusal : Refusal) (history : History) (before after : Progress) (used : List Used)
-    → after ≡ record before { used = used; failed = true } → used ≡ with_opened place (Some (record file { history = history })) before.used
-    → after ≡ answered place file (Err refusal) history before
-was_refused place file refusal history before after used is put =
-    let put_in = with_opened place (Some (record file { history = history })) before.used in
-    is ∙ (ap (λ (u : List Used). state u before.printed true) put
-    ∙ (ap (λ (text : Bytes). state put_in text true) (sym (append-nil before.printed))
-    ∙ ap (state put_in (before.printed ++ [])) (or_true before.failed)))
-
-pub was_listed : (place : ℕ) (file : Opened) (before after : Progress) (text listing : Bytes) (printed : Bytes) → file_at place before.used ≡ Some file
-    → after ≡ record before { printed = printed } → printed ≡ before.printed ++ text → text ≡ listing
-    → after ≡ record { used = with_opened place (Some file) before.used; printed = before.printed ++ listing; failed = before.failed || false }
-was_listed place file before after text listing printed there is put same =
-    is ∙ (ap (λ (bytes : Bytes). record before { printed = bytes }) (put ∙ ap (λ (t : Bytes). before.printed ++ t) same)
-    ∙ (ap (λ (u : List Used). state u (before.printed ++ listing) before.failed) (sym (put_again place before.used file there))
-    ∙ ap (state (with_opened place (Some file) before.used) (before.printed ++ listing)) (or_false before.failed)))
-
 -- a refusal is reported by the name of the file
 pub reported_by : (f f' : ℕ) (old new : Option Bytes) (journals : Bool) (name other command : Bytes) (refusal : Refusal) → name ≡ other
     → AppendsUnlessFailed f f' old new (refusal_line journals name command refusal) → Reports f f' old new (reported_of journals other command (Err refusal))
 reported_by f f' old new journals name other command refusal is reported =
     (f', new, subst (λ (text : Bytes). AppendsUnlessFailed f f' old new (refusal_line journals text command refusal)) is reported, (refl, refl))
-
--- ---- a step for which memory is refused
-
-pub fails_listed : (place : ℕ) (file : Opened) (before after : Progress) (f g : ℕ) (old new : Option Bytes) (command : Bytes) (refusal : Refusal)
-    → file_at place before.used ≡ Some file → after ≡ record before { failed = true } → Reports f g old new (reported_of false file.name command (Err refusal))
-    → (lines : List Bytes) × FailsAt place before lines after × Reports f g old new lines
-fails_listed place file before after f g old new command refusal there is reported = (
-  reported_of false file.name command (Err refusal),
-  (
-    (refusal_line false file.name command refusal, refl),
-    (Some file, is ∙ ap (λ (u : List Used). record before { used = u; failed = true }) (sym (put_again place before.used file there))),
-  ),
-  reported,
-)
-
-pub fails_acted : (place : ℕ) (file : Opened) (before after : Progress) (used : List Used) (printed : Bytes) (f g : ℕ) (old new : Option Bytes) (command : Bytes)
-    (refusal : Refusal) → used ≡ with_opened place (Some file) before.used → printed ≡ before.printed → after ≡ record { used = used; printed = printed; failed = true }
-    → Reports f g old new (reported_of false file.name command (Err refusal)) → (lines : List Bytes) × FailsAt place before lines after × Reports f g old new lines
-fails_acted place file before after used printed f g old new command refusal put same is reported = (
-  reported_of false file.name command (Err refusal),
-  (
-    (refusal_line false file.name command refusal, refl),
-    (Some file, is ∙ ap (λ (text : Bytes). state used text true) same ∙ ap (λ (u : List Used). record before { used = u; failed = true }) put),
-  ),
-  reported,
-)
 
 -- ---- a package by its number
 

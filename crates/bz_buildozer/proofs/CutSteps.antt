@@ -4,7 +4,7 @@ use Rattle.bz_streams.specs.Outputs.{Counts}
 use Rattle.bz_streams.specs.declared.exit.Cut.{Cut}
 use Rattle.bz_streams.specs.declared.exit.Cut.TheVariants as c
 use Rattle.bz_streams.proofs.Outputs.{rises_more}
-use Rattle.bz_buildozer.specs.Cuts.{AreCutBy, CutsFiles}
+use Rattle.bz_buildozer.specs.Calls.{AreCutBy, CutsFiles}
 use Rattle.bz_streams.specs.Exits.{first_cut}
 
 pub cut_more : (cut later : Cut) (r s t f g h : ℕ) → AreCutBy cut r s f g → AreCutBy later s t g h → Counts r s → Counts s t → Counts f g → Counts g h
@@ -29,11 +29,6 @@ whole_after c.Memory later is = absurd (cc is)
 whole_after c.Read later is = absurd (cc is)
 whole_after c.Write later is = absurd (cc is)
 whole_after c.Files later is = absurd (cc is)
-
--- where standard output was not given all
-pub never_whole : (later : Cut) (P Q R : Type 0) → ((later ≡ c.Memory) × P) ⊎ ((later ≡ c.Write) × Q × R) → later ≡ c.Whole → ⊥
-never_whole later P Q R (inl memory) is = absurd (cc (sym memory.0 ∙ is))
-never_whole later P Q R (inr write) is = absurd (cc (sym write.0 ∙ is))
 
 pub files_cut : (cut later : Cut) (f g h : ℕ) → CutsFiles cut f g → CutsFiles later g h → Counts f g → Counts g h → CutsFiles (first_cut cut later) f h
 files_cut cut later f g h (inl whole) more counts counts' = rw (whole.0) (subst (λ (n : ℕ). CutsFiles later n h) whole.1 more)
@@ -74,3 +69,11 @@ pub by_name : (A : Type 0) (journals : Bool) (one other wanted : List ℕ) → o
     → A ⊎ ((journals ≡ false) × (one ≡ wanted))
 by_name A journals one other wanted same (inl held) = inl held
 by_name A journals one other wanted same (inr (plain, is)) = inr (plain, same ∙ is)
+
+-- The steps are cut by standard input, where the run is.
+pub read_before : (result why : Cut) (A : Type 0) → (result ≡ why) ⊎ ((why ≡ c.Whole) × ((result ≡ c.Memory) ⊎ (result ≡ c.Write) ⊎ ((result ≡ c.Files) × A)))
+    → result ≡ c.Read → why ≡ c.Read
+read_before result why A (inl same) is = sym same ∙ is
+read_before result why A (inr (whole, inl memory)) is = absurd (let e = sym memory ∙ is in cc)
+read_before result why A (inr (whole, inr (inl write))) is = absurd (let e = sym write ∙ is in cc)
+read_before result why A (inr (whole, inr (inr files))) is = absurd (let e = sym files.0 ∙ is in cc)

@@ -1,104 +1,133 @@
--- One step, in the file that was opened for it.
-use Rattle.std.proofs.Common.{◌≡◌, ◌∙◌, ◌++◌, ◌||◌, inl, ℕ, List, [], Bool, Option, Some, None, Ok, true, false, refl, sym, ap, subst, not}
-use Rattle.std.specs.Prelude.{◌==◌}
+-- What a step does in the open file of its package, without journals and with them.
+use Rattle.std.proofs.Common.{◌≡◌, ◌⊎◌, ◌∙◌, ◌++◌, ◌∷◌, ◌||◌, ◌&&◌, inl, inr, ℕ, List, [], Bool, Option, Some, None, Ok, Err, true, false, refl, sym, ap, subst, not}
+use Rattle.std.specs.Prelude.{◌==◌, if◌then◌else◌}
 use Rattle.std.proofs.lemmas.Bool.{eq-eqb}
-use Rattle.std.specs.Option.{option_map}
 use Rattle.std.proofs.lemmas.List.{append-nil}
 use Rattle.bz_items.specs.Characters.{Bytes}
 use Rattle.bz_files.specs.Folder.{Folder}
-use Rattle.bz_buildozer.specs.Packages.{Opened, Used, file_at, with_opened}
+use Rattle.bz_label.specs.declared.target.Target.{Target}
+use Rattle.bz_command_line.specs.declared.verb.Verb.{Verb}
+use Rattle.bz_streams.specs.declared.exit.Cut.{Cut}
+use Rattle.bz_streams.specs.declared.exit.Cut.TheVariants as c
+use Rattle.bz_value.specs.declared.refusal.Refusal.{Refusal}
+use Rattle.bz_buildozer.specs.Keeps.{FolderAfter, file_after, is_left_at, left_out}
+use Rattle.bz_buildozer.specs.Found.{Opened, Used, file_at, with_opened}
+use Rattle.bz_buildozer.specs.Reported.{refusal_line}
+use Rattle.bz_buildozer.specs.Run.{Answers, AnswersIn, FailsAt, IsKeptAt, LeadsBy, Progress, printed_in, reported_of, state_after}
 use Rattle.bz_buildozer.specs.Sessions.{Action, Answer, History, Leads, Reply, Printed, listing}
-use Rattle.bz_buildozer.specs.Keeping.{AnswersBeside, FolderAfter, file_after, state_after}
-use Rattle.bz_buildozer.specs.Run.{Answers, Does, LeadsBy, Progress, Uses, World, answered, reported_of}
 use Rattle.bz_buildozer.specs.Steps.{RunStep, action_of}
+use Rattle.bz_buildozer.proofs.ActSteps.{put_again}
 
-pub same_place : (found : Option Opened) (at place : ℕ) → Some at ≡ option_map (λ _. place) found → at ≡ place
-same_place None at place is = let e = is in absurd (cc)
-same_place (Some file) at place is = cc
+-- a command on a target, by its parts
+abbrev pub step_at : Target → Verb → Bytes → RunStep
+step_at target verb text = record { target = target; request = record { verb = verb; text = text } }
 
-pub no_file : (found : Option Opened) (place : ℕ) → None ≡ option_map (λ _. place) found → found ≡ None
-no_file None place is = refl
-no_file (Some file) place is = let e = is in absurd (cc)
+-- ---- files that are left alone
 
-pub done_there : (world : World) (step : RunStep) (before after : Progress) (used : List Used) (found : Option ℕ) (place at : ℕ) (name : Bytes) (opening answer : List Bytes)
-    → name ≡ step.target.«package» → Uses world name before.used place opening used → found ≡ Some at → found ≡ option_map (λ _. place) (file_at place used)
-    → Answers step at (file_at at used) (record before { used = used }) answer after → Does world step before (opening ++ answer) after
-done_there world step before after used found place at name opening answer named uses is opened answers = record {
-  place = place;
-  used = used;
-  opening = opening;
-  answer = answer;
-  uses = subst (λ (text : Bytes). Uses world text before.used place opening used) named uses;
-  answers = subst (λ (n : ℕ). Answers step n (file_at n used) (record before { used = used }) answer after)
-      (same_place (file_at place used) at place (sym is ∙ opened)) answers;
-  reported = refl;
-}
+pub free_file : (journals : Bool) (place : ℕ) (used : List Used) (file : Opened) → file_at place used ≡ Some file → journals && is_left_at place used ≡ false
+    → left_out journals (file_at place used) ≡ Some file
+free_file journals place used file there free = ap (λ (left : Bool). if left then None else file_at place used) free ∙ there
 
-pub done_nowhere : (world : World) (step : RunStep) (before : Progress) (used : List Used) (found : Option ℕ) (place : ℕ) (name : Bytes) (opening : List Bytes)
-    → name ≡ step.target.«package» → Uses world name before.used place opening used → found ≡ None → found ≡ option_map (λ _. place) (file_at place used)
-    → Does world step before opening (record before { used = used; failed = true })
-done_nowhere world step before used found place name opening named uses is opened = record {
-  place = place;
-  used = used;
-  opening = opening;
-  answer = [];
-  uses = subst (λ (text : Bytes). Uses world text before.used place opening used) named uses;
-  answers = subst (λ (file : Option Opened). Answers step place file (record before { used = used }) [] (record before { used = used; failed = true }))
-      (sym (no_file (file_at place used) place (sym is ∙ opened))) (refl, refl);
-  reported = sym (append-nil opening);
-}
+pub left_answers : (journals : Bool) (step : RunStep) (place : ℕ) (folder : Folder) (state : Progress) → journals && is_left_at place state.used ≡ true
+    → Answers c.Whole journals step (Some place) folder state [] folder (record state { failed = true })
+left_answers journals step place folder state left =
+    subst (λ (found : Option Opened). AnswersIn journals step place found folder state [] folder (record state { failed = true }))
+    (sym (ap (λ (it : Bool). if it then None else file_at place state.used) left)) (refl, refl, refl)
 
--- the texts of the file are listed
-pub listed_plain : (step : RunStep) (place : ℕ) (found : Option Opened) (file : Opened) (before after : Progress) → found ≡ Some file
-    → None ≡ action_of step.target step.request.verb → after ≡ answered place file (Ok (Printed (listing file.history))) file.history before
-    → Answers step place found before [] after
-listed_plain step place found file before after there none is =
-    subst (λ (f : Option Opened). Answers step place f before [] after) (sym there) (
-      Ok (Printed (listing file.history)),
-      file.history,
-      subst (λ (a : Option Action). LeadsBy a step.request.text file.history (Ok (Printed (listing file.history))) file.history) none (refl, refl),
-      refl,
-      is,
-    )
+-- ---- memory is refused
 
--- ---- with journals
+-- to a step that prints nothing and fails, and leaves the file so
+pub fails_at : (place : ℕ) (file : Opened) (before after : Progress) (used : List Used) (printed line : Bytes) → used ≡ with_opened place (Some file) before.used
+    → printed ≡ before.printed → after ≡ record { used = used; printed = printed; failed = true } → FailsAt place before (line ∷ []) after
+fails_at place file before after used printed line put same is = (
+  (line, refl),
+  (
+    Some file,
+    is ∙ ap (λ (text : Bytes). record { used = used; printed = text; failed = true }) same ∙ ap (λ (u : List Used). record before { used = u; failed = true }) put,
+  ),
+)
 
-pub or_false : (b : Bool) → b || false ≡ b
+pub memory_answers : (result : Cut) (journals : Bool) (step : RunStep) (place : ℕ) (folder folder' : Folder) (before after : Progress) (lines : List Bytes) → result ≡ c.Memory
+    → FailsAt place before lines after → (folder' ≡ folder) ⊎ ((journals ≡ true) × IsKeptAt place after.used folder folder')
+    → Answers result journals step (Some place) folder before lines folder' after
+memory_answers result journals step place folder folder' before after lines is fails left =
+    subst (λ (it : Cut). Answers it journals step (Some place) folder before lines folder' after) (sym is) (fails, left)
+
+-- ---- an answer
+
+or_true : (b : Bool) → true ≡ (b || true)
+or_true true = refl
+or_true false = refl
+
+or_false : (b : Bool) → b ≡ (b || false)
 or_false true = refl
 or_false false = refl
 
--- a file whose history stays is the same
-file_still : (file : Opened) (reply : Reply) → file_after (Ok reply) file.history file ≡ file
-file_still file reply =
+pub leads_by : (target : Target) (verb : Verb) (note : Bytes) (action : Action) (h after : History) (answer : Answer) → action_of target verb ≡ Some action
+    → Leads action note h answer after → LeadsBy (action_of target verb) note h answer after
+leads_by target verb note action h after answer requested leads = subst (λ (it : Option Action). LeadsBy it note h answer after) (sym requested) leads
+
+module _ (journals : Bool) (step : RunStep) (place : ℕ) (file : Opened) (history : History) (folder folder' : Folder) (before after : Progress) (used : List Used)
+    (there : left_out journals (file_at place before.used) ≡ Some file) where
+  -- what the step leads to
+  abbrev pub LeadsTo : Answer → Type 0
+  LeadsTo answer = LeadsBy (action_of step.target step.request.verb) step.request.text file.history answer history
+
+  answers_so : (answer : Answer) → LeadsTo answer → FolderAfter journals answer file history folder folder' → after ≡ state_after journals place file answer history before
+      → Answers c.Whole journals step (Some place) folder before (reported_of journals file.name step.request.text answer) folder' after
+  answers_so answer leads following is =
+      subst (λ (found : Option Opened). AnswersIn journals step place found folder before (reported_of journals file.name step.request.text answer) folder' after) (sym there)
+      (answer, history, leads, following, refl, is)
+
+  -- A reply is given, and what it prints is kept.
+  pub replied : (reply : Reply) (printed : Bytes) → LeadsTo (Ok reply) → FolderAfter journals (Ok reply) file history folder folder'
+      → used ≡ with_opened place (Some (file_after journals (Ok reply) history file)) before.used → printed ≡ before.printed ++ printed_in reply
+      → after ≡ record before { used = used; printed = printed } → Answers c.Whole journals step (Some place) folder before [] folder' after
+  replied reply printed leads following put said is =
+      let put_in = with_opened place (Some (file_after journals (Ok reply) history file)) before.used in
+      answers_so (Ok reply) leads following (
+      is
+      ∙ ap (λ (u : List Used). record before { used = u; printed = printed }) put
+      ∙ ap (λ (text : Bytes). record before { used = put_in; printed = text }) said
+      ∙ ap (λ (b : Bool). record { used = put_in; printed = before.printed ++ printed_in reply; failed = b }) (or_false before.failed)
+      )
+
+  -- It is refused, for memory or something else.
+  pub refused : (result : Cut) (refusal : Refusal) → (result ≡ c.Whole) ⊎ (result ≡ c.Memory) → (result ≡ c.Whole → LeadsTo (Err refusal)) → folder' ≡ folder
+      → used ≡ with_opened place (Some (record file { history = history })) before.used → after ≡ record before { used = used; failed = true }
+      → Answers result journals step (Some place) folder before (reported_of journals file.name step.request.text (Err refusal)) folder' after
+  refused result refusal (inl whole) leads still put is =
+      let put_in = with_opened place (Some (record file { history = history })) before.used in
+      subst (λ (it : Cut). Answers it journals step (Some place) folder before (reported_of journals file.name step.request.text (Err refusal)) folder' after) (sym whole)
+      (answers_so (Err refusal) (leads whole) still (
+      is
+      ∙ ap (λ (u : List Used). record before { used = u; failed = true }) put
+      ∙ ap (λ (text : Bytes). record { used = put_in; printed = text; failed = true }) (sym (append-nil before.printed))
+      ∙ ap (λ (b : Bool). record { used = put_in; printed = before.printed ++ []; failed = b }) (or_true before.failed)
+      ))
+  refused result refusal (inr memory) leads still put is =
+      memory_answers result journals step place folder folder' before after (reported_of journals file.name step.request.text (Err refusal)) memory
+      (fails_at place (record file { history = history }) before after used before.printed (refusal_line journals file.name step.request.text refusal) put refl is) (inl still)
+
+-- ---- the texts of a file are listed
+
+folder_still : (journals : Bool) (reply : Reply) (file : Opened) (folder : Folder) → FolderAfter journals (Ok reply) file file.history folder folder
+folder_still false reply file folder = refl
+folder_still true reply file folder = inl (refl, refl)
+
+file_still : (journals : Bool) (reply : Reply) (file : Opened) → file_after journals (Ok reply) file.history file ≡ file
+file_still false reply file = refl
+file_still true reply file =
     let same : file.history.cursor == file.history.cursor ≡ true = eq-eqb file.history.cursor file.history.cursor refl in
-    ap (λ (b : Bool). record file { written = file.written || not b }) same ∙ ap (λ (b : Bool). record file { written = b }) (or_false file.written)
+    ap (λ (b : Bool). record file { written = file.written || not b }) same ∙ ap (λ (b : Bool). record file { written = b }) (sym (or_false file.written))
 
--- the texts of the file are listed
-pub listed_beside : (step : RunStep) (place : ℕ) (found : Option Opened) (file : Opened) (folder : Folder) (before after : Progress) → found ≡ Some file
-    → None ≡ action_of step.target step.request.verb → after ≡ answered place file (Ok (Printed (listing file.history))) file.history before
-    → AnswersBeside step place found folder before [] folder after
-listed_beside step place found file folder before after there none is =
+pub listed : (journals : Bool) (step : RunStep) (place : ℕ) (file : Opened) (folder : Folder) (before after : Progress) (printed text : Bytes)
+    → file_at place before.used ≡ Some file → journals && is_left_at place before.used ≡ false → action_of step.target step.request.verb ≡ None
+    → text ≡ listing file.history → printed ≡ before.printed ++ text → after ≡ record before { printed = printed }
+    → Answers c.Whole journals step (Some place) folder before [] folder after
+listed journals step place file folder before after printed text there free none is said =
     let reply : Reply = Printed (listing file.history) in
-    subst (λ (f : Option Opened). AnswersBeside step place f folder before [] folder after) (sym there) (
-      Ok reply,
-      file.history,
-      subst (λ (a : Option Action). LeadsBy a step.request.text file.history (Ok reply) file.history) none (refl, refl),
-      inl (refl, refl),
-      refl,
-      is ∙ ap (λ (f : Opened). record { used = with_opened place (Some f) before.used; printed = before.printed ++ listing file.history; failed = before.failed || false })
-          (sym (file_still file reply)),
-    )
-
-pub acted_beside : (step : RunStep) (place : ℕ) (found : Option Opened) (file : Opened) (action : Action) (answer : Answer) (history : History) (folder folder' : Folder)
-    (before after : Progress) → found ≡ Some file → Some action ≡ action_of step.target step.request.verb
-    → Leads action step.request.text file.history answer history → FolderAfter answer file history folder folder' → after ≡ state_after place file answer history before
-    → AnswersBeside step place found folder before (reported_of true file.name step.request.text answer) folder' after
-acted_beside step place found file action answer history folder folder' before after there requested leads following is =
-    subst (λ (f : Option Opened). AnswersBeside step place f folder before (reported_of true file.name step.request.text answer) folder' after) (sym there) (
-      answer,
-      history,
-      subst (λ (a : Option Action). LeadsBy a step.request.text file.history answer history) requested leads,
-      following,
-      refl,
-      is,
-    )
+    replied journals step place file file.history folder folder before after before.used (free_file journals place before.used file there free) reply printed
+    (subst (λ (it : Option Action). LeadsBy it step.request.text file.history (Ok reply) file.history) (sym none) (refl, refl)) (folder_still journals reply file folder)
+    (sym (ap (λ (f : Opened). with_opened place (Some f) before.used) (file_still journals reply file) ∙ put_again place before.used file there))
+    (said ∙ ap (λ (t : Bytes). before.printed ++ t) is)

@@ -1,139 +1,139 @@
--- What is left after steps, and the folder after the files that are written.
-use Rattle.std.proofs.Common.{◌≡◌, ℕ, List, [], ◌∷◌, ◌++◌, cond, Option, Some, Bool, true, false, ◌||◌, refl, sym, ap, subst, ◌∙◌, inl, inr, map}
+-- What is left after whole steps, and the folder after the files that are written.
+use Rattle.std.proofs.Common.{◌≡◌, List, [], ◌∷◌, ◌++◌, cond, Option, Some, None, Bool, true, false, ◌||◌, refl, sym, ap, subst, ◌∙◌, inl, map}
+use Rattle.std.specs.Prelude.{if◌then◌else◌}
 use Rattle.std.specs.FinMap.{get, get-insert}
 use Rattle.std.specs.List.{flat_map, list_any}
 use Rattle.std.specs.Ordering.{nat_cmp, eq_by_cmp}
 use Rattle.std.specs.Cmp.Lexicographic.{slice_cmp}
 use Rattle.std.proofs.lemmas.Cmp.{nat_list_cmp_total}
+use Rattle.std.proofs.lemmas.List.{append-nil}
 use Rattle.std.proofs.lemmas.List.Folds.{list_any-append}
 use Rattle.bz_grammar.specs.Laws.{OneReading}
 use Rattle.bz_items.specs.Characters.{Bytes}
-use Rattle.bz_files.specs.Folder.{Folder, SameBut, SameFolders, with_file, new_name}
+use Rattle.bz_files.specs.Folder.{Folder, SameBut}
 use Rattle.bz_label.specs.declared.target.Target.{Target}
+use Rattle.bz_resume.specs.Pair.{journal_name}
 use Rattle.bz_command_line.specs.Requested.{Requested, Request}
 use Rattle.bz_command_line.specs.declared.line.Options.{Options}
-use Rattle.bz_buildozer.specs.Found.{PackagesFound}
-use Rattle.bz_buildozer.specs.Packages.{Used}
-use Rattle.bz_buildozer.specs.Ending.{Left, Performs, WritesFiles, Writing, texts_out, all_writings, fixed_lines, status_of}
-use Rattle.bz_buildozer.specs.Exact.{SameLeft}
-use Rattle.bz_buildozer.specs.Run.{World, Progress, Finds, Uses, Does, RunsSteps, nothing_done}
+use Rattle.bz_streams.specs.Exits.{first_cut}
+use Rattle.bz_streams.specs.declared.exit.Cut.{Cut}
+use Rattle.bz_streams.specs.declared.exit.Cut.TheVariants as c
+use Rattle.bz_buildozer.specs.Found.{Used}
+use Rattle.bz_buildozer.specs.Ending.{Ended, Performs, TriesFile, TriesFiles, WritesFile, Writing, status_of, texts_out, writing_of}
+use Rattle.bz_buildozer.specs.Exact.{IsLeftOpen, SameLeft}
+use Rattle.bz_buildozer.specs.Reported.{output_lines}
+use Rattle.bz_buildozer.specs.Run.{World, Progress, RunsSteps, nothing_done}
 use Rattle.bz_buildozer.specs.Steps.{RunStep, step_of, steps_requested, all_steps, is_of_input, names_input, shows_input}
-use Rattle.bz_buildozer.proofs.ExactLines.{same_reported}
-use Rattle.bz_buildozer.proofs.ExactSteps.{same_run}
-use Rattle.bz_buildozer.proofs.Outcomes.{apart}
+use Rattle.bz_buildozer.proofs.CutSteps.{both_whole}
+use Rattle.bz_buildozer.proofs.ExactLines.{same_lines, same_parts}
+use Rattle.bz_buildozer.proofs.ExactSteps.{AreSeen, Stays, either_not, reads_input, same_folder, same_run, stays_run}
 
--- ---- folders
+-- ---- files that are written
 
--- the same file is written in both
-same_written : (before before' mid mid' : Folder) (name bytes : Bytes) → SameFolders before before'
-    → SameBut (λ other. other ≡ new_name name) (with_file before name bytes) mid → SameBut (λ other. other ≡ new_name name) (with_file before' name bytes) mid'
-    → SameFolders mid mid'
-same_written before before' mid mid' name bytes same done done' other aside =
-    done' other (λ is. aside (name, is))
-    ∙ get-insert nat_list_cmp_total before' name bytes other
-    ∙ ap (cond (eq_by_cmp (slice_cmp nat_cmp) other name) (Some bytes)) (same other aside)
-    ∙ sym (get-insert nat_list_cmp_total before name bytes other)
-    ∙ sym (done other (λ is. aside (name, is)))
+module _ (words : List Bytes) where
+  -- the same file is written in both
+  same_written : (file : Option Writing) (before before' after after' : Folder) → SameBut (IsLeftOpen words) before before' → WritesFile file before after
+      → WritesFile file before' after' → SameBut (IsLeftOpen words) after after'
+  same_written None before before' after after' same still still' name left_open =
+      ap (λ (f : Folder). get f name) still' ∙ same name left_open ∙ sym (ap (λ (f : Folder). get f name) still)
+  same_written (Some file) before before' after after' same (held, done) (held', done') name left_open =
+      done' name (λ is. left_open (inl (file.name, is)))
+      ∙ get-insert nat_list_cmp_total before' file.name file.bytes name
+      ∙ ap (cond (eq_by_cmp (slice_cmp nat_cmp) name file.name) (Some file.bytes)) (same name left_open)
+      ∙ sym (get-insert nat_list_cmp_total before file.name file.bytes name)
+      ∙ sym (done name (λ is. left_open (inl (file.name, is))))
 
-same_writes : (files : List Writing) (before before' after after' : Folder) → SameFolders before before' → WritesFiles files before after
-    → WritesFiles files before' after' → SameFolders after after'
-same_writes [] before before' after after' same writes writes' =
-    λ other aside. ap (λ (f : Folder). get f other) writes' ∙ same other aside ∙ sym (ap (λ (f : Folder). get f other) writes)
-same_writes (file ∷ files) before before' after after' same (held, mid, done, writes) (held', mid', done', writes') =
-    same_writes files mid mid' after after' (same_written before before' mid mid' file.name file.bytes same done done') writes writes'
+  same_tried : (options : Options) (used : List Used) (before before' after after' : Folder) (lines lines' : List Bytes) → SameBut (IsLeftOpen words) before before'
+      → TriesFiles c.Whole options used before lines after → TriesFiles c.Whole options used before' lines' after' → (lines ≡ lines') × SameBut (IsLeftOpen words) after after'
+  same_tried options [] before before' after after' lines lines' same (whole, told, still) (whole', told', still') =
+      (told ∙ sym told', same_written None before before' after after' same still still')
+  same_tried options (used ∷ more) before before' after after' lines lines' same (one, later, first, rest, mid, tries, following, told, cut) (one', later', first', rest', mid', tries', following', told', cut') =
+      let whole = both_whole one later c.Whole cut refl in
+      let whole' = both_whole one' later' c.Whole cut' refl in
+      let here = subst (λ (why : Cut). TriesFile why options used before first mid) whole.0 tries in
+      let there = subst (λ (why : Cut). TriesFile why options used before' first' mid') whole'.0 tries' in
+      let rests = same_tried options more mid mid' after after' rest rest'
+      (same_written (if options.journal then None else writing_of options.to_stdout used) before before' mid mid' same here.1 there.1)
+      (subst (λ (why : Cut). TriesFiles why options more mid rest after) whole.1 following)
+      (subst (λ (why : Cut). TriesFiles why options more mid' rest' after') whole'.1 following') in
+      (told ∙ ap (λ (ls : List Bytes). ls ++ rest) (here.0 ∙ sym there.0) ∙ ap (λ (ls : List Bytes). first' ++ ls) rests.0 ∙ sym told', rests.1)
 
 -- ---- steps that don't read standard input
-
-abbrev pub reads_input : RunStep → Bool
-reads_input step = is_of_input step.target
-
-pub either_not : (a b : Bool) → a || b ≡ false → (a ≡ false) × (b ≡ false)
-either_not true b is = absurd (cc is)
-either_not false b is = (refl, is)
 
 no_commands : (target : Target) (commands : List Request) → is_of_input target ≡ false → list_any reads_input (map (step_of target) commands) ≡ false
 no_commands target [] is = refl
 no_commands target (command ∷ commands) is =
     ap (λ (b : Bool). b || list_any reads_input (map (step_of target) commands)) is ∙ no_commands target commands is
 
-no_targets : (commands : List Request) (targets : List Target) → list_any is_of_input targets ≡ false
-    → list_any reads_input (flat_map (λ target. map (step_of target) commands) targets) ≡ false
-no_targets commands [] none = refl
-no_targets commands (target ∷ targets) none =
-    let parts = either_not (is_of_input target) (list_any is_of_input targets) none in
-    list_any-append reads_input (map (step_of target) commands) (flat_map (λ target. map (step_of target) commands) targets)
-    ∙ ap (λ (b : Bool). b || list_any reads_input (flat_map (λ target. map (step_of target) commands) targets)) (no_commands target commands parts.0)
-    ∙ no_targets commands targets parts.1
+no_part : {X Y : Type 0} (p : X → Bool) (q : Y → Bool) (parts : Y → List X) → ((y : Y) → q y ≡ false → list_any p (parts y) ≡ false) → (ys : List Y) → list_any q ys ≡ false
+    → list_any p (flat_map parts ys) ≡ false
+no_part p q parts each [] none = refl
+no_part p q parts each (y ∷ ys) none =
+    let both = either_not (q y) (list_any q ys) none in
+    list_any-append p (parts y) (flat_map parts ys) ∙ ap (λ (b : Bool). b || list_any p (flat_map parts ys)) (each y both.0) ∙ no_part p q parts each ys both.1
 
 pub no_steps : (lines : List Requested) → names_input lines ≡ false → list_any reads_input (all_steps lines) ≡ false
-no_steps [] none = refl
-no_steps (line ∷ lines) none =
-    let parts = either_not (list_any is_of_input line.targets) (names_input lines) none in
-    list_any-append reads_input (steps_requested line) (all_steps lines)
-    ∙ ap (λ (b : Bool). b || list_any reads_input (all_steps lines)) (no_targets line.commands line.targets parts.0)
-    ∙ no_steps lines parts.1
-
-abbrev with_known : World → Option Bytes → World
-with_known world known = record world { known = known }
-
-found_unread : (world : World) (known : Option Bytes) (step : RunStep) (found : Option PackagesFound) → reads_input step ≡ false
-    → Finds (with_known world known) step.target.«package» found → Finds world step.target.«package» found
-found_unread world known step found not_input (inl (is, input)) = absurd (apart step.target.«package» not_input is)
-found_unread world known step found not_input (inr here) = inr here
-
-used_unread : (world : World) (known : Option Bytes) (step : RunStep) (before : List Used) (place : ℕ) (lines : List Bytes) (after : List Used)
-    → reads_input step ≡ false → Uses (with_known world known) step.target.«package» before place lines after
-    → Uses world step.target.«package» before place lines after
-used_unread world known step before place lines after not_input (inl again) = inl again
-used_unread world known step before place lines after not_input (inr (new, is, (found, file, finds, opens, same))) =
-    inr (new, is, (found, file, found_unread world known step found not_input finds, opens, same))
-
-done_unread : (world : World) (known : Option Bytes) (step : RunStep) (before : Progress) (lines : List Bytes) (after : Progress) → reads_input step ≡ false
-    → Does (with_known world known) step before lines after → Does world step before lines after
-done_unread world known step before lines after not_input does = record {
-  place = does.place;
-  used = does.used;
-  opening = does.opening;
-  answer = does.answer;
-  uses = used_unread world known step before.used does.place does.opening does.used not_input does.uses;
-  answers = does.answers;
-  reported = does.reported;
-}
-
-run_unread : (world : World) (known : Option Bytes) (keep_going : Bool) (steps : List RunStep) (before : Progress) (lines : List Bytes) (after : Progress)
-    → list_any reads_input steps ≡ false → RunsSteps (with_known world known) keep_going steps before lines after → RunsSteps world keep_going steps before lines after
-run_unread world known keep_going [] before lines after none runs = runs
-run_unread world known keep_going (step ∷ steps) before lines after none (inl over) = inl over
-run_unread world known keep_going (step ∷ steps) before lines after none (inr (on, (mid, first, rest, does, runs, reported))) =
-    let parts = either_not (reads_input step) (list_any reads_input steps) none in
-    inr (on, (mid, first, rest, done_unread world known step before first mid parts.0 does, run_unread world known keep_going steps mid rest after parts.1 runs, reported))
-
-pub performed_unread : (options : Options) (steps : List RunStep) (world : World) (known : Option Bytes) (left : Left) → list_any reads_input steps ≡ false
-    → Performs options steps (record world { known = known }) left → Performs options steps world left
-performed_unread options steps world known left none performs = record {
-  reported = performs.reported;
-  state = performs.state;
-  runs = run_unread world known options.keep_going steps nothing_done performs.reported performs.state none performs.runs;
-  output = performs.output;
-  writes = performs.writes;
-  lines = performs.lines;
-  status = performs.status;
-}
+no_steps = no_part reads_input (λ (line : Requested). list_any is_of_input line.targets) steps_requested
+    (λ line. no_part reads_input is_of_input (λ target. map (step_of target) line.commands) (λ target. no_commands target line.commands) line.targets)
 
 -- ---- what is left
 
-pub same_performed : OneReading → (words : List Bytes) (bytes : Bytes) (options : Options) (steps : List RunStep) (world : World) (left other : Left)
-    → world.known ≡ Some bytes → Performs options steps world left → Performs options steps world other → SameLeft words world left other
-same_performed one words bytes options steps world left other known performs performs' =
-    let same = same_run one words world bytes options.keep_going steps nothing_done performs.reported performs'.reported performs.state performs'.state known performs.runs performs'.runs in
-    let files = all_writings options.to_stdout performs.state.used in
-    let files_same : all_writings options.to_stdout performs'.state.used ≡ files = ap (λ (s : Progress). all_writings options.to_stdout s.used) (sym same.1) in
-    let writes : WritesFiles files world.folder other.folder = subst (λ (fs : List Writing). WritesFiles fs world.folder other.folder) files_same performs'.writes in
-    let lines : other.lines ≡ performs'.reported ++ fixed_lines options.quiet files = performs'.lines ∙ ap (λ (fs : List Writing). performs'.reported ++ fixed_lines options.quiet fs) files_same in
-    record {
-      output = performs.output ∙ ap (λ (s : Progress). s.printed ++ texts_out (shows_input steps) options.to_stdout s.used) same.1 ∙ sym performs'.output;
-      status = performs.status ∙ ap status_of same.1 ∙ sym performs'.status;
-      lines = same_reported words world left.lines other.lines performs.reported performs'.reported (fixed_lines options.quiet files) performs.lines lines same.0;
-      folder = λ name open_is. same_writes files world.folder world.folder left.folder other.folder (λ name aside. refl) performs.writes writes name
-          (λ aside. open_is (inl aside));
+-- where nothing is cut, no part is
+record IsWhole (options : Options) (steps : List RunStep) (world : World) (ended : Ended) : Type 0 where
+  pub reported : List Bytes
+  pub told : List Bytes
+  pub folder : Folder
+  pub state : Progress
+  pub runs : RunsSteps c.Whole options.journal world options.keep_going steps nothing_done reported folder state
+  pub output : ended.left.output ≡ state.printed ++ texts_out (shows_input steps) options.to_stdout state.used
+  pub tries : TriesFiles c.Whole options state.used folder told ended.left.folder
+  pub lines : ended.left.lines ≡ reported ++ told
+  pub status : ended.left.status ≡ status_of c.Whole state
+
+is_whole : (options : Options) (steps : List RunStep) (world : World) (ended : Ended) → ended.cut ≡ c.Whole → Performs options steps world ended → IsWhole options steps world ended
+is_whole options steps world ended whole performs =
+    let parts = both_whole performs.stopped (first_cut performs.written ended.printed) ended.cut performs.cut whole in
+    let more = both_whole performs.written ended.printed c.Whole (sym parts.1) refl in record {
+      reported = performs.reported;
+      told = performs.told;
+      folder = performs.folder;
+      state = performs.state;
+      runs = subst (λ (why : Cut). RunsSteps why options.journal world options.keep_going steps nothing_done performs.reported performs.folder performs.state) parts.0 performs.runs;
+      output = performs.output;
+      tries = subst (λ (why : Cut). TriesFiles why options performs.state.used performs.folder performs.told ended.left.folder) more.0 performs.tries;
+      lines = performs.lines ∙ ap (λ (why : Cut). performs.reported ++ output_lines why ++ performs.told) more.1
+          ∙ ap (λ (ls : List Bytes). ls ++ performs.told) (append-nil performs.reported);
+      status = performs.status ∙ ap (λ (why : Cut). status_of why performs.state) whole;
     }
+
+module _ (one : OneReading) (words : List Bytes) (bytes : Bytes) (options : Options) (steps : List RunStep) (world : World) (known : world.known ≡ Some bytes) where
+  start : (journals : Bool) → Stays journals world.folder [] world.folder
+  start true = (tt, λ name unlike aside. refl)
+  start false = refl
+
+  pub same_performed : (read read' : Option Bytes) (left other : Ended) → AreSeen world steps read → AreSeen world steps read'
+      → (options.journal ≡ true → (file : Bytes) → IsLeftOpen words (journal_name file)) → left.cut ≡ c.Whole → other.cut ≡ c.Whole
+      → Performs options steps (record world { known = read }) left → Performs options steps (record world { known = read' }) other
+      → SameLeft words world left.left other.left
+  same_performed read read' left other seen seen' opens whole whole' performs performs' =
+      let here = record world { known = read } in
+      let there = record world { known = read' } in
+      let w = is_whole options steps here left whole performs in
+      let w' = is_whole options steps there other whole' performs' in
+      let begun = start options.journal in
+      let same = same_run one words world bytes known options.journal options.keep_going steps here there w.folder w'.folder nothing_done w.reported w'.reported w.state w'.state
+      seen seen' begun begun w.runs w'.runs in
+      let stays = stays_run options.journal world.folder options.keep_going steps here w.folder nothing_done w.state w.reported w.runs begun in
+      let stays' = subst (λ (s : Progress). Stays options.journal world.folder s.used w'.folder) (sym same.1)
+      (stays_run options.journal world.folder options.keep_going steps there w'.folder nothing_done w'.state w'.reported w'.runs begun) in
+      let tried = same_tried words options w.state.used w.folder w'.folder left.left.folder other.left.folder w.told w'.told
+      (λ name left_open. same_folder options.journal world.folder w.state.used w.folder w'.folder stays stays' name (λ aside. left_open (inl aside))
+      (λ kept file is. left_open (subst (IsLeftOpen words) (sym is) (opens kept file))))
+      w.tries (subst (λ (s : Progress). TriesFiles c.Whole options s.used w'.folder w'.told other.left.folder) (sym same.1) w'.tries) in
+      record {
+        output = w.output ∙ ap (λ (s : Progress). s.printed ++ texts_out (shows_input steps) options.to_stdout s.used) same.1 ∙ sym w'.output;
+        status = w.status ∙ ap (status_of c.Whole) same.1 ∙ sym w'.status;
+        lines = same_parts words world left.left.lines other.left.lines w.reported w'.reported w.told w'.told w.lines w'.lines same.0
+            (same_lines words world w.told w'.told tried.0);
+        folder = tried.1;
+      }

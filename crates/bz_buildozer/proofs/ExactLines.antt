@@ -17,7 +17,7 @@ pub same_as : (words : List Bytes) (world : World) (lines others these those : L
 same_as words world lines others these those is other_is same =
     subst (λ (ls : List Bytes). SameLines words world ls others) (sym is) (subst (λ (ls : List Bytes). SameLines words world these ls) (sym other_is) same)
 
-pub same_append : (words : List Bytes) (world : World) (first others rest more : List Bytes) → SameLines words world first others
+same_append : (words : List Bytes) (world : World) (first others rest more : List Bytes) → SameLines words world first others
     → SameLines words world rest more → SameLines words world (first ++ rest) (others ++ more)
 same_append words world [] [] rest more same following = following
 same_append words world [] (other ∷ others) rest more same following = absurd same
@@ -25,9 +25,8 @@ same_append words world (line ∷ first) [] rest more same following = absurd sa
 same_append words world (line ∷ first) (other ∷ others) rest more same following =
     (same.0, same_append words world first others rest more same.1 following)
 
--- The same lines, above others that are the same ones.
-pub same_reported : (words : List Bytes) (world : World) (lines others reported reported' rest : List Bytes) → lines ≡ reported ++ rest → others ≡ reported' ++ rest
-    → SameLines words world reported reported' → SameLines words world lines others
-same_reported words world lines others reported reported' rest is other_is same =
-    same_as words world lines others (reported ++ rest) (reported' ++ rest) is other_is
-    (same_append words world reported reported' rest rest same (same_lines words world rest rest refl))
+-- The same lines, above others that are the same.
+pub same_parts : (words : List Bytes) (world : World) (lines others first first' rest rest' : List Bytes) → lines ≡ first ++ rest → others ≡ first' ++ rest'
+    → SameLines words world first first' → SameLines words world rest rest' → SameLines words world lines others
+same_parts words world lines others first first' rest rest' is other_is same following =
+    same_as words world lines others (first ++ rest) (first' ++ rest') is other_is (same_append words world first first' rest rest' same following)

@@ -1,7 +1,6 @@
 -- Words, standard input and a folder have at most one outcome.
-use Rattle.std.proofs.Common.{◌≡◌, ◌⊎◌, ◌&&◌, ℕ, List, [], ◌∷◌, length, bytes_eq, Option, Some, None, Result, Ok, Err, Bool, true, false, true≢false, inl, inr, refl, sym, ap, subst, ◌∙◌, arith}
+use Rattle.std.proofs.Common.{◌≡◌, ◌≢◌, ◌⊎◌, ◌&&◌, ℕ, List, [], ◌∷◌, length, bytes_eq, Option, Some, None, Result, Ok, Err, Bool, true, false, true≢false, inl, inr, refl, sym, ap, subst, ◌∙◌, arith}
 use Rattle.std.specs.FinMap.{get}
-use Rattle.std.specs.List.{list_any}
 use Rattle.std.specs.Str.{IsUtf8, IsValidUpTo}
 use Rattle.std.proofs.Math.Seq.{take-length}
 use Rattle.std.proofs.lemmas.Bool.{cases_lt}
@@ -10,71 +9,25 @@ use Rattle.bz_lex.specs.declared.fault.ReadFault.TheVariants.{NotUtf8}
 use Rattle.bz_grammar.specs.Laws.{OneReading}
 use Rattle.bz_items.specs.Characters.{Bytes}
 use Rattle.bz_resume.specs.Pair.{journal_name}
-use Rattle.bz_command_line.specs.Requested.{Requested, Refused, Usage, of_operand, in_line, operand_group}
+use Rattle.bz_command_line.specs.Requested.{Requested, Usage, operand_group}
 use Rattle.bz_command_line.specs.Line.{Given, operands, script, LineUsage, of_clap, beside_script, beside_stdout, CommandLine, command_line_of}
 use Rattle.bz_command_line.specs.Refused.{IsFirstFault}
 use Rattle.bz_command_line.specs.Script.{script_lines, script_of}
 use Rattle.bz_command_line.specs.declared.line.Options.{Options}
 use Rattle.bz_streams.specs.Reported.{fault_line}
-use Rattle.bz_buildozer.specs.Ending.{Left}
-use Rattle.bz_buildozer.specs.Exact.{IsLeftOpen, SameLeft, ReportsPattern, GivenReportsPattern, IsReportedPattern, OutcomesAreExact}
-use Rattle.bz_buildozer.specs.Outcome.{unused, LinesLeave, IsScript, IsText, IsTextFault, reported_name, OperandsOutcome, LinesOutcome, TextOutcome, GivenOutcome, LineOutcome}
+use Rattle.bz_streams.specs.declared.exit.Cut.TheVariants as c
+use Rattle.bz_buildozer.specs.Ending.{Ended}
+use Rattle.bz_buildozer.specs.Exact.{IsLeftOpen, SameLeft, ReportsPattern, GivenReportsPattern, OutcomesAreExact}
+use Rattle.bz_buildozer.specs.Outcome.{unused, unread, LinesEnd, IsScript, IsText, IsTextFault, reported_name, OperandsOutcome, LinesOutcome, TextOutcome, ScriptOutcome, GivenOutcome, LineOutcome, WordsOutcome}
 use Rattle.bz_buildozer.specs.Run.{World}
 use Rattle.bz_buildozer.specs.Steps.{all_steps, names_input, input_package}
-use Rattle.bz_buildozer.specs.Reported.{usage_line, IsLineUsageLine}
-use Rattle.bz_buildozer.proofs.ExactBeside.{same_kept}
-use Rattle.bz_buildozer.proofs.ExactEnding.{no_steps, performed_unread, reads_input, same_performed}
+use Rattle.bz_buildozer.specs.Reported.{usage_line}
+use Rattle.bz_buildozer.proofs.ExactEnding.{no_steps, same_performed}
 use Rattle.bz_buildozer.proofs.ExactFaults.{group_fault, script_fault}
-use Rattle.bz_buildozer.proofs.ExactLines.{same_lines, same_as}
-use Rattle.bz_buildozer.proofs.ExactSteps.{one_input}
+use Rattle.bz_buildozer.proofs.ExactLines.{same_lines}
+use Rattle.bz_buildozer.proofs.ExactSteps.{AreSeen, one_input}
 
--- ---- what is left where nothing is done
-
-same_left : (words : List Bytes) (world : World) (left other : Left) → left ≡ other → SameLeft words world left other
-same_left words world left other is = record {
-  output = ap (λ (l : Left). l.output) is;
-  status = ap (λ (l : Left). l.status) is;
-  lines = same_lines words world left.lines other.lines (ap (λ (l : Left). l.lines) is);
-  folder = λ name open_is. ap (λ (l : Left). get l.folder name) (sym is);
-}
-
--- one line is printed
-abbrev Refuses : Bytes → Usage → World → Left → Type 0
-Refuses file usage world left = left ≡ unused world.folder (usage_line file usage)
-
--- ---- by what is requested
-
--- A usage is reported, or what is requested is done.
-abbrev Decided : {A : Type 0} → Bytes → (A → World → Left → Type 0) → Result A Usage → World → Left → Type 0
-Decided file Done (Ok requested) world left = Done requested world left
-Decided file Done (Err usage) world left = Refuses file usage world left
-
-abbrev IsOne : {A : Type 0} → List Bytes → World → (A → World → Left → Type 0) → Type 0
-IsOne {A} words world Done = (requested : A) (left other : Left) → Done requested world left → Done requested world other → SameLeft words world left other
-
-same_decided : {A : Type 0} (words : List Bytes) (file : Bytes) (Done : A → World → Left → Type 0) (result : Result A Usage) (world : World) (left other : Left)
-    → IsOne words world Done → Decided file Done result world left → Decided file Done result world other → SameLeft words world left other
-same_decided words file Done (Ok requested) world left other one decided decided' = one requested left other decided decided'
-same_decided words file Done (Err usage) world left other one decided decided' = same_left words world left other (decided ∙ sym decided')
-
--- ---- operands
-
-abbrev OperandsDone : Options → Requested → World → Left → Type 0
-OperandsDone options requested world left = LinesLeave options (requested ∷ []) world left
-
-abbrev OperandsExact : Options → List Bytes → World → Left → Type 0
-OperandsExact options texts world left = Decided [] (OperandsDone options) (operand_group texts) world left
-
-operands_exact : (options : Options) (texts : List Bytes) (world : World) (left : Left) → OperandsOutcome options texts world left
-    → GivenReportsPattern (operands texts) world left ⊎ OperandsExact options texts world left
-operands_exact options texts world left (inl (usage, fault, none)) = elim (group_fault texts usage fault) [
-  | inl is ↦ inr (subst (λ (it : Result Requested Usage). Decided [] (OperandsDone options) it world left) (sym is) none)
-  | inr reports ↦ inl (reports.0, reports.2, (reports.3, none ∙ ap (λ (it : Usage). unused world.folder (usage_line [] it)) reports.1))
-]
-operands_exact options texts world left (inr (requested, is, leave)) =
-    inr (subst (λ (it : Result Requested Usage). Decided [] (OperandsDone options) it world left) (sym is) leave)
-
--- ---- lines
+-- ---- texts
 
 one_valid : (text : Bytes) (n m : ℕ) → IsValidUpTo text n → IsValidUpTo text m → n ≡ m
 one_valid text n m a b = elim (cases_lt n m) [
@@ -96,105 +49,6 @@ no_fault : (text : Bytes) (fault : ReadFault) → IsText text → IsTextFault te
 no_fault text fault (fits, whole) (inl (long, is)) = omega arith
 no_fault text fault (fits, whole) (inr (short, (at, valid, is))) = valid.longest (length text) valid.short (subst IsUtf8 (sym (take-length text)) whole)
 
--- where no step reads standard input, what is left of it is the same to them
-lines_unread : (options : Options) (lines : List Requested) (world : World) (known : Option Bytes) (left : Left) → list_any reads_input (all_steps lines) ≡ false
-    → LinesLeave options lines (record world { known = known }) left → LinesLeave options lines world left
-lines_unread options lines world known left none (inl named) = inl named
-lines_unread options lines world known left none (inr (neither, inl (plain, performs))) =
-    inr (neither, inl (plain, performed_unread options (all_steps lines) world known left none performs))
-lines_unread options lines world known left none (inr (neither, inr (kept, performs))) = inr (
-  neither,
-  inr (
-    kept,
-    record {
-      reported = performs.reported;
-      state = performs.state;
-      runs = performs.runs;
-      output = performs.output;
-      lines = performs.lines;
-      status = performs.status;
-    },
-  ),
-)
-
-done_at : (options : Options) (of_input : Bool) (lines : List Requested) (world : World) (known : Option Bytes) (left : Left) → of_input && names_input lines ≡ false
-    → (of_input ≡ false → known ≡ world.known) → LinesLeave options lines (record world { known = known }) left → LinesLeave options lines world left
-done_at options true lines world known left none same leave = lines_unread options lines world known left (no_steps lines none) leave
-done_at options false lines world known left none same leave =
-    subst (λ (k : Option Bytes). LinesLeave options lines (record world { known = k }) left) (same refl) leave
-
--- where the words request journals, what these hold is left open
-abbrev OpensJournals : List Bytes → Options → Type 0
-OpensJournals words options = options.journal ≡ true → (file : Bytes) → IsLeftOpen words (journal_name file)
-
-same_leaves : OneReading → (words : List Bytes) (bytes : Bytes) (options : Options) (lines : List Requested) (world : World) (left other : Left)
-    → world.known ≡ Some bytes → OpensJournals words options → LinesLeave options lines world left → LinesLeave options lines world other → SameLeft words world left other
-same_leaves one words bytes options lines world left other known opens (inl (named, is)) (inl (named', is')) = same_left words world left other (is ∙ sym is')
-same_leaves one words bytes options lines world left other known opens (inl (named, is)) (inr (none, done)) = absurd (true≢false (sym named ∙ none))
-same_leaves one words bytes options lines world left other known opens (inr (none, done)) (inl (named, is)) = absurd (true≢false (sym named ∙ none))
-same_leaves one words bytes options lines world left other known opens (inr (none, inl (plain, performs))) (inr (none', inl (plain', performs'))) =
-    same_performed one words bytes options (all_steps lines) world left other known performs performs'
-same_leaves one words bytes options lines world left other known opens (inr (none, inl (plain, performs))) (inr (none', inr (kept, performs'))) =
-    absurd (true≢false (sym kept ∙ plain))
-same_leaves one words bytes options lines world left other known opens (inr (none, inr (kept, performs))) (inr (none', inl (plain, performs'))) =
-    absurd (true≢false (sym kept ∙ plain))
-same_leaves one words bytes options lines world left other known opens (inr (none, inr (kept, performs))) (inr (none', inr (kept', performs'))) =
-    same_kept one words options (all_steps lines) world left other
-    (no_steps lines (sym (ap (λ (b : Bool). b && names_input lines) kept) ∙ none)) (opens kept) performs performs'
-
-same_lines_done : OneReading → (words : List Bytes) (bytes : Bytes) (options : Options) (of_input : Bool) (lines : List Requested) (world : World) (left other : Left)
-    → world.known ≡ Some bytes → OpensJournals words options → LinesOutcome options of_input lines world left → LinesOutcome options of_input lines world other → SameLeft words world left other
-same_lines_done one words bytes options of_input lines world left other known plain (inl (named, is)) (inl (named', is')) =
-    same_left words world left other (is ∙ sym is')
-same_lines_done one words bytes options of_input lines world left other known plain (inl (named, is)) (inr (none, done)) = absurd (true≢false (sym named ∙ none))
-same_lines_done one words bytes options of_input lines world left other known plain (inr (none, done)) (inl (named, is)) = absurd (true≢false (sym named ∙ none))
-same_lines_done one words bytes options of_input lines world left other known plain (inr (none, (left_over, same, performs))) (inr (none', (left_over', same', performs'))) =
-    same_leaves one words bytes options lines world left other known plain (done_at options of_input lines world left_over left none same performs)
-    (done_at options of_input lines world left_over' other none' same' performs')
-
-abbrev TextDecided : Options → Bytes → Bytes → World → Left → Type 0
-TextDecided options name text world left = Decided (reported_name name) (LinesOutcome options (bytes_eq name input_package)) (script_of text) world left
-
-abbrev TextExact : Options → Bytes → Bytes → World → Left → Type 0
-TextExact options name text world left =
-    ((fault : ReadFault) × IsTextFault text fault × (left ≡ unused world.folder (fault_line (reported_name name) fault))) ⊎ (IsText text × TextDecided options name text world left)
-
--- a pattern of a line of this text is reported
-abbrev TextReports : Bytes → Bytes → World → Left → Type 0
-TextReports name text world left = (refused : Refused) × (line : ℕ) × IsFirstFault (script_lines text) (in_line line (of_operand refused))
-    × IsReportedPattern refused (reported_name name) (in_line line (of_operand refused)) world left
-
-text_exact : (options : Options) (name text : Bytes) (world : World) (left : Left) → TextOutcome options name (Some text) world left
-    → TextReports name text world left ⊎ TextExact options name text world left
-text_exact options name text world left (inl invalid) = inr (inl invalid)
-text_exact options name text world left (inr (inl (whole, (usage, fault, none)))) = elim (script_fault text usage fault) [
-  | inl is ↦ inr (inr (
-    whole,
-    subst (λ (it : Result (List Requested) Usage). Decided (reported_name name) (LinesOutcome options (bytes_eq name input_package)) it world left) (sym is) none,
-  ))
-  | inr reports ↦ inl (
-    reports.0,
-    reports.1,
-    subst (IsFirstFault (script_lines text)) reports.2 reports.3,
-    (reports.4, none ∙ ap (λ (it : Usage). unused world.folder (usage_line (reported_name name) it)) reports.2),
-  )
-]
-text_exact options name text world left (inr (inr (whole, (lines, is, done)))) = inr (inr (
-  whole,
-  subst (λ (it : Result (List Requested) Usage). Decided (reported_name name) (LinesOutcome options (bytes_eq name input_package)) it world left) (sym is) done,
-))
-
-same_text : OneReading → (words : List Bytes) (bytes : Bytes) (options : Options) (name text : Bytes) (world : World) (left other : Left)
-    → world.known ≡ Some bytes → OpensJournals words options → TextExact options name text world left → TextExact options name text world other → SameLeft words world left other
-same_text one words bytes options name text world left other known plain (inl (fault, invalid, is)) (inl (fault', invalid', is')) =
-    same_left words world left other
-    (is ∙ ap (λ (it : ReadFault). unused world.folder (fault_line (reported_name name) it)) (one_fault text fault fault' invalid invalid') ∙ sym is')
-same_text one words bytes options name text world left other known plain (inl (fault, invalid, is)) (inr (whole, decided)) = absurd (no_fault text fault whole invalid)
-same_text one words bytes options name text world left other known plain (inr (whole, decided)) (inl (fault, invalid, is)) = absurd (no_fault text fault whole invalid)
-same_text one words bytes options name text world left other known plain (inr (whole, decided)) (inr (whole', decided')) =
-    same_decided words (reported_name name) (LinesOutcome options (bytes_eq name input_package)) (script_of text) world left other
-    (λ lines l o done done'. same_lines_done one words bytes options (bytes_eq name input_package) lines world l o known plain done done') decided decided'
-
 one_script : (world : World) (bytes name : Bytes) (text text' : Option Bytes) → world.known ≡ Some bytes → IsScript world name text → IsScript world name text'
     → text ≡ text'
 one_script world bytes name text text' known (inl (is, (read, input, here))) (inl (is', (read', input', here'))) =
@@ -203,72 +57,165 @@ one_script world bytes name text text' known (inl (is, input)) (inr (other, here
 one_script world bytes name text text' known (inr (other, here)) (inl (is, input)) = absurd (other is)
 one_script world bytes name text text' known (inr (other, here)) (inr (other', here')) = here ∙ sym here'
 
--- ---- what is given
+-- ---- what is left
 
--- Two ways of the same words are the same, unless one of them reports a pattern.
-abbrev Exactly : List Bytes → Given → World → Left → Left → Type 0
-Exactly words given world left other = GivenReportsPattern given world left ⊎ GivenReportsPattern given world other ⊎ SameLeft words world left other
+module _ (words : List Bytes) (world : World) where
+  same_ended : (ended other : Ended) → ended ≡ other → SameLeft words world ended.left other.left
+  same_ended ended other is = record {
+    output = ap (λ (e : Ended). e.left.output) is;
+    status = ap (λ (e : Ended). e.left.status) is;
+    lines = same_lines words world ended.left.lines other.left.lines (ap (λ (e : Ended). e.left.lines) is);
+    folder = λ name left_open. ap (λ (e : Ended). get e.left.folder name) (sym is);
+  }
 
-exactly_operands : OneReading → (words : List Bytes) (bytes : Bytes) (options : Options) (texts : List Bytes) (world : World) (left other : Left)
-    → world.known ≡ Some bytes → OpensJournals words options → GivenReportsPattern (operands texts) world left ⊎ OperandsExact options texts world left
-    → GivenReportsPattern (operands texts) world other ⊎ OperandsExact options texts world other → Exactly words (operands texts) world left other
-exactly_operands one words bytes options texts world left other known plain (inl reports) outcome = inl reports
-exactly_operands one words bytes options texts world left other known plain (inr exact) (inl reports) = inr (inl reports)
-exactly_operands one words bytes options texts world left other known plain (inr exact) (inr exact') =
-    inr (inr (same_decided words [] (OperandsDone options) (operand_group texts) world left other
-    (λ requested l o done done'. same_leaves one words bytes options (requested ∷ []) world l o known plain done done') exact exact'))
+  -- Two whole ways of this are one.
+  abbrev IsOne : (Ended → Type 0) → Type 0
+  IsOne Is = (ended other : Ended) → ended.cut ≡ c.Whole → other.cut ≡ c.Whole → Is ended → Is other → SameLeft words world ended.left other.left
 
-exactly_text : OneReading → (words : List Bytes) (bytes : Bytes) (options : Options) (name text : Bytes) (world : World) (left other : Left)
-    → world.known ≡ Some bytes → OpensJournals words options → IsScript world name (Some text) → TextReports name text world left ⊎ TextExact options name text world left
-    → TextReports name text world other ⊎ TextExact options name text world other → Exactly words (script name) world left other
-exactly_text one words bytes options name text world left other known plain is (inl reports) outcome = inl (text, is, reports.0, reports.1, reports.2, reports.3)
-exactly_text one words bytes options name text world left other known plain is (inr exact) (inl reports) = inr (inl (text, is, reports.0, reports.1, reports.2, reports.3))
-exactly_text one words bytes options name text world left other known plain is (inr exact) (inr exact') =
-    inr (inr (same_text one words bytes options name text world left other known plain exact exact'))
+  -- A usage is reported, or what is requested is done.
+  abbrev Decided : {A : Type 0} → Bytes → (A → Ended → Type 0) → Result A Usage → Ended → Type 0
+  Decided file Done (Ok requested) ended = Done requested ended
+  Decided file Done (Err usage) ended = ended ≡ unused world.folder (usage_line file usage)
 
-exactly_read : OneReading → (words : List Bytes) (bytes : Bytes) (options : Options) (name : Bytes) (text : Option Bytes) (world : World) (left other : Left)
-    → world.known ≡ Some bytes → OpensJournals words options → IsScript world name text → TextOutcome options name text world left → TextOutcome options name text world other
-    → Exactly words (script name) world left other
-exactly_read one words bytes options name None world left other known plain is outcome outcome' =
-    inr (inr (same_left words world left other (outcome ∙ sym outcome')))
-exactly_read one words bytes options name (Some text) world left other known plain is outcome outcome' =
-    exactly_text one words bytes options name text world left other known plain is (text_exact options name text world left outcome)
-    (text_exact options name text world other outcome')
+  same_decided : {A : Type 0} (file : Bytes) (Done : A → Ended → Type 0) (result : Result A Usage) → ((requested : A) → IsOne (Done requested)) → IsOne (Decided file Done result)
+  same_decided file Done (Ok requested) one ended other whole whole' is is' = one requested ended other whole whole' is is'
+  same_decided file Done (Err usage) one ended other whole whole' is is' = same_ended ended other (is ∙ sym is')
 
-exactly_given : OneReading → (words : List Bytes) (bytes : Bytes) (options : Options) (given : Given) (world : World) (left other : Left)
-    → world.known ≡ Some bytes → OpensJournals words options → GivenOutcome options given world left → GivenOutcome options given world other → Exactly words given world left other
-exactly_given one words bytes options (operands texts) world left other known plain outcome outcome' =
-    exactly_operands one words bytes options texts world left other known plain (operands_exact options texts world left outcome)
-    (operands_exact options texts world other outcome')
-exactly_given one words bytes options (script name) world left other known plain (text, is, outcome) (text', is', outcome') =
-    let here : TextOutcome options name text world other = subst (λ (it : Option Bytes). TextOutcome options name it world other)
-    (sym (one_script world bytes name text text' known is is')) outcome' in
-    exactly_read one words bytes options name text world left other known plain is outcome here
+  -- What clap prints is its own, and what is below it is the same.
+  same_usage : (usage : LineUsage) → command_line_of words ≡ Err usage → IsOne (LineOutcome words (Err usage) world)
+  same_usage of_clap claps ended other whole whole' (line, told, is) (line', told', is') =
+      subst (λ (e : Ended). SameLeft words world e.left other.left) (sym is) (subst (λ (e : Ended). SameLeft words world (unused world.folder line).left e.left) (sym is')
+      (record { output = refl; status = refl; lines = (inr (inr claps), tt); folder = λ name left_open. refl }))
+  same_usage beside_script claps ended other whole whole' (line, told, is) (line', told', is') =
+      same_ended ended other (is ∙ ap (unused world.folder) (told ∙ sym told') ∙ sym is')
+  same_usage beside_stdout claps ended other whole whole' (line, told, is) (line', told', is') =
+      same_ended ended other (is ∙ ap (unused world.folder) (told ∙ sym told') ∙ sym is')
+
+  -- Two whole ways are one, unless one of them reports a pattern.
+  by_pattern : (Reports Is : Ended → Type 0) (ended other : Ended) → IsOne Is → ended.cut ≡ c.Whole → other.cut ≡ c.Whole → Reports ended ⊎ Is ended → Reports other ⊎ Is other
+      → Reports ended ⊎ Reports other ⊎ SameLeft words world ended.left other.left
+  by_pattern Reports Is ended other one whole whole' (inl reports) outcome = inl reports
+  by_pattern Reports Is ended other one whole whole' (inr is) (inl reports) = inr (inl reports)
+  by_pattern Reports Is ended other one whole whole' (inr is) (inr is') = inr (inr (one ended other whole whole' is is'))
+
+-- ---- what is requested
+
+module _ (one : OneReading) (words : List Bytes) (bytes : Bytes) (options : Options) (world : World) (known : world.known ≡ Some bytes)
+    (opens : options.journal ≡ true → (file : Bytes) → IsLeftOpen words (journal_name file)) where
+  -- what lines request is done, over what is left of standard input where a step reads it
+  abbrev EndsSeen : List Requested → Ended → Type 0
+  EndsSeen lines ended = (read : Option Bytes) × AreSeen world (all_steps lines) read × LinesEnd options lines (record world { known = read }) ended
+
+  same_ends : (lines : List Requested) → IsOne words world (EndsSeen lines)
+  same_ends lines ended other whole whole' (read, seen, inl (named, is)) (read', seen', inl (named', is')) = same_ended words world ended other (is ∙ sym is')
+  same_ends lines ended other whole whole' (read, seen, inl (named, is)) (read', seen', inr (none, performs)) = absurd (true≢false (sym named ∙ none))
+  same_ends lines ended other whole whole' (read, seen, inr (none, performs)) (read', seen', inl (named, is)) = absurd (true≢false (sym named ∙ none))
+  same_ends lines ended other whole whole' (read, seen, inr (none, performs)) (read', seen', inr (none', performs')) =
+      same_performed one words bytes options (all_steps lines) world known read read' ended other seen seen' opens whole whole' performs performs'
+
+  seen_by : (of_input : Bool) (lines : List Requested) (read : Option Bytes) → of_input && names_input lines ≡ false → (of_input ≡ false → read ≡ world.known)
+      → AreSeen world (all_steps lines) read
+  seen_by true lines read none same = inr (no_steps lines none)
+  seen_by false lines read none same = inl (same refl)
+
+  same_lines_done : (of_input : Bool) (lines : List Requested) → IsOne words world (LinesOutcome options of_input lines world)
+  same_lines_done of_input lines ended other whole whole' (inl (named, is)) (inl (named', is')) = same_ended words world ended other (is ∙ sym is')
+  same_lines_done of_input lines ended other whole whole' (inl (named, is)) (inr (none, done)) = absurd (true≢false (sym named ∙ none))
+  same_lines_done of_input lines ended other whole whole' (inr (none, done)) (inl (named, is)) = absurd (true≢false (sym named ∙ none))
+  same_lines_done of_input lines ended other whole whole' (inr (none, (read, same, done))) (inr (none', (read', same', done'))) =
+      same_ends lines ended other whole whole' (read, seen_by of_input lines read none same, done) (read', seen_by of_input lines read' none' same', done')
+
+  -- ---- operands
+
+  abbrev OperandsExact : List Bytes → Ended → Type 0
+  OperandsExact texts ended = Decided words world [] (λ (requested : Requested). LinesEnd options (requested ∷ []) world) (operand_group texts) ended
+
+  operands_exact : (texts : List Bytes) (ended : Ended) → OperandsOutcome options texts world ended
+      → GivenReportsPattern (operands texts) world ended ⊎ OperandsExact texts ended
+  operands_exact texts ended (inl (usage, fault, none)) = elim (group_fault texts usage fault) [
+    | inl is ↦ inr (subst (λ (it : Result Requested Usage). Decided words world [] (λ (requested : Requested). LinesEnd options (requested ∷ []) world) it ended) (sym is) none)
+    | inr reports ↦ inl (reports.0, reports.2, (reports.3, none ∙ ap (λ (it : Usage). unused world.folder (usage_line [] it)) reports.1))
+  ]
+  operands_exact texts ended (inr (requested, is, done)) =
+      inr (subst (λ (it : Result Requested Usage). Decided words world [] (λ (requested : Requested). LinesEnd options (requested ∷ []) world) it ended) (sym is) done)
+
+  -- ---- lines
+
+  module _ (name : Bytes) where
+    abbrev TextDecided : Result (List Requested) Usage → Ended → Type 0
+    TextDecided result ended = Decided words world (reported_name name) (λ (lines : List Requested). LinesOutcome options (bytes_eq name input_package) lines world) result ended
+
+    abbrev TextExact : Bytes → Ended → Type 0
+    TextExact text ended =
+        ((fault : ReadFault) × IsTextFault text fault × (ended ≡ unused world.folder (fault_line (reported_name name) fault))) ⊎ (IsText text × TextDecided (script_of text) ended)
+
+    abbrev ScriptExact : Ended → Type 0
+    ScriptExact ended =
+        ((text : Bytes) × IsScript world name (Some text) × TextExact text ended) ⊎ (IsScript world name None × (ended ≡ unread c.Whole name world.folder))
+
+    text_exact : (text : Bytes) (ended : Ended) → IsScript world name (Some text) → TextOutcome options name text world ended
+        → GivenReportsPattern (script name) world ended ⊎ ScriptExact ended
+    text_exact text ended there (inl invalid) = inr (inl (text, there, inl invalid))
+    text_exact text ended there (inr (inl (whole, (usage, fault, none)))) = elim (script_fault text usage fault) [
+      | inl is ↦ inr (inl (text, there, inr (whole, subst (λ (it : Result (List Requested) Usage). TextDecided it ended) (sym is) none)))
+      | inr reports ↦ inl (
+        text,
+        there,
+        reports.0,
+        reports.1,
+        subst (IsFirstFault (script_lines text)) reports.2 reports.3,
+        (reports.4, none ∙ ap (λ (it : Usage). unused world.folder (usage_line (reported_name name) it)) reports.2),
+      )
+    ]
+    text_exact text ended there (inr (inr (whole, (lines, is, done)))) =
+        inr (inl (text, there, inr (whole, subst (λ (it : Result (List Requested) Usage). TextDecided it ended) (sym is) done)))
+
+    script_exact : (ended : Ended) → ended.cut ≡ c.Whole → ScriptOutcome options name world ended → GivenReportsPattern (script name) world ended ⊎ ScriptExact ended
+    script_exact ended whole (inl (text, there, outcome)) = text_exact text ended there outcome
+    script_exact ended whole (inr (is, write, absent)) = inr (inr (absent whole, is ∙ ap (λ why. unread why name world.folder) whole))
+
+    same_text : (text : Bytes) → IsOne words world (TextExact text)
+    same_text text ended other whole whole' (inl (fault, invalid, is)) (inl (fault', invalid', is')) = same_ended words world ended other
+        (is ∙ ap (λ (it : ReadFault). unused world.folder (fault_line (reported_name name) it)) (one_fault text fault fault' invalid invalid') ∙ sym is')
+    same_text text ended other whole whole' (inl (fault, invalid, is)) (inr (fits, decided)) = absurd (no_fault text fault fits invalid)
+    same_text text ended other whole whole' (inr (fits, decided)) (inl (fault, invalid, is)) = absurd (no_fault text fault fits invalid)
+    same_text text ended other whole whole' (inr (fits, decided)) (inr (fits', decided')) =
+        same_decided words world (reported_name name) (λ (lines : List Requested). LinesOutcome options (bytes_eq name input_package) lines world) (script_of text)
+        (same_lines_done (bytes_eq name input_package)) ended other whole whole' decided decided'
+
+    same_script : IsOne words world ScriptExact
+    same_script ended other whole whole' (inl (text, there, exact)) (inl (text', there', exact')) =
+        let same : ◌≡◌ {A = Option Bytes} (Some text) (Some text') = one_script world bytes name (Some text) (Some text') known there there' in
+        let here : text' ≡ text = cc in
+        same_text text ended other whole whole' exact (subst (λ (it : Bytes). TextExact it other) here exact')
+    same_script ended other whole whole' (inl (text, there, exact)) (inr (absent, is)) =
+        absurd (let e = one_script world bytes name (Some text) None known there absent in cc)
+    same_script ended other whole whole' (inr (absent, is)) (inl (text, there, exact)) =
+        absurd (let e = one_script world bytes name (Some text) None known there absent in cc)
+    same_script ended other whole whole' (inr (absent, is)) (inr (absent', is')) = same_ended words world ended other (is ∙ sym is')
+
+  -- ---- what is given
+
+  exactly_given : (given : Given) (ended other : Ended) → ended.cut ≡ c.Whole → other.cut ≡ c.Whole → GivenOutcome options given world ended
+      → GivenOutcome options given world other → GivenReportsPattern given world ended ⊎ GivenReportsPattern given world other ⊎ SameLeft words world ended.left other.left
+  exactly_given (operands texts) ended other whole whole' outcome outcome' =
+      by_pattern words world (GivenReportsPattern (operands texts) world) (OperandsExact texts) ended other
+      (same_decided words world [] (λ (requested : Requested). LinesEnd options (requested ∷ []) world) (operand_group texts)
+      (λ requested it that w w' done done'. same_ends (requested ∷ []) it that w w' (world.known, inl refl, done) (world.known, inl refl, done')))
+      whole whole' (operands_exact texts ended outcome) (operands_exact texts other outcome')
+  exactly_given (script name) ended other whole whole' outcome outcome' =
+      by_pattern words world (GivenReportsPattern (script name) world) (ScriptExact name) ended other (same_script name) whole whole'
+      (script_exact name ended whole outcome) (script_exact name other whole' outcome')
 
 -- ---- whole lines
 
--- What clap prints is its own, and what is below it is the same.
-same_usage : (words : List Bytes) (usage : LineUsage) (world : World) (line line' : Bytes) (left other : Left) → command_line_of words ≡ Err usage
-    → IsLineUsageLine words usage line → IsLineUsageLine words usage line' → left ≡ unused world.folder line
-    → other ≡ unused world.folder line' → SameLeft words world left other
-same_usage words of_clap world line line' left other claps reported reported' is is' = record {
-  output = ap (λ (l : Left). l.output) is ∙ sym (ap (λ (l : Left). l.output) is');
-  status = ap (λ (l : Left). l.status) is ∙ sym (ap (λ (l : Left). l.status) is');
-  lines = same_as words world left.lines other.lines (line ∷ []) (line' ∷ []) (ap (λ (l : Left). l.lines) is) (ap (λ (l : Left). l.lines) is') (inr (inr claps), tt);
-  folder = λ name open_is. ap (λ (l : Left). get l.folder name) is' ∙ sym (ap (λ (l : Left). get l.folder name) is);
-}
-same_usage words beside_script world line line' left other claps reported reported' is is' =
-    same_left words world left other (is ∙ ap (unused world.folder) (reported ∙ sym reported') ∙ sym is')
-same_usage words beside_stdout world line line' left other claps reported reported' is is' =
-    same_left words world left other (is ∙ ap (unused world.folder) (reported ∙ sym reported') ∙ sym is')
-
-exactly_line : OneReading → (words : List Bytes) (bytes : Bytes) (line : Result CommandLine LineUsage) (world : World) (left other : Left) → command_line_of words ≡ line
-    → world.known ≡ Some bytes → LineOutcome words line world left → LineOutcome words line world other
-    → ReportsPattern words world left ⊎ ReportsPattern words world other ⊎ SameLeft words world left other
-exactly_line one words bytes (Err usage) world left other says known (line, reported, is) (line', reported', is') =
-    inr (inr (same_usage words usage world line line' left other says reported reported' is is'))
-exactly_line one words bytes (Ok line) world left other says known outcome outcome' =
-    elim (exactly_given one words bytes line.options line.given world left other known (λ kept file. inr ((line, says, kept), (file, refl))) outcome outcome') [
+exactly_line : OneReading → (words : List Bytes) (bytes : Bytes) (line : Result CommandLine LineUsage) (world : World) (ended other : Ended) → command_line_of words ≡ line
+    → world.known ≡ Some bytes → ended.cut ≡ c.Whole → other.cut ≡ c.Whole → LineOutcome words line world ended → LineOutcome words line world other
+    → ReportsPattern words world ended ⊎ ReportsPattern words world other ⊎ SameLeft words world ended.left other.left
+exactly_line one words bytes (Err usage) world ended other says known whole whole' outcome outcome' =
+    inr (inr (same_usage words world usage says ended other whole whole' outcome outcome'))
+exactly_line one words bytes (Ok line) world ended other says known whole whole' outcome outcome' =
+    elim (exactly_given one words bytes line.options world known (λ kept file. inr ((line, says, kept), (file, refl))) line.given ended other whole whole' outcome outcome') [
       | inl reports ↦ inl (line, says, reports)
       | inr rest ↦ elim rest [
         | inl reports ↦ inr (inl (line, says, reports))
@@ -276,5 +223,12 @@ exactly_line one words bytes (Ok line) world left other says known outcome outco
       ]
     ]
 
+-- a run that nothing cuts isn't refused memory
+has_memory : (words : List Bytes) (world : World) (ended : Ended) → ended.cut ≢ c.Memory → WordsOutcome words world ended → LineOutcome words (command_line_of words) world ended
+has_memory words world ended other (inl memory) = absurd (other (ap (λ (e : Ended). e.cut) memory))
+has_memory words world ended other (inr outcome) = outcome
+
 pub exact : OneReading → OutcomesAreExact
-exact one words world bytes left other known outcome outcome' = exactly_line one words bytes (command_line_of words) world left other refl known outcome outcome'
+exact one words world bytes ended other known whole whole' outcome outcome' =
+    exactly_line one words bytes (command_line_of words) world ended other refl known whole whole'
+    (has_memory words world ended (λ is. absurd (let e = sym whole ∙ is in cc)) outcome) (has_memory words world other (λ is. absurd (let e = sym whole' ∙ is in cc)) outcome')

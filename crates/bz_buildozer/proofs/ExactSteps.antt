@@ -1,21 +1,228 @@
--- Steps of a run do one thing, and print the same lines but for what is left open.
-use Rattle.std.proofs.Common.{◌≡◌, inl, inr, ℕ, List, [], ◌∷◌, ◌++◌, Option, Some, None, Bool, true≢false, refl, sym, ap, subst, ◌∙◌, false}
+-- Whole runs of steps do one thing, without journals and with them, and print the same lines but for what is left open.
+use Rattle.std.proofs.Common.{◌≡◌, ◌≢◌, ◌⊎◌, inl, inr, ◌∙◌, ◌++◌, ℕ, zero, suc, List, [], ◌∷◌, Option, Some, None, Bool, true, false, true≢false, Ok, Err, refl, sym, ap, subst, bytes_eq}
+use Rattle.std.specs.Prelude.{◌||◌, IfSome, if◌then◌else◌, unwrap_or}
+use Rattle.std.specs.Option.{option_map, option_map_or}
+use Rattle.std.specs.FinMap.{get}
+use Rattle.std.specs.List.{list_any}
+use Rattle.std.proofs.lemmas.Slice.Eq.{bytes_eq-Decides}
 use Rattle.bz_grammar.specs.Laws.{OneReading}
 use Rattle.bz_items.specs.Characters.{Bytes}
-use Rattle.bz_streams.specs.Ports.{IsInput}
+use Rattle.bz_files.specs.Folder.{Folder, IsAside}
+use Rattle.bz_resume.specs.Pair.{journal_name}
+use Rattle.bz_resume.specs.Resuming.{Holds, OthersStay}
+use Rattle.bz_streams.specs.Exits.{first_cut}
 use Rattle.bz_streams.specs.Excerpts.{fault_excerpt}
+use Rattle.bz_streams.specs.Ports.{IsInput}
 use Rattle.bz_streams.specs.Reported.{stdin, fault_line}
-use Rattle.bz_buildozer.specs.Sessions.{History, Answer}
-use Rattle.bz_buildozer.specs.Found.{PackagesFound}
-use Rattle.bz_buildozer.specs.Opens.{Opens, Takes}
-use Rattle.bz_buildozer.specs.Packages.{Opened, Used, file_at, package_number}
+use Rattle.bz_streams.specs.declared.exit.Cut.{Cut}
+use Rattle.bz_streams.specs.declared.exit.Cut.TheVariants as c
 use Rattle.bz_buildozer.specs.Exact.{SameLines}
-use Rattle.bz_buildozer.specs.Run.{World, Progress, Finds, Uses, Answers, Does, RunsSteps, answered, reported_of}
-use Rattle.bz_buildozer.specs.Steps.{RunStep, action_of}
+use Rattle.bz_buildozer.specs.Found.{PackagesFound, IsNameOf, first_name, found_in, second_name, Opened, Used, file_at, package_number, with_opened}
+use Rattle.bz_buildozer.specs.Journals.{OpensBeside, TakesBeside, file_of_journal, journal_beside, lines_of_journal}
+use Rattle.bz_buildozer.specs.Keeps.{FolderAfter, file_after, left_out}
+use Rattle.bz_buildozer.specs.Moments.{AllAre}
+use Rattle.bz_buildozer.specs.Opens.{Takes}
+use Rattle.bz_buildozer.specs.Run.{Answers, AnswersIn, Does, Finds, LeadsBy, Progress, RunsSteps, Uses, UsesWhole, World, reported_of, state_after}
+use Rattle.bz_buildozer.specs.Sessions.{Action, Answer, History, present}
+use Rattle.bz_buildozer.specs.Steps.{RunStep, action_of, input_package, is_of_input}
+use Rattle.bz_buildozer.proofs.CutSteps.{both_whole}
 use Rattle.bz_buildozer.proofs.ExactActions.{one_answer}
-use Rattle.bz_buildozer.proofs.ExactLines.{same_lines, same_as, same_append}
+use Rattle.bz_buildozer.proofs.ExactLines.{same_as, same_lines, same_parts}
+use Rattle.bz_buildozer.proofs.JournalSteps.{one_given}
+use Rattle.bz_buildozer.proofs.LeaveSteps.{Leaves, acts_leaves}
+use Rattle.bz_buildozer.proofs.StandSteps.{IsHeld, IsUnlike, OthersAre, all_after, all_last, apart_from, as_begun, file_in_front, found_by, found_holds, holds_still, names_stay, not_input, takes_stand, unlike_put}
 
--- ---- packages
+pub either_not : (a b : Bool) → a || b ≡ false → (a ≡ false) × (b ≡ false)
+either_not true b is = absurd (cc is)
+either_not false b is = (refl, is)
+
+-- ---- whole steps
+
+whole_answers : (journals : Bool) (step : RunStep) (place : ℕ) (found : Option Opened) (folder : Folder) (state : Progress) (lines : List Bytes) (folder' : Folder)
+    (after : Progress) → file_at place state.used ≡ found → Answers c.Whole journals step (option_map (λ (_ : Opened). place) found) folder state lines folder' after
+    → AnswersIn journals step place (left_out journals found) folder state lines folder' after
+whole_answers true step place None folder state lines folder' after at answers = answers
+whole_answers false step place None folder state lines folder' after at answers = answers
+whole_answers journals step place (Some file) folder state lines folder' after at answers =
+    subst (λ (found : Option Opened). AnswersIn journals step place (left_out journals found) folder state lines folder' after) at answers
+
+-- what a step does that nothing cuts
+abbrev DoesWhole : Bool → World → RunStep → Progress → List Bytes → Folder → Progress → Type 0
+DoesWhole journals world step before lines folder after = (place : ℕ) × (used : List Used) × (opening : List Bytes) × (answer : List Bytes)
+    × UsesWhole journals world step.target.«package» before.used place opening used
+    × AnswersIn journals step place (left_out journals (file_at place used)) world.folder (record before { used = used }) answer folder after × (lines ≡ opening ++ answer)
+
+does_whole : (why : Cut) (journals : Bool) (world : World) (step : RunStep) (before : Progress) (lines : List Bytes) (folder : Folder) (after : Progress) → why ≡ c.Whole
+    → Does why journals world step before lines folder after → DoesWhole journals world step before lines folder after
+does_whole why journals world step before lines folder after is does =
+    let whole = both_whole does.opened does.acted why does.cut is in
+    let state : Progress = record before { used = does.used } in
+    let uses = subst (λ (it : Cut). Uses it journals world step.target.«package» before.used does.number does.opening does.used) whole.0 does.uses in
+    let answers = subst (λ (number : Option ℕ). Answers c.Whole journals step number world.folder state does.answer folder after) uses.2
+    (subst (λ (it : Cut). Answers it journals step does.number world.folder state does.answer folder after) whole.1 does.answers) in (
+      uses.0,
+      does.used,
+      does.opening,
+      does.answer,
+      uses.1,
+      whole_answers journals step uses.0 (file_at uses.0 does.used) world.folder state does.answer folder after refl answers,
+      does.reported,
+    )
+
+-- a step and those after it, none of which is cut
+first_whole : (one later : Cut) (journals : Bool) (world : World) (keep_going : Bool) (step : RunStep) (steps : List RunStep) (before mid after : Progress)
+    (first rest : List Bytes) (between folder : Folder) → c.Whole ≡ first_cut one later → Does one journals world step before first between mid
+    → RunsSteps later journals (record world { folder = between }) keep_going steps mid rest folder after
+    → DoesWhole journals world step before first between mid × RunsSteps c.Whole journals (record world { folder = between }) keep_going steps mid rest folder after
+first_whole one later journals world keep_going step steps before mid after first rest between folder cut does runs =
+    let whole = both_whole one later c.Whole cut refl in (
+      does_whole one journals world step before first between mid whole.0 does,
+      subst (λ (why : Cut). RunsSteps why journals (record world { folder = between }) keep_going steps mid rest folder after) whole.1 runs,
+    )
+
+-- ---- what stays the same in a run
+
+-- Without journals the folder is as it was; with them each open file is held there, and each other name is as it was.
+abbrev pub Stays : Bool → Folder → List Used → Folder → Type 0
+Stays false began used folder = folder ≡ began
+Stays true began used folder = AllAre (IsHeld folder) used × OthersAre began used folder
+
+pub stays_at : (journals : Bool) (began : Folder) (used used' : List Used) (folder folder' : Folder) → used' ≡ used → folder' ≡ folder
+    → Stays journals began used folder → Stays journals began used' folder'
+stays_at journals began used used' folder folder' same still stays =
+    subst (λ (u : List Used). Stays journals began u folder') (sym same) (subst (Stays journals began used) (sym still) stays)
+
+stays_used : (journals : Bool) (began : Folder) (here : World) (current : Bytes) (before : List Used) (place : ℕ) (lines : List Bytes) (after : List Used)
+    → UsesWhole journals here current before place lines after → Stays journals began before here.folder → Stays journals began after here.folder
+stays_used false began here current before place lines after uses still = still
+stays_used true began here current before place lines after (inl again) stays = stays_at true began before after here.folder here.folder again.2 refl stays
+stays_used true began here current before place lines after (inr (none, last, (found, file, inl read, opens, new))) stays = absurd (true≢false read.0)
+stays_used true began here current before place lines after (inr (none, last, (found, file, inr (which, is), opens, new))) stays =
+    let one : Used = record { «package» = current; file = file } in
+    stays_at true began (before ++ one ∷ []) after here.folder here.folder new refl (
+      all_last (IsHeld here.folder) before one stays.0 (held found (sym is) opens) (apart_from current before none),
+      λ name unlike aside. stays.1 name (λ at it there. unlike at it (file_in_front at before one it there)) aside,
+    )
+  where
+    held : (found : Option PackagesFound) → found_in here.folder current ≡ found → OpensBeside true here.folder current found file lines → IfSome file (IsHeld here.folder current)
+    held None is opens = subst (λ (it : Option Opened). IfSome it (IsHeld here.folder current)) (sym opens.0) tt
+    held (Some there) is opens =
+        let it = found_holds here.folder current there.0 there.1 is in
+        takes_stand here.folder current there.0 there.1 (get here.folder (journal_name there.0)) file lines it.0 it.1 refl opens
+
+-- the file that isn't left alone
+not_left : (found : Option Opened) (file : Opened) → left_out true found ≡ Some file → found ≡ Some file
+not_left None file is = is
+not_left (Some one) file is = go one.left is
+  where
+    go : (left : Bool) → ◌≡◌ {A = Option Opened} (if left then None else Some one) (Some file) → ◌≡◌ {A = Option Opened} (Some one) (Some file)
+    go true is = absurd (let e = is in cc)
+    go false is = is
+
+leaves_by : (action : Option Action) (note : Bytes) (h after : History) (answer : Answer) → LeadsBy action note h answer after → Leaves h answer after
+leaves_by None note h after answer leads = inl leads.1
+leaves_by (Some action) note h after answer (inl long) = acts_leaves action note h after answer (inl long)
+leaves_by (Some action) note h after answer (inr (short, makes)) = acts_leaves action note h after answer (inr (short, inl makes))
+
+module _ (file : Opened) (history : History) (folder folder' : Folder) where
+  unmoved : history ≡ file.history → folder' ≡ folder → (current : Bytes) → IsHeld folder current file
+      → Holds folder' file.name history.«package» (present history) history.texts
+  unmoved same still current held =
+      subst (λ (h : History). Holds folder' file.name h.«package» (present h) h.texts) (sym same)
+      (subst (λ (f : Folder). Holds f file.name file.history.«package» (present file.history) file.history.texts) (sym still) held.2)
+
+  -- what an answer leaves: the file is held, and other names are as they were
+  left_by : (answer : Answer) → Leaves file.history answer history → FolderAfter true answer file history folder folder'
+      → ((file_after true answer history file).name ≡ file.name) × OthersStay file.name folder folder'
+      × ((current : Bytes) → IsHeld folder current file → IsHeld folder' current (file_after true answer history file))
+  left_by (Ok reply) leaves (inr (moved, pair)) = (refl, pair.others, λ current held. (held.0, held.1, pair.holds))
+  left_by (Ok reply) (inl same) (inl (at, still)) =
+      (refl, (λ name a b c d. ap (λ (f : Folder). get f name) still), λ current held. (held.0, held.1, unmoved same still current held))
+  left_by (Ok reply) (inr went) (inl (at, still)) = absurd (went.1 at)
+  left_by (Err refusal) (inl same) still =
+      (refl, (λ name a b c d. ap (λ (f : Folder). get f name) still), λ current held. (held.0, held.1, unmoved same still current held))
+  left_by (Err refusal) (inr went) still = absurd (let e = went.0.1 in cc)
+
+  still_plain : (answer : Answer) → FolderAfter false answer file history folder folder' → folder' ≡ folder
+  still_plain (Ok reply) still = still
+  still_plain (Err refusal) still = still
+
+stays_answered : (journals : Bool) (began : Folder) (step : RunStep) (place : ℕ) (found : Option Opened) (folder folder' : Folder) (state after : Progress) (lines : List Bytes)
+    → left_out journals (file_at place state.used) ≡ found → AnswersIn journals step place found folder state lines folder' after
+    → Stays journals began state.used folder → Stays journals began after.used folder'
+stays_answered journals began step place None folder folder' state after lines at (told, still, is) stays =
+    stays_at journals began state.used after.used folder folder' (ap (λ (s : Progress). s.used) is) still stays
+stays_answered false began step place (Some file) folder folder' state after lines at (answer, history, leads, following, told, is) still =
+    still_plain file history folder folder' answer following ∙ still
+stays_answered true began step place (Some file) folder folder' state after lines at (answer, history, leads, following, told, is) stays =
+    let there = not_left (file_at place state.used) file at in
+    let next = file_after true answer history file in
+    let made = left_by file history folder folder' answer (leaves_by (action_of step.target step.request.verb) step.request.text file.history history answer leads) following in
+    stays_at true began (with_opened place (Some next) state.used) after.used folder' folder' (ap (λ (s : Progress). s.used) is) refl (
+      all_after (IsHeld folder) (IsHeld folder') place state.used file next there made.2
+          (λ current other it held differs same.
+          let names = names_stay folder folder' current other file.name it.name held.0 differs same.0 made.1 in
+          (same.0, same.1, holds_still folder folder' it.name it.history.«package» (present it.history) it.history.texts names.0 names.1 same.2)) stays.0,
+      λ name unlike aside.
+          let put = unlike_put place state.used (with_opened place (Some next) state.used) file next there refl made.0 name unlike in
+          made.1 name put.1.0 put.1.1 (λ e. aside (file.name, e)) (λ e. aside (journal_name file.name, e)) ∙ stays.1 name put.0 aside,
+    )
+
+stays_done : (journals : Bool) (began : Folder) (step : RunStep) (here : World) (folder : Folder) (before after : Progress) (lines : List Bytes)
+    → DoesWhole journals here step before lines folder after → Stays journals began before.used here.folder → Stays journals began after.used folder
+stays_done journals began step here folder before after lines (place, used, opening, answer, uses, answers, told) stays =
+    stays_answered journals began step place (left_out journals (file_at place used)) here.folder folder (record before { used = used }) after answer refl answers
+    (stays_used journals began here step.target.«package» before.used place opening used uses stays)
+
+pub stays_run : (journals : Bool) (began : Folder) (keep_going : Bool) (steps : List RunStep) (here : World) (folder : Folder) (before after : Progress) (lines : List Bytes)
+    → RunsSteps c.Whole journals here keep_going steps before lines folder after → Stays journals began before.used here.folder → Stays journals began after.used folder
+stays_run journals began keep_going [] here folder before after lines (whole, told, still, is) stays =
+    stays_at journals began before.used after.used here.folder folder (ap (λ (s : Progress). s.used) is) still stays
+stays_run journals began keep_going (step ∷ steps) here folder before after lines (inl (over, whole, told, still, is)) stays =
+    stays_at journals began before.used after.used here.folder folder (ap (λ (s : Progress). s.used) is) still stays
+stays_run journals began keep_going (step ∷ steps) here folder before after lines (inr (goes, (one, later, between, mid, first, rest, does, runs, told, cut))) stays =
+    let parts = first_whole one later journals here keep_going step steps before mid after first rest between folder cut does runs in
+    stays_run journals began keep_going steps (record here { folder = between }) folder mid after rest parts.1
+    (stays_done journals began step here between before mid first parts.0 stays)
+
+-- ---- a package is opened as when the run began
+
+-- Standard input is as it was, or the package is another one.
+abbrev pub Seen : World → Option Bytes → Bytes → Type 0
+Seen world known current = (known ≡ world.known) ⊎ (current ≢ input_package)
+
+module _ (world here : World) (used : List Used) (current : Bytes) (none : package_number current used ≡ None) (file : Option Opened) (lines : List Bytes) where
+  seen : (journals : Bool) (found : Option PackagesFound) → Stays journals world.folder used here.folder → Seen world here.known current
+      → Finds journals here current found → OpensBeside journals here.folder current found file lines
+      → Finds journals world current found × OpensBeside journals world.folder current found file lines
+  seen false found still (inl known) (inl (plain, of_input, (text, input, is))) opens = (
+    inl (plain, of_input, (text, subst (λ (it : Option Bytes). IsInput it text) known input, is)),
+    subst (λ (f : Folder). OpensBeside false f current found file lines) still opens,
+  )
+  seen false found still (inr other) (inl (plain, of_input, input)) opens = absurd (other of_input)
+  seen false found still known (inr (which, is)) opens = (
+    inr (which, is ∙ ap (λ (f : Folder). found_in f current) still),
+    subst (λ (f : Folder). OpensBeside false f current found file lines) still opens,
+  )
+  seen true found stays known (inl (plain, of_input, input)) opens = absurd (true≢false plain)
+  seen true found stays known (inr (which, is)) opens = (inr (which, is ∙ same), beside found is opens)
+    where
+      begun : (name : Bytes) → IsNameOf current name
+          → (get here.folder name ≡ get world.folder name) × (get here.folder (journal_name name) ≡ get world.folder (journal_name name))
+      begun name named =
+          as_begun (IsHeld here.folder) (λ other it held. held.0) world.folder here.folder current name used named (apart_from current used none) stays.0 stays.1
+
+      same : found_in here.folder current ≡ found_in world.folder current
+      same = found_by here.folder current (get world.folder (first_name current)) (get world.folder (second_name current)) (begun (first_name current) (inl refl)).0
+          (begun (second_name current) (inr refl)).0
+
+      beside : (there : Option PackagesFound) → there ≡ found_in here.folder current → OpensBeside true here.folder current there file lines
+          → OpensBeside true world.folder current there file lines
+      beside None is opens = opens
+      beside (Some it) is opens = subst (λ (journal : Option Bytes). TakesBeside journal current it.0 it.1 file lines)
+          (begun it.0 (found_holds here.folder current it.0 it.1 (sym is)).0).1 opens
+
+-- ---- one step is one
 
 pub one_input : (known : Option Bytes) (bytes text other : Bytes) → known ≡ Some bytes → IsInput known text → IsInput known other → text ≡ other
 one_input known bytes text other is input other_input =
@@ -23,112 +230,177 @@ one_input known bytes text other is input other_input =
     let there : other ≡ bytes = subst (λ (it : Option Bytes). IsInput it other) is other_input in
     here ∙ sym there
 
-one_found : (world : World) (bytes current : Bytes) (found found' : Option PackagesFound) → world.known ≡ Some bytes → Finds world current found
-    → Finds world current found' → found ≡ found'
-one_found world bytes current found found' known (inl (is, (text, input, here))) (inl (is', (text', input', here'))) =
+one_found : (journals : Bool) (world : World) (bytes current : Bytes) (found found' : Option PackagesFound) → world.known ≡ Some bytes
+    → Finds journals world current found → Finds journals world current found' → found ≡ found'
+one_found journals world bytes current found found' known (inl (plain, is, (text, input, here))) (inl (plain', is', (text', input', here'))) =
     here ∙ ap (λ (it : Bytes). Some (stdin, it)) (one_input world.known bytes text text' known input input') ∙ sym here'
-one_found world bytes current found found' known (inl (is, input)) (inr (other, here)) = absurd (other is)
-one_found world bytes current found found' known (inr (other, here)) (inl (is, input)) = absurd (other is)
-one_found world bytes current found found' known (inr (other, here)) (inr (other', here')) = here ∙ sym here'
+one_found journals world bytes current found found' known (inl (plain, is, input)) (inr (inl kept, here)) = absurd (true≢false (sym kept ∙ plain))
+one_found journals world bytes current found found' known (inl (plain, is, input)) (inr (inr other, here)) = absurd (other is)
+one_found journals world bytes current found found' known (inr (inl kept, here)) (inl (plain, is, input)) = absurd (true≢false (sym kept ∙ plain))
+one_found journals world bytes current found found' known (inr (inr other, here)) (inl (plain, is, input)) = absurd (other is)
+one_found journals world bytes current found found' known (inr (which, here)) (inr (which', here')) = here ∙ sym here'
 
--- the same file, and the same lines
-abbrev pub TakesSame : List Bytes → World → Option Opened → Option Opened → List Bytes → List Bytes → Type 0
-TakesSame words world file file' lines lines' = (file ≡ file') × SameLines words world lines lines'
+module _ (words : List Bytes) (world : World) (journals : Bool) (current : Bytes) (file file' : Option Opened) (lines lines' : List Bytes) where
+  -- the same file, and the same lines
+  abbrev TakesSame : Type 0
+  TakesSame = (file ≡ file') × SameLines words world lines lines'
 
-pub same_taken : (words : List Bytes) (world : World) (current name text : Bytes) (file file' : Option Opened) (lines lines' : List Bytes)
-    → Finds world current (Some (name, text)) → Takes current name text file lines → Takes current name text file' lines'
-    → TakesSame words world file file' lines lines'
-same_taken words world current name text file file' lines lines' found (inl (accepted, is, none)) (inl (accepted', is', none')) =
-    (is ∙ sym is', same_lines words world lines lines' (none ∙ sym none'))
-same_taken words world current name text file file' lines lines' found (inl (accepted, is, none)) (inr (fault, refused, is', reported)) = absurd (refused.0 accepted)
-same_taken words world current name text file file' lines lines' found (inr (fault, refused, is', reported)) (inl (accepted, is, none)) = absurd (refused.0 accepted)
-same_taken words world current name text file file' lines lines' found (inr (fault, one, is, reported)) (inr (fault', two, is', reported')) = (
-  is ∙ sym is',
-  same_as words world lines lines' ((fault_line name fault ++ fault_excerpt text fault) ∷ []) ((fault_line name fault' ++ fault_excerpt text fault') ∷ []) reported reported' (
-    inr (inl (record {
-      current = current;
-      name = name;
-      text = text;
-      first = fault;
-      second = fault';
-      found = found;
-      one = one;
-      two = two;
-      reported = refl;
-      reported_other = refl;
-    })),
-    tt,
-  ),
-)
+  same_taken : (name text : Bytes) → Finds journals world current (Some (name, text)) → Takes current name text file lines → Takes current name text file' lines' → TakesSame
+  same_taken name text found (inl (accepted, is, none)) (inl (accepted', is', none')) = (is ∙ sym is', same_lines words world lines lines' (none ∙ sym none'))
+  same_taken name text found (inl (accepted, is, none)) (inr (fault, refused, is', reported)) = absurd (refused.0 accepted)
+  same_taken name text found (inr (fault, refused, is', reported)) (inl (accepted, is, none)) = absurd (refused.0 accepted)
+  same_taken name text found (inr (fault, one, is, reported)) (inr (fault', two, is', reported')) = (
+    is ∙ sym is',
+    same_as words world lines lines' ((fault_line name fault ++ fault_excerpt text fault) ∷ []) ((fault_line name fault' ++ fault_excerpt text fault') ∷ []) reported reported' (
+      inr (inl (record {
+        journals = journals;
+        current = current;
+        name = name;
+        text = text;
+        first = fault;
+        second = fault';
+        found = found;
+        one = one;
+        two = two;
+        reported = refl;
+        reported_other = refl;
+      })),
+      tt,
+    ),
+  )
 
-same_opened : (words : List Bytes) (world : World) (current : Bytes) (found : Option PackagesFound) (file file' : Option Opened) (lines lines' : List Bytes)
-    → Finds world current found → Opens current found file lines → Opens current found file' lines' → TakesSame words world file file' lines lines'
-same_opened words world current None file file' lines lines' found opens opens' =
-    (opens.0 ∙ sym opens'.0, same_lines words world lines lines' (opens.1 ∙ sym opens'.1))
-same_opened words world current (Some there) file file' lines lines' found opens opens' =
-    same_taken words world current there.0 there.1 file file' lines lines' found opens opens'
+  same_beside : (name text : Bytes) (journal : Option Bytes) → Finds journals world current (Some (name, text)) → TakesBeside journal current name text file lines
+      → TakesBeside journal current name text file' lines' → TakesSame
+  same_beside name text None found takes takes' = same_taken name text found takes takes'
+  same_beside name text (Some bytes) found (given, comes, is, reported) (given', comes', is', reported') =
+      let one = one_given current bytes text given given' comes comes' in (
+        is ∙ ap (file_of_journal name text) one ∙ sym is',
+        same_lines words world lines lines' (reported ∙ ap (lines_of_journal name) one ∙ sym reported'),
+      )
 
-pub one_place : (place place' : ℕ) (at : Option ℕ) → at ≡ Some place → at ≡ Some place' → place ≡ place'
-one_place place place' at is is' = let same : ◌≡◌ {A = Option ℕ} (Some place) (Some place') = sym is ∙ is' in cc
+  same_opened : (found : Option PackagesFound) → Finds journals world current found → OpensBeside journals world.folder current found file lines
+      → OpensBeside journals world.folder current found file' lines' → TakesSame
+  same_opened None found opens opens' = (opens.0 ∙ sym opens'.0, same_lines words world lines lines' (opens.1 ∙ sym opens'.1))
+  same_opened (Some there) found opens opens' = same_beside there.0 there.1 (journal_beside journals world.folder there.0) found opens opens'
 
-pub no_place : (place : ℕ) (at : Option ℕ) → at ≡ Some place → at ≡ None → ⊥
-no_place place at is none = let same : ◌≡◌ {A = Option ℕ} (Some place) None = sym is ∙ none in absurd (cc)
+abbrev pub reads_input : RunStep → Bool
+reads_input step = is_of_input step.target
 
-same_used : (words : List Bytes) (world : World) (bytes current : Bytes) (before : List Used) (place place' : ℕ) (lines lines' : List Bytes)
-    (after after' : List Used) → world.known ≡ Some bytes → Uses world current before place lines after → Uses world current before place' lines' after'
-    → (place ≡ place') × SameLines words world lines lines' × (after ≡ after')
-same_used words world bytes current before place place' lines lines' after after' known (inl (is, none, same)) (inl (is', none', same')) =
-    (one_place place place' (package_number current before) is is', same_lines words world lines lines' (none ∙ sym none'), same ∙ sym same')
-same_used words world bytes current before place place' lines lines' after after' known (inl (is, none, same)) (inr (new, is_last, opens)) =
-    absurd (no_place place (package_number current before) is new)
-same_used words world bytes current before place place' lines lines' after after' known (inr (new, is_last, opens)) (inl (is, none, same)) =
-    absurd (no_place place' (package_number current before) is new)
-same_used words world bytes current before place place' lines lines' after after' known (inr (new, is, (found, file, finds, opens, same))) (inr (new', is', (found', file', finds', opens', same'))) =
-    let there : found ≡ found' = one_found world bytes current found found' known finds finds' in
-    let opens_here : Opens current found file' lines' = subst (λ (it : Option PackagesFound). Opens current it file' lines') (sym there) opens' in
-    let here = same_opened words world current found file file' lines lines' finds opens opens_here in
-    (is ∙ sym is', here.1, same ∙ ap (λ (it : Option Opened). before ++ record { «package» = current; file = it } ∷ []) here.0 ∙ sym same')
+-- standard input is as it was, or no step reads it
+abbrev pub AreSeen : World → List RunStep → Option Bytes → Type 0
+AreSeen world steps known = (known ≡ world.known) ⊎ (list_any reads_input steps ≡ false)
 
--- ---- steps
+first_seen : (world : World) (step : RunStep) (steps : List RunStep) (known : Option Bytes) → AreSeen world (step ∷ steps) known
+    → Seen world known step.target.«package» × AreSeen world steps known
+first_seen world step steps known (inl same) = (inl same, inl same)
+first_seen world step steps known (inr none) =
+    let parts = either_not (reads_input step) (list_any reads_input steps) none in (inr (not_input step.target.«package» parts.0), inr parts.1)
 
-one_answered : OneReading → (step : RunStep) (place : ℕ) (file : Option Opened) (state : Progress) (lines lines' : List Bytes) (after after' : Progress)
-    → Answers step place file state lines after → Answers step place file state lines' after' → (lines ≡ lines') × (after ≡ after')
-one_answered one step place None state lines lines' after after' is is' = (is.0 ∙ sym is'.0, is.1 ∙ sym is'.1)
-one_answered one step place (Some file) state lines lines' after after' (answer, history, leads, reported, is) (answer', history', leads', reported', is') =
-    let same = one_answer one (action_of step.target step.request.verb) step.request.text file.history answer answer' history history' leads leads' in (
-      reported ∙ ap (reported_of false file.name step.request.text) same.0 ∙ sym reported',
-      is ∙ ap (λ (it : Answer). answered place file it history state) same.0 ∙ ap (λ (it : History). answered place file answer' it state) same.1 ∙ sym is',
-    )
+module _ (one : OneReading) (words : List Bytes) (world : World) (bytes : Bytes) (known : world.known ≡ Some bytes) (journals : Bool) where
+  same_used : (here there : World) (current : Bytes) (before : List Used) (place place' : ℕ) (lines lines' : List Bytes) (after after' : List Used)
+      → Seen world here.known current → Seen world there.known current → Stays journals world.folder before here.folder → Stays journals world.folder before there.folder
+      → UsesWhole journals here current before place lines after → UsesWhole journals there current before place' lines' after'
+      → (place ≡ place') × SameLines words world lines lines' × (after ≡ after')
+  same_used here there current before place place' lines lines' after after' reads reads' stays stays' (inl (is, none, same)) (inl (is', none', same')) =
+      (ap (λ (found : Option ℕ). unwrap_or found 0) (sym is ∙ is'), same_lines words world lines lines' (none ∙ sym none'), same ∙ sym same')
+  same_used here there current before place place' lines lines' after after' reads reads' stays stays' (inl (is, none, same)) (inr (new, last, opens)) =
+      absurd (let e = sym is ∙ new in cc)
+  same_used here there current before place place' lines lines' after after' reads reads' stays stays' (inr (new, last, opens)) (inl (is, none, same)) =
+      absurd (let e = sym is ∙ new in cc)
+  same_used here there current before place place' lines lines' after after' reads reads' stays stays' (inr (new, is, (found, file, finds, opens, same))) (inr (new', is', (found', file', finds', opens', same'))) =
+      let first = seen world here before current new file lines journals found stays reads finds opens in
+      let second = seen world there before current new' file' lines' journals found' stays' reads' finds' opens' in
+      let one_there : found ≡ found' = one_found journals world bytes current found found' known first.0 second.0 in
+      let opened = same_opened words world journals current file file' lines lines' found first.0 first.1
+      (subst (λ (it : Option PackagesFound). OpensBeside journals world.folder current it file' lines') (sym one_there) second.1) in
+      (is ∙ sym is', opened.1, same ∙ ap (λ (it : Option Opened). before ++ record { «package» = current; file = it } ∷ []) opened.0 ∙ sym same')
 
-pub same_done : OneReading → (words : List Bytes) (world : World) (bytes : Bytes) (step : RunStep) (before : Progress) (lines lines' : List Bytes) (after after' : Progress)
-    → world.known ≡ Some bytes → Does world step before lines after → Does world step before lines' after' → SameLines words world lines lines' × (after ≡ after')
-same_done one words world bytes step before lines lines' after after' known does does' =
-    let uses = same_used words world bytes step.target.«package» before.used does.place does'.place does.opening does'.opening does.used does'.used known does.uses does'.uses in
-    let at_place : Answers step does.place (file_at does.place does'.used) (record before { used = does'.used }) does'.answer after' =
-    subst (λ (p : ℕ). Answers step p (file_at p does'.used) (record before { used = does'.used }) does'.answer after') (sym uses.0) does'.answers in
-    let here : Answers step does.place (file_at does.place does.used) (record before { used = does.used }) does'.answer after' =
-    subst (λ (u : List Used). Answers step does.place (file_at does.place u) (record before { used = u }) does'.answer after') (sym uses.2) at_place in
-    let same = one_answered one step does.place (file_at does.place does.used) (record before { used = does.used }) does.answer does'.answer after after' does.answers here in (
-      same_as words world lines lines' (does.opening ++ does.answer) (does'.opening ++ does'.answer) does.reported does'.reported
-          (same_append words world does.opening does'.opening does.answer does'.answer uses.1 (same_lines words world does.answer does'.answer same.0)),
-      same.1,
-    )
+  one_answered : (step : RunStep) (place : ℕ) (file : Option Opened) (state : Progress) (folder folder' past past' : Folder) (lines lines' : List Bytes) (after after' : Progress)
+      → AnswersIn journals step place file folder state lines past after → AnswersIn journals step place file folder' state lines' past' after'
+      → (lines ≡ lines') × (after ≡ after')
+  one_answered step place None state folder folder' past past' lines lines' after after' is is' = (is.0 ∙ sym is'.0, is.2 ∙ sym is'.2)
+  one_answered step place (Some file) state folder folder' past past' lines lines' after after' (answer, history, leads, following, told, is) (answer', history', leads', following', told', is') =
+      let same = one_answer one (action_of step.target step.request.verb) step.request.text file.history answer answer' history history' leads leads' in (
+        told ∙ ap (reported_of journals file.name step.request.text) same.0 ∙ sym told',
+        is ∙ ap (λ (it : Answer). state_after journals place file it history state) same.0 ∙ ap (λ (it : History). state_after journals place file answer' it state) same.1 ∙ sym is',
+      )
 
-pub same_run : OneReading → (words : List Bytes) (world : World) (bytes : Bytes) (keep_going : Bool) (steps : List RunStep) (before : Progress)
-    (lines lines' : List Bytes) (after after' : Progress) → world.known ≡ Some bytes → RunsSteps world keep_going steps before lines after
-    → RunsSteps world keep_going steps before lines' after' → SameLines words world lines lines' × (after ≡ after')
-same_run one words world bytes keep_going [] before lines lines' after after' known runs runs' =
-    (same_lines words world lines lines' (runs.0 ∙ sym runs'.0), runs.1 ∙ sym runs'.1)
-same_run one words world bytes keep_going (step ∷ steps) before lines lines' after after' known (inl (over, none, is)) (inl (over', none', is')) =
-    (same_lines words world lines lines' (none ∙ sym none'), is ∙ sym is')
-same_run one words world bytes keep_going (step ∷ steps) before lines lines' after after' known (inl (over, none, is)) (inr (on, runs)) =
-    absurd (true≢false (sym over ∙ on))
-same_run one words world bytes keep_going (step ∷ steps) before lines lines' after after' known (inr (on, runs)) (inl (over, none, is)) =
-    absurd (true≢false (sym over ∙ on))
-same_run one words world bytes keep_going (step ∷ steps) before lines lines' after after' known (inr (on, (mid, first, rest, does, runs, reported))) (inr (on', (mid', first', rest', does', runs', reported'))) =
-    let done = same_done one words world bytes step before first first' mid mid' known does does' in
-    let here : RunsSteps world keep_going steps mid rest' after' = subst (λ (it : Progress). RunsSteps world keep_going steps it rest' after') (sym done.1) runs' in
-    let same = same_run one words world bytes keep_going steps mid rest rest' after after' known runs here in (
-      same_as words world lines lines' (first ++ rest) (first' ++ rest') reported reported' (same_append words world first first' rest rest' done.0 same.0),
-      same.1,
-    )
+  same_done : (here there : World) (step : RunStep) (past past' : Folder) (before : Progress) (lines lines' : List Bytes) (after after' : Progress)
+      → Seen world here.known step.target.«package» → Seen world there.known step.target.«package»
+      → Stays journals world.folder before.used here.folder → Stays journals world.folder before.used there.folder
+      → DoesWhole journals here step before lines past after → DoesWhole journals there step before lines' past' after' → SameLines words world lines lines' × (after ≡ after')
+  same_done here there step past past' before lines lines' after after' reads reads' stays stays' (place, used, opening, answer, uses, answers, told) (place', used', opening', answer', uses', answers', told') =
+      let same = same_used here there step.target.«package» before.used place place' opening opening' used used' reads reads' stays stays' uses uses' in
+      let at_place = subst (λ (p : ℕ). AnswersIn journals step p (left_out journals (file_at p used')) there.folder (record before { used = used' }) answer' past' after') (sym same.0) answers' in
+      let second = subst (λ (u : List Used). AnswersIn journals step place (left_out journals (file_at place u)) there.folder (record before { used = u }) answer' past' after') (sym same.2) at_place in
+      let answered = one_answered step place (left_out journals (file_at place used)) (record before { used = used }) here.folder there.folder past past' answer answer' after after' answers second in (
+        same_parts words world lines lines' opening opening' answer answer' told told' same.1 (same_lines words world answer answer' answered.0),
+        answered.1,
+      )
+
+  pub same_run : (keep_going : Bool) (steps : List RunStep) (here there : World) (past past' : Folder) (before : Progress) (lines lines' : List Bytes) (after after' : Progress)
+      → AreSeen world steps here.known → AreSeen world steps there.known → Stays journals world.folder before.used here.folder → Stays journals world.folder before.used there.folder
+      → RunsSteps c.Whole journals here keep_going steps before lines past after → RunsSteps c.Whole journals there keep_going steps before lines' past' after'
+      → SameLines words world lines lines' × (after ≡ after')
+  same_run keep_going [] here there past past' before lines lines' after after' reads reads' stays stays' runs runs' =
+      (same_lines words world lines lines' (runs.1 ∙ sym runs'.1), runs.3 ∙ sym runs'.3)
+  same_run keep_going (step ∷ steps) here there past past' before lines lines' after after' reads reads' stays stays' (inl over) (inl over') =
+      (same_lines words world lines lines' (over.2 ∙ sym over'.2), over.4 ∙ sym over'.4)
+  same_run keep_going (step ∷ steps) here there past past' before lines lines' after after' reads reads' stays stays' (inl over) (inr on) = absurd (true≢false (sym over.0 ∙ on.0))
+  same_run keep_going (step ∷ steps) here there past past' before lines lines' after after' reads reads' stays stays' (inr on) (inl over) = absurd (true≢false (sym over.0 ∙ on.0))
+  same_run keep_going (step ∷ steps) here there past past' before lines lines' after after' reads reads' stays stays'
+      (inr (goes, (cut, later, between, mid, first, rest, does, runs, told, whole))) (inr (goes', (cut', later', between', mid', first', rest', does', runs', told', whole'))) =
+      let parts = first_whole cut later journals here keep_going step steps before mid after first rest between past whole does runs in
+      let parts' = first_whole cut' later' journals there keep_going step steps before mid' after' first' rest' between' past' whole' does' runs' in
+      let read = first_seen world step steps here.known reads in
+      let read' = first_seen world step steps there.known reads' in
+      let done = same_done here there step between between' before first first' mid mid' read.0 read'.0 stays stays' parts.0 parts'.0 in
+      let more = subst (λ (it : Progress). RunsSteps c.Whole journals (record there { folder = between' }) keep_going steps it rest' past' after') (sym done.1) parts'.1 in
+      let stayed = stays_at journals world.folder mid'.used mid.used between' between' (ap (λ (it : Progress). it.used) done.1) refl
+      (stays_done journals world.folder step there between' before mid' first' parts'.0 stays') in
+      let same = same_run keep_going steps (record here { folder = between }) (record there { folder = between' }) past past' mid rest rest' after after' read.1 read'.1
+      (stays_done journals world.folder step here between before mid first parts.0 stays) stayed parts.1 more in
+      (same_parts words world lines lines' first first' rest rest' told told' done.0 same.0, same.1)
+
+-- ---- folders
+
+abbrev is_named : Bytes → Used → Bool
+is_named name used = option_map_or (λ (file : Opened). bytes_eq name file.name) used.file false
+
+not_named : (name : Bytes) (used : List Used) → list_any (is_named name) used ≡ false → (place : ℕ) (file : Opened) → file_at place used ≡ Some file → name ≢ file.name
+not_named name [] none place file at = absurd (let e = at in cc)
+not_named name (used ∷ more) none zero file at = λ same.
+    let is = ap (λ (found : Option Opened). option_map_or (λ (it : Opened). bytes_eq name it.name) found false) at ∙ (bytes_eq-Decides name file.name).1 same in
+    true≢false (sym is ∙ (either_not (is_named name used) (list_any (is_named name) more) none).0)
+not_named name (used ∷ more) none (suc place) file at =
+    not_named name more (either_not (is_named name used) (list_any (is_named name) more) none).1 place file at
+
+module _ (folder folder' : Folder) (name : Bytes) where
+  -- an open file of this name is held in both
+  both_hold : (used : List Used) → AllAre (IsHeld folder) used → AllAre (IsHeld folder') used → list_any (is_named name) used ≡ true → get folder' name ≡ get folder name
+  both_hold [] all all' is = absurd (true≢false (sym is))
+  both_hold (used ∷ more) all all' is = go used.file all.0 all'.0 (both_hold more all.2 all'.2) is
+    where
+      by_name : (file : Opened) (b : Bool) → bytes_eq name file.name ≡ b → IsHeld folder used.«package» file → IsHeld folder' used.«package» file
+          → (list_any (is_named name) more ≡ true → get folder' name ≡ get folder name) → b || list_any (is_named name) more ≡ true → get folder' name ≡ get folder name
+      by_name file true same held held' rest is =
+          let named = (bytes_eq-Decides name file.name).0 same in ap (get folder') named ∙ held'.2.holds ∙ sym (ap (get folder) named ∙ held.2.holds)
+      by_name file false same held held' rest is = rest is
+
+      go : (found : Option Opened) → IfSome found (IsHeld folder used.«package») → IfSome found (IsHeld folder' used.«package»)
+          → (list_any (is_named name) more ≡ true → get folder' name ≡ get folder name)
+          → option_map_or (λ (file : Opened). bytes_eq name file.name) found false || list_any (is_named name) more ≡ true → get folder' name ≡ get folder name
+      go None held held' rest is = rest is
+      go (Some file) held held' rest is = by_name file (bytes_eq name file.name) refl held held' rest is
+
+-- A name that is no journal's and isn't set aside is the same after two runs, and with it each one where journals aren't kept.
+pub same_folder : (journals : Bool) (began : Folder) (used : List Used) (folder folder' : Folder) → Stays journals began used folder → Stays journals began used folder'
+    → (name : Bytes) → (IsAside name → ⊥) → (journals ≡ true → (file : Bytes) → name ≢ journal_name file) → get folder' name ≡ get folder name
+same_folder false began used folder folder' still still' name aside journal = ap (λ (f : Folder). get f name) (still' ∙ sym still)
+same_folder true began used folder folder' stays stays' name aside journal = go (list_any (is_named name) used) refl
+  where
+    go : (b : Bool) → list_any (is_named name) used ≡ b → get folder' name ≡ get folder name
+    go true is = both_hold folder folder' name used stays.0 stays'.0 is
+    go false is =
+        let unlike : IsUnlike used name = λ place file at. (not_named name used is place file at, journal refl file.name) in
+        stays'.1 name unlike aside ∙ sym (stays.1 name unlike aside)

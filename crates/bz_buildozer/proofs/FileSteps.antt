@@ -5,8 +5,8 @@ use Rattle.std.specs.Option.{option_map}
 use Rattle.std.proofs.Math.Seq.{take-append_seam}
 use Rattle.std.proofs.lemmas.List.{length-map}
 use Rattle.bz_items.specs.Characters.{Bytes}
-use Rattle.bz_buildozer.specs.Packages as p
-use Rattle.bz_buildozer.specs.Packages.{file_at, with_opened}
+use Rattle.bz_buildozer.specs.Found as p
+use Rattle.bz_buildozer.specs.Found.{file_at, with_opened}
 use Rattle.bz_buildozer.specs.private.ShownFiles.{packages_of, opened_in, used_in}
 use Rattle.bz_buildozer.specs.declared.used.Opened.{Opened}
 use Rattle.bz_buildozer.specs.declared.used.Used.{Used}

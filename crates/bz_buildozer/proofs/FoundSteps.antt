@@ -1,14 +1,12 @@
 -- Which file of a package is opened, by what its names and its journal hold.
-use Rattle.std.proofs.Common.{◌≡◌, ◌+◌, Bool, false, List, [], ◌∷◌, ◌++◌, Option, Some, None, refl, sym, ap, subst, ◌∙◌, take, codes}
+use Rattle.std.proofs.Common.{◌≡◌, ◌+◌, Bool, List, [], ◌∷◌, ◌++◌, Option, Some, None, refl, sym, ap, subst, ◌∙◌, take, codes}
 use Rattle.std.specs.FinMap.{get}
 use Rattle.bz_grammar.specs.Spell.{limit}
 use Rattle.bz_items.specs.Characters.{Bytes}
 use Rattle.bz_files.specs.Folder.{Folder}
 use Rattle.bz_streams.specs.Reported.{named_line}
-use Rattle.bz_buildozer.specs.Found.{PackagesFound, first_name, found_at, found_in, found_second, second_name}
+use Rattle.bz_buildozer.specs.Found.{PackagesFound, first_name, found_at, found_in, found_second, second_name, Opened}
 use Rattle.bz_buildozer.specs.Journals.{OpensBeside, TakesBeside, journal_beside}
-use Rattle.bz_buildozer.specs.Opens.{Opens}
-use Rattle.bz_buildozer.specs.Packages.{Opened}
 use Rattle.bz_buildozer.specs.Reported.{package_hint}
 use Rattle.bz_buildozer.proofs.JournalSteps.{front_beside}
 
@@ -54,10 +52,3 @@ pub first_absent : (journals : Bool) (current name : Bytes) (folder now : Folder
 first_absent journals current name folder now file lines is held same opens =
     absent_opens journals current (first_name current) name folder (found_second folder current) file lines is held
     (subst (λ (f : Folder). OpensBeside journals f current (found_second f current) file lines) same opens)
-
--- without journals a file is opened as its text says
-pub plain_opens : (journals : Bool) (current : Bytes) (folder : Folder) (found : Option PackagesFound) (file : Option Opened) (lines : List Bytes) → journals ≡ false
-    → OpensBeside journals folder current found file lines → Opens current found file lines
-plain_opens journals current folder (Some found) file lines is opens =
-    subst (λ (b : Bool). TakesBeside (journal_beside b folder found.0) current found.0 found.1 file lines) is opens
-plain_opens journals current folder None file lines is opens = opens

@@ -11,7 +11,7 @@ use Rattle.bz_items.specs.Characters.{Bytes}
 use Rattle.bz_streams.specs.Excerpts.{fault_excerpt}
 use Rattle.bz_streams.specs.Reported.{fault_line}
 use Rattle.bz_buildozer.specs.Opens.{FrontsAreReportedAlike, IsRefusedFor, Takes}
-use Rattle.bz_buildozer.specs.Packages.{Opened}
+use Rattle.bz_buildozer.specs.Found.{Opened}
 
 fits_limit : (text : Bytes) → Accepted text → length text ≤ limit
 fits_limit text accepted = accepted.1.2

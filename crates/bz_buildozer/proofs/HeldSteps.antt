@@ -10,7 +10,7 @@ use Rattle.bz_resume.specs.Resuming.{IsRecordedBy}
 use Rattle.bz_resume.specs.Journals.{stands, text_at}
 use Rattle.bz_buildozer.specs.Journals.{HeldFilesGoOn, TakesBeside, file_of_journal, journal_beside}
 use Rattle.bz_buildozer.specs.Opens.{opened_fresh}
-use Rattle.bz_buildozer.specs.Packages.{Opened, opened_with}
+use Rattle.bz_buildozer.specs.Found.{Opened, opened_with}
 use Rattle.bz_buildozer.proofs.JournalSteps.{one_given}
 
 -- where a history matches a text it has that text

@@ -1,5 +1,5 @@
 -- Steps on rules of standard input use no other package, and so write no file.
-use Rattle.std.proofs.Common.{◌≡◌, inl, inr, ℕ, zero, suc, List, [], ◌∷◌, ◌++◌, map, Option, Some, None, Bool, true, false, true≢false, refl, ap, subst, sym, ◌∙◌, bytes_eq}
+use Rattle.std.proofs.Common.{◌≡◌, inl, inr, ℕ, zero, suc, List, [], ◌∷◌, ◌++◌, map, Option, Some, None, Bool, false, true≢false, subst, sym, arith}
 use Rattle.std.specs.List.{All, flat_map}
 use Rattle.std.proofs.lemmas.List.Elements.{All-head, All-tail}
 use Rattle.bz_items.specs.Characters.{Bytes}
@@ -8,11 +8,9 @@ use Rattle.bz_label.specs.declared.target.Target.{Target}
 use Rattle.bz_command_line.specs.Requested.{Requested, Request}
 use Rattle.bz_streams.specs.declared.exit.Cut.{Cut}
 use Rattle.bz_streams.specs.declared.exit.Cut.TheVariants as c
-use Rattle.bz_buildozer.specs.Packages.{Opened, Used, with_opened, file_at}
-use Rattle.bz_buildozer.specs.Ending.{Writing, file_writing, all_writings}
+use Rattle.bz_buildozer.specs.Found.{Opened, Used, with_opened, file_at}
 use Rattle.bz_buildozer.specs.Outcome.{AreOfInput}
-use Rattle.bz_buildozer.specs.Failing.{AnswersUntil, DoesUntil, RunsUntil, UsesUntil}
-use Rattle.bz_buildozer.specs.Run.{World, Progress, nothing_done, Answers}
+use Rattle.bz_buildozer.specs.Run.{Answers, AnswersIn, Does, World, Progress, RunsSteps, Uses, nothing_done}
 use Rattle.bz_buildozer.specs.Steps.{RunStep, step_of, steps_requested, all_steps, input_package}
 
 -- each of these packages is that of standard input
@@ -24,19 +22,6 @@ AreInput (used ∷ more) = (used.«package» ≡ input_package) × AreInput more
 abbrev pub AreStepsOfInput : List RunStep → Type 0
 AreStepsOfInput [] = Unit {0}
 AreStepsOfInput (step ∷ steps) = (step.target.«package» ≡ input_package) × AreStepsOfInput steps
-
--- ---- what is written
-
-no_writing : (to_stdout : Bool) (file : Option Opened) → file_writing true to_stdout file ≡ []
-no_writing to_stdout None = refl
-no_writing to_stdout (Some file) = refl
-
-pub no_writings : (to_stdout : Bool) (used : List Used) → AreInput used → all_writings to_stdout used ≡ []
-no_writings to_stdout [] are = refl
-no_writings to_stdout (used ∷ more) are =
-    ap (λ (current : Bytes). file_writing (bytes_eq current input_package) to_stdout used.file ++ all_writings to_stdout more) are.0
-    ∙ ap (λ (files : List Writing). files ++ all_writings to_stdout more) (no_writing to_stdout used.file)
-    ∙ no_writings to_stdout more are.1
 
 -- ---- what steps use
 
@@ -50,7 +35,7 @@ kept zero file (used ∷ more) are = are
 kept (suc place) file (used ∷ more) are = (are.0, kept place file more are.1)
 
 used_on : (why : Cut) (world : World) (current : Bytes) (before : List Used) (number : Option ℕ) (lines : List Bytes) (after : List Used) → current ≡ input_package
-    → UsesUntil why false world current before number lines after → AreInput before → AreInput after
+    → Uses why false world current before number lines after → AreInput before → AreInput after
 used_on c.Whole world current before number lines after is (place, inl again, at) are = subst AreInput (sym again.2) are
 used_on c.Whole world current before number lines after is (place, inr (absent, last, (found, file, finds, opens, new)), at) are =
     subst AreInput (sym new) (one_more before _ is are)
@@ -61,13 +46,13 @@ used_on c.Write world current before number lines after is uses are = absurd use
 used_on c.Files world current before number lines after is (none, (file, opens, new, at)) are = subst AreInput (sym new) (one_more before _ is are)
 
 answers_on : (why : Cut) (step : RunStep) (number : Option ℕ) (folder : Folder) (state : Progress) (lines : List Bytes) (folder' : Folder) (after : Progress)
-    → AnswersUntil why false step number folder state lines folder' after → AreInput state.used → AreInput after.used
+    → Answers why false step number folder state lines folder' after → AreInput state.used → AreInput after.used
 answers_on c.Whole step None folder state lines folder' after (reported, still, is) are = subst (λ (now : Progress). AreInput now.used) (sym is) are
-answers_on c.Whole step (Some place) folder state lines folder' after (still, answers) are = go (file_at place state.used) answers
+answers_on c.Whole step (Some place) folder state lines folder' after answers are = go (file_at place state.used) answers
   where
-    go : (file : Option Opened) → Answers step place file state lines after → AreInput after.used
-    go None (reported, is) = subst (λ (now : Progress). AreInput now.used) (sym is) are
-    go (Some file) (answer, history, leads, reported, is) = subst (λ (now : Progress). AreInput now.used) (sym is) (kept place _ state.used are)
+    go : (file : Option Opened) → AnswersIn false step place file folder state lines folder' after → AreInput after.used
+    go None (reported, still, is) = subst (λ (now : Progress). AreInput now.used) (sym is) are
+    go (Some file) (answer, history, leads, following, reported, is) = subst (λ (now : Progress). AreInput now.used) (sym is) (kept place _ state.used are)
 answers_on c.Memory step None folder state lines folder' after answers are = absurd answers
 answers_on c.Memory step (Some place) folder state lines folder' after ((told, (file, is)), kept_or) are = subst (λ (now : Progress). AreInput now.used) (sym is) (kept place file state.used are)
 answers_on c.Read step number folder state lines folder' after answers are = absurd answers
@@ -76,13 +61,13 @@ answers_on c.Files step None folder state lines folder' after answers are = absu
 answers_on c.Files step (Some place) folder state lines folder' after answers are = absurd (true≢false (sym answers.0))
 
 does_on : (why : Cut) (world : World) (step : RunStep) (before : Progress) (lines : List Bytes) (folder : Folder) (after : Progress) → step.target.«package» ≡ input_package
-    → DoesUntil why false world step before lines folder after → AreInput before.used → AreInput after.used
+    → Does why false world step before lines folder after → AreInput before.used → AreInput after.used
 does_on why world step before lines folder after is does are =
     answers_on does.acted step does.number world.folder (record before { used = does.used }) does.answer folder after does.answers
     (used_on does.opened world step.target.«package» before.used does.number does.opening does.used is does.uses are)
 
 runs_on : (why : Cut) (world : World) (keep_going : Bool) (steps : List RunStep) (before : Progress) (lines : List Bytes) (folder : Folder) (after : Progress)
-    → AreStepsOfInput steps → RunsUntil why false world keep_going steps before lines folder after → AreInput before.used → AreInput after.used
+    → AreStepsOfInput steps → RunsSteps why false world keep_going steps before lines folder after → AreInput before.used → AreInput after.used
 runs_on why world keep_going [] before lines folder after of_input runs are = subst (λ (now : Progress). AreInput now.used) (sym runs.3) are
 runs_on why world keep_going (step ∷ steps) before lines folder after of_input (inl ended) are = subst (λ (now : Progress). AreInput now.used) (sym ended.4) are
 runs_on why world keep_going (step ∷ steps) before lines folder after of_input (inr (goes, (one, later, between, mid, first, rest, does, runs, reported, cut))) are =
@@ -111,8 +96,14 @@ on_lines (line ∷ lines) all =
     appended (steps_requested line) (all_steps lines) (on_targets line.commands line.targets (All-head (λ (requested : Requested). All (λ target. target.«package» ≡ input_package) requested.targets) line lines all))
     (on_lines lines (All-tail (λ (requested : Requested). All (λ target. target.«package» ≡ input_package) requested.targets) line lines all))
 
--- Lines on rules of standard input alone write no file.
-pub nothing_written : (to_stdout : Bool) (why : Cut) (world : World) (keep_going : Bool) (lines : List Requested) (reported : List Bytes) (folder : Folder) (state : Progress)
-    → AreOfInput lines → RunsUntil why false world keep_going (all_steps lines) nothing_done reported folder state → all_writings to_stdout state.used ≡ []
-nothing_written to_stdout why world keep_going lines reported folder state are runs =
-    no_writings to_stdout state.used (runs_on why world keep_going (all_steps lines) nothing_done reported folder state (on_lines lines are) runs tt)
+-- Lines on rules of standard input alone use no other package.
+pub nothing_else_used : (why : Cut) (world : World) (keep_going : Bool) (lines : List Requested) (reported : List Bytes) (folder : Folder) (state : Progress)
+    → AreOfInput lines → RunsSteps why false world keep_going (all_steps lines) nothing_done reported folder state
+    → All (λ (used : Used). used.«package» ≡ input_package) state.used
+nothing_else_used why world keep_going lines reported folder state are runs =
+    each state.used (runs_on why world keep_going (all_steps lines) nothing_done reported folder state (on_lines lines are) runs tt)
+  where
+    each : (used : List Used) → AreInput used → All (λ (one : Used). one.«package» ≡ input_package) used
+    each [] are k d within = absurd (omega arith)
+    each (used ∷ more) are zero d within = are.0
+    each (used ∷ more) are (suc k) d within = each more are.1 k d (omega arith)

@@ -28,7 +28,7 @@ use Rattle.bz_journal.specs.Shown.{session_history}
 use Rattle.bz_journal.specs.State.{SessionState}
 use Rattle.bz_buildozer.specs.Journals.{JournalFault, JournalGives, JournalGivesOne, StandsAt, TakesBeside, file_of_journal, journal_beside, of_package, of_resuming}
 use Rattle.bz_buildozer.specs.Opens.{Takes}
-use Rattle.bz_buildozer.specs.Packages.{Opened, opened_with}
+use Rattle.bz_buildozer.specs.Found.{Opened, opened_with}
 use Rattle.bz_buildozer.proofs.FrontSteps.{front_takes}
 
 -- ---- what was resumed

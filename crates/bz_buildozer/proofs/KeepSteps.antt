@@ -1,17 +1,19 @@
 -- What keeping a file and its journal leaves, and what it does to the count of faults.
-use Rattle.std.proofs.Common.{◌≡◌, ◌≢◌, ◌⊎◌, ◌∙◌, ◌++◌, ◌∷◌, ◌≤◌, inl, inr, ℕ, List, [], Bool, true, false, Option, Some, Result, Ok, Err, refl, sym, ap, subst}
+use Rattle.std.proofs.Common.{◌≡◌, ◌≢◌, ◌⊎◌, ◌∙◌, ◌++◌, ◌∷◌, ◌≤◌, inl, inr, ℕ, List, [], true, false, Option, Some, Result, Ok, Err, refl, sym, ap, subst}
 use Rattle.std.specs.Option.{option_map_or}
 use Rattle.std.specs.Prelude.{IsSome}
 use Rattle.std.proofs.lemmas.Bool.Decides.{eqb_tells}
 use Rattle.bz_items.specs.Characters.{Bytes}
+use Rattle.bz_label.specs.declared.target.Target.{Target}
+use Rattle.bz_command_line.specs.declared.verb.Verb.{Verb}
 use Rattle.bz_journal.specs.declared.keeping.KeepFault.{KeepFault}
 use Rattle.bz_journal.specs.declared.keeping.KeepFault.TheVariants.{Pair, Refused}
 use Rattle.bz_value.specs.declared.refusal.Refusal.{Refusal}
 use Rattle.bz_value.specs.declared.refusal.Refusal.TheVariants.{Memory}
 use Rattle.bz_resume.specs.Resuming.{Holds}
-use Rattle.bz_buildozer.specs.Keeps.{KeepsAt, KeepsFile, after_keeping}
-use Rattle.bz_buildozer.specs.Packages.{Opened, Used, file_at, with_opened}
-use Rattle.bz_buildozer.specs.Sessions.{Action, Reply, History, Answer, Leads, present}
+use Rattle.bz_buildozer.specs.Keeps.{KeepsAt, KeepsFile, after_keeping, FolderAfter, is_left_at}
+use Rattle.bz_buildozer.specs.Found.{Opened, Used, file_at}
+use Rattle.bz_buildozer.specs.Sessions.{Action, Reply, History, Leads, present}
 use Rattle.bz_resume.specs.declared.pair_fault.PairFault.{PairFault}
 use Rattle.bz_resume.specs.declared.pair_fault.PairFault.TheVariants as f
 use Rattle.bz_streams.specs.declared.exit.Cut.{Cut}
@@ -20,18 +22,15 @@ use Rattle.bz_files.specs.declared.files.Files.{Ghosts as FilesOf}
 use Rattle.bz_streams.specs.Exits.{first_cut}
 use Rattle.bz_streams.proofs.Outputs.{counts_more}
 use Rattle.bz_buildozer.specs.Calls.{WorksOn}
-use Rattle.bz_buildozer.specs.Failing.{AnswersUntil, FailsAt}
-use Rattle.bz_buildozer.specs.Keeping.{AnswersBeside, FolderAfter, is_left_at, state_after}
 use Rattle.bz_buildozer.specs.Moments.{AllAreSafe}
-use Rattle.bz_buildozer.specs.Reported.{refusal_line, unkept_line}
-use Rattle.bz_buildozer.specs.Run.{Progress, printed_in, reported_of}
-use Rattle.bz_buildozer.specs.Steps.{RunStep, action_of}
-use Rattle.bz_buildozer.proofs.ActSteps.{file_put, led_on, led_to, still_open, was_refused}
+use Rattle.bz_buildozer.specs.Reported.{unkept_line}
+use Rattle.bz_buildozer.specs.Run.{Answers, Progress, printed_in, reported_of}
+use Rattle.bz_buildozer.specs.Steps.{action_of}
+use Rattle.bz_buildozer.proofs.ActSteps.{file_put, led_on, led_to, still_open}
 use Rattle.bz_buildozer.proofs.CutSteps.{files_cut}
-use Rattle.bz_buildozer.proofs.DoSteps.{acted_beside, or_false}
-use Rattle.bz_buildozer.proofs.FailSteps.{if_free}
+use Rattle.bz_buildozer.proofs.DoSteps.{fails_at, free_file, leads_by, memory_answers, refused, replied, step_at}
 use Rattle.bz_buildozer.proofs.SafeSteps.{goes_on_there, safe_at, survived}
-use Rattle.bz_buildozer.proofs.StandSteps.{Follows, follows}
+use Rattle.bz_buildozer.proofs.LeaveSteps.{still_same}
 
 -- it could not be written or read
 abbrev pub IsWritten : PairFault → Type 0
@@ -39,15 +38,11 @@ IsWritten fault = (fault ≡ f.Write) ⊎ (fault ≡ f.Open)
 
 -- ---- an action that is kept
 
-same_package : (answer : Answer) (h after : History) → Follows answer h after → after.«package» ≡ h.«package»
-same_package answer h after (inl same) = ap (λ (it : History). it.«package») same
-same_package answer h after (inr follows) = follows.1
-
 -- Where another text is the present one the history is kept, else nothing changes.
 pub kept_after : {F : Type 0} (files : FilesOf F) (file : Opened) (history : History) (reply : Reply) (old new : F) → files.honest old ≡ true
-    → Holds (files.folder old) file.name file.history.«package» (present file.history) file.history.texts → Follows (Ok reply) file.history history
-    → KeepsFile files file.name file.history history (Ok reply) old new → FolderAfter (Ok reply) file history (files.folder old) (files.folder new)
-kept_after files file history reply old new honest holds follows pair = elim (eqb_tells history.cursor file.history.cursor) [
+    → Holds (files.folder old) file.name file.history.«package» (present file.history) file.history.texts → history.«package» ≡ file.history.«package»
+    → KeepsFile files file.name file.history history (Ok reply) old new → FolderAfter true (Ok reply) file history (files.folder old) (files.folder new)
+kept_after files file history reply old new honest holds same_package pair = elim (eqb_tells history.cursor file.history.cursor) [
   | inl same ↦ inl (same.1, ap files.folder (pair.still same.1))
   | inr other ↦
       let done = pair.kept honest (present file.history, holds) other.1 in inr (
@@ -56,7 +51,7 @@ kept_after files file history reply old new honest holds follows pair = elim (eq
           steps = pair.steps;
           saved = pair.journal honest other.1;
           holds = subst (λ (current : Bytes). Holds (files.folder new) file.name current (present history) history.texts)
-              (sym (same_package (Ok reply) file.history history follows)) done.0;
+              (sym same_package) done.0;
           others = done.1;
         },
       )
@@ -68,15 +63,6 @@ pub not_changed : {F : Type 0} (files : FilesOf F) (file : Opened) (history : Hi
     → KeepsFile files file.name file.history history (Err (Pair fault)) old new → fault ≡ f.Changed → ⊥
 not_changed files file history fault old new honest holds pair is =
     pair.changed honest (ap (λ (it : PairFault). Err (Pair it)) is) holds.holds
-
-pub was_kept : (place : ℕ) (file : Opened) (reply : Reply) (history : History) (before after : Progress) (used : List Used) (printed : Bytes)
-    → after ≡ record before { used = used; printed = printed } → used ≡ with_opened place (Some (after_keeping (Ok reply) history file)) before.used
-    → printed ≡ before.printed ++ printed_in reply → after ≡ state_after place file (Ok reply) history before
-was_kept place file reply history before after used printed is put said =
-    is ∙ ap (λ (u : List Used). record { used = u; printed = printed; failed = before.failed }) put
-    ∙ ap (λ (text : Bytes). record { used = with_opened place (Some (after_keeping (Ok reply) history file)) before.used; printed = text; failed = before.failed }) said
-    ∙ ap (λ (b : Bool). record { used = with_opened place (Some (after_keeping (Ok reply) history file)) before.used; printed = before.printed ++ printed_in reply; failed = b })
-    (sym (or_false before.failed))
 
 -- what is done on files in two parts
 pub works_more : {F : Type 0} (files : FilesOf F) (cut later : Cut) (old mid new : F) → WorksOn files cut old mid → WorksOn files later mid new
@@ -107,12 +93,16 @@ pub wants_memory : (cut : Cut) → (cut ≡ c.Whole) ⊎ (cut ≡ c.Memory) → 
 wants_memory cut (inl whole) other = absurd (other whole)
 wants_memory cut (inr memory) other = memory
 
-module _ {F : Type 0} (files : FilesOf F) (counts : (held : F) (t : ℕ) → t ≤ files.moment held → files.since held t (files.folder held)) (step : RunStep) (place : ℕ)
-    (action : Action) (before : Progress) (used : List Used) (old new : F) (requested : action_of step.target step.request.verb ≡ Some action) (honest : files.honest old ≡ true)
-    (all : AllAreSafe (files.folder old) before.used) (free : is_left_at place before.used ≡ false) where
+module _ {F : Type 0} (files : FilesOf F) (counts : (held : F) (t : ℕ) → t ≤ files.moment held → files.since held t (files.folder held)) (target : Target) (verb : Verb)
+    (note : Bytes) (place : ℕ) (action : Action) (before after : Progress) (used : List Used) (old new : F) (requested : action_of target verb ≡ Some action)
+    (honest : files.honest old ≡ true) (all : AllAreSafe (files.folder old) before.used) (free : is_left_at place before.used ≡ false) where
   -- the action is kept, with this answer, or not
   abbrev pub Kept : Result Reply KeepFault → Type 0
-  Kept answer = KeepsAt files place action step.request.text before.used answer used old new
+  Kept answer = KeepsAt files place action note before.used answer used old new
+
+  -- what the step did
+  abbrev pub Did : Cut → List Bytes → Type 0
+  Did why lines = Answers why true (step_at target verb note) (Some place) (files.folder old) before lines (files.folder new) after
 
   free_at : (file : Opened) → file_at place before.used ≡ Some file → file.left ≡ false
   free_at file there = sym (ap (λ (found : Option Opened). option_map_or (λ (it : Opened). it.left) found false) there) ∙ free
@@ -121,76 +111,48 @@ module _ {F : Type 0} (files : FilesOf F) (counts : (held : F) (t : ℕ) → t �
       → Holds (files.folder old) file.name file.history.«package» (present file.history) file.history.texts
   holds_at file there = goes_on_there (files.folder old) file (free_at file there) (safe_at (files.folder old) place before.used file there all).1.1
 
-  answered_so : (file : Opened) (answer : Answer) (history : History) (after : Progress) → file_at place before.used ≡ Some file
-      → Leads action step.request.text file.history answer history → FolderAfter answer file history (files.folder old) (files.folder new)
-      → after ≡ state_after place file answer history before
-      → AnswersUntil c.Whole true step (Some place) (files.folder old) before (reported_of true file.name step.request.text answer) (files.folder new) after
-  answered_so file answer history after there leads following is =
-      subst (λ (found : Option Opened). AnswersBeside step place found (files.folder old) before (reported_of true file.name step.request.text answer) (files.folder new) after)
-      (sym (if_free (file_at place before.used) free))
-      (acted_beside step place (file_at place before.used) file action answer history (files.folder old) (files.folder new) before after there (sym requested) leads following is)
+  leads_on : (reply : Reply) (done : Kept (Ok reply)) → Leads action note done.file.history (Ok reply) done.history
+  leads_on reply done = led_on done.file.history done.history action note reply done.keeps
 
-  following_of : (reply : Reply) (done : Kept (Ok reply)) → FolderAfter (Ok reply) done.file done.history (files.folder old) (files.folder new)
+  following_of : (reply : Reply) (done : Kept (Ok reply)) → FolderAfter true (Ok reply) done.file done.history (files.folder old) (files.folder new)
   following_of reply done = kept_after files done.file done.history reply old new honest (holds_at done.file done.there)
-      (follows action step.request.text done.file.history done.history (Ok reply) (led_on done.file.history done.history action step.request.text reply done.keeps)) done.pair
+      (still_same action note done.file.history done.history (Ok reply) done.keeps).0 done.pair
 
-  pub kept_answers : (reply : Reply) (done : Kept (Ok reply)) (after : Progress) (printed : Bytes) → after ≡ record before { used = used; printed = printed }
-      → printed ≡ before.printed ++ printed_in reply → AnswersUntil c.Whole true step (Some place) (files.folder old) before [] (files.folder new) after
-  kept_answers reply done after printed is said = answered_so done.file (Ok reply) done.history after done.there
-      (led_on done.file.history done.history action step.request.text reply done.keeps) (following_of reply done)
-      (was_kept place done.file reply done.history before after used printed is done.kept said)
-
-  -- memory is refused to a step, which leaves the file so
-  fails_so : (answer : Result Reply KeepFault) (done : Kept answer) (after : Progress) (line printed : Bytes) → printed ≡ before.printed
-      → after ≡ record { used = used; printed = printed; failed = true } → FailsAt place before (line ∷ []) after
-  fails_so answer done after line printed same is = (
-    (line, refl),
-    (
-      Some (after_keeping answer done.history done.file),
-      is ∙ ap (λ (text : Bytes). record { used = used; printed = text; failed = true }) same ∙ ap (λ (u : List Used). record before { used = u; failed = true }) done.kept,
-    ),
-  )
+  pub kept_answers : (reply : Reply) (done : Kept (Ok reply)) (printed : Bytes) → after ≡ record before { used = used; printed = printed }
+      → printed ≡ before.printed ++ printed_in reply → Did c.Whole []
+  kept_answers reply done printed is said =
+      replied true (step_at target verb note) place done.file done.history (files.folder old) (files.folder new) before after used
+      (free_file true place before.used done.file done.there free) reply printed
+      (leads_by target verb note action done.file.history done.history (Ok reply) requested (leads_on reply done)) (following_of reply done) done.kept said is
 
   -- it was kept, and what it prints is not
-  pub unprinted_answers : (reply : Reply) (done : Kept (Ok reply)) (after : Progress) (line printed : Bytes) → printed ≡ before.printed
-      → after ≡ record { used = used; printed = printed; failed = true }
-      → AnswersUntil c.Memory true step (Some place) (files.folder old) before (line ∷ []) (files.folder new) after
-  unprinted_answers reply done after line printed same is = (
-    fails_so (Ok reply) done after line printed same is,
-    elim (following_of reply done) [
-      | inl stays ↦ inl stays.1
-      | inr pair ↦ inr (
-        refl,
-        (
-          after_keeping (Ok reply) done.history done.file,
-          ap (λ (state : Progress). file_at place state.used) is ∙ file_put place before.used used done.file (after_keeping (Ok reply) done.history done.file) done.there done.kept,
-          pair.1,
-        ),
-      )
-    ],
-  )
+  pub unprinted_answers : (result : Cut) (reply : Reply) (done : Kept (Ok reply)) (line printed : Bytes) → result ≡ c.Memory → printed ≡ before.printed
+      → after ≡ record { used = used; printed = printed; failed = true } → Did result (line ∷ [])
+  unprinted_answers result reply done line printed memory same is =
+      let next = after_keeping (Ok reply) done.history done.file in
+      memory_answers result true (step_at target verb note) place (files.folder old) (files.folder new) before after (line ∷ []) memory
+      (fails_at place next before after used printed line done.kept same is)
+      (elim (following_of reply done) [
+        | inl stays ↦ inl stays.1
+        | inr pair ↦ inr (
+          refl,
+          (next, ap (λ (state : Progress). file_at place state.used) is ∙ file_put place before.used used done.file next done.there done.kept, pair.1),
+        )
+      ])
 
-  pub refused_answers : (result : Cut) (refusal : Refusal) (done : Kept (Err (Refused refusal))) (after : Progress) → (result ≡ c.Whole) ⊎ (result ≡ c.Memory)
-      → (result ≡ c.Whole → refusal ≢ Memory) → after ≡ record before { used = used; failed = true }
-      → AnswersUntil result true step (Some place) (files.folder old) before (reported_of true done.file.name step.request.text (Err refusal)) (files.folder new) after
-  refused_answers result refusal done after (inl whole) other is =
-      subst (λ (it : Cut). AnswersUntil it true step (Some place) (files.folder old) before (reported_of true done.file.name step.request.text (Err refusal)) (files.folder new) after)
-      (sym whole) (answered_so done.file (Err refusal) done.history after done.there
-      (led_to done.file.history done.history action step.request.text refusal done.keeps (other whole)) (ap files.folder (done.pair.refused tt))
-      (was_refused place done.file refusal done.history before after used is done.kept))
-  refused_answers result refusal done after (inr memory) other is =
-      subst (λ (it : Cut). AnswersUntil it true step (Some place) (files.folder old) before (reported_of true done.file.name step.request.text (Err refusal)) (files.folder new) after)
-      (sym memory) (
-        fails_so (Err (Refused refusal)) done after (refusal_line true done.file.name step.request.text refusal) before.printed refl is,
-        inl (ap files.folder (done.pair.refused tt)),
-      )
+  pub refused_answers : (result : Cut) (refusal : Refusal) (done : Kept (Err (Refused refusal))) → (result ≡ c.Whole) ⊎ (result ≡ c.Memory)
+      → (result ≡ c.Whole → refusal ≢ Memory) → after ≡ record before { used = used; failed = true } → Did result (reported_of true done.file.name note (Err refusal))
+  refused_answers result refusal done kinds other is =
+      refused true (step_at target verb note) place done.file done.history (files.folder old) (files.folder new) before after used
+      (free_file true place before.used done.file done.there free) result refusal kinds
+      (λ whole. leads_by target verb note action done.file.history done.history (Err refusal) requested
+      (led_to done.file.history done.history action note refusal done.keeps (other whole))) (ap files.folder (done.pair.refused tt)) done.kept is
 
   -- the last moment of a pair that was not written
-  pub unkept_answers : (result : Cut) (fault : PairFault) (done : Kept (Err (Pair fault))) (after : Progress)
+  pub unkept_answers : (result : Cut) (fault : PairFault) (done : Kept (Err (Pair fault)))
       → ((result ≡ c.Whole) × (fault ≡ f.Changed)) ⊎ ((result ≡ c.Memory) × (fault ≡ f.Memory)) ⊎ ((result ≡ c.Files) × IsWritten fault)
-      → after ≡ record before { used = used; failed = true }
-      → AnswersUntil result true step (Some place) (files.folder old) before (unkept_line done.file.name fault ∷ []) (files.folder new) after
-  unkept_answers result fault done after why is = go why
+      → after ≡ record before { used = used; failed = true } → Did result (unkept_line done.file.name fault ∷ [])
+  unkept_answers result fault done why is = go why
     where
       file : Opened
       file = done.file
@@ -208,15 +170,14 @@ module _ {F : Type 0} (files : FilesOf F) (counts : (held : F) (t : ℕ) → t �
       untouched other = done.pair.untouched honest (λ same. other (pair_is fault f.Write same)) (files.folder new) last
 
       go : ((result ≡ c.Whole) × (fault ≡ f.Changed)) ⊎ ((result ≡ c.Memory) × (fault ≡ f.Memory)) ⊎ ((result ≡ c.Files) × IsWritten fault)
-          → AnswersUntil result true step (Some place) (files.folder old) before (unkept_line file.name fault ∷ []) (files.folder new) after
+          → Did result (unkept_line file.name fault ∷ [])
       go (inl changed) = absurd (not_changed files file done.history fault old new honest holds done.pair changed.1)
       go (inr (inl memory)) =
-          subst (λ (it : Cut). AnswersUntil it true step (Some place) (files.folder old) before (unkept_line file.name fault ∷ []) (files.folder new) after) (sym memory.0) (
-            fails_so (Err (Pair fault)) done after (unkept_line file.name fault) before.printed refl is,
-            inl (untouched (λ write. let e = sym memory.1 ∙ write in cc)),
-          )
+          memory_answers result true (step_at target verb note) place (files.folder old) (files.folder new) before after (unkept_line file.name fault ∷ []) memory.0
+          (fails_at place (after_keeping (Err (Pair fault)) done.history file) before after used before.printed (unkept_line file.name fault) done.kept refl is)
+          (inl (untouched (λ write. let e = sym memory.1 ∙ write in cc)))
       go (inr (inr written)) =
-          subst (λ (it : Cut). AnswersUntil it true step (Some place) (files.folder old) before (unkept_line file.name fault ∷ []) (files.folder new) after) (sym written.0) (
+          subst (λ (it : Cut). Did it (unkept_line file.name fault ∷ [])) (sym written.0) (
             refl,
             record {
               file = file;

@@ -5,7 +5,7 @@ use Rattle.bz_journal.specs.declared.keeping.KeepFault.TheVariants.{Pair}
 use Rattle.bz_resume.specs.declared.pair_fault.PairFault.{PairFault}
 use Rattle.bz_journal.specs.History.{History}
 use Rattle.bz_buildozer.specs.Keeps.{after_keeping}
-use Rattle.bz_buildozer.specs.Packages.{Opened}
+use Rattle.bz_buildozer.specs.Found.{Opened}
 
 -- the file with what was marked; `mid` is it before
 pub marked_written : (after : History) (file mid : Opened) (written : Bool) (from to : ℕ) → mid ≡ record file { history = after }

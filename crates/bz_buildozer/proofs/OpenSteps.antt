@@ -5,18 +5,13 @@ use Rattle.std.specs.Option.{option_map}
 use Rattle.std.proofs.lemmas.Slice.Eq.{bytes_eq-Decides}
 use Rattle.bz_grammar.specs.Spell.{limit}
 use Rattle.bz_items.specs.Characters.{Bytes}
-use Rattle.bz_streams.specs.Reported.{stdin}
-use Rattle.bz_buildozer.specs.Found.{found_in}
-use Rattle.bz_files.specs.Folder.{Folder}
-use Rattle.bz_buildozer.specs.Journals.{Adds, IsOpenedIn}
-use Rattle.bz_buildozer.specs.Opens.{Opens, Takes}
-use Rattle.bz_buildozer.specs.Packages.{Opened, Used, file_at, package_number, with_opened}
+use Rattle.bz_buildozer.specs.Opens.{Takes}
+use Rattle.bz_buildozer.specs.Found.{Opened, Used, file_at, package_number, with_opened}
 use Rattle.bz_buildozer.specs.declared.reading.Opening.{Opening}
 use Rattle.bz_buildozer.proofs.FileSteps.{last_none, last_put}
 use Rattle.bz_buildozer.proofs.FrontSteps.{front_takes}
 use Rattle.bz_streams.specs.declared.exit.Cut.{Cut}
-use Rattle.bz_buildozer.specs.Cuts.{IsLeft}
-use Rattle.bz_buildozer.specs.Run.{Uses, World}
+use Rattle.bz_buildozer.specs.Calls.{IsLeft}
 use Rattle.bz_streams.specs.Ports.{IsInput}
 use Rattle.bz_buildozer.specs.Steps.{input_package}
 
@@ -56,7 +51,7 @@ stays_none true long short less none = let e = none in absurd (cc)
 stays_none false (Some place) short less none = let e = none in absurd (cc)
 stays_none false None short less none = ap (option_map (λ (place : ℕ). place + 1)) (less refl)
 
-unused_before : (current : Bytes) (used : List Used) (one : Used) → package_number current (used ++ one ∷ []) ≡ None → package_number current used ≡ None
+pub unused_before : (current : Bytes) (used : List Used) (one : Used) → package_number current (used ++ one ∷ []) ≡ None → package_number current used ≡ None
 unused_before current [] one none = refl
 unused_before current (first ∷ more) one none =
     stays_none (bytes_eq first.package current) (package_number current (more ++ one ∷ [])) (package_number current more) (unused_before current more one) none
@@ -113,29 +108,3 @@ pub last_place : (used new : List Used) (current : Bytes) (file : Option Opened)
     → found ≡ option_map (λ _. length used) (file_at (length used) new)
 last_place used new current file found added is =
     is ∙ ap (option_map (λ (_ : Opened). length used)) (sym (last_file used new (record { «package» = current; file = file }) added))
-
-pub uses_input : (world : World) (current text : Bytes) (used new : List Used) (file : Option Opened) (lines : List Bytes) → current ≡ input_package
-    → package_number input_package used ≡ None → IsInput world.known text → Takes input_package stdin text file lines
-    → new ≡ used ++ record { «package» = input_package; file = file } ∷ [] → Uses world current used (length used) lines new
-uses_input world current text used new file lines is none input takes added =
-    subst (λ (name : Bytes). Uses world name used (length used) lines new) (sym is)
-    (inr (none, refl, (Some (stdin, text), file, inl (refl, (text, input, refl)), takes, added)))
-
-pub uses_found : (world : World) (current : Bytes) (used new : List Used) (file : Option Opened) (lines : List Bytes) → (current ≡ input_package → ⊥)
-    → package_number current used ≡ None → Opens current (found_in world.folder current) file lines
-    → new ≡ used ++ record { «package» = current; file = file } ∷ [] → Uses world current used (length used) lines new
-uses_found world current used new file lines other none opens added =
-    inr (none, refl, (found_in world.folder current, file, inr (other, refl), opens, added))
-
--- ---- what is opened, whatever comes
-
-file_more : (current : Bytes) (journals : Bool) (folder : Folder) (trusted : Bool) (file : Option Opened) → journals ≡ true → trusted ≡ true
-    → IfSome file (λ f. trusted ≡ true → IsOpenedIn journals folder current f) → IfSome file (IsOpenedIn true folder current)
-file_more current journals folder trusted None kept honest is = tt
-file_more current journals folder trusted (Some file) kept honest is = subst (λ (b : Bool). IsOpenedIn b folder current file) kept (is honest)
-
-pub adds_more : (current : Bytes) (journals : Bool) (folder : Folder) (number : Option ℕ) (before after : List Used) (trusted : Bool) → journals ≡ true → trusted ≡ true
-    → Adds current (λ f. trusted ≡ true → IsOpenedIn journals folder current f) number before after → Adds current (IsOpenedIn true folder current) number before after
-adds_more current journals folder number before after trusted kept honest (inl same) = inl same
-adds_more current journals folder number before after trusted kept honest (inr (file, is, at, opened)) =
-    inr (file, is, at, file_more current journals folder trusted file kept honest opened)

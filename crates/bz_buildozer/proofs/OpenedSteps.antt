@@ -1,9 +1,8 @@
 -- The file that an opening leaves, whatever comes.
-use Rattle.std.proofs.Common.{arith, ◌≡◌, true, ◌⊎◌, ◌∙◌, ◌+◌, ◌<◌, ◌++◌, inl, inr, ℕ, suc, Bool, List, [], ◌∷◌, length, take, Option, Some, None, Result, Ok, Err, refl, sym, ap, subst}
+use Rattle.std.proofs.Common.{arith, ◌≡◌, true, ◌⊎◌, ◌∙◌, ◌<◌, ◌++◌, inl, inr, ℕ, suc, Bool, List, [], ◌∷◌, length, Option, Some, None, Result, Ok, Err, refl, sym, ap, subst}
 use Rattle.std.specs.Prelude.{IfSome, IsSome, unwrap_or}
 use Rattle.std.specs.Option.{option_map}
 use Rattle.std.specs.FinMap.{get}
-use Rattle.bz_grammar.specs.Spell.{limit}
 use Rattle.bz_items.specs.Characters.{Bytes}
 use Rattle.bz_files.specs.Folder.{Folder}
 use Rattle.bz_files.specs.declared.files.Files.{Ghosts as FilesOf}
@@ -15,13 +14,13 @@ use Rattle.bz_streams.specs.Outputs.{Counts, Reports}
 use Rattle.bz_streams.specs.declared.exit.Cut.{Cut}
 use Rattle.bz_streams.specs.declared.exit.Cut.TheVariants as c
 use Rattle.bz_streams.specs.declared.sink.Sink.{Ghosts as SinkOf}
-use Rattle.bz_buildozer.specs.Found.{IsNameOf}
-use Rattle.bz_buildozer.specs.Journals.{Adds, IsOpenedIn, JournalFault, JournalGives, Puts, TakesBeside, fault_lines, file_of_journal, journal_beside, lines_of_journal}
+use Rattle.bz_buildozer.specs.Found.{IsNameOf, PackagesFound, found_at, found_in, found_second, second_name, Opened, Used, file_at, opened_with}
+use Rattle.bz_buildozer.specs.Journals.{IsOpenedIn, JournalFault, JournalGives, OpensBeside, TakesBeside, fault_lines, file_of_journal, journal_beside, lines_of_journal}
 use Rattle.bz_buildozer.specs.Keeps.{KeepsFolder, ReadsFiles}
 use Rattle.bz_buildozer.specs.Opens.{Extends, Fills}
-use Rattle.bz_buildozer.specs.Packages.{Opened, Used, file_at, opened_with, with_opened}
-use Rattle.bz_buildozer.proofs.FileSteps.{before_stay, none_stays, opened_there, put_last}
-use Rattle.bz_buildozer.proofs.JournalSteps.{front_beside}
+use Rattle.bz_buildozer.specs.Run.{OpensUntil, SecondUntil}
+use Rattle.bz_buildozer.proofs.FileSteps.{none_stays, opened_there, put_last}
+use Rattle.bz_buildozer.proofs.StandSteps.{found_holds}
 
 -- ---- what was taken
 
@@ -42,64 +41,64 @@ takes_some None current name text file lines (inl (accepted, is, reported)) =
 takes_some None current name text file lines (inr (fault, refused, is, reported)) = absurd (let e = is in cc)
 takes_some (Some bytes) current name text file lines (given, comes, is, reported) = given_some name text given file lines is reported
 
-pub taken : (journal : Option Bytes) (current name text : Bytes) (file : Option Opened) (lines : List Bytes) → TakesBeside journal current name text file lines
-    → IfSome file (λ f. TakesBeside journal current name text (Some f) [])
-taken journal current name text None lines takes = tt
-taken journal current name text (Some file) lines takes =
-    subst (λ (reported : List Bytes). TakesBeside journal current name text (Some file) reported) (takes_some journal current name text file lines takes).2 takes
+-- ---- what was found and opened
 
--- a file of which these first bytes were read
-pub is_opened : (journals : Bool) (folder : Folder) (current name front text : Bytes) (file : Opened) → IsNameOf current name → get folder name ≡ Some text
-    → front ≡ take (limit + 1) text → TakesBeside (journal_beside journals folder name) current name front (Some file) [] → IsOpenedIn journals folder current file
-is_opened journals folder current name front text file named held cut takes =
-    let journal = journal_beside journals folder name in
-    let whole = front_beside journal current name front text (Some file) [] cut takes in
-    let at = takes_some journal current name text file [] whole in record {
-      named = subst (IsNameOf current) (sym at.0) named;
-      there = ap (get folder) at.0 ∙ held ∙ ap Some (sym at.1);
-      opens = subst (λ (t : Bytes). TakesBeside (journal_beside journals folder file.name) current file.name t (Some file) []) (sym at.1)
-          (subst (λ (n : Bytes). TakesBeside (journal_beside journals folder n) current n text (Some file) []) (sym at.0) whole);
+opened_found : (journals : Bool) (folder : Folder) (current : Bytes) (found : Option PackagesFound) (file : Option Opened) (lines : List Bytes)
+    → ((name text : Bytes) → found ≡ Some (name, text) → IsNameOf current name × (get folder name ≡ Some text)) → OpensBeside journals folder current found file lines
+    → IfSome file (IsOpenedIn journals folder current)
+opened_found journals folder current found None lines holds opens = tt
+opened_found journals folder current None (Some file) lines holds opens = absurd (let e = opens.0 in cc)
+opened_found journals folder current (Some (name, text)) (Some file) lines holds takes =
+    let there = holds name text refl in
+    let at = takes_some (journal_beside journals folder name) current name text file lines takes in record {
+      named = subst (IsNameOf current) (sym at.0) there.0;
+      there = ap (get folder) at.0 ∙ there.1 ∙ ap Some (sym at.1);
+      opens = subst (TakesBeside (journal_beside journals folder file.name) current file.name file.read (Some file)) at.2
+          (subst (λ (t : Bytes). TakesBeside (journal_beside journals folder file.name) current file.name t (Some file) lines) (sym at.1)
+          (subst (λ (n : Bytes). TakesBeside (journal_beside journals folder n) current n text (Some file) lines) (sym at.0) takes));
     }
 
+second_holds : (folder : Folder) (current name text : Bytes) → found_second folder current ≡ Some (name, text) → IsNameOf current name × (get folder name ≡ Some text)
+second_holds folder current name text is = go (get folder (second_name current)) refl is
+  where
+    go : (held : Option Bytes) → get folder (second_name current) ≡ held → found_at (second_name current) held None ≡ Some (name, text)
+        → IsNameOf current name × (get folder name ≡ Some text)
+    go (Some bytes) there is =
+        let named : second_name current ≡ name = ap (λ (found : Option PackagesFound). (unwrap_or found ([], [])).0) is in
+        (inr (sym named), ap (get folder) (sym named) ∙ there ∙ ap (λ (found : Option PackagesFound). Some (unwrap_or found ([], [])).1) is)
+    go None there is = absurd (cc is)
+
+none_opened : (journals : Bool) (folder : Folder) (current : Bytes) (file : Option Opened) → file ≡ None → IfSome file (IsOpenedIn journals folder current)
+none_opened journals folder current file is = subst (λ (it : Option Opened). IfSome it (IsOpenedIn journals folder current)) (sym is) tt
+
+opened_second : (why : Cut) (journals : Bool) (folder : Folder) (current : Bytes) (file : Option Opened) (lines : List Bytes) → SecondUntil why journals folder current file lines
+    → IfSome file (IsOpenedIn journals folder current)
+opened_second c.Whole journals folder current file lines opens =
+    opened_found journals folder current (found_second folder current) file lines (second_holds folder current) opens
+opened_second c.Memory journals folder current file lines opens = none_opened journals folder current file opens.0
+opened_second c.Read journals folder current file lines opens = absurd opens
+opened_second c.Write journals folder current file lines opens = absurd opens
+opened_second c.Files journals folder current file lines opens = none_opened journals folder current file opens.0
+
+-- an open file is one that the folder has
+pub opened_until : (why : Cut) (journals : Bool) (folder : Folder) (current : Bytes) (file : Option Opened) (lines : List Bytes) → OpensUntil why journals folder current file lines
+    → IfSome file (IsOpenedIn journals folder current)
+opened_until c.Whole journals folder current file lines opens =
+    opened_found journals folder current (found_in folder current) file lines (found_holds folder current) opens
+opened_until c.Memory journals folder current file lines opens = none_opened journals folder current file opens.0
+opened_until c.Read journals folder current file lines opens = absurd opens
+opened_until c.Write journals folder current file lines opens = absurd opens
+opened_until c.Files journals folder current file lines (inl (why, more, told, second)) = opened_second why journals folder current file more second
+opened_until c.Files journals folder current file lines (inr (inl gone)) = opened_second c.Files journals folder current file lines gone.1
+opened_until c.Files journals folder current file lines (inr (inr unread)) = none_opened journals folder current file unread.1
+
 -- ---- what is put at a place
-
-if_some : (Is Now : Opened → Type 0) (file : Option Opened) → ((f : Opened) → Is f → Now f) → IfSome file Is → IfSome file Now
-if_some Is Now None more is = tt
-if_some Is Now (Some file) more is = more file is
-
-pub puts_more : (place : ℕ) (Is Now : Opened → Type 0) (number : Option ℕ) (before after : List Used) → ((f : Opened) → Is f → Now f)
-    → Puts place Is number before after → Puts place Now number before after
-puts_more place Is Now number before after more (file, put, at, is) = (file, put, at, if_some Is Now file more is)
-
-pub nothing_put : (place : ℕ) (Is : Opened → Type 0) (number : Option ℕ) (before after : List Used) → file_at place before ≡ None → number ≡ None → after ≡ before
-    → Puts place Is number before after
-nothing_put place Is number before after closed is same = (None, same ∙ sym (none_stays place before closed), is, tt)
-
--- what a text is opened as, with a journal or without, where the files are trusted
-pub taken_put : (Trusted : Type 0) (journal : Option Bytes) (current name text : Bytes) (place : ℕ) (number : Option ℕ) (before after : List Used) (file : Option Opened)
-    (lines : List Bytes) → (Trusted → TakesBeside journal current name text file lines) → after ≡ with_opened place file before
-    → number ≡ option_map (λ (_ : Opened). place) file → Puts place (λ f. Trusted → TakesBeside journal current name text (Some f) []) number before after
-taken_put Trusted journal current name text place number before after None lines takes put at = (None, put, at, tt)
-taken_put Trusted journal current name text place number before after (Some file) lines takes put at =
-    (Some file, put, at, λ trusted. taken journal current name text (Some file) lines (takes trusted))
 
 -- a file that fills a place as one thing says fills it as another does that follows
 pub fills_more : {E : Type 0} (sink : SinkOf E) (place : ℕ) (Is Now : Option Opened → List Bytes → Type 0) (number : Option ℕ) (before after : List Used) (old new : E)
     → ((file : Option Opened) (lines : List Bytes) → Is file lines → Now file lines) → Fills sink Is place number before after old new
     → Fills sink Now place number before after old new
 fills_more sink place Is Now number before after old new more (file, lines, is, put, at, reported) = (file, lines, more file lines is, put, at, reported)
-
--- what an opening puts that memory alone may cut
-pub whole_put : {E : Type 0} (sink : SinkOf E) (Trusted : Type 0) (journal : Option Bytes) (current name text : Bytes) (Is : Option Opened → List Bytes → Type 0) (place : ℕ)
-    (cut : Cut) (number : Option ℕ) (before after : List Used) (old new : E) → file_at place before ≡ None
-    → (Trusted → (file : Option Opened) (lines : List Bytes) → Is file lines → TakesBeside journal current name text file lines)
-    → (cut ≡ c.Whole → Fills sink Is place number before after old new) → (cut ≡ c.Whole) ⊎ ((cut ≡ c.Memory) × (number ≡ None) × (after ≡ before))
-    → Puts place (λ f. Trusted → TakesBeside journal current name text (Some f) []) number before after
-whole_put sink Trusted journal current name text Is place cut number before after old new closed takes whole (inl is) =
-    let done = whole is in
-    taken_put Trusted journal current name text place number before after done.0 done.1 (λ trusted. takes trusted done.0 done.1 done.2) done.3 done.4
-whole_put sink Trusted journal current name text Is place cut number before after old new closed takes whole (inr memory) =
-    nothing_put place _ number before after closed memory.1 memory.2
 
 -- what a journal leaves that is refused
 pub refused_fills : {E : Type 0} (sink : SinkOf E) (current name journal bytes text : Bytes) (fault : JournalFault) (place : ℕ) (number : Option ℕ) (used : List Used) (old new : E)
@@ -115,24 +114,12 @@ refused_fills sink current name journal bytes text fault place number used old n
   reported,
 )
 
-pub puts_there : (place : ℕ) (Is : Opened → Type 0) (number : Option ℕ) (before after : List Used) → place < length before → Puts place Is number before after
-    → IfSome number (λ at. IsSome (file_at at after))
-puts_there place Is number before after within (None, put, at, is) = subst (λ (found : Option ℕ). IfSome found (λ at. IsSome (file_at at after))) (sym at) tt
-puts_there place Is number before after within (Some file, put, at, is) =
+pub fills_there : {E : Type 0} (sink : SinkOf E) (place : ℕ) (Is : Option Opened → List Bytes → Type 0) (number : Option ℕ) (before after : List Used) (old new : E)
+    → place < length before → Fills sink Is place number before after old new → IfSome number (λ at. IsSome (file_at at after))
+fills_there sink place Is number before after old new within (None, lines, is, put, at, told) =
+    subst (λ (found : Option ℕ). IfSome found (λ at. IsSome (file_at at after))) (sym at) tt
+fills_there sink place Is number before after old new within (Some file, lines, is, put, at, told) =
     subst (λ (found : Option ℕ). IfSome found (λ at. IsSome (file_at at after))) (sym at) (opened_there place file before before after refl within put)
-
-pub puts_after : (place : ℕ) (Is : Opened → Type 0) (number : Option ℕ) (before after : List Used) → Puts place Is number before after → take place after ≡ take place before
-puts_after place Is number before after (file, put, at, is) = before_stay place file before after put
-
-pub added : (place : ℕ) (current : Bytes) (Is : Opened → Type 0) (number : Option ℕ) (used mid new : List Used) → place ≡ length used
-    → mid ≡ used ++ record { «package» = current; file = None } ∷ [] → Puts place Is number mid new → Adds current Is number used new
-added place current Is number used mid new last is (file, put, at, kind) =
-    inr (
-      file,
-      put_last place used mid new (record { «package» = current; file = None }) file last is put,
-      at ∙ ap (λ (n : ℕ). option_map (λ (_ : Opened). n) file) last,
-      kind,
-    )
 
 -- what fills the place of a package that was added makes it the last one
 pub fills_last : {E : Type 0} (sink : SinkOf E) (place : ℕ) (current added : Bytes) (Is : Option Opened → List Bytes → Type 0) (number : Option ℕ) (used mid after : List Used)
@@ -157,18 +144,6 @@ pub last_within : (place : ℕ) (used mid : List Used) (one : Used) → place �
 last_within place used mid one at is = let long = ap length is ∙ length_last used one in omega (arith, at, long)
 
 -- ---- files that are read
-
--- what is put of a file of which these first bytes were read
-pub read_put : {F : Type 0} (files : FilesOf F) (journals : Bool) (current name front : Bytes) (place : ℕ) (number : Option ℕ) (before after : List Used) (old mid : F)
-    → IsNameOf current name → (files.honest old ≡ true → (text : Bytes) × (get (files.folder old) name ≡ Some text) × (front ≡ take (limit + 1) text))
-    → (files.honest old ≡ true → files.folder mid ≡ files.folder old) → files.honest mid ≡ files.honest old
-    → Puts place (λ file. files.honest mid ≡ true → TakesBeside (journal_beside journals (files.folder mid) name) current name front (Some file) []) number before after
-    → Puts place (λ file. files.honest old ≡ true → IsOpenedIn journals (files.folder old) current file) number before after
-read_put files journals current name front place number before after old mid named found same honest put =
-    puts_more place _ _ number before after (λ file is trusted.
-    let held = found trusted in
-    is_opened journals (files.folder old) current name front held.0 file named held.1 held.2
-    (subst (λ (f : Folder). TakesBeside (journal_beside journals f name) current name front (Some file) []) (same trusted) (is (honest ∙ trusted)))) put
 
 -- two reads, one after the other, of which the first did not fail
 pub reads_on : {F : Type 0} (files : FilesOf F) (why : Cut) (old mid new : F) → (files.honest old ≡ true → files.folder mid ≡ files.folder old)

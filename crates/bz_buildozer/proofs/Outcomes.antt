@@ -1,116 +1,105 @@
 -- What words and lines come to, by what was read of them.
-use Rattle.std.proofs.Common.{◌≡◌, ◌≢◌, ◌⊎◌, ◌&&◌, ◌||◌, ◌++◌, option_map, inl, inr, ℕ, List, [], ◌∷◌, codes, Option, Some, None, IfSome, IsSome, Result, Ok, Err, IfOk, Bool, true, false, true≢false, refl, sym, ap, subst, ◌∙◌, bytes_eq}
+use Rattle.std.proofs.Common.{◌≡◌, ◌≢◌, ◌⊎◌, ◌&&◌, ◌||◌, inl, inr, ℕ, List, [], ◌∷◌, Option, Some, None, IfSome, IsSome, Result, Ok, Err, IfOk, Bool, true, false, true≢false, refl, sym, ap, subst, ◌∙◌, bytes_eq}
+use Rattle.std.specs.Prelude.{OnErr, OnOk}
+use Rattle.std.specs.Cmp.Lexicographic.{slice_cmp}
+use Rattle.std.specs.FinMap.{empty, get-empty}
 use Rattle.std.specs.List.{All, list_any}
-use Rattle.std.proofs.lemmas.List.{append-nil}
+use Rattle.std.specs.Ordering.{nat_cmp}
 use Rattle.std.proofs.lemmas.List.Elements.{All-head}
 use Rattle.std.proofs.lemmas.Slice.Eq.{bytes_eq-Decides}
-use Rattle.bz_lex.specs.declared.fault.ReadFault.{ReadFault}
 use Rattle.bz_items.specs.Characters.{Bytes}
-use Rattle.bz_files.specs.Folder.{Folder}
+use Rattle.bz_files.specs.Folder.{Folder, with_file}
+use Rattle.bz_files.proofs.Folders.{reads_back}
+use Rattle.bz_files.specs.declared.files.Files.{Ghosts as FilesOf}
 use Rattle.bz_label.specs.declared.target.Target.{Target}
-use Rattle.bz_command_line.specs.Requested.{Requested, Request, Refused, Usage, in_line, accepted, requested_of, complete, operand_group}
+use Rattle.bz_command_line.specs.Requested.{Requested, Request, Refused, Usage, accepted, requested_of, complete, operand_group}
 use Rattle.bz_command_line.specs.Line.{Given, script, CommandLine, LineUsage, command_line_of}
-use Rattle.bz_command_line.specs.Refused.{IsGroupFault, IsScriptFault}
+use Rattle.bz_command_line.specs.Refused.{IsScriptFault}
 use Rattle.bz_command_line.specs.Script.{script_of}
 use Rattle.bz_command_line.specs.declared.line.Options.{Options}
 use Rattle.bz_streams.specs.Faults.{AppendsUnlessFailed}
 use Rattle.bz_streams.specs.Outputs.{Reports}
-use Rattle.bz_streams.specs.Reported.{named_line, fault_line}
 use Rattle.bz_streams.proofs.Outputs.{appends_nothing}
+use Rattle.bz_streams.specs.declared.exit.Cut.{Cut}
 use Rattle.bz_streams.specs.declared.exit.Cut.TheVariants as c
 use Rattle.bz_streams.specs.declared.exit.Exit.{Exit}
 use Rattle.bz_streams.specs.declared.sink.Sink.{Ghosts as SinkOf}
-use Rattle.bz_files.specs.declared.files.Files.{Ghosts as FilesOf}
-use Rattle.bz_buildozer.specs.Calls.{LeavesOutcome}
-use Rattle.bz_buildozer.specs.Ending.{Left, LeftStands}
-use Rattle.bz_buildozer.specs.Outcome.{unused, LinesLeave, AreOfInput, AreOfInputAndSome, IsOfInput, NamesNoFile, KeepsJournals, IsScript, IsText, IsTextFault, reported_name, OperandsOutcome, LinesOutcome, TextOutcome, ScriptOutcome, GivenOutcome, LineOutcome, WordsOutcome}
+use Rattle.bz_buildozer.specs.Calls.{EndsIn, PrintsAll, PrintsUntil, ReportsLine, ReportsLines}
+use Rattle.bz_buildozer.specs.Ending.{Ended}
+use Rattle.bz_buildozer.specs.Outcome.{unused, IsUnused, IsScriptFront, out_of_memory, OrOutOfMemory, LinesEnd, AreOfInput, AreOfInputAndSome, IsOfInput, NamesNoFile, KeepsJournals, IsScript, IsText, reported_name, OperandsOutcome, LinesOutcome, TextOutcome, ScriptOutcome, GivenOutcome, LineOutcome, WordsOutcome}
 use Rattle.bz_buildozer.specs.Run.{World}
 use Rattle.bz_buildozer.specs.Steps.{is_of_input, names_input, input_package}
-use Rattle.bz_buildozer.specs.Reported.{usage_line, refused_place, IsLineUsageLine, input_line}
-use Rattle.bz_buildozer.proofs.TextSteps.{IsReadOf, whole_outcome}
+use Rattle.bz_buildozer.specs.Reported.{memory_line, no_journal_line, unread_line, unread_status, usage_line, IsLineUsageLine}
+use Rattle.bz_buildozer.proofs.EndingSteps.{prints_none}
+use Rattle.bz_buildozer.proofs.ExactReads.{output_empty_where_input_fails}
+use Rattle.bz_buildozer.proofs.StandSteps.{not_input}
+use Rattle.bz_buildozer.proofs.TextSteps.{IsReadOf, script_read, whole_outcome}
 
 -- ---- lines on standard error
 
 pub reported_once : (f g : ℕ) (old new : Option Bytes) (line : Bytes) → AppendsUnlessFailed f g old new line → Reports f g old new (line ∷ [])
 reported_once f g old new line reported = (g, new, reported, (refl, refl))
 
--- What was reported holds for what was requested.
-pub usage_reported : (found : Option Usage) (file : Bytes) (f g : ℕ) (old new : Option Bytes) → IsSome found
-    → IfSome found (λ usage. AppendsUnlessFailed f g old new (usage_line file usage))
-    → (usage : Usage) × (line : Bytes) × (found ≡ Some usage) × (line ≡ usage_line file usage) × Reports f g old new (line ∷ [])
-usage_reported None file f g old new is holds = absurd (true≢false (sym is))
-usage_reported (Some usage) file f g old new is holds = (usage, usage_line file usage, refl, refl, reported_once f g old new (usage_line file usage) holds)
-
--- of operands nothing more is printed
-pub group_reported : (found : Option Usage) (f g : ℕ) (old new : Option Bytes)
-    → IfSome found (λ usage. (file : Bytes) → AppendsUnlessFailed f g old new (usage_line file usage ++ []))
-    → IfSome found (λ usage. AppendsUnlessFailed f g old new (usage_line [] usage))
-group_reported None f g old new holds = tt
-group_reported (Some usage) f g old new holds = subst (AppendsUnlessFailed f g old new) (append-nil (usage_line [] usage)) (holds [])
-
--- of a line its place
-pub line_reported : (found : Option Usage) (line : ℕ) (file after : Bytes) (f g : ℕ) (old new : Option Bytes) → after ≡ refused_place file line
-    → IfSome found (λ usage. (other : Bytes) → AppendsUnlessFailed f g old new (usage_line other usage ++ after))
-    → IfSome (option_map (in_line line) found) (λ usage. AppendsUnlessFailed f g old new (usage_line file usage))
-line_reported None line file after f g old new is holds = tt
-line_reported (Some usage) line file after f g old new is holds =
-    subst (λ (it : Bytes). AppendsUnlessFailed f g old new (usage_line file usage ++ it)) is (holds file)
-
-pub some_in_line : (found : Option Usage) (line : ℕ) → IsSome found → IsSome (option_map (in_line line) found)
-some_in_line None line is = is
-some_in_line (Some usage) line is = refl
-
-pub line_usage_reported : (words : List Bytes) (found : Option LineUsage) (f g : ℕ) (old new : Option Bytes) → IsSome found
-    → IfSome found (λ usage. (line : Bytes) × IsLineUsageLine words usage line × AppendsUnlessFailed f g old new line)
-    → (usage : LineUsage) × (line : Bytes) × (found ≡ Some usage) × IsLineUsageLine words usage line × Reports f g old new (line ∷ [])
-line_usage_reported words None f g old new is holds = absurd (true≢false (sym is))
-line_usage_reported words (Some usage) f g old new is holds = (usage, holds.0, refl, holds.1, reported_once f g old new holds.0 holds.2)
-
 pub at_some : {A : Type 0} (P : A → Type 0) (found : Option A) (x : A) → found ≡ Some x → IfSome found P → P x
 at_some P found x is holds = subst (λ it. IfSome it P) is holds
 
--- Nothing was done, and one line printed.
-pub stands_unused : (folder folder' : Folder) (line : Bytes) (status : ℕ) (out : Option Bytes) (f g : ℕ) (old new : Option Bytes) → folder' ≡ folder
-    → status ≡ 1 → Reports f g old new (line ∷ []) → LeftStands (unused folder line) status folder' out out f g old new
-stands_unused folder folder' line status out f g old new same exit reported = record { exit = exit; files = same; output = appends_nothing out; lines = reported }
+-- ---- how runs end
 
--- What is left as one thing says is left as another does that follows.
-pub leaves_more : {W E F : Type 0} (sink : SinkOf W) (errors : SinkOf E) (files : FilesOf F) (Is Now : Left → Type 0) (exit : Exit) (out out' : W) (err err' : E) (held' : F)
-    → ((left : Left) → Is left → Now left) → LeavesOutcome sink errors files Is exit out out' err err' held' → LeavesOutcome sink errors files Now exit out out' err err' held'
-leaves_more sink errors files Is Now exit out out' err err' held' more leaves = record {
-  whole = λ is. let done = leaves.whole is in (done.0, more done.0 done.1, done.2);
-  write = λ is. let done = leaves.write is in (done.0, more done.0 done.1, done.2, done.3);
-}
+-- What was found and reported where a run has status 1. (The calls that reported it and ended the run, and standard error after either.)
+pub told_found : {A E X : Type 0} (told : Result Unit X) (exit : Exit) (found : Option A) (mid new : E) (Q : A → E → Type 0) (B : Type 0) → exit.status ≡ 1
+    → OnOk told (IsSome found) → OnOk told (IfSome found (λ x. Q x mid)) → OnOk told ((exit ≡ record { status = 1; cut = c.Whole }) × (new ≡ mid))
+    → OnErr told ((exit ≡ record { status = 2; cut = c.Memory }) × B) → (x : A) × (found ≡ Some x) × Q x new
+told_found (Ok done) exit None mid new Q B is some reported ok refused = absurd (true≢false (sym some))
+told_found (Ok done) exit (Some x) mid new Q B is some reported ok refused = (x, refl, subst (Q x) (sym ok.1) reported)
+told_found (Err fault) exit found mid new Q B is some reported ok refused = absurd (let e = sym (ap (λ (it : Exit). it.status) refused.0) ∙ is in cc)
 
--- Standard output doesn't cut what memory alone cuts.
-pub unwritten : (exit : Exit) → (exit.cut ≢ c.Whole → exit ≡ record { status = 2; cut = c.Memory }) → exit.cut ≡ c.Write → ⊥
-unwritten exit memory is =
-    let out : exit.cut ≡ c.Memory = ap (λ (it : Exit). it.cut) (memory (λ whole. absurd (cc (sym is ∙ whole)))) in
-    absurd (cc (sym is ∙ out))
+-- a file of lines that can't be read
+pub exit_of : (exit : Exit) (why : Cut) → exit.status ≡ unread_status why → exit.cut ≡ why → exit ≡ record { status = unread_status why; cut = why }
+exit_of exit why status is =
+    ap (λ (n : ℕ). record { status = n; cut = exit.cut }) status ∙ ap (λ (it : Cut). record { status = unread_status why; cut = it }) is
 
-pub apart : (name : Bytes) → bytes_eq name input_package ≡ false → name ≢ input_package
-apart name differs same = true≢false (ap (λ (it : Bytes). bytes_eq it input_package) (sym same) ∙ differs)
+module _ {W E F : Type 0} (sink : SinkOf W) (errors : SinkOf E) (files : FilesOf F) (exit : Exit) where
+  -- What is left as one thing says is left as another does that follows.
+  pub ends_more : (Is Now : Ended → Type 0) (out out' : W) (err err' : E) (held' : F) → ((ended : Ended) → Is ended → Now ended)
+      → EndsIn sink errors files Is exit out out' err err' held' → EndsIn sink errors files Now exit out out' err err' held'
+  ends_more Is Now out out' err err' held' more (ended, is, leaves) = (ended, more ended is, leaves)
+
+  module _ (world : World) (out : W) (err err' : E) (held : F) (same : files.folder held ≡ world.folder) where
+    -- Nothing was done, and one line printed.
+    pub ends_unused : (Is : Ended → Type 0) (line : Bytes) → Is (unused world.folder line) → exit ≡ record { status = 1; cut = c.Whole } → ReportsLines errors err err' (line ∷ [])
+        → EndsIn sink errors files Is exit out out err err' held
+    ends_unused Is line is ends reported = (
+      unused world.folder line,
+      is,
+      record { exit_is = ends; folder = same; output = appends_nothing (sink.contents out); lines = reported },
+    )
+
+    -- That was reported by this call, or memory was refused to it.
+    pub ends_told : {X : Type 0} (Is : Ended → Type 0) (told : Result Unit X) (mid : E)
+        → (exit.status ≡ 1 → (line : Bytes) × Is (unused world.folder line) × ReportsLines errors err err' (line ∷ [])) → OnErr told (mid ≡ err)
+        → OnOk told ((exit ≡ record { status = 1; cut = c.Whole }) × (err' ≡ mid))
+        → OnErr told ((exit ≡ record { status = 2; cut = c.Memory }) × ReportsLine errors mid err' memory_line)
+        → EndsIn sink errors files (OrOutOfMemory world Is) exit out out err err' held
+    ends_told Is (Ok done) mid usage still ok refused =
+        let told = usage (ap (λ (it : Exit). it.status) ok.0) in ends_unused (OrOutOfMemory world Is) told.0 (inr told.1) ok.0 told.2
+    ends_told Is (Err fault) mid usage still ok refused = (
+      out_of_memory world.folder,
+      inl refl,
+      record {
+        exit_is = refused.0;
+        folder = same;
+        output = appends_nothing (sink.contents out);
+        lines = reported_once (errors.faults err) (errors.faults err') (errors.contents err) (errors.contents err') memory_line
+            (subst (λ (from : E). ReportsLine errors from err' memory_line) still refused.1);
+      },
+    )
 
 -- ---- operands
 
-pub operands_refused : (options : Options) (texts : List Bytes) (world : World) (found : Option Usage) (usage : Usage) (line : Bytes) (status : ℕ)
-    (out : Option Bytes) (f g : ℕ) (old new : Option Bytes) → IfSome found (IsGroupFault texts) → found ≡ Some usage → line ≡ usage_line [] usage
-    → status ≡ 1 → Reports f g old new (line ∷ []) → (left : Left) × OperandsOutcome options texts world left × LeftStands left status world.folder out out f g old new
-operands_refused options texts world found usage line status out f g old new fault is reported exit reports = (
-  unused world.folder line,
-  inl (usage, at_some (IsGroupFault texts) found usage is fault, ap (unused world.folder) reported),
-  stands_unused world.folder world.folder line status out f g old new refl exit reports,
-)
-
-pub operands_done : (options : Options) (texts : List Bytes) (world : World) (requested : Requested) (lines : List Requested) (left : Left) → operand_group texts ≡ Ok requested
-    → lines ≡ requested ∷ [] → LinesLeave options lines world left → OperandsOutcome options texts world left
-operands_done options texts world requested lines left is same leave =
-    inr (requested, is, subst (λ (these : List Requested). LinesLeave options these world left) same leave)
-
-pub operands_of_input : (texts : List Bytes) (requested : Requested) (lines : List Requested) → operand_group texts ≡ Ok requested → lines ≡ requested ∷ []
-    → IfOk (operand_group texts) (λ requested. AreOfInput (requested ∷ [])) → AreOfInput lines
-operands_of_input texts requested lines is same are =
-    subst AreOfInput (sym same) (subst (λ (it : Result Requested Usage). IfOk it (λ requested. AreOfInput (requested ∷ []))) is are)
+pub operands_done : (options : Options) (texts : List Bytes) (world : World) (requested : Requested) (lines : List Requested) (ended : Ended) → operand_group texts ≡ Ok requested
+    → lines ≡ requested ∷ [] → LinesEnd options lines world ended → OrOutOfMemory world (OperandsOutcome options texts world) ended
+operands_done options texts world requested lines ended is same ends =
+    inr (inr (requested, is, subst (λ (these : List Requested). LinesEnd options these world ended) same ends))
 
 -- Operands that request something have a target.
 has_target : (commands : List Request) (targets : List Target) (requested : Requested) → complete commands targets ≡ Ok requested
@@ -144,8 +133,8 @@ pub operands_premise : (honest : Bool) (texts : List Bytes) (requested : Request
     → (honest ≡ true) ⊎ IfOk (operand_group texts) (λ requested. AreOfInput (requested ∷ [])) → (honest ≡ true) ⊎ AreOfInputAndSome lines
 operands_premise honest texts requested lines is same (inl is_honest) = inl is_honest
 operands_premise honest texts requested lines is same (inr are) =
-    let all = operands_of_input texts requested lines is same are in
-    inr (all, ap names_input same ∙ group_named texts requested is (subst AreOfInput same all))
+    let all : AreOfInput (requested ∷ []) = subst (λ (it : Result Requested Usage). IfOk it (λ requested. AreOfInput (requested ∷ []))) is are in
+    inr (subst AreOfInput (sym same) all, ap names_input same ∙ group_named texts requested is all)
 
 -- rules of standard input that operands name
 pub names_given : (texts : List Bytes) (requested : Requested) (lines : List Requested) → operand_group texts ≡ Ok requested → lines ≡ requested ∷ []
@@ -172,94 +161,105 @@ pub lines_premise : (honest journals : Bool) (lines : List Requested) → journa
 lines_premise honest journals lines neither (inl is) = inl is
 lines_premise honest journals lines neither (inr named) = inr (not_both journals (names_input lines) neither named.1, named.0)
 
+-- rules of standard input are meant where journals are kept
+pub no_journal : (options : Options) (lines : List Requested) (world : World) → options.journal ≡ true → names_input lines ≡ true
+    → LinesEnd options lines world (unused world.folder no_journal_line)
+no_journal options lines world kept named = inl (ap (λ (b : Bool). b && names_input lines) kept ∙ named, refl)
+
 -- ---- the text of a file of lines
 
-pub text_invalid : (options : Options) (name text reported : Bytes) (world : World) (fault : ReadFault) (out : Option Bytes) (f g : ℕ) (old new : Option Bytes)
-    → IsTextFault text fault → reported ≡ reported_name name → AppendsUnlessFailed f g old new (fault_line reported fault)
-    → (left : Left) × TextOutcome options name (Some text) world left × LeftStands left 1 world.folder out out f g old new
-text_invalid options name text reported world fault out f g old new invalid called appends =
-    let line : Bytes = fault_line reported fault in (
-      unused world.folder line,
-      inl (fault, invalid, ap (λ (it : Bytes). unused world.folder (fault_line it fault)) called),
-      stands_unused world.folder world.folder line 1 out f g old new refl refl (reported_once f g old new line appends),
-    )
+-- it requests these lines
+pub text_lines : (options : Options) (name text text' : Bytes) (world : World) (lines lines' : List Requested) (ended : Ended) → text' ≡ text → IsText text
+    → script_of text' ≡ Ok lines → lines' ≡ lines → LinesOutcome options (bytes_eq name input_package) lines' world ended → TextOutcome options name text world ended
+text_lines options name text text' world lines lines' ended same valid is these outcome = inr (inr (
+  valid,
+  (
+    lines,
+    ap script_of (sym same) ∙ is,
+    subst (λ (it : List Requested). LinesOutcome options (bytes_eq name input_package) it world ended) these outcome,
+  ),
+))
 
-pub text_refused : (options : Options) (name text text' reported : Bytes) (world : World) (found : Option Usage) (usage : Usage) (line : Bytes) (status : ℕ)
-    (out : Option Bytes) (f g : ℕ) (old new : Option Bytes) → text' ≡ text → IsText text → IfSome found (IsScriptFault text') → found ≡ Some usage
-    → reported ≡ reported_name name → line ≡ usage_line reported usage → status ≡ 1 → Reports f g old new (line ∷ [])
-    → (left : Left) × TextOutcome options name (Some text) world left × LeftStands left status world.folder out out f g old new
-text_refused options name text text' reported world found usage line status out f g old new same valid fault is called says exit reports =
-    let why : IsScriptFault text usage = subst (λ (it : Bytes). IsScriptFault it usage) same (at_some (IsScriptFault text') found usage is fault) in
-    let as_reported : line ≡ usage_line (reported_name name) usage = says ∙ ap (λ (it : Bytes). usage_line it usage) called in (
-      unused world.folder line,
-      inr (inl (valid, (usage, why, ap (unused world.folder) as_reported))),
-      stands_unused world.folder world.folder line status out f g old new refl exit reports,
-    )
-
--- its lines mean rules of standard input, where they are there
-pub text_refuses : (options : Options) (name text text' : Bytes) (world : World) (lines lines' : List Requested) (status : ℕ) (out : Option Bytes) (f g : ℕ)
-    (old new : Option Bytes) → text' ≡ text → IsText text → script_of text' ≡ Ok lines → lines' ≡ lines → bytes_eq name input_package && names_input lines' ≡ true
-    → status ≡ 1 → AppendsUnlessFailed f g old new input_line
-    → (left : Left) × TextOutcome options name (Some text) world left × LeftStands left status world.folder out out f g old new
-text_refuses options name text text' world lines lines' status out f g old new same valid is these both exit reported = (
-  unused world.folder input_line,
-  inr (inr (valid, (lines, ap script_of (sym same) ∙ is, inl (ap (λ (l : List Requested). bytes_eq name input_package && names_input l) (sym these) ∙ both, refl)))),
-  stands_unused world.folder world.folder input_line status out f g old new refl exit (reported_once f g old new input_line reported),
-)
-
-pub text_done : (options : Options) (name text text' : Bytes) (folder : Folder) (known left_over : Option Bytes) (lines lines' : List Requested) (left : Left)
-    → text' ≡ text → IsText text → script_of text' ≡ Ok lines → lines' ≡ lines → bytes_eq name input_package && names_input lines' ≡ false
-    → (name ≢ input_package → known ≡ left_over) → LinesLeave options lines' (record { folder = folder; known = left_over }) left
-    → TextOutcome options name (Some text) (record { folder = folder; known = known }) left
-text_done options name text text' folder known left_over lines lines' left same valid is these neither unread leave =
-    let world : World = record { folder = folder; known = known } in
-    let outcome : LinesOutcome options (bytes_eq name input_package) lines' world left =
-    inr (neither, (left_over, λ other. sym (unread (apart name other)), leave)) in
-    inr (inr (valid, (lines, ap script_of (sym same) ∙ is, subst (λ (it : List Requested). LinesOutcome options (bytes_eq name input_package) it world left) these outcome)))
+-- a usage of it is reported
+pub text_unused : (options : Options) (name text text' reported line : Bytes) (world : World) (found : Option Usage) (usage : Usage) → text' ≡ text → IsText text
+    → IfSome found (IsScriptFault text') → found ≡ Some usage → reported ≡ reported_name name → line ≡ usage_line reported usage
+    → TextOutcome options name text world (unused world.folder line)
+text_unused options name text text' reported line world found usage same valid fault is called says = inr (inl (
+  valid,
+  (
+    usage,
+    subst (λ (it : Bytes). IsScriptFault it usage) same (at_some (IsScriptFault text') found usage is fault),
+    ap (unused world.folder) (says ∙ ap (λ (it : Bytes). usage_line it usage) called),
+  ),
+))
 
 -- ---- a file of lines
 
-pub script_unread : (options : Options) (name reported : Bytes) (world : World) (folder' : Folder) (status : ℕ) (out : Option Bytes) (f g : ℕ) (old new : Option Bytes)
-    → folder' ≡ world.folder → IsScript world name None → reported ≡ reported_name name → status ≡ 1
-    → AppendsUnlessFailed f g old new (named_line reported (codes "cannot open"))
-    → (left : Left) × ScriptOutcome options name world left × LeftStands left status folder' out out f g old new
-script_unread options name reported world folder' status out f g old new same is called exit appends =
-    let line : Bytes = named_line reported (codes "cannot open") in (
-      unused world.folder line,
-      (None, is, ap (λ (it : Bytes). unused world.folder (named_line it (codes "cannot open"))) called),
-      stands_unused world.folder folder' line status out f g old new same exit (reported_once f g old new line appends),
-    )
-
-pub script_done : (options : Options) (name whole text text' : Bytes) (folder folder' : Folder) (known : Option Bytes) (left : Left) → text' ≡ text
+pub script_done : (options : Options) (name whole text text' : Bytes) (folder folder' : Folder) (known : Option Bytes) (ended : Ended) → text' ≡ text
     → folder' ≡ folder → IsScript (record { folder = folder; known = known }) name (Some whole) → IsReadOf whole text
-    → TextOutcome options name (Some text') (record { folder = folder'; known = known }) left
-    → ScriptOutcome options name (record { folder = folder; known = known }) left
-script_done options name whole text text' folder folder' known left same still is read outcome =
-    let world : World = record { folder = folder'; known = known } in (
-      Some whole,
+    → OrOutOfMemory (record { folder = folder'; known = known }) (TextOutcome options name text' (record { folder = folder'; known = known })) ended
+    → OrOutOfMemory (record { folder = folder; known = known }) (ScriptOutcome options name (record { folder = folder; known = known })) ended
+script_done options name whole text text' folder folder' known ended same still is read (inl memory) = inl (memory ∙ ap out_of_memory still)
+script_done options name whole text text' folder folder' known ended same still is read (inr outcome) =
+    let world : World = record { folder = folder'; known = known } in inr (inl (
+      whole,
       is,
-      subst (λ (it : Folder). TextOutcome options name (Some whole) (record { folder = it; known = known }) left) still
-          (whole_outcome options name whole text world left read (subst (λ (it : Bytes). TextOutcome options name (Some it) world left) same outcome)),
+      subst (λ (it : Folder). TextOutcome options name whole (record { folder = it; known = known }) ended) still
+          (whole_outcome options name whole text world ended read (subst (λ (it : Bytes). TextOutcome options name it world ended) same outcome)),
+    ))
+
+-- There is no file of lines.
+pub script_missing : (honest : Bool) (world : World) (options : Options) (name : Bytes) → (honest ≡ true → IsScript world name None) → name ≢ input_package
+    → IsUnused honest world (ScriptOutcome options name) (unread_line (reported_name name) c.Whole)
+script_missing true world options name is other = (world, (λ _. refl), inr (refl, (λ write. absurd (cc write)), λ _. is refl))
+script_missing false world options name is other =
+    (record { folder = empty; known = None }, (λ honest. absurd (cc honest)), inr (refl, (λ write. absurd (cc write)), λ _. inr (other, sym (get-empty (slice_cmp nat_cmp) name))))
+
+-- The text was read of the file of lines.
+pub script_unused : (honest : Bool) (world : World) (options : Options) (name text text' line : Bytes) → text' ≡ text → (honest ≡ true → IsScriptFront world name text)
+    → ((now : World) → TextOutcome options name text' now (unused now.folder line)) → IsUnused honest world (ScriptOutcome options name) line
+script_unused true world options name text text' line same is outcome =
+    let read = script_read world name text (is refl) in (
+      world,
+      (λ _. refl),
+      inl (
+        read.0,
+        read.1,
+        whole_outcome options name read.0 text world (unused world.folder line) read.2
+            (subst (λ (it : Bytes). TextOutcome options name it world (unused world.folder line)) same (outcome world)),
+      ),
     )
+script_unused false world options name text text' line same is outcome = (now, (λ honest. absurd (cc honest)), inl (text', there (bytes_eq name input_package) refl, outcome now))
+  where
+    now : World
+    now = record { folder = with_file world.folder name text'; known = Some text' }
+
+    there : (b : Bool) → bytes_eq name input_package ≡ b → IsScript now name (Some text')
+    there true of_input = inl ((bytes_eq-Decides name input_package).0 of_input, (text', refl, refl))
+    there false other = inr (not_input name other, sym (reads_back world.folder name text'))
 
 -- ---- words
 
-pub words_refused : (words : List Bytes) (world : World) (found : Option LineUsage) (usage : LineUsage) (line : Bytes) (status : ℕ) (out : Option Bytes)
-    (f g : ℕ) (old new : Option Bytes) → IfSome found (λ usage. command_line_of words ≡ Err usage) → found ≡ Some usage → IsLineUsageLine words usage line
-    → status ≡ 1 → Reports f g old new (line ∷ []) → (left : Left) × WordsOutcome words world left × LeftStands left status world.folder out out f g old new
-words_refused words world found usage line status out f g old new fault is reported exit reports =
-    let left = unused world.folder line in
-    let refused : LineOutcome words (Err usage) world left = (line, reported, refl) in (
-      left,
-      subst (λ (it : Result CommandLine LineUsage). LineOutcome words it world left) (sym (at_some (λ usage. command_line_of words ≡ Err usage) found usage is fault)) refused,
-      stands_unused world.folder world.folder line status out f g old new refl exit reports,
-    )
+-- what comes of words by what was read of them
+words_so : (words : List Bytes) (found : Result CommandLine LineUsage) (world : World) (ended : Ended) → command_line_of words ≡ found → LineOutcome words found world ended
+    → LineOutcome words (command_line_of words) world ended
+words_so words found world ended is = subst (λ (it : Result CommandLine LineUsage). LineOutcome words it world ended) (sym is)
 
-pub words_done : (words : List Bytes) (line : CommandLine) (given : Given) (world : World) (left : Left) → command_line_of words ≡ Ok line → line.given ≡ given
-    → GivenOutcome line.options given world left → WordsOutcome words world left
-words_done words line given world left is same outcome =
-    let whole : LineOutcome words (Ok line) world left = subst (λ (it : Given). GivenOutcome line.options it world left) (sym same) outcome in
-    subst (λ (it : Result CommandLine LineUsage). LineOutcome words it world left) (sym is) whole
+pub words_unused : (words : List Bytes) (world : World) (line : Bytes) (found : Option LineUsage) (usage : LineUsage)
+    → IfSome found (λ usage. command_line_of words ≡ Err usage) → found ≡ Some usage → IsLineUsageLine words usage line
+    → LineOutcome words (command_line_of words) world (unused world.folder line)
+words_unused words world line found usage fault is reported =
+    words_so words (Err usage) world (unused world.folder line) (at_some (λ usage. command_line_of words ≡ Err usage) found usage is fault) (line, reported, refl)
+
+pub words_given : (words : List Bytes) (line : CommandLine) (given : Given) (world : World) (ended : Ended) → command_line_of words ≡ Ok line → line.given ≡ given
+    → GivenOutcome line.options given world ended → LineOutcome words (command_line_of words) world ended
+words_given words line given world ended is same outcome =
+    words_so words (Ok line) world ended is (subst (λ (it : Given). GivenOutcome line.options it world ended) (sym same) outcome)
+
+pub words_done : (words : List Bytes) (line : CommandLine) (given : Given) (world : World) (ended : Ended) → command_line_of words ≡ Ok line → line.given ≡ given
+    → OrOutOfMemory world (GivenOutcome line.options given world) ended → WordsOutcome words world ended
+words_done words line given world ended is same (inl memory) = inl memory
+words_done words line given world ended is same (inr outcome) = inr (words_given words line given world ended is same outcome)
 
 pub words_of_input : (words : List Bytes) (line : CommandLine) (given : Given) → command_line_of words ≡ Ok line → line.given ≡ given → NamesNoFile words → IsOfInput given
 words_of_input words line given is same none =
@@ -276,3 +276,11 @@ words_kept words line is kept = subst (λ (it : Result CommandLine LineUsage). I
 pub script_premise : (honest : Bool) (name : Bytes) → (honest ≡ true) ⊎ IsOfInput (script name) → honest ≡ true
 script_premise honest name (inl is_honest) = is_honest
 script_premise honest name (inr none) = absurd none
+
+-- Where standard input can't be read, and nothing else is named, nothing is written to standard output.
+pub read_nothing : {W E F : Type 0} (sink : SinkOf W) (errors : SinkOf E) (files : FilesOf F) (words : List Bytes) (world : World) (exit : Exit) (out out' : W) (err err' : E)
+    (held' : F) → NamesNoFile words → exit.cut ≡ c.Read → EndsIn sink errors files (WordsOutcome words world) exit out out' err err' held' → PrintsAll sink out out' []
+read_nothing sink errors files words world exit out out' err err' held' none read (ended, is, leaves) =
+    prints_none sink ended.printed out out' ended.left.output
+    (output_empty_where_input_fails words world ended none is (sym (ap (λ (it : Exit). it.cut) leaves.exit_is) ∙ read)
+    (λ unread. subst (λ (why : Cut). PrintsUntil sink why out out' ended.left.output) unread leaves.output)) leaves.output

@@ -9,7 +9,7 @@ use Rattle.std.proofs.lemmas.Iterator.Adapters.{position_from-zero}
 use Rattle.std.proofs.lemmas.List.{map-append}
 use Rattle.indexmap.specs.IndexSet.{insert_key}
 use Rattle.bz_items.specs.Characters.{Bytes}
-use Rattle.bz_buildozer.specs.Packages.{Used, package_number}
+use Rattle.bz_buildozer.specs.Found.{Used, package_number}
 use Rattle.bz_buildozer.specs.private.ShownFiles.{texts_of_keys, packages_of}
 
 abbrev Key : Type 0

@@ -1,5 +1,5 @@
 -- What several parts of a run do, one after the other.
-use Rattle.std.proofs.Common.{◌≡◌, ◌≢◌, ◌∙◌, ◌++◌, ◌∷◌, ◌+◌, ◌<◌, ◌≤◌, inl, inr, ℕ, List, [], length, get_or, drop, Option, Bool, true, false, true≢false, refl, sym, ap, subst, arith, append_assoc}
+use Rattle.std.proofs.Common.{◌≡◌, ◌≢◌, ◌∙◌, ◌++◌, ◌∷◌, ◌+◌, ◌<◌, ◌≤◌, inl, inr, ℕ, List, [], length, get_or, drop, Option, Bool, true, true≢false, refl, sym, ap, subst, arith, append_assoc}
 use Rattle.std.specs.List.{All}
 use Rattle.std.proofs.lemmas.List.{append-nil, drop_all}
 use Rattle.std.proofs.lemmas.List.Elements.{All-get_or}
@@ -10,18 +10,15 @@ use Rattle.bz_streams.specs.declared.exit.Cut.{Cut}
 use Rattle.bz_streams.specs.declared.exit.Cut.TheVariants as c
 use Rattle.bz_streams.proofs.Outputs.{counts_more, reports_more}
 use Rattle.bz_streams.proofs.Written.{left-cons}
-use Rattle.bz_buildozer.specs.Calls.{RunSpot, DoesBetween, MayRun, ReadsNoInput, PassesSafely, Proceeds}
-use Rattle.bz_buildozer.specs.Cuts.{AreCutBy, IsLeft, ReadsOnce}
+use Rattle.bz_buildozer.specs.Calls.{RunSpot, DoesBetween, MayRun, ReadsNoInput, PassesSafely, Proceeds, AreCutBy, IsLeft}
 use Rattle.bz_streams.specs.Exits.{first_cut}
 use Rattle.bz_buildozer.proofs.CutSteps.{cut_more, neither_read}
 use Rattle.bz_buildozer.proofs.FailSteps.{cut_alone, cuts_assoc, ended_runs, runs_more}
-use Rattle.bz_buildozer.proofs.ReadSteps.{reads_none, reads_more}
 use Rattle.bz_buildozer.proofs.SafeSteps.{began_safely}
 use Rattle.bz_buildozer.specs.Moments.{AllAreSafe, IsMeanwhile, IsMomentOfSteps}
-use Rattle.bz_buildozer.specs.Failing.{RunsUntil}
-use Rattle.bz_buildozer.specs.Run.{World, Progress, ends_run}
+use Rattle.bz_buildozer.specs.Run.{World, Progress, RunsSteps, ends_run}
 use Rattle.bz_buildozer.specs.Steps.{RunStep}
-use Rattle.bz_buildozer.specs.Packages.{Used}
+use Rattle.bz_buildozer.specs.Found.{Used}
 
 -- ---- moments
 
@@ -46,14 +43,14 @@ moment_after began (x ∷ xs) ys used now is = (used, used, inl refl, inl refl, 
 
 -- steps are run from one spot to another
 abbrev pub Goes : Bool → Bool → List RunStep → Cut → RunSpot → RunSpot → Type 0
-Goes journals keep_going steps why = DoesBetween (λ world. RunsUntil why journals world keep_going steps)
+Goes journals keep_going steps why = DoesBetween (λ world. RunsSteps why journals world keep_going steps)
 
 -- after a part of the steps, whatever those that are left do is what all do
 abbrev pub Passes : Cut → Bool → Bool → List RunStep → List RunStep → RunSpot → RunSpot → Type 0
 Passes why journals keep_going steps left old new = (known : Option (List ℕ)) → IsLeft known old.state.used old.left → (lines : List (List ℕ))
     × ((more : List (List ℕ)) (folder : Folder) (after : Progress) (last : Cut)
-    → RunsUntil last journals (record { folder = new.folder; known = known }) keep_going left new.state more folder after
-    → RunsUntil (first_cut why last) journals (record { folder = old.folder; known = known }) keep_going steps old.state (lines ++ more) folder after)
+    → RunsSteps last journals (record { folder = new.folder; known = known }) keep_going left new.state more folder after
+    → RunsSteps (first_cut why last) journals (record { folder = old.folder; known = known }) keep_going steps old.state (lines ++ more) folder after)
     × IsLeft known new.state.used new.left
     × Reports old.faults new.faults old.reported new.reported lines
 
@@ -80,11 +77,10 @@ pub record Part (journals : Bool) (Premise : Type 0) (keep_going : Bool) (steps 
   pub read_faults : Counts old.read_faults new.read_faults
   pub counts : Counts old.file_faults new.file_faults
   pub honest : new.honest ≡ old.honest
-  pub input : journals ≡ false → Premise → ReadsOnce why old.state new.state
 
 -- steps are done
 abbrev pub Done : Bool → Type 0 → Bool → List RunStep → Cut → RunSpot → RunSpot → Type 0
-Done journals Premise keep_going steps = Proceeds journals Premise steps (λ (it : Cut) (world : World). RunsUntil it journals world keep_going steps)
+Done journals Premise keep_going steps = Proceeds journals Premise steps (λ (it : Cut) (world : World). RunsSteps it journals world keep_going steps)
 
 counts_same : (count : ℕ) → Counts count count
 counts_same count = record { grows = omega arith; rises = inl refl }
@@ -101,7 +97,6 @@ part_none journals Premise keep_going steps spot = record {
   read_faults = counts_same spot.read_faults;
   counts = counts_same spot.file_faults;
   honest = refl;
-  input = λ plain is. reads_none spot.state;
 }
 
 passes_more : (cut later : Cut) (journals keep_going : Bool) (steps left part rest : List RunStep) (old mid new : RunSpot) → left ≡ part ++ rest
@@ -113,11 +108,11 @@ passes_more cut later journals keep_going steps left part rest old mid new split
     let next = goes known before.2 in (
       before.0 ++ next.0,
       (λ more folder after last runs.
-          subst (λ (reported : List (List ℕ)). RunsUntil (first_cut (first_cut cut later) last) journals world keep_going steps old.state reported folder after)
+          subst (λ (reported : List (List ℕ)). RunsSteps (first_cut (first_cut cut later) last) journals world keep_going steps old.state reported folder after)
           (sym (append_assoc before.0 next.0 more))
-          (subst (λ (it : Cut). RunsUntil it journals world keep_going steps old.state (before.0 ++ (next.0 ++ more)) folder after) (sym (cuts_assoc cut later last))
+          (subst (λ (it : Cut). RunsSteps it journals world keep_going steps old.state (before.0 ++ (next.0 ++ more)) folder after) (sym (cuts_assoc cut later last))
           (before.1 (next.0 ++ more) folder after (first_cut later last)
-          (subst (λ (all : List RunStep). RunsUntil (first_cut later last) journals there keep_going all mid.state (next.0 ++ more) folder after) (sym split)
+          (subst (λ (all : List RunStep). RunsSteps (first_cut later last) journals there keep_going all mid.state (next.0 ++ more) folder after) (sym split)
           (runs_more later last journals there keep_going part rest mid.state new.state after next.0 more new.folder folder next.1 runs))))),
       next.2,
       reports_more old.faults mid.faults new.faults old.reported mid.reported new.reported before.0 next.0 before.3 next.3,
@@ -170,18 +165,17 @@ part_more journals Premise Now keep_going steps left part rest cut later old mid
   read_faults = counts_more old.read_faults mid.read_faults new.read_faults before.read_faults then.read_faults;
   counts = counts_more old.file_faults mid.file_faults new.file_faults before.counts then.counts;
   honest = then.honest ∙ before.honest;
-  input = λ plain is. reads_more cut later old.state mid.state new.state (before.input plain is) (then.input plain (implies is));
 }
 
 passes_all : (why : Cut) (journals keep_going : Bool) (steps left : List RunStep) (old new : RunSpot)
-    → ((known : Option (List ℕ)) → RunsUntil c.Whole journals (record { folder = new.folder; known = known }) keep_going left new.state [] new.folder new.state)
+    → ((known : Option (List ℕ)) → RunsSteps c.Whole journals (record { folder = new.folder; known = known }) keep_going left new.state [] new.folder new.state)
     → Passes why journals keep_going steps left old new → Goes journals keep_going steps why old new
 passes_all why journals keep_going steps left old new none passes known remains =
     let world : World = record { folder = old.folder; known = known } in
     let before = passes known remains in (
       before.0,
-      subst (λ (reported : List (List ℕ)). RunsUntil why journals world keep_going steps old.state reported new.folder new.state) (append-nil before.0)
-          (subst (λ (it : Cut). RunsUntil it journals world keep_going steps old.state (before.0 ++ []) new.folder new.state) (cut_alone why)
+      subst (λ (reported : List (List ℕ)). RunsSteps why journals world keep_going steps old.state reported new.folder new.state) (append-nil before.0)
+          (subst (λ (it : Cut). RunsSteps it journals world keep_going steps old.state (before.0 ++ []) new.folder new.state) (cut_alone why)
           (before.1 [] new.folder new.state c.Whole (none known))),
       before.2,
       before.3,
@@ -193,7 +187,7 @@ safe_all steps left old new safe began all mean =
     (done.0, done.1, done.2, (λ rest now is. done.3 rest now (moment_after began left rest new.state.used now is)))
 
 part_done : (journals : Bool) (Premise : Type 0) (keep_going : Bool) (steps left : List RunStep) (cut : Cut) (old new : RunSpot)
-    → ((known : Option (List ℕ)) → RunsUntil c.Whole journals (record { folder = new.folder; known = known }) keep_going left new.state [] new.folder new.state)
+    → ((known : Option (List ℕ)) → RunsSteps c.Whole journals (record { folder = new.folder; known = known }) keep_going left new.state [] new.folder new.state)
     → Part journals Premise keep_going steps left cut old new → Done journals Premise keep_going steps cut old new
 part_done journals Premise keep_going steps left cut old new none part = record {
   does = λ can safe. passes_all cut journals keep_going steps left old new none (part.runs can safe);
@@ -205,14 +199,13 @@ part_done journals Premise keep_going steps left cut old new none part = record 
   read_faults = part.read_faults;
   counts = part.counts;
   honest = part.honest;
-  input = part.input;
 }
 
 -- Nothing is left.
 pub all_done : (journals : Bool) (Premise : Type 0) (keep_going : Bool) (steps left : List RunStep) (cut : Cut) (old new : RunSpot) → left ≡ []
     → Part journals Premise keep_going steps left cut old new → Done journals Premise keep_going steps cut old new
 all_done journals Premise keep_going steps left cut old new none = part_done journals Premise keep_going steps left cut old new (λ known.
-    subst (λ (all : List RunStep). RunsUntil c.Whole journals (record { folder = new.folder; known = known }) keep_going all new.state [] new.folder new.state) (sym none)
+    subst (λ (all : List RunStep). RunsSteps c.Whole journals (record { folder = new.folder; known = known }) keep_going all new.state [] new.folder new.state) (sym none)
     (refl, refl, refl, refl))
 
 -- A step failed, so those that are left do nothing.

@@ -1,5 +1,5 @@
 -- One step of a run with journals: each open file is safe at each moment.
-use Rattle.std.proofs.Common.{arith, ◌≡◌, ◌≢◌, ◌⊎◌, inl, inr, ◌∙◌, ◌++◌, ◌+◌, ◌≤◌, ℕ, zero, suc, List, [], ◌∷◌, length, Option, Some, None, Bool, true, false, true≢false, Result, Ok, Err, refl, sym, ap, subst, bytes_eq}
+use Rattle.std.proofs.Common.{arith, ◌≡◌, ◌≢◌, ◌⊎◌, inl, inr, ◌∙◌, ◌++◌, ◌+◌, ◌≤◌, ℕ, suc, List, [], ◌∷◌, length, Option, Some, None, Bool, true, false, true≢false, Result, Ok, Err, refl, sym, ap, subst, bytes_eq}
 use Rattle.std.specs.Prelude.{IfSome, if◌then◌else◌, unwrap_or}
 use Rattle.std.specs.FinMap.{get}
 use Rattle.std.specs.Option.{option_map, option_map_or}
@@ -14,26 +14,18 @@ use Rattle.bz_journal.specs.declared.keeping.KeepFault.TheVariants.{Refused, Pai
 use Rattle.bz_journal.specs.Keeping.{Keeps}
 use Rattle.bz_resume.specs.Pair.{journal_name}
 use Rattle.bz_resume.specs.Resuming.{Holds, OthersStay, Resumes, Survives}
-use Rattle.bz_buildozer.specs.Found.{IsApartFrom, IsNameOf}
+use Rattle.bz_buildozer.specs.Found.{IsNameOf, Opened, Used, file_at, package_number, with_opened}
 use Rattle.bz_buildozer.specs.Journals.{IsOpenedIn, TakesBeside}
 use Rattle.bz_buildozer.specs.Keeps.{KeepsAt, KeepsFile, KeepsFolder, after_keeping}
-use Rattle.bz_buildozer.specs.Packages.{Opened, Used, file_at, package_number, with_opened}
 use Rattle.bz_buildozer.specs.Sessions.{Action, History, Reply, present}
 use Rattle.bz_buildozer.proofs.LeaveSteps.{acts_leaves}
-use Rattle.bz_buildozer.proofs.NameSteps.{apart as packages_apart, journal_not_new, not_new}
 use Rattle.bz_buildozer.specs.Calls.{KeepsStep, UsesSome}
-use Rattle.bz_buildozer.specs.Keeping.{IsApart}
-use Rattle.bz_buildozer.specs.Moments.{AllAreSafe, IsBetween, IsMeanwhile, IsMomentOfSteps, IsSafe, Joins, MayAct}
+use Rattle.bz_buildozer.specs.Moments.{AllAreSafe, IsApart, IsBetween, IsMeanwhile, IsMomentOfSteps, IsSafe, Joins, MayAct}
 use Rattle.bz_buildozer.specs.Steps.{RunStep}
 use Rattle.bz_buildozer.proofs.ActSteps.{file_put}
-use Rattle.bz_buildozer.proofs.StandSteps.{apart_from, apart_kept, apart_last, not_after, not_here, takes_stand, reported_still}
+use Rattle.bz_buildozer.proofs.StandSteps.{IsUnlike, OthersAre, all_after, all_at, all_last, apart_from, as_begun, file_in_front, holds_still, names_stay, not_after, not_here, one_file, other_at, takes_stand, two_apart, unlike_put}
 
 -- ---- a file in another folder
-
-holds_still : (folder now : Folder) (name current text : Bytes) (texts : List Bytes) → get now name ≡ get folder name
-    → get now (journal_name name) ≡ get folder (journal_name name) → Holds folder name current text texts → Holds now name current text texts
-holds_still folder now name current text texts same journal holds =
-    record { holds = same ∙ holds.holds; history = reported_still folder now name current text texts journal holds.history }
 
 between_still : (folder now : Folder) (name : Bytes) (h after : History) → get now name ≡ get folder name
     → get now (journal_name name) ≡ get folder (journal_name name) → IsBetween folder name h after → IsBetween now name h after
@@ -52,96 +44,27 @@ safe_still folder now file same journal (inr (left, (h, action, note, fault, kee
 
 -- ---- files of other packages
 
--- the name of an open file, and that of its journal, are none of those that keeping the file of another package replaces
 other_safe : (folder now : Folder) (current other name : Bytes) (file : Opened) → IsNameOf current name → other ≢ current → IsNameOf other file.name
     → OthersStay name folder now → IsSafe folder file → IsSafe now file
 other_safe folder now current other name file named differs is stay safe =
-    let apart = packages_apart other current file.name name differs is named in
-    safe_still folder now file (stay file.name apart.0.file_is apart.0.journal apart.0.new apart.0.new_journal)
-    (stay (journal_name file.name) apart.1.file_is apart.1.journal apart.1.new apart.1.new_journal) safe
+    let same = names_stay folder now current other name file.name named differs is stay in safe_still folder now file same.0 same.1 safe
 
 -- an open file of a package, with a name of it, is safe
 abbrev IsSafeOf : Folder → Bytes → Opened → Type 0
 IsSafeOf folder current file = IsNameOf current file.name × IsSafe folder file
 
-may_be_safe : (folder now : Folder) (current other name : Bytes) (file : Option Opened) → IsNameOf current name → other ≢ current → OthersStay name folder now
-    → IfSome file (IsSafeOf folder other) → IfSome file (IsSafeOf now other)
-may_be_safe folder now current other name None named differs stay safe = tt
-may_be_safe folder now current other name (Some file) named differs stay safe =
-    (safe.0, other_safe folder now current other name file named differs safe.0 stay safe.1)
-
-others_safe : (folder now : Folder) (current name : Bytes) (used : List Used) → IsNameOf current name → IsApart current used → OthersStay name folder now
-    → AllAreSafe folder used → AllAreSafe now used
-others_safe folder now current name [] named apart stay all = tt
-others_safe folder now current name (used ∷ more) named apart stay all = (
-  may_be_safe folder now current used.«package» name used.file named apart.0 stay all.0,
-  all.1,
-  others_safe folder now current name more named apart.1 stay all.2,
-)
-
--- the package of an open file, from which all differ that differ from each
 pub safe_at : (folder : Folder) (place : ℕ) (used : List Used) (file : Opened) → file_at place used ≡ Some file → AllAreSafe folder used
     → (current : Bytes) × IsSafeOf folder current file × ((other : Bytes) → IsApart other used → current ≢ other)
-safe_at folder place [] file at all = absurd (let e = at in cc)
-safe_at folder zero (used ∷ more) file at all =
-    (used.«package», subst (λ (it : Option Opened). IfSome it (IsSafeOf folder used.«package»)) at all.0, λ other apart. apart.0)
-safe_at folder (suc place) (used ∷ more) file at all =
-    let found = safe_at folder place more file at all.2 in (found.0, found.1, λ other apart. found.2 other apart.1)
-
--- files of two places are of two packages
-two_apart : (folder : Folder) (place at : ℕ) (used : List Used) (file other : Opened) → file_at place used ≡ Some file → file_at at used ≡ Some other
-    → at ≢ place → AllAreSafe folder used → IsApartFrom file.name other.name × IsApartFrom file.name (journal_name other.name)
-two_apart folder place at [] file other here there differ all = absurd (let e = here in cc)
-two_apart folder zero zero (used ∷ more) file other here there differ all = absurd (differ refl)
-two_apart folder zero (suc at) (used ∷ more) file other here there differ all =
-    let first = safe_at folder zero (used ∷ more) file here all in
-    let second = safe_at folder at more other there all.2 in
-    let named : IsNameOf used.«package» file.name = (subst (λ (it : Option Opened). IfSome it (IsSafeOf folder used.«package»)) here all.0).0 in
-    packages_apart second.0 used.«package» other.name file.name (second.2 used.«package» all.1) second.1.0 named
-two_apart folder (suc place) zero (used ∷ more) file other here there differ all =
-    let second = safe_at folder place more file here all.2 in
-    let named : IsNameOf used.«package» other.name = (subst (λ (it : Option Opened). IfSome it (IsSafeOf folder used.«package»)) there all.0).0 in
-    packages_apart used.«package» second.0 other.name file.name (λ same. second.2 used.«package» all.1 (sym same)) named second.1.0
-two_apart folder (suc place) (suc at) (used ∷ more) file other here there differ all =
-    two_apart folder place at more file other here there (λ same. differ (ap suc same)) all.2
+safe_at folder = all_at (IsSafeOf folder)
 
 all_safe_after : (place : ℕ) (used : List Used) (file next : Opened) (folder now : Folder) → file_at place used ≡ Some file → next.name ≡ file.name
     → IsSafe now next → OthersStay file.name folder now → AllAreSafe folder used → AllAreSafe now (with_opened place (Some next) used)
-all_safe_after place [] file next folder now at same safe stay all = tt
-all_safe_after zero (used ∷ more) file next folder now at same safe stay all =
-    let stood : IsSafeOf folder used.«package» file = subst (λ (it : Option Opened). IfSome it (IsSafeOf folder used.«package»)) at all.0 in (
-      (subst (IsNameOf used.«package») (sym same) stood.0, safe),
-      all.1,
-      others_safe folder now used.«package» file.name more stood.0 all.1 stay all.2,
-    )
-all_safe_after (suc place) (used ∷ more) file next folder now at same safe stay all =
-    let found = safe_at folder place more file at all.2 in (
-      may_be_safe folder now found.0 used.«package» file.name used.file found.1.0 (λ is. found.2 used.«package» all.1 (sym is)) stay all.0,
-      apart_kept used.«package» place (Some next) more all.1,
-      all_safe_after place more file next folder now at same safe stay all.2,
-    )
-
--- ---- names of a run
-
--- no open file of these has this name, and no journal of one
-abbrev pub IsUnlike : List Used → Bytes → Type 0
-IsUnlike used name = (place : ℕ) (file : Opened) → file_at place used ≡ Some file → (name ≢ file.name) × (name ≢ journal_name file.name)
-
-unlike_all : (folder : Folder) (current name : Bytes) (used : List Used) → IsNameOf current name → IsApart current used → AllAreSafe folder used
-    → IsUnlike used name × IsUnlike used (journal_name name)
-unlike_all folder current name used named apart all = (
-  (λ place file at. let is = (apart_of place file at).0 in (is.file_is, is.journal)),
-  (λ place file at. let is = (apart_of place file at).1 in (is.file_is, is.journal)),
-)
-  where
-    apart_of : (place : ℕ) (file : Opened) → file_at place used ≡ Some file → IsApartFrom file.name name × IsApartFrom file.name (journal_name name)
-    apart_of place file at =
-        let found = safe_at folder place used file at all in
-        packages_apart current found.0 name file.name (λ same. found.2 current apart (sym same)) named found.1.0
+all_safe_after place used file next folder now at same safe stay =
+    all_after (IsSafeOf folder) (IsSafeOf now) place used file next at (λ current is. (subst (IsNameOf current) (sym same) is.0, safe))
+    (λ current other it is differs held. (held.0, other_safe folder now current other file.name it is.0 differs held.0 stay held.1))
 
 -- where each file is safe, and other names are as they were when the run began
-all_meanwhile : (began folder : Folder) (used : List Used) → AllAreSafe folder used
-    → ((name : Bytes) → IsUnlike used name → (IsAside name → ⊥) → get folder name ≡ get began name) → IsMeanwhile began used used folder
+all_meanwhile : (began folder : Folder) (used : List Used) → AllAreSafe folder used → OthersAre began used folder → IsMeanwhile began used used folder
 all_meanwhile began folder used all others =
     record { files = λ place file next here there. inl (safe_at folder place used next there all).1.1; others = others }
 
@@ -151,35 +74,21 @@ began_safely folder used all = all_meanwhile folder folder used all (λ name unl
 
 -- ---- a package that is opened
 
-pub file_in_front : (place : ℕ) (used : List Used) (one : Used) (file : Opened) → file_at place used ≡ Some file → file_at place (used ++ one ∷ []) ≡ Some file
-file_in_front place [] one file at = absurd (let e = at in cc)
-file_in_front zero (used ∷ more) one file at = at
-file_in_front (suc place) (used ∷ more) one file at = file_in_front place more one file at
-
-safe_last : (folder : Folder) (used : List Used) (one : Used) → AllAreSafe folder used → IfSome one.file (IsSafeOf folder one.«package»)
-    → IsApart one.«package» used → AllAreSafe folder (used ++ one ∷ [])
-safe_last folder [] one all safe apart = (safe, tt, tt)
-safe_last folder (used ∷ more) one all safe apart =
-    (all.0, apart_last used.«package» more one all.1 (λ is. apart.0 (sym is)), safe_last folder more one all.2 safe apart.1)
-
 opened_safe : (folder : Folder) (current : Bytes) (file : Option Opened) → IfSome file (IsOpenedIn true folder current) → IfSome file (IsSafeOf folder current)
 opened_safe folder current None opened = tt
 opened_safe folder current (Some file) opened =
     let kept = takes_stand folder current file.name file.read (get folder (journal_name file.name)) (Some file) [] opened.named opened.there refl opened.opens in
-    (kept.named, inl (kept.stays, kept.holds))
+    (kept.0, inl (kept.1, kept.2))
 
 -- its file is as it was when the run began
 opened_began : (began folder : Folder) (current : Bytes) (used : List Used) (file : Option Opened) → IsApart current used → AllAreSafe folder used
-    → ((name : Bytes) → IsUnlike used name → (IsAside name → ⊥) → get folder name ≡ get began name) → IfSome file (IsOpenedIn true folder current)
-    → IfSome file (IsOpenedIn true began current)
+    → OthersAre began used folder → IfSome file (IsOpenedIn true folder current) → IfSome file (IsOpenedIn true began current)
 opened_began began folder current used None apart all others opened = tt
 opened_began began folder current used (Some file) apart all others opened =
-    let unlike = unlike_all folder current file.name used opened.named apart all in
-    let same = others file.name unlike.0 (λ aside. not_new current file.name aside.0 opened.named aside.1) in
-    let journal = others (journal_name file.name) unlike.1 (λ aside. journal_not_new file.name aside.0 aside.1) in record {
+    let same = as_begun (IsSafeOf folder) (λ other it safe. safe.0) began folder current file.name used opened.named apart all others in record {
       named = opened.named;
-      there = sym same ∙ opened.there;
-      opens = subst (λ (beside : Option Bytes). TakesBeside beside current file.name file.read (Some file) []) journal opened.opens;
+      there = sym same.0 ∙ opened.there;
+      opens = subst (λ (beside : Option Bytes). TakesBeside beside current file.name file.read (Some file) []) same.1 opened.opens;
     }
 
 joined : (began folder : Folder) (current : Bytes) (before after : List Used) (found : Option ℕ) → UsesSome folder current found before after
@@ -192,7 +101,7 @@ joined began folder current before after found (inr (none, inl (same, at))) all 
 joined began folder current before after found (inr (none, inr (file, is, at, opened))) all mean =
     let apart = apart_from current before none in
     let one : Used = record { «package» = current; file = file } in
-    let more = safe_last folder before one all (opened_safe folder current file opened) apart in (
+    let more = all_last (IsSafeOf folder) before one all (opened_safe folder current file opened) apart in (
       inr (none, (file, opened_began began folder current before file apart all mean.others opened, is)),
       subst (AllAreSafe folder) (sym is) more,
       subst (λ (used : List Used). IsMeanwhile began used used folder) (sym is) (all_meanwhile began folder (before ++ one ∷ []) more
@@ -237,34 +146,6 @@ number_there folder current before after found at (inr (none, inr (file, new, is
 
 -- ---- an action that is kept
 
-other_at : (place at : ℕ) (file : Option Opened) (used : List Used) → at ≢ place → file_at at (with_opened place file used) ≡ file_at at used
-other_at place at file [] differ = refl
-other_at zero zero file (one ∷ more) differ = absurd (differ refl)
-other_at zero (suc at) file (one ∷ more) differ = refl
-other_at (suc place) zero file (one ∷ more) differ = refl
-other_at (suc place) (suc at) file (one ∷ more) differ = other_at place at file more (λ same. differ (ap suc same))
-
-pub one_file : (found : Option Opened) (one other : Opened) → found ≡ Some one → found ≡ Some other → one ≡ other
-one_file found one other is also = ap (λ (it : Option Opened). unwrap_or it one) (sym is ∙ also)
-
--- a name that is unlike those after a step is unlike those before it
-pub unlike_put : (place : ℕ) (before after : List Used) (file next : Opened) → file_at place before ≡ Some file → after ≡ with_opened place (Some next) before
-    → next.name ≡ file.name → (name : Bytes) → IsUnlike after name → IsUnlike before name × ((name ≢ file.name) × (name ≢ journal_name file.name))
-unlike_put place before after file next there put named name unlike = (
-  (λ at one here. elim (eqb_tells at place) [
-    | inl same ↦
-        let is : one ≡ file = one_file (file_at place before) one file (subst (λ (n : ℕ). file_at n before ≡ Some one) same.1 here) there in (
-          (λ e. apart.0 (e ∙ ap (λ (f : Opened). f.name) is ∙ sym named)),
-          (λ e. apart.1 (e ∙ ap (λ (f : Opened). journal_name f.name) is ∙ ap journal_name (sym named))),
-        )
-    | inr other ↦ unlike at one (ap (file_at at) put ∙ other_at place at (Some next) before other.1 ∙ here)
-  ]),
-  ((λ e. apart.0 (e ∙ sym named)), (λ e. apart.1 (e ∙ ap journal_name (sym named)))),
-)
-  where
-    apart : (name ≢ next.name) × (name ≢ journal_name next.name)
-    apart = unlike place next (file_put place before after file next there put)
-
 -- an action is under way in an open file
 module _ (began folder : Folder) (place : ℕ) (before after : List Used) (file next : Opened) (there : file_at place before ≡ Some file)
     (put : after ≡ with_opened place (Some next) before) (named : next.name ≡ file.name) (stays : file.left ≡ false)
@@ -289,7 +170,7 @@ module _ (began folder : Folder) (place : ℕ) (before after : List Used) (file 
             )
         | inr other ↦
             let two_there : file_at at before ≡ Some two = sym (ap (file_at at) put ∙ other_at place at (Some next) before other.1) ∙ then_here in
-            let apart = two_apart folder place at before file two there two_there other.1 all in
+            let apart = two_apart (IsSafeOf folder) (λ current it safe. safe.0) place at before file two there two_there other.1 all in
             inl (safe_still folder now two (stay two.name apart.0.file_is apart.0.journal apart.0.new apart.0.new_journal)
             (stay (journal_name two.name) apart.1.file_is apart.1.journal apart.1.new apart.1.new_journal)
             (safe_at folder at before two two_there all).1.1)

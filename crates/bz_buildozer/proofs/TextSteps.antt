@@ -9,10 +9,9 @@ use Rattle.bz_command_line.specs.Requested.{Requested}
 use Rattle.bz_command_line.specs.Script.{script_of}
 use Rattle.bz_command_line.specs.declared.line.Options.{Options}
 use Rattle.bz_streams.specs.Ports.{IsInput}
-use Rattle.bz_buildozer.specs.Ending.{Left}
+use Rattle.bz_buildozer.specs.Ending.{Ended}
 use Rattle.bz_buildozer.specs.Outcome.{IsScript, IsScriptFront, IsText, IsTextFault, TextOutcome}
 use Rattle.bz_buildozer.specs.Run.{World}
-use Rattle.bz_buildozer.specs.Usage.{TextReports}
 
 -- ---- the first bytes, one more than a text may have
 
@@ -49,21 +48,13 @@ whole_fault whole bytes fault (inl same) is = subst (λ (it : Bytes). IsTextFaul
 whole_fault whole bytes fault (inr long) (inl (past, is)) = inl (long.1, is)
 whole_fault whole bytes fault (inr long) (inr (short, valid)) = let past = long.0 in absurd (omega arith)
 
-pub whole_outcome : (options : Options) (name whole bytes : Bytes) (world : World) (left : Left) → IsReadOf whole bytes
-    → TextOutcome options name (Some bytes) world left → TextOutcome options name (Some whole) world left
-whole_outcome options name whole bytes world left read (inl (fault, is, reported)) = inl (fault, whole_fault whole bytes fault read is, reported)
-whole_outcome options name whole bytes world left read (inr (inl (is, refused))) =
-    subst (λ (it : Bytes). TextOutcome options name (Some it) world left) (whole_read whole bytes read is) (inr (inl (is, refused)))
-whole_outcome options name whole bytes world left read (inr (inr (is, done))) =
-    subst (λ (it : Bytes). TextOutcome options name (Some it) world left) (whole_read whole bytes read is) (inr (inr (is, done)))
-
-pub whole_reports : (options : Options) (name whole bytes line : Bytes) → IsReadOf whole bytes
-    → TextReports options name (Some bytes) line → TextReports options name (Some whole) line
-whole_reports options name whole bytes line read (inl (fault, is, reported)) = inl (fault, whole_fault whole bytes fault read is, reported)
-whole_reports options name whole bytes line read (inr (inl (is, refused))) =
-    subst (λ (it : Bytes). TextReports options name (Some it) line) (whole_read whole bytes read is) (inr (inl (is, refused)))
-whole_reports options name whole bytes line read (inr (inr (is, named))) =
-    subst (λ (it : Bytes). TextReports options name (Some it) line) (whole_read whole bytes read is) (inr (inr (is, named)))
+pub whole_outcome : (options : Options) (name whole bytes : Bytes) (world : World) (ended : Ended) → IsReadOf whole bytes → TextOutcome options name bytes world ended
+    → TextOutcome options name whole world ended
+whole_outcome options name whole bytes world ended read (inl (fault, is, reported)) = inl (fault, whole_fault whole bytes fault read is, reported)
+whole_outcome options name whole bytes world ended read (inr (inl (is, refused))) =
+    subst (λ (it : Bytes). TextOutcome options name it world ended) (whole_read whole bytes read is) (inr (inl (is, refused)))
+whole_outcome options name whole bytes world ended read (inr (inr (is, done))) =
+    subst (λ (it : Bytes). TextOutcome options name it world ended) (whole_read whole bytes read is) (inr (inr (is, done)))
 
 pub whole_requests : (whole bytes bytes' : Bytes) (lines : List Requested) → bytes' ≡ bytes → IsReadOf whole bytes → IsText bytes' → script_of bytes' ≡ Ok lines
     → IsText whole × (script_of whole ≡ Ok lines)

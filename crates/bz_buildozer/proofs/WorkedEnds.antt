@@ -1,11 +1,12 @@
 -- How runs end, for the worked rows.
 use Rattle.std.specs.Str.{is_utf8, chars}
 use lib.Utf8.{encode}
-use Rattle.std.proofs.Common.{◌≡◌, ◌&&◌, inl, inr, ◌∙◌, ℕ, ◌≤◌, List, [], ◌∷◌, ◌++◌, length, codes, leb, leb-true, Bool, true, false, Option, Some, None, Result, Ok, Err, refl, sym, ap, subst}
+use Rattle.std.proofs.Common.{◌≡◌, inl, inr, ℕ, ◌≤◌, List, [], ◌∷◌, ◌++◌, length, map, codes, leb, leb-true, Bool, true, false, Option, Some, None, Result, Ok, Err, refl, sym, ap, subst}
 use Rattle.std.proofs.lemmas.List.{append-nil}
 use Rattle.std.proofs.lemmas.Str.{IsUtf8-from_is_utf8}
 use Rattle.std.specs.FinMap.{get}
 use Rattle.std.specs.Fmt.{digits}
+use Rattle.std.specs.Option.{option_map}
 use Rattle.clap.proofs.OnLiterals.{clap_on_literals}
 use Rattle.bz_lex.specs.declared.fault.ReadFault.TheVariants.{TooLarge}
 use Rattle.bz_grammar.specs.Spell.{limit}
@@ -23,59 +24,59 @@ use Rattle.bz_command_line.specs.declared.verb.OperandFault.TheVariants.{BadTarg
 use Rattle.bz_command_line.specs.declared.verb.Verb.TheVariants.{Do, Undo, Redo}
 use Rattle.bz_streams.specs.Options.{option_line}
 use Rattle.bz_streams.specs.Reported.{stdin}
+use Rattle.bz_streams.specs.declared.exit.Cut.{Cut}
+use Rattle.bz_streams.specs.declared.exit.Cut.TheVariants as c
 use Rattle.bz_items.specs.Characters.{Bytes}
 use Rattle.bz_command_syntax.specs.declared.command.AttributeOperation.TheVariants as wa
 use Rattle.bz_command_syntax.specs.declared.command.Operation.TheVariants as w
 use Rattle.bz_command_syntax.specs.declared.command.RuleOperation.TheVariants as wr
 use Rattle.bz_command_syntax.specs.declared.fault.CommandFault.TheVariants.{Unknown, Arguments}
-use Rattle.bz_buildozer.specs.Found.{found_in, found_at, first_name, second_name}
+use Rattle.bz_buildozer.specs.Found.{found_in, second_name, opened_with, Opened, Used, package_number, file_at}
 use Rattle.bz_buildozer.specs.Opens.{opened_fresh}
-use Rattle.bz_buildozer.specs.Packages.{opened_with, Opened, Used, package_number, file_at}
-use Rattle.bz_buildozer.specs.Ending.{Left, Performs}
-use Rattle.bz_buildozer.specs.Outcome.{WordsOutcome, IsText, LineOutcome, ScriptOutcome, unused}
-use Rattle.bz_buildozer.specs.Run.{World, Progress, Finds, Uses, Answers, Does, RunsSteps, nothing_done, reported_of, answered, ends_run}
-use Rattle.bz_buildozer.specs.Steps.{RunStep, all_steps, names_input}
-use Rattle.bz_buildozer.specs.Reported.{usage_line}
+use Rattle.bz_buildozer.specs.Ending.{Ended, TriesFile, TriesFiles, fixed_lines, status_of, texts_out}
+use Rattle.bz_buildozer.specs.Outcome.{WordsOutcome, IsText, LineOutcome, ScriptOutcome, unread, unused}
+use Rattle.bz_buildozer.specs.Keeps.{FolderAfter}
+use Rattle.bz_buildozer.specs.Run.{World, Progress, Answers, AnswersIn, Does, Finds, LeadsBy, RunsSteps, UsesWhole, nothing_done, reported_of, state_after, ends_run}
+use Rattle.bz_buildozer.specs.Steps.{RunStep, action_of, all_steps, shows_input}
+use Rattle.bz_buildozer.specs.Reported.{output_lines, usage_line}
 use Rattle.bz_buildozer.specs.WorkedParts.{text_read, text_made}
 use Rattle.bz_buildozer.specs.WorkedRuns.{WorkedUsage, WorkedWholeRuns, HasBuild, OverBuild, BesideNone, OverInput}
-use Rattle.bz_buildozer.proofs.Outcomes.{apart}
+use Rattle.bz_buildozer.proofs.StandSteps.{found_by, not_input}
 use Rattle.bz_buildozer.proofs.WorkedText.{accepted, is_made}
 
 -- ---- the file of a package
 
-first_found : (folder : Folder) (current text : Bytes) → get folder (first_name current) ≡ Some text → found_in folder current ≡ Some (first_name current, text)
-first_found folder current text there =
-    ap (λ found. found_at (first_name current) found (found_at (second_name current) (get folder (second_name current)) None)) there
-
-second_found : (folder : Folder) (current : Bytes) (other : Option Bytes) → get folder (first_name current) ≡ None → get folder (second_name current) ≡ other
-    → found_in folder current ≡ found_at (second_name current) other None
-second_found folder current other absent there =
-    ap (λ found. found_at (first_name current) found (found_at (second_name current) (get folder (second_name current)) None)) absent
-    ∙ ap (λ found. found_at (second_name current) found None) there
-
 pub found_first : (folder : Folder) → get folder (codes "a/BUILD.bazel") ≡ Some text_made → found_in folder (codes "a") ≡ Some (codes "a/BUILD.bazel", text_made)
-found_first folder there = first_found folder (codes "a") text_made there
+found_first folder there = found_by folder (codes "a") (Some text_made) (get folder (second_name (codes "a"))) there refl
 
 pub found_second : (folder : Folder) → get folder (codes "a/BUILD.bazel") ≡ None → get folder (codes "a/BUILD") ≡ Some text_read
     → found_in folder (codes "a") ≡ Some (codes "a/BUILD", text_read)
-found_second folder absent there = second_found folder (codes "a") (Some text_read) absent there
+found_second folder = found_by folder (codes "a") None (Some text_read)
 
 pub found_none : (folder : Folder) → get folder (codes "a/BUILD.bazel") ≡ None → get folder (codes "a/BUILD") ≡ None → found_in folder (codes "a") ≡ None
-found_none folder absent gone = second_found folder (codes "a") None absent gone
+found_none folder = found_by folder (codes "a") None None
 
 -- ---- usage faults
 
+-- words without an option, and with these
+abbrev options_of : Bool → Bool → Bool → Options
+options_of keep_going to_stdout quiet = record { keep_going = keep_going; to_stdout = to_stdout; quiet = quiet; journal = false }
+
 abbrev plain : Options
-plain = record { keep_going = false; to_stdout = false; quiet = false; journal = false }
+plain = options_of false false false
 
-usage_of : (words : List Bytes) (usage : Usage) (line : Bytes) (world : World) → command_line_of words ≡ Ok (record { options = plain; given = operands words })
-    → IsGroupFault words usage → line ≡ usage_line [] usage → WordsOutcome words world (unused world.folder line)
-usage_of words usage line world is fault reported =
-    subst (λ (whole : Result CommandLine LineUsage). LineOutcome words whole world (unused world.folder line)) (sym is) (inl (usage, fault, ap (unused world.folder) reported))
+by_line : (words : List Bytes) (line : CommandLine) (world : World) (ended : Ended) → command_line_of words ≡ Ok line → LineOutcome words (Ok line) world ended
+    → WordsOutcome words world ended
+by_line words line world ended is outcome = inr (subst (λ (whole : Result CommandLine LineUsage). LineOutcome words whole world ended) (sym is) outcome)
 
-script_of : (words : List Bytes) (name : Bytes) (world : World) (left : Left) → command_line_of words ≡ Ok (record { options = plain; given = script name })
-    → ScriptOutcome plain name world left → WordsOutcome words world left
-script_of words name world left is done = subst (λ (whole : Result CommandLine LineUsage). LineOutcome words whole world left) (sym is) done
+usage_of : (words : List Bytes) (usage : Usage) (world : World) → command_line_of words ≡ Ok (record { options = plain; given = operands words })
+    → IsGroupFault words usage → WordsOutcome words world (unused world.folder (usage_line [] usage))
+usage_of words usage world is fault = by_line words (record { options = plain; given = operands words }) world (unused world.folder (usage_line [] usage)) is (inl (usage, fault, refl))
+
+-- -f with a name
+by_script : (name : Bytes) (world : World) (ended : Ended) → command_line_of (codes "-f" ∷ name ∷ []) ≡ Ok (record { options = plain; given = script name })
+    → ScriptOutcome plain name world ended → WordsOutcome (codes "-f" ∷ name ∷ []) world ended
+by_script name world ended is outcome = by_line (codes "-f" ∷ name ∷ []) (record { options = plain; given = script name }) world ended is outcome
 
 abbrev refused : Bytes → OperandFault → Usage
 refused operand fault = of_operand (record { operand = operand; fault = fault })
@@ -109,46 +110,45 @@ read_text text short utf8 = (leb-true (length text) limit short, IsUtf8-from_is_
 
 pub usage : WorkedUsage
 unfolding clap_on_literals digits
-usage = (
-  (λ world. usage_of (codes "delete" ∷ []) no_target (codes "buildozer: no target\n") world refl refl refl),
-  (λ world. usage_of (codes "//:x" ∷ []) no_command (codes "buildozer: no command\n") world refl refl refl),
-  (λ world. usage_of [] no_command (codes "buildozer: no command\n") world refl refl refl),
-  (λ world. usage_of (codes "add deps" ∷ codes "grow" ∷ codes "//:x" ∷ []) (refused (codes "add deps") (Command Arguments))
-      (codes "buildozer: add deps: Arguments (32)\nbuildozer: the form is 'add ATTR VALUE..'\n") world refl
-      (record { front = []; rest = codes "grow" ∷ codes "//:x" ∷ []; requested = nothing_requested; split = refl; before = refl; fault = inl refl }) refl),
-  (λ world. usage_of (codes "delete" ∷ codes "//a/:x" ∷ []) (refused (codes "//a/:x") BadTarget) (codes "buildozer: //a/:x: BadTarget (12)\n") world refl
-      (record { front = codes "delete" ∷ []; rest = []; requested = only_delete; split = refl; before = refl; fault = inl refl }) refl),
-  (λ world. usage_of (codes "help" ∷ codes "//:x" ∷ []) (refused (codes "help") (Command Unknown))
-      (codes "buildozer: help: Unknown (31)\nbuildozer: see buildozer --help, or man buildozer\n") world refl
-      (record { front = []; rest = codes "//:x" ∷ []; requested = nothing_requested; split = refl; before = refl; fault = inl refl }) refl),
-  (λ world. (codes "buildozer: operands beside -f\n", refl, refl)),
-  (λ world. (codes "buildozer: --stdout beside --journal\n", refl, refl)),
-  (λ line world. (line, (line, sym (append-nil line)), refl)),
-  (λ text world. (text ++ option_line (codes "buildozer") (codes "-r") None, (text, refl), refl)),
-  (λ world gone. script_of (codes "-f" ∷ codes "lines" ∷ []) (codes "lines") world (unused world.folder (codes "lines: cannot open\n")) refl
-      (None, inr (apart (codes "lines") refl, sym gone), refl)),
-  (λ world there. script_of (codes "-f" ∷ codes "lines" ∷ []) (codes "lines") world (unused world.folder (codes "lines: no operands\n")) refl (
-    Some (codes "# none\n\n"),
-    inr (apart (codes "lines") refl, sym there),
-    inr (inl (read_text (codes "# none\n\n") refl comment_is_text, (no_line, inl refl, refl))),
-  )),
-  (λ world there. script_of (codes "-f" ∷ codes "lines" ∷ []) (codes "lines") world (unused world.folder (codes "buildozer: no target\nlines:2: refused\n")) refl (
-    Some (codes "# none\ndelete\n"),
-    inr (apart (codes "lines") refl, sym there),
-    inr (inl (read_text (codes "# none\ndelete\n") refl delete_is_text, (in_line 2 no_target, inl refl, refl))),
-  )),
-  (λ world text there long. script_of (codes "-f" ∷ codes "lines" ∷ []) (codes "lines") world (unused world.folder (codes "lines: TooLarge\n")) refl
-      (Some text, inr (apart (codes "lines") refl, sym there), inl (TooLarge, inl (long, refl), refl))),
-  (λ folder text long. script_of (codes "-f" ∷ codes "-" ∷ []) (codes "-") (record { folder = folder; known = Some text })
-      (unused folder (codes "<stdin>: TooLarge\n")) refl (Some text, inl (refl, (text, refl, refl)), inl (TooLarge, inl (long, refl), refl))),
-  (λ folder. script_of (codes "-f" ∷ codes "-" ∷ []) (codes "-") (record { folder = folder; known = Some (codes "undo|-:x\n") })
-      (unused folder (codes "buildozer: package - cannot be edited beside -f -\n")) refl (
-        Some (codes "undo|-:x\n"),
-        inl (refl, (codes "undo|-:x\n", refl, refl)),
-        inr (inr (read_text (codes "undo|-:x\n") refl undo_is_text, (undo_input ∷ [], refl, inl (refl, refl)))),
-      )),
-  (λ world. inr (undo_input, refl, (refl, refl, refl))),
-)
+usage =
+    let lines : Bytes = codes "lines" in (
+      (λ world. usage_of (codes "delete" ∷ []) no_target world refl refl),
+      (λ world. usage_of (codes "//:x" ∷ []) no_command world refl refl),
+      (λ world. usage_of [] no_command world refl refl),
+      (λ world. usage_of (codes "add deps" ∷ codes "grow" ∷ codes "//:x" ∷ []) (refused (codes "add deps") (Command Arguments)) world refl
+          (record { front = []; rest = codes "grow" ∷ codes "//:x" ∷ []; requested = nothing_requested; split = refl; before = refl; fault = inl refl })),
+      (λ world. usage_of (codes "delete" ∷ codes "//a/:x" ∷ []) (refused (codes "//a/:x") BadTarget) world refl
+          (record { front = codes "delete" ∷ []; rest = []; requested = only_delete; split = refl; before = refl; fault = inl refl })),
+      (λ world. usage_of (codes "help" ∷ codes "//:x" ∷ []) (refused (codes "help") (Command Unknown)) world refl
+          (record { front = []; rest = codes "//:x" ∷ []; requested = nothing_requested; split = refl; before = refl; fault = inl refl })),
+      (λ world. inr (codes "buildozer: operands beside -f\n", refl, refl)),
+      (λ world. inr (codes "buildozer: --stdout beside --journal\n", refl, refl)),
+      (λ line world. inr (line, (line, sym (append-nil line)), refl)),
+      (λ text world. inr (text ++ option_line (codes "buildozer") (codes "-r") None, (text, refl), refl)),
+      (λ world gone. by_script lines world (unused world.folder (codes "lines: cannot open\n")) refl
+          (inr (refl, (λ is. absurd (cc is)), λ is. inr (not_input lines refl, sym gone)))),
+      (λ world. by_script lines world (unread c.Files lines world.folder) refl (inr (refl, (λ is. absurd (cc is)), λ is. absurd (cc is)))),
+      (λ world there. by_script lines world (unused world.folder (codes "lines: no operands\n")) refl
+          (inl (codes "# none\n\n", inr (not_input lines refl, sym there), inr (inl (read_text (codes "# none\n\n") refl comment_is_text, (no_line, inl refl, refl)))))),
+      (λ world there. by_script lines world (unused world.folder (codes "buildozer: no target\nlines:2: refused\n")) refl
+          (inl (
+            codes "# none\ndelete\n",
+            inr (not_input lines refl, sym there),
+            inr (inl (read_text (codes "# none\ndelete\n") refl delete_is_text, (in_line 2 no_target, inl refl, refl))),
+          ))),
+      (λ world text there long. by_script lines world (unused world.folder (codes "lines: TooLarge\n")) refl
+          (inl (text, inr (not_input lines refl, sym there), inl (TooLarge, inl (long, refl), refl)))),
+      (λ folder text long. by_script (codes "-") (record { folder = folder; known = Some text }) (unused folder (codes "<stdin>: TooLarge\n")) refl
+          (inl (text, inl (refl, (text, refl, refl)), inl (TooLarge, inl (long, refl), refl)))),
+      (λ folder. by_script (codes "-") (record { folder = folder; known = Some (codes "undo|-:x\n") })
+          (unused folder (codes "buildozer: package - cannot be edited beside -f -\n")) refl
+          (inl (
+            codes "undo|-:x\n",
+            inl (refl, (codes "undo|-:x\n", refl, refl)),
+            inr (inr (read_text (codes "undo|-:x\n") refl undo_is_text, (undo_input ∷ [], refl, inl (refl, refl)))),
+          ))),
+      (λ world. inr (inr (undo_input, refl, inl (refl, refl)))),
+    )
 
 -- ---- steps
 
@@ -158,175 +158,229 @@ set_text = codes "set size small"
 abbrev set_size : Request
 set_size = record { verb = Do (w.Attribute (wa.Set (codes "size") (codes "small" ∷ []))); text = set_text }
 
+abbrev undo_text : Bytes
+undo_text = codes "undo"
+
+abbrev undo_one : Request
+undo_one = undo 1 undo_text
+
+short_undo : length undo_text ≤ note_limit
+short_undo = leb-true (length undo_text) note_limit refl
+
+abbrev redo : Request
+redo = record { verb = Redo 1; text = codes "redo" }
+
 abbrev step_at : Bytes → Request → RunStep
 step_at current request = record { target = rule_x current; request = request }
-
-abbrev set_history : Bytes → History
-set_history current = changed set_text (opened current text_read) text_made
 
 abbrev file_with : Bytes → Bytes → History → Used
 file_with current name history = record { «package» = current; file = Some (opened_with name text_read history) }
 
-abbrev none_used : Used
-none_used = record { «package» = codes "none"; file = None }
-
 abbrev state_of : List Used → Bool → Progress
 state_of used failed = record { used = used; printed = []; failed = failed }
 
-abbrev left_of : Bytes → List Bytes → ℕ → Folder → Left
-left_of output lines status folder = record { output = output; lines = lines; status = status; folder = folder }
+abbrev DoesHere : World → RunStep → Progress → List Bytes → Progress → Type 0
+DoesHere world step before lines after = Does c.Whole false world step before lines world.folder after
 
-does : (world : World) (step : RunStep) (before after : Progress) (place : ℕ) (used : List Used) (opening answer : List Bytes)
-    → Uses world step.target.«package» before.used place opening used → Answers step place (file_at place used) (record before { used = used }) answer after
-    → Does world step before (opening ++ answer) after
-does world step before after place used opening answer uses answers =
-    record { place = place; used = used; opening = opening; answer = answer; uses = uses; answers = answers; reported = refl }
+abbrev RunsHere : World → Bool → List RunStep → Progress → List Bytes → Progress → Type 0
+RunsHere world keep_going steps before lines after = RunsSteps c.Whole false world keep_going steps before lines world.folder after
 
--- A package is used for the first time, and its file is opened.
-opens : (world : World) (current name : Bytes) (used : List Used) → package_number current used ≡ None → Finds world current (Some (name, text_read))
-    → Uses world current used (length used) [] (used ++ file_with current name (opened current text_read) ∷ [])
-opens world current name used new finds =
-    inr (new, refl, (Some (name, text_read), Some (opened_fresh current name text_read), finds, inl (accepted, refl, refl), refl))
+module _ (world : World) where
+  answers_in : (step : RunStep) (place : ℕ) (found : Option Opened) (state : Progress) (lines : List Bytes) (after : Progress) → file_at place state.used ≡ found
+      → AnswersIn false step place found world.folder state lines world.folder after
+      → Answers c.Whole false step (option_map (λ (_ : Opened). place) found) world.folder state lines world.folder after
+  answers_in step place None state lines after at answers = answers
+  answers_in step place (Some file) state lines after at answers =
+      subst (λ (found : Option Opened). AnswersIn false step place found world.folder state lines world.folder after) (sym at) answers
 
-sets : (current name : Bytes) (place : ℕ) (state : Progress)
-    → Answers (step_at current set_size) place (Some (opened_fresh current name text_read)) state []
-    (answered place (opened_fresh current name text_read) (Ok Changed) (set_history current) state)
-sets current name place state =
-    (Ok Changed, set_history current, inr (leb-true (length set_text) note_limit refl, (gives text_made None, is_made current, refl)), refl, refl)
+  does : (step : RunStep) (before after : Progress) (place : ℕ) (used : List Used) (found : Option Opened) (opening answer : List Bytes)
+      → UsesWhole false world step.target.«package» before.used place opening used → file_at place used ≡ found
+      → AnswersIn false step place found world.folder (record before { used = used }) answer world.folder after → DoesHere world step before (opening ++ answer) after
+  does step before after place used found opening answer uses at answers = record {
+    opened = c.Whole;
+    acted = c.Whole;
+    number = option_map (λ (_ : Opened). place) found;
+    used = used;
+    opening = opening;
+    answer = answer;
+    uses = (place, uses, ap (option_map (λ (_ : Opened). place)) (sym at));
+    answers = answers_in step place found (record before { used = used }) answer after at answers;
+    reported = refl;
+    cut = refl;
+  }
 
-goes_back : (current : Bytes) (count : ℕ) (text : Bytes) (place : ℕ) (file : Opened) (state : Progress) (answer : Answer) (history : History)
-    → length text ≤ note_limit → (answer, history) ≡ undone count file.history
-    → Answers (step_at current (undo count text)) place (Some file) state (reported_of false file.name text answer) (answered place file answer history state)
-goes_back current count text place file state answer history short is = (answer, history, inr (short, is), refl, refl)
+  one_step : (keep_going : Bool) (step : RunStep) (steps : List RunStep) (before mid after : Progress) (first rest : List Bytes) → ends_run keep_going before ≡ false
+      → DoesHere world step before first mid → RunsHere world keep_going steps mid rest after → RunsHere world keep_going (step ∷ steps) before (first ++ rest) after
+  one_step keep_going step steps before mid after first rest going done more =
+      inr (going, (c.Whole, c.Whole, world.folder, mid, first, rest, done, more, refl, refl))
 
-one_step : (world : World) (keep : Bool) (step : RunStep) (steps : List RunStep) (before mid after : Progress) (first rest : List Bytes)
-    → ends_run keep before ≡ false → Does world step before first mid → RunsSteps world keep steps mid rest after
-    → RunsSteps world keep (step ∷ steps) before (first ++ rest) after
-one_step world keep step steps before mid after first rest going done more = inr (going, (mid, first, rest, done, more, refl))
+  -- A package is used for the first time, and its file is opened.
+  opens : (current name : Bytes) (used : List Used) → package_number current used ≡ None → Finds false world current (Some (name, text_read))
+      → UsesWhole false world current used (length used) [] (used ++ file_with current name (opened current text_read) ∷ [])
+  opens current name used new finds =
+      inr (new, refl, (Some (name, text_read), Some (opened_fresh current name text_read), finds, inl (accepted, refl, refl), refl))
 
-run_of : (words texts : List Bytes) (options : Options) (requested : Requested) (world : World) (left : Left)
-    → options.journal ≡ false → command_line_of words ≡ Ok (record { options = options; given = operands texts }) → operand_group texts ≡ Ok requested
-    → Performs options (all_steps (requested ∷ [])) world left → WordsOutcome words world left
-run_of words texts options requested world left alone is group done =
-    subst (λ (whole : Result CommandLine LineUsage). LineOutcome words whole world left) (sym is)
-    (inr (requested, group, inr (ap (λ (kept : Bool). kept && names_input (requested ∷ [])) alone, inl (alone, done))))
+  plain_after : (answer : Answer) (file : Opened) (history : History) → FolderAfter false answer file history world.folder world.folder
+  plain_after (Ok reply) file history = refl
+  plain_after (Err refusal) file history = refl
 
--- ---- the first step, `set size small` or `undo`, in a file that is found
+  -- a command in an open file
+  acts : (current name : Bytes) (request : Request) (h history : History) (answer : Answer) (before : Progress) (place : ℕ) (used : List Used)
+      → UsesWhole false world current before.used place [] used → file_at place used ≡ Some (opened_with name text_read h)
+      → LeadsBy (action_of (rule_x current) request.verb) request.text h answer history
+      → DoesHere world (step_at current request) before (reported_of false name request.text answer)
+      (state_after false place (opened_with name text_read h) answer history (record before { used = used }))
+  acts current name request h history answer before place used uses at leads =
+      let file : Opened = opened_with name text_read h in
+      does (step_at current request) before (state_after false place file answer history (record before { used = used })) place used (Some file) []
+      (reported_of false name request.text answer) uses at (answer, history, leads, plain_after answer file history, refl, refl)
 
-abbrev after_set : Bytes → Bytes → Progress
-after_set current name = state_of (file_with current name (set_history current) ∷ []) false
+-- ---- `set size small`, and `undo` after it or alone, in a file that is found
 
-set_first : (world : World) (current name : Bytes) → Finds world current (Some (name, text_read))
-    → Does world (step_at current set_size) nothing_done [] (after_set current name)
-set_first world current name finds =
-    does world (step_at current set_size) nothing_done (after_set current name) 0 (file_with current name (opened current text_read) ∷ []) [] []
-    (opens world current name [] refl finds) (sets current name 0 (state_of (file_with current name (opened current text_read) ∷ []) false))
-
--- What `set size small` made is taken back by this many steps, or that is refused.
-set_back : (world : World) (current name : Bytes) (count : ℕ) (text : Bytes) (answer : Answer) (history : History)
-    → package_number current (after_set current name).used ≡ Some 0 → length text ≤ note_limit → (answer, history) ≡ undone count (set_history current)
-    → Does world (step_at current (undo count text)) (after_set current name) (reported_of false name text answer)
-    (answered 0 (opened_with name text_read (set_history current)) answer history (after_set current name))
-set_back world current name count text answer history there short is =
-    let file : Opened = opened_with name text_read (set_history current) in
-    does world (step_at current (undo count text)) (after_set current name) (answered 0 file answer history (after_set current name)) 0
-    (after_set current name).used [] (reported_of false name text answer) (inl (there, refl, refl))
-    (goes_back current count text 0 file (after_set current name) answer history short is)
+abbrev set_history : Bytes → History
+set_history current = changed set_text (opened current text_read) text_made
 
 abbrev back_history : Bytes → History
 back_history current = (undone 1 (set_history current)).1
 
+sets : (current : Bytes) → LeadsBy (action_of (rule_x current) set_size.verb) set_text (opened current text_read) (Ok Changed) (set_history current)
+sets current = inr (leb-true (length set_text) note_limit refl, (gives text_made None, is_made current, refl))
+
+abbrev after_set : Bytes → Bytes → Progress
+after_set current name = state_of (file_with current name (set_history current) ∷ []) false
+
 abbrev after_back : Bytes → Bytes → Progress
 after_back current name = state_of (file_with current name (back_history current) ∷ []) false
 
-abbrev undo_text : Bytes
-undo_text = codes "undo"
+abbrev steps_on : Bytes → List Request → List RunStep
+steps_on current requests = map (step_at current) requests
 
-short_undo : length undo_text ≤ note_limit
-short_undo = leb-true (length undo_text) note_limit refl
+module _ (world : World) (current name : Bytes) (finds : Finds false world current (Some (name, text_read))) where
+  set_first : DoesHere world (step_at current set_size) nothing_done [] (after_set current name)
+  set_first = acts world current name set_size (opened current text_read) (set_history current) (Ok Changed) nothing_done 0
+      (file_with current name (opened current text_read) ∷ []) (opens world current name [] refl finds) refl (sets current)
+
+  run_set : (keep_going : Bool) → RunsHere world keep_going (steps_on current (set_size ∷ [])) nothing_done [] (after_set current name)
+  run_set keep_going = one_step world keep_going (step_at current set_size) [] nothing_done (after_set current name) (after_set current name) [] [] refl set_first
+      (refl, refl, refl, refl)
+
+  -- What it made is taken back by this many steps, or that is refused.
+  run_back : (count : ℕ) (text : Bytes) (answer : Answer) (history : History) → package_number current (after_set current name).used ≡ Some 0
+      → length text ≤ note_limit → (answer, history) ≡ undone count (set_history current)
+      → RunsHere world false (steps_on current (set_size ∷ undo count text ∷ [])) nothing_done ([] ++ (reported_of false name text answer ++ []))
+      (state_after false 0 (opened_with name text_read (set_history current)) answer history (after_set current name))
+  run_back count text answer history there short is =
+      let after = state_after false 0 (opened_with name text_read (set_history current)) answer history (after_set current name) in
+      one_step world false (step_at current set_size) (steps_on current (undo count text ∷ [])) nothing_done (after_set current name) after [] (reported_of false name text answer ++ []) refl
+      set_first (one_step world false (step_at current (undo count text)) [] (after_set current name) after after (reported_of false name text answer) [] refl
+      (acts world current name (undo count text) (set_history current) history answer (after_set current name) 0 (after_set current name).used (inl (there, refl, refl)) refl
+      (inr (short, is))) (refl, refl, refl, refl))
+
+-- ---- whole runs
+
+abbrev requested_of : List Request → List Target → Requested
+requested_of commands targets = record { commands = commands; targets = targets }
+
+-- what is left after steps, by the files that are tried, where standard output isn't given all for this cut
+abbrev left_after : Bool → Requested → Cut → List Bytes → Progress → List Bytes → Folder → Ended
+left_after to_stdout requested printed lines state told folder = record {
+  left = record {
+    output = state.printed ++ texts_out (shows_input (all_steps (requested ∷ []))) to_stdout state.used;
+    lines = lines ++ output_lines printed ++ told;
+    status = status_of printed state;
+    folder = folder;
+  };
+  cut = printed;
+  printed = printed;
+}
+
+run_of : (words texts : List Bytes) (keep_going to_stdout quiet : Bool) (requested : Requested) (world : World) (printed : Cut) (lines told : List Bytes) (state : Progress) (folder : Folder)
+    → command_line_of words ≡ Ok (record { options = options_of keep_going to_stdout quiet; given = operands texts }) → operand_group texts ≡ Ok requested
+    → RunsHere world keep_going (all_steps (requested ∷ [])) nothing_done lines state
+    → TriesFiles c.Whole (options_of keep_going to_stdout quiet) state.used world.folder told folder
+    → WordsOutcome words world (left_after to_stdout requested printed lines state told folder)
+run_of words texts keep_going to_stdout quiet requested world printed lines told state folder is group runs tries =
+    let options : Options = options_of keep_going to_stdout quiet in
+    by_line words (record { options = options; given = operands texts }) world (left_after to_stdout requested printed lines state told folder) is
+    (inr (
+      requested,
+      group,
+      inr (
+        refl,
+        record {
+          stopped = c.Whole;
+          written = c.Whole;
+          reported = lines;
+          told = told;
+          folder = world.folder;
+          state = state;
+          runs = runs;
+          output = refl;
+          tries = tries;
+          lines = refl;
+          cut = refl;
+          status = refl;
+        },
+      ),
+    ))
+
+tries_one : (keep_going to_stdout quiet : Bool) (used : Used) (before : Folder) (lines : List Bytes) (after : Folder)
+    → TriesFile c.Whole (options_of keep_going to_stdout quiet) used before lines after → TriesFiles c.Whole (options_of keep_going to_stdout quiet) (used ∷ []) before (lines ++ []) after
+tries_one keep_going to_stdout quiet used before lines after tries = (c.Whole, c.Whole, lines, [], after, tries, (refl, refl, refl), refl, refl)
 
 -- ---- runs over BUILD
 
 abbrev build : Bytes
 build = codes "BUILD"
 
-finds_build : (world : World) → HasBuild world → Finds world [] (Some (build, text_read))
-finds_build world has = inr (apart [] refl, sym (second_found world.folder [] (Some text_read) has.0 has.1))
+abbrev rule_word : Bytes
+rule_word = codes "//:x"
 
 abbrev made_lines : List Bytes
 made_lines = codes "fixed BUILD\n" ∷ []
 
-abbrev requested_of : List Request → List Target → Requested
-requested_of commands targets = record { commands = commands; targets = targets }
+abbrev hint : Bytes
+hint = codes "buildozer: to undo or redo what earlier runs did, give --journal, as in those runs\n"
 
-abbrev rule_word : Bytes
-rule_word = codes "//:x"
+module _ (world : World) (has : HasBuild world) where
+  finds_build : Finds false world [] (Some (build, text_read))
+  finds_build = inr (inr (not_input [] refl), sym (found_by world.folder [] None (Some text_read) has.0 has.1))
 
-run_set : (world : World) (keep : Bool) → HasBuild world → RunsSteps world keep (step_at [] set_size ∷ []) nothing_done [] (after_set [] build)
-run_set world keep has = one_step world keep (step_at [] set_size) [] nothing_done (after_set [] build) (after_set [] build) [] [] refl
-    (set_first world [] build (finds_build world has)) (refl, refl)
+  -- BUILD is written, with this last package
+  writes_build : (keep_going quiet : Bool) (lines : List Bytes) → lines ≡ fixed_lines quiet (Some build)
+      → TriesFiles c.Whole (options_of keep_going false quiet) (file_with [] build (set_history []) ∷ []) world.folder (lines ++ []) (with_file world.folder build text_made)
+  writes_build keep_going quiet lines is =
+      tries_one keep_going false quiet (file_with [] build (set_history [])) world.folder lines (with_file world.folder build text_made) (is, (has.1, λ name other. refl))
 
-run_set_undo : (world : World) (current name : Bytes) → package_number current (after_set current name).used ≡ Some 0 → Finds world current (Some (name, text_read))
-    → RunsSteps world false (step_at current set_size ∷ step_at current (undo 1 undo_text) ∷ []) nothing_done [] (after_back current name)
-run_set_undo world current name there finds =
-    one_step world false (step_at current set_size) (step_at current (undo 1 undo_text) ∷ []) nothing_done (after_set current name) (after_back current name) [] [] refl
-    (set_first world current name finds)
-    (one_step world false (step_at current (undo 1 undo_text)) [] (after_set current name) (after_back current name) (after_back current name) [] [] refl
-    (set_back world current name 1 undo_text (Ok Moved) (back_history current) there short_undo refl) (refl, refl))
-
-abbrev refused_two : Bytes
-refused_two = codes "buildozer: BUILD: undo 2: TooFar (61)\nbuildozer: to undo or redo what earlier runs did, give --journal, as in those runs\n"
-
-abbrev after_two : Progress
-after_two = state_of (file_with [] build (set_history []) ∷ []) true
-
-run_two : (world : World) → HasBuild world
-    → RunsSteps world false (step_at [] set_size ∷ step_at [] (undo 2 (codes "undo 2")) ∷ []) nothing_done (refused_two ∷ []) after_two
-unfolding digits
-run_two world has =
-    one_step world false (step_at [] set_size) (step_at [] (undo 2 (codes "undo 2")) ∷ []) nothing_done (after_set [] build) after_two [] (refused_two ∷ []) refl
-    (set_first world [] build (finds_build world has))
-    (one_step world false (step_at [] (undo 2 (codes "undo 2"))) [] (after_set [] build) after_two after_two (refused_two ∷ []) [] refl
-    (set_back world [] build 2 (codes "undo 2") (Err TooFar) (set_history []) refl (leb-true (length (codes "undo 2")) note_limit refl) refl) (refl, refl))
-
-abbrev refused_one : Bytes
-refused_one = codes "buildozer: BUILD: undo: TooFar (61)\nbuildozer: to undo or redo what earlier runs did, give --journal, as in those runs\n"
-
-abbrev build_read : Opened
-build_read = opened_fresh [] build text_read
-
-abbrev after_one : Progress
-after_one = state_of (file_with [] build (opened [] text_read) ∷ []) true
-
-run_one : (world : World) → HasBuild world → RunsSteps world false (step_at [] (undo 1 undo_text) ∷ []) nothing_done (refused_one ∷ []) after_one
-unfolding digits
-run_one world has =
-    let used : List Used = file_with [] build (opened [] text_read) ∷ [] in
-    one_step world false (step_at [] (undo 1 undo_text)) [] nothing_done after_one after_one (refused_one ∷ []) [] refl
-    (does world (step_at [] (undo 1 undo_text)) nothing_done after_one 0 used [] (refused_one ∷ []) (opens world [] build [] refl (finds_build world has))
-    (goes_back [] 1 undo_text 0 build_read (state_of used false) (Err TooFar) (opened [] text_read) short_undo refl)) (refl, refl)
-
-over_build : (world : World) → HasBuild world → OverBuild world
-unfolding clap_on_literals
-over_build world has =
-    let written : Folder = with_file world.folder build text_made in
-    let requested : Requested = requested_of (set_size ∷ []) (rule_x [] ∷ []) in (
-      run_of (set_text ∷ rule_word ∷ []) (set_text ∷ rule_word ∷ []) plain requested world (left_of [] made_lines 0 written) refl refl refl
-          (record { reported = []; state = after_set [] build; runs = run_set world false has; output = refl; writes = (has.1, written, (λ name other. refl), refl); lines = refl; status = refl }),
-      run_of (codes "--quiet" ∷ set_text ∷ rule_word ∷ []) (set_text ∷ rule_word ∷ []) (record plain { quiet = true }) requested world (left_of [] [] 0 written) refl refl refl
-          (record { reported = []; state = after_set [] build; runs = run_set world false has; output = refl; writes = (has.1, written, (λ name other. refl), refl); lines = refl; status = refl }),
-      run_of (codes "--stdout" ∷ set_text ∷ rule_word ∷ []) (set_text ∷ rule_word ∷ []) (record plain { to_stdout = true }) requested world (left_of text_made [] 0 world.folder) refl refl refl
-          (record { reported = []; state = after_set [] build; runs = run_set world false has; output = refl; writes = refl; lines = refl; status = refl }),
-      run_of (set_text ∷ undo_text ∷ rule_word ∷ []) (set_text ∷ undo_text ∷ rule_word ∷ []) plain (requested_of (set_size ∷ undo 1 undo_text ∷ []) (rule_x [] ∷ []))
-          world (left_of [] [] 3 world.folder) refl refl refl
-          (record { reported = []; state = after_back [] build; runs = run_set_undo world [] build refl (finds_build world has); output = refl; writes = refl; lines = refl; status = refl }),
-      run_of (set_text ∷ codes "undo 2" ∷ rule_word ∷ []) (set_text ∷ codes "undo 2" ∷ rule_word ∷ []) plain
-          (requested_of (set_size ∷ undo 2 (codes "undo 2") ∷ []) (rule_x [] ∷ [])) world (left_of [] (refused_two ∷ made_lines) 2 written) refl refl refl
-          (record { reported = refused_two ∷ []; state = after_two; runs = run_two world has; output = refl; writes = (has.1, written, (λ name other. refl), refl); lines = refl; status = refl }),
-      run_of (undo_text ∷ rule_word ∷ []) (undo_text ∷ rule_word ∷ []) plain (requested_of (undo 1 undo_text ∷ []) (rule_x [] ∷ [])) world
-          (left_of [] (refused_one ∷ []) 2 world.folder) refl refl refl
-          (record { reported = refused_one ∷ []; state = after_one; runs = run_one world has; output = refl; writes = refl; lines = refl; status = refl }),
-    )
+  over_build : OverBuild world
+  unfolding clap_on_literals digits
+  over_build =
+      let written : Folder = with_file world.folder build text_made in
+      let set : Requested = requested_of (set_size ∷ []) (rule_x [] ∷ []) in
+      let words : List Bytes = set_text ∷ rule_word ∷ [] in
+      let two : Bytes = codes "undo 2" in (
+        run_of words words false false false set world c.Whole [] made_lines (after_set [] build) written refl refl (run_set world [] build finds_build false)
+            (writes_build false false made_lines refl),
+        run_of (codes "--quiet" ∷ words) words false false true set world c.Whole [] [] (after_set [] build) written refl refl (run_set world [] build finds_build false)
+            (writes_build false true [] refl),
+        run_of (codes "--stdout" ∷ words) words false true false set world c.Whole [] [] (after_set [] build) world.folder refl refl (run_set world [] build finds_build false)
+            (tries_one false true false (file_with [] build (set_history [])) world.folder [] world.folder (refl, refl)),
+        run_of (codes "--stdout" ∷ words) words false true false set world c.Write [] [] (after_set [] build) world.folder refl refl (run_set world [] build finds_build false)
+            (tries_one false true false (file_with [] build (set_history [])) world.folder [] world.folder (refl, refl)),
+        run_of (set_text ∷ undo_text ∷ rule_word ∷ []) (set_text ∷ undo_text ∷ rule_word ∷ []) false false false (requested_of (set_size ∷ undo_one ∷ []) (rule_x [] ∷ [])) world
+            c.Whole [] [] (after_back [] build) world.folder refl refl (run_back world [] build finds_build 1 undo_text (Ok Moved) (back_history []) refl short_undo refl)
+            (tries_one false false false (file_with [] build (back_history [])) world.folder [] world.folder (refl, refl)),
+        run_of (set_text ∷ two ∷ rule_word ∷ []) (set_text ∷ two ∷ rule_word ∷ []) false false false (requested_of (set_size ∷ undo 2 two ∷ []) (rule_x [] ∷ [])) world
+            c.Whole ((codes "buildozer: BUILD: undo 2: TooFar (61)\n" ++ hint) ∷ []) made_lines (state_of (file_with [] build (set_history []) ∷ []) true) written refl refl
+            (run_back world [] build finds_build 2 two (Err TooFar) (set_history []) refl (leb-true (length two) note_limit refl) refl) (writes_build false false made_lines refl),
+        run_of (undo_text ∷ rule_word ∷ []) (undo_text ∷ rule_word ∷ []) false false false (requested_of (undo_one ∷ []) (rule_x [] ∷ [])) world c.Whole
+            ((codes "buildozer: BUILD: undo: TooFar (61)\n" ++ hint) ∷ []) [] (state_of (file_with [] build (opened [] text_read) ∷ []) true) world.folder refl refl
+            (one_step world false (step_at [] undo_one) [] nothing_done (state_of (file_with [] build (opened [] text_read) ∷ []) true) (state_of (file_with [] build (opened [] text_read) ∷ []) true)
+            ((codes "buildozer: BUILD: undo: TooFar (61)\n" ++ hint) ∷ []) [] refl
+            (acts world [] build undo_one (opened [] text_read) (opened [] text_read) (Err TooFar) nothing_done 0 (file_with [] build (opened [] text_read) ∷ [])
+            (opens world [] build [] refl finds_build) refl (inr (short_undo, refl))) (refl, refl, refl, refl))
+            (tries_one false false false (file_with [] build (opened [] text_read)) world.folder [] world.folder (refl, refl)),
+      )
 
 -- ---- runs that mean package `none`, of which no file is there
 
@@ -336,95 +390,60 @@ none = codes "none"
 abbrev none_line : Bytes
 none_line = codes "none/BUILD: cannot open\nbuildozer: a package is a directory below the working directory, which is to be the root of the workspace\n"
 
+abbrev none_used : Used
+none_used = record { «package» = none; file = None }
+
 abbrev after_none : Progress
 after_none = state_of (none_used ∷ []) true
-
-fails_first : (world : World) (request : Request) → found_in world.folder none ≡ None → Does world (step_at none request) nothing_done (none_line ∷ []) after_none
-fails_first world request gone = does world (step_at none request) nothing_done after_none 0 (none_used ∷ []) (none_line ∷ []) []
-    (inr (refl, refl, (None, None, inr (apart none refl, sym gone), (refl, refl), refl))) (refl, refl)
-
-fails_again : (world : World) (request : Request) → Does world (step_at none request) after_none [] after_none
-fails_again world request = does world (step_at none request) after_none after_none 0 (none_used ∷ []) [] [] (inl (refl, refl, refl)) (refl, refl)
 
 abbrev after_both : Progress
 after_both = state_of (none_used ∷ file_with [] build (set_history []) ∷ []) true
 
-set_next : (world : World) → HasBuild world → Does world (step_at [] set_size) after_none [] after_both
-set_next world has =
-    let used : List Used = none_used ∷ file_with [] build (opened [] text_read) ∷ [] in
-    does world (step_at [] set_size) after_none after_both 1 used [] [] (opens world [] build (none_used ∷ []) refl (finds_build world has))
-    (sets [] build 1 (state_of used true))
+module _ (world : World) (has : HasBuild world) (gone : found_in world.folder none ≡ None) where
+  fails_first : (request : Request) → DoesHere world (step_at none request) nothing_done (none_line ∷ []) after_none
+  fails_first request = does world (step_at none request) nothing_done after_none 0 (none_used ∷ []) None (none_line ∷ []) []
+      (inr (refl, refl, (None, None, inr (inr (not_input none refl), sym gone), (refl, refl), refl))) refl (refl, refl, refl)
 
-abbrev redo : Request
-redo = record { verb = Redo 1; text = codes "redo" }
-
-ends_without : (world : World) (keep_going : Bool) (steps : List RunStep) → RunsSteps world keep_going steps nothing_done (none_line ∷ []) after_none
-    → Performs (record plain { keep_going = keep_going }) steps world (left_of [] (none_line ∷ []) 2 world.folder)
-ends_without world keep_going steps runs =
-    record { reported = none_line ∷ []; state = after_none; output = refl; writes = refl; lines = refl; status = refl; runs = runs }
-
-beside_none : (world : World) → HasBuild world → found_in world.folder none ≡ None → BesideNone world
-unfolding clap_on_literals
-beside_none world has gone =
-    let written : Folder = with_file world.folder build text_made in
-    let keep : Options = record plain { keep_going = true } in
-    let texts : List Bytes = set_text ∷ codes "//none:x" ∷ rule_word ∷ [] in
-    let requested : Requested = requested_of (set_size ∷ []) (rule_x none ∷ rule_x [] ∷ []) in (
-      run_of texts texts plain requested world (left_of [] (none_line ∷ []) 2 world.folder) refl refl refl
-          (ends_without world false (all_steps (requested ∷ []))
-          (one_step world false (step_at none set_size) (step_at [] set_size ∷ []) nothing_done after_none after_none (none_line ∷ []) [] refl
-          (fails_first world set_size gone) (inl (refl, refl, refl)))),
-      run_of (codes "-k" ∷ texts) texts keep requested world (left_of [] (none_line ∷ made_lines) 2 written) refl refl refl
-          (record {
-            reported = none_line ∷ [];
-            state = after_both;
-            output = refl;
-            writes = (has.1, written, (λ name other. refl), refl);
-            lines = refl;
-            status = refl;
-            runs = one_step world true (step_at none set_size) (step_at [] set_size ∷ []) nothing_done after_none after_both (none_line ∷ []) [] refl (fails_first world set_size gone)
-                (one_step world true (step_at [] set_size) [] after_none after_both after_both [] [] refl (set_next world has) (refl, refl));
-          }),
-      run_of (codes "-k" ∷ undo_text ∷ codes "redo" ∷ codes "//none:x" ∷ []) (undo_text ∷ codes "redo" ∷ codes "//none:x" ∷ []) keep
-          (requested_of (undo 1 undo_text ∷ redo ∷ []) (rule_x none ∷ [])) world (left_of [] (none_line ∷ []) 2 world.folder) refl refl refl
-          (ends_without world true (step_at none (undo 1 undo_text) ∷ step_at none redo ∷ [])
-          (one_step world true (step_at none (undo 1 undo_text)) (step_at none redo ∷ []) nothing_done after_none after_none (none_line ∷ []) [] refl
-          (fails_first world (undo 1 undo_text) gone)
-          (one_step world true (step_at none redo) [] after_none after_none after_none [] [] refl (fails_again world redo) (refl, refl)))),
-    )
+  beside_none : BesideNone world
+  unfolding clap_on_literals
+  beside_none =
+      let texts : List Bytes = set_text ∷ codes "//none:x" ∷ rule_word ∷ [] in
+      let again : List Bytes = undo_text ∷ codes "redo" ∷ codes "//none:x" ∷ [] in
+      let requested : Requested = requested_of (set_size ∷ []) (rule_x none ∷ rule_x [] ∷ []) in
+      let folder : Folder = world.folder in
+      let lines : List Bytes = none_line ∷ [] in
+      let next : RunStep = step_at [] set_size in (
+        run_of texts texts false false false requested world c.Whole lines [] after_none folder refl refl
+            (one_step world false (step_at none set_size) (next ∷ []) nothing_done after_none after_none lines [] refl (fails_first set_size) (inl (refl, refl, refl, refl, refl)))
+            (tries_one false false false none_used folder [] folder (refl, refl)),
+        run_of (codes "-k" ∷ texts) texts true false false requested world c.Whole lines made_lines after_both (with_file folder build text_made) refl refl
+            (one_step world true (step_at none set_size) (next ∷ []) nothing_done after_none after_both lines [] refl (fails_first set_size)
+            (one_step world true next [] after_none after_both after_both [] [] refl
+            (acts world [] build set_size (opened [] text_read) (set_history []) (Ok Changed) after_none 1 (none_used ∷ file_with [] build (opened [] text_read) ∷ [])
+            (opens world [] build (none_used ∷ []) refl (finds_build world has)) refl (sets [])) (refl, refl, refl, refl)))
+            (c.Whole, c.Whole, [], made_lines, folder, (refl, refl), writes_build world has true false made_lines refl, refl, refl),
+        run_of (codes "-k" ∷ again) again true false false (requested_of (undo_one ∷ redo ∷ []) (rule_x none ∷ [])) world c.Whole lines [] after_none folder refl refl
+            (one_step world true (step_at none undo_one) (step_at none redo ∷ []) nothing_done after_none after_none lines [] refl (fails_first undo_one)
+            (one_step world true (step_at none redo) [] after_none after_none after_none [] [] refl
+            (does world (step_at none redo) after_none after_none 0 (none_used ∷ []) None [] [] (inl (refl, refl, refl)) refl (refl, refl, refl)) (refl, refl, refl, refl)))
+            (tries_one true false false none_used folder [] folder (refl, refl)),
+      )
 
 -- ---- runs over standard input
-
-abbrev dash : Bytes
-dash = codes "-"
 
 over_input : (folder : Folder) → OverInput (record { folder = folder; known = Some text_read })
 unfolding clap_on_literals
 over_input folder =
+    let dash : Bytes = codes "-" in
     let world : World = record { folder = folder; known = Some text_read } in
-    let finds : Finds world dash (Some (stdin, text_read)) = inl (refl, (text_read, refl, refl)) in (
-      run_of (codes "--" ∷ set_text ∷ codes "-:x" ∷ []) (set_text ∷ codes "-:x" ∷ []) plain (requested_of (set_size ∷ []) (rule_x dash ∷ [])) world
-          (left_of text_made [] 0 folder) refl refl refl
-          (record {
-            reported = [];
-            state = after_set dash stdin;
-            output = refl;
-            writes = refl;
-            lines = refl;
-            status = refl;
-            runs = one_step world false (step_at dash set_size) [] nothing_done (after_set dash stdin) (after_set dash stdin) [] [] refl (set_first world dash stdin finds) (refl, refl);
-          }),
-      run_of (codes "--" ∷ set_text ∷ undo_text ∷ codes "-:x" ∷ []) (set_text ∷ undo_text ∷ codes "-:x" ∷ []) plain
-          (requested_of (set_size ∷ undo 1 undo_text ∷ []) (rule_x dash ∷ [])) world (left_of text_read [] 3 folder) refl refl refl
-          (record {
-            reported = [];
-            state = after_back dash stdin;
-            output = refl;
-            writes = refl;
-            lines = refl;
-            status = refl;
-            runs = run_set_undo world dash stdin refl finds;
-          }),
+    let finds : Finds false world dash (Some (stdin, text_read)) = inl (refl, refl, (text_read, refl, refl)) in (
+      run_of (codes "--" ∷ set_text ∷ codes "-:x" ∷ []) (set_text ∷ codes "-:x" ∷ []) false false false (requested_of (set_size ∷ []) (rule_x dash ∷ [])) world c.Whole [] []
+          (after_set dash stdin) folder refl refl (run_set world dash stdin finds false)
+          (tries_one false false false (file_with dash stdin (set_history dash)) folder [] folder (refl, refl)),
+      run_of (codes "--" ∷ set_text ∷ undo_text ∷ codes "-:x" ∷ []) (set_text ∷ undo_text ∷ codes "-:x" ∷ []) false false false
+          (requested_of (set_size ∷ undo_one ∷ []) (rule_x dash ∷ [])) world c.Whole [] [] (after_back dash stdin) folder refl refl
+          (run_back world dash stdin finds 1 undo_text (Ok Moved) (back_history dash) refl short_undo refl)
+          (tries_one false false false (file_with dash stdin (back_history dash)) folder [] folder (refl, refl)),
     )
 
 pub whole : WorkedWholeRuns

@@ -6,7 +6,8 @@ use Rattle.std.specs.Io.KnownBytes.{Appends}
 use Rattle.bz_items.specs.Characters.{Bytes}
 use Rattle.bz_files.specs.Folder.{Folder, Elapses}
 use Rattle.bz_files.specs.declared.files.Files.{Ghosts as FilesOf}
-use Rattle.bz_streams.specs.Faults.{AppendsSome, AppendsUnlessFailed, Rises}
+pub use Rattle.bz_command_line.specs.Reported.{ReportsLine}
+use Rattle.bz_streams.specs.Faults.{AppendsSome, Rises}
 use Rattle.bz_streams.specs.Outputs.{Reports, Counts}
 use Rattle.bz_streams.specs.declared.exit.Cut.{Cut}
 use Rattle.bz_streams.specs.declared.exit.Cut.TheVariants as c
@@ -15,24 +16,44 @@ use Rattle.bz_streams.specs.declared.sink.Sink.{Ghosts as SinkOf}
 use Rattle.bz_streams.specs.declared.source.Source.{Ghosts as SourceOf}
 use Rattle.bz_journal.specs.declared.keeping.KeepFault.{KeepFault}
 use Rattle.bz_buildozer.specs.Journals.{Adds, IsOpenedIn}
-use Rattle.bz_buildozer.specs.Keeps.{KeepsAt}
-use Rattle.bz_buildozer.specs.Packages.{Used, file_at, package_number}
+use Rattle.bz_buildozer.specs.Keeps.{KeepsAt, is_left_at}
+use Rattle.bz_buildozer.specs.Found.{Used, file_at, package_number}
 use Rattle.bz_buildozer.specs.Sessions.{Action, Reply}
-use Rattle.bz_buildozer.specs.Cuts.{AreCutBy, IsEndedBy, IsLeft, CutsFiles, ReadsOnce}
-use Rattle.bz_buildozer.specs.Ending.{Left, LeftStands}
-use Rattle.bz_buildozer.specs.Failing.{Ended}
-use Rattle.bz_buildozer.specs.Keeping.{is_left_at}
+use Rattle.bz_buildozer.specs.Ending.{Ended}
 use Rattle.bz_buildozer.specs.Moments.{AllAreSafe, IsMeanwhile, IsMomentOfSteps}
 use Rattle.bz_buildozer.specs.Run.{World, Progress}
 use Rattle.bz_buildozer.specs.private.Shown.{progress_in}
-use Rattle.bz_buildozer.specs.Steps.{RunStep, action_of}
+use Rattle.bz_buildozer.specs.Steps.{RunStep, action_of, input_package}
 use Rattle.bz_buildozer.specs.declared.run.Run.{Run}
 
--- ---- standard error
+-- ---- why the steps of a run are cut, and what is left of standard input
 
--- A line was printed, whole unless its writing failed.
-abbrev pub ReportsLine : {E : Type 0} → SinkOf E → E → E → Bytes → Type 0
-ReportsLine sink old new line = AppendsUnlessFailed (sink.faults old) (sink.faults new) (sink.contents old) (sink.contents new) line
+-- Steps are cut where a count of faults rose; where none is, none has risen. (Standard input, then files, each before and after.)
+abbrev pub AreCutBy : Cut → ℕ → ℕ → ℕ → ℕ → Type 0
+AreCutBy c.Whole read_faults read_faults' files files' = (read_faults' ≡ read_faults) × (files' ≡ files)
+AreCutBy c.Memory read_faults read_faults' files files' = Unit {0}
+AreCutBy c.Read read_faults read_faults' files files' = Rises read_faults read_faults'
+AreCutBy c.Write read_faults read_faults' files files' = ⊥
+AreCutBy c.Files read_faults read_faults' files files' = Rises files files'
+
+-- What is done on files is cut for memory, or where a count of faults rose; where it is not, none has risen.
+abbrev pub CutsFiles : Cut → ℕ → ℕ → Type 0
+CutsFiles cut faults faults' = ((cut ≡ c.Whole) × (faults' ≡ faults)) ⊎ (cut ≡ c.Memory) ⊎ ((cut ≡ c.Files) × Rises faults faults')
+
+-- Until package `-` is used, all bytes of standard input are left.
+abbrev pub IsLeft : Option Bytes → List Used → Option Bytes → Type 0
+IsLeft known used remaining = package_number input_package used ≡ None → remaining ≡ known
+
+-- A run is cut where a count of faults rose; where none is, none has risen. (Standard input, standard output and files, each before
+-- and after.)
+abbrev pub IsEndedBy : Cut → ℕ → ℕ → ℕ → ℕ → ℕ → ℕ → Type 0
+IsEndedBy c.Whole read_faults read_faults' writes writes' files files' = (read_faults' ≡ read_faults) × (writes' ≡ writes) × (files' ≡ files)
+IsEndedBy c.Memory read_faults read_faults' writes writes' files files' = Unit {0}
+IsEndedBy c.Read read_faults read_faults' writes writes' files files' = Rises read_faults read_faults'
+IsEndedBy c.Write read_faults read_faults' writes writes' files files' = Rises writes writes'
+IsEndedBy c.Files read_faults read_faults' writes writes' files files' = Rises files files'
+
+-- ---- standard error
 
 -- Lines were printed one after the other, each whole unless its writing failed.
 abbrev pub ReportsLines : {E : Type 0} → SinkOf E → E → E → List Bytes → Type 0
@@ -53,8 +74,7 @@ abbrev pub PrintsUntil : {W : Type 0} → SinkOf W → Cut → W → W → Bytes
 PrintsUntil sink c.Whole old new bytes = PrintsAll sink old new bytes
 PrintsUntil sink c.Memory old new bytes = new ≡ old
 PrintsUntil sink c.Write old new bytes = PrintsSome sink old new bytes × Rises (sink.faults old) (sink.faults new)
-PrintsUntil sink c.Read old new bytes = ⊥
-PrintsUntil sink c.Files old new bytes = ⊥
+PrintsUntil sink why old new bytes = ⊥
 
 -- ---- what can be read
 
@@ -172,7 +192,6 @@ MayRun journals honest Premise = (honest ≡ true) ⊎ ((journals ≡ false) × 
 pub record Proceeds (journals : Bool) (Premise : Type 0) (steps : List RunStep) (Does : Cut → World → Progress → List Bytes → Folder → Progress → Type 0)
     (why : Cut) (old new : RunSpot) : Type 0 where
   pub does : MayRun journals old.honest Premise → (journals ≡ true → AllAreSafe old.folder old.state.used) → DoesBetween (Does why) old new
-  pub input : journals ≡ false → Premise → ReadsOnce why old.state new.state
   pub safely : journals ≡ true → old.honest ≡ true → PassesSafely steps old new
   pub unread : journals ≡ true → ReadsNoInput why old new
   pub works : old.sound ≡ true → why ≢ c.Read
@@ -184,21 +203,7 @@ pub record Proceeds (journals : Bool) (Premise : Type 0) (steps : List RunStep) 
 
 -- ---- what a run leaves
 
--- The writers and the folder hold what is left. (The status, standard output and standard error before and after, and the files after.)
-abbrev pub LeavesAfter : {W E F : Type 0} → SinkOf W → SinkOf E → FilesOf F → Left → ℕ → W → W → E → E → F → Type 0
-LeavesAfter sink errors files left status out out' err err' held' =
-    LeftStands left status (files.folder held') (sink.contents out) (sink.contents out') (errors.faults err) (errors.faults err') (errors.contents err) (errors.contents err')
-
--- Some outcome is what is left; of a run that standard output cuts the folder is, and a beginning of the output was printed.
-abbrev pub Reaches : {W E F : Type 0} → SinkOf W → SinkOf E → FilesOf F → (Left → Type 0) → ℕ → W → W → E → E → F → Type 0
-Reaches sink errors files IsOutcome status out out' err err' held' =
-    (left : Left) × IsOutcome left × LeavesAfter sink errors files left status out out' err err' held'
-
-abbrev pub BreaksOff : {W F : Type 0} → SinkOf W → FilesOf F → (Left → Type 0) → W → W → F → Type 0
-BreaksOff sink files IsOutcome out out' held' =
-    (left : Left) × IsOutcome left × PrintsSome sink out out' left.output × (files.folder held' ≡ left.folder)
-
--- What a run leaves that may be cut is in the writers and in the folder. (How it ended.)
+-- What a run leaves is in the writers and in the folder. (How it ended.)
 pub record LeavesEnded {W E F : Type 0} (sink : SinkOf W) (errors : SinkOf E) (files : FilesOf F) (ended : Ended) (exit : Exit) (out out' : W) (err err' : E) (held' : F) : Type 0 where
   pub exit_is : exit ≡ record { status = ended.left.status; cut = ended.cut }
   pub folder : files.folder held' ≡ ended.left.folder
@@ -209,9 +214,3 @@ pub record LeavesEnded {W E F : Type 0} (sink : SinkOf W) (errors : SinkOf E) (f
 abbrev pub EndsIn : {W E F : Type 0} → SinkOf W → SinkOf E → FilesOf F → (Ended → Type 0) → Exit → W → W → E → E → F → Type 0
 EndsIn sink errors files IsOutcome exit out out' err err' held' =
     (ended : Ended) × IsOutcome ended × LeavesEnded sink errors files ended exit out out' err err' held'
-
--- A whole run leaves such an outcome, and one that standard output cuts breaks off in one. (How it ended.)
-pub record LeavesOutcome {W E F : Type 0} (sink : SinkOf W) (errors : SinkOf E) (files : FilesOf F) (IsOutcome : Left → Type 0) (exit : Exit) (out out' : W) (err err' : E)
-    (held' : F) : Type 0 where
-  pub whole : exit.cut ≡ c.Whole → Reaches sink errors files IsOutcome exit.status out out' err err' held'
-  pub write : exit.cut ≡ c.Write → BreaksOff sink files IsOutcome out out' held'

@@ -1,18 +1,20 @@
 -- What a run leaves after its steps: standard output, lines, files and the status.
-use Rattle.std.specs.Prelude.{◌≡◌, ◌&&◌, not, Bool, false, ℕ, List, [], ◌∷◌, ◌++◌, map, bytes_eq, if◌then◌else◌, Option, Some, None}
+use Rattle.std.specs.Prelude.{◌≡◌, ◌≢◌, ◌&&◌, not, Bool, false, ℕ, List, [], ◌∷◌, ◌++◌, bytes_eq, codes, if◌then◌else◌, Option, Some, None}
 use Rattle.std.specs.FinMap.{get}
 use Rattle.std.specs.List.{flat_map, list_any}
-use Rattle.std.specs.Option.{option_map_or}
-use Rattle.std.specs.Io.KnownBytes.{Appends}
+use Rattle.std.specs.Option.{option_map, option_map_or}
 use Rattle.bz_items.specs.Characters.{Bytes}
-use Rattle.bz_files.specs.Folder.{Folder, SameBut, new_name, with_file}
-use Rattle.bz_buildozer.specs.Sessions.{present}
+use Rattle.bz_files.specs.Folder.{Folder, IsReplacing, SameBut, new_name, with_file}
 use Rattle.bz_command_line.specs.declared.line.Options.{Options}
-use Rattle.bz_streams.specs.Outputs.{Reports}
-use Rattle.bz_buildozer.specs.Packages.{Opened, Used}
+use Rattle.bz_streams.specs.Exits.{first_cut}
+use Rattle.bz_streams.specs.Reported.{named_line}
+use Rattle.bz_streams.specs.declared.exit.Cut.{Cut}
+use Rattle.bz_streams.specs.declared.exit.Cut.TheVariants as c
+use Rattle.bz_buildozer.specs.Sessions.{present}
+use Rattle.bz_buildozer.specs.Found.{Opened, Used}
+use Rattle.bz_buildozer.specs.Reported.{fixed_line, output_lines}
 use Rattle.bz_buildozer.specs.Run.{World, Progress, nothing_done, RunsSteps}
 use Rattle.bz_buildozer.specs.Steps.{RunStep, input_package, shows_input}
-use Rattle.bz_buildozer.specs.Reported.{fixed_line}
 
 -- the text at the end is another one than was read
 abbrev pub differs : Opened → Bool
@@ -46,54 +48,60 @@ pub record Writing : Type 0 where
   pub bytes : Bytes
 
 -- A file is written where it changed, unless its text goes to standard output.
-abbrev pub is_written : Bool → Bool → Bool → Bool
-is_written of_input to_stdout changed = not of_input && not to_stdout && changed
-
-abbrev pub file_writing : Bool → Bool → Option Opened → List Writing
-file_writing of_input to_stdout None = []
+abbrev pub file_writing : Bool → Bool → Option Opened → Option Writing
+file_writing of_input to_stdout None = None
 file_writing of_input to_stdout (Some file) =
-    if is_written of_input to_stdout (differs file) then record { name = file.name; held = file.read; bytes = present file.history } ∷ [] else []
+    if not of_input && not to_stdout && differs file then Some (record { name = file.name; held = file.read; bytes = present file.history }) else None
 
-abbrev pub writing_of : Bool → Used → List Writing
+abbrev pub writing_of : Bool → Used → Option Writing
 writing_of to_stdout used = file_writing (is_input used) to_stdout used.file
 
--- the files that are written, in order of first use
-abbrev pub all_writings : Bool → List Used → List Writing
-all_writings to_stdout used = flat_map (writing_of to_stdout) used
+-- A file is given its bytes, where it holds what was read of it right before; what is set aside for it may differ.
+abbrev pub WritesFile : Option Writing → Folder → Folder → Type 0
+WritesFile None before after = after ≡ before
+WritesFile (Some file) before after =
+    (get before file.name ≡ Some file.held) × SameBut (λ other. other ≡ new_name file.name) (with_file before file.name file.bytes) after
 
--- Files are given their bytes one after the other, each where it holds what was read of it right before; what is set aside for each may
--- differ.
-abbrev pub WritesFiles : List Writing → Folder → Folder → Type 0
-WritesFiles [] before after = after ≡ before
-WritesFiles (file ∷ files) before after =
-    (get before file.name ≡ Some file.held)
-    × (mid : Folder) × SameBut (λ other. other ≡ new_name file.name) (with_file before file.name file.bytes) mid × WritesFiles files mid after
+-- the name of a file that was written with its journal
+abbrev pub name_kept : Option Opened → Option Bytes
+name_kept None = None
+name_kept (Some file) = if file.written then Some file.name else None
 
--- a file that was written with its journal: its name, the bytes that were read of it, and those that it was given last
-abbrev pub file_kept : Option Opened → List Writing
-file_kept None = []
-file_kept (Some file) = if file.written then record { name = file.name; held = file.read; bytes = present file.history } ∷ [] else []
+-- the name of the file that a run writes of a package: with its journal after each step, or at the end
+abbrev pub name_fixed : Bool → Bool → Used → Option Bytes
+name_fixed journals to_stdout used = if journals then name_kept used.file else option_map (λ (file : Writing). file.name) (writing_of to_stdout used)
 
-abbrev pub kept_of : Used → List Writing
-kept_of used = file_kept used.file
+abbrev pub fixed_lines : Bool → Option Bytes → List Bytes
+fixed_lines quiet None = []
+fixed_lines quiet (Some name) = if quiet then [] else fixed_line name ∷ []
 
--- the files that were written with their journals, in order of first use
-abbrev pub all_kept : List Used → List Writing
-all_kept used = flat_map kept_of used
+-- A file could not be written: it is as it was or has its new bytes, as it was where it holds something else than was read of it.
+abbrev pub LeavesUnwritten : Writing → Folder → Folder → Type 0
+LeavesUnwritten file before after = IsReplacing file.name file.bytes before after
+    × (get before file.name ≢ Some file.held → SameBut (λ other. other ≡ new_name file.name) before after)
 
--- the files that a run writes: with their journals after each step, or at the end
-abbrev pub fixed_of : Bool → Bool → Used → List Writing
-fixed_of journals to_stdout used = if journals then kept_of used else writing_of to_stdout used
+-- A file that changed is tried: it is written and reported, or could not be written, which is reported; or memory is refused. With its
+-- journal it was written before.
+abbrev pub TriesFile : Cut → Options → Used → Folder → List Bytes → Folder → Type 0
+TriesFile c.Whole options used before lines after =
+    (lines ≡ fixed_lines options.quiet (name_fixed options.journal options.to_stdout used))
+    × WritesFile (if options.journal then None else writing_of options.to_stdout used) before after
+TriesFile c.Files options used before lines after = (options.journal ≡ false) × ((file : Writing) × (writing_of options.to_stdout used ≡ Some file)
+    × (lines ≡ named_line file.name (codes "cannot write") ∷ []) × LeavesUnwritten file before after)
+TriesFile c.Memory options used before lines after =
+    (options.journal ≡ false) × ((file : Opened) × (used.file ≡ Some file) × (lines ≡ named_line file.name (codes "Memory") ∷ []) × (after ≡ before))
+TriesFile why options used before lines after = ⊥
 
-abbrev pub all_fixed : Bool → Bool → List Used → List Writing
-all_fixed journals to_stdout used = flat_map (fixed_of journals to_stdout) used
+-- The files of packages are tried, each whatever became of those before it.
+abbrev pub TriesFiles : Cut → Options → List Used → Folder → List Bytes → Folder → Type 0
+TriesFiles why options [] before lines after = (why ≡ c.Whole) × (lines ≡ []) × (after ≡ before)
+TriesFiles why options (used ∷ more) before lines after = (one : Cut) × (later : Cut) × (first : List Bytes) × (rest : List Bytes) × (mid : Folder)
+    × TriesFile one options used before first mid × TriesFiles later options more mid rest after × (lines ≡ first ++ rest) × (why ≡ first_cut one later)
 
-abbrev pub fixed_lines : Bool → List Writing → List Bytes
-fixed_lines quiet files = if quiet then [] else map (λ (file : Writing). fixed_line file.name) files
-
--- 2 where a step failed, else 0 where a text at the end is another one than was read, else 3
-abbrev pub status_of : Progress → ℕ
-status_of state = if state.failed then 2 else (if list_any has_changed state.used then 0 else 3)
+-- 2 where something or a step failed, else 0 where a text at the end is another one than was read, else 3
+abbrev pub status_of : Cut → Progress → ℕ
+status_of c.Whole state = if state.failed then 2 else (if list_any has_changed state.used then 0 else 3)
+status_of why state = 2
 
 -- what a run leaves: the bytes on standard output, the lines on standard error, its status and the folder
 pub record Left : Type 0 where
@@ -102,20 +110,27 @@ pub record Left : Type 0 where
   pub status : ℕ
   pub folder : Folder
 
--- Steps are run; then standard output is given what they printed and the texts after it, and files are written.
-pub record Performs (options : Options) (steps : List RunStep) (world : World) (left : Left) : Type 0 where
-  pub reported : List Bytes
-  pub state : Progress
-  pub runs : RunsSteps world options.keep_going steps nothing_done reported state
-  pub output : left.output ≡ state.printed ++ texts_out (shows_input steps) options.to_stdout state.used
-  pub writes : WritesFiles (all_writings options.to_stdout state.used) world.folder left.folder
-  pub lines : left.lines ≡ reported ++ fixed_lines options.quiet (all_writings options.to_stdout state.used)
-  pub status : left.status ≡ status_of state
+-- what a run leaves, why it is cut, and why standard output wasn't given all
+pub record Ended : Type 0 where
+  pub left : Left
+  pub cut : Cut
+  pub printed : Cut
 
--- What is left is in the writers and in the folder. (Standard output before and after; the faults of standard error and what it
--- holds, each before and after.)
-pub record LeftStands (left : Left) (status : ℕ) (folder : Folder) (out out' : Option Bytes) (faults faults' : ℕ) (err err' : Option Bytes) : Type 0 where
-  pub exit : status ≡ left.status
-  pub files : folder ≡ left.folder
-  pub output : Appends out out' left.output
-  pub lines : Reports faults faults' err err' left.lines
+abbrev pub ended_whole : Left → Ended
+ended_whole left = record { left = left; cut = c.Whole; printed = c.Whole }
+
+-- Steps are run; then standard output is given what they printed and the texts after it, and files are tried, whatever failed before. With
+-- journals files were written after each step, which is reported then.
+pub record Performs (options : Options) (steps : List RunStep) (world : World) (ended : Ended) : Type 0 where
+  pub stopped : Cut
+  pub written : Cut
+  pub reported : List Bytes
+  pub told : List Bytes
+  pub folder : Folder
+  pub state : Progress
+  pub runs : RunsSteps stopped options.journal world options.keep_going steps nothing_done reported folder state
+  pub output : ended.left.output ≡ state.printed ++ texts_out (shows_input steps) options.to_stdout state.used
+  pub tries : TriesFiles written options state.used folder told ended.left.folder
+  pub lines : ended.left.lines ≡ reported ++ output_lines ended.printed ++ told
+  pub cut : ended.cut ≡ first_cut stopped (first_cut written ended.printed)
+  pub status : ended.left.status ≡ status_of ended.cut state

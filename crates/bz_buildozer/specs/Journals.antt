@@ -1,8 +1,9 @@
 -- How a file is opened that has a journal.
-use Rattle.std.specs.Prelude.{◌≡◌, ◌≢◌, ◌⊎◌, ◌++◌, ℕ, Bool, true, List, [], ◌∷◌, codes, length, if◌then◌else◌, Option, Some, None, IfSome, Result, Ok, Err}
+use Rattle.std.specs.Prelude.{◌≡◌, ◌≢◌, ◌⊎◌, ◌++◌, ℕ, Bool, true, List, [], ◌∷◌, codes, length, nat_le, take, if◌then◌else◌, Option, Some, None, IfSome, Result, Ok, Err}
 use Rattle.std.specs.List.{concat}
 use Rattle.std.specs.Option.{option_map}
 use Rattle.std.specs.FinMap.{get}
+use Rattle.std.specs.Fmt.Cut.{floor_char_boundary}
 use Rattle.bz_edit.specs.declared.edit.Edit.{Edit}
 use Rattle.bz_journal_format.specs.Texts.{IsOtherVersion}
 use Rattle.bz_resume.specs.declared.fault.ResumeFault.{ResumeFault}
@@ -14,11 +15,11 @@ use Rattle.bz_grammar.specs.Legal.{Accepted}
 use Rattle.bz_files.specs.Folder.{Folder}
 use Rattle.bz_resume.specs.Pair.{journal_name}
 use Rattle.bz_resume.specs.Resuming.{Holds}
+use Rattle.bz_streams.specs.Controls.{escaped_text}
 use Rattle.bz_streams.specs.Reported.{named_line}
 use Rattle.bz_journal.specs.History.{History, present}
-use Rattle.bz_buildozer.specs.Found.{IsNameOf, PackagesFound}
+use Rattle.bz_buildozer.specs.Found.{IsNameOf, PackagesFound, Opened, Used, opened_with}
 use Rattle.bz_buildozer.specs.Opens.{Opens, Takes}
-use Rattle.bz_buildozer.specs.Packages.{Opened, Used, opened_with, with_opened}
 
 -- the bytes are a journal of this history, which matches the text at this number
 abbrev pub StandsAt : Bytes → Bytes → History → ℕ → Type 0
@@ -46,6 +47,10 @@ abbrev pub file_of_journal : Bytes → Bytes → Result History JournalFault →
 file_of_journal name text (Ok history) = Some (opened_with name text history)
 file_of_journal name text (Err fault) = None
 
+-- as much of the path of a package as is printed: of a long one the characters in its first 200 bytes
+abbrev pub shown_package : Bytes → Bytes
+shown_package path = if nat_le (length path) 200 then path else take (floor_char_boundary path 200) path
+
 -- What is reported of the journal with this name: the name and the number of the fault, and after it what may be done, where a file
 -- holds no text that its journal matches, and where the journal is of another package.
 abbrev pub fault_lines : Bytes → JournalFault → List Bytes
@@ -53,9 +58,10 @@ fault_lines journal (of_resuming f.Memory) = named_line journal (codes "Memory (
 fault_lines journal (of_resuming f.Damaged) = named_line journal (codes "Damaged (71)") ∷ []
 fault_lines journal (of_resuming f.Version) = named_line journal (codes "Version (72)") ∷ []
 fault_lines journal (of_resuming f.Stale) = named_line journal (codes "Stale (73)")
-    ∷ (codes "buildozer: the file changed since the last run with --journal: restore it, or delete " ++ journal ++ codes " to begin a new history\n") ∷ []
+    ∷ concat (codes "buildozer: the file changed since the last run with --journal: restore it, or delete " ∷ escaped_text journal ∷ codes " to begin a new history\n" ∷ [])
+    ∷ []
 fault_lines journal (of_package other) = named_line journal (codes "Damaged (71)")
-    ∷ concat (codes "buildozer: " ∷ journal ∷ codes " was written for //" ∷ other ∷ codes ": move it back there, or delete it to begin a new history\n" ∷ []) ∷ []
+    ∷ concat (codes "buildozer: " ∷ escaped_text journal ∷ codes " was written for //" ∷ escaped_text (shown_package other) ∷ codes ": move it back there, or delete it to begin a new history\n" ∷ []) ∷ []
 
 abbrev pub lines_of_journal : Bytes → Result History JournalFault → List Bytes
 lines_of_journal name (Ok history) = []
@@ -85,11 +91,6 @@ pub record IsOpenedIn (journals : Bool) (folder : Folder) (current : Bytes) (fil
   pub named : IsNameOf current file.name
   pub there : get folder file.name ≡ Some file.read
   pub opens : TakesBeside (journal_beside journals folder file.name) current file.name file.read (Some file) []
-
--- The package with this number has such a file from now on, or none. (Its number, where its file is open.)
-abbrev pub Puts : ℕ → (Opened → Type 0) → Option ℕ → List Used → List Used → Type 0
-Puts place Is number before after =
-    (file : Option Opened) × (after ≡ with_opened place file before) × (number ≡ option_map (λ _. place) file) × IfSome file Is
 
 -- A package is the last one from now on, with such a file or none; or memory was refused, and nothing changes.
 abbrev pub Adds : Bytes → (Opened → Type 0) → Option ℕ → List Used → List Used → Type 0

@@ -1,8 +1,8 @@
 -- What keeping an action does to the packages of a run and to the files.
-use Rattle.std.specs.Prelude.{◌≡◌, ◌⊎◌, ◌==◌, ◌||◌, not, ℕ, true, List, Some, Result, Ok, Err}
+use Rattle.std.specs.Prelude.{◌≡◌, ◌⊎◌, ◌==◌, ◌||◌, not, ℕ, true, List, Some, Result, Ok, Err, ◌≢◌, ◌&&◌, Bool, false, if◌then◌else◌, Option, None}
 use Rattle.bz_files.specs.declared.files.Files.{Ghosts as FilesOf}
 use Rattle.bz_files.specs.Faults.{Rises}
-use Rattle.bz_files.specs.Folder.{Elapses}
+use Rattle.bz_files.specs.Folder.{Elapses, Folder}
 use Rattle.bz_items.specs.Characters.{Bytes}
 use Rattle.bz_journal.specs.Actions.{Action}
 use Rattle.bz_journal.specs.declared.action.Reply.{Reply}
@@ -14,7 +14,14 @@ pub use Rattle.bz_journal.specs.Keeping.{KeepsFile}
 use Rattle.bz_streams.specs.Outputs.{Counts}
 use Rattle.bz_streams.specs.declared.exit.Cut.{Cut}
 use Rattle.bz_streams.specs.declared.exit.Cut.TheVariants as c
-use Rattle.bz_buildozer.specs.Packages.{Opened, Used, file_at, with_opened}
+use Rattle.bz_buildozer.specs.Found.{Opened, Used, file_at, with_opened}
+use Rattle.std.specs.FinMap.{get}
+use Rattle.std.specs.Option.{option_map_or}
+use Rattle.bz_edit.specs.declared.edit.Edit.{Edit}
+use Rattle.bz_resume.specs.Journals.{journal_text}
+use Rattle.bz_resume.specs.Pair.{journal_name}
+use Rattle.bz_resume.specs.Resuming.{Holds, OthersStay}
+use Rattle.bz_buildozer.specs.Sessions.{History, Answer, present}
 
 -- A folder of honest files was the same at each moment of the call.
 abbrev pub KeepsFolder : {F : Type 0} → FilesOf F → F → F → Type 0
@@ -52,3 +59,36 @@ pub record KeepsAt {F : Type 0} (files : FilesOf F) (place : ℕ) (action : Acti
 abbrev pub StillIsSame : Type 0
 StillIsSame = (action : Action) (note : Bytes) (h after : History) (answer : Answer) → Acts action note h answer after
     → (after.«package» ≡ h.«package») × (after.cursor ≡ h.cursor → after ≡ h)
+
+-- ---- what becomes of a file and of the folder where a step is answered
+
+-- the file after an answer that left it this history: with its journal it was written where another text is the present one (The flag:
+-- journals are kept.)
+abbrev pub file_after : Bool → Answer → History → Opened → Opened
+file_after journals (Err refusal) history file = record file { history = history }
+file_after true (Ok reply) history file = after_keeping (Ok reply) history file
+file_after false (Ok reply) history file = record file { history = history }
+
+-- A history is kept beside the file of this name: FILE.journal is what is saved of it, FILE holds the present text and goes on with all of
+-- its texts, and each other name stays, but the two under which these are written first.
+pub record KeepsHistory (name : Bytes) (history : History) (before after : Folder) : Type 0 where
+  pub steps : List (List Edit)
+  pub saved : get after (journal_name name) ≡ Some (journal_text history steps)
+  pub holds : Holds after name history.«package» (present history) history.texts
+  pub others : OthersStay name before after
+
+-- The folder after an answer: where another text is the present one its history is kept, else the folder stays.
+abbrev pub FolderAfter : Bool → Answer → Opened → History → Folder → Folder → Type 0
+FolderAfter journals (Err refusal) file history before after = after ≡ before
+FolderAfter true (Ok reply) file history before after =
+    ((history.cursor ≡ file.history.cursor) × (after ≡ before))
+    ⊎ ((history.cursor ≢ file.history.cursor) × KeepsHistory file.name history before after)
+FolderAfter false (Ok reply) file history before after = after ≡ before
+
+-- a file, but none where journals are kept and it is left alone
+abbrev pub left_out : Bool → Option Opened → Option Opened
+left_out journals found = if journals && option_map_or (λ (file : Opened). file.left) found false then None else found
+
+-- the open file of the package with this number is left alone
+abbrev pub is_left_at : ℕ → List Used → Bool
+is_left_at place used = option_map_or (λ (file : Opened). file.left) (file_at place used) false

@@ -12,12 +12,10 @@ use Rattle.bz_resume.specs.Resuming.{Holds}
 use Rattle.bz_command_line.specs.Requested.{Requested, operand_group}
 use Rattle.bz_command_line.specs.Line.{Given, operands, script}
 use Rattle.bz_command_line.specs.Script.{script_of}
-use Rattle.bz_buildozer.specs.Found.{IsNameOf}
+use Rattle.bz_buildozer.specs.Found.{IsNameOf, Opened, Used, package_number, file_at, with_opened}
 use Rattle.bz_buildozer.specs.Journals.{IsOpenedIn}
 use Rattle.bz_buildozer.specs.Keeps.{after_keeping}
-use Rattle.bz_buildozer.specs.Packages.{Opened, Used, package_number, file_at, with_opened}
 use Rattle.bz_buildozer.specs.Sessions.{Action, History, Reply, present}
-use Rattle.bz_buildozer.specs.Keeping.{IsApart}
 use Rattle.bz_buildozer.specs.Outcome.{IsScript, IsText}
 use Rattle.bz_buildozer.specs.Run.{World}
 use Rattle.bz_buildozer.specs.Steps.{RunStep, action_of, all_steps}
@@ -46,10 +44,19 @@ pub record IsMeanwhile (began : Folder) (before after : List Used) (now : Folder
   pub others : (name : Bytes) → ((place : ℕ) (file : Opened) → file_at place after ≡ Some file → (name ≢ file.name) × (name ≢ journal_name file.name))
       → (IsAside name → ⊥) → get now name ≡ get began name
 
--- each open file has a name that the file of its package may have, and is safe; all packages differ
+-- none of these is the package
+abbrev pub IsApart : Bytes → List Used → Type 0
+IsApart current [] = Unit {0}
+IsApart current (used ∷ more) = (used.«package» ≢ current) × IsApart current more
+
+-- all packages differ, and this holds of each open file and its package
+abbrev pub AllAre : (Bytes → Opened → Type 0) → List Used → Type 0
+AllAre Holding [] = Unit {0}
+AllAre Holding (used ∷ more) = IfSome used.file (Holding used.«package») × IsApart used.«package» more × AllAre Holding more
+
+-- each open file has a name that the file of its package may have, and is safe
 abbrev pub AllAreSafe : Folder → List Used → Type 0
-AllAreSafe folder [] = Unit {0}
-AllAreSafe folder (used ∷ more) = IfSome used.file (λ file. IsNameOf used.«package» file.name × IsSafe folder file) × IsApart used.«package» more × AllAreSafe folder more
+AllAreSafe folder used = AllAre (λ current file. IsNameOf current file.name × IsSafe folder file) used
 
 -- ---- steps
 

@@ -14,8 +14,7 @@ use Rattle.bz_streams.specs.Excerpts.{fault_excerpt}
 use Rattle.bz_streams.specs.Outputs.{Reports}
 use Rattle.bz_streams.specs.Reported.{named_line, fault_line}
 use Rattle.bz_streams.specs.declared.sink.Sink.{Ghosts as SinkOf}
-use Rattle.bz_buildozer.specs.Packages.{Opened, Used, file_at, opened_with, with_opened}
-use Rattle.bz_buildozer.specs.Found.{PackagesFound, second_name}
+use Rattle.bz_buildozer.specs.Found.{Opened, Used, file_at, opened_with, with_opened, PackagesFound, second_name}
 use Rattle.bz_buildozer.specs.Reported.{package_hint}
 
 -- a package of this path has this number, and its file isn't open

@@ -1,5 +1,5 @@
--- What a run of buildozer does, by its words, the bytes of standard input and the folder.
-use Rattle.std.specs.Prelude.{◌≡◌, ◌≢◌, ◌⊎◌, ◌&&◌, ◌≤◌, ◌<◌, ◌+◌, ℕ, List, [], ◌∷◌, length, take, codes, bytes_eq, if◌then◌else◌, Bool, true, false, Option, Some, None, Result, Ok, Err, IfOk, IfSome, IsErr}
+-- What a run of buildozer does, by its words, the bytes of standard input and the folder, whatever fails.
+use Rattle.std.specs.Prelude.{◌≡◌, ◌≢◌, ◌⊎◌, ◌&&◌, ◌≤◌, ◌<◌, ◌+◌, ℕ, List, [], ◌∷◌, length, take, bytes_eq, if◌then◌else◌, Bool, true, false, Option, Some, None, Result, Ok, Err, IfOk, IfSome, IsErr}
 use Rattle.std.specs.List.{All}
 use Rattle.std.specs.FinMap.{get}
 use Rattle.std.specs.Str.{IsUtf8, IsValidUpTo}
@@ -13,37 +13,42 @@ use Rattle.bz_command_line.specs.Line.{Given, operands, script, LineUsage, Comma
 use Rattle.bz_command_line.specs.Refused.{IsGroupFault, IsScriptFault}
 use Rattle.bz_command_line.specs.Script.{script_of}
 use Rattle.bz_command_line.specs.declared.line.Options.{Options}
-use Rattle.bz_streams.specs.Reported.{stdin, named_line, fault_line}
-use Rattle.bz_buildozer.specs.Ending.{Left, Performs}
-use Rattle.bz_buildozer.specs.Keeping.{PerformsBeside}
+use Rattle.bz_streams.specs.Reported.{stdin, fault_line}
+use Rattle.bz_streams.specs.declared.exit.Cut.{Cut}
+use Rattle.bz_streams.specs.declared.exit.Cut.TheVariants as c
+use Rattle.bz_buildozer.specs.Ending.{Ended, Performs, ended_whole}
 use Rattle.bz_buildozer.specs.Run.{World}
 use Rattle.bz_streams.specs.Ports.{IsInput}
-use Rattle.bz_buildozer.specs.Steps.{RunStep, input_package, all_steps, names_input}
-use Rattle.bz_buildozer.specs.Reported.{usage_line, IsLineUsageLine, input_line, no_journal_line}
+use Rattle.bz_buildozer.specs.Steps.{input_package, all_steps, names_input}
+use Rattle.bz_buildozer.specs.Reported.{usage_line, unread_line, unread_status, IsLineUsageLine, input_line, memory_line, no_journal_line}
 
 -- A fault of usage is reported by one line, and all else is as it was.
-abbrev pub unused : Folder → Bytes → Left
-unused folder line = record { output = []; lines = line ∷ []; status = 1; folder = folder }
+abbrev pub unused : Folder → Bytes → Ended
+unused folder line = ended_whole (record { output = []; lines = line ∷ []; status = 1; folder = folder })
 
--- ---- steps
+-- Memory is refused before anything is done, and a line says so.
+abbrev pub out_of_memory : Folder → Ended
+out_of_memory folder = record { left = record { output = []; lines = memory_line ∷ []; status = 2; folder = folder }; cut = c.Memory; printed = c.Whole }
 
--- Steps are done on files alone, or with their journals.
-abbrev pub StepsLeave : Options → List RunStep → World → Left → Type 0
-StepsLeave options steps world left =
-    ((options.journal ≡ false) × Performs options steps world left) ⊎ ((options.journal ≡ true) × PerformsBeside options steps world left)
+abbrev pub OrOutOfMemory : World → (Ended → Type 0) → Ended → Type 0
+OrOutOfMemory world IsOutcome ended = (ended ≡ out_of_memory world.folder) ⊎ IsOutcome ended
 
 -- What lines request is done, unless that needs a journal of standard input, which has none.
-abbrev pub LinesLeave : Options → List Requested → World → Left → Type 0
-LinesLeave options lines world left =
-    ((options.journal && names_input lines ≡ true) × (left ≡ unused world.folder no_journal_line))
-    ⊎ ((options.journal && names_input lines ≡ false) × StepsLeave options (all_steps lines) world left)
+abbrev pub LinesEnd : Options → List Requested → World → Ended → Type 0
+LinesEnd options lines world ended =
+    ((options.journal && names_input lines ≡ true) × (ended ≡ unused world.folder no_journal_line))
+    ⊎ ((options.journal && names_input lines ≡ false) × Performs options (all_steps lines) world ended)
+
+-- Such a run is unused and prints this line, in a world that is the run's own where the files are honest.
+abbrev pub IsUnused : Bool → World → (World → Ended → Type 0) → Bytes → Type 0
+IsUnused honest world IsOutcome line = (now : World) × (honest ≡ true → now ≡ world) × IsOutcome now (unused now.folder line)
 
 -- ---- operands among the words
 
-abbrev pub OperandsOutcome : Options → List Bytes → World → Left → Type 0
-OperandsOutcome options texts world left =
-    ((usage : Usage) × IsGroupFault texts usage × (left ≡ unused world.folder (usage_line [] usage)))
-    ⊎ ((requested : Requested) × (operand_group texts ≡ Ok requested) × LinesLeave options (requested ∷ []) world left)
+abbrev pub OperandsOutcome : Options → List Bytes → World → Ended → Type 0
+OperandsOutcome options texts world ended =
+    ((usage : Usage) × IsGroupFault texts usage × (ended ≡ unused world.folder (usage_line [] usage)))
+    ⊎ ((requested : Requested) × (operand_group texts ≡ Ok requested) × LinesEnd options (requested ∷ []) world ended)
 
 -- ---- operands in a file of lines
 
@@ -73,35 +78,45 @@ reported_name name = if bytes_eq name input_package then stdin else name
 
 -- What lines request is done; rules of standard input can't be meant where the lines are in it, and then no step reads what is left
 -- of it.
-abbrev pub LinesOutcome : Options → Bool → List Requested → World → Left → Type 0
-LinesOutcome options of_input lines world left =
-    ((of_input && names_input lines ≡ true) × (left ≡ unused world.folder input_line))
+abbrev pub LinesOutcome : Options → Bool → List Requested → World → Ended → Type 0
+LinesOutcome options of_input lines world ended =
+    ((of_input && names_input lines ≡ true) × (ended ≡ unused world.folder input_line))
     ⊎ ((of_input && names_input lines ≡ false) × ((known : Option Bytes) × (of_input ≡ false → known ≡ world.known)
-    × LinesLeave options lines (record world { known = known }) left))
+    × LinesEnd options lines (record world { known = known }) ended))
 
--- A file of lines is there, is text, and requests something; else that is reported.
-abbrev pub TextOutcome : Options → Bytes → Option Bytes → World → Left → Type 0
-TextOutcome options name None world left = left ≡ unused world.folder (named_line (reported_name name) (codes "cannot open"))
-TextOutcome options name (Some text) world left =
-    ((fault : ReadFault) × IsTextFault text fault × (left ≡ unused world.folder (fault_line (reported_name name) fault)))
-    ⊎ (IsText text × ((usage : Usage) × IsScriptFault text usage × (left ≡ unused world.folder (usage_line (reported_name name) usage))))
-    ⊎ (IsText text × ((lines : List Requested) × (script_of text ≡ Ok lines) × LinesOutcome options (bytes_eq name input_package) lines world left))
+-- A file of lines is text, and requests something; else that is reported.
+abbrev pub TextOutcome : Options → Bytes → Bytes → World → Ended → Type 0
+TextOutcome options name text world ended =
+    ((fault : ReadFault) × IsTextFault text fault × (ended ≡ unused world.folder (fault_line (reported_name name) fault)))
+    ⊎ (IsText text × ((usage : Usage) × IsScriptFault text usage × (ended ≡ unused world.folder (usage_line (reported_name name) usage))))
+    ⊎ (IsText text × ((lines : List Requested) × (script_of text ≡ Ok lines) × LinesOutcome options (bytes_eq name input_package) lines world ended))
 
-abbrev pub ScriptOutcome : Options → Bytes → World → Left → Type 0
-ScriptOutcome options name world left = (text : Option Bytes) × IsScript world name text × TextOutcome options name text world left
+-- A file of lines is not there, which is no failure, or can't be read: that is reported, and nothing is done. (Why it can't be.)
+abbrev pub unread : Cut → Bytes → Folder → Ended
+unread why name folder = record {
+  left = record { output = []; lines = unread_line (reported_name name) why ∷ []; status = unread_status why; folder = folder };
+  cut = why;
+  printed = c.Whole;
+}
+
+abbrev pub ScriptOutcome : Options → Bytes → World → Ended → Type 0
+ScriptOutcome options name world ended =
+    ((text : Bytes) × IsScript world name (Some text) × TextOutcome options name text world ended)
+    ⊎ ((ended ≡ unread ended.cut name world.folder) × (ended.cut ≢ c.Write) × (ended.cut ≡ c.Whole → IsScript world name None))
 
 -- ---- whole lines
 
-abbrev pub GivenOutcome : Options → Given → World → Left → Type 0
-GivenOutcome options (operands texts) world left = OperandsOutcome options texts world left
-GivenOutcome options (script name) world left = ScriptOutcome options name world left
+abbrev pub GivenOutcome : Options → Given → World → Ended → Type 0
+GivenOutcome options (operands texts) world ended = OperandsOutcome options texts world ended
+GivenOutcome options (script name) world ended = ScriptOutcome options name world ended
 
-abbrev pub LineOutcome : List Bytes → Result CommandLine LineUsage → World → Left → Type 0
-LineOutcome words (Err usage) world left = (line : Bytes) × IsLineUsageLine words usage line × (left ≡ unused world.folder line)
-LineOutcome words (Ok line) world left = GivenOutcome line.options line.given world left
+abbrev pub LineOutcome : List Bytes → Result CommandLine LineUsage → World → Ended → Type 0
+LineOutcome words (Err usage) world ended = (line : Bytes) × IsLineUsageLine words usage line × (ended ≡ unused world.folder line)
+LineOutcome words (Ok line) world ended = GivenOutcome line.options line.given world ended
 
-abbrev pub WordsOutcome : List Bytes → World → Left → Type 0
-WordsOutcome words world left = LineOutcome words (command_line_of words) world left
+-- What the words mean is done, or memory is refused before.
+abbrev pub WordsOutcome : List Bytes → World → Ended → Type 0
+WordsOutcome words world = OrOutOfMemory world (LineOutcome words (command_line_of words) world)
 
 -- the words name a file of lines
 abbrev pub TakesScript : List Bytes → Type 0

@@ -1,19 +1,21 @@
 -- Worked rows: what each part of a run of buildozer gives. Above a row is what is typed (in a shell), or what was done.
-use Rattle.std.specs.Prelude.{◌≡◌, ℕ, Bool, true, false, List, [], ◌∷◌, map, codes, Some, None, Result, Ok, Err}
+use Rattle.std.specs.Prelude.{◌≡◌, ℕ, true, false, List, [], ◌∷◌, map, codes, Some, None, Result, Ok, Err}
 use Rattle.std.specs.FinMap.{get}
-use Rattle.bz_value.specs.declared.refusal.Refusal.TheVariants.{NotAList, TooFar}
+use Rattle.bz_value.specs.declared.refusal.Refusal.TheVariants.{NotAList, TooFar, NoTarget}
 use Rattle.bz_files.specs.Folder.{Folder}
-use Rattle.bz_buildozer.specs.Sessions.{changed, undone, redone, Changed, Same, Printed, Moved}
+use Rattle.bz_buildozer.specs.Sessions.{changed, undone, redone, Same, Printed}
 use Rattle.bz_command_line.specs.Requested.{Requested, Usage, operand_group}
-use Rattle.bz_streams.specs.Reported.{stdin}
+use Rattle.bz_streams.specs.Reported.{stdin, fault_line}
 use Rattle.bz_items.specs.Characters.{Bytes}
-use Rattle.bz_buildozer.specs.Found.{found_in, first_name, second_name}
+use Rattle.bz_streams.specs.declared.exit.Cut.TheVariants as c
+use Rattle.bz_buildozer.specs.Found.{found_in, first_name, second_name, Opened, Used, package_number}
 use Rattle.bz_buildozer.specs.Opens.{opened_fresh}
-use Rattle.bz_buildozer.specs.Packages.{Opened, Used, package_number}
-use Rattle.bz_buildozer.specs.Reported.{package_hint}
-use Rattle.bz_buildozer.specs.Ending.{differs, texts_out, all_writings, fixed_lines, status_of}
-use Rattle.bz_buildozer.specs.Run.{Progress, Finds, reported_of, printed_by, answered, ends_run}
+use Rattle.bz_buildozer.specs.Reported.{package_hint, refusal_line, operand_line, fixed_line}
+use Rattle.bz_buildozer.specs.Ending.{texts_out, writing_of, status_of}
+use Rattle.bz_buildozer.specs.Run.{Finds, reported_of, printed_by, state_after}
 use Rattle.bz_buildozer.specs.Steps.{RunStep, all_steps, shows_input}
+use Rattle.bz_lex.specs.declared.fault.ReadFault.TheVariants.{NotUtf8, Unexpected}
+use Rattle.bz_command_line.specs.declared.verb.OperandFault.TheVariants.{BadTarget}
 
 -- a file as it is read, and what `set size small` makes of it
 abbrev pub text_read : Bytes
@@ -47,64 +49,31 @@ root file = record { «package» = []; file = Some file }
 abbrev input : Opened → Used
 input file = record { «package» = codes "-"; file = Some (record file { name = stdin }) }
 
--- package `none`, of which no file could be opened
-abbrev closed : Used
-closed = record { «package» = codes "none"; file = None }
-
 abbrev app_read : Opened
 app_read = read_of (codes "app")
 
--- the status of a run that used these packages, where a step failed or none did
-abbrev status : List Used → Bool → ℕ
-status used failed = status_of (record { used = used; printed = []; failed = failed })
+-- the status of a run that used these packages, where no step failed
+abbrev status : List Used → ℕ
+status used = status_of c.Whole (record { used = used; printed = []; failed = false })
 
 abbrev Statuses : Type 0
 Statuses =
-    -- 'set size small' //app:x: the file differs; and with undo and redo after that.
-    (status (app (edited app_read) ∷ []) false ≡ 0) × (status (app (forward (back (edited app_read))) ∷ []) false ≡ 0)
-    -- Of two files the second differs; the text of standard input differs.
-    × (status (app app_read ∷ root (edited (read_of [])) ∷ []) false ≡ 0) × (status (input (edited app_read) ∷ []) false ≡ 0)
-    -- 'print name' //app:x: no file differs; 'set size small' undo //app:x: at the end it is as it was read.
-    × (status (app app_read ∷ []) false ≡ 3) × (status (app (back (edited app_read)) ∷ []) false ≡ 3)
-    -- A command was refused, or a file could not be opened: also where another file differs.
-    × (status (app app_read ∷ []) true ≡ 2) × (status (closed ∷ []) true ≡ 2) × (status (closed ∷ app (edited app_read) ∷ []) true ≡ 2)
-
--- how far a run is after a step that failed, or that did not
-abbrev after_step : Bool → Progress
-after_step failed = record { used = []; printed = []; failed = failed }
-
-abbrev GoesOn : Type 0
-GoesOn =
-    -- Without -k a failure ends the run; with it none does.
-    (ends_run false (after_step true) ≡ true) × (ends_run true (after_step true) ≡ false)
-    × (ends_run false (after_step false) ≡ false) × (ends_run true (after_step false) ≡ false)
+    -- 'set size small' undo redo //app:x: the file differs. Of two files the second differs. 'print name' //app:x: none does.
+    (status (app (forward (back (edited app_read))) ∷ []) ≡ 0) × (status (app app_read ∷ root (edited (read_of [])) ∷ []) ≡ 0) × (status (app app_read ∷ []) ≡ 3)
 
 abbrev TextsOut : Type 0
 TextsOut =
-    let app_edited : Used = app (edited app_read) in let app_back : Used = app (back (edited app_read)) in
-    (differs app_read ≡ false) × (differs (edited app_read) ≡ true) × (differs (back (edited app_read)) ≡ false)
-    -- Without --stdout a file that differs is written and reported, and nothing of it goes out.
-    × (texts_out false false (app_edited ∷ []) ≡ [])
-    × (all_writings false (app_edited ∷ []) ≡ record { name = codes "app/BUILD"; held = text_read; bytes = text_made } ∷ [])
-    × (fixed_lines false (all_writings false (app_edited ∷ [])) ≡ codes "fixed app/BUILD\n" ∷ [])
-    -- With --quiet it is not reported.
-    × (fixed_lines true (all_writings false (app_edited ∷ [])) ≡ [])
-    -- With --stdout its text goes out, and it is not written.
-    × (texts_out false true (closed ∷ app_edited ∷ []) ≡ text_made) × (all_writings true (app_edited ∷ []) ≡ [])
-    -- Of a file that doesn't differ nothing goes out, and it is not written.
-    × (texts_out false true (app_back ∷ []) ≡ []) × (all_writings false (app_back ∷ app app_read ∷ closed ∷ []) ≡ [])
+    -- With --stdout nothing goes out of a file that doesn't differ, nor of package `none`, which has no file; a file that was only read isn't written.
+    (texts_out false true (app (back (edited app_read)) ∷ []) ≡ []) × (writing_of false (app app_read) ≡ None)
+    × (texts_out false true (record { «package» = codes "none"; file = None } ∷ app (edited app_read) ∷ []) ≡ text_made)
     -- The text of standard input goes out where it is shown, also as it was read, with --stdout or without; it is never written.
-    × (texts_out true false (input (edited app_read) ∷ []) ≡ text_made) × (texts_out true true (input app_read ∷ []) ≡ text_read)
-    × (texts_out false true (input app_read ∷ []) ≡ []) × (all_writings false (input (edited app_read) ∷ []) ≡ [])
+    × (texts_out true true (input app_read ∷ []) ≡ text_read) × (texts_out false true (input app_read ∷ []) ≡ []) × (writing_of false (input (edited app_read)) ≡ None)
 
 abbrev Reported : Type 0
 Reported =
-    let name : Bytes = codes "app/BUILD" in
-    -- What is refused is reported, by file and command; what is done or printed is not.
-    (reported_of false name (codes "add size a") (Err NotAList) ≡ codes "buildozer: app/BUILD: add size a: NotAList (44)\n" ∷ [])
-    × (reported_of true name (codes "redo") (Err TooFar) ≡ codes "buildozer: app/BUILD: redo: TooFar (61)\n" ∷ [])
-    × (reported_of false name (codes "set size small") (Ok Changed) ≡ []) × (reported_of false name (codes "undo") (Ok Moved) ≡ [])
-    × (reported_of false name (codes "print name") (Ok (Printed (codes "x\n"))) ≡ [])
+    -- What is refused is reported; what is printed is not.
+    (reported_of false (codes "app/BUILD") (codes "add size a") (Err NotAList) ≡ codes "buildozer: app/BUILD: add size a: NotAList (44)\n" ∷ [])
+    × (reported_of false (codes "app/BUILD") (codes "print name") (Ok (Printed (codes "x\n"))) ≡ [])
     -- undo //a/...:x; undo //a...:x, of which no file is there
     × (package_hint (codes "a/...") ≡ codes "buildozer: ... is no package here: see buildozer-tree\n")
     × (package_hint (codes "a...")
@@ -112,7 +81,7 @@ Reported =
     -- Only what a command prints is printed.
     × (printed_by (Ok (Printed (codes "x\n"))) ≡ codes "x\n") × (printed_by (Ok Same) ≡ []) × (printed_by (Err NotAList) ≡ [])
     -- A refusal after a printed line: the line stays, and the run has failed from then on.
-    × (answered 0 app_read (Err TooFar) app_read.history (record { used = app app_read ∷ []; printed = codes "x\n"; failed = false })
+    × (state_after false 0 app_read (Err TooFar) app_read.history (record { used = app app_read ∷ []; printed = codes "x\n"; failed = false })
     ≡ record { used = app app_read ∷ []; printed = codes "x\n"; failed = true })
 
 -- ---- which file
@@ -148,9 +117,22 @@ Files =
     → found_in folder (codes "a") ≡ Some (codes "a/BUILD", text_read))
     × ((folder : Folder) → get folder (codes "a/BUILD.bazel") ≡ None → get folder (codes "a/BUILD") ≡ None → found_in folder (codes "a") ≡ None)
     -- Package `-` is standard input.
-    × ((folder : Folder) → Finds (record { folder = folder; known = Some text_read }) (codes "-") (Some (codes "<stdin>", text_read)))
+    × ((folder : Folder) → Finds false (record { folder = folder; known = Some text_read }) (codes "-") (Some (codes "<stdin>", text_read)))
     -- A package that was used is used again; under another path it is another package.
-    × (package_number (codes "app") (closed ∷ app app_read ∷ []) ≡ Some 1) × (package_number (codes "./app") (closed ∷ app app_read ∷ []) ≡ None)
+    × (package_number (codes "app") (root app_read ∷ app app_read ∷ []) ≡ Some 1) × (package_number (codes "./app") (root app_read ∷ app app_read ∷ []) ≡ None)
 
 abbrev pub WorkedParts : Type 0
-WorkedParts = Statuses × GoesOn × TextsOut × Reported × Steps × Files
+WorkedParts = Statuses × TextsOut × Reported × Steps × Files
+
+-- ---- worked rows: how refusals and faults are reported
+
+abbrev pub WorkedRefusals : Type 0
+WorkedRefusals = (fault_line stdin (Unexpected 12 305) ≡ codes "<stdin>:12:305: Unexpected\n")
+    × (fault_line (codes "a/BUILD") (NotUtf8 67108863) ≡ codes "a/BUILD: NotUtf8 at 67108863\n")
+    × (refusal_line false stdin (codes "undo 3") TooFar ≡ codes "buildozer: <stdin>: undo 3: TooFar (61)\n")
+    × (refusal_line false (codes "a/BUILD") (codes "redo") TooFar
+    ≡ codes "buildozer: a/BUILD: redo: TooFar (61)\nbuildozer: to undo or redo what earlier runs did, give --journal, as in those runs\n")
+    × (refusal_line false (codes "a/BUILD") (codes "add deps b") NoTarget ≡ codes "buildozer: a/BUILD: add deps b: NoTarget (41)\n")
+    × (refusal_line true (codes "a/BUILD") (codes "redo") TooFar ≡ codes "buildozer: a/BUILD: redo: TooFar (61)\n")
+    × (operand_line (record { operand = codes "//a::b"; fault = BadTarget }) ≡ codes "buildozer: //a::b: BadTarget (12)\n")
+    × (fixed_line (codes "a/BUILD") ≡ codes "fixed a/BUILD\n")

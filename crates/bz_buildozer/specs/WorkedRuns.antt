@@ -4,21 +4,21 @@ use Rattle.std.specs.FinMap.{get}
 use Rattle.bz_files.specs.Folder.{Folder, with_file}
 use Rattle.bz_buildozer.specs.Sessions.{gives, Means}
 use Rattle.bz_label.specs.declared.target.Which.TheVariants.{Name}
-use Rattle.bz_command_line.specs.Line.{command_line_of}
 use Rattle.bz_grammar.specs.Spell.{limit}
 use Rattle.bz_items.specs.Characters.{Bytes}
+use Rattle.bz_streams.specs.declared.exit.Cut.TheVariants as c
 use Rattle.bz_command_syntax.specs.declared.command.AttributeOperation.TheVariants as wa
 use Rattle.bz_command_syntax.specs.declared.command.Operation.TheVariants as w
 use Rattle.bz_buildozer.specs.Found.{found_in}
-use Rattle.bz_buildozer.specs.Outcome.{WordsOutcome}
+use Rattle.bz_buildozer.specs.Ending.{ended_whole}
+use Rattle.bz_buildozer.specs.Outcome.{WordsOutcome, unused}
 use Rattle.bz_buildozer.specs.Run.{World}
-use Rattle.bz_buildozer.specs.Usage.{LineReports}
 use Rattle.bz_buildozer.specs.WorkedParts.{text_read, text_made}
 
 -- ---- usage faults: a run prints its one line, has status 1 and leaves all else as it was
 
 abbrev Unused : List Bytes → Bytes → World → Type 0
-Unused words line world = WordsOutcome words world (record { output = []; lines = line ∷ []; status = 1; folder = world.folder })
+Unused words line world = WordsOutcome words world (unused world.folder line)
 
 -- without a file of lines, in each folder and over each standard input
 abbrev IsUsage : List Bytes → Bytes → Type 0
@@ -42,6 +42,12 @@ WorkedUsage =
     (text ++ codes "buildozer: there is no option '-r' here: see docs/COMING.md, buildozer-tree and contrib/compat/compat.sh\n"))
     -- -f lines: the file is not there, has comments only, or a line that is refused.
     × ((world : World) → get world.folder (codes "lines") ≡ None → Unused (codes "-f" ∷ codes "lines" ∷ []) (codes "lines: cannot open\n") world)
+    -- The same where it can't be read.
+    × ((world : World) → WordsOutcome (codes "-f" ∷ codes "lines" ∷ []) world (record {
+      left = record { output = []; lines = codes "lines: cannot open\n" ∷ []; status = 1; folder = world.folder };
+      cut = c.Files;
+      printed = c.Whole;
+    }))
     × ((world : World) → get world.folder (codes "lines") ≡ Some (codes "# none\n\n")
     → Unused (codes "-f" ∷ codes "lines" ∷ []) (codes "lines: no operands\n") world)
     × ((world : World) → get world.folder (codes "lines") ≡ Some (codes "# none\ndelete\n")
@@ -55,8 +61,7 @@ WorkedUsage =
     × ((folder : Folder) → Unused (codes "-f" ∷ codes "-" ∷ []) (codes "buildozer: package - cannot be edited beside -f -\n")
     (record { folder = folder; known = Some (codes "undo|-:x\n") }))
     -- --journal -- undo -:x
-    × (let words : List Bytes = codes "--journal" ∷ codes "--" ∷ codes "undo" ∷ codes "-:x" ∷ [] in
-    (world : World) → LineReports true world words (command_line_of words) (codes "buildozer: package - has no journal\n"))
+    × IsUsage (codes "--journal" ∷ codes "--" ∷ codes "undo" ∷ codes "-:x" ∷ []) (codes "buildozer: package - has no journal\n")
 
 -- ---- whole runs over one file, BUILD in the current folder, or over standard input
 
@@ -70,10 +75,10 @@ HasBuild world = (get world.folder (codes "BUILD.bazel") ≡ None) × (get world
 -- what is left of a folder in which BUILD was written, and of one as it was
 abbrev BuildWritten : List Bytes → Bytes → List Bytes → ℕ → World → Type 0
 BuildWritten words output lines status world =
-    WordsOutcome words world (record { output = output; lines = lines; status = status; folder = with_file world.folder (codes "BUILD") text_made })
+    WordsOutcome words world (ended_whole (record { output = output; lines = lines; status = status; folder = with_file world.folder (codes "BUILD") text_made }))
 
 abbrev Still : List Bytes → Bytes → List Bytes → ℕ → World → Type 0
-Still words output lines status world = WordsOutcome words world (record { output = output; lines = lines; status = status; folder = world.folder })
+Still words output lines status world = WordsOutcome words world (ended_whole (record { output = output; lines = lines; status = status; folder = world.folder }))
 
 abbrev pub OverBuild : World → Type 0
 OverBuild world =
@@ -82,6 +87,12 @@ OverBuild world =
     -- 'set size small' //:x; the same with --quiet, and with --stdout
     BuildWritten (change ∷ rule ∷ []) [] (fixed ∷ []) 0 world × BuildWritten (codes "--quiet" ∷ change ∷ rule ∷ []) [] [] 0 world
     × Still (codes "--stdout" ∷ change ∷ rule ∷ []) text_made [] 0 world
+    -- The last one where standard output can't be written.
+    × WordsOutcome (codes "--stdout" ∷ change ∷ rule ∷ []) world (record {
+      left = record { output = text_made; lines = codes "<stdout>: cannot write\n" ∷ []; status = 2; folder = world.folder };
+      cut = c.Write;
+      printed = c.Write;
+    })
     -- 'set size small' undo //:x: the file is as it was read.
     × Still (change ∷ codes "undo" ∷ rule ∷ []) [] [] 3 world
     -- 'set size small' 'undo 2' //:x: what was done before the refusal is written. undo //:x: nothing was done.

@@ -1,20 +1,22 @@
 //! One step.
-ghost use Rattle.std.specs.Prelude.{◌≡◌, ◌≢◌, ◌⊎◌, ◌&&◌, ◌++◌, [], ◌∷◌, ℕ, List, Some, None, Ok, Err, true, false, IsSome, OnOk, OnErr};
-ghost use Rattle.bz_buildozer.specs.Sessions.{action_in, History, Answer, Leads, listing};
-ghost use Rattle.bz_buildozer.specs.Sessions as Reply;
+ghost use Rattle.std.specs.Prelude.{◌≡◌, ◌≢◌, ◌⊎◌, ◌&&◌, ◌++◌, [], ◌∷◌, ℕ, List, Bool, Some, None, Err, true, false, IsSome, OnOk, OnErr};
+ghost use Rattle.bz_files.specs.Folder.{Folder};
+ghost use Rattle.bz_buildozer.specs.Sessions.{action_in};
+ghost use Rattle.bz_label.specs.declared.target.Target as t;
 ghost use Rattle.bz_command_line.specs.Paths.{HasPath};
 ghost use Rattle.bz_command_line.specs.Shown.{request_in};
-ghost use Rattle.bz_buildozer.specs.Packages as p;
-ghost use Rattle.bz_buildozer.specs.Packages.{file_at};
+ghost use Rattle.bz_command_line.specs.declared.verb.Verb as v;
+ghost use Rattle.bz_buildozer.specs.Found as p;
+ghost use Rattle.bz_buildozer.specs.Found.{file_at};
 ghost use Rattle.bz_buildozer.specs.private.ShownFiles.{opened_in, used_in};
 ghost use Rattle.bz_buildozer.specs.Calls.{KeepsSome, KeepsStep, ReportsLine, ReportsLines, WorksOn, spot, Proceeds};
-ghost use Rattle.bz_buildozer.specs.Failing.{AnswersUntil, DoesUntil, FailsAt};
-ghost use Rattle.bz_buildozer.specs.Keeping.{is_left_at};
+ghost use Rattle.bz_buildozer.specs.Keeps.{is_left_at};
 ghost use Rattle.bz_buildozer.specs.Moments.{AllAreSafe};
 ghost use Rattle.bz_buildozer.specs.Reported.{unkept_line};
-ghost use Rattle.bz_buildozer.specs.Run.{printed_in, answered, reported_of};
+ghost use Rattle.bz_buildozer.specs.Run.{Answers, Does, printed_in, reported_of};
 ghost use Rattle.bz_buildozer.specs.private.Shown.{progress_in};
-ghost use Rattle.bz_buildozer.specs.Steps.{RunStep, action_of, input_package, step_of};
+ghost use Rattle.bz_buildozer.specs.Steps as s;
+ghost use Rattle.bz_buildozer.specs.Steps.{RunStep, input_package, step_of};
 
 use crate::opening::open_package;
 use crate::reported::{fail, report_refusal};
@@ -100,11 +102,9 @@ fn act_at<E: Sink>(
 ) -> Cut
     requires { IsSome (file_at place run.old.workspace) }
     ensures kinds { (result ≡ Cut.Whole) ⊎ (result ≡ Cut.Memory) }
-    ensures whole { result ≡ Cut.Whole → (file : p.Opened) × (answer : Answer) × (history : History) × (file_at place run.old.workspace ≡ Some file)
-        × Leads (action_in action.now) command.now file.history answer history × (progress_in run.new ≡ answered place file answer history (progress_in run.old))
-        × ReportsLines E.Sink err.old err.new (reported_of false file.name command.now answer) }
-    ensures memory { result ≡ Cut.Memory → (lines : List (List ℕ)) × FailsAt place (progress_in run.old) lines (progress_in run.new)
-        × ReportsLines E.Sink err.old err.new lines }
+    ensures answers { (folder : Folder) (target : t.Target) (verb : v.Verb) → s.action_of target verb ≡ Some (action_in action.now) → (lines : List (List ℕ))
+        × Answers result false (step_of target (record { verb = verb; text = command.now })) (Some place) folder (progress_in run.old) lines folder
+        (progress_in run.new) × ReportsLines E.Sink err.old err.new lines }
 {
     match run.workspace.act(place, action, command, run.once) {
         Ok(reply) => match put_printed(&reply, &mut run.printed) {
@@ -119,11 +119,9 @@ fn act_at<E: Sink>(
 fn list_at<E: Sink>(alloc: Global, run: &mut Run, place: usize, command: &str, err: &mut E) -> Cut
     requires { IsSome (file_at place run.old.workspace) }
     ensures kinds { (result ≡ Cut.Whole) ⊎ (result ≡ Cut.Memory) }
-    ensures whole { result ≡ Cut.Whole → (file : p.Opened) × (file_at place run.old.workspace ≡ Some file)
-        × (progress_in run.new ≡ answered place file (Ok (Reply.Printed (listing file.history))) file.history (progress_in run.old))
-        × ReportsLines E.Sink err.old err.new [] }
-    ensures memory { result ≡ Cut.Memory → (lines : List (List ℕ)) × FailsAt place (progress_in run.old) lines (progress_in run.new)
-        × ReportsLines E.Sink err.old err.new lines }
+    ensures answers { (journals : Bool) (folder : Folder) (step : RunStep) → (journals && is_left_at place run.old.workspace) ≡ false
+        → s.action_of step.target step.request.verb ≡ None → (lines : List (List ℕ))
+        × Answers result journals step (Some place) folder (progress_in run.old) lines folder (progress_in run.new) × ReportsLines E.Sink err.old err.new lines }
     ensures same { run.new.workspace ≡ run.old.workspace }
 {
     let Ok(text) = open_file(&run.workspace, place).revisions.listing(alloc) else {
@@ -173,9 +171,9 @@ fn keep_at<F: Files, E: Sink>(
 ) -> Cut
     requires { IsSome (file_at place run.old.workspace) }
     ensures answers { F.honest files.old ≡ true → AllAreSafe (F.folder files.old) run.old.workspace → is_left_at place run.old.workspace ≡ false
-        → (step : RunStep) → action_of step.target step.request.verb ≡ Some (action_in action.now) → step.request.text ≡ command.now → (lines : List (List ℕ))
-        × AnswersUntil result true step (Some place) (F.folder files.old) (progress_in run.old) lines (F.folder files.new) (progress_in run.new)
-        × ReportsLines E.Sink err.old err.new lines }
+        → (target : t.Target) (verb : v.Verb) → s.action_of target verb ≡ Some (action_in action.now) → (lines : List (List ℕ))
+        × Answers result true (step_of target (record { verb = verb; text = command.now })) (Some place) (F.folder files.old) (progress_in run.old) lines
+        (F.folder files.new) (progress_in run.new) × ReportsLines E.Sink err.old err.new lines }
     ensures keeps { KeepsSome F.Files place (action_in action.now) command.now run.old.workspace run.new.workspace files.old files.new }
     ensures works { WorksOn F.Files result files.old files.new }
 {
@@ -202,9 +200,8 @@ fn act_on<F: Files, E: Sink>(
     err: &mut E,
 ) -> Cut
     requires { IsSome (file_at place run.old.workspace) }
-    ensures kinds { journals ≡ false → (result ≡ Cut.Whole) ⊎ (result ≡ Cut.Memory) }
     ensures answers { (journals ≡ true → F.honest files.old ≡ true) → (journals ≡ true → AllAreSafe (F.folder files.old) run.old.workspace) → (lines : List (List ℕ))
-        × AnswersUntil result journals (step_of target.now (request_in request.now)) (Some place) (F.folder files.old) (progress_in run.old) lines
+        × Answers result journals (step_of target.now (request_in request.now)) (Some place) (F.folder files.old) (progress_in run.old) lines
         (F.folder files.new) (progress_in run.new) × ReportsLines E.Sink err.old err.new lines }
     ensures keeps { journals ≡ true → KeepsStep F.Files (step_of target.now (request_in request.now)) place run.old.workspace run.new.workspace files.old files.new }
     ensures works { WorksOn F.Files result files.old files.new }
@@ -234,7 +231,7 @@ pub(crate) fn do_step<R: Source, F: Files, E: Sink>(
 ) -> Cut
     requires { HasPath target.now }
     ensures { Proceeds journals (target.now.«package» ≡ input_package) (step_of target.now (request_in request.now) ∷ [])
-        (λ why world. DoesUntil why journals world (step_of target.now (request_in request.now))) result
+        (λ why world. Does why journals world (step_of target.now (request_in request.now))) result
         (spot R.Source F.Files E.Sink run.old input.old files.old err.old) (spot R.Source F.Files E.Sink run.new input.new files.new err.new) }
 {
     let package = package_of(target);

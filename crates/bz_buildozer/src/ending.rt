@@ -1,6 +1,6 @@
 //! What a run leaves after its steps.
 ghost use Rattle.std.specs.Prelude.{◌≡◌, ◌≢◌, ◌⊎◌, ◌++◌, [], ◌∷◌, ℕ, List, Some, codes, true, false, map, if◌then◌else◌, IfOk, IfErr};
-ghost use Rattle.std.specs.List.{list_any};
+ghost use Rattle.std.specs.List.{All, list_any};
 ghost use Rattle.bz_buildozer.specs.Sessions.{present};
 ghost use Rattle.bz_streams.specs.Faults.{Rises};
 ghost use Rattle.bz_streams.specs.Outputs.{Counts};
@@ -8,9 +8,9 @@ ghost use Rattle.bz_buildozer.specs.private.ShownFiles.{opened_in, used_in};
 ghost use Rattle.bz_streams.specs.Exits.{first_cut};
 ghost use Rattle.bz_streams.specs.Reported.{named_line};
 ghost use Rattle.bz_buildozer.specs.Calls.{ReportsLine, ReportsLines, PrintsAll, PrintsSome, PrintsUntil, WorksOn};
-ghost use Rattle.bz_buildozer.specs.Failing.{LeavesUnwritten, TriesFiles};
-ghost use Rattle.bz_buildozer.specs.Packages as p;
-ghost use Rattle.bz_buildozer.specs.Ending.{differs, has_changed, is_input, goes_out, text_out, texts_out, Writing, writing_of, all_writings, WritesFiles, fixed_of, all_fixed, fixed_lines, status_of};
+ghost use Rattle.bz_buildozer.specs.Found as p;
+ghost use Rattle.bz_buildozer.specs.Ending.{differs, has_changed, is_input, goes_out, text_out, texts_out, Writing, writing_of, name_fixed, fixed_lines, LeavesUnwritten, WritesFile, TriesFiles, status_of};
+ghost use Rattle.bz_buildozer.specs.Steps.{input_package};
 ghost use Rattle.bz_buildozer.specs.private.Shown.{progress_in};
 ghost use Rattle.bz_buildozer.specs.Reported.{fixed_line, output_lines};
 
@@ -21,7 +21,7 @@ use crate::used::{Opened, Used};
 use bz_command_line::Options;
 use bz_files::{Files, rewrite};
 use bz_items::Memory;
-use bz_streams::{Cut, Exit, Sink, first_cut, report, write_whole};
+use bz_streams::{Cut, Exit, LinePiece, Sink, first_cut, report_pieces, write_whole};
 use std::alloc::Global;
 
 const CHANGED: u8 = 0;
@@ -108,7 +108,6 @@ fn print_all<W: Sink, E: Sink>(
         × PrintsSome W.Sink out.old out.new (printed.items ++ texts_out shown to_stdout (map used_in packages.now))
         × Rises (W.faults out.old) (W.faults out.new))) }
     ensures told { IfErr result (λ cut. ReportsLines E.Sink err.old err.new (output_lines cut)) }
-    ensures output { PrintsSome W.Sink out.old out.new (printed.items ++ texts_out shown to_stdout (map used_in packages.now)) }
 {
     let mut output = printed;
     let Ok(changed) = put_texts(packages, shown, to_stdout, &mut output) else {
@@ -125,7 +124,14 @@ fn report_written<E: Sink>(quiet: bool, name: &str, err: &mut E)
     ensures { ReportsLines E.Sink err.old err.new (if quiet then [] else fixed_line name.now ∷ []) }
 {
     if !quiet {
-        report(err, &["fixed ", name, "\n"]);
+        report_pieces(
+            err,
+            &[
+                LinePiece::Own("fixed "),
+                LinePiece::Outside(name),
+                LinePiece::Own("\n"),
+            ],
+        );
     }
 }
 
@@ -138,10 +144,10 @@ fn write_file<F: Files, E: Sink>(
     err: &mut E,
 ) -> Cut
     ensures reported { result ≡ Cut.Whole → ReportsLines E.Sink err.old err.new
-        (fixed_lines options.quiet (fixed_of options.journal options.to_stdout (used_in used.now))) }
-    ensures writes { options.journal ≡ false → (F.honest files.old ≡ true) ⊎ (writing_of options.to_stdout (used_in used.now) ≡ []) → result ≡ Cut.Whole
-        → WritesFiles (writing_of options.to_stdout (used_in used.now)) (F.folder files.old) (F.folder files.new) }
-    ensures unwritten { result ≡ Cut.Files → (options.journal ≡ false) × ((file : Writing) × (writing_of options.to_stdout (used_in used.now) ≡ file ∷ [])
+        (fixed_lines options.quiet (name_fixed options.journal options.to_stdout (used_in used.now))) }
+    ensures writes { options.journal ≡ false → (F.honest files.old ≡ true) ⊎ ((used_in used.now).«package» ≡ input_package) → result ≡ Cut.Whole
+        → WritesFile (writing_of options.to_stdout (used_in used.now)) (F.folder files.old) (F.folder files.new) }
+    ensures unwritten { result ≡ Cut.Files → (options.journal ≡ false) × (is_input (used_in used.now) ≡ false) × ((file : Writing) × (writing_of options.to_stdout (used_in used.now) ≡ Some file)
         × ReportsLine E.Sink err.old err.new (named_line file.name (codes "cannot write"))
         × (F.honest files.old ≡ true → LeavesUnwritten file (F.folder files.old) (F.folder files.new))) }
     ensures memory { result ≡ Cut.Memory → (options.journal ≡ false) × ((file : p.Opened) × ((used_in used.now).file ≡ Some file)
@@ -184,11 +190,7 @@ fn write_files<F: Files, E: Sink>(
     files: &mut F,
     err: &mut E,
 ) -> Cut
-    ensures reported { result ≡ Cut.Whole → ReportsLines E.Sink err.old err.new
-        (fixed_lines options.quiet (all_fixed options.journal options.to_stdout (map used_in packages.now))) }
-    ensures writes { options.journal ≡ false → (F.honest files.old ≡ true) ⊎ (all_writings options.to_stdout (map used_in packages.now) ≡ []) → result ≡ Cut.Whole
-        → WritesFiles (all_writings options.to_stdout (map used_in packages.now)) (F.folder files.old) (F.folder files.new) }
-    ensures tries { (options.journal ≡ false → (F.honest files.old ≡ true) ⊎ (all_writings options.to_stdout (map used_in packages.now) ≡ [])) → (lines : List (List ℕ))
+    ensures tries { (F.honest files.old ≡ true) ⊎ All (λ used. used.«package» ≡ input_package) (map used_in packages.now) → (lines : List (List ℕ))
         × TriesFiles result options (map used_in packages.now) (F.folder files.old) lines (F.folder files.new) × ReportsLines E.Sink err.old err.new lines }
     ensures kept { options.journal ≡ true → files.new ≡ files.old }
     ensures works { WorksOn F.Files result files.old files.new }
@@ -230,14 +232,9 @@ pub(crate) fn finish<W: Sink, F: Files, E: Sink>(
     files: &mut F,
     err: &mut E,
 ) -> Exit
-    ensures whole { result.cut ≡ Cut.Whole → (cut ≡ Cut.Whole) × (result.status ≡ status_of (progress_in run))
-        × PrintsAll W.Sink out.old out.new ((progress_in run).printed ++ texts_out shown options.to_stdout (progress_in run).used)
-        × (W.faults out.new ≡ W.faults out.old) × (F.faults files.new ≡ F.faults files.old)
-        × ReportsLines E.Sink err.old err.new (fixed_lines options.quiet (all_fixed options.journal options.to_stdout (progress_in run).used)) }
-    ensures writes { options.journal ≡ false → (F.honest files.old ≡ true) ⊎ (all_writings options.to_stdout (progress_in run).used ≡ [])
-        → cut ≡ Cut.Whole → (result.cut ≡ Cut.Whole) ⊎ (result.cut ≡ Cut.Write)
-        → WritesFiles (all_writings options.to_stdout (progress_in run).used) (F.folder files.old) (F.folder files.new) }
-    ensures ends { (options.journal ≡ false → (F.honest files.old ≡ true) ⊎ (all_writings options.to_stdout (progress_in run).used ≡ []))
+    ensures whole { result.cut ≡ Cut.Whole → (result.status ≡ status_of Cut.Whole (progress_in run)) × (W.faults out.new ≡ W.faults out.old)
+        × (F.faults files.new ≡ F.faults files.old) }
+    ensures ends { (F.honest files.old ≡ true) ⊎ All (λ used. used.«package» ≡ input_package) (progress_in run).used
         → (later : Cut) × (written : Cut) × (told : List (List ℕ))
         × TriesFiles written options (progress_in run).used (F.folder files.old) told (F.folder files.new)
         × PrintsUntil W.Sink later out.old out.new ((progress_in run).printed ++ texts_out shown options.to_stdout (progress_in run).used)
@@ -245,10 +242,7 @@ pub(crate) fn finish<W: Sink, F: Files, E: Sink>(
     ensures kept { options.journal ≡ true → files.new ≡ files.old }
     ensures status { result.cut ≢ Cut.Whole → result.status ≡ 2 }
     ensures used { result.status ≢ 1 }
-    ensures write { result.cut ≡ Cut.Write → cut ≢ Cut.Write → (cut ≡ Cut.Whole)
-        × PrintsSome W.Sink out.old out.new ((progress_in run).printed ++ texts_out shown options.to_stdout (progress_in run).used)
-        × Rises (W.faults out.old) (W.faults out.new) }
-    ensures output { PrintsSome W.Sink out.old out.new ((progress_in run).printed ++ texts_out shown options.to_stdout (progress_in run).used) }
+    ensures write { result.cut ≡ Cut.Write → cut ≢ Cut.Write → Rises (W.faults out.old) (W.faults out.new) }
     ensures cause { (result.cut ≡ cut) ⊎ ((cut ≡ Cut.Whole) × ((result.cut ≡ Cut.Memory) ⊎ (result.cut ≡ Cut.Write)
         ⊎ ((result.cut ≡ Cut.Files) × Rises (F.faults files.old) (F.faults files.new)))) }
     ensures counts { Counts (F.faults files.old) (F.faults files.new) }

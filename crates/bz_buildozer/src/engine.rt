@@ -8,24 +8,26 @@ ghost use Rattle.bz_command_line.specs.Line.{operands as words_given, script};
 ghost use Rattle.bz_command_line.specs.Paths.{HasPath};
 ghost use Rattle.bz_command_line.specs.Script.{script_of};
 ghost use Rattle.bz_command_line.specs.Shown.{requested_in};
-ghost use Rattle.bz_buildozer.specs.Failing.{GivenUntil, IsCut, PerformsUntil, WordsUntil};
 ghost use Rattle.bz_buildozer.specs.Keeps.{KeepsFolder};
-ghost use Rattle.bz_buildozer.specs.Calls.{ReportsLines, PrintsAll, IsStill, ReadsNothing, world_with, world_of, EndsIn, PassesBy, IsEndedOver, LeavesOutcome};
+ghost use Rattle.bz_buildozer.specs.Calls.{ReportsLines, PrintsAll, IsStill, ReadsNothing, world_with, world_of, EndsIn, PassesBy, IsEndedOver};
 ghost use Rattle.bz_buildozer.specs.Moments.{IsMomentOfRun, IsMomentOfSteps};
-ghost use Rattle.bz_buildozer.specs.Outcome.{LinesLeave, WordsOutcome, OperandsOutcome, TextOutcome, ScriptOutcome, AreOfInput, AreOfInputAndSome, IsOfInput, GivesNothing, IsText, KeepsJournals, LineGivesNothing, NamesNoFile, TakesNoFile, TakesNoInput, TakesScript};
+ghost use Rattle.bz_buildozer.specs.Outcome.{unused, IsUnused, LineOutcome, LinesEnd, OrOutOfMemory, WordsOutcome, OperandsOutcome, TextOutcome, ScriptOutcome, AreOfInputAndSome, IsOfInput, GivesNothing, IsText, KeepsJournals, LineGivesNothing, NamesNoFile, TakesNoFile, TakesNoInput, TakesScript};
 ghost use Rattle.bz_buildozer.specs.Steps.{all_steps, input_package, names_input};
 ghost use Rattle.bz_buildozer.specs.Reported.{no_journal_line};
-ghost use Rattle.bz_buildozer.specs.Usage.{OperandsReport, TextReports, GivenReports, LineReports};
+ghost use Rattle.bz_buildozer.specs.Run.{World};
 
 use crate::ending::finish;
-use crate::reported::{UNUSED, report_line_usage, report_script, report_unread, report_usage};
+use crate::reported::{UNUSED, report_unread, unused};
 use crate::run::begun;
 use crate::running::run_lines;
 use crate::script::{INPUT, read_bytes, reported_name, text_in};
 use crate::step::{are_one_step, names_input, shows_input};
-use bz_command_line::{Given, Options, Requested, read_group, read_line, read_script};
+use bz_command_line::{
+    Given, Options, Requested, read_group, read_line, read_script, report_line_usage,
+    report_script, report_usage,
+};
 use bz_files::Files;
-use bz_streams::{Cut, Exit, Sink, Source, report, report_fault};
+use bz_streams::{Cut, Exit, LinePiece, Sink, Source, report_fault, report_pieces};
 use std::alloc::Global;
 use std::convert::AsStr;
 use std::slice::from_ref;
@@ -49,16 +51,13 @@ fn perform<R: Source, W: Sink, E: Sink, F: Files>(
     files: &mut F,
 ) -> Exit
     requires { All (λ requested. All HasPath requested.targets.items) lines.now }
-    ensures leaves { (F.honest files.old ≡ true) ⊎ AreOfInputAndSome (map requested_in lines.now) → LeavesOutcome W.Sink E.Sink F.Files
-        (LinesLeave options (map requested_in lines.now) (world_of R.Source F.Files input.old files.old)) result out.old out.new err.old err.new files.new }
-    ensures ends { (F.honest files.old ≡ true) ⊎ AreOfInputAndSome (map requested_in lines.now) → IsCut result.cut → EndsIn W.Sink E.Sink F.Files
-        (PerformsUntil options (all_steps (map requested_in lines.now)) (world_of R.Source F.Files input.old files.old)) result out.old out.new err.old err.new files.new }
+    ensures ends { (F.honest files.old ≡ true) ⊎ AreOfInputAndSome (map requested_in lines.now) → EndsIn W.Sink E.Sink F.Files
+        (LinesEnd options (map requested_in lines.now) (world_of R.Source F.Files input.old files.old)) result out.old out.new err.old err.new files.new }
     ensures unread { options.journal ≡ true → names_input (map requested_in lines.now) ≡ true → (input.new ≡ input.old) × (out.new ≡ out.old) × (files.new ≡ files.old) }
     ensures reads_nothing { options.journal ≡ true → ReadsNothing R.Source result.cut input.old input.new }
     ensures unused { result.status ≡ 1 → (input.new ≡ input.old) × (out.new ≡ out.old) × (files.new ≡ files.old) }
     ensures usage { result.status ≡ 1 → (options.journal ≡ true) × (names_input (map requested_in lines.now) ≡ true)
         × ReportsLines E.Sink err.old err.new (no_journal_line ∷ []) }
-    ensures read { AreOfInput (map requested_in lines.now) → result.cut ≡ Cut.Read → PrintsAll W.Sink out.old out.new [] }
     ensures moments { options.journal ≡ true → F.honest files.old ≡ true
         → PassesBy F.Files (IsMomentOfSteps (F.folder files.old) (all_steps (map requested_in lines.now)) []) files.old files.new }
     ensures sound { R.sound input.old ≡ true → result.cut ≢ Cut.Read }
@@ -67,7 +66,10 @@ fn perform<R: Source, W: Sink, E: Sink, F: Files>(
     ensures honest { F.honest files.new ≡ F.honest files.old }
 {
     if lacks_journal(options, lines) {
-        report(err, &["buildozer: package - has no journal\n"]);
+        report_pieces(
+            err,
+            &[LinePiece::Own("buildozer: package - has no journal\n")],
+        );
         return UNUSED;
     }
     let mut run = begun(alloc, are_one_step(lines));
@@ -86,16 +88,16 @@ fn run_operands<R: Source, W: Sink, E: Sink, F: Files>(
     err: &mut E,
     files: &mut F,
 ) -> Exit
-    ensures leaves { (F.honest files.old ≡ true) ⊎ IsOfInput (words_given (map (λ s. s.now) operands.now)) → LeavesOutcome W.Sink E.Sink F.Files
-        (OperandsOutcome options (map (λ s. s.now) operands.now) (world_of R.Source F.Files input.old files.old)) result out.old out.new err.old err.new files.new }
-    ensures ends { (F.honest files.old ≡ true) ⊎ IsOfInput (words_given (map (λ s. s.now) operands.now)) → IsCut result.cut → EndsIn W.Sink E.Sink F.Files
-        (GivenUntil options (words_given (map (λ s. s.now) operands.now)) (world_of R.Source F.Files input.old files.old)) result out.old out.new err.old err.new files.new }
+    ensures ends { (F.honest files.old ≡ true) ⊎ IsOfInput (words_given (map (λ s. s.now) operands.now)) → EndsIn W.Sink E.Sink F.Files
+        (OrOutOfMemory (world_of R.Source F.Files input.old files.old)
+        (OperandsOutcome options (map (λ s. s.now) operands.now) (world_of R.Source F.Files input.old files.old)))
+        result out.old out.new err.old err.new files.new }
     ensures unread { GivesNothing options (words_given (map (λ s. s.now) operands.now)) → (input.new ≡ input.old) × (out.new ≡ out.old) × (files.new ≡ files.old) }
     ensures unused { result.status ≡ 1 → (input.new ≡ input.old) × (out.new ≡ out.old) × (files.new ≡ files.old) }
-    ensures usage { result.status ≡ 1 → (line : List ℕ) × OperandsReport options (map (λ s. s.now) operands.now) line
+    ensures usage { result.status ≡ 1 → (line : List ℕ)
+        × ((world : World) → OperandsOutcome options (map (λ s. s.now) operands.now) world (unused world.folder line))
         × ReportsLines E.Sink err.old err.new (line ∷ []) }
     ensures unread_kept { options.journal ≡ true → IsStill R.Source input.old input.new }
-    ensures read { IsOfInput (words_given (map (λ s. s.now) operands.now)) → result.cut ≡ Cut.Read → PrintsAll W.Sink out.old out.new [] }
     ensures moments { options.journal ≡ true → F.honest files.old ≡ true
         → PassesBy F.Files (IsMomentOfRun (world_of R.Source F.Files input.old files.old) (words_given (map (λ s. s.now) operands.now))) files.old files.new }
     ensures sound { R.sound input.old ≡ true → result.cut ≢ Cut.Read }
@@ -105,7 +107,7 @@ fn run_operands<R: Source, W: Sink, E: Sink, F: Files>(
 {
     match read_group(alloc, operands) {
         Ok(requested) => perform(alloc, options, from_ref(&requested), input, out, err, files),
-        Err(fault) => report_usage(alloc, err, &fault, ""),
+        Err(fault) => unused(report_usage(alloc, err, &fault), err),
     }
 }
 
@@ -128,14 +130,11 @@ fn run_text<R: Source, W: Sink, E: Sink, F: Files>(
     err: &mut E,
     files: &mut F,
 ) -> Exit
-    ensures leaves { F.honest files.old ≡ true → (known : Option (List ℕ)) → (name.now ≢ input_package → known ≡ R.remaining input.old)
-        → LeavesOutcome W.Sink E.Sink F.Files (TextOutcome options name.now (Some bytes.now) (world_with F.Files files.old known))
-        result out.old out.new err.old err.new files.new }
-    ensures ends { F.honest files.old ≡ true → IsCut result.cut → EndsIn W.Sink E.Sink F.Files (λ ended. (lines : List a.Requested)
-        × IsText bytes.now × (script_of bytes.now ≡ Ok lines) × PerformsUntil options (all_steps lines) (world_of R.Source F.Files input.old files.old) ended)
-        result out.old out.new err.old err.new files.new }
+    ensures ends { F.honest files.old ≡ true → (known : Option (List ℕ)) → (name.now ≢ input_package → known ≡ R.remaining input.old)
+        → EndsIn W.Sink E.Sink F.Files (OrOutOfMemory (world_with F.Files files.old known)
+        (TextOutcome options name.now bytes.now (world_with F.Files files.old known))) result out.old out.new err.old err.new files.new }
     ensures unused { result.status ≡ 1 → (input.new ≡ input.old) × (out.new ≡ out.old) × (files.new ≡ files.old) }
-    ensures usage { result.status ≡ 1 → (line : List ℕ) × TextReports options name.now (Some bytes.now) line
+    ensures usage { result.status ≡ 1 → (line : List ℕ) × ((world : World) → TextOutcome options name.now bytes.now world (unused world.folder line))
         × ReportsLines E.Sink err.old err.new (line ∷ []) }
     ensures unread_kept { options.journal ≡ true → IsStill R.Source input.old input.new }
     ensures moments { options.journal ≡ true → F.honest files.old ≡ true → PassesBy F.Files (λ now. (lines : List a.Requested)
@@ -154,13 +153,13 @@ fn run_text<R: Source, W: Sink, E: Sink, F: Files>(
     };
     let lines = match read_script(alloc, text) {
         Ok(lines) => lines,
-        Err(fault) => return report_script(alloc, err, reported_name(name), &fault),
+        Err(fault) => return unused(report_script(alloc, err, reported_name(name), &fault), err),
     };
     let lines = lines.as_slice();
     if edits_input(name, lines) {
-        report(
+        report_pieces(
             err,
-            &["buildozer: package - cannot be edited beside -f -\n"],
+            &[LinePiece::Own("buildozer: package - cannot be edited beside -f -\n")],
         );
         return UNUSED;
     }
@@ -177,16 +176,14 @@ fn run_script<R: Source, W: Sink, E: Sink, F: Files>(
     err: &mut E,
     files: &mut F,
 ) -> Exit
-    ensures leaves { F.honest files.old ≡ true → LeavesOutcome W.Sink E.Sink F.Files
-        (ScriptOutcome options name.now (world_of R.Source F.Files input.old files.old)) result out.old out.new err.old err.new files.new }
-    ensures ends { F.honest files.old ≡ true → IsCut result.cut → EndsIn W.Sink E.Sink F.Files
-        (GivenUntil options (script name.now) (world_of R.Source F.Files input.old files.old)) result out.old out.new err.old err.new files.new }
+    ensures ends { F.honest files.old ≡ true → EndsIn W.Sink E.Sink F.Files (OrOutOfMemory (world_of R.Source F.Files input.old files.old)
+        (ScriptOutcome options name.now (world_of R.Source F.Files input.old files.old))) result out.old out.new err.old err.new files.new }
     ensures unused { result.status ≡ 1 → out.new ≡ out.old }
     ensures unused_input { result.status ≡ 1 → name.now ≢ input_package → input.new ≡ input.old }
     ensures unused_files { result.status ≡ 1 → name.now ≡ input_package → files.new ≡ files.old }
     ensures unused_time { result.status ≡ 1 → F.honest files.old ≡ true → KeepsFolder F.Files files.old files.new }
     ensures usage { result.status ≡ 1 → result.cut ≡ Cut.Whole → (line : List ℕ)
-        × GivenReports (F.honest files.old) (world_of R.Source F.Files input.old files.old) options (script name.now) line
+        × IsUnused (F.honest files.old) (world_of R.Source F.Files input.old files.old) (ScriptOutcome options name.now) line
         × ReportsLines E.Sink err.old err.new (line ∷ []) }
     ensures unread_kept { options.journal ≡ true → name.now ≢ input_package → IsStill R.Source input.old input.new }
     ensures moments { options.journal ≡ true → F.honest files.old ≡ true
@@ -218,24 +215,18 @@ pub fn buildozer<S: AsStr, R: Source, W: Sink, E: Sink, F: Files>(
     err: &mut E,
     files: &mut F,
 ) -> Exit
-    // Where the files are honest, or none is named, a whole run leaves what the words, the bytes of standard input and the folder
-    // mean, without journals as with them. Where standard output fails, a beginning of what it is to be given is there, and the files
-    // are as a whole run leaves them.
-    ensures leaves { (F.honest files.old ≡ true) ⊎ NamesNoFile (map S.text words.now) → LeavesOutcome W.Sink E.Sink F.Files
+    // Where the files are honest, or none is named, a run leaves what the words, the bytes of standard input and the folder mean, with journals
+    // too: whole, or where something fails, with what was done before, the line of each failure, all that standard output is to be given
+    // unless it failed itself, and each file tried.
+    ensures ends { (F.honest files.old ≡ true) ⊎ NamesNoFile (map S.text words.now) → EndsIn W.Sink E.Sink F.Files
         (WordsOutcome (map S.text words.now) (world_of R.Source F.Files input.old files.old)) result out.old out.new err.old err.new files.new }
-
-    // What a port cuts leaves what the words mean where this fails, with journals too: what was done before, the line of each failure, all that
-    // standard output is to be given unless it failed itself, and each file tried.
-    ensures ends { (F.honest files.old ≡ true) ⊎ NamesNoFile (map S.text words.now) → IsCut result.cut
-        → EndsIn W.Sink E.Sink F.Files (WordsUntil (map S.text words.now) (world_of R.Source F.Files input.old files.old)) result out.old out.new err.old err.new files.new }
 
     // Words that request nothing leave the input, the output and the files as they were.
     ensures unread { LineGivesNothing (command_line_of (map S.text words.now)) → (input.new ≡ input.old) × (out.new ≡ out.old) × (files.new ≡ files.old) }
 
     // A run of status 1 that no port cut says in one line why, with journals as without: of operands the first one that is refused.
     ensures usage { result.status ≡ 1 → result.cut ≡ Cut.Whole → (line : List ℕ)
-        × LineReports (F.honest files.old) (world_of R.Source F.Files input.old files.old) (map S.text words.now)
-        (command_line_of (map S.text words.now)) line
+        × IsUnused (F.honest files.old) (world_of R.Source F.Files input.old files.old) (LineOutcome (map S.text words.now) (command_line_of (map S.text words.now))) line
         × ReportsLines E.Sink err.old err.new (line ∷ []) }
 
     // A run of status 1 leaves the output as it was. So it leaves the input, unless lines are in it, and the files, unless lines
@@ -268,7 +259,7 @@ pub fn buildozer<S: AsStr, R: Source, W: Sink, E: Sink, F: Files>(
 {
     let line = match read_line(alloc, words) {
         Ok(line) => line,
-        Err(fault) => return report_line_usage(alloc, err, words, &fault),
+        Err(fault) => return unused(report_line_usage(alloc, err, words, &fault), err),
     };
     match &line.given {
         Given::Operands(operands) => {

@@ -1,11 +1,10 @@
 //! Facts about the definitions, for readers: the functions do nothing.
-ghost use Rattle.bz_buildozer.specs.Exact.{OutcomesAreExact};
+ghost use Rattle.bz_buildozer.specs.Exact.{OutcomesAreExact, OutputCutsNothingElse};
 ghost use Rattle.bz_buildozer.specs.Found.{PackagesAreApart};
 ghost use Rattle.bz_buildozer.specs.Journals.{HeldFilesGoOn, JournalGivesOne};
 ghost use Rattle.bz_buildozer.specs.Keeps.{StillIsSame};
 ghost use Rattle.bz_buildozer.specs.Opens.{FrontsAreReportedAlike};
-ghost use Rattle.bz_buildozer.specs.Worked.{WorkedRefusals};
-ghost use Rattle.bz_buildozer.specs.WorkedParts.{WorkedParts};
+ghost use Rattle.bz_buildozer.specs.WorkedParts.{WorkedRefusals, WorkedParts};
 ghost use Rattle.bz_buildozer.specs.WorkedRuns.{WorkedUsage, WorkedWholeRuns};
 
 use bz_grammar::laws::one_reading;
@@ -30,6 +29,11 @@ pub fn outcomes_are_exact()
 {
     one_reading();
 }
+
+/// What standard output cuts leaves the folder, and was to be given the bytes, of a run of the same words that nothing cuts: files are written all the same.
+pub fn output_cuts_nothing_else()
+    ensures { OutputCutsNothingElse }
+{}
 
 /// A text and its first bytes, one more than a text may have, are opened or reported alike. So of a file no more has to be read.
 pub fn fronts_are_reported_alike()

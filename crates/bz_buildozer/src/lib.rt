@@ -20,5 +20,5 @@ pub use bz_streams::{Cut, Exit};
 pub use engine::buildozer;
 pub use laws::{
     fronts_are_reported_alike, held_files_go_on, one_thing_comes_of_a_journal, outcomes_are_exact,
-    packages_are_apart, still_is_same, worked_refusals, worked_runs,
+    output_cuts_nothing_else, packages_are_apart, still_is_same, worked_refusals, worked_runs,
 };

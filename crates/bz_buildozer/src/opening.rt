@@ -1,15 +1,11 @@
 //! The package of a step.
-ghost use Rattle.std.specs.Prelude.{◌≡◌, ◌≢◌, ◌≤◌, ◌++◌, [], ◌∷◌, ℕ, List, Option, Some, None, true, false, length, IfSome, IsSome};
+ghost use Rattle.std.specs.Prelude.{◌≡◌, ◌≢◌, ◌≤◌, ℕ, List, Option, None, true, false, length, IfSome, IsSome};
 ghost use Rattle.bz_streams.specs.Outputs.{Counts};
 ghost use Rattle.bz_streams.specs.Reported.{stdin, named_line};
 ghost use Rattle.bz_buildozer.specs.Keeps.{KeepsFolder};
-ghost use Rattle.bz_buildozer.specs.Opens.{Extends, Opens};
-ghost use Rattle.bz_buildozer.specs.Packages.{package_number, file_at};
-ghost use Rattle.bz_buildozer.specs.Calls.{MayRun, ReportsLine, ReportsLines, ReadsNothing, UsesSome, world_with, AreCutOver};
-ghost use Rattle.bz_buildozer.specs.Cuts.{AreCutBy, IsLeft, OpensInput};
-ghost use Rattle.bz_buildozer.specs.Failing.{UsesUntil};
-ghost use Rattle.bz_buildozer.specs.Run.{World};
-ghost use Rattle.bz_streams.specs.Ports.{IsInput};
+ghost use Rattle.bz_buildozer.specs.Found.{package_number, file_at};
+ghost use Rattle.bz_buildozer.specs.Calls.{MayRun, ReportsLine, ReportsLines, ReadsNothing, UsesSome, world_with, AreCutOver, AreCutBy, IsLeft};
+ghost use Rattle.bz_buildozer.specs.Run.{Uses, World};
 ghost use Rattle.bz_buildozer.specs.Steps.{input_package};
 
 use crate::reading::Opening;
@@ -36,13 +32,10 @@ fn open_input<R: Source, E: Sink>(
     err: &mut E,
 ) -> Opening
     requires { package_number input_package workspace.old ≡ None }
-    ensures whole { result.cut ≡ Cut.Whole → (text : List ℕ) × IsInput (R.remaining input.old) text
-        × Extends E.Sink (Opens input_package (Some (stdin, text))) input_package result.place workspace.old workspace.new err.old err.new }
     ensures uses { (world : World) → IsLeft world.known workspace.old (R.remaining input.old) → (lines : List (List ℕ))
-        × UsesUntil result.cut false world input_package workspace.old result.place lines workspace.new
+        × Uses result.cut false world input_package workspace.old result.place lines workspace.new
         × IsLeft world.known workspace.new (R.remaining input.new) × ReportsLines E.Sink err.old err.new lines }
     ensures there { IfSome result.place (λ at. IsSome (file_at at workspace.new)) }
-    ensures failed { result.cut ≡ Cut.Read → (result.place ≡ None) × (workspace.new ≡ workspace.old ++ record { «package» = input_package; file = None } ∷ []) }
     ensures works { R.sound input.old ≡ true → result.cut ≢ Cut.Read }
     ensures sound { R.sound input.new ≡ R.sound input.old }
     ensures cut { (files : ℕ) → AreCutBy result.cut (R.faults input.old) (R.faults input.new) files files }
@@ -80,13 +73,12 @@ pub(crate) fn open_package<R: Source, F: Files, E: Sink>(
     requires { length «package».now ≤ 65536 }
     ensures uses { MayRun journals (F.honest files.old) («package».now ≡ input_package) → (known : Option (List ℕ))
         → IsLeft known workspace.old (R.remaining input.old) → (lines : List (List ℕ))
-        × UsesUntil result.cut journals (world_with F.Files files.old known) «package».now workspace.old result.place lines workspace.new
+        × Uses result.cut journals (world_with F.Files files.old known) «package».now workspace.old result.place lines workspace.new
         × IsLeft known workspace.new (R.remaining input.new) × ReportsLines E.Sink err.old err.new lines }
     ensures some { journals ≡ true → F.honest files.old ≡ true → UsesSome (F.folder files.old) «package».now result.place workspace.old workspace.new }
     ensures time { journals ≡ true → F.honest files.old ≡ true → KeepsFolder F.Files files.old files.new }
     ensures there { IfSome result.place (λ at. IsSome (file_at at workspace.new)) }
     ensures folder { MayRun journals (F.honest files.old) («package».now ≡ input_package) → F.folder files.new ≡ F.folder files.old }
-    ensures input { journals ≡ false → «package».now ≡ input_package → OpensInput result.cut result.place workspace.old workspace.new }
     ensures unread { journals ≡ true → ReadsNothing R.Source result.cut input.old input.new }
     ensures works { R.sound input.old ≡ true → result.cut ≢ Cut.Read }
     ensures sound { R.sound input.new ≡ R.sound input.old }

@@ -1,14 +1,15 @@
 //! What opening a file takes: its name, its bytes and its session.
-ghost use Rattle.std.specs.Prelude.{◌≡◌, ◌≢◌, ◌⊎◌, ◌≤◌, ◌++◌, [], ◌∷◌, codes, eqb, length, map, take, true, Some, None, IfOk, IfErr, IsErrOf, string_bytes};
-ghost use Rattle.std.specs.List.{concat, ends_with};
+ghost use Rattle.std.specs.Prelude.{◌≡◌, ◌≢◌, ◌⊎◌, ◌≤◌, ◌++◌, [], ◌∷◌, codes, eqb, flat_map, length, take, true, Some, None, IfOk, IfErr, IsErrOf, string_bytes};
+ghost use Rattle.std.specs.List.{ends_with};
 ghost use Rattle.std.specs.FinMap.{get};
 ghost use Rattle.bz_grammar.specs.Legal.{Accepted};
 ghost use Rattle.bz_items.specs.Characters.{Bytes};
 ghost use Rattle.bz_streams.specs.Faults.{Rises, AppendsUnlessFailed};
 ghost use Rattle.bz_streams.specs.Outputs.{Reports};
+ghost use Rattle.bz_streams.specs.Pieces.{line_piece_text};
 ghost use Rattle.bz_streams.specs.Reported.{named_line};
 ghost use Rattle.bz_buildozer.specs.Found.{in_package};
-ghost use Rattle.bz_buildozer.specs.Journals.{fault_lines, of_resuming};
+ghost use Rattle.bz_buildozer.specs.Journals.{fault_lines, of_package, of_resuming, shown_package};
 ghost use Rattle.bz_buildozer.specs.Keeps.{KeepsFolder};
 ghost use Rattle.bz_buildozer.specs.Opens.{IsRefusedFor, opened_fresh};
 ghost use Rattle.bz_buildozer.specs.private.ShownFiles.{opened_in};
@@ -19,7 +20,7 @@ use bz_files::{FileFault, FileKind, Files};
 use bz_items::{Memory, Text};
 use bz_journal::{Editor, ResumeFault};
 use bz_lex::ReadFault;
-use bz_streams::{Cut, Sink, report, report_named};
+use bz_streams::{Cut, LinePiece, Sink, report_named, report_pieces};
 use std::alloc::Global;
 
 /// What came of opening a package.
@@ -130,7 +131,16 @@ fn report_above<'a, E: Sink>(err: &mut E, name: &'a str, word: &'a str, below: &
     ensures { AppendsUnlessFailed (E.faults err.old) (E.faults err.new) (E.contents err.old) (E.contents err.new)
         (named_line name.entry.now word.entry.now ++ below.entry.now) }
 {
-    report(err, &[name, ": ", word, "\n", below]);
+    report_pieces(
+        err,
+        &[
+            LinePiece::Outside(name),
+            LinePiece::Own(": "),
+            LinePiece::Own(word),
+            LinePiece::Own("\n"),
+            LinePiece::Own(below),
+        ],
+    );
 }
 
 /// Reports that no file of a package is there, by the name of one, and below it what a package is.
@@ -143,19 +153,19 @@ pub(crate) fn fail_absent<E: Sink>(err: &mut E, name: &str, package: &str) -> Op
     Opening::new(None, Cut::Whole)
 }
 
-/// Reports a word on a journal, and by these pieces what may be done; no file is open.
-pub(crate) fn fail_with_hint<E: Sink>(
+// Reports a word on a journal, and by these pieces what may be done; no file is open.
+fn fail_with_hint<E: Sink>(
     err: &mut E,
     journal: &str,
     word: &str,
-    hint: &[&str],
+    hint: &[LinePiece<'_>],
 ) -> Opening
     ensures opening { result ≡ record { place = None; cut = Cut.Whole } }
     ensures reported { Reports (E.faults err.old) (E.faults err.new) (E.contents err.old) (E.contents err.new)
-        (named_line journal.now word.now ∷ concat (map (λ piece. piece.now) hint.now) ∷ []) }
+        (named_line journal.now word.now ∷ flat_map line_piece_text hint.now ∷ []) }
 {
     let opening = fail(err, journal, word, Cut::Whole);
-    report(err, hint);
+    report_pieces(err, hint);
     opening
 }
 
@@ -178,12 +188,46 @@ pub(crate) fn unresumed<E: Sink>(err: &mut E, journal: &str, fault: &ResumeFault
             journal,
             "Stale (73)",
             &[
-                "buildozer: the file changed since the last run with --journal: restore it, or delete ",
-                journal,
-                " to begin a new history\n",
+                LinePiece::Own(
+                    "buildozer: the file changed since the last run with --journal: restore it, or delete ",
+                ),
+                LinePiece::Outside(journal),
+                LinePiece::Own(" to begin a new history\n"),
             ],
         ),
     }
+}
+
+// As much of the path of a package as is printed.
+#[tactic(auto, using(crate::proofs::ShownPackages::path_cut))]
+fn shown_package(path: &str) -> &str
+    ensures { result.now ≡ shown_package path.now }
+{
+    if path.len() <= 200 {
+        return path;
+    }
+    let end = path.floor_char_boundary(200);
+    &path[..end]
+}
+
+/// Reports that a journal was written for this package, which is another one, and what may be done; no file is open.
+pub(crate) fn misplaced<'a, E: Sink>(err: &mut E, journal: &'a str, package: &'a str) -> Opening
+    ensures opening { result ≡ record { place = None; cut = Cut.Whole } }
+    ensures reported { Reports (E.faults err.old) (E.faults err.new) (E.contents err.old) (E.contents err.new)
+        (fault_lines journal.entry.now (of_package «package».entry.now)) }
+{
+    fail_with_hint(
+        err,
+        journal,
+        "Damaged (71)",
+        &[
+            LinePiece::Own("buildozer: "),
+            LinePiece::Outside(journal),
+            LinePiece::Own(" was written for //"),
+            LinePiece::Outside(shown_package(package)),
+            LinePiece::Own(": move it back there, or delete it to begin a new history\n"),
+        ],
+    )
 }
 
 /// Reports that memory was refused before a file of the package had its name, and no file is open.
@@ -192,6 +236,13 @@ pub(crate) fn unnamed<E: Sink>(err: &mut E, package: &str) -> Opening
     ensures told { (line : Bytes) × AppendsUnlessFailed (E.faults err.old) (E.faults err.new) (E.contents err.old) (E.contents err.new) line }
 {
     let slash = if package.is_empty() { "" } else { "/" };
-    report(err, &[package, slash, "BUILD", ": Memory\n"]);
+    report_pieces(
+        err,
+        &[
+            LinePiece::Outside(package),
+            LinePiece::Own(slash),
+            LinePiece::Own("BUILD: Memory\n"),
+        ],
+    );
     Opening::new(None, Cut::Memory)
 }

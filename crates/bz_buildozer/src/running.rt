@@ -5,7 +5,7 @@ ghost use Rattle.bz_command_line.specs.Paths.{HasPath};
 ghost use Rattle.bz_command_line.specs.Shown.{requested_in, request_in};
 ghost use Rattle.bz_buildozer.specs.Calls.{spot, Proceeds};
 ghost use Rattle.bz_buildozer.specs.Outcome.{AreOfInput};
-ghost use Rattle.bz_buildozer.specs.Failing.{RunsUntil};
+ghost use Rattle.bz_buildozer.specs.Run.{RunsSteps};
 ghost use Rattle.bz_buildozer.specs.Steps.{input_package, step_of, steps_requested, all_steps};
 
 use crate::acting::do_step;
@@ -29,7 +29,7 @@ fn run_target<R: Source, F: Files, E: Sink>(
 ) -> Cut
     requires { HasPath target.now }
     ensures { Proceeds options.journal (target.now.«package» ≡ input_package) (map (step_of target.now) (map request_in commands.now))
-        (λ why world. RunsUntil why options.journal world options.keep_going (map (step_of target.now) (map request_in commands.now))) result
+        (λ why world. RunsSteps why options.journal world options.keep_going (map (step_of target.now) (map request_in commands.now))) result
         (spot R.Source F.Files E.Sink run.old input.old files.old err.old) (spot R.Source F.Files E.Sink run.new input.new files.new err.new) }
 {
     let journals = options.journal;
@@ -56,7 +56,7 @@ pub(crate) fn run_line<R: Source, F: Files, E: Sink>(
 ) -> Cut
     requires { All HasPath line.now.targets.items }
     ensures { Proceeds options.journal (All (λ target. target.«package» ≡ input_package) line.now.targets.items) (steps_requested (requested_in line.now))
-        (λ why world. RunsUntil why options.journal world options.keep_going (steps_requested (requested_in line.now))) result
+        (λ why world. RunsSteps why options.journal world options.keep_going (steps_requested (requested_in line.now))) result
         (spot R.Source F.Files E.Sink run.old input.old files.old err.old) (spot R.Source F.Files E.Sink run.new input.new files.new err.new) }
 {
     let commands = line.commands.as_slice();
@@ -80,7 +80,7 @@ pub(crate) fn run_lines<R: Source, F: Files, E: Sink>(
 ) -> Cut
     requires { All (λ requested. All HasPath requested.targets.items) lines.now }
     ensures { Proceeds options.journal (AreOfInput (map requested_in lines.now)) (all_steps (map requested_in lines.now))
-        (λ why world. RunsUntil why options.journal world options.keep_going (all_steps (map requested_in lines.now))) result
+        (λ why world. RunsSteps why options.journal world options.keep_going (all_steps (map requested_in lines.now))) result
         (spot R.Source F.Files E.Sink run.old input.old files.old err.old) (spot R.Source F.Files E.Sink run.new input.new files.new err.new) }
 {
     let mut cut = Cut::Whole;

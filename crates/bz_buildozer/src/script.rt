@@ -35,6 +35,7 @@ pub(crate) fn read_bytes<R: Source, F: Files>(
     ensures err { IfErr result (λ cut. (cut ≡ Cut.Whole → F.honest files.old ≡ true
         → IsScript (world_of R.Source F.Files input.old files.old) name.now None)
         × (cut ≢ Cut.Write) × AreCutOver R.Source F.Files cut input.old input.new files.old files.new) }
+    ensures absent { IfErr result (λ cut. cut ≡ Cut.Whole → name.now ≢ input_package) }
     ensures works { R.sound input.old ≡ true → IfErr result (λ cut. cut ≢ Cut.Read) }
     ensures sound { R.sound input.new ≡ R.sound input.old }
     ensures input { name.now ≢ input_package → input.new ≡ input.old }

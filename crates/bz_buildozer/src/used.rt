@@ -6,7 +6,7 @@ ghost use Rattle.bz_journal.specs.History.{History};
 ghost use Rattle.bz_journal.specs.Keeping.{Keeps};
 ghost use Rattle.bz_journal.specs.Shown.{session_history};
 ghost use Rattle.bz_buildozer.specs.Keeps.{KeepsFile, after_keeping};
-ghost use Rattle.bz_buildozer.specs.Packages.{opened_with, with_opened};
+ghost use Rattle.bz_buildozer.specs.Found.{opened_with, with_opened};
 ghost use Rattle.bz_buildozer.specs.private.ShownFiles.{opened_in, used_in};
 
 use bz_files::Files;

@@ -6,18 +6,18 @@ ghost use Rattle.bz_items.specs.Characters.{Bytes};
 ghost use Rattle.bz_streams.specs.Faults.{Rises};
 ghost use Rattle.bz_streams.specs.Reported.{named_line};
 ghost use Rattle.bz_buildozer.specs.Calls.{ReportsLine};
-ghost use Rattle.bz_buildozer.specs.Failing.{OpensUntil, SecondUntil, TakesUntil};
+ghost use Rattle.bz_buildozer.specs.Run.{OpensUntil, SecondUntil, TakesUntil};
 ghost use Rattle.bz_buildozer.specs.private.ShownFiles.{texts_of_keys, packages_of, opened_in, used_in};
 ghost use Rattle.bz_journal.specs.Actions.{action_in};
 ghost use Rattle.bz_journal.specs.Keeping.{IsWriteOrOpen};
-ghost use Rattle.bz_buildozer.specs.Journals.{Adds, IsOpenedIn, Puts, TakesBeside, journal_beside};
+ghost use Rattle.bz_buildozer.specs.Journals.{TakesBeside};
 ghost use Rattle.bz_buildozer.specs.Keeps.{KeepsAt, ReadsFiles};
 ghost use Rattle.bz_buildozer.specs.Opens.{ActsAt, Extends, Fills, IsUnopened, Takes};
-ghost use Rattle.bz_buildozer.specs.Packages as p;
-ghost use Rattle.bz_buildozer.specs.Packages.{file_at, package_number, with_opened};
+ghost use Rattle.bz_buildozer.specs.Found as p;
+ghost use Rattle.bz_buildozer.specs.Found.{file_at, package_number, with_opened};
 
 use crate::reading::{
-    Opening, bytes_of, fail, fail_absent, fail_with_hint, name_in, opened, unnamed, unresumed,
+    Opening, bytes_of, fail, fail_absent, misplaced, name_in, opened, unnamed, unresumed,
 };
 use crate::used::{Opened, Used, put_file};
 use bz_files::{FileFault, Files};
@@ -45,7 +45,7 @@ impl Drop for Workspace {
 
 impl Model for Workspace {
     ghost use Rattle.std.specs.Prelude.{◌≡◌, List, map};
-    ghost use Rattle.bz_buildozer.specs.Packages as p;
+    ghost use Rattle.bz_buildozer.specs.Found as p;
     ghost use Rattle.bz_buildozer.specs.private.ShownFiles.{texts_of_keys, packages_of, used_in};
 
     ghost Value = { List p.Used };
@@ -177,18 +177,7 @@ impl Workspace {
             Err(fault) => return unresumed(err, journal, &fault),
         };
         if session.package() != package {
-            return fail_with_hint(
-                err,
-                journal,
-                "Damaged (71)",
-                &[
-                    "buildozer: ",
-                    journal,
-                    " was written for //",
-                    session.package(),
-                    ": move it back there, or delete it to begin a new history\n",
-                ],
-            );
+            return misplaced(err, journal, session.package());
         }
         match String::from_str(alloc, name) {
             Ok(name) => self.put(
@@ -212,12 +201,9 @@ impl Workspace {
         err: &mut E,
     ) -> Opening
         requires { IsUnopened place «package».now self.old }
-        ensures fills { F.honest files.old ≡ true
-            → Fills E.Sink (TakesUntil result.cut journals (F.folder files.old) «package».now name.now text.items) place result.place
+        ensures fills { Fills E.Sink (λ file lines. F.honest files.old ≡ true
+            → TakesUntil result.cut journals (F.folder files.old) «package».now name.now text.items file lines) place result.place
             self.old self.new err.old err.new }
-        ensures puts { Puts place (λ file. F.honest files.old ≡ true
-            → TakesBeside (journal_beside journals (F.folder files.old) name.now) «package».now name.now text.items (Some file) [])
-            result.place self.old self.new }
         ensures files { ReadsFiles F.Files result.cut files.old files.new }
     {
         if !journals {
@@ -254,9 +240,8 @@ impl Workspace {
         err: &mut E,
     ) -> Opening
         requires { IsUnopened place «package».now self.old }
-        ensures second { F.honest files.old ≡ true
-            → Fills E.Sink (SecondUntil result.cut journals (F.folder files.old) «package».now) place result.place self.old self.new err.old err.new }
-        ensures puts { Puts place (λ file. F.honest files.old ≡ true → IsOpenedIn journals (F.folder files.old) «package».now file) result.place self.old self.new }
+        ensures second { Fills E.Sink (λ file lines. F.honest files.old ≡ true → SecondUntil result.cut journals (F.folder files.old) «package».now file lines)
+            place result.place self.old self.new err.old err.new }
         ensures files { ReadsFiles F.Files result.cut files.old files.new }
     {
         let alloc = *self.used.allocator();
@@ -282,9 +267,8 @@ impl Workspace {
         err: &mut E,
     ) -> Opening
         requires { IsUnopened place «package».now self.old }
-        ensures first { F.honest files.old ≡ true
-            → Fills E.Sink (OpensUntil result.cut journals (F.folder files.old) «package».now) place result.place self.old self.new err.old err.new }
-        ensures puts { Puts place (λ file. F.honest files.old ≡ true → IsOpenedIn journals (F.folder files.old) «package».now file) result.place self.old self.new }
+        ensures first { Fills E.Sink (λ file lines. F.honest files.old ≡ true → OpensUntil result.cut journals (F.folder files.old) «package».now file lines)
+            place result.place self.old self.new err.old err.new }
         ensures files { ReadsFiles F.Files result.cut files.old files.new }
     {
         let alloc = *self.used.allocator();
@@ -321,16 +305,10 @@ impl Workspace {
         ensures again { (place : ℕ) → package_number «package».now self.old ≡ Some place
             → (result ≡ record { place = option_map (λ _. place) (file_at place self.old); cut = Cut.Whole })
             × (self.new ≡ self.old) × (files.new ≡ files.old) × (err.new ≡ err.old) }
-        ensures opens { F.honest files.old ≡ true → package_number «package».now self.old ≡ None
-            → Extends E.Sink (OpensUntil result.cut journals (F.folder files.old) «package».now) «package».now result.place self.old self.new err.old err.new
+        ensures opens { package_number «package».now self.old ≡ None → Extends E.Sink (λ file lines. F.honest files.old ≡ true
+            → OpensUntil result.cut journals (F.folder files.old) «package».now file lines) «package».now result.place self.old self.new err.old err.new
             ⊎ ((result ≡ record { place = None; cut = Cut.Memory }) × (self.new ≡ self.old) × ((line : Bytes) × ReportsLine E.Sink err.old err.new line)) }
         ensures there { IfSome result.place (λ at. IsSome (file_at at self.new)) }
-
-        // Whatever comes, the packages that were used before stay as they were, and the new one is the last or not there; its file, where
-        // one is open, is one that the folder has.
-        ensures kept { take (length self.old) self.new ≡ self.old }
-        ensures adds { package_number «package».now self.old ≡ None → Adds «package».now (λ file. F.honest files.old ≡ true
-            → IsOpenedIn journals (F.folder files.old) «package».now file) result.place self.old self.new }
         ensures files { ReadsFiles F.Files result.cut files.old files.new }
     {
         if let Some(place) = self.place(package.as_bytes()) {

@@ -4,7 +4,7 @@ use Rattle.std.specs.Option.{option_map}
 use Rattle.std.specs.declared.alloc.Global.{Global}
 use Rattle.bz_items.specs.Characters.{Bytes}
 use Rattle.bz_journal.specs.Forms.{revisions_history}
-use Rattle.bz_buildozer.specs.Packages as p
+use Rattle.bz_buildozer.specs.Found as p
 use Rattle.bz_buildozer.specs.declared.used.Opened.{Opened}
 use Rattle.bz_buildozer.specs.declared.used.Used.{Used}
 

@@ -1,26 +1,61 @@
-use Rattle.std.proofs.Common.{Ok, Err, refl}
+use Rattle.std.proofs.Common.{Ok, Err, [], false, refl, inl}
 use Rattle.bz_value.specs.declared.refusal.Refusal.TheVariants.{Memory}
 use Rattle.bz_buildozer.specs.Sessions.{action_in}
 use Rattle.bz_buildozer.specs.Opens.{ActsAt}
-use Rattle.bz_buildozer.specs.Packages.{Opened}
+use Rattle.bz_buildozer.specs.Found.{Opened}
+use Rattle.bz_buildozer.specs.Reported.{refusal_line}
+use Rattle.bz_buildozer.specs.Run.{reported_of}
 use Rattle.bz_buildozer.specs.private.Shown.{progress_in}
-use Rattle.bz_buildozer.proofs.ActSteps.{fails_acted, file_put, led_to, still_open, was_refused}
+use Rattle.bz_buildozer.proofs.ActSteps.{file_put, led_on, led_to, still_open}
+use Rattle.bz_buildozer.proofs.DoSteps.{fails_at, free_file, leads_by, memory_answers, refused, replied, step_at}
+use Rattle.bz_buildozer.proofs.KeepSteps.{wants_memory}
 use Rattle.bz_buildozer.proofs.acting.act_at.Goals as goal
 
-pub returns-clause-whole : goal.returns-clause-whole
-returns-clause-whole g c = λ whole.
-    let refusal = c.in-Err.refusal in
-    let done : ActsAt c.args.place (action_in c.args.action.now) c.args.command.now c.args.run.now.workspace (Err refusal) c.act.new.self = c.in-Err.ensures in
+pub returns-in-Ok-put_printed-clause-answers : goal.returns-in-Ok-put_printed-clause-answers
+returns-in-Ok-put_printed-clause-answers g c = λ folder target verb requested.
+    let note = c.args.command.now in
+    let place = c.args.place in
+    let before = progress_in c.args.run.now in
+    let reply = c.in-Ok.reply in
+    let done : ActsAt place (action_in c.args.action.now) note before.used (Ok reply) c.act.new.self = c.in-Ok.ensures in (
+      [],
+      replied false (step_at target verb note) place done.file done.history folder folder before _ c.act.new.self
+          (free_file false place before.used done.file done.there refl) reply _
+          (leads_by target verb note (action_in c.args.action.now) done.file.history done.history (Ok reply) requested
+          (led_on done.file.history done.history (action_in c.args.action.now) note reply done.acts)) refl done.kept c.in-Ok-put_printed.ensures.ok refl,
+      (refl, refl),
+    )
+
+pub returns-in-Ok-clause-answers : goal.returns-in-Ok-clause-answers
+returns-in-Ok-clause-answers g c = λ folder target verb requested.
+    let note = c.args.command.now in
+    let place = c.args.place in
+    let before = progress_in c.args.run.now in
+    let done : ActsAt place (action_in c.args.action.now) note before.used (Ok c.in-Ok.reply) c.act.new.self = c.in-Ok.ensures in
     let new : Opened = record done.file { history = done.history } in (
-      done.file,
-      Err refusal,
-      done.history,
-      done.there,
-      led_to done.file.history done.history (action_in c.args.action.now) c.args.command.now refusal done.acts (c.refuse-in-Err.ensures.whole whole),
-      was_refused c.args.place done.file refusal done.history (progress_in c.args.run.now) (progress_in c.refuse-in-Err.new.run) c.act.new.self
-          c.refuse-in-Err.ensures.state done.kept,
-      c.refuse-in-Err.ensures.reported new
-          (file_put c.args.place c.args.run.now.workspace c.act.new.self done.file new done.there done.kept),
+      reported_of false done.file.name note (Err Memory),
+      memory_answers c.refuse.result false (step_at target verb note) place folder folder before (progress_in c.refuse.new.run)
+          (reported_of false done.file.name note (Err Memory)) (wants_memory c.refuse.result c.refuse.ensures.kinds (λ whole. c.refuse.ensures.whole whole refl))
+          (fails_at place new before (progress_in c.refuse.new.run) c.act.new.self c.put_printed.new.printed.items (refusal_line false done.file.name note Memory) done.kept
+          c.in-Err-put_printed.ensures.err c.refuse.ensures.state) (inl refl),
+      c.refuse.ensures.reported new (file_put place before.used c.act.new.self done.file new done.there done.kept),
+    )
+
+pub returns-clause-answers : goal.returns-clause-answers
+returns-clause-answers g c = λ folder target verb requested.
+    let note = c.args.command.now in
+    let place = c.args.place in
+    let before = progress_in c.args.run.now in
+    let refusal = c.in-Err.refusal in
+    let refuse = c.refuse-in-Err in
+    let done : ActsAt place (action_in c.args.action.now) note before.used (Err refusal) c.act.new.self = c.in-Err.ensures in
+    let new : Opened = record done.file { history = done.history } in (
+      reported_of false done.file.name note (Err refusal),
+      refused false (step_at target verb note) place done.file done.history folder folder before (progress_in refuse.new.run) c.act.new.self
+          (free_file false place before.used done.file done.there refl) refuse.result refusal refuse.ensures.kinds
+          (λ whole. leads_by target verb note (action_in c.args.action.now) done.file.history done.history (Err refusal) requested
+          (led_to done.file.history done.history (action_in c.args.action.now) note refusal done.acts (refuse.ensures.whole whole))) refl done.kept refuse.ensures.state,
+      refuse.ensures.reported new (file_put place before.used c.act.new.self done.file new done.there done.kept),
     )
 
 pub refuse-requires : goal.refuse-requires
@@ -32,22 +67,3 @@ pub refuse-requires-in-Err : goal.refuse-requires-in-Err
 refuse-requires-in-Err g c =
     let done : ActsAt c.args.place (action_in c.args.action.now) c.args.command.now c.args.run.now.workspace (Err c.in-Err.refusal) c.act.new.self = c.in-Err.ensures in
     still_open c.args.place c.args.run.now.workspace c.act.new.self done.file (record done.file { history = done.history }) done.there done.kept
-
-pub returns-in-Ok-clause-memory : goal.returns-in-Ok-clause-memory
-returns-in-Ok-clause-memory g c = λ memory.
-    let done : ActsAt c.args.place (action_in c.args.action.now) c.args.command.now c.args.run.now.workspace (Ok c.in-Ok.reply) c.act.new.self = c.in-Ok.ensures in
-    let new : Opened = record done.file { history = done.history } in
-    fails_acted c.args.place new (progress_in c.args.run.now) (progress_in c.refuse.new.run) c.act.new.self c.put_printed.new.printed.items (g.E.Sink.faults c.args.err.now)
-    (g.E.Sink.faults c.refuse.new.err) (g.E.Sink.contents c.args.err.now) (g.E.Sink.contents c.refuse.new.err) c.args.command.now Memory done.kept
-    c.in-Err-put_printed.ensures.err c.refuse.ensures.state
-    (c.refuse.ensures.reported new (file_put c.args.place c.args.run.now.workspace c.act.new.self done.file new done.there done.kept))
-
-pub returns-clause-memory : goal.returns-clause-memory
-returns-clause-memory g c = λ memory.
-    let refusal = c.in-Err.refusal in
-    let done : ActsAt c.args.place (action_in c.args.action.now) c.args.command.now c.args.run.now.workspace (Err refusal) c.act.new.self = c.in-Err.ensures in
-    let new : Opened = record done.file { history = done.history } in
-    fails_acted c.args.place new (progress_in c.args.run.now) (progress_in c.refuse-in-Err.new.run) c.act.new.self c.args.run.now.printed.items (g.E.Sink.faults c.args.err.now)
-    (g.E.Sink.faults c.refuse-in-Err.new.err) (g.E.Sink.contents c.args.err.now) (g.E.Sink.contents c.refuse-in-Err.new.err) c.args.command.now refusal done.kept
-    refl c.refuse-in-Err.ensures.state
-    (c.refuse-in-Err.ensures.reported new (file_put c.args.place c.args.run.now.workspace c.act.new.self done.file new done.there done.kept))

@@ -1,19 +1,17 @@
-use Rattle.std.proofs.Common.{◌≡◌, ◌∙◌, ◌++◌, inl, true, true≢false, refl, sym, subst, List, [], Some, None}
+use Rattle.std.proofs.Common.{◌≡◌, ◌∙◌, ◌++◌, inl, true, refl, sym, subst, List, [], Some, None}
 use Rattle.std.proofs.lemmas.List.{append-nil}
 use Rattle.bz_command_line.specs.Shown.{request_in}
 use Rattle.bz_streams.proofs.Outputs.{counts_more, reports_more}
 use Rattle.bz_items.specs.Characters.{Bytes}
 use Rattle.bz_streams.specs.declared.exit.Cut.TheVariants as cut
 use Rattle.bz_buildozer.specs.Calls.{UsesSome}
-use Rattle.bz_buildozer.specs.Failing.{DoesUntil}
-use Rattle.bz_buildozer.specs.Run.{World}
+use Rattle.bz_buildozer.specs.Run.{Does, World}
 use Rattle.bz_buildozer.specs.private.Shown.{progress_in}
 use Rattle.bz_buildozer.specs.Steps.{input_package, step_of}
 use Rattle.bz_buildozer.proofs.CutSteps.{by_name, cut_after, neither_read, works_unread}
-use Rattle.bz_buildozer.proofs.FailSteps.{cut_alone, does_until, left_until, stay_used}
+use Rattle.bz_buildozer.proofs.FailSteps.{cut_alone, does_so, left_after}
 use Rattle.bz_buildozer.proofs.RunSteps.{honest_kept}
 use Rattle.bz_buildozer.proofs.SafeSteps.{opened_safely, step_acted, step_still}
-use Rattle.bz_buildozer.proofs.ReadSteps.{step_there, step_nowhere}
 use Rattle.bz_buildozer.proofs.acting.do_step.Goals as goal
 
 pub returns-in-Some : goal.returns-in-Some
@@ -40,20 +38,13 @@ returns-in-Some g c =
           let done = c.act_on.ensures.answers (λ is. opening.ensures.honest ∙ kept is) (λ is.
           opened_safely (folder c.args.files.now) (folder opening.new.files) name opening.result.place before.used used same (opening.ensures.some is (kept is)) (safe is)) in (
             opened.0 ++ done.0,
-            does_until c.args.journals world step before after used opening.result.cut c.act_on.result c.first_cut.result opening.result.place (Some at) name opened.0 done.0
+            does_so c.args.journals world step before after used opening.result.cut c.act_on.result c.first_cut.result opening.result.place (Some at) name opened.0 done.0
                 (folder opening.new.files) (folder c.act_on.new.files) named opened.1 c.in-Some.is same done.1 c.first_cut.ensures,
-            left_until c.act_on.result c.args.journals known (g.R.Source.remaining opening.new.input) step (Some at) (folder opening.new.files) (folder c.act_on.new.files)
+            left_after c.act_on.result c.args.journals known (g.R.Source.remaining opening.new.input) step (Some at) (folder opening.new.files) (folder c.act_on.new.files)
                 (record before { used = used }) after done.0 done.1 opened.2,
             reports_more (g.E.Sink.faults c.args.err.now) (g.E.Sink.faults opening.new.err) (g.E.Sink.faults c.act_on.new.err)
                 (g.E.Sink.contents c.args.err.now) (g.E.Sink.contents opening.new.err) (g.E.Sink.contents c.act_on.new.err) opened.0 done.0 opened.3 done.2,
           );
-      input = λ plain is.
-          step_there opening.result.cut c.act_on.result c.first_cut.result opening.result.place at before used after
-          (opening.ensures.input plain (named ∙ is)) c.in-Some.is c.first_cut.ensures (c.act_on.ensures.kinds plain)
-          (λ current.
-          let done = c.act_on.ensures.answers (λ kept. absurd (true≢false (sym kept ∙ plain))) (λ kept. absurd (true≢false (sym kept ∙ plain))) in
-          stay_used c.act_on.result c.args.journals current step (Some at) (folder opening.new.files) (folder c.act_on.new.files) (record before { used = used }) after
-          done.0 done.1);
       safely = λ kept honest began.
           step_acted g.F.Files g.met.F.Files.counts_now began step at before.used used after.used opening.result.place c.args.files.now opening.new.files
           c.act_on.new.files (subst (λ (n : Bytes). UsesSome (folder c.args.files.now) n opening.result.place before.used used) named (opening.ensures.some kept honest))
@@ -91,17 +82,14 @@ returns-in-None g c =
           let step = step_of c.args.target.now (request_in c.args.request.now) in
           let world : World = record { folder = folder c.args.files.now; known = known } in (
             opened.0,
-            subst (λ (lines : List Bytes). DoesUntil opening.result.cut c.args.journals world step before lines (folder opening.new.files)
+            subst (λ (lines : List Bytes). Does opening.result.cut c.args.journals world step before lines (folder opening.new.files)
                 (record before { used = used; failed = true })) (append-nil opened.0)
-                (does_until c.args.journals world step before (record before { used = used; failed = true }) used
+                (does_so c.args.journals world step before (record before { used = used; failed = true }) used
                 opening.result.cut cut.Whole opening.result.cut opening.result.place None name opened.0 [] (folder opening.new.files) (folder opening.new.files) named opened.1
                 c.in-None.is (opening.ensures.folder here) (refl, refl, refl) (sym (cut_alone opening.result.cut))),
             opened.2,
             opened.3,
           );
-      input = λ plain is.
-          step_nowhere opening.result.cut opening.result.place before used (record before { used = used; failed = true })
-          (opening.ensures.input plain (named ∙ is)) refl;
       safely = λ kept honest began.
           step_still g.F.Files g.met.F.Files.counts_now began (step_of c.args.target.now (request_in c.args.request.now)) before.used used used opening.result.place
           c.args.files.now opening.new.files

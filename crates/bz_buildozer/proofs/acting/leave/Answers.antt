@@ -3,7 +3,7 @@ use Rattle.bz_items.specs.Characters.{Bytes}
 use Rattle.bz_resume.specs.declared.pair_fault.PairFault.{PairFault}
 use Rattle.bz_streams.specs.Reported.{named_line}
 use Rattle.bz_buildozer.specs.Calls.{ReportsLine}
-use Rattle.bz_buildozer.specs.Packages.{Opened}
+use Rattle.bz_buildozer.specs.Found.{Opened}
 use Rattle.bz_buildozer.specs.Reported.{unkept_line}
 use Rattle.bz_buildozer.specs.private.ShownFiles.{opened_in}
 use Rattle.bz_buildozer.proofs.acting.leave.Goals as goal

@@ -1,32 +1,45 @@
-use Rattle.std.proofs.Common.{refl, true, ap, ◌∙◌}
-use Rattle.bz_items.specs.Characters.{Bytes}
+use Rattle.std.proofs.Common.{Err, [], false, refl, inl, sym}
 use Rattle.bz_value.specs.declared.refusal.Refusal.TheVariants.{Memory}
-use Rattle.bz_buildozer.specs.Sessions.{listing}
+use Rattle.bz_buildozer.specs.Reported.{refusal_line}
+use Rattle.bz_buildozer.specs.Run.{reported_of}
 use Rattle.bz_buildozer.specs.private.ShownFiles.{opened_in}
 use Rattle.bz_buildozer.specs.private.Shown.{progress_in}
-use Rattle.bz_buildozer.proofs.ActSteps.{fails_listed, was_listed}
+use Rattle.bz_buildozer.proofs.ActSteps.{put_again}
+use Rattle.bz_buildozer.proofs.DoSteps.{fails_at, listed, memory_answers}
+use Rattle.bz_buildozer.proofs.KeepSteps.{wants_memory}
 use Rattle.bz_buildozer.proofs.acting.list_at.Goals as goal
 
-pub returns-in-Ok-put_printed-clause-whole : goal.returns-in-Ok-put_printed-clause-whole
-returns-in-Ok-put_printed-clause-whole g c = λ whole.
-    let file = opened_in c.open_file.result.now in (
-      file,
-      c.open_file.ensures,
-      was_listed c.args.place file (progress_in c.args.run.now) _ c.in-Ok.text (listing file.history) _ c.open_file.ensures refl c.in-Ok-put_printed.ensures.ok c.in-Ok.ensures,
-      (refl, refl),
+pub returns-in-Ok-put_printed-clause-answers : goal.returns-in-Ok-put_printed-clause-answers
+returns-in-Ok-put_printed-clause-answers g c = λ journals folder step free none. (
+  [],
+  listed journals step c.args.place (opened_in c.open_file.result.now) folder (progress_in c.args.run.now) _ _ c.in-Ok.text c.open_file.ensures free none
+      c.in-Ok.ensures c.in-Ok-put_printed.ensures.ok refl,
+  (refl, refl),
+)
+
+pub returns-in_default-clause-answers : goal.returns-in_default-clause-answers
+returns-in_default-clause-answers g c = λ journals folder step free none.
+    let file = opened_in c.open_file.result.now in
+    let before = progress_in c.args.run.now in
+    let note = c.args.command.now in (
+      reported_of false file.name note (Err Memory),
+      memory_answers c.refuse.result journals step c.args.place folder folder before (progress_in c.refuse.new.run) (reported_of false file.name note (Err Memory))
+          (wants_memory c.refuse.result c.refuse.ensures.kinds (λ whole. c.refuse.ensures.whole whole refl))
+          (fails_at c.args.place file before (progress_in c.refuse.new.run) before.used before.printed (refusal_line false file.name note Memory)
+          (sym (put_again c.args.place before.used file c.open_file.ensures)) refl c.refuse.ensures.state) (inl refl),
+      c.refuse.ensures.reported file c.open_file.ensures,
     )
 
-pub returns-in_default-clause-memory : goal.returns-in_default-clause-memory
-returns-in_default-clause-memory g c = λ memory.
+pub returns-clause-answers : goal.returns-clause-answers
+returns-clause-answers g c = λ journals folder step free none.
     let file = opened_in c.open_file.result.now in
-    fails_listed c.args.place file (progress_in c.args.run.now) (progress_in c.refuse.new.run) (g.E.Sink.faults c.args.err.now) (g.E.Sink.faults c.refuse.new.err)
-    (g.E.Sink.contents c.args.err.now) (g.E.Sink.contents c.refuse.new.err) c.args.command.now Memory c.open_file.ensures c.refuse.ensures.state
-    (c.refuse.ensures.reported file c.open_file.ensures)
-
-pub returns-clause-memory : goal.returns-clause-memory
-returns-clause-memory g c = λ memory.
-    let file = opened_in c.open_file.result.now in
-    fails_listed c.args.place file (progress_in c.args.run.now) (progress_in c.refuse-in-Err.new.run) (g.E.Sink.faults c.args.err.now) (g.E.Sink.faults c.refuse-in-Err.new.err)
-    (g.E.Sink.contents c.args.err.now) (g.E.Sink.contents c.refuse-in-Err.new.err) c.args.command.now Memory c.open_file.ensures
-    (c.refuse-in-Err.ensures.state ∙ ap (λ (text : Bytes). record (progress_in c.args.run.now) { printed = text; failed = true }) c.in-Err.ensures.err)
-    (c.refuse-in-Err.ensures.reported file c.open_file.ensures)
+    let before = progress_in c.args.run.now in
+    let note = c.args.command.now in
+    let refuse = c.refuse-in-Err in (
+      reported_of false file.name note (Err Memory),
+      memory_answers refuse.result journals step c.args.place folder folder before (progress_in refuse.new.run) (reported_of false file.name note (Err Memory))
+          (wants_memory refuse.result refuse.ensures.kinds (λ whole. refuse.ensures.whole whole refl))
+          (fails_at c.args.place file before (progress_in refuse.new.run) before.used _ (refusal_line false file.name note Memory)
+          (sym (put_again c.args.place before.used file c.open_file.ensures)) c.in-Err.ensures.err refuse.ensures.state) (inl refl),
+      refuse.ensures.reported file c.open_file.ensures,
+    )

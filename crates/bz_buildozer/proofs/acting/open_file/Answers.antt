@@ -1,5 +1,5 @@
 use Rattle.std.proofs.Common.{◌∙◌, sym}
-use Rattle.bz_buildozer.specs.Packages.{file_at}
+use Rattle.bz_buildozer.specs.Found.{file_at}
 use Rattle.bz_buildozer.specs.private.ShownFiles.{used_in}
 use Rattle.bz_buildozer.proofs.ActSteps.{some_of, shown_at, none_at, is_there}
 use Rattle.bz_buildozer.proofs.acting.open_file.Goals as goal

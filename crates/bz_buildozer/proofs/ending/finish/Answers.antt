@@ -1,23 +1,23 @@
-use Rattle.std.proofs.Common.{◌≡◌, ◌⊎◌, ◌∙◌, ◌++◌, [], List, Bool, true, ap, subst, sym}
+use Rattle.std.proofs.Common.{◌≡◌, ◌⊎◌, ◌∙◌, ◌++◌, List, true, ap, subst, sym}
+use Rattle.std.specs.List.{All}
 use Rattle.bz_streams.specs.Exits.{first_cut}
-use Rattle.bz_streams.specs.declared.exit.Cut.{Cut}
 use Rattle.bz_streams.specs.declared.exit.Cut.TheVariants as cut
 use Rattle.bz_streams.proofs.Outputs.{reports_more}
 use Rattle.bz_buildozer.specs.Calls.{PrintsUntil}
-use Rattle.bz_buildozer.specs.Ending.{all_writings, texts_out}
-use Rattle.bz_buildozer.specs.Failing.{TriesFiles}
-use Rattle.bz_buildozer.specs.Packages.{Used}
+use Rattle.bz_buildozer.specs.Ending.{TriesFiles, texts_out}
+use Rattle.bz_buildozer.specs.Found.{Used}
+use Rattle.bz_buildozer.specs.Steps.{input_package}
 use Rattle.bz_buildozer.specs.Reported.{output_lines}
 use Rattle.bz_buildozer.proofs.FailSteps.{cut_alone}
-use Rattle.bz_buildozer.proofs.TrySteps.{prints_err, reports_from}
-use Rattle.bz_buildozer.proofs.CutSteps.{never_whole, whole_after}
+use Rattle.bz_buildozer.proofs.EndingSteps.{not_whole, prints_err, reports_from}
+use Rattle.bz_buildozer.proofs.CutSteps.{whole_after}
 use Rattle.bz_buildozer.proofs.ending.finish.Goals as goal
 
 pub returns-clause-whole : goal.returns-clause-whole
 returns-clause-whole g c whole =
     let outer = sym c.first_cut-in-Err-2.ensures ∙ sym c.ended-in-Err.ensures.cut ∙ whole in
     let inner = sym c.first_cut-in-Err.ensures ∙ whole_after c.args.cut c.first_cut-in-Err.result outer in
-    absurd (never_whole c.in-Err.later _ _ _ c.in-Err.ensures.err (whole_after c.write_files-written.result c.in-Err.later inner))
+    absurd (not_whole c.in-Err.later _ _ _ c.in-Err.ensures.err (whole_after c.write_files-written.result c.in-Err.later inner))
 
 pub returns-in-Ok-clause-ends : goal.returns-in-Ok-clause-ends
 returns-in-Ok-clause-ends g c = λ premise.
@@ -26,7 +26,7 @@ returns-in-Ok-clause-ends g c = λ premise.
     let printed = c.args.run.printed.items in
     let done = c.in-Ok.ensures.ok in
     let tried = c.write_files-written.ensures.tries
-    (λ plain. subst (λ (used : List Used). (g.F.Files.honest c.args.files.now ≡ true) ⊎ (all_writings options.to_stdout used ≡ [])) (sym same) (premise plain)) in (
+    (subst (λ (used : List Used). (g.F.Files.honest c.args.files.now ≡ true) ⊎ All (λ (one : Used). one.«package» ≡ input_package) used) (sym same) premise) in (
       cut.Whole,
       c.write_files-written.result,
       tried.0,
@@ -46,7 +46,7 @@ returns-clause-ends g c = λ premise.
     let options = c.args.options in
     let printed = c.args.run.printed.items in
     let tried = c.write_files-written.ensures.tries
-    (λ plain. subst (λ (used : List Used). (g.F.Files.honest c.args.files.now ≡ true) ⊎ (all_writings options.to_stdout used ≡ [])) (sym same) (premise plain)) in (
+    (subst (λ (used : List Used). (g.F.Files.honest c.args.files.now ≡ true) ⊎ All (λ (one : Used). one.«package» ≡ input_package) used) (sym same) premise) in (
       c.in-Err.later,
       c.write_files-written.result,
       tried.0,

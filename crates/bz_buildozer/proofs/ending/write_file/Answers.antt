@@ -1,30 +1,29 @@
-use Rattle.std.proofs.Common.{◌∙◌, ◌++◌, codes, List, ℕ, ap, refl, sym, subst}
+use Rattle.std.proofs.Common.{◌∙◌, ◌++◌, codes, List, ℕ, Option, Some, ap, refl, sym, subst}
 use Rattle.bz_buildozer.specs.Sessions.{present}
 use Rattle.std.specs.Option.{option_map}
 use Rattle.bz_buildozer.specs.private.ShownFiles.{opened_in, used_in}
-use Rattle.bz_buildozer.specs.Ending.{WritesFiles}
+use Rattle.bz_buildozer.specs.Ending.{Writing, WritesFile}
 use Rattle.bz_streams.specs.Faults.{AppendsUnlessFailed}
 use Rattle.bz_streams.specs.Reported.{named_line}
-use Rattle.bz_buildozer.proofs.EndingSteps.{one, writing_is, written_alone}
-use Rattle.bz_buildozer.proofs.TrySteps.{unwritten_as}
+use Rattle.bz_buildozer.proofs.EndingSteps.{trusted, unwritten_as, writing_is}
 use Rattle.bz_buildozer.proofs.ending.write_file.Goals as goal
 
 pub returns-clause-writes : goal.returns-clause-writes
 returns-clause-writes g c plain either whole =
-    let F = g.F.Files in
-    let before = F.folder c.args.files.now in
-    let after = F.folder c.rewrite.new.files in
+    let before = g.F.Files.folder c.args.files.now in
+    let after = g.F.Files.folder c.rewrite.new.files in
     let file = opened_in c.in-Some.file in
     let used = used_in c.args.used.now in
     let text = c.put_file.new.output.items in
-    written_alone before after file.name file.read text _ (F.honest c.args.files.now)
-    (writing_is c.args.options.to_stdout used file text c.if-options-2.false (sym c.is_input.ensures ∙ c.if-is_input.false)
-    (ap (option_map opened_in) c.in-Some.is) (sym c.in-Ok.ensures.0 ∙ c.if-not-changed.false) (c.in-Ok.ensures.1 ∙ ap (λ (held : List ℕ). held ++ present file.history) c.new-text.ensures.items))
-    (λ honest. subst (λ (name : List ℕ). WritesFiles (one name file.read text) before after) c.as_str-name.ensures.value
-    (subst (λ (read : List ℕ). WritesFiles (one c.as_str-name.result.now read text) before after) c.as_slice.ensures
-    (subst (λ (bytes : List ℕ). WritesFiles (one c.as_str-name.result.now c.as_slice.result.now bytes) before after) c.deref.ensures.value
-    (c.in-Ok-rewrite.ensures.held honest, _, c.in-Ok-rewrite.ensures.replaced honest, refl))))
-    either
+    let of_file = sym c.is_input.ensures ∙ c.if-is_input.false in
+    let honest = trusted (g.F.Files.honest c.args.files.now) used of_file either in
+    let writes = λ (name : List ℕ) (read : List ℕ) (bytes : List ℕ). WritesFile (Some (record { name = name; held = read; bytes = bytes })) before after in
+    subst (λ (wanted : Option Writing). WritesFile wanted before after)
+    (sym (writing_is c.args.options.to_stdout used file text c.if-options-2.false of_file (ap (option_map opened_in) c.in-Some.is) (sym c.in-Ok.ensures.0 ∙ c.if-not-changed.false)
+    (c.in-Ok.ensures.1 ∙ ap (λ (held : List ℕ). held ++ present file.history) c.new-text.ensures.items)))
+    (subst (λ (name : List ℕ). writes name file.read text) c.as_str-name.ensures.value
+    (subst (λ (read : List ℕ). writes c.as_str-name.result.now read text) c.as_slice.ensures
+    (subst (writes c.as_str-name.result.now c.as_slice.result.now) c.deref.ensures.value (c.in-Ok-rewrite.ensures.held honest, c.in-Ok-rewrite.ensures.replaced honest))))
 
 pub returns-in_default-put_file-clause-memory : goal.returns-in_default-put_file-clause-memory
 returns-in_default-put_file-clause-memory g c = λ is. (
@@ -47,6 +46,7 @@ returns-in_default-rewrite-clause-unwritten g c = λ is.
     let used = used_in c.args.used.now in
     let text = c.put_file.new.output.items in (
       c.if-options.false,
+      sym c.is_input.ensures ∙ c.if-is_input.false,
       (
         record { name = file.name; held = file.read; bytes = text },
         writing_is c.args.options.to_stdout used file text c.if-options-2.false (sym c.is_input.ensures ∙ c.if-is_input.false)

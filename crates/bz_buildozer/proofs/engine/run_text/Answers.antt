@@ -1,100 +1,106 @@
-use Rattle.std.proofs.Common.{List, refl, map, ap, sym, subst, ◌∙◌, inl, inr}
+use Rattle.std.proofs.Common.{List, ℕ, refl, map, ap, sym, subst, ◌∙◌, inl, inr}
 use Rattle.std.specs.List.{All}
 use Rattle.bz_command_line.specs.Paths.{HasPath}
+use Rattle.bz_command_line.specs.Requested.{Usage}
 use Rattle.bz_command_line.specs.Shown.{requested_in, script_usage_in}
 use Rattle.bz_command_line.specs.declared.requested.Requested.{Requested}
+use Rattle.bz_streams.specs.Reported.{fault_line}
+use Rattle.bz_streams.specs.declared.exit.Cut.TheVariants as cut
+use Rattle.bz_buildozer.specs.Calls.{ReportsLine}
+use Rattle.bz_buildozer.specs.Outcome.{OrOutOfMemory, TextOutcome, unused}
+use Rattle.bz_buildozer.specs.Reported.{input_line, no_journal_line, usage_line}
 use Rattle.bz_buildozer.specs.Run.{World}
-use Rattle.bz_buildozer.proofs.EndedSteps.{ends_more, not_cut, text_until}
 use Rattle.bz_buildozer.proofs.MomentSteps.{IsMomentOfText, by_text}
+use Rattle.bz_buildozer.proofs.Outcomes.{ends_more, ends_told, ends_unused, no_journal, reported_once, text_lines, text_unused, told_found}
+use Rattle.bz_buildozer.proofs.StandSteps.{not_input}
 use Rattle.bz_buildozer.proofs.UnusedSteps.{no_time}
-use Rattle.bz_buildozer.proofs.Outcomes.{leaves_more, unwritten, reported_once, usage_reported, text_invalid, text_refused, text_refuses, text_done}
-use Rattle.bz_buildozer.proofs.UsageSteps.{text_reported, script_reported, script_lines_reported}
-use Rattle.bz_buildozer.specs.Reported.{input_line, no_journal_line}
 use Rattle.bz_buildozer.proofs.engine.run_text.Goals as goal
 
-pub returns-in-Err-clause-leaves : goal.returns-in-Err-clause-leaves
-returns-in-Err-clause-leaves g c honest known before = record {
-  whole = λ is_whole.
-      let world : World = record { folder = g.F.Files.folder c.args.files.now; known = known } in
-      text_invalid c.args.options c.args.name.now c.args.bytes.now c.reported_name.result.now world c.in-Err.fault
-      (g.W.Sink.contents c.args.out.now) (g.E.Sink.faults c.args.err.now) (g.E.Sink.faults c.report_fault.new.err) (g.E.Sink.contents c.args.err.now)
-      (g.E.Sink.contents c.report_fault.new.err) c.in-Err.ensures.err c.reported_name.ensures c.report_fault.ensures;
-  write = λ is. absurd (cc is);
-}
+pub returns-in-Err-clause-usage : goal.returns-in-Err-clause-usage
+returns-in-Err-clause-usage g c is = (
+  fault_line c.reported_name.result.now c.in-Err.fault,
+  (λ world. inl (c.in-Err.fault, c.in-Err.ensures.err, ap (λ (name : List ℕ). unused world.folder (fault_line name c.in-Err.fault)) c.reported_name.ensures)),
+  reported_once (g.E.Sink.faults c.args.err.now) (g.E.Sink.faults c.report_fault.new.err) (g.E.Sink.contents c.args.err.now) (g.E.Sink.contents c.report_fault.new.err)
+      (fault_line c.reported_name.result.now c.in-Err.fault) c.report_fault.ensures,
+)
+
+pub returns-then-edits_input-clause-usage : goal.returns-then-edits_input-clause-usage
+returns-then-edits_input-clause-usage g c is = (
+  input_line,
+  (λ world. text_lines c.args.options c.args.name.now c.args.bytes.now c.in-Ok.text.now world (map requested_in c.in-Ok-read_script.lines.items)
+      (map requested_in c.as_slice-lines.result.now) (unused world.folder input_line) c.in-Ok.ensures.ok.0 c.in-Ok.ensures.ok.1 c.in-Ok-read_script.ensures.ok
+      (ap (map requested_in) c.as_slice-lines.ensures.value) (inl (sym c.edits_input.ensures ∙ c.if-edits_input.true, refl))),
+  reported_once (g.E.Sink.faults c.args.err.now) (g.E.Sink.faults c.report_pieces.new.err) (g.E.Sink.contents c.args.err.now) (g.E.Sink.contents c.report_pieces.new.err) input_line
+      c.report_pieces.ensures,
+)
+
+pub returns-in-Err-read_script-clause-usage : goal.returns-in-Err-read_script-clause-usage
+returns-in-Err-read_script-clause-usage g c is =
+    let found = script_usage_in c.in-Err-read_script.fault in
+    let file = c.reported_name-in-Err-read_script.result.now in
+    let e = c.report_script in
+    let end = c.unused in
+    let it = told_found e.result end.result found e.new.err end.new.err (λ (usage : Usage). λ now. ReportsLine g.E.Sink c.args.err.now now (usage_line file usage)) _ is
+    e.ensures.some e.ensures.reported end.ensures.ok end.ensures.err in (
+      usage_line file it.0,
+      (λ world. text_unused c.args.options c.args.name.now c.args.bytes.now c.in-Ok.text.now file (usage_line file it.0) world found it.0 c.in-Ok.ensures.ok.0 c.in-Ok.ensures.ok.1
+          c.in-Err-read_script.ensures.err it.1 c.reported_name-in-Err-read_script.ensures refl),
+      reported_once (g.E.Sink.faults c.args.err.now) (g.E.Sink.faults end.new.err) (g.E.Sink.contents c.args.err.now) (g.E.Sink.contents end.new.err) (usage_line file it.0) it.2,
+    )
+
+pub returns-in-Err-clause-ends : goal.returns-in-Err-clause-ends
+returns-in-Err-clause-ends g c honest known before =
+    let world : World = record { folder = g.F.Files.folder c.args.files.now; known = known } in
+    let told = returns-in-Err-clause-usage g c refl in
+    ends_unused g.W.Sink g.E.Sink g.F.Files (record { status = 1; cut = cut.Whole }) world c.args.out.now c.args.err.now c.report_fault.new.err c.args.files.now refl
+    (OrOutOfMemory world (TextOutcome c.args.options c.args.name.now c.args.bytes.now world)) told.0 (inr (told.1 world)) refl told.2
 
 pub perform-requires : goal.perform-requires
 perform-requires g c =
     subst (λ (lines : List Requested). All (λ (requested : Requested). All HasPath requested.targets.items) lines) (sym c.as_slice-lines.ensures.value) c.in-Ok-read_script.ensures.paths
 
-pub returns-then-edits_input-clause-leaves : goal.returns-then-edits_input-clause-leaves
-returns-then-edits_input-clause-leaves g c honest known before = record {
-  whole = λ is_whole.
-      let world : World = record { folder = g.F.Files.folder c.args.files.now; known = known } in
-      text_refuses c.args.options c.args.name.now c.args.bytes.now c.in-Ok.text.now world (map requested_in c.in-Ok-read_script.lines.items)
-      (map requested_in c.as_slice-lines.result.now) 1 (g.W.Sink.contents c.args.out.now) (g.E.Sink.faults c.args.err.now) (g.E.Sink.faults c.report.new.err)
-      (g.E.Sink.contents c.args.err.now) (g.E.Sink.contents c.report.new.err) c.in-Ok.ensures.ok.0 c.in-Ok.ensures.ok.1 c.in-Ok-read_script.ensures.ok
-      (ap (map requested_in) c.as_slice-lines.ensures.value) (sym c.edits_input.ensures ∙ c.if-edits_input.true) refl c.report.ensures;
-  write = λ is. absurd (cc is);
-}
+pub returns-then-edits_input-clause-ends : goal.returns-then-edits_input-clause-ends
+returns-then-edits_input-clause-ends g c honest known before =
+    let world : World = record { folder = g.F.Files.folder c.args.files.now; known = known } in
+    let told = returns-then-edits_input-clause-usage g c refl in
+    ends_unused g.W.Sink g.E.Sink g.F.Files (record { status = 1; cut = cut.Whole }) world c.args.out.now c.args.err.now c.report_pieces.new.err c.args.files.now refl
+    (OrOutOfMemory world (TextOutcome c.args.options c.args.name.now c.args.bytes.now world)) told.0 (inr (told.1 world)) refl told.2
 
-pub returns-clause-leaves : goal.returns-clause-leaves
-returns-clause-leaves g c honest known before =
-    leaves_more g.W.Sink g.E.Sink g.F.Files _ _ c.perform.result c.args.out.now c.perform.new.out c.args.err.now c.perform.new.err c.perform.new.files
-    (λ left. text_done c.args.options c.args.name.now c.args.bytes.now c.in-Ok.text.now (g.F.Files.folder c.args.files.now) known (g.R.Source.remaining c.args.input.now)
-    (map requested_in c.in-Ok-read_script.lines.items) (map requested_in c.as_slice-lines.result.now) left c.in-Ok.ensures.ok.0 c.in-Ok.ensures.ok.1
-    c.in-Ok-read_script.ensures.ok (ap (map requested_in) c.as_slice-lines.ensures.value) (sym c.edits_input.ensures ∙ c.if-edits_input.false) before)
-    (c.perform.ensures.leaves (inl honest))
+pub returns-clause-ends : goal.returns-clause-ends
+returns-clause-ends g c honest known before =
+    let options = c.args.options in
+    let name = c.args.name.now in
+    let left_over = g.R.Source.remaining c.args.input.now in
+    let world : World = record { folder = g.F.Files.folder c.args.files.now; known = known } in
+    ends_more g.W.Sink g.E.Sink g.F.Files c.perform.result _ _ c.args.out.now c.perform.new.out c.args.err.now c.perform.new.err c.perform.new.files
+    (λ ended is. inr (text_lines options name c.args.bytes.now c.in-Ok.text.now world (map requested_in c.in-Ok-read_script.lines.items)
+    (map requested_in c.as_slice-lines.result.now) ended c.in-Ok.ensures.ok.0 c.in-Ok.ensures.ok.1 c.in-Ok-read_script.ensures.ok
+    (ap (map requested_in) c.as_slice-lines.ensures.value)
+    (inr (sym c.edits_input.ensures ∙ c.if-edits_input.false, (left_over, (λ other. sym (before (not_input name other))), is)))))
+    (c.perform.ensures.ends (inl honest))
 
-pub returns-in-Err-read_script-clause-leaves : goal.returns-in-Err-read_script-clause-leaves
-returns-in-Err-read_script-clause-leaves g c honest known before = record {
-  whole = λ is_whole.
-      let exit = c.report_script.ensures.whole is_whole in
-      let reported = usage_reported (script_usage_in c.in-Err-read_script.fault) c.reported_name-in-Err-read_script.result.now (g.E.Sink.faults c.args.err.now) (g.E.Sink.faults c.report_script.new.err)
-      (g.E.Sink.contents c.args.err.now) (g.E.Sink.contents c.report_script.new.err) (c.report_script.ensures.some exit) (c.report_script.ensures.reported exit) in
-      let world : World = record { folder = g.F.Files.folder c.args.files.now; known = known } in
-      text_refused c.args.options c.args.name.now c.args.bytes.now c.in-Ok.text.now c.reported_name-in-Err-read_script.result.now world
-      (script_usage_in c.in-Err-read_script.fault) reported.0 reported.1 c.report_script.result.status (g.W.Sink.contents c.args.out.now) (g.E.Sink.faults c.args.err.now)
-      (g.E.Sink.faults c.report_script.new.err) (g.E.Sink.contents c.args.err.now) (g.E.Sink.contents c.report_script.new.err)
-      c.in-Ok.ensures.ok.0 c.in-Ok.ensures.ok.1 c.in-Err-read_script.ensures.err reported.2 c.reported_name-in-Err-read_script.ensures reported.3 exit reported.4;
-  write = λ is. absurd (unwritten c.report_script.result c.report_script.ensures.cut is);
-}
-
-pub returns-in-Err-clause-usage : goal.returns-in-Err-clause-usage
-returns-in-Err-clause-usage g c is =
-    text_reported c.args.options c.args.name.now c.args.bytes.now c.reported_name.result.now c.in-Err.fault
-    (g.E.Sink.faults c.args.err.now) (g.E.Sink.faults c.report_fault.new.err) (g.E.Sink.contents c.args.err.now) (g.E.Sink.contents c.report_fault.new.err)
-    c.in-Err.ensures.err c.reported_name.ensures c.report_fault.ensures
-
-pub returns-then-edits_input-clause-usage : goal.returns-then-edits_input-clause-usage
-returns-then-edits_input-clause-usage g c is =
-    script_lines_reported c.args.options c.args.name.now c.args.bytes.now c.in-Ok.text.now (map requested_in c.in-Ok-read_script.lines.items)
-    (map requested_in c.as_slice-lines.result.now) (g.E.Sink.faults c.args.err.now) (g.E.Sink.faults c.report.new.err) (g.E.Sink.contents c.args.err.now)
-    (g.E.Sink.contents c.report.new.err) c.in-Ok.ensures.ok.0 c.in-Ok.ensures.ok.1 c.in-Ok-read_script.ensures.ok
-    (ap (map requested_in) c.as_slice-lines.ensures.value) (
-      input_line,
-      inl (sym c.edits_input.ensures ∙ c.if-edits_input.true, refl),
-      reported_once (g.E.Sink.faults c.args.err.now) (g.E.Sink.faults c.report.new.err) (g.E.Sink.contents c.args.err.now) (g.E.Sink.contents c.report.new.err)
-          input_line c.report.ensures,
-    )
+pub returns-in-Err-read_script-clause-ends : goal.returns-in-Err-read_script-clause-ends
+returns-in-Err-read_script-clause-ends g c honest known before =
+    let world : World = record { folder = g.F.Files.folder c.args.files.now; known = known } in
+    let e = c.report_script in
+    let end = c.unused in
+    ends_told g.W.Sink g.E.Sink g.F.Files end.result world c.args.out.now c.args.err.now end.new.err c.args.files.now refl
+    (TextOutcome c.args.options c.args.name.now c.args.bytes.now world) e.result e.new.err
+    (λ is. let told = returns-in-Err-read_script-clause-usage g c is in (told.0, told.1 world, told.2)) e.ensures.refused end.ensures.ok end.ensures.err
 
 pub returns-clause-usage : goal.returns-clause-usage
 returns-clause-usage g c is =
-    let reported = c.perform.ensures.usage is in
-    script_lines_reported c.args.options c.args.name.now c.args.bytes.now c.in-Ok.text.now (map requested_in c.in-Ok-read_script.lines.items)
-    (map requested_in c.as_slice-lines.result.now) (g.E.Sink.faults c.args.err.now) (g.E.Sink.faults c.perform.new.err) (g.E.Sink.contents c.args.err.now)
-    (g.E.Sink.contents c.perform.new.err) c.in-Ok.ensures.ok.0 c.in-Ok.ensures.ok.1 c.in-Ok-read_script.ensures.ok
-    (ap (map requested_in) c.as_slice-lines.ensures.value) (no_journal_line, inr (reported.0, reported.1, refl), reported.2)
+    let told = c.perform.ensures.usage is in
+    let lines = map requested_in c.as_slice-lines.result.now in (
+      no_journal_line,
+      (λ world. text_lines c.args.options c.args.name.now c.args.bytes.now c.in-Ok.text.now world (map requested_in c.in-Ok-read_script.lines.items) lines
+          (unused world.folder no_journal_line) c.in-Ok.ensures.ok.0 c.in-Ok.ensures.ok.1 c.in-Ok-read_script.ensures.ok (ap (map requested_in) c.as_slice-lines.ensures.value)
+          (inr (sym c.edits_input.ensures ∙ c.if-edits_input.false, (world.known, (λ _. refl), no_journal c.args.options lines world told.0 told.1)))),
+      told.2,
+    )
 
 pub returns-clause-unread_kept : goal.returns-clause-unread_kept
 returns-clause-unread_kept g c kept = let still = c.perform.ensures.reads_nothing kept in (still.0, still.1)
-
-pub returns-in-Err-read_script-clause-usage : goal.returns-in-Err-read_script-clause-usage
-returns-in-Err-read_script-clause-usage g c is =
-    let reported = usage_reported (script_usage_in c.in-Err-read_script.fault) c.reported_name-in-Err-read_script.result.now (g.E.Sink.faults c.args.err.now) (g.E.Sink.faults c.report_script.new.err)
-    (g.E.Sink.contents c.args.err.now) (g.E.Sink.contents c.report_script.new.err) (c.report_script.ensures.some is) (c.report_script.ensures.reported is) in
-    script_reported c.args.options c.args.name.now c.args.bytes.now c.in-Ok.text.now c.reported_name-in-Err-read_script.result.now (script_usage_in c.in-Err-read_script.fault)
-    reported.0 reported.1 (g.E.Sink.faults c.args.err.now) (g.E.Sink.faults c.report_script.new.err) (g.E.Sink.contents c.args.err.now) (g.E.Sink.contents c.report_script.new.err)
-    c.in-Ok.ensures.ok.0 c.in-Ok.ensures.ok.1 c.in-Err-read_script.ensures.err reported.2 c.reported_name-in-Err-read_script.ensures reported.3 reported.4
 
 pub returns-in-Err-clause-moments : goal.returns-in-Err-clause-moments
 returns-in-Err-clause-moments g c kept honest = no_time g.F.Files.moment g.F.Files.since c.args.files.now c.args.files.now
@@ -113,20 +119,3 @@ returns-clause-moments g c kept honest =
 pub returns-in-Err-read_script-clause-moments : goal.returns-in-Err-read_script-clause-moments
 returns-in-Err-read_script-clause-moments g c kept honest = no_time g.F.Files.moment g.F.Files.since c.args.files.now c.args.files.now
     (IsMomentOfText (g.F.Files.folder c.args.files.now) c.args.bytes.now) refl
-
-pub returns-in-Err-clause-ends : goal.returns-in-Err-clause-ends
-returns-in-Err-clause-ends g c honest is_cut = absurd (is_cut.0 refl)
-
-pub returns-then-edits_input-clause-ends : goal.returns-then-edits_input-clause-ends
-returns-then-edits_input-clause-ends g c honest is_cut = absurd (is_cut.0 refl)
-
-pub returns-in-Err-read_script-clause-ends : goal.returns-in-Err-read_script-clause-ends
-returns-in-Err-read_script-clause-ends g c honest is_cut = not_cut c.report_script.result c.report_script.ensures.cut is_cut
-
-pub returns-clause-ends : goal.returns-clause-ends
-returns-clause-ends g c honest is_cut =
-    let world : World = record { folder = g.F.Files.folder c.args.files.now; known = g.R.Source.remaining c.args.input.now } in
-    ends_more g.W.Sink g.E.Sink g.F.Files _ _ c.perform.result c.args.out.now c.perform.new.out c.args.err.now c.perform.new.err c.perform.new.files
-    (λ ended. text_until c.args.options c.args.bytes.now c.in-Ok.text.now world (map requested_in c.in-Ok-read_script.lines.items)
-    (map requested_in c.as_slice-lines.result.now) ended c.in-Ok.ensures.ok.0 c.in-Ok.ensures.ok.1 c.in-Ok-read_script.ensures.ok (ap (map requested_in) c.as_slice-lines.ensures.value))
-    (c.perform.ensures.ends (inl honest) is_cut)

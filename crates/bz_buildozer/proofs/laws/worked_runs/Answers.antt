@@ -7,12 +7,11 @@ use Rattle.bz_buildozer.proofs.laws.worked_runs.Goals as goal
 pub returns-clause-parts : goal.returns-clause-parts
 unfolding digits
 returns-clause-parts c = (
-  (refl, refl, refl, refl, refl, refl, refl, refl, refl),
-  (refl, refl, refl, refl),
-  (refl, refl, refl, refl, refl, refl, refl, refl, refl, refl, refl, refl, refl, refl, refl),
-  (refl, refl, refl, refl, refl, refl, refl, refl, refl, refl, refl),
+  (refl, refl, refl),
   (refl, refl, refl, refl, refl, refl),
-  (refl, refl, refl, refl, found_first, found_second, found_none, (λ folder. inl (refl, (text_read, refl, refl))), refl, refl),
+  (refl, refl, refl, refl, refl, refl, refl, refl),
+  (refl, refl, refl, refl, refl, refl),
+  (refl, refl, refl, refl, found_first, found_second, found_none, (λ folder. inl (refl, refl, (text_read, refl, refl))), refl, refl),
 )
 
 pub returns-clause-usage : goal.returns-clause-usage

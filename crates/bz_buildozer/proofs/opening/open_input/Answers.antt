@@ -7,13 +7,16 @@ use Rattle.bz_buildozer.specs.Steps.{input_package}
 use Rattle.bz_buildozer.proofs.OpenSteps.{input_takes, opened_last, place_last}
 use Rattle.bz_buildozer.proofs.opening.open_input.Goals as goal
 
-pub returns-in-Ok-read_most-clause-whole : goal.returns-in-Ok-read_most-clause-whole
-returns-in-Ok-read_most-clause-whole g c = λ whole.
-    let done = c.open_text.ensures.whole whole in
+pub returns-in-Ok-read_most-clause-uses : goal.returns-in-Ok-read_most-clause-uses
+returns-in-Ok-read_most-clause-uses g c = λ world left.
     let old = c.args.workspace.now in
     let place = c.in-Ok.ensures.place in
-    let some = input_takes (g.R.Source.remaining c.args.input.now) input_package stdin c.in-Ok-read_most.text.items done.0 done.1
-    c.in-Ok-read_most.ensures.ok done.2 in (
+    input_opened g.E.Sink world c.open_text.result (g.R.Source.remaining c.args.input.now) (g.R.Source.remaining c.read_most.new.source) old c.add.new.self
+    c.open_text.new.self c.args.err.now c.open_text.new.err c.requires
+    (c.in-Ok.ensures.ok ∙ ap (λ (text : Bytes). old ++ record { «package» = text; file = None } ∷ []) c.as_bytes.ensures.value)
+    (λ whole.
+    let done = c.open_text.ensures.whole whole in
+    let some = input_takes (g.R.Source.remaining c.args.input.now) input_package stdin c.in-Ok-read_most.text.items done.0 done.1 c.in-Ok-read_most.ensures.ok done.2 in (
       some.0,
       some.1,
       (
@@ -25,15 +28,7 @@ returns-in-Ok-read_most-clause-whole g c = λ whole.
         place_last c.in-Ok.place old done.0 c.open_text.result.place place done.4,
         done.5,
       ),
-    )
-
-pub returns-in-Ok-read_most-clause-uses : goal.returns-in-Ok-read_most-clause-uses
-returns-in-Ok-read_most-clause-uses g c = λ world left.
-    let old = c.args.workspace.now in
-    input_opened g.E.Sink world c.open_text.result (g.R.Source.remaining c.args.input.now) (g.R.Source.remaining c.read_most.new.source) old c.add.new.self
-    c.open_text.new.self c.args.err.now c.open_text.new.err c.requires
-    (c.in-Ok.ensures.ok ∙ ap (λ (text : Bytes). old ++ record { «package» = text; file = None } ∷ []) c.as_bytes.ensures.value)
-    (returns-in-Ok-read_most-clause-whole g c) c.open_text.ensures.cut c.open_text.ensures.told left
+    )) c.open_text.ensures.cut c.open_text.ensures.told left
 
 pub returns-in-Err-Read-clause-uses : goal.returns-in-Err-Read-clause-uses
 returns-in-Err-Read-clause-uses g c = λ world left.

@@ -38,7 +38,6 @@ loop-target-preserved g c =
       read_faults = e.ensures.read_faults;
       counts = e.ensures.counts;
       honest = e.ensures.honest;
-      input = e.ensures.input;
       safely = λ kept honest. subst (λ (all : List Request). PassesSafely (on_target all target) mid new) c.as_slice-commands.ensures.value (e.ensures.safely kept honest);
       unread = e.ensures.unread;
       works = e.ensures.works;

@@ -50,7 +50,6 @@ loop-request-preserved g c =
             does.2,
             does.3,
           );
-      input = e.ensures.input;
       safely = e.ensures.safely;
       unread = e.ensures.unread;
       works = e.ensures.works;

@@ -3,8 +3,8 @@ use Rattle.std.specs.Prelude.{is_some}
 use Rattle.std.specs.Option.{option_map}
 use Rattle.bz_buildozer.specs.Keeps.{after_keeping}
 use Rattle.bz_buildozer.specs.private.ShownFiles.{texts_of_keys, opened_in, used_in}
-use Rattle.bz_buildozer.specs.Packages as p
-use Rattle.bz_buildozer.specs.Packages.{file_at, with_opened}
+use Rattle.bz_buildozer.specs.Found as p
+use Rattle.bz_buildozer.specs.Found.{file_at, with_opened}
 use Rattle.bz_buildozer.proofs.FileSteps.{file_in, is_open, kept_by, put_in, within_items}
 use Rattle.bz_buildozer.proofs.workspace.Workspace.keep.Goals as goal
 

@@ -4,8 +4,8 @@ use Rattle.bz_items.specs.Characters.{Bytes}
 use Rattle.bz_journal.specs.Shown.{session_history}
 use Rattle.bz_journal.specs.State.{SessionState}
 use Rattle.bz_buildozer.specs.Journals.{JournalGives, of_package, of_resuming}
-use Rattle.bz_buildozer.specs.Packages as p
-use Rattle.bz_buildozer.specs.Packages.{opened_with, with_opened}
+use Rattle.bz_buildozer.specs.Found as p
+use Rattle.bz_buildozer.specs.Found.{opened_with, with_opened}
 use Rattle.bz_buildozer.specs.declared.reading.Opening.{Opening}
 use Rattle.bz_buildozer.proofs.JournalSteps.{fault_gives, other_gives, resumed_gives, same_opened}
 use Rattle.bz_buildozer.proofs.OpenedSteps.{refused_fills}
@@ -30,12 +30,12 @@ returns-then-ne-clause-whole g c = λ _.
     let named = c.package-then-ne.result.now in
     let other : session.«package» ≢ current = λ same.
     true≢false (sym c.if-ne.true ∙ c.ne.ensures ∙ ap not ((bytes_eq-Decides c.«package».result.now current).1 (c.«package».ensures ∙ same))) in
-    refused_fills g.E.Sink current c.args.name.now c.args.journal.now bytes c.args.text.items (of_package named) c.args.place c.fail_with_hint.result.place c.args.self.now
-    c.args.err.now c.fail_with_hint.new.err c.requires.named c.requires.closed (ap (λ (o : Opening). o.place) c.fail_with_hint.ensures.opening)
+    refused_fills g.E.Sink current c.args.name.now c.args.journal.now bytes c.args.text.items (of_package named) c.args.place c.misplaced.result.place c.args.self.now
+    c.args.err.now c.misplaced.new.err c.requires.named c.requires.closed (ap (λ (o : Opening). o.place) c.misplaced.ensures.opening)
     (subst (λ (text : Bytes). JournalGives current bytes text (Err (of_package named))) c.as_slice.ensures.value
     (subst (λ (called : Bytes). JournalGives current bytes c.as_slice.result.now (Err (of_package called))) (sym c.package-then-ne.ensures)
     (other_gives current bytes c.as_slice.result.now session c.in-Ok.ensures.ok other)))
-    c.fail_with_hint.ensures.reported
+    c.misplaced.ensures.reported
 
 not_false : (b : Bool) → not b ≡ false → b ≡ true
 not_false true e = refl

@@ -2,7 +2,7 @@ use Rattle.std.proofs.Common.{◌∙◌, ap, refl, None, [], ◌∷◌, ◌++◌
 use Rattle.bz_streams.specs.Excerpts.{fault_excerpt}
 use Rattle.bz_streams.specs.Reported.{fault_line}
 use Rattle.bz_buildozer.specs.private.ShownFiles.{texts_of_keys, used_in}
-use Rattle.bz_buildozer.specs.Packages.{with_opened}
+use Rattle.bz_buildozer.specs.Found.{with_opened}
 use Rattle.bz_buildozer.specs.declared.reading.Opening.{Opening}
 use Rattle.bz_buildozer.proofs.FaultSteps.{refused_takes}
 use Rattle.bz_buildozer.proofs.FileSteps.{kept_by}

@@ -1,6 +1,6 @@
 use Rattle.std.proofs.Common.{◌∙◌, ap, Some, map}
 use Rattle.bz_buildozer.specs.private.ShownFiles.{texts_of_keys, opened_in, used_in}
-use Rattle.bz_buildozer.specs.Packages.{with_opened}
+use Rattle.bz_buildozer.specs.Found.{with_opened}
 use Rattle.bz_buildozer.proofs.FileSteps.{kept_by, opened_there}
 use Rattle.bz_buildozer.proofs.workspace.Workspace.put.Goals as goal
 
