@@ -123,22 +123,23 @@ shapes: bin/cases
 	@bench/shapes.py
 
 hostile: $(PROGRAMS) bin/cases
-	@HOSTILE=whole tests/torn.py $(PROGRAMS) bin/cases
-	@HOSTILE=whole tests/journals.py bin/buildozer
-	@HOSTILE=whole tests/killed.py bin/buildozer
-	@HOSTILE=whole tests/memory.py bin/buildozer bin/cases bin/buildifier
-	@HOSTILE=whole tests/asked.py bin/cases
-	@HOSTILE=whole tests/failing.py $(PROGRAMS)
-	@HOSTILE=whole tests/devices.py $(PROGRAMS)
-	@HOSTILE=whole tests/races.py $(PROGRAMS)
-	@HOSTILE=whole tests/tree.py $(PROGRAMS)
-	@HOSTILE=whole tests/power.py $(PROGRAMS)
-	@HOSTILE=whole tests/acts.py $(PROGRAMS)
+	@HOSTILE=whole tests/scenes/hostile_texts.py $(PROGRAMS) bin/cases
+	@HOSTILE=whole tests/scenes/journals.py bin/buildozer
+	@HOSTILE=whole tests/scenes/killed.py bin/buildozer
+	@HOSTILE=whole tests/scenes/refused_memory_runs.py bin/buildozer bin/cases bin/buildifier
+	@HOSTILE=whole tests/scenes/refused_memory_calls.py bin/cases
+	@HOSTILE=whole tests/scenes/failing_calls.py $(PROGRAMS)
+	@HOSTILE=whole tests/scenes/devices.py $(PROGRAMS)
+	@HOSTILE=whole tests/scenes/races.py $(PROGRAMS)
+	@HOSTILE=whole tests/scenes/whole_trees.py $(PROGRAMS)
+	@HOSTILE=whole tests/scenes/power.py $(PROGRAMS)
+	@HOSTILE=whole tests/scenes/disk_acts.py $(PROGRAMS)
+	@HOSTILE=whole tests/scenes/refusal_places.py bin/buildifier
 
 MINUTES = 10
 
 fuzz: $(PROGRAMS)
-	@MINUTES=$(MINUTES) tests/fuzz.py $(PROGRAMS) $(SEED)
+	@MINUTES=$(MINUTES) tests/scenes/fuzz.py $(PROGRAMS) $(SEED)
 
 corpus: bin/cases bin/buildifier
 	@bench/corpus.sh "$(FOLDER)"

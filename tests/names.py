@@ -14,10 +14,11 @@ import pathlib
 import re
 import sys
 
-TOP = pathlib.Path(__file__).resolve().parent.parent
-sys.path.insert(0, str(TOP / "tools"))
+from lib.scenes import TOP, Scenes, named
 
+sys.path.append(str(TOP / "tools"))
 import trusted
+
 ACCEPTED = pathlib.Path(__file__).with_suffix(".txt")
 # names that one habit gives to many
 HABIT = {"new", "copy", "equals", "number", "of", "read", "len", "get", "push", "as_slice", "open", "name", "is_empty", "mod"}
@@ -25,7 +26,7 @@ HABIT = {"new", "copy", "equals", "number", "of", "read", "len", "get", "push", 
 ASIDE = {"sheets", "cases", "runs", "rows", "buildozer", "buildifier"}
 # words that the field has others for (CONTRIBUTING.md, 'Words'), and code within a line; Told, Asked, Drawn and Standing are names of files
 OLD_WORDS = re.compile(
-    r"\b(?:[Bb]ehind|[Ss]o many|[Ll]et go|told|[Tt]ells?|[Tt]elling|asked(?!\.py)|[Aa]sks?|[Ss]tands?|[Ss]tood|standing|[Ll]ent|[Ww]anting|drawn|[Dd]raws?)\b"
+    r"\b(?:[Bb]ehind|[Ss]o many|[Ll]et go|told|[Tt]ells?|[Tt]elling|asked|[Aa]sks?|[Ss]tands?|[Ss]tood|standing|[Ll]ent|[Ww]anting|drawn|[Dd]raws?)\b"
 )
 CODE_SPAN = re.compile(r"`[^`]*`")
 # how many lines of definitions the contracts of the surface may reach
@@ -53,7 +54,7 @@ def accepted():
     return dict(line.split(": ") for line in ACCEPTED.read_text().splitlines())
 
 
-def each_public_name_has_one_home():
+def each_public_name_has_one_home(_programs):
     now, before = homes(), accepted()
     more = [f"{name} is defined in {crates}" for name, crates in now.items() if not set(crates.split()) <= set(before.get(name, "").split())]
     fewer = [f"{name} has fewer homes than tests/names.txt says" for name, crates in before.items() if set(crates.split()) - set(now.get(name, "").split())]
@@ -64,7 +65,7 @@ def comments_of(file):
     return [line for line in file.read_text().splitlines() if line.lstrip().startswith(("//", "--"))]
 
 
-def words_are_those_of_the_field():
+def words_are_those_of_the_field(_programs):
     """No comment of src/, specs/ and proofs/, and no page, uses a word of OLD_WORDS outside of code."""
     sources = [file for kind in ("src/**/*.rt", "specs/**/*.antt", "proofs/**/*.antt") for file in (TOP / "crates").glob(f"*/{kind}")]
     lines = [(file, line) for file in sources for line in comments_of(file)]
@@ -74,31 +75,16 @@ def words_are_those_of_the_field():
     return [f"{file.relative_to(TOP)} says '{word}'" for file, word in found]
 
 
-def what_is_trusted_is_in_its_place():
+def what_is_trusted_is_in_its_place(_programs):
     """specs/ has what contracts of public calls reach, specs/private/ what none does, and the surface reaches few lines of it."""
     lines = trusted.counts()["all"][2]
     return trusted.misplaced() + [f"the surface reaches {lines:,} lines of definitions, {MOST_LINES:,} at most are wanted"] * (lines > MOST_LINES)
 
 
-FUNCTIONS = [each_public_name_has_one_home, words_are_those_of_the_field, what_is_trusted_is_in_its_place]
-SCENES = {scene.__name__.replace("_", " "): scene for scene in FUNCTIONS}
-
-
-def failures():
-    """The names of the scenes that fail, each with what was wrong."""
-    return [f"{name}: {', '.join(wrong)}" for name, scene in SCENES.items() if (wrong := scene())]
-
-
-def main():
-    if sys.argv[1:] == ["--write"]:
-        ACCEPTED.write_text("".join(f"{name}: {crates}\n" for name, crates in homes().items()))
-        return 0
-    failed = failures()
-    for fault in failed:
-        print(f"FAILED {fault}")
-    print(f"{len(SCENES) - len(failed)} passed, {len(failed)} failed")
-    return len(failed) > 0
-
+SCENES = Scenes(__file__, named(each_public_name_has_one_home, words_are_those_of_the_field, what_is_trusted_is_in_its_place))
 
 if __name__ == "__main__":
-    sys.exit(main())
+    if sys.argv[1:] == ["--write"]:
+        ACCEPTED.write_text("".join(f"{name}: {crates}\n" for name, crates in homes().items()))
+    else:
+        SCENES.main()

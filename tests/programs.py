@@ -6,53 +6,28 @@ standard error (stderr) and the status. A file that is not there is empty, and t
 proved, and here it is seen that main hands it the words and the streams, and passes its status on. Each program is built
 once, by rt try, with no proof. A line for each failure; the last one is 'N passed, M failed'.
 
-With a command after it, as 'tests/programs.py rt ci', that runs first, and the last line adds its last line's numbers; the
-programs that it built then run on these folders, and over real files: buildifier over single ones (tests/files.py), buildozer over packages
-(tests/workspace.py), both through the examples of all pages (tests/readme.py) and through what contrib/ has
-for git, CI and editors (tests/contrib.py); the pages for man and the completions are compared with the code and tried in shells
-(tests/manual.py, tests/completions.py), no public name gets a second home (tests/names.py), and both programs are installed and packed (tests/install.py); buildozer runs beside a plain list of texts
-(tests/sessions.py), keeps journals and reads torn and forged ones (tests/journals.py), and is killed while it keeps one (tests/killed.py); both
-programs and cases run with memory refused at each request in turn (tests/memory.py, tests/asked.py); both programs over torn, deep and made
-texts (tests/torn.py), with calls of the system and devices that fail (tests/failing.py, tests/devices.py), beside one another
-(tests/races.py), with the power lost at each call (tests/power.py) and each act of the disk looked at
-(tests/acts.py), over cases by chance (tests/fuzz.py), and beside Bazel where it is there (tests/bazel.py). The first crate that it reports as not proved ends it, as soon as the proofs that run at that moment have ended; then comes once more what was
-reported of it. The line before the last one says how long the whole took, on how many processors, and how much of their time
-the machine gave to others.
+With a command after it, as 'tests/programs.py rt ci', that runs first, and the last line adds its last line's numbers; the programs that it
+built then run on these folders and through the scripts of tests/scenes (SCRIPTS below, each with what it tries), and no public name gets a
+second home (tests/names.py). The first crate that it reports as not proved ends it, as soon as the proofs that run at that moment have ended;
+then comes once more what was reported of it. The line before the last one says how long the whole took, on how many processors, and how much
+of their time the machine gave to others.
 """
 import os
 import pathlib
 import re
-import shutil
 import signal
 import subprocess
 import sys
 import tempfile
 import time
 
-import acts
-import asked
-import bazel
-import completions
-import contrib
-import devices
-import failing
-import files
-import fuzz
-import install
-import journals
-import killed
-import manual
-import memory
 import names
-import power
-import races
-import readme
-import sessions
-import torn
-import tree
-import workspace
+from lib.scenes import TOP
+from scenes import (
+    bazel, contrib, devices, disk_acts, edited_packages, failing_calls, formatted_files, fuzz, hostile_texts, install, journals, killed, manual_pages,
+    power, races, readme, refusal_places, refused_memory_calls, refused_memory_runs, sessions, shell_completions, whole_trees,
+)  # fmt: skip
 
-TOP = pathlib.Path(__file__).resolve().parent.parent
 # what rt try writes: after a heading of its name each run's standard output, and before its result its standard error
 HEADING = re.compile(rb"^== (\w+)\n", re.MULTILINE)
 RESULT = re.compile(rb"case=(\w+) run=(\w+)(?: status=(\d+))?.*\n")
@@ -66,28 +41,29 @@ NOT_PROVED = re.compile(r"rt: (\w+).* NOT PROVED")
 PROGRAMS = ("buildozer", "buildifier")
 # how many lines of the report of a crate that is not proved are repeated at the end
 REPEATED = 20
-# what runs the built programs: the name of it, the script with its scenes, and the programs that they take
+# what runs the built programs: what it tries, the script with its scenes, and the programs that they take
 SCRIPTS = [
-    ("runs over real files", files, ["buildifier"]),
-    ("runs over packages", workspace, ["buildozer"]),
+    ("runs over real files", formatted_files, ["buildifier"]),
+    ("runs over packages", edited_packages, ["buildozer"]),
     ("examples of the pages", readme, ["buildozer", "buildifier"]),
     ("what contrib has", contrib, ["buildozer", "buildifier"]),
-    ("commands for whole trees", tree, ["buildozer", "buildifier"]),
-    ("pages for man", manual, []),
+    ("commands for whole trees", whole_trees, ["buildozer", "buildifier"]),
+    ("pages for man", manual_pages, []),
     ("public names", names, []),
-    ("completions in shells", completions, ["buildozer"]),
+    ("completions in shells", shell_completions, ["buildozer"]),
     ("installing and packing", install, ["buildozer", "buildifier"]),
     ("runs beside a plain list of texts", sessions, ["buildozer"]),
     ("runs that keep journals", journals, ["buildozer"]),
     ("runs that are killed", killed, ["buildozer"]),
-    ("runs with memory refused", memory, ["buildozer", "cases", "buildifier"]),
-    ("calls with memory refused", asked, ["cases"]),
-    ("torn, deep and made texts", torn, ["buildozer", "buildifier", "cases"]),
-    ("runs with failing calls", failing, ["buildozer", "buildifier"]),
+    ("runs with memory refused", refused_memory_runs, ["buildozer", "cases", "buildifier"]),
+    ("calls with memory refused", refused_memory_calls, ["cases"]),
+    ("torn, deep and made texts", hostile_texts, ["buildozer", "buildifier", "cases"]),
+    ("runs with failing calls", failing_calls, ["buildozer", "buildifier"]),
     ("runs with failing devices", devices, ["buildozer", "buildifier"]),
     ("runs beside one another", races, ["buildozer", "buildifier"]),
     ("runs that lose power", power, ["buildozer", "buildifier"]),
-    ("acts of the disk", acts, ["buildozer", "buildifier"]),
+    ("acts of the disk", disk_acts, ["buildozer", "buildifier"]),
+    ("places of refusals", refusal_places, ["buildifier"]),
     ("runs by chance", fuzz, ["buildozer", "buildifier"]),
     ("runs beside Bazel", bazel, ["buildozer", "buildifier"]),
 ]
@@ -200,11 +176,10 @@ def run_folders(program, results):
 def run_scenes(script, programs):
     """Runs the built programs through the scenes of a script; where one was not built none of them is passed."""
     built = [TOP / "crates" / program / "out" / program for program in programs]
-    there = all(program.exists() for program in built)
-    failed = script.failures(*built) if there else ["a program was not built"] * len(script.SCENES)
-    for name in dict.fromkeys(failed):
-        print(f"tests/{script.__name__}.py: {name}", flush=True)
-    return len(script.SCENES) - len(failed), len(failed)
+    if all(program.exists() for program in built):
+        return script.SCENES.counts(*built)
+    script.SCENES.say("a program was not built")
+    return 0, len(script.SCENES.scenes)
 
 
 def run_gate(command, start):

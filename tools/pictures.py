@@ -1,6 +1,6 @@
 #!/usr/bin/env python3
 """Draws docs/internals/layers.svg, the crates with the libraries that they depend on, from crates.txt; docs/history.svg, a history of
-texts; and docs/terminal.svg, a terminal with an example of README.md, which tests/readme.py runs, so that the picture is true.
+texts; and docs/terminal.svg, a terminal with an example of README.md, which tests/scenes/readme.py runs, so that the picture is true.
 
     tools/pictures.py [--check]
 

@@ -1,4 +1,4 @@
-//! Copies what many texts say, for tests/torn.py: with ample memory each copy is there, and equal to what was copied.
+//! Copies what many texts say, for tests/scenes/hostile_texts.py: with ample memory each copy is there, and equal to what was copied.
 use bz_edit::{advance, exchange_node};
 use bz_grammar::{Node, Part, Tree};
 use bz_hosts::view;

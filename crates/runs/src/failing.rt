@@ -66,6 +66,9 @@ enum Breach {
     Calls,
 }
 
+/// What is said below the name of what is there and can't be opened.
+const DIRECTORY_HINT: &[u8] = b": if this is a directory, see buildifier-tree";
+
 /// What may be left of a task in which something fails.
 #[derive(Drop)]
 pub(crate) struct Trial<'a> {
@@ -214,19 +217,26 @@ fn is_cut_once(part: &[u8], whole: &[u8]) -> bool {
     false
 }
 
-/// Whether a line says what a package is.
-fn is_package_hint(line: &[u8]) -> bool {
-    line.starts_with(b"buildozer: a package is ") || line.starts_with(b"buildozer: ... is ")
+/// Whether a line says what a package is, or what formats a directory: that depends on why a file can't be opened.
+fn is_hint(line: &[u8]) -> bool {
+    line.starts_with(b"buildozer: a package is ")
+        || line.starts_with(b"buildozer: ... is ")
+        || line.ends_with(DIRECTORY_HINT)
 }
 
-/// Whether the lines of a text are those of another one, which may say of more packages what one is.
-fn lacks_hints(part: &[u8], whole: &[u8]) -> bool {
-    for line in whole.split(|byte| *byte == b'\n') {
-        if !is_package_hint(line) && !has_line(part, line) {
+/// Whether each line of a text but such hints is one of another.
+fn says_no_more(text: &[u8], other: &[u8]) -> bool {
+    for line in text.split(|byte| *byte == b'\n') {
+        if !is_hint(line) && !has_line(other, line) {
             return false;
         }
     }
-    is_within(part, whole)
+    true
+}
+
+/// Whether two texts have the same lines but for such hints.
+fn are_alike_but_hints(text: &[u8], other: &[u8]) -> bool {
+    says_no_more(text, other) && says_no_more(other, text)
 }
 
 /// Whether a line says that a device or a file failed.
@@ -498,6 +508,7 @@ impl<'a> Trial<'a> {
     /// Whether a sound run prints this line, or it says that there is no text to go back to, after one that was not opened, or is its hint.
     fn is_known(&self, line: &[u8]) -> bool {
         line.ends_with(b": TooFar (61)")
+            || line.ends_with(DIRECTORY_HINT)
             || line.starts_with(b"buildozer: to undo or redo ")
             || has_line(self.sound.err.bytes(), line)
             || self
@@ -506,9 +517,9 @@ impl<'a> Trial<'a> {
                 .any(|other| has_line(other.err.bytes(), line))
     }
 
-    /// Whether all is as in the sound run, but what is said only of a package that is not there.
+    /// Whether all is as in the sound run, but for hints.
     fn is_unchanged(&self, left: &Left) -> bool {
-        self.is_sound_beside(left) && lacks_hints(left.err.bytes(), self.sound.err.bytes())
+        self.is_sound_beside(left) && are_alike_but_hints(left.err.bytes(), self.sound.err.bytes())
     }
 
     /// Each line is one of a sound run or says what failed, and one says what failed unless that changed nothing.

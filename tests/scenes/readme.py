@@ -1,0 +1,267 @@
+#!/usr/bin/env python3
+"""Runs the examples of README.md and of the other pages, and compares the tables of the pages of reference, the picture of the crates and
+the index of definitions with the code. README.md must be short and have a link to each page, and docs/internals/PROVED.md one to the
+page of each crate; links lead somewhere, and files, crates and names of the sources that pages name are there.
+
+The pages are README.md, those beside it, those of docs/ and docs/internals/, of contrib/ and of each crate. A block of code in which lines
+begin with `$` is an example: its commands run one after the other, in a folder of the block's own that is empty at first, with both
+programs on the PATH. What a command leaves on its two outputs must be what is below it, byte for byte, up to the next command. A block
+that calls git is reported as not run where there is no git. The commands in the tables need only be such as the program takes.
+
+    tests/scenes/readme.py BUILDOZER BUILDIFIER
+"""
+import functools
+import pathlib
+import re
+import shutil
+import sys
+
+from lib.pages import (
+    BLOCK, CODE, COMMAND, CRATE_PAGES, CRATES, INTERNALS, PAGES, README, definition, different_from_code, links_of, named_examples, on_path,
+    refusals_of_code, rows_of, texts_in,
+)  # fmt: skip
+from lib.scenes import TOP, Scenes, named
+
+sys.path.append(str(TOP / "tools"))
+import definitions
+from crates import libraries_of
+
+# how many lines README has at most, and how many bytes the page of a crate
+LINES, BYTES = 170, 16_500
+# the sections of the page of a crate, of which it has some, in this order
+SECTIONS = ["Definitions", "Proved", "Only tested", "Neither proved nor tested", "Decisions"]
+GIT = re.compile(r"^\$ (?:.*[ ;|&(])?git ", re.MULTILINE)
+# the path of a file or folder, of the repository or of a crate; one with a word in capitals is a form
+OF_TOP, OF_CRATES = "docs|tools|tests|contrib|crates|bench|edits|examples|\\.ci", "src|specs|proofs|must-fail"
+PATH = re.compile(rf"(?<![\w./-])(?:{OF_TOP}|{OF_CRATES})/[\w./-]*\w(?![\w*{{-])|(?<![\w./-])[A-Z]+\.md\b")
+FORM = re.compile(r"(?:^|/)[A-Z_]+(?:/|\.edit|$)|/out/")
+# pages that name what is in the sources, a name as these have it, and names that are none of theirs: Rattle's own, a tool's, a slip's
+OF_SOURCES = ["PROMISES.md", *(f"internals/{page}.md" for page in ("ARCHITECTURE", "DECISIONS", "DEFINITIONS", "PROOFS", "PROVED"))]
+WORD = re.compile(r"[A-Za-z_][\w-]*")
+NAMES_OF_OTHERS = {"Tie", "is-1", "loop-X-preserved", "grep", "make", "flock", "chekc", "st", "b1", "o8"}
+# a row of a crate's definitions: names, the files of specs/ that have them
+OF_SPECS = re.compile(r"(?m)^\| ([^|]*`[^|]*) \| ([A-Z]\w*(?:, [A-Z]\w*)*) \|")
+# what a line of specs/ defines: a definition, a field or constructors, by the names before what it takes or its type
+DEFINES = re.compile(r"(?m)^(?! *--) *((?:(?!= )[^\s:({]+ )+)[:({]")
+# what contracts cite of the definitions; these have no names that the toolchain made
+CITED = re.compile(r"ghost use Rattle\.bz_[a-z]+\.specs\.([\w.]+)\.\{([^}]*)\}")
+
+
+# ---- what the code says
+
+
+def command_examples():
+    return [command.replace("\\|", "|") for row in rows_of("Command") for command in CODE.findall(row[-1])]
+
+
+def forms_of_code():
+    """The forms of commands, as hints print them."""
+    tables = definition("bz_command_syntax/specs/Commands.antt", "commands") + definition("bz_command_line/specs/Hints.antt", "verb_forms")
+    return sorted(re.findall(r"'([^']+)'", tables))
+
+
+def attributes_of_code():
+    """The tables of attributes; beside the sorted ones are the kind and the attribute that are left out."""
+    tables = "bz_label/specs/Tables.antt"
+    ordered, further = texts_in(tables, "sorted_attributes"), texts_in(tables, "further_lists")
+    others = texts_in(tables, "is_label_attribute attribute")
+    return {
+        "Sorted": (ordered, sorted(texts_in(tables, "is_sorted kind attribute"))),
+        "Labels": ([name for name in ordered if name not in others], []),
+        "Lists": (ordered + further, []),
+        "First": (texts_in(tables, "first_arguments"), []),
+        "Last": (texts_in(tables, "last_arguments"), []),
+    }
+
+
+# ---- scenes
+
+
+def an_example(name, block):
+    def wrong(place):
+        if GIT.search(block) and not shutil.which("git"):
+            SCENES.say(f"{name} was not run: there is no git")
+            return []
+        front, *pieces = COMMAND.split(block)
+        faults = [f"{front!r} is before the first command"] if front else []
+        for command, wanted in zip(pieces[::2], pieces[1::2]):
+            left = place.run(command)[1]
+            if left != wanted:
+                faults.append(f"{command}: {left!r}, and not {wanted!r}")
+        return faults
+
+    return wrong
+
+
+def refusals(place):
+    rows = rows_of("Number")
+    told = [(int(row[0]), name) for row in rows for name in CODE.findall(row[1])]
+    return different_from_code("refusals", told, refusals_of_code()) + [f"{row[1]}: nothing is said of it" for row in rows if not all(row)]
+
+
+def attributes(place):
+    """Each row has the names of the code's table, in its order; in the first cell are those that are left out."""
+    rows = {row[0].split()[0].rstrip(":"): row for row in rows_of("Attributes")}
+    faults = different_from_code("tables of attributes", sorted(rows), sorted(attributes_of_code()))
+    for name, (table, left_out) in attributes_of_code().items():
+        row = rows.get(name, ["", ""])
+        faults += different_from_code(name, CODE.findall(row[1]), table)
+        if left_out != sorted(CODE.findall(row[0])):
+            faults.append(f"{name}: {row[0]}, where {left_out} is left out")
+    return faults
+
+
+def commands(place):
+    """Each command has a row, and no other, with its forms; these begin with its name."""
+    forms = sorted({form for row in rows_of("Command") for form in CODE.findall(row[0])})
+    told = {form.split()[0] for form in forms}
+    known = texts_in("bz_command_syntax/specs/Commands.antt", "commands") + texts_in("bz_command_line/specs/Operands.antt", r"history_verb_in \(.*")
+    return different_from_code("commands", sorted(told), sorted(set(known))) + different_from_code("forms of commands", forms, forms_of_code())
+
+
+def examples_of_commands(place):
+    """Each example in the tables is taken as a command, though it may be refused on this rule."""
+    faults = [] if command_examples() else ["there are no examples of commands"]
+    for command in command_examples():
+        status, left = place.run(["buildozer", "--", command, "-:x"], b'f(name = "x")\n')
+        refused = left.startswith(f"buildozer: <stdin>: {command}: ")
+        if status not in (0, 3) and not (status == 2 and refused):
+            faults.append(f"{command}: status {status}, {left!r}")
+    return faults
+
+
+def layers(place):
+    """Each crate is once in the picture of the layers, and what it depends on is in lines below its own."""
+    rows = [line.partition("#")[0].partition(":") for line in (TOP / "crates.txt").read_text().splitlines()]
+    uses = {name.strip(): below.split() for name, _, below in rows if name.strip()}
+    picture = BLOCK.search((INTERNALS / "ARCHITECTURE.md").read_text())[0]
+    found = [(word, at) for at, line in enumerate(picture.splitlines()) for word in re.findall(r"\w+", line) if word in uses]
+    line_of = dict(found)
+    pairs = [(crate, below) for crate, names in uses.items() for below in names if below in uses]
+    wrong = [f"{crate} depends on {below}" for crate, below in pairs if line_of.get(below, -1) <= line_of.get(crate, -1)]
+    return different_from_code("crates", sorted(word for word, _ in found), sorted(uses)) + wrong
+
+
+def rows_of_the_gate(place):
+    """Each crate has one row in the table of docs/internals/GATE.md, and no other row is there."""
+    table = re.search(r"(?m)^\| Crate \| Functions \|.*\n\|[-|]+\|\n((?:\|.*\n)+)", (INTERNALS / "GATE.md").read_text())
+    return different_from_code("rows of docs/internals/GATE.md", sorted(re.findall(r"(?m)^\| (\w+) \|", table[1])), sorted(libraries_of()))
+
+
+def pages_are_linked(place):
+    """README has a link to each page and picture, the index to that of each crate, and every link leads to a file."""
+    index = INTERNALS / "PROVED.md"
+    owed = {README: {*PAGES, *TOP.glob("docs/**/*.svg")} - {README, *CRATE_PAGES}, index: {CRATES / crate / "README.md" for crate in libraries_of()}}
+    lost = [f"{page.name} has no link to {other.relative_to(TOP)}" for page, others in owed.items() for other in sorted(others - links_of(page))]
+    return lost + [f"{page.relative_to(TOP)} links to {file}" for page in PAGES for file in sorted(links_of(page)) if not file.exists()]
+
+
+def readme_is_short(place):
+    count = len(README.read_text().splitlines())
+    return [f"README.md has {count} lines"] * (count > LINES)
+
+
+def pages_of_crates_have_their_form(place):
+    """Each has the name of its crate, these sections alone, in their order, and is not long."""
+    wrong = []
+    for page in CRATE_PAGES:
+        text = page.read_text()
+        title, *found = re.findall(r"(?m)^##? (.*)$", text)
+        has_form = title == page.parent.name and found == [name for name in SECTIONS if name in found]
+        wrong += [f"{page.relative_to(TOP)} has the sections {title}, {found}"] * (not has_form)
+        wrong += [f"{page.relative_to(TOP)} has {len(text.encode())} bytes"] * (len(text.encode()) > BYTES)
+    return wrong
+
+
+def files_are_there(place):
+    """Each file that a page names is there, from the top of the repository, from docs/ or docs/internals/, or in a crate, on the page of a
+    crate in that one or one that the page names; that of a module may lack `.antt`."""
+    wrong = []
+    for page in PAGES:
+        text = page.read_text()
+        own = [CRATES / name for name in re.findall(r"\bbz_\w+", text)] if page in CRATE_PAGES else CRATES.iterdir()
+        places = [TOP, TOP / "docs", INTERNALS, page.parent, *own]
+        named = {path for path in PATH.findall(text) if not FORM.search(path)}
+        lost = [path for path in sorted(named) if not any((place / f"{path}{end}").exists() for place in places for end in ("", ".antt"))]
+        wrong += [f"{page.relative_to(TOP)} names {path}" for path in lost]
+    return wrong
+
+
+def crates_are_there(place):
+    """Each crate that a page names is there."""
+    there = {crate.name for crate in CRATES.iterdir()}
+    named = {page: set(re.findall(r"\bbz_\w+", page.read_text())) for page in PAGES}
+    return [f"{page.relative_to(TOP)} names {name}" for page in PAGES for name in sorted(named[page] - there)]
+
+
+def names_in_sources():
+    """The names in the sources of each crate, of the places in which they count on its page: in it, in a crate below, or in one that the page
+    names."""
+    files = {crate: CRATES.glob(f"{crate}/*/**/*.*t") for crate in libraries_of()}
+    read = {crate: [file.read_text() for file in found if file.suffix in (".rt", ".antt") and "/out/" not in str(file)] for crate, found in files.items()}
+    return {crate: {word for text in texts for word in WORD.findall(text)} for crate, texts in read.items()}
+
+
+def names_are_there(place):
+    """Each name that these pages have between marks of code, such as that of a clause, is in the sources, but for those of Rattle and
+    of tools; on the page of a crate, in its own, in those of a crate below or of one that the page names."""
+    names, below, wrong = names_in_sources(), libraries_of(), []
+    for page in [*(TOP / "docs" / page for page in OF_SOURCES), *CRATE_PAGES]:
+        text = page.read_text()
+        crates = {page.parent.name, *below[page.parent.name], *re.findall(r"\w+", text)} & set(names) if page in CRATE_PAGES else names
+        known = NAMES_OF_OTHERS.union(*(names[crate] for crate in crates))
+        named = {code for code in CODE.findall(text) if WORD.fullmatch(code) and not code.isupper()}
+        wrong += [f"{page.relative_to(TOP)} names {name}" for name in sorted(named - known)]
+    return wrong
+
+
+def definitions_are_there(place):
+    """Each name in a row of the definitions of a crate's page is defined in one of the files of specs/, or of specs/private/, that the row
+    names."""
+    wrong = []
+    for page in CRATE_PAGES:
+        for names, files in OF_SPECS.findall(page.read_text()):
+            inner = page.parent / "specs" / "private"
+            found = [max(inner / f"{file}.antt", inner.parent / f"{file}.antt", key=pathlib.Path.exists) for file in files.split(", ")]
+            words = {word for file in found if file.exists() for line in DEFINES.findall(file.read_text()) for word in line.split()}
+            lost = [file.stem for file in found if not file.exists()] + sorted(set(CODE.findall(names)) - words)
+            wrong += [f"{page.relative_to(TOP)}: {name} is not in {files}" for name in lost]
+    return wrong
+
+
+def made_of_definitions(place):
+    """What the pages have of the definitions in the sources is what the tool makes now."""
+    made = {definitions.PAGE: definitions.renewed}
+    made |= {page: functools.partial(definitions.with_private_files, page.parent.name) for page in CRATE_PAGES}
+    stale = [page.relative_to(TOP) for page, renewed in made.items() if renewed(page.read_text()) != page.read_text()]
+    return [f"{page} is not what tools/definitions.py makes: run it" for page in stale]
+
+
+def index_has_what_is_cited(place):
+    """Each definition that a contract cites by its name is in docs/internals/DEFINITIONS.md, whatever the tool finds."""
+    texts = [file.read_text() for file in CRATES.glob("bz_*/src/*.rt")]
+    uses = [use[1] for text in texts for use in CITED.findall(text) if not re.search(r"(?:^|\.)(?:declared|formers|contracts)\.", use[0])]
+    cited = {name.strip().partition(" as ")[0] for use in uses for name in use.split(",")}
+    named = set(WORD.findall(definitions.PAGE.read_text()))
+    lost = sorted(name for name in cited if re.fullmatch(r"[A-Za-z_]+", name) and name not in named)
+    return [f"docs/internals/DEFINITIONS.md doesn't name {name}" for name in lost] if cited else ["no contract cites a definition"]
+
+
+def files_of_lemmas_are_there(place):
+    """Each file of proofs in the table of lemmas of docs/internals/PROOFS.md is one of the crates of its row."""
+    rows = re.findall(r"(?m)^\| (bz_[\w, ]+) \| (.*) \|$", (INTERNALS / "PROOFS.md").read_text())
+    named = [(crates.split(", "), name) for crates, row in rows for name in re.findall(r"\b[A-Z]\w+", row)]
+    lost = [name for crates, name in named if not any((CRATES / crate / "proofs" / f"{name}.antt").exists() for crate in crates)]
+    return lost if named else ["no file of lemmas is named"]
+
+
+FOUND = {name: an_example(name, block) for name, block in named_examples().items()}
+FOUND |= named(refusals, attributes, commands, examples_of_commands, layers, rows_of_the_gate)
+FOUND |= named(
+    pages_are_linked, readme_is_short, pages_of_crates_have_their_form, files_are_there, crates_are_there, names_are_there, definitions_are_there,
+    made_of_definitions, index_has_what_is_cited, files_of_lemmas_are_there,
+)  # fmt: skip
+SCENES = Scenes(__file__, FOUND, place=on_path)
+
+if __name__ == "__main__":
+    SCENES.main()

@@ -1,0 +1,632 @@
+#!/usr/bin/env python3
+"""Runs the commands of contrib/tree/ with the built programs over made trees, and looks at what they leave there.
+
+A tree has packages with odd texts, some with names that have spaces, newlines and other signs, links, workspaces within, folders that are ignored,
+and texts that are refused. What one process of the program makes of a file is what must come of it. Runs are stopped midway by each signal and run
+again, two are under way at once, and edits are taken back, byte for byte.
+
+    [HOSTILE=whole] tests/scenes/whole_trees.py BUILDOZER BUILDIFIER
+"""
+import ast
+import contextlib
+import os
+import pathlib
+import pty
+import re
+import shlex
+import shutil
+import signal
+import subprocess
+import sys
+import tempfile
+import time
+
+from lib.folders import new_folder
+from lib.lines import PACKAGE_HINT
+from lib.runs import PATIENCE, environment_with
+from lib.scenes import TOP, WHOLE, Scenes, Wrong, named
+
+TREE = TOP / "contrib" / "tree"
+COMMANDS = ("buildifier-tree", "buildozer-tree")
+# how many packages a tree has
+PACKAGES = 3000 if WHOLE else 600
+FEW = 60
+ODD, EVEN = b'f( name="x",deps=[":a"] )\n', b'f(\n    name = "x",\n    deps = [":a"],\n)\n'
+ODD_BZL, EVEN_BZL = b"def f(x):\n  return x\n", b"def f(x):\n    return x\n"
+REFUSED = b"f(\n"
+SIGNALS = (signal.SIGINT, signal.SIGTERM, signal.SIGHUP)
+ODD_NAMES = ["with space", "new\nline", "co:lon", "# reformat", "\u00fcml\u00e4ut", "bar|bar", " front", "-dash"]
+# a program that takes its time, and says which process it is; and one that waits for a file in the workspace, if it runs there
+SLOW = """#!/bin/sh
+echo $$ >> "{pids}"
+sleep {seconds}
+exec {program} "$@"
+"""
+WAITING = """#!/bin/sh
+while [ -e MODULE.bazel ] && [ ! -e go ]; do sleep 0.05; done
+exec {program} "$@"
+"""
+
+
+class Place(Wrong):
+    """A folder with a tree, and what is wrong there."""
+
+    def __init__(self, programs, folder, scratch):
+        super().__init__()
+        self.programs, self.folder, self.scratch = dict(zip(["buildozer", "buildifier"], programs)), folder, scratch
+        self.path = self.scratch / "bin"
+        self.path.mkdir()
+        for name, file in self.programs.items():
+            (self.path / name).symlink_to(file)
+        self.environment = {**environment_with(self.path), "HOME": str(self.scratch), "GIT_CEILING_DIRECTORIES": str(self.folder.parent)}
+
+    def put(self, files):
+        for name, content in files.items():
+            file = os.path.join(os.fsencode(self.folder), os.fsencode(name))
+            os.makedirs(os.path.dirname(file), exist_ok=True)
+            with open(file, "wb") as written:
+                written.write(content)
+
+    def git(self, *words):
+        identity = ["-c", "user.name=a", "-c", "user.email=a@b", "-c", "init.defaultBranch=main"]
+        subprocess.run(["git", *identity, *words], cwd=self.folder, env=self.environment, check=True, capture_output=True, timeout=PATIENCE)
+
+    def files(self):
+        """What is in each file, by its name; a link is its path. Left out are those of git, journals, and what a process that is killed leaves."""
+        found = {}
+        for folder, folders, names in os.walk(os.fsencode(self.folder)):
+            folders[:] = [name for name in folders if name != b".git"]
+            for name in (name for name in names if not name.endswith((b".journal", b".bznew"))):
+                file = os.path.join(folder, name)
+                found[os.fsdecode(os.path.relpath(file, os.fsencode(self.folder)))] = (
+                    os.readlink(file) if os.path.islink(file) else pathlib.Path(os.fsdecode(file)).read_bytes()
+                )
+        return found
+
+    def start(self, command, *words, here=".", **how):
+        pipes = {"stdin": subprocess.DEVNULL, "stdout": subprocess.PIPE, "stderr": subprocess.PIPE}
+        # where this script was started to pass over a signal, what it runs must not
+        how = {"preexec_fn": let_signals, **pipes, **how}
+        return subprocess.Popen([sys.executable, TREE / command, *words], cwd=self.folder / here, env=self.environment, **how)
+
+    def run(self, command, *words, here=".", text=None):
+        """The status, standard output, and the lines of standard error."""
+        with self.start(command, *words, here=here, stdin=subprocess.PIPE) as process:
+            out, err = process.communicate(text, timeout=PATIENCE)
+        return process.returncode, out, err.decode(errors="surrogateescape").splitlines()
+
+    def wants_files(self, what, wanted):
+        files = self.files()
+        other = [name for name in {**files, **wanted} if files.get(name) != wanted.get(name)]
+        self.expect(what, [(name, files.get(name)) for name in other[:3]], [(name, wanted.get(name)) for name in other[:3]])
+
+    def slow(self, program, seconds):
+        """Puts a program that takes its time in the place of one; gives the file with the numbers of its processes."""
+        pids = self.scratch / "pids"
+        pids.unlink(missing_ok=True)
+        self.replace(program, SLOW.format(pids=pids, seconds=seconds, program=self.programs[program]))
+        return pids
+
+    def replace(self, program, script):
+        """Puts a script in the place of a program."""
+        file = self.path / program
+        file.unlink()
+        file.write_text(script)
+        file.chmod(0o755)
+
+    def fast(self, program):
+        (self.path / program).unlink()
+        (self.path / program).symlink_to(self.programs[program])
+
+
+def let_signals():
+    for number in SIGNALS:
+        signal.signal(number, signal.SIG_DFL)
+
+
+def made(count, text=ODD):
+    """So many packages, some in one another."""
+    return {f"p{i % 40}/q{i}/BUILD{'.bazel' * (i % 3 == 0)}": text.replace(b'"x"', b'"x%d"' % i) for i in range(count)}
+
+
+def is_alive(pid):
+    """Whether a process runs; one that has ended and was not waited for doesn't."""
+    try:
+        return pathlib.Path(f"/proc/{pid}/stat").read_text().rpartition(")")[2].split()[0] != "Z"
+    except OSError:
+        return False
+
+
+def alive(pids):
+    """The processes of a file with their numbers that run."""
+    return [pid for pid in pids.read_text().split() if is_alive(pid)]
+
+
+def formatted(place, files):
+    """The files as one process of buildifier leaves them."""
+    with tempfile.TemporaryDirectory(dir=place.folder.parent) as folder:
+        copy = {str(number): name for number, name in enumerate(files)}
+        for number, name in copy.items():
+            pathlib.Path(folder, number).write_bytes(files[name])
+        subprocess.run([place.programs["buildifier"], "--type=build", *copy], cwd=folder, capture_output=True, timeout=PATIENCE)
+        return {name: pathlib.Path(folder, number).read_bytes() for number, name in copy.items()}
+
+
+# ---- buildifier-tree
+
+
+def all_files_are_formatted(place):
+    """Those of each name, with odd names too, and of workspaces within; what is ignored, links and other files stay."""
+    kinds = ["WORKSPACE", "WORKSPACE.bazel", "WORKSPACE.bzlmod", "MODULE.bazel", "a.MODULE.bazel", "REPO.bazel", "z.BUILD", "z.BUILD.bazel"]
+    files = {**made(PACKAGES), **{f"kinds/{name}": ODD for name in kinds}, **{f"{name}/BUILD": ODD for name in ODD_NAMES}, "in/WORKSPACE": ODD, "in/a/BUILD": ODD}
+    stay = {"ignored/BUILD": ODD, "named/BUILD": ODD, "d.bzl": ODD_BZL, "BUILDER": ODD, "a.txt": ODD, "even/BUILD": EVEN, "in/third/BUILD": ODD,
+            ".gitignore": b"ignored/\nignored.BUILD\n*.journal\n", "ignored.BUILD": ODD, ".bazelignore": b"# c\nnamed\n", "in/.bazelignore": b"third/\n", "MODULE.bazel": EVEN}  # fmt: skip
+    place.put({**files, **stay, "outer/BUILD": ODD})
+    place.put({os.fsdecode(b"bytes\xff/BUILD"): ODD})
+    place.git("init", "-q")
+    place.git("add", "p1")
+    links = {"link": "p1", "l.BUILD": "outer/BUILD"}
+    for name, to in links.items():
+        (place.folder / name).symlink_to(to)
+    before = place.files()
+    after = {**before, **formatted(place, {**files, "outer/BUILD": ODD})}
+    named = os.fsdecode(b"bytes\xff/BUILD: the name is not UTF-8")
+    status, out, err = place.run("buildifier-tree", "--mode=check")
+    lines = b"".join(os.fsencode(name) + b" # reformat\n" for name in sorted({**files, "outer/BUILD": ODD}))
+    place.expect("check", (status, err[:2]), (3, [named, f"{len(files) + 1:,} files would be reformatted, 2 already formatted, 1 refused"]))
+    place.expect("what check prints", out, lines)
+    place.wants_files("files after check", before)
+    place.expect("fix", place.run("buildifier-tree")[:2], (3, b""))
+    place.wants_files("files", after)
+    place.expect("again", place.run("buildifier-tree")[2][1], f"{len(files) + 3:,} files left unchanged, 1 refused")
+    place.expect("what is named", place.run("buildifier-tree", "ignored", "named", "a.txt"), (0, b"", ["3 files reformatted"]))
+    place.expect("with --bzl", place.run("buildifier-tree", "--bzl", "--quiet", "."), (3, b"", [named]))
+    place.wants_files("files at last", {**after, **dict.fromkeys(["ignored/BUILD", "named/BUILD", "a.txt"], EVEN), "d.bzl": EVEN_BZL})
+
+
+def paths_and_usage(place):
+    """Paths that overlap, are not there, or are links; options; and where nothing is found."""
+    place.put({"a/BUILD": ODD, "a/b/BUILD": ODD, "c/BUILD": EVEN, "e/none.txt": b""})
+    (place.folder / "l").symlink_to("a")
+    place.expect("once each", place.run("buildifier-tree", "--mode=check", "a/b", "./a", "a/b/BUILD", "l"),
+                (4, b"a/BUILD # reformat\na/b/BUILD # reformat\n".replace(b"a/BUILD", b"./a/BUILD", 1), ["2 files would be reformatted"]))  # fmt: skip
+    again = "to go on with just these: buildifier-tree --mode=check 'no ne'"
+    place.expect("missing", place.run("buildifier-tree", "--mode=check", "no ne", "c"), (3, b"", ["no ne: cannot open", "1 file already formatted, 1 refused", again]))
+    place.expect("nothing", place.run("buildifier-tree", "e"), (0, b"", ["no BUILD files were found"]))
+    place.expect("from a file", place.run("buildifier-tree", "--from=-", "--quiet", text=b"a/BUILD\0a/b\0"), (0, b"", []))
+    place.expect("files", [place.files()[name] for name in ("a/BUILD", "a/b/BUILD")], [EVEN, EVEN])
+    see = "buildifier-tree: see buildifier-tree --help"
+    for words, line in ((["--mode=list"], "no mode: list; there are fix, check, diff"), (["--type", "x"], "no type: x; there are auto, build, bzl"),
+                        (["-mode=fix"], "there is no option -m: did you mean --mode?"), (["--diff-from=HEAD"], "--diff-from: . is in no repository of git"),
+                        (["--from"], "--from needs a value"), (["--processes=0"], "--processes is a number from 1, and not '0'")):  # fmt: skip
+        place.expect(f"{words}", place.run("buildifier-tree", *words), (2, b"", [f"buildifier-tree: {line}", see]))
+    place.expect("--help", place.run("buildifier-tree", "--help")[0], 0)
+
+
+def refusals_are_sorted(place):
+    """By the names of the files, each with the lines below its own; the command line that goes on takes just these."""
+    bad = [f"p{i}/bad.BUILD" for i in range(30)]
+    place.put({**made(FEW), **dict.fromkeys(bad, REFUSED)})
+    place.git("init", "-q")
+    status, out, err = place.run("buildifier-tree")
+    place.expect("status", (status, out), (1, b""))
+    place.expect("refusals", [line for line in err if re.match(r"p\d+/", line)], [f"{name}:2:1: Unexpected" for name in sorted(bad)])
+    place.expect("summary", f"{FEW} files reformatted, 30 refused" in err, True)
+    place.expect("how to go on", err[-1], "to go on with just these: buildifier-tree --from=.git/kinduzar/rest")
+    place.put(dict.fromkeys(bad[:28], ODD))
+    words = shlex.split(err[-1].partition(": ")[2])
+    status, _, err = place.run(*words)
+    place.expect("going on", (status, err[-2:]), (1, ["28 files reformatted, 2 refused", "to go on with just these: buildifier-tree p28/bad.BUILD p29/bad.BUILD"]))
+
+
+def differences(place):
+    """What `diff` prints makes of the files what formatting does, also without a newline at the end and with odd line ends."""
+    files = {"a/BUILD": ODD + b"# c\n" * 20 + ODD, "b c/BUILD": b"x=1", "d/BUILD": b"x=1\r\ny=2\r\n", "e/BUILD": EVEN, "f/BUILD": b"# \xc3\xbc\nx=1\n"}
+    place.put(files)
+    status, out, err = place.run("buildifier-tree", "--mode=diff")
+    place.expect("status", (status, err), (4, ["4 files would be reformatted, 1 already formatted"]))
+    place.expect("headers", re.findall(rb"(?m)^--- (.*)$", out), [b"a/BUILD", b"b c/BUILD\t", b"d/BUILD", b"f/BUILD"])
+    place.wants_files("files", files)
+    if shutil.which("patch"):
+        subprocess.run(["patch", "-p0", "-s", "--binary"], cwd=place.folder, input=out, check=True, timeout=PATIENCE)
+        place.wants_files("patched", formatted(place, files))
+    else:
+        SCENES.say("not run with patch, which is not there")
+
+
+def only_what_changed(place):
+    """Since a revision, or since a branch left another one; new files are taken, and those that git ignores are not."""
+    place.put({**made(FEW), ".gitignore": b"out\n", "here/BUILD": EVEN})
+    place.git("init", "-q")
+    place.git("add", ".")
+    place.git("commit", "-qm", "one")
+    place.put({"here/BUILD": ODD, "new/BUILD": ODD, "out/BUILD": ODD})
+    place.expect("changed", place.run("buildifier-tree", "--diff-from=HEAD", "--mode=check")[:2], (4, b"here/BUILD # reformat\nnew/BUILD # reformat\n"))
+    place.expect("below", place.run("buildifier-tree", "--diff-from=HEAD", "--mode=check", here="new")[:2], (4, b"BUILD # reformat\n"))
+    place.expect("no revision", place.run("buildifier-tree", "--diff-from=none")[0], 3)
+    place.git("checkout", "-qb", "mine")
+    place.git("add", "here")
+    place.git("commit", "-qm", "two")
+    place.expect("a branch", place.run("buildifier-tree", "--diff-from=main...HEAD", "--mode=check", "here", "p1")[:2], (4, b"here/BUILD # reformat\n"))
+
+
+def a_process_that_is_killed(place):
+    """The other files of its batch are formatted, and it is named."""
+    place.put({**made(FEW), "p1/kill.BUILD": ODD})
+    place.replace("buildifier", f'#!/bin/sh\ncase "$*" in *kill.BUILD*) kill -9 $$ ;; esac\nexec {place.programs["buildifier"]} "$@"\n')
+    again = "to go on with just these: buildifier-tree p1/kill.BUILD"
+    lines = ["p1/kill.BUILD: buildifier ended by SIGKILL", f"{FEW} files reformatted, 1 refused", again]
+    place.expect("run", place.run("buildifier-tree"), (3, b"", lines))
+
+
+def stopped(place, command, words, program, number):
+    """Runs a command with a slow program, stops it once it has changed a file, and gives its status and the lines of standard error."""
+    pids, before = place.slow(program, 0.1), place.files()
+    run = place.start(command, *words)
+    until = time.monotonic() + PATIENCE
+    while place.files() == before and time.monotonic() < until:
+        time.sleep(0.01)
+    run.send_signal(number)
+    err = run.communicate(timeout=PATIENCE)[1]
+    # what is killed itself leaves its processes, which end with the files that they have
+    while number == signal.SIGKILL and alive(pids) and time.monotonic() < until:
+        time.sleep(0.01)
+    place.expect(f"{number.name}: processes", alive(pids), [])
+    place.fast(program)
+    return run.returncode, err.decode(errors="replace").splitlines()
+
+
+def formats_stopped_and_run_again(place):
+    """By each signal: every file is whole, nothing is left beside them, and a second run finishes."""
+    files = made(PACKAGES)
+    after = formatted(place, files)
+    for number in SIGNALS:
+        place.put(files)
+        status, err = stopped(place, "buildifier-tree", ["--processes=2"], "buildifier", number)
+        place.expect(f"{number.name}: status", (status, err[-1:]), (-number, [f"stopped by {number.name}; the same command goes on"]))
+        now = place.files()
+        place.expect(f"{number.name}: whole", [name for name in now if now[name] not in (files.get(name), after.get(name))], [])
+        count = sum(now[name] == after[name] for name in after)
+        place.expect(f"{number.name}: midway", 0 < count < len(files), True)
+        status, _, err = place.run("buildifier-tree")
+        place.expect(f"{number.name}: again", (status, err), (0, [f"{len(files) - count:,} files reformatted, {count:,} left unchanged"]))
+        place.wants_files(f"{number.name}: files", after)
+        place.expect(f"{number.name}: left beside them", list(place.folder.rglob("*.bznew")), [])
+
+
+def slow_processes_are_ended(place):
+    """Those that have not finished within the time for that; a signal that is passed over stays so."""
+    place.put(made(FEW))
+    pids = place.slow("buildifier", 60)
+    run = place.start("buildifier-tree")
+    while not pids.exists() or len(pids.read_text().split()) < 3:
+        time.sleep(0.02)
+    before = time.monotonic()
+    run.send_signal(signal.SIGINT)
+    run.communicate(timeout=PATIENCE)
+    place.expect("in time", (run.returncode, time.monotonic() - before < 10), (-signal.SIGINT, True))
+    place.expect("processes", alive(pids), [])
+    place.slow("buildifier", 0.3)
+    run = place.start("buildifier-tree", preexec_fn=lambda: signal.signal(signal.SIGHUP, signal.SIG_IGN))
+    time.sleep(0.5)
+    run.send_signal(signal.SIGHUP)
+    place.expect("nohup", (run.communicate(timeout=PATIENCE)[0], run.returncode), (b"", 0))
+
+
+def two_formats_at_once(place):
+    """Each ends well or names the file that the other one held; every file is whole, and nothing is left beside them."""
+    files = made(PACKAGES)
+    place.put(files)
+    after = formatted(place, files)
+    runs = [place.start("buildifier-tree") for _ in range(2)]
+    for run in runs:
+        _, err = run.communicate(timeout=PATIENCE)
+        other = [line for line in err.decode().splitlines() if not re.fullmatch(r".*: cannot write|.*(?:reformatted|unchanged|refused).*|to go on .*", line)]
+        place.expect("a run", (run.returncode in (0, 3), other), (True, []))
+    place.expect("a third one", place.run("buildifier-tree", "--quiet"), (0, b"", []))
+    place.expect("left beside them", list(place.folder.rglob("*.bznew")), [])
+    place.wants_files("files", after)
+
+
+def on_a_terminal(place):
+    """There are a bar, which is gone at the end, and colours; without one there are none."""
+    place.put(made(FEW))
+    for words, signs in ((["--mode=diff"], [b"\x1b[31m-", b"\x1b[32m+", b"\x1b[36m@@"]), ([], [f"{FEW}/{FEW} files".encode()])):
+        end, other = pty.openpty()
+        place.environment["TERM"] = "xterm"
+        with place.start("buildifier-tree", *words, stdout=other, stderr=other) as run:
+            os.close(other)
+            shown = b""
+            with contextlib.suppress(OSError):
+                while piece := os.read(end, 65536):
+                    shown += piece
+            run.wait(timeout=PATIENCE)
+        os.close(end)
+        place.expect(f"signs of {words}", [sign for sign in signs if sign not in shown], [])
+        place.expect("the last line", b"reformatted" in shown.rstrip().rpartition(b"\n")[2].rpartition(b"\x1b[K")[2], True)
+    place.expect("no terminal", b"\x1b" in place.run("buildifier-tree", "--mode=diff")[1], False)
+
+
+def a_closed_output(place):
+    """What cannot be written to it is told, and ends the run with 3."""
+    place.put(made(FEW))
+    with open("/dev/full", "wb") as full:
+        run = place.start("buildifier-tree", "--mode=check", stdout=full)
+        err = run.communicate(timeout=PATIENCE)[1].decode().splitlines()
+    place.expect("full", (run.returncode, err), (3, ["<stdout>: cannot write", f"{FEW} files would be reformatted"]))
+
+
+# ---- buildozer-tree
+
+
+def edited(place, files, commands):
+    """The files as one process of buildozer leaves them, which has a target for each."""
+    with tempfile.TemporaryDirectory(dir=place.folder.parent) as folder:
+        for name, text in files.items():
+            file = pathlib.Path(folder, name)
+            file.parent.mkdir(parents=True, exist_ok=True)
+            file.write_bytes(text)
+        targets = [f"//{os.path.dirname(name)}:all" for name in files]
+        subprocess.run([place.programs["buildozer"], "--quiet", *commands, *targets], cwd=folder, timeout=PATIENCE, check=True)
+        return {name: pathlib.Path(folder, name).read_bytes() for name in files}
+
+
+EDIT = ["set testonly True", "add deps //lib:b"]
+
+
+def all_packages_are_edited(place):
+    """As by one process, in order; a second run changes nothing; what is ignored, links, and workspaces within stay."""
+    files = made(PACKAGES)
+    stay = {"MODULE.bazel": b"", ".gitignore": b"ignored\n", "ignored/BUILD": ODD, ".bazelignore": b"named\n", "named/BUILD": ODD, "p1/in/REPO.bazel": b"", "p1/in/a/BUILD": ODD,
+            "empty/BUILD": b"", "p1/z.BUILD": ODD}  # fmt: skip
+    place.put({**files, **stay})
+    place.git("init", "-q")
+    (place.folder / "linked").mkdir()
+    (place.folder / "linked/BUILD").symlink_to("../p1/q1/BUILD")
+    (place.folder / "loop").symlink_to("..")
+    before = place.files()
+    status, out, err = place.run("buildozer-tree", *EDIT, "//...:all")
+    names = sorted(files, key=os.path.dirname)
+    note = "passed over 1 package whose BUILD file is a link: linked"
+    place.expect("edit", (status, out, err), (0, b"", [*(f"fixed {name}" for name in names), note, f"{len(files):,} files fixed, 1 left unchanged"]))
+    place.wants_files("files", {**before, **edited(place, files, EDIT)})
+    place.expect("again", place.run("buildozer-tree", *EDIT, "//...:all"), (3, b"", [note, f"{len(files) + 1:,} files left unchanged"]))
+    status, out, err = place.run("buildozer-tree", "print name", "//p1/...:all")
+    place.expect("printed", (status, out, err), (3, b"".join(b"x%d\n" % i for i in sorted((i for i in range(PACKAGES) if i % 40 == 1), key=str)), []))
+
+
+TARGETS = [
+    (["//...:all"], "root a ab r c r"), (["//a/...:all"], "a ab r c"), (["//a/...:*"], "a ab r c"), (["//...:%g"], "c"), (["//a/...:r"], "r"),
+    (["//a/..."], "a c"), (["//..."], "a c"), (["//...:__pkg__"], ""), (["//a/...:%2"], "ab r"), (["//a:all", "//...:r", "//a:a"], "a ab r r a"),
+    (["--types=g", "//...:all"], "c"), (["--types=g,f", "//a/...:all"], "a r c"), (["--types=f", "//...:%g"], ""), (["--types=f", "//...:r", "//a/c:c"], "r r"),
+]  # fmt: skip
+
+
+def targets_mean_packages(place):
+    """Each form of a target, from the root and from a package."""
+    texts = {"BUILD": b'f(name="root")\n', "a/BUILD": b'f(name="a")\nh(name="ab")\n', "a/b/BUILD": b'# c\nf(name="r")\n', "a/c/BUILD.bazel": b'g(name="c")\n', "d/BUILD": b'f(name="r")\n'}
+    place.put({"WORKSPACE": b"", **texts})
+    for words, names in TARGETS:
+        status, out, err = place.run("buildozer-tree", "print name", *words)
+        found = "" if not out and status == 2 else " ".join(sorted(out.decode().split()))
+        place.expect(f"{words}", found, " ".join(sorted(names.split())))
+    for here, word, names in (("a", ":all", "a ab"), ("a", "b:r", "r"), ("a", "...:r", "r"), ("a", "...", "a c"), ("a/b", ":all", "r"), ("a", "b/...:all", "r"), ("", "a/...:%f", "a r")):
+        found = place.run("buildozer-tree", "print name", word, here=here or ".")[1].decode().split()
+        place.expect(f"{word} in {here}", sorted(found), sorted(names.split()))
+    place.expect("none", place.run("buildozer-tree", "delete", "//none/...:all"), (2, b"", ["//none/...:all: there is no package", "1 file refused"]))
+    place.expect("no rule", place.run("buildozer-tree", "delete", "//...:none")[2][:1], ["//...:none: no package has such a rule"])
+    absent = place.run("buildozer-tree", "-k", "print name", "//z:all", "//d:r", "//m:all")
+    hint = PACKAGE_HINT.decode().strip()
+    place.expect("absent", (absent[0], absent[1], absent[2][:4]), (2, b"r\n", ["m/BUILD: cannot open", hint, "z/BUILD: cannot open", hint]))
+    usage = place.run("buildozer-tree", "delet", "//...:all")
+    place.expect("usage", (usage[0], usage[2][:2]), (1, ["buildozer: delet: Unknown (31)", "buildozer: did you mean 'delete'?"]))
+    for words in (["delete"], ["//...:all"], ["delete", "//a//b:x"], ["--stdout", "--journal", "delete", "//a:a"], ["-x"], ["delete", "-f"], ["undo"], ["delete", "--", "-:all"]):
+        place.expect(f"{words}", place.run("buildozer-tree", *words)[0], 1)
+    place.wants_files("files", {"WORKSPACE": b"", **texts})
+
+
+def names_that_no_target_has(place):
+    """They are told, and the others are edited."""
+    place.put({"a/BUILD": ODD, **{f"{name}/BUILD": ODD for name in ODD_NAMES}})
+    place.put({os.fsdecode(b"bytes\xff/BUILD"): ODD})
+    status, _, err = place.run("buildozer-tree", "--quiet", "set size small", "//...:all")
+    unnamed = [name for name in ODD_NAMES if any(sign in name for sign in " :|\n#")]
+    place.expect("status", (status, sum("no target can name" in line for line in err)), (2, len(unnamed) + 1))
+    files = place.files()
+    place.expect("edited", sorted(name for name in files if b"size" in files[name]), sorted(["a/BUILD", "\u00fcml\u00e4ut/BUILD", "-dash/BUILD"]))
+
+
+def lines_in_their_order(place):
+    """A file of lines: what they do to a package is done in their order, and what is wrong in one is told with its place."""
+    place.put({"MODULE.bazel": b"", **made(FEW)})
+    place.put({"a/lines": b"\xef\xbb\xbfset size small|//...:all\r\n# no line\n\nset size large|//p1/...:all\nnew g after|//p1/...:all\nset kind h|//...:%g\n"})
+    place.expect("run", place.run("buildozer-tree", "--quiet", "-f", "lines", here="a"), (0, b"", []))
+    out = place.run("buildozer-tree", "print kind size", "//...:all")[1].decode().splitlines()
+    in_p1 = sum(i % 40 == 1 for i in range(FEW))
+    place.expect("files", (out.count("f small"), out.count("f large"), out.count("h (missing)"), len(out)), (FEW - in_p1, in_p1, in_p1, FEW + in_p1))
+    place.put({"a/lines": b"set size small|//...:all\ndelet|//...:all\n"})
+    place.expect("a wrong one", (lambda run: (run[0], run[2][0], run[2][-1]))(place.run("buildozer-tree", "-f", "lines", here="a")),
+                (1, "buildozer: delet: Unknown (31)", "lines:2: refused"))  # fmt: skip
+    place.expect("from standard input", place.run("buildozer-tree", "-f", "-", text=b"delete|//...:%h\n")[0], 0)
+    place.expect("beside operands", place.run("buildozer-tree", "-f", "a/lines", "//a:b")[0], 1)
+
+
+def failures_end_a_run(place):
+    """Without -k no further package is begun; with it all are. What failed and what is left can be gone on with."""
+    place.put({"MODULE.bazel": b"", **made(FEW), "p1/bad/BUILD": REFUSED, "p0/bad/BUILD": REFUSED})
+    status, _, err = place.run("buildozer-tree", "--processes=1", "set size small", "//...:all")
+    place.expect("status", (status, err[-2].endswith("not begun"), err[-1].startswith("to go on with just these: buildozer-tree ")), (2, True, True))
+    done = sum(b"size" in text for text in place.files().values())
+    place.put({"p0/bad/BUILD": ODD})
+    words = shlex.split(err[-1].partition(": ")[2])
+    status, _, err = place.run(words[0], "-k", *words[1:])
+    count = FEW + 1 - done
+    wanted = ["p1/bad/BUILD:2:1: Unexpected", "    ", "    ^ the end of the file", f"{count} files fixed, 1 refused", "to go on with just these: buildozer-tree -k --processes=1 'set size small' //p1/bad:all"]
+    place.expect("going on", (status, err[count:]), (2, wanted))
+    place.expect("files", sum(b"size" in text for text in place.files().values()), FEW + 1)
+
+
+def changed_and_taken_back(place):
+    """Byte for byte, with one file changed by hand in between, and told; done again; and gone on with once that one is as it was."""
+    files = made(PACKAGES)
+    place.put({"MODULE.bazel": b"", ".gitignore": b"*.journal\n", **files})
+    place.git("init", "-q")
+    before = place.files()
+    status, _, err = place.run("buildozer-tree", "--journal", *EDIT, "//...:all")
+    place.expect("edit", (status, err[-2:]), (0, [f"{len(files):,} files fixed", "this was run 1: buildozer-tree undo takes it back"]))
+    after = place.files()
+    place.expect("a second edit", place.run("buildozer-tree", "--journal", "--quiet", "remove testonly", "//p1/...:all"), (0, b"", []))
+    second = place.files()
+    place.expect("undo of the second", place.run("buildozer-tree", "undo", "--quiet"), (0, b"", []))
+    place.wants_files("after it", after)
+    by_hand = "p2/q2/BUILD"
+    place.put({by_hand: after[by_hand] + b"# by hand\n"})
+    status, _, err = place.run("buildozer-tree", "undo")
+    line = "run 1, buildozer-tree --journal 'set testonly True' 'add deps //lib:b' //...:all"
+    wanted = [f"{by_hand}: left as it is: it does not hold the text that run 1 left", f"{len(files) - 1:,} files taken back, 1 left alone: {line}",
+              "to go on with just these, once they hold that text: buildozer-tree undo 1"]  # fmt: skip
+    place.expect("undo", (status, err[-3:]), (2, wanted))
+    place.wants_files("taken back", {**before, by_hand: after[by_hand] + b"# by hand\n"})
+    place.put({by_hand: after[by_hand]})
+    place.expect("going on", place.run("buildozer-tree", "undo", "--quiet"), (0, b"", []))
+    place.wants_files("all taken back", before)
+    place.expect("no more", place.run("buildozer-tree", "undo")[0], 2)
+    place.expect("redo", place.run("buildozer-tree", "redo", "--quiet", here="p1"), (0, b"", []))
+    place.wants_files("done again", after)
+    place.expect("redo of the second", place.run("buildozer-tree", "redo", "--quiet"), (0, b"", []))
+    place.wants_files("both done again", second)
+    place.expect("no redo", place.run("buildozer-tree", "redo")[0], 2)
+    listed = place.run("buildozer-tree", "runs")[1].decode().splitlines()
+    place.expect("runs", [re.sub(r" +\d+-\d+-\d+ \d+:\d+ +", " ", row) for row in listed],
+                [f"   2 {len([i for i in range(PACKAGES) if i % 40 == 1])} files  buildozer-tree --journal --quiet 'remove testonly' //p1/...:all",
+                 f"   1 {len(files):,} files  {line.partition(', ')[2]}"])  # fmt: skip
+
+
+def edits_stopped_and_taken_back(place):
+    """By each signal, and killed: what the run did is taken back, byte for byte, also with a file changed by others since."""
+    files = made(PACKAGES // 2)
+    place.put({"MODULE.bazel": b"", **files})
+    place.git("init", "-q")
+    for number in (*SIGNALS, signal.SIGKILL):
+        place.put(files)
+        before = place.files()
+        status, err = stopped(place, "buildozer-tree", ["--journal", "--processes=2", *EDIT, "//...:all"], "buildozer", number)
+        place.expect(f"{number.name}: status", status, -number)
+        place.expect(f"{number.name}: told", any(line == f"stopped by {number.name}" for line in err), number != signal.SIGKILL)
+        now = place.files()
+        changed = [name for name in files if now[name] != before[name]]
+        place.expect(f"{number.name}: midway", 0 < len(changed) < len(files), True)
+        place.expect(f"{number.name}: undo", place.run("buildozer-tree", "undo", "--quiet"), (0, b"", []))
+        place.wants_files(f"{number.name}: taken back", before)
+        place.expect(f"{number.name}: redo", place.run("buildozer-tree", "redo", "--quiet"), (0, b"", []))
+        place.wants_files(f"{number.name}: done again", now)
+        by_others = changed[0]
+        subprocess.run([place.programs["buildozer"], "--quiet", "--journal", "set size small", f"//{os.path.dirname(by_others)}:all"], cwd=place.folder, timeout=PATIENCE)
+        others = place.files()[by_others]
+        place.expect(f"{number.name}: with another change", place.run("buildozer-tree", "undo", "--quiet")[0], 2)
+        place.wants_files(f"{number.name}: taken back but it", {**before, by_others: others})
+        for journal in place.folder.rglob("*.journal"):
+            journal.unlink()
+
+
+def an_undo_that_is_stopped(place):
+    """It goes on where it was stopped."""
+    files = made(PACKAGES // 2)
+    place.put({"MODULE.bazel": b"", **files})
+    place.git("init", "-q")
+    before = place.files()
+    place.run("buildozer-tree", "--journal", "--quiet", *EDIT, "//...:all")
+    for number in (signal.SIGTERM, signal.SIGKILL):
+        status, _ = stopped(place, "buildozer-tree", ["undo", "--processes=2"], "buildozer", number)
+        place.expect(f"{number.name}: status", status, -number)
+    place.expect("undo", place.run("buildozer-tree", "undo", "--quiet"), (0, b"", []))
+    place.wants_files("taken back", before)
+
+
+def two_edits_at_once(place):
+    """Each has a run of its own, and each is taken back; one that is going on isn't."""
+    files = made(FEW)
+    place.put({"MODULE.bazel": b"", **files})
+    place.git("init", "-q")
+    before = place.files()
+    place.replace("buildozer", WAITING.format(program=place.programs["buildozer"]))
+    runs = [place.start("buildozer-tree", "--journal", "--quiet", "set size small", *(f"//p{i}/...:all" for i in range(40) if i % 2 == half)) for half in (0, 1)]
+    records = place.folder / ".git/kinduzar/runs"
+    while len(list(records.glob("*.json"))) < 2:
+        time.sleep(0.01)
+    status, _, err = place.run("buildozer-tree", "undo")
+    place.expect("an undo meanwhile", (status, err), (2, ["buildozer-tree: undo: run 2 is going on"]))
+    (place.folder / "go").touch()
+    for run in runs:
+        place.expect("a run", (run.communicate(timeout=PATIENCE), run.returncode), ((b"", b""), 0))
+    place.fast("buildozer")
+    for _ in runs:
+        place.expect("undo", place.run("buildozer-tree", "undo", "--quiet"), (0, b"", []))
+    place.wants_files("taken back", {**before, "go": b""})
+
+
+def where_runs_are_kept(place):
+    """In .git, in a folder that is named, and apart for each workspace; a run that changed nothing is not kept."""
+    place.put({"MODULE.bazel": b"", "a/BUILD": ODD, "in/WORKSPACE": b"", "in/a/BUILD": ODD})
+    place.expect("no place", place.run("buildozer-tree", "--journal", "set size small", "//a:all")[0], 1)
+    place.expect("a named one", place.run("buildozer-tree", "--state=kept", "--journal", "--quiet", "set size small", "//a:all"), (0, b"", []))
+    place.expect("its undo", place.run("buildozer-tree", "--state", "kept", "undo", "--quiet"), (0, b"", []))
+    place.git("init", "-q")
+    place.expect("nothing changed", place.run("buildozer-tree", "--journal", "--quiet", "remove none", "//a:all"), (3, b"", []))
+    place.expect("no runs", place.run("buildozer-tree", "runs"), (0, b"", []))
+    place.expect("within", place.run("buildozer-tree", "--journal", "--quiet", "set size small", "//a:all", here="in/a"), (0, b"", []))
+    place.expect("of the outer one", place.run("buildozer-tree", "undo")[0], 2)
+    place.expect("of the inner one", place.run("buildozer-tree", "undo", "--quiet", here="in"), (0, b"", []))
+    place.expect("files", [place.files()[name] for name in ("a/BUILD", "in/a/BUILD")], [ODD, ODD])
+    records = place.folder / ".git/kinduzar/runs"
+    (records / "000009.json").write_text("{")
+    place.expect("a torn record", place.run("buildozer-tree", "undo")[0], 2)
+
+
+# ---- both
+
+
+def sources_are_of_python_3_9(place):
+    """All files are read by the grammar of the oldest version."""
+    before, files = sorted(TREE.rglob("*")), [*TREE.glob("*-tree"), *TREE.rglob("*.py")]
+    place.expect("files", len(files) > 5, True)
+    for file in files:
+        ast.parse(file.read_text(), str(file), feature_version=(3, 9))
+    others = filter(None, map(shutil.which, ("python3.9", "python3.10", "python3.12", "python3.13", "python3.14")))
+    for python in [other for other in others if subprocess.run([other, "-c", ""], capture_output=True, timeout=PATIENCE).returncode == 0]:
+        for command in COMMANDS:
+            run = subprocess.run([python, TREE / command, "--help"], capture_output=True, timeout=PATIENCE)
+            place.expect(f"{python} {command}", (run.returncode, run.stderr), (0, b""))
+    place.expect("left beside them", sorted(TREE.rglob("*")), before)
+
+
+@contextlib.contextmanager
+def place(programs):
+    with new_folder() as folder, tempfile.TemporaryDirectory() as scratch:
+        tree = pathlib.Path(folder, "tree")
+        tree.mkdir()
+        yield Place(programs, tree, pathlib.Path(scratch))
+
+
+def with_git(scene):
+    """A scene that needs git, of which is said where there is none."""
+
+    def tried(place):
+        if not shutil.which("git"):
+            SCENES.say(f"{scene.__name__} was not run: there is no git")
+            return
+        scene(place)
+
+    return tried
+
+
+TREES = named(
+    all_files_are_formatted, paths_and_usage, refusals_are_sorted, differences, only_what_changed, a_process_that_is_killed, formats_stopped_and_run_again,
+    slow_processes_are_ended, two_formats_at_once, on_a_terminal, a_closed_output, all_packages_are_edited, targets_mean_packages, names_that_no_target_has,
+    lines_in_their_order, failures_end_a_run, changed_and_taken_back, edits_stopped_and_taken_back, an_undo_that_is_stopped, two_edits_at_once, where_runs_are_kept,
+    sources_are_of_python_3_9,
+)  # fmt: skip
+SCENES = Scenes(__file__, {name: with_git(scene) for name, scene in TREES.items()}, place=place)
+
+if __name__ == "__main__":
+    SCENES.main()
