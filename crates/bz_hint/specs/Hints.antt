@@ -1,0 +1,45 @@
+-- The line below that of a command which is refused.
+use Rattle.std.specs.Prelude.{ℕ, ◌==◌, List, [], ◌∷◌, ◌++◌, Option, Some, None, bytes_eq, codes, decimal, if◌then◌else◌}
+use Rattle.std.specs.Str.Lossy.{utf8_lossy}
+use Rattle.bz_items.specs.Characters.{Bytes}
+use Rattle.bz_label.specs.declared.target.Which.{Which}
+use Rattle.bz_label.specs.declared.target.Which.TheVariants.{All, Kind, Line, Package, Name}
+use Rattle.bz_value.specs.Refusals.{refusal_number}
+use Rattle.bz_value.specs.declared.refusal.Refusal.{Refusal}
+use Rattle.bz_value.specs.declared.refusal.Refusal.TheVariants.{NoTarget}
+use Rattle.bz_value.specs.declared.value.Item.{Item}
+use Rattle.bz_command_syntax.specs.declared.command.Operation.{Operation}
+use Rattle.bz_streams.specs.Controls.{escaped_text}
+use Rattle.bz_hint.specs.Names.{nearest_rule}
+use Rattle.bz_hint.specs.Refusing.{RuleAt, refusing_rule}
+
+-- of a file of which no rule has a name, and a name that is near, if one is
+abbrev pub missing_line : Bytes → Bytes → Bytes → Bytes
+missing_line file name back = codes "buildozer: no rule of " ++ (escaped_text file ++ (codes " has the name '" ++ (escaped_text name ++ (codes "'" ++ back))))
+
+abbrev pub missing_lines : Bytes → Bytes → Option Bytes → List Bytes
+missing_lines file name None = missing_line file name (codes "\n") ∷ []
+missing_lines file name (Some near) =
+    if bytes_eq near name then [] else missing_line file name (codes ": did you mean '" ++ (escaped_text near ++ codes "'?\n")) ∷ []
+
+-- which rule refuses
+abbrev pub refusing_name : Option Bytes → Bytes
+refusing_name None = codes ": the rule refuses it\n"
+refusing_name (Some name) = codes ": the rule '" ++ (escaped_text name ++ codes "' refuses it\n")
+
+abbrev pub rule_line : Bytes → Bytes → Option Bytes → Bytes
+rule_line file line name = codes "buildozer: " ++ (escaped_text file ++ (codes ":" ++ (line ++ refusing_name name)))
+
+abbrev pub refusing_lines : Bytes → Option RuleAt → List Bytes
+refusing_lines file None = []
+refusing_lines file (Some rule) = rule_line file (decimal rule.line) rule.name ∷ []
+
+-- That no rule has the name of a target, and which one is near; or which of the rules that a target means refuses. (The file's name, the
+-- package of its history, and the lines and the items of its text.)
+abbrev pub refusal_hint : Bytes → Refusal → Operation → Which → Bytes → List ℕ → List Item → List Bytes
+refusal_hint file refusal operation All current lines items = refusing_lines file (refusing_rule operation All current lines items)
+refusal_hint file refusal operation (Kind kind) current lines items = refusing_lines file (refusing_rule operation (Kind kind) current lines items)
+refusal_hint file refusal operation (Name name) current lines items =
+    if refusal_number refusal == refusal_number NoTarget then missing_lines file (utf8_lossy name) (nearest_rule (utf8_lossy name) items) else []
+refusal_hint file refusal operation (Line line) current lines items = []
+refusal_hint file refusal operation Package current lines items = []

@@ -1,0 +1,4 @@
+pub mod Hints
+pub mod Names
+pub mod Refusing
+pub mod private

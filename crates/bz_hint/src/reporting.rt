@@ -1,0 +1,185 @@
+//! The line below that of a command which is refused. The faults of standard error are passed over.
+ghost use Rattle.std.specs.Prelude.{◌≡◌, ◌∷◌, [], ◌++◌, List, ℕ, Some, None, codes, decimal, option_map, OnOk, OnErr};
+ghost use Rattle.std.specs.Str.Lossy.{utf8_lossy};
+ghost use Rattle.bz_grammar.specs.Legal.{Reads};
+ghost use Rattle.bz_grammar.specs.Statements.{lines_of};
+ghost use Rattle.bz_grammar.specs.declared.tree.Node.{Node};
+ghost use Rattle.bz_hosts.specs.View.{view_of};
+ghost use Rattle.bz_streams.specs.Faults.{AppendsUnlessFailed};
+ghost use Rattle.bz_streams.specs.Outputs.{Reports};
+ghost use Rattle.bz_streams.specs.Controls.{escaped_text};
+ghost use Rattle.bz_hint.specs.Hints.{missing_line, missing_lines, refusal_hint, refusing_lines, rule_line};
+ghost use Rattle.bz_hint.specs.Names as names;
+ghost use Rattle.bz_hint.specs.Refusing as refusing;
+
+use crate::names::nearest_rule;
+use crate::refusing::refusing_rule;
+use bz_command::{Command, Refusal};
+use bz_items::Memory;
+use bz_label::{Target, Which};
+use bz_streams::{LinePiece, Sink, report_pieces};
+use itoa::Buffer;
+use std::alloc::Global;
+
+// No rule of a file has this name.
+fn report_missing<'a, E: Sink>(err: &mut E, file: &'a str, name: &'a str)
+    ensures { AppendsUnlessFailed (E.faults err.old) (E.faults err.new) (E.contents err.old) (E.contents err.new)
+        (missing_line file.entry.now name.entry.now (codes "\n")) }
+{
+    report_pieces(
+        err,
+        &[
+            LinePiece::Own("buildozer: no rule of "),
+            LinePiece::Outside(file),
+            LinePiece::Own(" has the name '"),
+            LinePiece::Outside(name),
+            LinePiece::Own("'"),
+            LinePiece::Own("\n"),
+        ],
+    );
+}
+
+// The same, and this one is near.
+fn report_near<'a, E: Sink>(err: &mut E, file: &'a str, name: &'a str, near: &'a str)
+    ensures { AppendsUnlessFailed (E.faults err.old) (E.faults err.new) (E.contents err.old) (E.contents err.new)
+        (missing_line file.entry.now name.entry.now (codes ": did you mean '" ++ (escaped_text near.entry.now ++ codes "'?\n"))) }
+{
+    report_pieces(
+        err,
+        &[
+            LinePiece::Own("buildozer: no rule of "),
+            LinePiece::Outside(file),
+            LinePiece::Own(" has the name '"),
+            LinePiece::Outside(name),
+            LinePiece::Own("'"),
+            LinePiece::Own(": did you mean '"),
+            LinePiece::Outside(near),
+            LinePiece::Own("'?\n"),
+        ],
+    );
+}
+
+// Reports that a file has no rule of a name, unless it is that of one, and this one, the nearest, where one is near.
+fn report_nearest<'a, E: Sink>(err: &mut E, file: &'a str, name: &'a str, near: Option<&'a str>)
+    ensures { Reports (E.faults err.old) (E.faults err.new) (E.contents err.old) (E.contents err.new)
+        (missing_lines file.entry.now name.entry.now (option_map (λ s. s.now) near.entry)) }
+{
+    match near {
+        Some(near) if near == name => {}
+        Some(near) => report_near(err, file, name, near),
+        None => report_missing(err, file, name),
+    }
+}
+
+fn hint_missing<E: Sink>(
+    alloc: Global,
+    err: &mut E,
+    file: &str,
+    text: &[u8],
+    name: &[u8],
+) -> Result<(), Memory>
+    ensures ok { (n : Node) → Reads text.now n → OnOk result (Reports (E.faults err.old) (E.faults err.new) (E.contents err.old) (E.contents err.new)
+        (missing_lines file.now (utf8_lossy name.now) (names.nearest_rule (utf8_lossy name.now) (view_of n)))) }
+    ensures err { OnErr result (err.new ≡ err.old) }
+{
+    let name = String::from_utf8_lossy(alloc, name)?;
+    let near = nearest_rule(alloc, text, name.as_str())?;
+    report_nearest(err, file, name.as_str(), near.as_deref());
+    Ok(())
+}
+
+// A rule without a name refuses.
+fn report_unnamed<'a, E: Sink>(err: &mut E, file: &'a str, line: &'a str)
+    ensures { AppendsUnlessFailed (E.faults err.old) (E.faults err.new) (E.contents err.old) (E.contents err.new)
+        (rule_line file.entry.now line.entry.now None) }
+{
+    report_pieces(
+        err,
+        &[
+            LinePiece::Own("buildozer: "),
+            LinePiece::Outside(file),
+            LinePiece::Own(":"),
+            LinePiece::Own(line),
+            LinePiece::Own(": the rule refuses it\n"),
+        ],
+    );
+}
+
+fn report_named<'a, E: Sink>(err: &mut E, file: &'a str, line: &'a str, name: &'a str)
+    ensures { AppendsUnlessFailed (E.faults err.old) (E.faults err.new) (E.contents err.old) (E.contents err.new)
+        (rule_line file.entry.now line.entry.now (Some name.entry.now)) }
+{
+    report_pieces(
+        err,
+        &[
+            LinePiece::Own("buildozer: "),
+            LinePiece::Outside(file),
+            LinePiece::Own(":"),
+            LinePiece::Own(line),
+            LinePiece::Own(": the rule '"),
+            LinePiece::Outside(name),
+            LinePiece::Own("' refuses it\n"),
+        ],
+    );
+}
+
+// Reports which rule refuses, by the file and the line.
+fn report_rule<E: Sink>(err: &mut E, file: &str, line: u32, name: Option<&str>)
+    ensures { AppendsUnlessFailed (E.faults err.old) (E.faults err.new) (E.contents err.old) (E.contents err.new)
+        (rule_line file.now (decimal line) (option_map (λ s. s.now) name.entry)) }
+{
+    let mut numbers = Buffer::new();
+    let line = numbers.format(line);
+    match name {
+        Some(name) => report_named(err, file, line, name),
+        None => report_unnamed(err, file, line),
+    }
+}
+
+// Reports which of the rules that a target means refuses the command, if one does.
+fn hint_refusing<E: Sink>(
+    alloc: Global,
+    err: &mut E,
+    file: &str,
+    text: &[u8],
+    command: &Command,
+    target: &Target,
+    current: &[u8],
+) -> Result<(), Memory>
+    ensures ok { (n : Node) → Reads text.now n → OnOk result (Reports (E.faults err.old) (E.faults err.new) (E.contents err.old) (E.contents err.new)
+        (refusing_lines file.now (refusing.refusing_rule command.now target.now.which current.now (lines_of n) (view_of n)))) }
+    ensures err { OnErr result (err.new ≡ err.old) }
+{
+    if let Some(rule) = refusing_rule(alloc, text, command, target, current)? {
+        report_rule(err, file, rule.line, rule.name.as_deref());
+    }
+    Ok(())
+}
+
+/// Reports what helps below the line of a command that is refused in a file of this name and text, a BUILD file's: where no rule has the name
+/// of the target, that, and the name that is near; where the target means several rules, which one refuses it. `current` is the path of
+/// the file's package. The error: memory was refused, and nothing is reported.
+pub fn report_hint<E: Sink>(
+    alloc: Global,
+    err: &mut E,
+    file: &str,
+    text: &[u8],
+    command: &Command,
+    target: &Target,
+    current: &[u8],
+    refusal: Refusal,
+) -> Result<(), Memory>
+    ensures ok { (n : Node) → Reads text.now n → OnOk result (Reports (E.faults err.old) (E.faults err.new) (E.contents err.old) (E.contents err.new)
+        (refusal_hint file.now refusal command.now target.now.which current.now (lines_of n) (view_of n))) }
+    ensures err { OnErr result (err.new ≡ err.old) }
+{
+    match &target.which {
+        Which::All | Which::Kind(_) => {
+            hint_refusing(alloc, err, file, text, command, target, current)
+        }
+        Which::Name(name) if refusal.number() == Refusal::NoTarget.number() => {
+            hint_missing(alloc, err, file, text, name.as_slice())
+        }
+        Which::Name(_) | Which::Line(_) | Which::Package => Ok(()),
+    }
+}
