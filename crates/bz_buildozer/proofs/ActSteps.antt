@@ -1,10 +1,16 @@
 -- What an action leaves in the files of a run.
-use Rattle.std.proofs.Common.{◌≡◌, ◌∙◌, inl, inr, ℕ, zero, suc, List, [], ◌∷◌, Bool, Option, Some, None, Ok, Err, refl, sym, ap, subst, true≢false}
-use Rattle.std.specs.Prelude.{map, slice_get, is_some, unwrap_or, IsSome}
+use Rattle.std.proofs.Common.{◌≡◌, ◌≢◌, ◌∙◌, inl, inr, ℕ, zero, suc, List, [], ◌∷◌, Bool, Option, Some, None, Ok, Err, refl, sym, ap, subst, true, false, true≢false}
+use Rattle.std.specs.Prelude.{map, slice_get, is_some, unwrap_or, IsSome, bytes_eq, nat_lt, if◌then◌else◌}
+use Rattle.bz_grammar.specs.Legal.{Reads}
+use Rattle.bz_grammar.specs.declared.tree.Node.{Node}
 use Rattle.bz_items.specs.Characters.{Bytes}
+use Rattle.bz_label.specs.declared.target.Target.{Target}
+use Rattle.bz_command_syntax.specs.declared.command.Operation.{Operation}
+use Rattle.bz_journal.specs.History.{most_steps, unchanged}
+use Rattle.bz_journal.specs.Meaning.{refuses}
 use Rattle.bz_value.specs.declared.refusal.Refusal.{Refusal}
-use Rattle.bz_value.specs.declared.refusal.Refusal.TheVariants.{Memory}
-use Rattle.bz_buildozer.specs.Sessions.{Action, Reply, History, Acts, Leads}
+use Rattle.bz_value.specs.declared.refusal.Refusal.TheVariants.{Full, Memory, NoteTooLong}
+use Rattle.bz_buildozer.specs.Sessions.{Action, Answer, Do, Reply, Changed, History, Acts, Leads, Meaning, Means, gives, after_meaning, changed, present}
 use Rattle.bz_streams.specs.Faults.{AppendsUnlessFailed}
 use Rattle.bz_streams.specs.Outputs.{Reports}
 use Rattle.bz_buildozer.specs.Found.{Opened, Used, file_at, with_opened}
@@ -28,6 +34,9 @@ pub still_open : (place : ℕ) (used after : List Used) (file new : Opened) → 
     → IsSome (file_at place after)
 still_open place used after file new there put = ap is_some (file_put place used after file new there put)
 
+pub same_of : (one other : Opened) → ◌≡◌ {A = Option Opened} (Some one) (Some other) → one ≡ other
+same_of one other same = ap (λ (found : Option Opened). unwrap_or found one) same
+
 -- the name of the file that is there
 pub named_by : (one other : Opened) (name : Bytes) → name ≡ one.name → ◌≡◌ {A = Option Opened} (Some one) (Some other) → name ≡ other.name
 named_by one other name is same = is ∙ ap (λ (found : Option Opened). (unwrap_or found one).name) same
@@ -38,6 +47,24 @@ pub led_to : (h after : History) (action : Action) (note : Bytes) (refusal : Ref
 led_to h after action note refusal (inl long) other = inl long
 led_to h after action note refusal (inr (short, inl makes)) other = inr (short, makes)
 led_to h after action note refusal (inr (short, inr refused_memory)) other = let e = refused_memory.1 in absurd (other (cc))
+
+-- A command that is refused where its note isn't too long was refused on the tree of the text, which stays.
+tree_of : (operation : Operation) (target : Target) (note : Bytes) (h after : History) (refusal : Refusal) (m : Meaning) → Means operation target h.«package» (present h) m
+    → ◌≡◌ {A = Answer × History} (Err refusal, after) (after_meaning note h m) → (n : Node) × Reads (present after) n
+tree_of operation target note h after refusal (refuses cause) means is =
+    (means.0, subst (λ (it : History). Reads (present it) means.0) (sym (ap (λ (both : Answer × History). both.1) is)) means.1)
+tree_of operation target note h after refusal (gives text printed) means is = of (bytes_eq text (present h)) (nat_lt h.cursor most_steps) is
+  where
+    of : (same room : Bool) → ◌≡◌ {A = Answer × History} (Err refusal, after) (if same then (Ok (unchanged printed), h) else (if room then (Ok Changed, changed note h text) else (Err Full, h)))
+        → (n : Node) × Reads (present after) n
+    of true room is = absurd (let e = ap (λ (both : Answer × History). both.0) is in cc)
+    of false true is = absurd (let e = ap (λ (both : Answer × History). both.0) is in cc)
+    of false false is = (means.0, subst (λ (it : History). Reads (present it) means.0) (sym (ap (λ (both : Answer × History). both.1) is)) means.1)
+
+pub refused_tree : (operation : Operation) (target : Target) (note : Bytes) (h after : History) (refusal : Refusal) → refusal ≢ NoteTooLong
+    → Leads (Do operation target) note h (Err refusal) after → (n : Node) × Reads (present after) n
+refused_tree operation target note h after refusal other (inl long) = absurd (let e = ap (λ (both : Answer × History). both.0) long.1 in other (cc))
+refused_tree operation target note h after refusal other (inr (short, (m, means, is))) = tree_of operation target note h after refusal m means is
 
 -- a reply is what an action leads to
 pub led_on : (h after : History) (action : Action) (note : Bytes) (reply : Reply) → Acts action note h (Ok reply) after → Leads action note h (Ok reply) after
@@ -62,7 +89,7 @@ put_again (suc place) (one ∷ more) file there = ap (λ (rest : List Used). one
 
 -- a refusal is reported by the name of the file
 pub reported_by : (f f' : ℕ) (old new : Option Bytes) (journals : Bool) (name other command : Bytes) (refusal : Refusal) → name ≡ other
-    → AppendsUnlessFailed f f' old new (refusal_line journals name command refusal) → Reports f f' old new (reported_of journals other command (Err refusal))
+    → AppendsUnlessFailed f f' old new (refusal_line journals name command refusal) → Reports f f' old new (reported_of journals other command (Err refusal) [])
 reported_by f f' old new journals name other command refusal is reported =
     (f', new, subst (λ (text : Bytes). AppendsUnlessFailed f f' old new (refusal_line journals text command refusal)) is reported, (refl, refl))
 

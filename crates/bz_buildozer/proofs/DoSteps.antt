@@ -13,7 +13,7 @@ use Rattle.bz_value.specs.declared.refusal.Refusal.{Refusal}
 use Rattle.bz_buildozer.specs.Keeps.{FolderAfter, file_after, is_left_at, left_out}
 use Rattle.bz_buildozer.specs.Found.{Opened, Used, file_at, with_opened}
 use Rattle.bz_buildozer.specs.Reported.{refusal_line}
-use Rattle.bz_buildozer.specs.Run.{Answers, AnswersIn, FailsAt, IsKeptAt, LeadsBy, Progress, printed_in, reported_of, state_after}
+use Rattle.bz_buildozer.specs.Run.{Answers, AnswersIn, AreHints, FailsAt, IsKeptAt, LeadsBy, Progress, printed_in, reported_of, state_after}
 use Rattle.bz_buildozer.specs.Sessions.{Action, Answer, History, Leads, Reply, Printed, listing}
 use Rattle.bz_buildozer.specs.Steps.{RunStep, action_of}
 use Rattle.bz_buildozer.proofs.ActSteps.{put_again}
@@ -67,17 +67,22 @@ pub leads_by : (target : Target) (verb : Verb) (note : Bytes) (action : Action) 
     → Leads action note h answer after → LeadsBy (action_of target verb) note h answer after
 leads_by target verb note action h after answer requested leads = subst (λ (it : Option Action). LeadsBy it note h answer after) (sym requested) leads
 
+pub hints_by : (target : Target) (verb : Verb) (action : Action) (name : Bytes) (h : History) (answer : Answer) (hint : List Bytes) → action_of target verb ≡ Some action
+    → AreHints answer (Some action) name h hint → AreHints answer (action_of target verb) name h hint
+hints_by target verb action name h answer hint requested = subst (λ (it : Option Action). AreHints answer it name h hint) (sym requested)
+
 module _ (journals : Bool) (step : RunStep) (place : ℕ) (file : Opened) (history : History) (folder folder' : Folder) (before after : Progress) (used : List Used)
     (there : left_out journals (file_at place before.used) ≡ Some file) where
   -- what the step leads to
   abbrev pub LeadsTo : Answer → Type 0
   LeadsTo answer = LeadsBy (action_of step.target step.request.verb) step.request.text file.history answer history
 
-  answers_so : (answer : Answer) → LeadsTo answer → FolderAfter journals answer file history folder folder' → after ≡ state_after journals place file answer history before
-      → Answers c.Whole journals step (Some place) folder before (reported_of journals file.name step.request.text answer) folder' after
-  answers_so answer leads following is =
-      subst (λ (found : Option Opened). AnswersIn journals step place found folder before (reported_of journals file.name step.request.text answer) folder' after) (sym there)
-      (answer, history, leads, following, refl, is)
+  answers_so : (answer : Answer) (hint : List Bytes) → LeadsTo answer → AreHints answer (action_of step.target step.request.verb) file.name history hint
+      → FolderAfter journals answer file history folder folder' → after ≡ state_after journals place file answer history before
+      → Answers c.Whole journals step (Some place) folder before (reported_of journals file.name step.request.text answer hint) folder' after
+  answers_so answer hint leads hints following is =
+      subst (λ (found : Option Opened). AnswersIn journals step place found folder before (reported_of journals file.name step.request.text answer hint) folder' after) (sym there)
+      (answer, history, leads, following, (hint, hints, refl), is)
 
   -- A reply is given, and what it prints is kept.
   pub replied : (reply : Reply) (printed : Bytes) → LeadsTo (Ok reply) → FolderAfter journals (Ok reply) file history folder folder'
@@ -85,7 +90,7 @@ module _ (journals : Bool) (step : RunStep) (place : ℕ) (file : Opened) (histo
       → after ≡ record before { used = used; printed = printed } → Answers c.Whole journals step (Some place) folder before [] folder' after
   replied reply printed leads following put said is =
       let put_in = with_opened place (Some (file_after journals (Ok reply) history file)) before.used in
-      answers_so (Ok reply) leads following (
+      answers_so (Ok reply) [] leads refl following (
       is
       ∙ ap (λ (u : List Used). record before { used = u; printed = printed }) put
       ∙ ap (λ (text : Bytes). record before { used = put_in; printed = text }) said
@@ -93,21 +98,23 @@ module _ (journals : Bool) (step : RunStep) (place : ℕ) (file : Opened) (histo
       )
 
   -- It is refused, for memory or something else.
-  pub refused : (result : Cut) (refusal : Refusal) → (result ≡ c.Whole) ⊎ (result ≡ c.Memory) → (result ≡ c.Whole → LeadsTo (Err refusal)) → folder' ≡ folder
+  pub refused : (result : Cut) (refusal : Refusal) (hint : List Bytes) → (result ≡ c.Whole) ⊎ (result ≡ c.Memory) → (result ≡ c.Whole → LeadsTo (Err refusal))
+      → (result ≡ c.Whole → AreHints (Err refusal) (action_of step.target step.request.verb) file.name history hint) → (result ≡ c.Memory → hint ≡ []) → folder' ≡ folder
       → used ≡ with_opened place (Some (record file { history = history })) before.used → after ≡ record before { used = used; failed = true }
-      → Answers result journals step (Some place) folder before (reported_of journals file.name step.request.text (Err refusal)) folder' after
-  refused result refusal (inl whole) leads still put is =
+      → Answers result journals step (Some place) folder before (reported_of journals file.name step.request.text (Err refusal) hint) folder' after
+  refused result refusal hint (inl whole) leads hints none still put is =
       let put_in = with_opened place (Some (record file { history = history })) before.used in
-      subst (λ (it : Cut). Answers it journals step (Some place) folder before (reported_of journals file.name step.request.text (Err refusal)) folder' after) (sym whole)
-      (answers_so (Err refusal) (leads whole) still (
+      subst (λ (it : Cut). Answers it journals step (Some place) folder before (reported_of journals file.name step.request.text (Err refusal) hint) folder' after) (sym whole)
+      (answers_so (Err refusal) hint (leads whole) (hints whole) still (
       is
       ∙ ap (λ (u : List Used). record before { used = u; failed = true }) put
       ∙ ap (λ (text : Bytes). record { used = put_in; printed = text; failed = true }) (sym (append-nil before.printed))
       ∙ ap (λ (b : Bool). record { used = put_in; printed = before.printed ++ []; failed = b }) (or_true before.failed)
       ))
-  refused result refusal (inr memory) leads still put is =
-      memory_answers result journals step place folder folder' before after (reported_of journals file.name step.request.text (Err refusal)) memory
-      (fails_at place (record file { history = history }) before after used before.printed (refusal_line journals file.name step.request.text refusal) put refl is) (inl still)
+  refused result refusal hint (inr memory) leads hints none still put is =
+      subst (λ (it : List Bytes). Answers result journals step (Some place) folder before (reported_of journals file.name step.request.text (Err refusal) it) folder' after)
+      (sym (none memory)) (memory_answers result journals step place folder folder' before after (reported_of journals file.name step.request.text (Err refusal) []) memory
+      (fails_at place (record file { history = history }) before after used before.printed (refusal_line journals file.name step.request.text refusal) put refl is) (inl still))
 
 -- ---- the texts of a file are listed
 

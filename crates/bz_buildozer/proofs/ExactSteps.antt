@@ -6,6 +6,10 @@ use Rattle.std.specs.FinMap.{get}
 use Rattle.std.specs.List.{list_any}
 use Rattle.std.proofs.lemmas.Slice.Eq.{bytes_eq-Decides}
 use Rattle.bz_grammar.specs.Laws.{OneReading}
+use Rattle.bz_grammar.specs.Statements.{lines_of}
+use Rattle.bz_grammar.specs.declared.tree.Node.{Node}
+use Rattle.bz_hosts.specs.View.{view_of}
+use Rattle.bz_hint.specs.Hints.{refusal_hint}
 use Rattle.bz_items.specs.Characters.{Bytes}
 use Rattle.bz_files.specs.Folder.{Folder, IsAside}
 use Rattle.bz_resume.specs.Pair.{journal_name}
@@ -22,8 +26,8 @@ use Rattle.bz_buildozer.specs.Journals.{OpensBeside, TakesBeside, file_of_journa
 use Rattle.bz_buildozer.specs.Keeps.{FolderAfter, file_after, left_out}
 use Rattle.bz_buildozer.specs.Moments.{AllAre}
 use Rattle.bz_buildozer.specs.Opens.{Takes}
-use Rattle.bz_buildozer.specs.Run.{Answers, AnswersIn, Does, Finds, LeadsBy, Progress, RunsSteps, Uses, UsesWhole, World, reported_of, state_after}
-use Rattle.bz_buildozer.specs.Sessions.{Action, Answer, History, present}
+use Rattle.bz_buildozer.specs.Run.{Answers, AnswersIn, AreHints, Does, Finds, LeadsBy, Progress, RunsSteps, Uses, UsesWhole, World, reported_of, state_after}
+use Rattle.bz_buildozer.specs.Sessions.{Action, Answer, Do, Format, History, Redo, Undo, present}
 use Rattle.bz_buildozer.specs.Steps.{RunStep, action_of, input_package, is_of_input}
 use Rattle.bz_buildozer.proofs.CutSteps.{both_whole}
 use Rattle.bz_buildozer.proofs.ExactActions.{one_answer}
@@ -296,6 +300,20 @@ first_seen world step steps known (inl same) = (inl same, inl same)
 first_seen world step steps known (inr none) =
     let parts = either_not (reads_input step) (list_any reads_input steps) none in (inr (not_input step.target.«package» parts.0), inr parts.1)
 
+-- One thing helps below a refusal.
+one_hint : OneReading → (answer : Answer) (action : Option Action) (name : Bytes) (h : History) (hint other : List Bytes) → AreHints answer action name h hint
+    → AreHints answer action name h other → hint ≡ other
+one_hint one (Ok reply) action name h hint other is is' = is ∙ sym is'
+one_hint one (Err refusal) None name h hint other is is' = is ∙ sym is'
+one_hint one (Err refusal) (Some Format) name h hint other is is' = is ∙ sym is'
+one_hint one (Err refusal) (Some (Undo n)) name h hint other is is' = is ∙ sym is'
+one_hint one (Err refusal) (Some (Redo n)) name h hint other is is' = is ∙ sym is'
+one_hint one (Err refusal) (Some (Do operation target)) name h hint other (inl long) (inl long') = long.1 ∙ sym long'.1
+one_hint one (Err refusal) (Some (Do operation target)) name h hint other (inl long) (inr (short, helps)) = absurd (short long.0)
+one_hint one (Err refusal) (Some (Do operation target)) name h hint other (inr (short, helps)) (inl long) = absurd (short long.0)
+one_hint one (Err refusal) (Some (Do operation target)) name h hint other (inr (short, (n, reads, is))) (inr (short', (n', reads', is'))) =
+    is ∙ ap (λ (m : Node). refusal_hint name refusal operation target.which target.«package» (lines_of m) (view_of m)) (one (present h) n n' reads reads') ∙ sym is'
+
 module _ (one : OneReading) (words : List Bytes) (world : World) (bytes : Bytes) (known : world.known ≡ Some bytes) (journals : Bool) where
   same_used : (here there : World) (current : Bytes) (before : List Used) (place place' : ℕ) (lines lines' : List Bytes) (after after' : List Used)
       → Seen world here.known current → Seen world there.known current → Stays journals world.folder before here.folder → Stays journals world.folder before there.folder
@@ -320,8 +338,12 @@ module _ (one : OneReading) (words : List Bytes) (world : World) (bytes : Bytes)
       → (lines ≡ lines') × (after ≡ after')
   one_answered step place None state folder folder' past past' lines lines' after after' is is' = (is.0 ∙ sym is'.0, is.2 ∙ sym is'.2)
   one_answered step place (Some file) state folder folder' past past' lines lines' after after' (answer, history, leads, following, told, is) (answer', history', leads', following', told', is') =
-      let same = one_answer one (action_of step.target step.request.verb) step.request.text file.history answer answer' history history' leads leads' in (
-        told ∙ ap (reported_of journals file.name step.request.text) same.0 ∙ sym told',
+      let action = action_of step.target step.request.verb in
+      let same = one_answer one action step.request.text file.history answer answer' history history' leads leads' in
+      let hints = subst (λ (it : History). AreHints answer action file.name it told'.0) (sym same.1)
+      (subst (λ (it : Answer). AreHints it action file.name history' told'.0) (sym same.0) told'.1) in (
+        told.2 ∙ ap (λ (it : Answer). reported_of journals file.name step.request.text it told.0) same.0
+            ∙ ap (reported_of journals file.name step.request.text answer') (one_hint one answer action file.name history told.0 told'.0 told.1 hints) ∙ sym told'.2,
         is ∙ ap (λ (it : Answer). state_after journals place file it history state) same.0 ∙ ap (λ (it : History). state_after journals place file answer' it state) same.1 ∙ sym is',
       )
 

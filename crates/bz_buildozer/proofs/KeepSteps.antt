@@ -24,11 +24,11 @@ use Rattle.bz_streams.proofs.Outputs.{counts_more}
 use Rattle.bz_buildozer.specs.Calls.{WorksOn}
 use Rattle.bz_buildozer.specs.Moments.{AllAreSafe}
 use Rattle.bz_buildozer.specs.Reported.{unkept_line}
-use Rattle.bz_buildozer.specs.Run.{Answers, Progress, printed_in, reported_of}
+use Rattle.bz_buildozer.specs.Run.{Answers, AreHints, Progress, printed_in, reported_of}
 use Rattle.bz_buildozer.specs.Steps.{action_of}
 use Rattle.bz_buildozer.proofs.ActSteps.{file_put, led_on, led_to, still_open}
 use Rattle.bz_buildozer.proofs.CutSteps.{files_cut}
-use Rattle.bz_buildozer.proofs.DoSteps.{fails_at, free_file, leads_by, memory_answers, refused, replied, step_at}
+use Rattle.bz_buildozer.proofs.DoSteps.{fails_at, free_file, hints_by, leads_by, memory_answers, refused, replied, step_at}
 use Rattle.bz_buildozer.proofs.SafeSteps.{goes_on_there, safe_at, survived}
 use Rattle.bz_buildozer.proofs.LeaveSteps.{still_same}
 
@@ -140,13 +140,15 @@ module _ {F : Type 0} (files : FilesOf F) (counts : (held : F) (t : ℕ) → t �
         )
       ])
 
-  pub refused_answers : (result : Cut) (refusal : Refusal) (done : Kept (Err (Refused refusal))) → (result ≡ c.Whole) ⊎ (result ≡ c.Memory)
-      → (result ≡ c.Whole → refusal ≢ Memory) → after ≡ record before { used = used; failed = true } → Did result (reported_of true done.file.name note (Err refusal))
-  refused_answers result refusal done kinds other is =
+  pub refused_answers : (result : Cut) (refusal : Refusal) (done : Kept (Err (Refused refusal))) (hint : List Bytes) → (result ≡ c.Whole) ⊎ (result ≡ c.Memory)
+      → (result ≡ c.Whole → refusal ≢ Memory) → (result ≡ c.Whole → AreHints (Err refusal) (Some action) done.file.name done.history hint) → (result ≡ c.Memory → hint ≡ [])
+      → after ≡ record before { used = used; failed = true } → Did result (reported_of true done.file.name note (Err refusal) hint)
+  refused_answers result refusal done hint kinds other hints none is =
       refused true (step_at target verb note) place done.file done.history (files.folder old) (files.folder new) before after used
-      (free_file true place before.used done.file done.there free) result refusal kinds
+      (free_file true place before.used done.file done.there free) result refusal hint kinds
       (λ whole. leads_by target verb note action done.file.history done.history (Err refusal) requested
-      (led_to done.file.history done.history action note refusal done.keeps (other whole))) (ap files.folder (done.pair.refused tt)) done.kept is
+      (led_to done.file.history done.history action note refusal done.keeps (other whole)))
+      (λ whole. hints_by target verb action done.file.name done.history (Err refusal) hint requested (hints whole)) none (ap files.folder (done.pair.refused tt)) done.kept is
 
   -- the last moment of a pair that was not written
   pub unkept_answers : (result : Cut) (fault : PairFault) (done : Kept (Err (Pair fault)))

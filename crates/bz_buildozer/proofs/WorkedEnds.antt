@@ -12,7 +12,7 @@ use Rattle.bz_lex.specs.declared.fault.ReadFault.TheVariants.{TooLarge}
 use Rattle.bz_grammar.specs.Spell.{limit}
 use Rattle.bz_value.specs.declared.refusal.Refusal.TheVariants.{TooFar}
 use Rattle.bz_files.specs.Folder.{Folder, with_file}
-use Rattle.bz_buildozer.specs.Sessions.{History, Answer, changed, undone, opened, note_limit, gives, Changed, Moved}
+use Rattle.bz_buildozer.specs.Sessions.{History, Answer, Undo, changed, undone, opened, note_limit, gives, Changed, Moved}
 use Rattle.bz_label.specs.declared.target.Target.{Target}
 use Rattle.bz_label.specs.declared.target.Which.TheVariants.{Name}
 use Rattle.bz_command_line.specs.Requested.{Requested, Request, Usage, nothing_requested, operand_group, no_command, no_target, no_line, in_line, of_operand}
@@ -36,7 +36,7 @@ use Rattle.bz_buildozer.specs.Opens.{opened_fresh}
 use Rattle.bz_buildozer.specs.Ending.{Ended, TriesFile, TriesFiles, fixed_lines, status_of, texts_out}
 use Rattle.bz_buildozer.specs.Outcome.{WordsOutcome, IsText, LineOutcome, ScriptOutcome, unread, unused}
 use Rattle.bz_buildozer.specs.Keeps.{FolderAfter}
-use Rattle.bz_buildozer.specs.Run.{World, Progress, Answers, AnswersIn, Does, Finds, LeadsBy, RunsSteps, UsesWhole, nothing_done, reported_of, state_after, ends_run}
+use Rattle.bz_buildozer.specs.Run.{World, Progress, Answers, AnswersIn, AreHints, Does, Finds, LeadsBy, RunsSteps, UsesWhole, nothing_done, reported_of, state_after, ends_run}
 use Rattle.bz_buildozer.specs.Steps.{RunStep, action_of, all_steps, shows_input}
 use Rattle.bz_buildozer.specs.Reported.{output_lines, usage_line}
 use Rattle.bz_buildozer.specs.WorkedParts.{text_read, text_made}
@@ -220,20 +220,25 @@ module _ (world : World) where
   opens current name used new finds =
       inr (new, refl, (Some (name, text_read), Some (opened_fresh current name text_read), finds, inl (accepted, refl, refl), refl))
 
+  no_hints : (count : ℕ) (name : Bytes) (h : History) (answer : Answer) → AreHints answer (Some (Undo count)) name h []
+  no_hints count name h (Ok reply) = refl
+  no_hints count name h (Err refusal) = refl
+
   plain_after : (answer : Answer) (file : Opened) (history : History) → FolderAfter false answer file history world.folder world.folder
   plain_after (Ok reply) file history = refl
   plain_after (Err refusal) file history = refl
 
   -- a command in an open file
   acts : (current name : Bytes) (request : Request) (h history : History) (answer : Answer) (before : Progress) (place : ℕ) (used : List Used)
+      → AreHints answer (action_of (rule_x current) request.verb) name history []
       → UsesWhole false world current before.used place [] used → file_at place used ≡ Some (opened_with name text_read h)
       → LeadsBy (action_of (rule_x current) request.verb) request.text h answer history
-      → DoesHere world (step_at current request) before (reported_of false name request.text answer)
+      → DoesHere world (step_at current request) before (reported_of false name request.text answer [])
       (state_after false place (opened_with name text_read h) answer history (record before { used = used }))
-  acts current name request h history answer before place used uses at leads =
+  acts current name request h history answer before place used hints uses at leads =
       let file : Opened = opened_with name text_read h in
       does (step_at current request) before (state_after false place file answer history (record before { used = used })) place used (Some file) []
-      (reported_of false name request.text answer) uses at (answer, history, leads, plain_after answer file history, refl, refl)
+      (reported_of false name request.text answer []) uses at (answer, history, leads, plain_after answer file history, ([], hints, refl), refl)
 
 -- ---- `set size small`, and `undo` after it or alone, in a file that is found
 
@@ -258,7 +263,7 @@ steps_on current requests = map (step_at current) requests
 module _ (world : World) (current name : Bytes) (finds : Finds false world current (Some (name, text_read))) where
   set_first : DoesHere world (step_at current set_size) nothing_done [] (after_set current name)
   set_first = acts world current name set_size (opened current text_read) (set_history current) (Ok Changed) nothing_done 0
-      (file_with current name (opened current text_read) ∷ []) (opens world current name [] refl finds) refl (sets current)
+      (file_with current name (opened current text_read) ∷ []) refl (opens world current name [] refl finds) refl (sets current)
 
   run_set : (keep_going : Bool) → RunsHere world keep_going (steps_on current (set_size ∷ [])) nothing_done [] (after_set current name)
   run_set keep_going = one_step world keep_going (step_at current set_size) [] nothing_done (after_set current name) (after_set current name) [] [] refl set_first
@@ -267,13 +272,13 @@ module _ (world : World) (current name : Bytes) (finds : Finds false world curre
   -- What it made is taken back by this many steps, or that is refused.
   run_back : (count : ℕ) (text : Bytes) (answer : Answer) (history : History) → package_number current (after_set current name).used ≡ Some 0
       → length text ≤ note_limit → (answer, history) ≡ undone count (set_history current)
-      → RunsHere world false (steps_on current (set_size ∷ undo count text ∷ [])) nothing_done ([] ++ (reported_of false name text answer ++ []))
+      → RunsHere world false (steps_on current (set_size ∷ undo count text ∷ [])) nothing_done ([] ++ (reported_of false name text answer [] ++ []))
       (state_after false 0 (opened_with name text_read (set_history current)) answer history (after_set current name))
   run_back count text answer history there short is =
       let after = state_after false 0 (opened_with name text_read (set_history current)) answer history (after_set current name) in
-      one_step world false (step_at current set_size) (steps_on current (undo count text ∷ [])) nothing_done (after_set current name) after [] (reported_of false name text answer ++ []) refl
-      set_first (one_step world false (step_at current (undo count text)) [] (after_set current name) after after (reported_of false name text answer) [] refl
-      (acts world current name (undo count text) (set_history current) history answer (after_set current name) 0 (after_set current name).used (inl (there, refl, refl)) refl
+      one_step world false (step_at current set_size) (steps_on current (undo count text ∷ [])) nothing_done (after_set current name) after [] (reported_of false name text answer [] ++ []) refl
+      set_first (one_step world false (step_at current (undo count text)) [] (after_set current name) after after (reported_of false name text answer []) [] refl
+      (acts world current name (undo count text) (set_history current) history answer (after_set current name) 0 (after_set current name).used (no_hints world count name history answer) (inl (there, refl, refl)) refl
       (inr (short, is))) (refl, refl, refl, refl))
 
 -- ---- whole runs
@@ -377,7 +382,7 @@ module _ (world : World) (has : HasBuild world) where
             ((codes "buildozer: BUILD: undo: TooFar (61)\n" ++ hint) ∷ []) [] (state_of (file_with [] build (opened [] text_read) ∷ []) true) world.folder refl refl
             (one_step world false (step_at [] undo_one) [] nothing_done (state_of (file_with [] build (opened [] text_read) ∷ []) true) (state_of (file_with [] build (opened [] text_read) ∷ []) true)
             ((codes "buildozer: BUILD: undo: TooFar (61)\n" ++ hint) ∷ []) [] refl
-            (acts world [] build undo_one (opened [] text_read) (opened [] text_read) (Err TooFar) nothing_done 0 (file_with [] build (opened [] text_read) ∷ [])
+            (acts world [] build undo_one (opened [] text_read) (opened [] text_read) (Err TooFar) nothing_done 0 (file_with [] build (opened [] text_read) ∷ []) refl
             (opens world [] build [] refl finds_build) refl (inr (short_undo, refl))) (refl, refl, refl, refl))
             (tries_one false false false (file_with [] build (opened [] text_read)) world.folder [] world.folder (refl, refl)),
       )
@@ -419,7 +424,7 @@ module _ (world : World) (has : HasBuild world) (gone : found_in world.folder no
         run_of (codes "-k" ∷ texts) texts true false false requested world c.Whole lines made_lines after_both (with_file folder build text_made) refl refl
             (one_step world true (step_at none set_size) (next ∷ []) nothing_done after_none after_both lines [] refl (fails_first set_size)
             (one_step world true next [] after_none after_both after_both [] [] refl
-            (acts world [] build set_size (opened [] text_read) (set_history []) (Ok Changed) after_none 1 (none_used ∷ file_with [] build (opened [] text_read) ∷ [])
+            (acts world [] build set_size (opened [] text_read) (set_history []) (Ok Changed) after_none 1 (none_used ∷ file_with [] build (opened [] text_read) ∷ []) refl
             (opens world [] build (none_used ∷ []) refl (finds_build world has)) refl (sets [])) (refl, refl, refl, refl)))
             (c.Whole, c.Whole, [], made_lines, folder, (refl, refl), writes_build world has true false made_lines refl, refl, refl),
         run_of (codes "-k" ∷ again) again true false false (requested_of (undo_one ∷ redo ∷ []) (rule_x none ∷ [])) world c.Whole lines [] after_none folder refl refl

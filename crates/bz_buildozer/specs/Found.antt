@@ -39,8 +39,7 @@ found_in folder current = found_at (first_name current) (get folder (first_name 
 abbrev pub IsNameOf : Bytes → Bytes → Type 0
 IsNameOf current name = (name ≡ first_name current) ⊎ (name ≡ second_name current)
 
--- the name is none of those that keeping this file gives new bytes: the file's, its journal's, and those under which the two are
--- written first
+-- the name is none that gets new bytes as this file is kept: its own, its journal's, and those under which the two are written first
 pub record IsApartFrom (file name : Bytes) : Type 0 where
   pub file_is : name ≢ file
   pub journal : name ≢ journal_name file

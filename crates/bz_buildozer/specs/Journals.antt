@@ -67,8 +67,7 @@ abbrev pub lines_of_journal : Bytes → Result History JournalFault → List Byt
 lines_of_journal name (Ok history) = []
 lines_of_journal name (Err fault) = fault_lines (journal_name name) fault
 
--- A file without a journal is opened as its text says. One with a journal goes on with its history, or its fault is reported by the
--- journal's name.
+-- Without a journal a file is opened as its text says; with one it goes on with its history, or that journal's fault is reported.
 abbrev pub TakesBeside : Option Bytes → Bytes → Bytes → Bytes → Option Opened → List Bytes → Type 0
 TakesBeside None current name text file lines = Takes current name text file lines
 TakesBeside (Some bytes) current name text file lines = (given : Result History JournalFault) × JournalGives current bytes text given

@@ -62,8 +62,7 @@ StillIsSame = (action : Action) (note : Bytes) (h after : History) (answer : Ans
 
 -- ---- what becomes of a file and of the folder where a step is answered
 
--- the file after an answer that left it this history: with its journal it was written where another text is the present one (The flag:
--- journals are kept.)
+-- the file after an answer that left it this history, where journals are kept (the flag) or are not
 abbrev pub file_after : Bool → Answer → History → Opened → Opened
 file_after journals (Err refusal) history file = record file { history = history }
 file_after true (Ok reply) history file = after_keeping (Ok reply) history file

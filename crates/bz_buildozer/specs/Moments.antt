@@ -22,8 +22,7 @@ use Rattle.bz_buildozer.specs.Steps.{RunStep, action_of, all_steps}
 
 -- ---- files that can be gone on with
 
--- In its package a file goes on with the texts of one of two histories, and it holds the present text of either: its journal is
--- replaced first.
+-- A file goes on with the texts of one of two histories, and holds the present text of either: its journal is replaced first.
 abbrev pub IsBetween : Folder → Bytes → History → History → Type 0
 IsBetween folder name h after = Holds folder name h.«package» (present h) h.texts
     ⊎ (Holds folder name h.«package» (present h) after.texts ⊎ Holds folder name h.«package» (present after) after.texts)
@@ -75,8 +74,7 @@ MayAct step before after = (after ≡ before)
     × (action_of step.target step.request.verb ≡ Some action) × Keeps action step.request.text file.history answer history
     × (after ≡ with_opened place (Some (after_keeping answer history file)) before))
 
--- a folder at a moment of a run of these steps, which has used these packages: the first step is under way, or is done and the moment is one
--- of those after it
+-- a folder at a moment of a run of these steps, which has used these packages: in the first step, or once that is done in the others
 abbrev pub IsMomentOfSteps : Folder → List RunStep → List Used → Folder → Type 0
 IsMomentOfSteps began [] used now = IsMeanwhile began used used now
 IsMomentOfSteps began (step ∷ steps) used now = (mid : List Used) × (after : List Used) × Joins began step.target.«package» used mid × MayAct step mid after

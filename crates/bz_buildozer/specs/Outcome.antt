@@ -76,8 +76,7 @@ IsTextFault bytes fault = ((limit < length bytes) × (fault ≡ TooLarge)) ⊎ (
 abbrev pub reported_name : Bytes → Bytes
 reported_name name = if bytes_eq name input_package then stdin else name
 
--- What lines request is done; rules of standard input can't be meant where the lines are in it, and then no step reads what is left
--- of it.
+-- What lines request is done. Rules of standard input can't be meant where the lines are in it: no step reads what is left of it.
 abbrev pub LinesOutcome : Options → Bool → List Requested → World → Ended → Type 0
 LinesOutcome options of_input lines world ended =
     ((of_input && names_input lines ≡ true) × (ended ≡ unused world.folder input_line))

@@ -2,6 +2,12 @@
 use Rattle.std.specs.Prelude.{◌≡◌, ◌≢◌, ◌⊎◌, ◌&&◌, ◌||◌, not, Bool, true, false, ℕ, List, [], ◌∷◌, ◌++◌, codes, length, is_err, Option, Some, None, Ok, Err}
 use Rattle.std.specs.FinMap.{get}
 use Rattle.std.specs.Option.{option_map}
+use Rattle.bz_grammar.specs.Legal.{Reads}
+use Rattle.bz_grammar.specs.Statements.{lines_of}
+use Rattle.bz_grammar.specs.declared.tree.Node.{Node}
+use Rattle.bz_hosts.specs.View.{view_of}
+use Rattle.bz_hint.specs.Hints.{refusal_hint}
+use Rattle.bz_value.specs.declared.refusal.Refusal.TheVariants.{NoteTooLong}
 use Rattle.bz_items.specs.Characters.{Bytes}
 use Rattle.bz_files.specs.Folder.{Folder}
 use Rattle.bz_journal.specs.declared.keeping.KeepFault.TheVariants.{Pair}
@@ -19,7 +25,7 @@ use Rattle.bz_buildozer.specs.Found.{PackagesFound, first_name, found_in, found_
 use Rattle.bz_buildozer.specs.Journals.{OpensBeside, TakesBeside, journal_beside}
 use Rattle.bz_buildozer.specs.Keeps.{FolderAfter, KeepsHistory, file_after, left_out, after_keeping}
 use Rattle.bz_buildozer.specs.Reported.{refusal_line, unkept_line}
-use Rattle.bz_buildozer.specs.Sessions.{Action, Reply, Changed, Same, Printed, Moved, History, Answer, Leads, listing}
+use Rattle.bz_buildozer.specs.Sessions.{Action, Do, present, Reply, Changed, Same, Printed, Moved, History, Answer, Leads, listing}
 use Rattle.bz_buildozer.specs.Steps.{RunStep, action_of, input_package}
 
 -- what can be read: the files of a folder, and the bytes of standard input where they are known
@@ -111,10 +117,10 @@ abbrev pub printed_by : Answer → Bytes
 printed_by (Ok reply) = printed_in reply
 printed_by (Err refusal) = []
 
--- what is reported of an answer: a refusal, by its file and its command
-abbrev pub reported_of : Bool → Bytes → Bytes → Answer → List Bytes
-reported_of journals name command (Ok reply) = []
-reported_of journals name command (Err refusal) = refusal_line journals name command refusal ∷ []
+-- what is reported of an answer: a refusal, by its file and its command, and what helps
+abbrev pub reported_of : Bool → Bytes → Bytes → Answer → List Bytes → List Bytes
+reported_of journals name command (Ok reply) hint = []
+reported_of journals name command (Err refusal) hint = refusal_line journals name command refusal ∷ hint
 
 -- the state after an answer of the open file with this number
 abbrev pub state_after : Bool → ℕ → Opened → Answer → History → Progress → Progress
@@ -130,16 +136,25 @@ abbrev pub LeadsBy : Option Action → Bytes → History → Answer → History 
 LeadsBy None note h answer after = (answer ≡ Ok (Printed (listing h))) × (after ≡ h)
 LeadsBy (Some action) note h answer after = Leads action note h answer after
 
+-- What helps below the line of a refusal of a command, by the tree of the text: not where the note is too long, which is refused before
+-- all else. (The file's name, and its history after the answer.)
+abbrev pub AreHints : Answer → Option Action → Bytes → History → List Bytes → Type 0
+AreHints (Ok reply) action name h hint = hint ≡ []
+AreHints (Err refusal) (Some (Do operation target)) name h hint = ((refusal ≡ NoteTooLong) × (hint ≡ []))
+    ⊎ ((refusal ≢ NoteTooLong) × ((n : Node) × Reads (present h) n
+    × (hint ≡ refusal_hint name refusal operation target.which target.«package» (lines_of n) (view_of n))))
+AreHints (Err refusal) _ name h hint = hint ≡ []
+
 -- In a package without an open file a step does nothing and fails; with one its command is done there, and kept where journals are.
 abbrev pub AnswersIn : Bool → RunStep → ℕ → Option Opened → Folder → Progress → List Bytes → Folder → Progress → Type 0
 AnswersIn journals step place None folder state lines folder' after = (lines ≡ []) × (folder' ≡ folder) × (after ≡ record state { failed = true })
 AnswersIn journals step place (Some file) folder state lines folder' after =
     (answer : Answer) × (history : History) × LeadsBy (action_of step.target step.request.verb) step.request.text file.history answer history
     × FolderAfter journals answer file history folder folder'
-    × (lines ≡ reported_of journals file.name step.request.text answer) × (after ≡ state_after journals place file answer history state)
+    × ((hint : List Bytes) × AreHints answer (action_of step.target step.request.verb) file.name history hint × (lines ≡ reported_of journals file.name step.request.text answer hint))
+    × (after ≡ state_after journals place file answer history state)
 
--- Memory is refused to a step in the open file of this number: it fails and prints nothing, a line says so, and what it left of the file is
--- open.
+-- Memory is refused to a step in the open file of this number: it fails and prints nothing, a line says so; the file as it left it is open.
 abbrev pub FailsAt : ℕ → Progress → List Bytes → Progress → Type 0
 FailsAt place state lines after =
     AreOneLine lines × ((file : Option Opened) × (after ≡ record state { used = with_opened place file state.used; failed = true }))

@@ -72,8 +72,8 @@ TextsOut =
 abbrev Reported : Type 0
 Reported =
     -- What is refused is reported; what is printed is not.
-    (reported_of false (codes "app/BUILD") (codes "add size a") (Err NotAList) ≡ codes "buildozer: app/BUILD: add size a: NotAList (44)\n" ∷ [])
-    × (reported_of false (codes "app/BUILD") (codes "print name") (Ok (Printed (codes "x\n"))) ≡ [])
+    (reported_of false (codes "app/BUILD") (codes "add size a") (Err NotAList) [] ≡ codes "buildozer: app/BUILD: add size a: NotAList (44)\n" ∷ [])
+    × (reported_of false (codes "app/BUILD") (codes "print name") (Ok (Printed (codes "x\n"))) [] ≡ [])
     -- undo //a/...:x; undo //a...:x, of which no file is there
     × (package_hint (codes "a/...") ≡ codes "buildozer: ... is no package here: see buildozer-tree\n")
     × (package_hint (codes "a...")

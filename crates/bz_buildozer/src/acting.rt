@@ -1,7 +1,12 @@
 //! One step.
 ghost use Rattle.std.specs.Prelude.{◌≡◌, ◌≢◌, ◌⊎◌, ◌&&◌, ◌++◌, [], ◌∷◌, ℕ, List, Bool, Some, None, Err, true, false, IsSome, OnOk, OnErr};
 ghost use Rattle.bz_files.specs.Folder.{Folder};
-ghost use Rattle.bz_buildozer.specs.Sessions.{action_in};
+ghost use Rattle.bz_grammar.specs.Legal.{Reads};
+ghost use Rattle.bz_grammar.specs.Statements.{lines_of};
+ghost use Rattle.bz_grammar.specs.declared.tree.Node.{Node};
+ghost use Rattle.bz_hosts.specs.View.{view_of};
+ghost use Rattle.bz_hint.specs.Hints.{refusal_hint};
+ghost use Rattle.bz_buildozer.specs.Sessions.{Do, History, Leads, action_in, present};
 ghost use Rattle.bz_label.specs.declared.target.Target as t;
 ghost use Rattle.bz_command_line.specs.Paths.{HasPath};
 ghost use Rattle.bz_command_line.specs.Shown.{request_in};
@@ -13,7 +18,7 @@ ghost use Rattle.bz_buildozer.specs.Calls.{KeepsSome, KeepsStep, ReportsLine, Re
 ghost use Rattle.bz_buildozer.specs.Keeps.{is_left_at};
 ghost use Rattle.bz_buildozer.specs.Moments.{AllAreSafe};
 ghost use Rattle.bz_buildozer.specs.Reported.{unkept_line};
-ghost use Rattle.bz_buildozer.specs.Run.{Answers, Does, printed_in, reported_of};
+ghost use Rattle.bz_buildozer.specs.Run.{Answers, AreHints, Does, printed_in, reported_of};
 ghost use Rattle.bz_buildozer.specs.private.Shown.{progress_in};
 ghost use Rattle.bz_buildozer.specs.Steps as s;
 ghost use Rattle.bz_buildozer.specs.Steps.{RunStep, input_package, step_of};
@@ -25,7 +30,9 @@ use crate::step::{action_of, package_of};
 use crate::used::{Opened, Used};
 use crate::workspace::Workspace;
 use bz_command_line::Request;
+use bz_command_syntax::Command;
 use bz_files::Files;
+use bz_hint::report_hint;
 use bz_items::at;
 use bz_journal::{Action, KeepFault, Reply};
 use bz_label::Target;
@@ -67,6 +74,30 @@ fn put_printed(reply: &Reply, printed: &mut Vec<u8>) -> Result<(), AllocError>
     Ok(())
 }
 
+// What helps where a command is refused in the open file of the package with this number. The error: memory was refused, and nothing is
+// reported.
+fn hint_below<E: Sink>(
+    run: &Run,
+    place: usize,
+    command: &Command,
+    target: &Target,
+    refusal: Refusal,
+    err: &mut E,
+) -> Result<(), AllocError>
+    requires { IsSome (file_at place run.now.workspace) }
+    ensures ok { (file : p.Opened) → file_at place run.now.workspace ≡ Some file → (n : Node) → Reads (present file.history) n
+        → OnOk result (ReportsLines E.Sink err.old err.new
+        (refusal_hint file.name refusal command.now target.now.which target.now.«package» (lines_of n) (view_of n))) }
+    ensures err { OnErr result (err.new ≡ err.old) }
+{
+    let file = open_file(&run.workspace, place);
+    let alloc = *run.printed.allocator();
+    let mut text = Vec::new(alloc);
+    file.revisions.text_into(&mut text)?;
+    let (name, package) = (file.name.as_str(), target.package.as_slice());
+    report_hint(alloc, err, name, &text, command, target, package, refusal)
+}
+
 // A command is refused, which is reported by its file, where journals are kept or not.
 fn refuse<E: Sink>(
     journals: bool,
@@ -81,7 +112,7 @@ fn refuse<E: Sink>(
     ensures whole { result ≡ Cut.Whole → (refusal ≢ Refusal.Memory) }
     ensures state { progress_in run.new ≡ record (progress_in run.old) { failed = true } }
     ensures reported { (file : p.Opened) → file_at place run.old.workspace ≡ Some file
-        → ReportsLines E.Sink err.old err.new (reported_of journals file.name command.now (Err refusal)) }
+        → ReportsLines E.Sink err.old err.new (reported_of journals file.name command.now (Err refusal) []) }
 {
     run.failed = true;
     let name = open_file(&run.workspace, place).name.as_str();
@@ -89,6 +120,61 @@ fn refuse<E: Sink>(
     match refusal {
         Refusal::Memory => Cut::Memory,
         _ => Cut::Whole,
+    }
+}
+
+// Reports what helps below the line of a command that is refused, where its note isn't too long. Memory may be refused for that, or was to
+// the command; then nothing is reported.
+fn help<E: Sink>(
+    run: &Run,
+    place: usize,
+    command: &Command,
+    target: &Target,
+    refusal: Refusal,
+    err: &mut E,
+) -> Cut
+    requires { IsSome (file_at place run.now.workspace) }
+    ensures kinds { (result ≡ Cut.Whole) ⊎ (result ≡ Cut.Memory) }
+    ensures whole { result ≡ Cut.Whole → refusal ≢ Refusal.Memory }
+    ensures hints { (file : p.Opened) → file_at place run.now.workspace ≡ Some file
+        → (refusal ≢ Refusal.Memory → refusal ≢ Refusal.NoteTooLong → (n : Node) × Reads (present file.history) n)
+        → (hint : List (List ℕ)) × ReportsLines E.Sink err.old err.new hint × (result ≡ Cut.Memory → hint ≡ [])
+        × (result ≡ Cut.Whole → AreHints (Err refusal) (Some (Do command.now target.now)) file.name file.history hint) }
+{
+    match refusal {
+        Refusal::Memory => return Cut::Memory,
+        Refusal::NoteTooLong => return Cut::Whole,
+        _ => {}
+    }
+    match hint_below(run, place, command, target, refusal, err) {
+        Ok(()) => Cut::Whole,
+        Err(_) => Cut::Memory,
+    }
+}
+
+// An action is refused, which is reported, and below that what helps.
+fn refuse_action<E: Sink>(
+    journals: bool,
+    run: &mut Run,
+    place: usize,
+    action: &Action<'_>,
+    command: &str,
+    refusal: Refusal,
+    err: &mut E,
+) -> Cut
+    requires { IsSome (file_at place run.old.workspace) }
+    ensures kinds { (result ≡ Cut.Whole) ⊎ (result ≡ Cut.Memory) }
+    ensures whole { result ≡ Cut.Whole → refusal ≢ Refusal.Memory }
+    ensures state { progress_in run.new ≡ record (progress_in run.old) { failed = true } }
+    ensures reported { (file : p.Opened) → file_at place run.old.workspace ≡ Some file
+        → (refusal ≢ Refusal.Memory → (h : History) × Leads (action_in action.now) command.now h (Err refusal) file.history)
+        → (hint : List (List ℕ)) × ReportsLines E.Sink err.old err.new (reported_of journals file.name command.now (Err refusal) hint) × (result ≡ Cut.Memory → hint ≡ [])
+        × (result ≡ Cut.Whole → AreHints (Err refusal) (Some (action_in action.now)) file.name file.history hint) }
+{
+    let cut = refuse(journals, run, place, command, refusal, err);
+    match action {
+        Action::Do(command, target) => help(run, place, command, target, refusal, err),
+        Action::Format | Action::Undo(_) | Action::Redo(_) => cut,
     }
 }
 
@@ -111,7 +197,7 @@ fn act_at<E: Sink>(
             Ok(()) => Cut::Whole,
             Err(_) => refuse(false, run, place, command, Refusal::Memory, err),
         },
-        Err(refusal) => refuse(false, run, place, command, refusal, err),
+        Err(refusal) => refuse_action(false, run, place, action, command, refusal, err),
     }
 }
 
@@ -182,7 +268,9 @@ fn keep_at<F: Files, E: Sink>(
             Ok(()) => Cut::Whole,
             Err(_) => refuse(true, run, place, command, Refusal::Memory, err),
         },
-        Err(KeepFault::Refused(refusal)) => refuse(true, run, place, command, refusal, err),
+        Err(KeepFault::Refused(refusal)) => {
+            refuse_action(true, run, place, action, command, refusal, err)
+        }
         Err(KeepFault::Pair(fault)) => leave(run, place, fault, err),
     }
 }

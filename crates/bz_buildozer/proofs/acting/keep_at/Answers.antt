@@ -8,7 +8,7 @@ use Rattle.bz_buildozer.specs.Reported.{refusal_line, unkept_line}
 use Rattle.bz_buildozer.specs.Run.{Progress, reported_of}
 use Rattle.bz_buildozer.specs.Sessions.{action_in}
 use Rattle.bz_buildozer.specs.private.Shown.{progress_in}
-use Rattle.bz_buildozer.proofs.ActSteps.{file_put}
+use Rattle.bz_buildozer.proofs.ActSteps.{file_put, led_to}
 use Rattle.bz_buildozer.proofs.KeepSteps.{kept_answers, kept_by, kept_open, refused_answers, unkept_answers, unprinted_answers, wants_memory}
 use Rattle.bz_buildozer.proofs.acting.keep_at.Goals as goal
 
@@ -26,7 +26,7 @@ returns-in-Ok-clause-answers g c = λ honest safe free target verb requested.
     let done : KeepsAt g.F.Files c.args.place (action_in c.args.action.now) c.args.command.now before.used (Ok c.in-Ok.reply) c.keep.new.self c.args.files.now
     c.keep.new.files = c.in-Ok.ensures.keeps in
     let new : Opened = after_keeping (Ok c.in-Ok.reply) done.history done.file in (
-      reported_of true done.file.name c.args.command.now (Err Memory),
+      reported_of true done.file.name c.args.command.now (Err Memory) [],
       unprinted_answers g.F.Files g.met.F.Files.counts_now target verb c.args.command.now c.args.place (action_in c.args.action.now) before (progress_in c.refuse.new.run)
           c.keep.new.self c.args.files.now c.keep.new.files requested honest safe free c.refuse.result c.in-Ok.reply done
           (refusal_line true done.file.name c.args.command.now Memory) c.put_printed.new.printed.items
@@ -38,17 +38,19 @@ pub returns-in-Err-Refused-clause-answers : goal.returns-in-Err-Refused-clause-a
 returns-in-Err-Refused-clause-answers g c = λ honest safe free target verb requested.
     let refusal = c.in-Err-Refused.refusal in
     let before = progress_in c.args.run.now in
-    let refuse = c.refuse-in-Err-Refused in
+    let refuse = c.refuse_action in
     let done : KeepsAt g.F.Files c.args.place (action_in c.args.action.now) c.args.command.now before.used (Err (Refused refusal)) c.keep.new.self c.args.files.now
     c.keep.new.files =
     subst (λ (fault : KeepFault). KeepsAt g.F.Files c.args.place (action_in c.args.action.now) c.args.command.now before.used (Err fault) c.keep.new.self c.args.files.now
     c.keep.new.files) c.in-Err-Refused.field-0-is c.in-Err-Refused.ensures.keeps in
-    let new : Opened = record done.file { history = done.history } in (
-      reported_of true done.file.name c.args.command.now (Err refusal),
+    let new : Opened = record done.file { history = done.history } in
+    let told = refuse.ensures.reported new (file_put c.args.place before.used c.keep.new.self done.file new done.there done.kept)
+    (λ other. (done.file.history, led_to done.file.history done.history (action_in c.args.action.now) c.args.command.now refusal done.keeps other)) in (
+      reported_of true done.file.name c.args.command.now (Err refusal) told.0,
       refused_answers g.F.Files g.met.F.Files.counts_now target verb c.args.command.now c.args.place (action_in c.args.action.now) before (progress_in refuse.new.run)
-          c.keep.new.self c.args.files.now c.keep.new.files requested honest safe free refuse.result refusal done refuse.ensures.kinds refuse.ensures.whole
-          refuse.ensures.state,
-      refuse.ensures.reported new (file_put c.args.place before.used c.keep.new.self done.file new done.there done.kept),
+          c.keep.new.self c.args.files.now c.keep.new.files requested honest safe free refuse.result refusal done told.0 refuse.ensures.kinds refuse.ensures.whole told.3
+          told.2 refuse.ensures.state,
+      told.1,
     )
 
 pub returns-clause-answers : goal.returns-clause-answers
@@ -76,8 +78,8 @@ returns-in-Ok-put_printed-clause-keeps g c = (Ok c.in-Ok.reply, c.in-Ok.ensures.
 pub returns-in-Err-Refused-clause-keeps : goal.returns-in-Err-Refused-clause-keeps
 returns-in-Err-Refused-clause-keeps g c = (
   _,
-  kept_by g.F.Files c.args.place (action_in c.args.action.now) c.args.command.now c.args.run.now.workspace _ c.keep.new.self c.refuse-in-Err-Refused.new.run.workspace
-      c.args.files.now c.keep.new.files (ap (λ (p : Progress). p.used) c.refuse-in-Err-Refused.ensures.state) c.in-Err-Refused.ensures.keeps,
+  kept_by g.F.Files c.args.place (action_in c.args.action.now) c.args.command.now c.args.run.now.workspace _ c.keep.new.self c.refuse_action.new.run.workspace
+      c.args.files.now c.keep.new.files (ap (λ (p : Progress). p.used) c.refuse_action.ensures.state) c.in-Err-Refused.ensures.keeps,
 )
 
 pub returns-clause-keeps : goal.returns-clause-keeps
@@ -91,8 +93,8 @@ pub refuse-requires : goal.refuse-requires
 refuse-requires g c = kept_open g.F.Files c.args.place (action_in c.args.action.now) c.args.command.now c.args.run.now.workspace _ c.keep.new.self c.args.files.now
     c.keep.new.files c.in-Ok.ensures.keeps
 
-pub refuse-requires-in-Err-Refused : goal.refuse-requires-in-Err-Refused
-refuse-requires-in-Err-Refused g c = kept_open g.F.Files c.args.place (action_in c.args.action.now) c.args.command.now c.args.run.now.workspace _ c.keep.new.self c.args.files.now
+pub refuse_action-requires : goal.refuse_action-requires
+refuse_action-requires g c = kept_open g.F.Files c.args.place (action_in c.args.action.now) c.args.command.now c.args.run.now.workspace _ c.keep.new.self c.args.files.now
     c.keep.new.files c.in-Err-Refused.ensures.keeps
 
 pub leave-requires : goal.leave-requires

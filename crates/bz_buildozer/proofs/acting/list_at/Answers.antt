@@ -22,8 +22,8 @@ returns-in_default-clause-answers g c = λ journals folder step free none.
     let file = opened_in c.open_file.result.now in
     let before = progress_in c.args.run.now in
     let note = c.args.command.now in (
-      reported_of false file.name note (Err Memory),
-      memory_answers c.refuse.result journals step c.args.place folder folder before (progress_in c.refuse.new.run) (reported_of false file.name note (Err Memory))
+      reported_of false file.name note (Err Memory) [],
+      memory_answers c.refuse.result journals step c.args.place folder folder before (progress_in c.refuse.new.run) (reported_of false file.name note (Err Memory) [])
           (wants_memory c.refuse.result c.refuse.ensures.kinds (λ whole. c.refuse.ensures.whole whole refl))
           (fails_at c.args.place file before (progress_in c.refuse.new.run) before.used before.printed (refusal_line false file.name note Memory)
           (sym (put_again c.args.place before.used file c.open_file.ensures)) refl c.refuse.ensures.state) (inl refl),
@@ -36,8 +36,8 @@ returns-clause-answers g c = λ journals folder step free none.
     let before = progress_in c.args.run.now in
     let note = c.args.command.now in
     let refuse = c.refuse-in-Err in (
-      reported_of false file.name note (Err Memory),
-      memory_answers refuse.result journals step c.args.place folder folder before (progress_in refuse.new.run) (reported_of false file.name note (Err Memory))
+      reported_of false file.name note (Err Memory) [],
+      memory_answers refuse.result journals step c.args.place folder folder before (progress_in refuse.new.run) (reported_of false file.name note (Err Memory) [])
           (wants_memory refuse.result refuse.ensures.kinds (λ whole. refuse.ensures.whole whole refl))
           (fails_at c.args.place file before (progress_in refuse.new.run) before.used _ (refusal_line false file.name note Memory)
           (sym (put_again c.args.place before.used file c.open_file.ensures)) c.in-Err.ensures.err refuse.ensures.state) (inl refl),
