@@ -31,7 +31,7 @@ FOUND = ["BUILD.bazel", "a/BUILD.bazel", "a/b/BUILD"]
 ALL_X = ["//:x", "//a:x", "//a/b:x"]
 
 
-REFUSED = b"buildozer: BUILD.bazel: delete: NoTarget (41)\n"
+REFUSED = b"buildozer: BUILD.bazel: delete: NoTarget (41)\nbuildozer: no rule of BUILD.bazel has the name 'none'\n"
 MISSING = b"none/BUILD: cannot open\n" + PACKAGE_HINT
 # A run in the three packages for each row: its name, its words, its status, and what it leaves.
 RUNS = [
@@ -219,9 +219,9 @@ def a_usage_fault_leaves_all(w):
 REFUSED_WITHIN = 1 << 30
 
 
-def refuses_within(w, command, text, refusal, addresses=REFUSED_WITHIN):
-    """A command on all rules of a file is refused within this memory and these addresses, and the file stays. What it says of others goes
-    to `wrong`."""
+def refuses_within(w, command, text, refusal, addresses=REFUSED_WITHIN, rule=b""):
+    """A command on all rules of a file is refused within this memory and these addresses, and the file stays; the rule is told that refuses
+    it. What it says of others goes to `wrong`."""
     (w.path / "d").mkdir(exist_ok=True)
     (w.path / "d/BUILD").write_bytes(text)
     how = {"cwd": w.path, "stdout": subprocess.PIPE, "stderr": subprocess.PIPE, "preexec_fn": held_to(resource.RLIMIT_AS, addresses)}
@@ -229,11 +229,16 @@ def refuses_within(w, command, text, refusal, addresses=REFUSED_WITHIN):
         err, out = run.stderr.read(), run.stdout.read()
         _, status, used = os.wait4(run.pid, 0)
         run.returncode = os.waitstatus_to_exitcode(status)
-    told = b"buildozer: d/BUILD: %s: %s\n" % (command.encode(), refusal)
+    told = b"buildozer: d/BUILD: %s: %s\n" % (command.encode(), refusal) + rule
     if (run.returncode, out, err) != (2, b"", told) or (w.path / "d/BUILD").read_bytes() != text:
         w.wrong.append(f"{command[:20]}: {run.returncode}, {err[-60:]}, and not {refusal}")
     if used.ru_maxrss * 1024 > REFUSED_WITHIN:
         w.wrong.append(f"{command[:20]}: {used.ru_maxrss} KiB of memory")
+
+
+def refusing(line):
+    """What is said of a rule `z` on this line that refuses a command."""
+    return b"buildozer: d/BUILD:%d: the rule 'z' refuses it\n" % line
 
 
 def copies_of_a_comment_past_the_limit(w):
@@ -242,7 +247,7 @@ def copies_of_a_comment_past_the_limit(w):
     long = "c" * 60_000
     refuses_within(w, f"comment {long}", rules, b"TooLarge (21)")
     refuses_within(w, f"comment k {long}", rules, b"TooLarge (21)")
-    refuses_within(w, f"comment k {long}", rules + b'f(name = "z")\n', b"NoAttribute (42)")
+    refuses_within(w, f"comment k {long}", rules + b'f(name = "z")\n', b"NoAttribute (42)", rule=refusing(75_001))
     return not w.wrong
 
 
@@ -258,7 +263,7 @@ def words_past_the_limit_in_each_rule(w):
     refuses_within(w, "set tags " + " ".join(f"c{number:05d}" for number in range(9_000)), b"".join(some[:1_000]), b"TooLarge (21)")
     first = b'f(name = "first", deps = [%s])\n' % b", ".join(b'"c%05d"' % number for number in range(7_000))
     refuses_within(w, "copy deps first", b"".join([first, *some]), b"TooLarge (21)")
-    refuses_within(w, f"add tags {long}", b"".join([*some, b'f(name = "z", tags = 1)\n']), b"NotAList (44)")
+    refuses_within(w, f"add tags {long}", b"".join([*some, b'f(name = "z", tags = 1)\n']), b"NotAList (44)", rule=refusing(2_501))
     return not w.wrong
 
 

@@ -34,7 +34,9 @@ MOST = 1000
 SAMPLE = 14
 # lines that say what failed, those that say so of what comes after it
 FAULT = re.compile(rb"([^\n]*): cannot (open|write)")
-FOLLOWING = re.compile(rb"buildozer: [^\n]*: (?:undo|redo)[^\n]*: TooFar \(61\)|[^\n]*: if this is a directory, see buildifier-tree")
+DIRECTORY_HINT = rb"[^\n]*: if this is a directory, see buildifier-tree"
+FOLLOWING = re.compile(rb"buildozer: [^\n]*: (?:undo|redo)[^\n]*: TooFar \(61\)|" + DIRECTORY_HINT)
+HINTS = re.compile(re.escape(PACKAGE_HINT) + rb"|^" + DIRECTORY_HINT + rb"\n", re.MULTILINE)
 
 # the calls from one on fail too
 ONWARD = [("read", errno.EIO), ("write", errno.ENOSPC), ("open", errno.EMFILE), ("read", "short"), ("write", "short"), ("write", "none")]
@@ -95,8 +97,8 @@ def is_within(part, whole):
 
 
 def without_hints(left):
-    """What a run left, but for what it says a package is, which is said only where no file of it is there."""
-    return left._replace(err=left.err.replace(PACKAGE_HINT, b""))
+    """What a run left, but for what it says a package is, where no file of it is there, and what formats a directory, where a file is."""
+    return left._replace(err=HINTS.sub(b"", left.err))
 
 
 class Allowed:

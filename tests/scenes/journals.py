@@ -545,7 +545,7 @@ RUNS = {
         FILE,
         (["--journal", "print name", "journal", "//p:a"], 3, told(b"a\n* 0 " + digest(ODD) + b"\n")),
         (["--journal", "set kind t", "remove deps :x", "//p:a"], 3, told()),
-        (["--journal", "delete", "//p:b"], 2, told(err=b"buildozer: p/BUILD: delete: NoTarget (41)\n")),
+        (["--journal", "delete", "//p:b"], 2, told(err=b"buildozer: p/BUILD: delete: NoTarget (41)\n" + b"buildozer: no rule of p/BUILD has the name 'b': did you mean 'a'?\n")),
         (["--journal", "redo", "//p:a"], 2, told(err=TOO_FAR % b"redo")),
     ),
     "without --journal a journal is neither read nor written": runs(
@@ -678,8 +678,8 @@ def unwritten(w, **after):
     """The first command that can't be kept is reported, and with -k too nothing more is run on this file and its journal; other files are edited."""
     put(w.path, {"q/BUILD": EVEN.replace(b":x", b":y")})
     words = ["-k", "--journal", "add deps //p:x", "print deps", "undo", "journal", "delete", "//p:a", "//p:all", "//q:none"]
-    missing = b"".join(b"buildozer: q/BUILD: %s: NoTarget (41)\n" % command for command in (b"add deps //p:x", b"print deps"))
-    missing += b"buildozer: q/BUILD: undo: TooFar (61)\nbuildozer: q/BUILD: delete: NoTarget (41)\n"
+    first, second, last = [b"buildozer: q/BUILD: %s: NoTarget (41)\nbuildozer: no rule of q/BUILD has the name 'none'\n" % command for command in (b"add deps //p:x", b"print deps", b"delete")]
+    missing = first + second + b"buildozer: q/BUILD: undo: TooFar (61)\n" + last
     printed = b"* 0 " + digest(EVEN.replace(b":x", b":y")) + b"\n"
     return w.leaves(words, 2, out=printed, err=UNWRITTEN + missing, **after)
 

@@ -69,6 +69,8 @@ def sheet(question, *answers):
 MOVED = "= Changed\n= Moved\n= Moved\n= Moved\n= 0 of 1 steps\n" + lines_of(X, "<")
 NOT_MOVED = "= 8 Memory\n= 61 TooFar\n= 61 TooFar\n= 61 TooFar\n= 0 of 0 steps\n" + lines_of(X, "<")
 
+MISSING = refusal_of("print", "NoTarget (41)") + b"buildozer: no rule of <stdin> has the name 'a'\n"
+
 # ---- the rows
 
 ROWS = {
@@ -95,13 +97,15 @@ ROWS = {
         ],
     ),
     "a printed line that is refused": Row(
-        "buildozer", ["-k", "--", "print deps", "delete", "print", "-:a"], X, Left(2, b"[:x]\n", refusal_of("print", "NoTarget (41)")),
+        "buildozer", ["-k", "--", "print deps", "delete", "print", "-:a"], X, Left(2, b"[:x]\n", MISSING),
         [
-            Left(2, b"", refused("print deps") + refusal_of("print", "NoTarget (41)")),
+            Left(2, b"", refused("print deps") + MISSING),
             Left(2, b"[:x]\na t\n" + X, refused("delete")),
             # the last command looks at a file of no rules, of which the value has room for one item
             Left(2, b"[:x]\n", refused("print")),
-            Left(2, b"", UNREAD + refusal_of("print", "NoTarget (41)")),
+            # the line below it is not told
+            Left(2, b"[:x]\n", refusal_of("print", "NoTarget (41)")),
+            Left(2, b"", UNREAD + MISSING),
         ],
         [refused("print deps", "delete", "print"), refused("delete", "print"), refused("print")],
     ),
@@ -139,7 +143,7 @@ def faults(refusing, row):
 
 # a line that says that memory was refused; one that may come after it; and the status of a run in which it was
 MEMORY = re.compile(rb"(?:buildozer|buildifier): Memory|[^\n]*: (?:Memory|Memory \(8\)|cannot write)")
-FOLLOWING = re.compile(rb"buildozer: [^\n]*: (?:TooFar \(61\)|NoTarget \(41\))")
+FOLLOWING = re.compile(rb"buildozer: (?:[^\n]*: (?:TooFar \(61\)|NoTarget \(41\))|no rule of [^\n]*)")
 
 
 def is_command(row, place):

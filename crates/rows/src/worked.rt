@@ -19,6 +19,9 @@ pub(crate) const WITHOUT_X: &str = "# keep\ncc_binary(name = \"y\")\n";
 
 const NO_TARGET: &str = "buildozer: <stdin>: delete: NoTarget (41)\n";
 
+const NO_RULE: &str =
+    "buildozer: <stdin>: delete: NoTarget (41)\nbuildozer: no rule of <stdin> has the name 'z': did you mean 'x'?\n";
+
 static ROWS: [Row; 9] = [
     Row {
         words: &["--", "delete", "undo", "redo", "-:x"],
@@ -46,7 +49,7 @@ static ROWS: [Row; 9] = [
         devices: SOUND,
         output: INPUT,
         status: 2,
-        errors: Some(NO_TARGET),
+        errors: Some(NO_RULE),
     },
     Row {
         words: &["--", "delete", "-:__pkg__"],
@@ -71,7 +74,7 @@ static ROWS: [Row; 9] = [
     },
     // A fault of standard error is passed over: its second byte is not taken, and the line ends there.
     Row {
-        words: &["--", "delete", "-:z"],
+        words: &["--", "delete", "-:__pkg__"],
         devices: Devices {
             error: 2,
             ..BYTEWISE
