@@ -41,9 +41,9 @@ class Place:
             # a link, since they are large and each scene has such a folder
             (self.path / program.name).symlink_to(program)
 
-    def run(self, command, text=b""):
-        """The status and both outputs, as one, of a command of the shell or of a list of words."""
-        words = ["sh", "-c", command] if isinstance(command, str) else command
+    def run(self, command, text=b"", shell=("sh",)):
+        """The status and both outputs, as one, of a command of a shell or of a list of words."""
+        words = [*shell, "-c", command] if isinstance(command, str) else command
         how = {"stdout": subprocess.PIPE, "stderr": subprocess.STDOUT, "timeout": 60}
         run = subprocess.run(words, cwd=self.folder, env=environment_with(self.path), input=text, **how)
         return run.returncode, run.stdout.decode(errors="replace")

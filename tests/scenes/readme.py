@@ -5,12 +5,14 @@ page of each crate; links lead somewhere, and files, crates and names of the sou
 
 The pages are README.md, those beside it, those of docs/ and docs/internals/, of contrib/ and of each crate. A block of code in which lines
 begin with `$` is an example: its commands run one after the other, in a folder of the block's own that is empty at first, with both
-programs on the PATH. What a command leaves on its two outputs must be what is below it, byte for byte, up to the next command. A block
-that calls git is reported as not run where there is no git. The commands in the tables need only be such as the program takes.
+programs on the PATH. What a command leaves on its two outputs must be what is below it, byte for byte, up to the next command. Each block runs
+in sh, and once more in each of bash, zsh, dash and fish that is there; in fish with `$status` for `$?`, but for loops, as the pages say.
+A block that calls git is reported as not run where there is no git. The commands in the tables need only be such as the program takes.
 
     tests/scenes/readme.py BUILDOZER BUILDIFIER
 """
 import functools
+import os
 import pathlib
 import re
 import shutil
@@ -20,7 +22,7 @@ from lib.pages import (
     BLOCK, CODE, COMMAND, CRATE_PAGES, CRATES, INTERNALS, PAGES, README, definition, different_from_code, links_of, named_examples, on_path,
     refusals_of_code, rows_of, texts_in,
 )  # fmt: skip
-from lib.scenes import TOP, Scenes, named
+from lib.scenes import PROCESSORS, TOP, Scenes, named
 
 sys.path.append(str(TOP / "tools"))
 import definitions
@@ -31,6 +33,9 @@ LINES, BYTES = 170, 16_500
 # the sections of the page of a crate, of which it has some, in this order
 SECTIONS = ["Definitions", "Proved", "Only tested", "Neither proved nor tested", "Decisions"]
 GIT = re.compile(r"^\$ (?:.*[ ;|&(])?git ", re.MULTILINE)
+# the shells in which the examples run beside sh, each without a file of settings
+SHELLS = {"bash": ["bash", "--norc"], "zsh": ["zsh", "-f"], "dash": ["dash"], "fish": ["fish", "--no-config"]}
+LOOP = re.compile(r"^\$ .*; do ", re.MULTILINE)
 # the path of a file or folder, of the repository or of a crate; one with a word in capitals is a form
 OF_TOP, OF_CRATES = "docs|tools|tests|contrib|crates|bench|edits|examples|\\.ci", "src|specs|proofs|must-fail"
 PATH = re.compile(rf"(?<![\w./-])(?:{OF_TOP}|{OF_CRATES})/[\w./-]*\w(?![\w*{{-])|(?<![\w./-])[A-Z]+\.md\b")
@@ -77,7 +82,9 @@ def attributes_of_code():
 # ---- scenes
 
 
-def an_example(name, block):
+def an_example(name, block, shell="sh"):
+    words = SHELLS.get(shell, [shell])
+
     def wrong(place):
         if GIT.search(block) and not shutil.which("git"):
             SCENES.say(f"{name} was not run: there is no git")
@@ -85,12 +92,28 @@ def an_example(name, block):
         front, *pieces = COMMAND.split(block)
         faults = [f"{front!r} is before the first command"] if front else []
         for command, wanted in zip(pieces[::2], pieces[1::2]):
-            left = place.run(command)[1]
+            left = place.run(command.replace("$?", "$status") if shell == "fish" else command, shell=words)[1]
             if left != wanted:
                 faults.append(f"{command}: {left!r}, and not {wanted!r}")
         return faults
 
     return wrong
+
+
+def examples_in_shells():
+    """Each example in each further shell that is there and is not sh itself, but for loops in fish, which have another form there."""
+    found = {shell: os.path.realpath(shutil.which(shell) or "") for shell in ["sh", *SHELLS]}
+    shells = [shell for shell in SHELLS if shutil.which(shell) and found[shell] != found["sh"]]
+    blocks = {(name, shell): block for name, block in named_examples().items() for shell in shells if shell != "fish" or not LOOP.search(block)}
+    return {f"{name} in {shell}": an_example(name, block, shell) for (name, shell), block in blocks.items()}
+
+
+def shells_are_there(place):
+    """Says which shell is not there."""
+    for shell in SHELLS:
+        if not shutil.which(shell):
+            SCENES.say(f"no example was run in {shell}, which is not there")
+    return []
 
 
 def refusals(place):
@@ -255,13 +278,13 @@ def files_of_lemmas_are_there(place):
     return lost if named else ["no file of lemmas is named"]
 
 
-FOUND = {name: an_example(name, block) for name, block in named_examples().items()}
-FOUND |= named(refusals, attributes, commands, examples_of_commands, layers, rows_of_the_gate)
+FOUND = {name: an_example(name, block) for name, block in named_examples().items()} | examples_in_shells()
+FOUND |= named(shells_are_there, refusals, attributes, commands, examples_of_commands, layers, rows_of_the_gate)
 FOUND |= named(
     pages_are_linked, readme_is_short, pages_of_crates_have_their_form, files_are_there, crates_are_there, names_are_there, definitions_are_there,
     made_of_definitions, index_has_what_is_cited, files_of_lemmas_are_there,
 )  # fmt: skip
-SCENES = Scenes(__file__, FOUND, place=on_path)
+SCENES = Scenes(__file__, FOUND, place=on_path, lanes=PROCESSORS)
 
 if __name__ == "__main__":
     SCENES.main()
