@@ -60,7 +60,7 @@ COMMENT = "comment deps why\\ not"
 RENAME = "rename deps data"
 PRINT = "print name deps"
 REPLACE = "replace deps :base :other"
-# how many lines a rule takes, with the blank one behind it
+# how many lines a rule takes, with the blank one after it
 TALL = RULE.count("\n") + 1
 THOUSAND = spread(ADD, 1000, 100)
 UNDOS = ["undo|-:all"] * 1000

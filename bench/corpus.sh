@@ -1,7 +1,7 @@
 #!/bin/sh
 # Reads each BUILD, WORKSPACE and MODULE.bazel file below a folder and spells it back: bench/corpus.sh FOLDER. Prints the
 # names of those that were refused or came back with other bytes, and how many did not; the status is 1 where any did.
-# A name may have another in front or behind, as in zlib.BUILD or BUILD.tools. Files past 64 MiB are left out, since no text is
+# A name may have another before or after it, as in zlib.BUILD or BUILD.tools. Files past 64 MiB are left out, since no text is
 # longer. Build the program first (make bin/cases).
 set -eu
 folder=${1:?"FOLDER is missing: bench/corpus.sh FOLDER"}

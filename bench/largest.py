@@ -1,7 +1,7 @@
 #!/usr/bin/env python3
 """What texts up to the longest one cost: the processor's time of one run and the most memory that it takes, in bytes for a byte of
 the text, for made rules of 144 bytes each, laid out and not, and for one comment, of a sixteenth, a quarter and all of the bytes that
-a text may have. The runs are: a format by buildifier, one command, the same with --journal, and an undo in a run behind that one.
+a text may have. The runs are: a format by buildifier, one command, the same with --journal, and an undo in a run after that one.
 
     bench/largest.py [BUILDOZER BUILDIFIER [BYTES..]]
 
@@ -38,7 +38,7 @@ def odd_rules(size):
 
 
 def comment(size):
-    """A rule behind one comment."""
+    """A rule after one comment."""
     rule = b'\n\nt(name = "r0")\n'
     return b"#" + b"a" * (size - ROOM - len(rule)) + rule
 

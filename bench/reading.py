@@ -58,7 +58,7 @@ def build_files(folder, parsers):
 
 
 def joined(texts, limit):
-    """The texts one behind the other, over and over, as long as they fit."""
+    """The texts one after the other, over and over, as long as they fit."""
     pieces, size = [], 0
     while size + len(texts[len(pieces) % len(texts)]) <= limit:
         pieces.append(texts[len(pieces) % len(texts)])

@@ -4,7 +4,7 @@
     tools/build.py PROGRAM..
 
 A line is printed for each crate that is done, with how many of all are done and the minutes since the start. Crates that are proved are
-kept in their folders out/, so a run that was interrupted goes on behind these, and one over unchanged sources proves nothing.
+kept in their folders out/, so a run that was interrupted goes on after these, and one over unchanged sources proves nothing.
 The first proof that fails ends the run, and the last line names its crate.
 
 A crate is proved when all that it depends on is, by rt lib in a copy of the crates (tools/crates.py), of which there is one for
@@ -55,7 +55,7 @@ CRATE = 13_000
 PROOFS = 4
 # what starts a proof that takes only what others leave of the processors
 ASIDE = ("nice", "-n", "10")
-# by this option of prctl, PR_SET_CHILD_SUBREAPER, what an ended rt leaves behind becomes a child of this run
+# by this option of prctl, PR_SET_CHILD_SUBREAPER, what an ended rt leaves becomes a child of this run
 ADOPTS = 36
 
 

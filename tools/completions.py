@@ -40,8 +40,8 @@ def sequences(tokens):
         depth += (token == "[") - (token == "]")
         if depth == 0:
             break
-    behind = sequences(tokens[end + 1 :])
-    return [front + rest for front in [*sequences(tokens[1:end]), []] for rest in behind]
+    after = sequences(tokens[end + 1 :])
+    return [front + rest for front in [*sequences(tokens[1:end]), []] for rest in after]
 
 
 def is_literal(word):

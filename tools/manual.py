@@ -36,7 +36,7 @@ WHOLE = {
     "buildozer-tree": ["Undo of a whole run", "Which files and packages", "When a run is stopped"],
     "buildifier-tree": ["Which files and packages", "When a run is stopped"],
 }
-# a refusal of a text, which both programs report; those behind them are of labels, targets and commands
+# a refusal of a text, which both programs report; those after them are of labels, targets and commands
 LAST_OF_TEXTS = 8
 # this line is buildozer's, though it doesn't name it
 LINES_OF_BUILDOZER = ["`FILE: no operands`"]
@@ -166,7 +166,7 @@ def page(program, found):
         if blocks:
             lines += [f".SH {title}", *(line for block in blocks for line in block_lines(block))]
     lines += [".SH SEE ALSO", others, ".PP", *filled(DOCUMENTS)]
-    # a paragraph right behind the heading of a section is one by itself
+    # a paragraph right after the heading of a section is one by itself
     return re.sub(r"(?m)^(\.SH .*\n)\.PP\n", r"\1", "\n".join(lines) + "\n")
 
 

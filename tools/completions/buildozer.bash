@@ -33,7 +33,7 @@ _@NAME@_cut() {
 }
 
 # The text by which readline replaces what it completes: inside quotation marks what is after the open one, else what is
-# behind the last sign that parts words.
+# after the last sign that parts words.
 _@NAME@_reply() {
     local text=$1 kept=''
     case $quote in
@@ -71,7 +71,7 @@ _@NAME@() {
         _@NAME@_reply "$text"
         COMPREPLY+=("$REPLY")
     done < <(_@NAME@_candidates "${before[0]/#\~/$HOME}" "$word")
-    # behind a single text that goes on comes no space; readline leaves its quotation marks open only where there are two texts
+    # after a single text that goes on comes no space; readline leaves its quotation marks open only where there are two texts
     if [[ ${#COMPREPLY[@]} == 1 && $REPLY == *[\ :/] ]]; then
         compopt -o nospace 2> /dev/null
         [[ $quote ]] && COMPREPLY+=("$REPLY..")

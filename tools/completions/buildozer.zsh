@@ -7,7 +7,7 @@ _@NAME@_candidates() {
 END
 }
 
-# The texts that go on, behind which no space comes, apart from the others, each with what it is.
+# The texts that go on, after which no space comes, apart from the others, each with what it is.
 _@NAME@_operand() {
     local line text told operand=$PREFIX program=${(Q)words[1]}
     local -a going going_told whole whole_told

@@ -1,4 +1,4 @@
-# What an operand of buildozer may become: each text on a line, and behind a tab what it is. A text that ends with a space, a
+# What an operand of buildozer may become: each text on a line, and after a tab what it is. A text that ends with a space, a
 # colon or a slash goes on.
 #   candidates PROGRAM OPERAND
 set -f
@@ -69,7 +69,7 @@ folders() {
     done
 }
 
-# label FRONT TEXT: the labels of rules that the text behind the front may become
+# label FRONT TEXT: the labels of rules that the text after the front may become
 label() {
     case $2 in
     -:*) ;;
@@ -123,21 +123,21 @@ word() {
         *'>'*) continue ;;
         esac
         case $kind in
-        *+) behind=' ' kind=${kind%+} ;;
-        *) behind= ;;
+        *+) after=' ' kind=${kind%+} ;;
+        *) after= ;;
         esac
         case $kind in
         -) ;;
-        ATTR) printf '%s\n' $attributes | offer_lines "$1" "$behind" ;;
-        KIND) told kind '' | offer_lines "$1" "$behind" ;;
-        RULE) told name '' | escaped | offer_lines "$1" "$behind" ;;
-        FIELD) printf '%s\n' $fields $attributes | offer_lines "$1" "$behind" ;;
+        ATTR) printf '%s\n' $attributes | offer_lines "$1" "$after" ;;
+        KIND) told kind '' | offer_lines "$1" "$after" ;;
+        RULE) told name '' | escaped | offer_lines "$1" "$after" ;;
+        FIELD) printf '%s\n' $fields $attributes | offer_lines "$1" "$after" ;;
         LABEL)
             case " $label_attributes * " in
             *" $4 "*) label "$1" "$2" ;;
             esac
             ;;
-        *) offer "$1$kind$behind" ;;
+        *) offer "$1$kind$after" ;;
         esac
     done
 }
