@@ -1,7 +1,8 @@
 #!/usr/bin/env python3
 """Runs the examples of README.md and of the other pages, and compares the tables of the pages of reference, the picture of the crates and
 the index of definitions with the code. README.md must be short and have a link to each page, and docs/internals/PROVED.md one to the
-page of each crate; links lead somewhere, and files, crates and names of the sources that pages name are there.
+page of each crate; docs/COMING.md has a row for each command and option of bazelbuild's tools; links lead somewhere, and files, crates and
+names of the sources that pages name are there.
 
 The pages are README.md, those beside it, those of docs/ and docs/internals/, of contrib/ and of each crate. A block of code in which lines
 begin with `$` is an example: its commands run one after the other, in a folder of the block's own that is empty at first, with both
@@ -44,6 +45,17 @@ FORM = re.compile(r"(?:^|/)[A-Z_]+(?:/|\.edit|$)|/out/")
 OF_SOURCES = ["PROMISES.md", *(f"internals/{page}.md" for page in ("ARCHITECTURE", "DECISIONS", "DEFINITIONS", "PROOFS", "PROVED"))]
 WORD = re.compile(r"[A-Za-z_][\w-]*")
 NAMES_OF_OTHERS = {"Tie", "is-1", "loop-X-preserved", "grep", "make", "flock", "chekc", "st", "b1", "o8"}
+# the commands and options of bazelbuild's READMEs, by the section of docs/COMING.md whose table has a row for each
+THEIRS = {
+    "buildozer: commands": """add comment copy copy_no_overwrite delete dict_add dict_list_add dict_remove dict_replace_if_equal dict_set fix
+        format move new new_load print print_comment remove remove_comment remove_if_equal rename replace replace_load set set_if_absent
+        set_select substitute substitute_load use_repo_add use_repo_remove""",
+    "buildozer: options": """-P -add_tables -allowsort -buildifier -buildifier_disable -delete_with_comments -edit-variables -eol-comments -f -k
+        -numio -output_json -output_proto -quiet -root_dir -shorten_labels -stdout -tables -types -version""",
+    "buildifier: options": """- -add_tables -allowsort -buildifier_disable -config -d -diff_command -format -lint -mode=check -mode=diff -mode=fix
+        -mode=print_if_changed -multi_diff -path -r -tables -type=auto -type=build -type=bzl -type=default -type=module -type=workspace -v
+        -version -warnings""",
+}
 # a row of a crate's definitions: names, the files of specs/ that have them
 OF_SPECS = re.compile(r"(?m)^\| ([^|]*`[^|]*) \| ([A-Z]\w*(?:, [A-Z]\w*)*) \|")
 # what a line of specs/ defines: a definition, a field or constructors, by the names before what it takes or its type
@@ -151,6 +163,17 @@ def examples_of_commands(place):
         if status not in (0, 3) and not (status == 2 and refused):
             faults.append(f"{command}: status {status}, {left!r}")
     return faults
+
+
+def rows_for_theirs(place):
+    """docs/COMING.md has a row for each command and option of bazelbuild's tools, in the first cell of which it is."""
+    sections = dict(re.findall(r"(?ms)^## (.*?)\n(.*?)(?=^## |\Z)", (TOP / "docs" / "COMING.md").read_text()))
+    wrong = []
+    for section, names in THEIRS.items():
+        cells = " ".join(re.findall(r"(?m)^\| (.*?) \|", sections[section]))
+        known = {word for code in CODE.findall(cells) for word in [code, code.partition("=")[0], *code.split()]}
+        wrong += [f"docs/COMING.md, {section}: there is no row for {name}" for name in names.split() if name not in known]
+    return wrong
 
 
 def layers(place):
@@ -279,7 +302,7 @@ def files_of_lemmas_are_there(place):
 
 
 FOUND = {name: an_example(name, block) for name, block in named_examples().items()} | examples_in_shells()
-FOUND |= named(shells_are_there, refusals, attributes, commands, examples_of_commands, layers, rows_of_the_gate)
+FOUND |= named(shells_are_there, refusals, attributes, commands, examples_of_commands, rows_for_theirs, layers, rows_of_the_gate)
 FOUND |= named(
     pages_are_linked, readme_is_short, pages_of_crates_have_their_form, files_are_there, crates_are_there, names_are_there, definitions_are_there,
     made_of_definitions, index_has_what_is_cited, files_of_lemmas_are_there,
