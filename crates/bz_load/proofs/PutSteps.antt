@@ -4,7 +4,7 @@ use Rattle.std.specs.List.{insert, list_any, position}
 use Rattle.std.proofs.lemmas.List.{take_at, drop_at, drop-drop, length-append, length-take-le, set_split, append-nil, get_or-set_same, get_or_default, append_cancel_left, set-get_or}
 use Rattle.std.proofs.lemmas.List.Edits.{length-insert}
 use Rattle.bz_value.specs.declared.value.Item.{Item}
-use Rattle.bz_value.specs.Exchanged.{IsSpliced}
+use Rattle.bz_value.specs.Windows.{IsSpliced}
 use Rattle.std.specs.Prelude.{◌==◌, ◌&&◌, ◌||◌, Option, Some, None, IsTrue, bytes_eq, slice_get, slice_set}
 use Rattle.std.proofs.lemmas.Option.{get_or_from_slice_get}
 use Rattle.std.proofs.Math.Bool.{and_self, and-false}

@@ -2,7 +2,7 @@
 ghost use Rattle.std.specs.Prelude.{◌≡◌, ◌↔◌, ◌||◌, ◌++◌, ◌∷◌, [], map, not, IfOk, IsTrue, OnOk};
 ghost use Rattle.std.specs.List.{list_any, position};
 ghost use Rattle.bz_token.specs.declared.class.Class.TheVariants as c;
-ghost use Rattle.bz_value.specs.Exchanged.{IsSpliced};
+ghost use Rattle.bz_value.specs.Windows.{IsSpliced};
 ghost use Rattle.bz_command_syntax.specs.declared.command.Symbol.{Symbol};
 ghost use Rattle.bz_command_syntax.specs.Quoted.{quoted_of};
 ghost use Rattle.bz_attribute.specs.Made.{token};

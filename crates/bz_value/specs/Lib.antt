@@ -2,11 +2,11 @@ pub mod Commented
 pub mod Comments
 pub mod Counted
 pub mod Empty
-pub mod Exchanged
 pub mod Frames
 pub mod Gaps
 pub mod LineShapes
 pub mod Proper
 pub mod Refusals
 pub mod Roots
+pub mod Windows
 pub mod Worked

@@ -11,6 +11,7 @@ mod refusal;
 mod same;
 mod texts;
 mod value;
+mod windows;
 
 pub use comments::Comments;
 pub use end_comments::EndComments;
@@ -23,3 +24,4 @@ pub use gap::{
 pub use laws::worked_gaps;
 pub use refusal::Refusal;
 pub use value::{Expr, File, Form, Item, Seq, Token};
+pub use windows::Window;
