@@ -1,4 +1,4 @@
 -- What the contracts of private functions cite, and no contract of a public call reaches: nobody has to trust it.
 pub mod Plans
 pub mod Tests
-pub mod Windows
+pub mod Listed

@@ -6,4 +6,4 @@ pub mod laws;
 mod moves;
 
 pub use crossing::copy_steps;
-pub use moves::{go_back, go_forward, put_after, take_up, take_up_across, take_up_at};
+pub use moves::{go_back, go_forward, put_after, take_up};
