@@ -1,10 +1,8 @@
 pub mod Appending
 pub mod Assignments
+pub mod Changes
 pub mod Deep
 pub mod Elements
-pub mod ExchangedDepths
-pub mod ExchangedLengths
-pub mod Exchanging
 pub mod FirstGaps
 pub mod Fitted
 pub mod Flagged
@@ -15,6 +13,7 @@ pub mod Joined
 pub mod JoinedNames
 pub mod LegalFiles
 pub mod LegalParts
+pub mod LineWindows
 pub mod LinesBack
 pub mod Loops
 pub mod Made
@@ -24,19 +23,16 @@ pub mod Measured
 pub mod Neighbours
 pub mod PlainRows
 pub mod Pushing
-pub mod PutParts
+pub mod Reaching
 pub mod ReadBack
 pub mod Readable
-pub mod RelaidLengths
-mod Relaying
 pub mod Rows
-pub mod Settings
 pub mod Spacing
 pub mod Spelled
 pub mod Spots
 pub mod Standing
+pub mod Staying
 pub mod Stops
-pub mod TakenItems
 pub mod Terminals
 pub mod Touching
 pub mod Viewed

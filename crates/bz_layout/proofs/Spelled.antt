@@ -141,14 +141,14 @@ pub next_after : (x : Item) (ys : List Item) → before_next x ys ++ layout ys �
 next_after x [] = refl
 next_after x (y ∷ ys) = refl
 
-spell_line : (gap : Bytes) (x : Expr) → Readable x → spell_part (line_part gap x) ≡ gap ++ item_text (i.Stmt x)
+pub spell_line : (gap : Bytes) (x : Expr) → Readable x → spell_part (line_part gap x) ≡ gap ++ item_text (i.Stmt x)
 spell_line gap x f =
     let before : Bytes = comment_lines (comments_of x).before in
     let after : Bytes = suffix_text (comments_of x).suffix ++ (line_feed ∷ []) in
     spell_made k.Line _ ∙
     (both (spell_expr x f (gap ++ before) 0) (append-nil after) ∙ (append_assoc (gap ++ before) (text_of x 0) after ∙ append_assoc gap before (text_of x 0 ++ after)))
 
-spell_lines : (xs : List Item) → AllByRecursion IsProperItem xs → (gap : Bytes) → flat_map spell_part (lines_from gap xs) ≡ gap ++ layout xs
+pub spell_lines : (xs : List Item) → AllByRecursion IsProperItem xs → (gap : Bytes) → flat_map spell_part (lines_from gap xs) ≡ gap ++ layout xs
 spell_lines [] h gap = append-nil (gap ++ [])
 spell_lines (i.Block texts ∷ xs) h gap =
     let lines : Bytes = comment_lines texts in

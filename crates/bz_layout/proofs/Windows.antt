@@ -1,25 +1,23 @@
--- Items taken out and others put in their place change their own lines and the next one.
-use Rattle.std.proofs.Common.{ℕ, zero, suc, true, ◌≡◌, ◌<◌, ◌≤◌, ◌+◌, ◌-◌, List, [], ◌∷◌, ◌++◌, length, get_or, take, drop, refl, sym, ap, ◌∙◌, subst, arith, append_assoc, length-drop, true≢false}
-use Rattle.std.proofs.lemmas.List.{drop_more, drop-drop, drop_at, take_at}
+-- The lines in front of a place, how many there are, and the gap before it.
+use Rattle.std.proofs.Common.{ℕ, zero, suc, true, ◌≡◌, ◌<◌, ◌≤◌, ◌+◌, ◌-◌, List, [], ◌∷◌, ◌++◌, length, get_or, take, drop, refl, sym, ap, ◌∙◌, arith, append_assoc, true≢false}
+use Rattle.std.proofs.lemmas.List.{drop_more}
 use Rattle.bz_grammar.specs.declared.tree.Part.{Part}
 use Rattle.bz_value.specs.declared.value.Item.{Item}
 use Rattle.bz_value.specs.declared.value.Item.TheVariants as i
-use Rattle.bz_value.specs.Exchanged.{IsSpliced}
 use Rattle.bz_items.specs.Characters.{Bytes}
 use Rattle.bz_layout.specs.Written.{gap_between, comment_lines}
 use Rattle.bz_layout.specs.LaidOut.{own_lines, left_gap, before_next, lines_from}
-use Rattle.bz_layout.specs.private.Marks.{place_after}
-use Rattle.bz_layout.specs.private.Windows.{is_statement_item, line_count_in, statement_gap, lines_after}
+use Rattle.bz_layout.specs.private.Windows.{is_statement_item, line_count_in, statement_gap, place_after}
 use Rattle.bz_layout.proofs.Loops.{lines_first}
 
 -- ---- the lines in front of a place
 
-abbrev front_lines : Bytes → ℕ → List Item → List Part
+abbrev pub front_lines : Bytes → ℕ → List Item → List Part
 front_lines gap zero items = []
 front_lines gap (suc n) [] = []
 front_lines gap (suc n) (item ∷ items) = own_lines gap item ++ front_lines (left_gap gap item ++ before_next item items) n items
 
-lines_cut : (gap : Bytes) (n : ℕ) (xs : List Item) → n ≤ length xs → lines_from gap xs ≡ front_lines gap n xs ++ lines_from (statement_gap gap n xs) (drop n xs)
+pub lines_cut : (gap : Bytes) (n : ℕ) (xs : List Item) → n ≤ length xs → lines_from gap xs ≡ front_lines gap n xs ++ lines_from (statement_gap gap n xs) (drop n xs)
 lines_cut gap zero xs h = refl
 lines_cut gap (suc n) [] h = absurd (omega arith)
 lines_cut gap (suc n) (x ∷ xs) h =
@@ -36,23 +34,23 @@ front_alone gap (suc zero) (x ∷ xs) h = refl
 front_alone gap (suc (suc n)) (x ∷ []) h = absurd (omega arith)
 front_alone gap (suc (suc n)) (x ∷ y ∷ xs) h = ap (λ ps. own_lines gap x ++ ps) (front_alone (left_gap gap x ++ gap_between x y) (suc n) (y ∷ xs) (omega arith))
 
-front_same : (gap : Bytes) (n : ℕ) (xs ys : List Item) → n ≤ length xs → n ≤ length ys → take n xs ≡ take n ys → front_lines gap n xs ≡ front_lines gap n ys
+pub front_same : (gap : Bytes) (n : ℕ) (xs ys : List Item) → n ≤ length xs → n ≤ length ys → take n xs ≡ take n ys → front_lines gap n xs ≡ front_lines gap n ys
 front_same gap n xs ys g h e = front_alone gap n xs g ∙ (ap (λ zs. front_lines gap n zs) e ∙ sym (front_alone gap n ys h))
 
 -- ---- how many lines there are
 
-length_front : (gap : Bytes) (n : ℕ) (xs : List Item) → length (front_lines gap n xs) ≡ line_count_in (take n xs)
+pub length_front : (gap : Bytes) (n : ℕ) (xs : List Item) → length (front_lines gap n xs) ≡ line_count_in (take n xs)
 length_front gap zero xs = refl
 length_front gap (suc n) [] = refl
 length_front gap (suc n) (i.Block texts ∷ xs) = length_front ((gap ++ comment_lines texts) ++ before_next (i.Block texts) xs) n xs
 length_front gap (suc n) (i.Stmt x ∷ xs) = ap suc (length_front (before_next (i.Stmt x) xs) n xs)
 
-length_lines : (gap : Bytes) (xs : List Item) → length (lines_from gap xs) ≡ suc (line_count_in xs)
+pub length_lines : (gap : Bytes) (xs : List Item) → length (lines_from gap xs) ≡ suc (line_count_in xs)
 length_lines gap [] = refl
 length_lines gap (i.Block texts ∷ xs) = length_lines ((gap ++ comment_lines texts) ++ before_next (i.Block texts) xs) xs
 length_lines gap (i.Stmt x ∷ xs) = ap suc (length_lines (before_next (i.Stmt x) xs) xs)
 
-lines_in_cut : (n : ℕ) (xs : List Item) → line_count_in xs ≡ line_count_in (take n xs) + line_count_in (drop n xs)
+pub lines_in_cut : (n : ℕ) (xs : List Item) → line_count_in xs ≡ line_count_in (take n xs) + line_count_in (drop n xs)
 lines_in_cut zero xs = omega arith
 lines_in_cut (suc n) [] = omega arith
 lines_in_cut (suc n) (i.Block texts ∷ xs) = lines_in_cut n xs
@@ -64,20 +62,6 @@ counted_first count (i.Stmt x) xs = omega arith
 
 pub counted_next : (count : ℕ) (xs : List Item) (k : ℕ) (d : Item) → k < length xs → count + line_count_in (drop k xs) ≡ place_after count (get_or xs k d) + line_count_in (drop (k + 1) xs)
 counted_next count xs k d h = ap (λ ys. count + line_count_in ys) (drop_more xs k d h) ∙ counted_first count (get_or xs k d) (drop (k + 1) xs)
-
--- ---- the lines after the first one
-
-after_first : (gap : Bytes) (xs : List Item) → drop 1 (lines_from gap xs) ≡ lines_after xs
-after_first gap [] = refl
-after_first gap (i.Block texts ∷ xs) = after_first ((gap ++ comment_lines texts) ++ before_next (i.Block texts) xs) xs
-after_first gap (i.Stmt x ∷ xs) = refl
-
--- the first of them that is after some items, and the lines of these taken away
-after_front : (gap : Bytes) (n : ℕ) (xs : List Item) → n ≤ length xs → drop (suc (line_count_in (take n xs))) (lines_from gap xs) ≡ lines_after (drop n xs)
-after_front gap zero xs h = after_first gap xs
-after_front gap (suc n) [] h = absurd (omega arith)
-after_front gap (suc n) (i.Block texts ∷ xs) h = after_front ((gap ++ comment_lines texts) ++ before_next (i.Block texts) xs) n xs (omega arith)
-after_front gap (suc n) (i.Stmt x ∷ xs) h = after_front (before_next (i.Stmt x) xs) n xs (omega arith)
 
 -- ---- the gap before a place
 
@@ -100,7 +84,7 @@ gap_found gap from k xs all h e =
     let none : 0 ≡ from - k = omega arith in
     ap (λ n. statement_gap gap n xs) none ∙ e
 
-gap_split : (gap : Bytes) (k from : ℕ) (xs : List Item) → k ≤ from → k ≤ length xs → statement_gap gap from xs ≡ statement_gap (statement_gap gap k xs) (from - k) (drop k xs)
+pub gap_split : (gap : Bytes) (k from : ℕ) (xs : List Item) → k ≤ from → k ≤ length xs → statement_gap gap from xs ≡ statement_gap (statement_gap gap k xs) (from - k) (drop k xs)
 gap_split gap zero from xs g h = let all : from ≡ from - 0 = omega arith in ap (λ n. statement_gap gap n xs) all
 gap_split gap (suc k) zero xs g h = absurd (omega arith)
 gap_split gap (suc k) (suc from) [] g h = absurd (omega arith)
@@ -108,16 +92,6 @@ gap_split gap (suc k) (suc from) (x ∷ xs) g h =
     let next : Bytes = left_gap gap x ++ before_next x xs in
     let less : from - k ≡ suc from - suc k = omega arith in
     gap_split next k from xs (omega arith) (omega arith) ∙ ap (λ n. statement_gap (statement_gap next k xs) n (drop k xs)) less
-
--- the gap before the next item
-pub gap_passed : (xs : List Item) (k : ℕ) (item : Item) → k < length xs → item ≡ get_or xs k item →
-    statement_gap [] (k + 1) xs ≡ left_gap (statement_gap [] k xs) item ++ before_next item (drop (k + 1) xs)
-gap_passed xs k item h is =
-    let here : Bytes = statement_gap [] k xs in
-    let rest : List Item = drop (k + 1) xs in
-    let none : (k + 1) - (k + 1) ≡ 0 = omega arith in
-    gap_split [] k (k + 1) xs (omega arith) (omega arith) ∙ (gap_next here (k + 1) xs k item (omega arith) h ∙
-    (ap (λ n. statement_gap (left_gap here (get_or xs k item) ++ before_next (get_or xs k item) rest) n rest) none ∙ ap (λ x. left_gap here x ++ before_next x rest) (sym is)))
 
 -- nothing is left of the gap before a statement
 nothing_left : (x : Item) → is_statement_item x ≡ true → (g h : Bytes) → left_gap g x ≡ left_gap h x
@@ -133,75 +107,3 @@ statement_before from k xs d g h s =
     gap_next [] from xs k d g (omega arith) ∙
     (ap (λ t. statement_gap (t ++ before_next x rest) (from - (k + 1)) rest) (nothing_left x s [] here) ∙
     (sym (gap_next here from xs k d g (omega arith)) ∙ sym (gap_split [] k from xs (omega arith) (omega arith))))
-
--- ---- what the lines of the window, and the next one, make of the parts
-
-module _ (from gone come : ℕ) (before items : List Item) (s : IsSpliced from gone come before items) where
-  same_after : drop come (drop from items) ≡ drop gone (drop from before)
-  same_after = drop-drop come from items ∙ (s.following ∙ sym (drop-drop gone from before))
-
-  -- the lines before the window, and those of what was taken out and the one after it
-  same_front : front_lines [] from items ≡ front_lines [] from before
-  same_front = front_same [] from items before (omega (arith, s.held)) (omega (arith, s.within)) s.front
-
-  cut_before : lines_from [] before ≡ front_lines [] from before ++ lines_from (statement_gap [] from before) (drop from before)
-  cut_before = lines_cut [] from before (omega (arith, s.within))
-
-  module _ (at : ℕ) (counted : at ≡ line_count_in (take from items)) where
-    front_size : length (front_lines [] from before) ≡ at
-    front_size = length_front [] from before ∙ (ap line_count_in (sym s.front) ∙ sym counted)
-
-    front_kept : take at (lines_from [] before) ≡ front_lines [] from before
-    front_kept = ap (λ ps. take at ps) cut_before ∙ take_at (front_lines [] from before) (lines_from (statement_gap [] from before) (drop from before)) at front_size
-
-    after_kept : drop (at + suc (line_count_in (take gone (drop from before)))) (lines_from [] before) ≡ lines_after (drop gone (drop from before))
-    after_kept =
-        let taken : ℕ = suc (line_count_in (take gone (drop from before))) in
-        let front : List Part = front_lines [] from before in
-        let rest : List Part = lines_from (statement_gap [] from before) (drop from before) in
-        let fits : gone ≤ length (drop from before) = omega (arith, length-drop from before, s.within) in
-        ap (λ ps. drop (at + taken) ps) cut_before ∙
-        (sym (drop-drop taken at (front ++ rest)) ∙
-        (ap (λ ps. drop taken ps) (drop_at front rest at front_size) ∙ after_front (statement_gap [] from before) gone (drop from before) fits))
-
-pub spliced_laid_out : (from gone come : ℕ) (before items : List Item) (lines : List Part) (at left count : ℕ) → IsSpliced from gone come before items →
-    at ≡ line_count_in (take from items) → left ≡ line_count_in (drop come (drop from items)) →
-    lines ++ lines_after (drop come (drop from items)) ≡ lines_from (statement_gap [] from items) (drop from items) → length (lines_from [] before) ≡ count →
-    (take at (lines_from [] before) ++ lines ++ drop (at + (count - at - left)) (lines_from [] before) ≡ lines_from [] items) × (at + (count - at - left) ≤ count)
-spliced_laid_out from gone come before items lines at left count s counted remain laid_out_ size =
-    let old : List Item = drop from before in
-    let taken : ℕ = suc (line_count_in (take gone old)) in
-    let front : List Part = front_lines [] from before in
-    let all : length (lines_from [] before) ≡ suc (line_count_in before) = length_lines [] before in
-    let one : line_count_in before ≡ line_count_in (take from before) + line_count_in old = lines_in_cut from before in
-    let two : line_count_in old ≡ line_count_in (take gone old) + line_count_in (drop gone old) = lines_in_cut gone old in
-    let first : at ≡ line_count_in (take from before) = counted ∙ ap line_count_in s.front in
-    let last : left ≡ line_count_in (drop gone old) = remain ∙ ap line_count_in (same_after from gone come before items s) in
-    let so_many : count - at - left ≡ taken = omega (arith, all, one, two, first, last, size) in
-    let within : at + (count - at - left) ≤ count = omega (arith, all, one, two, first, last, size) in
-    let following : drop (at + (count - at - left)) (lines_from [] before) ≡ lines_after (drop come (drop from items)) =
-    ap (λ n. drop (at + n) (lines_from [] before)) so_many ∙
-    (after_kept from gone come before items s at counted ∙ ap lines_after (sym (same_after from gone come before items s))) in
-    let made : take at (lines_from [] before) ++ lines ++ drop (at + (count - at - left)) (lines_from [] before) ≡ front ++ lines ++ lines_after (drop come (drop from items)) =
-    ap (λ ps. ps ++ lines ++ drop (at + (count - at - left)) (lines_from [] before)) (front_kept from gone come before items s at counted) ∙
-    ap (λ ps. front ++ lines ++ ps) following in (
-      made ∙
-          (append_assoc front lines (lines_after (drop come (drop from items))) ∙
-          (ap (λ ps. front ++ ps) laid_out_ ∙
-          (ap (λ ps. ps ++ lines_from (statement_gap [] from items) (drop from items)) (sym (same_front from gone come before items s)) ∙
-          sym (lines_cut [] from items (omega (arith, s.held)))))),
-      within,
-    )
-
--- the same by what the code has of these lists and numbers
-pub spliced_found : (from gone come : ℕ) (before items front rest following : List Item) (gap : Bytes) (lines : List Part) (at left count replaced : ℕ) → IsSpliced from gone come before items →
-    front ≡ take from items → rest ≡ drop from items → following ≡ drop come rest → at ≡ line_count_in front → left ≡ line_count_in following → gap ≡ statement_gap [] from items →
-    lines ++ lines_after (drop come rest) ≡ lines_from gap rest → replaced ≡ count - at - left → length (lines_from [] before) ≡ count →
-    (take at (lines_from [] before) ++ lines ++ drop (at + replaced) (lines_from [] before) ≡ lines_from [] items) × (at + replaced ≤ count)
-spliced_found from gone come before items front rest following gap lines at left count replaced s is_front is_rest is_after counted remain is_gap laid_out_ so_many size =
-    subst (λ n. (take at (lines_from [] before) ++ lines ++ drop (at + n) (lines_from [] before) ≡ lines_from [] items) × (at + n ≤ count)) (sym so_many)
-    (spliced_laid_out from gone come before items lines at left count s
-    (counted ∙ ap line_count_in is_front)
-    (remain ∙ ap line_count_in (is_after ∙ ap (λ xs. drop come xs) is_rest))
-    (ap (λ xs. lines ++ lines_after (drop come xs)) (sym is_rest) ∙ (laid_out_ ∙ (ap (λ g. lines_from g rest) is_gap ∙ ap (λ xs. lines_from (statement_gap [] from items) xs) is_rest)))
-    size)

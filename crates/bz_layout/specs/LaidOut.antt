@@ -1,5 +1,5 @@
 -- The layout as a tree: what the writer makes of a file value.
-use Rattle.std.specs.Prelude.{ℕ, Bool, not, List, [], ◌∷◌, ◌++◌, ◌&&◌, if◌then◌else◌, map, length, nat_eq, None}
+use Rattle.std.specs.Prelude.{ℕ, List, [], ◌∷◌, ◌++◌, ◌&&◌, if◌then◌else◌, map, length, nat_eq, None}
 use Rattle.bz_token.specs.declared.class.Class.TheVariants as c
 use Rattle.bz_grammar.specs.declared.kind.Kind.TheVariants as k
 use Rattle.bz_grammar.specs.declared.tree.Node.{Node}
@@ -9,7 +9,7 @@ use Rattle.bz_value.specs.declared.value.Expr.{Expr, Token, Form', Row_of-Expr, 
 use Rattle.bz_value.specs.declared.value.Form.{Form}
 use Rattle.bz_value.specs.declared.value.Item.{Item}
 use Rattle.bz_value.specs.declared.value.Item.TheVariants as i
-use Rattle.bz_items.specs.Characters.{Bytes, comma, line_feed}
+use Rattle.bz_items.specs.Characters.{Bytes, line_feed}
 use Rattle.bz_value.specs.Proper.{comments_of}
 use Rattle.bz_layout.specs.Layout.{Piece, mark, part, laid, is_broken, is_tuple, stacked, joined, suffix_text}
 use Rattle.bz_layout.specs.Written.{comment_lines, gap_between}
@@ -35,10 +35,6 @@ layouts xs = map (λ x. (x, part_of x)) xs
 -- the parts of a form after a gap, at a margin
 abbrev pub parts_in : Form → Bytes → ℕ → List Part
 parts_in f gap m = map piece_part (laid f.kind f.seq.split f.open_break gap m (layouts f.parts) (layouts f.seq.items) f.seq.end)
-
--- the comma after an item that is the last or not, in a sequence that is not broken
-abbrev pub comma_after : Bool → Bool → List (Piece (Bytes → ℕ → Part))
-comma_after last one = if last && not one then [] else (mark [] (comma ∷ []) ∷ [])
 
 -- what is in the sequence of a form, after its opening bracket
 abbrev pub laid_out_body : Form → ℕ → ℕ → List (Piece (Bytes → ℕ → Part))

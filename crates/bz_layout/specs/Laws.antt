@@ -1,16 +1,12 @@
 -- Laws of the layout.
-use Rattle.std.specs.Prelude.{◌≡◌, ◌+◌, ◌≤◌, ℕ, List, length}
-use Rattle.std.specs.List.{flat_map}
-use Rattle.bz_grammar.specs.Spell.{spell_part, depth_of, limit, depth_limit}
-use Rattle.bz_grammar.specs.declared.tree.Part.{Part}
+use Rattle.std.specs.Prelude.{◌≡◌, ◌≤◌, List, length}
+use Rattle.bz_grammar.specs.Spell.{depth_of, limit, depth_limit}
 use Rattle.bz_grammar.specs.Legal.{Reads}
 use Rattle.bz_value.specs.declared.value.Item.{Item}
 use Rattle.bz_value.specs.Proper.{IsProper}
 use Rattle.bz_hosts.specs.View.{view_of}
 use Rattle.bz_layout.specs.Written.{layout}
 use Rattle.bz_layout.specs.LaidOut.{laid_out}
-use Rattle.bz_grammar.specs.Places.{Ascend, put_all}
-use Rattle.bz_layout.specs.Exchanged.{parts_at}
 use Rattle.bz_layout.specs.Flags.{flags}
 
 -- Settling the flags changes neither the layout nor its tree, and keeps file values proper.
@@ -24,10 +20,3 @@ LayoutIsAccepted = (items : List Item) → IsProper items → length (layout ite
 -- The view of the tree of the layout of a proper file value is the value with its flags settled.
 abbrev pub LayoutReadsBack : Type 0
 LayoutReadsBack = (items : List Item) → IsProper items → view_of (laid_out items) ≡ flags items
-
--- Where lines that are laid out anew are put in the places of others, and make the tree of a layout of another, the layout is as much longer as these lines are
--- longer than those that were there.
-abbrev pub RelaidHasLength : Type 0
-RelaidHasLength = (before items : List Item) (places : List ℕ) (lines : List Part) → IsProper before → IsProper items →
-    Ascend 0 (length (laid_out items).parts) places → length places ≡ length lines → put_all places lines (laid_out before).parts ≡ (laid_out items).parts →
-    length (layout items) + length (flat_map spell_part (parts_at places (laid_out before).parts)) ≡ length (layout before) + length (flat_map spell_part lines)

@@ -1,13 +1,13 @@
 pub mod Appended
 pub mod Depths
 pub mod Drafts
-pub mod Exchanged
 pub mod Flags
 pub mod LaidOut
 pub mod Laws
 pub mod Layout
 pub mod Rows
 pub mod Spaces
+pub mod Windows
 pub mod Writings
 pub mod Written
 pub mod private

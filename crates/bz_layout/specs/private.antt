@@ -1,7 +1,6 @@
 -- What the contracts of private functions cite, and no contract of a public call reaches: nobody has to trust it.
 pub mod Brackets
-pub mod Marks
+pub mod Reached
 pub mod RowGaps
 pub mod Spines
-pub mod Taken
 pub mod Windows

@@ -2,24 +2,17 @@
 ghost use Rattle.std.specs.Prelude.{◌≡◌, ◌++◌, ◌+◌, replicate, OnOk, IfOk};
 ghost use Rattle.std.specs.Option.{option_copied};
 ghost use Rattle.bz_items.specs.Characters.{space};
-ghost use Rattle.bz_layout.specs.Layout.{new_line_at, suffix_text};
+ghost use Rattle.bz_layout.specs.Layout.{suffix_text};
 ghost use Rattle.bz_layout.specs.Written.{comment_lines};
 
-use bz_items::{Gap, Memory, Text};
-use std::alloc::{AllocError, Global};
+use bz_items::{Memory, Text};
+use std::alloc::AllocError;
 
 /// The margin of what is inside a broken sequence. The error: no text is that wide.
 pub fn deeper_margin(margin: usize) -> Result<usize, Memory>
     ensures { IfOk result (λ inner. inner ≡ margin + 4) }
 {
     margin.checked_add(4).ok_or(AllocError)
-}
-
-/// The gap of these bytes. The error: a growth was refused.
-pub fn gap_from(alloc: Global, bytes: Vec<u8>) -> Result<Gap, Memory>
-    ensures { IfOk result (λ gap. gap ≡ bytes.items) }
-{
-    Gap::from_slice(alloc, &bytes)
 }
 
 /// Appends the spaces of a margin. The error: a growth was refused.
@@ -29,14 +22,6 @@ pub fn push_margin(out: &mut Vec<u8>, margin: usize) -> Result<(), Memory>
     let end = out.len().checked_add(margin).ok_or(AllocError)?;
     out.resize(end, b' ')?;
     Ok(())
-}
-
-/// Appends a newline and the spaces of a margin. The error: a growth was refused.
-pub fn push_new_line(out: &mut Vec<u8>, margin: usize) -> Result<(), Memory>
-    ensures { OnOk result (out.new.items ≡ out.old.items ++ new_line_at margin) }
-{
-    out.push(b'\n')?;
-    push_margin(out, margin)
 }
 
 /// Appends a suffix after two spaces. The error: a growth was refused.

@@ -1,5 +1,5 @@
 ghost use Rattle.bz_layout.specs.Appended.{DepthsJoin, LayoutsJoin};
-ghost use Rattle.bz_layout.specs.Laws.{FlagsKeepLayout, LayoutIsAccepted, LayoutReadsBack, RelaidHasLength};
+ghost use Rattle.bz_layout.specs.Laws.{FlagsKeepLayout, LayoutIsAccepted, LayoutReadsBack};
 ghost use Rattle.bz_layout.specs.Rows.{WorkedRows};
 
 /// Settling the flags of a file value leaves its layout and the tree of it as they are, and keeps
@@ -22,12 +22,6 @@ pub fn layout_reads_back()
 pub fn layouts_join()
     ensures text { LayoutsJoin }
     ensures depth { DepthsJoin }
-{}
-
-/// How long the layout is for which lines were laid out anew, given by the length of the layout before and by those of the lines that
-/// were exchanged.
-pub fn relaid_has_length()
-    ensures { RelaidHasLength }
 {}
 
 /// Small file values have the layout that they are to have, byte for byte.

@@ -12,13 +12,12 @@ ghost use Rattle.bz_layout.specs.private.RowGaps.{written_gap};
 ghost use Rattle.bz_value.specs.Roots.{root};
 
 use crate::draft::Draft;
-use crate::gaps::{deeper_margin, gap_from, push_new_line};
+use crate::gaps::deeper_margin;
 use crate::is_spaced;
 use crate::spaces::is_lone;
 use bz_grammar::{Class, Kind};
-use bz_items::{Gap, Memory};
+use bz_items::Memory;
 use bz_value::{Expr, Form};
-use std::alloc::Global;
 
 /// The gap between two parts of a row.
 #[derive(Clone, Copy)]
@@ -112,21 +111,6 @@ pub fn margin_after(form: &Form, margin: usize, part: &Expr) -> Result<usize, Me
     }
 }
 
-/// The gap as its bytes.
-fn text_of_gap(alloc: Global, gap: RowGap) -> Result<Gap, Memory>
-    ensures { IfOk result (λ text. text ≡ written_gap gap) }
-{
-    match gap {
-        RowGap::Nothing => Ok(Gap::none(alloc)),
-        RowGap::Space => Gap::from_slice(alloc, b" "),
-        RowGap::Line(margin) => {
-            let mut out = Vec::new(alloc);
-            push_new_line(&mut out, margin)?;
-            gap_from(alloc, out)
-        }
-    }
-}
-
 #[tactic(auto, using(crate::proofs::Pushing::pushed_none))]
 fn push_gap(out: &mut Draft, gap: RowGap) -> Result<(), Memory>
     ensures { OnOk result (out.new ≡ pushed out.old (written_gap gap)) }
@@ -152,17 +136,4 @@ pub fn push_row_gap(
     ensures { OnOk result (out.new ≡ pushed out.old (layout.gap_after form.now.kind form.now.open_break margin part.now others.now)) }
 {
     push_gap(out, gap_after(form, margin, part, others)?)
-}
-
-/// The bytes of the gap after a part of a row, before the others. The error: a growth was refused.
-pub fn text_after(
-    alloc: Global,
-    form: &Form,
-    margin: usize,
-    part: &Expr,
-    others: &[Expr],
-) -> Result<Gap, Memory>
-    ensures { IfOk result (λ text. text ≡ layout.gap_after form.now.kind form.now.open_break margin part.now others.now) }
-{
-    text_of_gap(alloc, gap_after(form, margin, part, others)?)
 }

@@ -1,16 +1,14 @@
 ghost use Rattle.std.specs.Prelude.{◌≡◌, ◌<◌, ◌≤◌, ◌++◌, IfOk, IfSome, IsTrue, OnOk, false, length};
-ghost use Rattle.bz_grammar.specs.Spell.{spell_node, depth_of, limit, depth_limit};
-ghost use Rattle.bz_hosts.specs.View.{view_of};
+ghost use Rattle.bz_grammar.specs.Spell.{depth_of, limit, depth_limit};
 ghost use Rattle.bz_layout.specs.Appended.{gap_below};
 ghost use Rattle.bz_layout.specs.LaidOut.{laid_out};
 ghost use Rattle.bz_layout.specs.Written.{layout};
-ghost use Rattle.bz_layout.specs.Flags.{flags};
 
 use crate::draft::Draft;
 use crate::limits::are_items_within;
-use crate::lines::{lay_out_lines, push_between};
+use crate::spaces::push_between;
 use crate::texts::push_items;
-use bz_grammar::{DEPTH_LIMIT, Kind, LENGTH_LIMIT, Node, Tree};
+use bz_grammar::{DEPTH_LIMIT, LENGTH_LIMIT};
 use bz_items::{Memory, Text};
 use bz_value::{File, Item};
 use std::alloc::{AllocError, Global};
@@ -49,25 +47,6 @@ fn is_shallow(items: &[Item]) -> bool
     ensures deep { result ≡ false → depth_limit < depth_of (laid_out items.now) }
 {
     are_items_within(items, DEPTH_LIMIT as usize - 1)
-}
-
-/// The tree whose spelling is the layout of the file value, and whose view is the value with its flags settled. Both limits
-/// are looked at on the value, before the tree is made. Errors: `TooLarge` exactly where the layout is past the limit of a
-/// text, else `TooDeep` exactly where the tree is past the limit of depth; `Memory`: a growth was refused.
-pub fn set(alloc: Global, file: &File) -> Result<Tree, SetFault>
-    ensures laid_out { IfOk result (λ tree. tree ≡ laid_out file.now) }
-    ensures text { IfOk result (λ tree. spell_node tree ≡ layout file.now) }
-    ensures view { IfOk result (λ tree. view_of tree ≡ flags file.now) }
-    ensures too_large { result ≡ Err SetFault.TooLarge → limit < length (layout file.now) }
-    ensures too_deep { result ≡ Err SetFault.TooDeep → (length (layout file.now) ≤ limit) × (depth_limit < depth_of (laid_out file.now)) }
-{
-    drop(text_of_file(alloc, file, 0)?);
-    Ok(Tree {
-        root: Node {
-            kind: Kind::File,
-            parts: lay_out_lines(alloc, file.items.as_slice())?,
-        },
-    })
 }
 
 fn push_below(out: &mut Vec<u8>, above: &Option<Item>, items: &[Item]) -> Result<(), Memory>

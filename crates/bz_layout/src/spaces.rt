@@ -1,11 +1,15 @@
-//! The single spaces between the parts of a row.
-ghost use Rattle.std.specs.Prelude.{◌≡◌, ◌||◌};
+//! The single spaces between the parts of a row, and the blank lines between items.
+ghost use Rattle.std.specs.Prelude.{◌≡◌, ◌||◌, ◌++◌, ◌∷◌, [], OnOk, if◌then◌else◌};
+ghost use Rattle.bz_items.specs.Characters.{line_feed};
 ghost use Rattle.bz_grammar.specs.Shapes as shapes;
 ghost use Rattle.bz_value.specs.Roots.{root};
+ghost use Rattle.bz_layout.specs.LaidOut.{before_next};
 ghost use Rattle.bz_layout.specs.Spaces as spaces;
+ghost use Rattle.bz_layout.specs.Written as written;
 
 use bz_grammar::{Class, Kind};
-use bz_value::Expr;
+use bz_items::Memory;
+use bz_value::{Expr, Item};
 
 /// Whether the mark is a bracket, a comma or a colon.
 fn is_lone_mark(mark: &[u8]) -> bool
@@ -134,4 +138,53 @@ pub fn is_spaced(kind: Kind, left: &Expr, right: &Expr) -> bool
         || is_value(left) && is_value(right)
         // `1.` is a number
         || is_number(left) && is_dot(right)
+}
+
+fn is_load(expr: &Expr) -> bool
+    ensures { result ≡ written.is_load expr.now }
+{
+    match expr {
+        Expr::Token(_) => false,
+        Expr::Form(form) => matches!(form.kind, Kind::Load),
+    }
+}
+
+fn is_assign(expr: &Expr) -> bool
+    ensures { result ≡ written.is_assign expr.now }
+{
+    match expr {
+        Expr::Token(_) => false,
+        Expr::Form(form) => matches!(form.kind, Kind::Assign),
+    }
+}
+
+/// Whether a statement is right below another, with no blank line between.
+pub fn is_close(above: &Expr, below: &Expr) -> bool
+    ensures { (if result then [] else (line_feed ∷ [])) ≡ written.gap_between (Item.Stmt above.now) (Item.Stmt below.now) }
+{
+    if !below.comments().before().is_empty() {
+        return false;
+    }
+    is_load(above) && is_load(below) || is_assign(above) && is_assign(below)
+}
+
+/// Whether a blank line is between an item and those that follow.
+pub fn is_apart(item: &Item, others: &[Item]) -> bool
+    ensures { (if result then (line_feed ∷ []) else []) ≡ before_next item.now others.now }
+{
+    match (item, others) {
+        (_, []) => false,
+        (Item::Stmt(above), [Item::Stmt(below), ..]) => !is_close(above, below),
+        _ => true,
+    }
+}
+
+/// Appends what is between an item and those that follow.
+pub fn push_between(gap: &mut Vec<u8>, item: &Item, others: &[Item]) -> Result<(), Memory>
+    ensures { OnOk result (gap.new.items ≡ gap.old.items ++ before_next item.now others.now) }
+{
+    if is_apart(item, others) {
+        gap.push(b'\n')?;
+    }
+    Ok(())
 }

@@ -12,8 +12,8 @@ use crate::breaks::is_broken;
 use crate::dotted::{is_dot, push_dotted};
 use crate::draft::Draft;
 use crate::gaps::deeper_margin;
-use crate::lines::is_apart;
 use crate::row_gaps::{is_assignment, margin_after, others, push_row_gap};
+use crate::spaces::is_apart;
 use bz_grammar::Kind;
 use bz_items::{Memory, Text};
 use bz_value::{Expr, Form, Item};
@@ -185,7 +185,7 @@ fn push_stacked(
 
 /// Appends a statement on lines of its own: its comments above it, its suffix, a newline.
 #[tactic(auto, using(crate::proofs::Pushing::pushed_twice))]
-fn push_statement(out: &mut Draft, expr: &Expr) -> Result<(), Memory>
+pub fn push_statement(out: &mut Draft, expr: &Expr) -> Result<(), Memory>
     ensures { OnOk result (out.new ≡ pushed out.old (written.item_text (i.Stmt expr.now))) }
 {
     let comments = expr.comments();

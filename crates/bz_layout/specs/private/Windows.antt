@@ -1,10 +1,10 @@
--- For private functions only: the lines of a window of a file's items, and the gap before its first one.
-use Rattle.std.specs.Prelude.{ℕ, zero, suc, Bool, true, false, List, [], ◌∷◌, ◌++◌}
-use Rattle.bz_grammar.specs.declared.tree.Part.{Part}
+-- For private functions only: the lines of items that came in the place of others, and the gap before an item.
+use Rattle.std.specs.Prelude.{ℕ, zero, suc, Bool, true, false, ◌≡◌, ◌≤◌, ◌+◌, List, [], ◌∷◌, ◌++◌, length, take, drop}
 use Rattle.bz_value.specs.declared.value.Item.{Item}
 use Rattle.bz_value.specs.declared.value.Item.TheVariants as i
 use Rattle.bz_items.specs.Characters.{Bytes}
-use Rattle.bz_layout.specs.LaidOut.{left_gap, before_next, lines_from}
+use Rattle.bz_layout.specs.LaidOut.{left_gap, before_next}
+use Rattle.bz_value.specs.declared.windows.Window.{Window}
 
 abbrev pub is_statement_item : Item → Bool
 is_statement_item (i.Block texts) = false
@@ -22,8 +22,34 @@ statement_gap gap zero items = gap
 statement_gap gap (suc n) [] = gap
 statement_gap gap (suc n) (item ∷ items) = statement_gap (left_gap gap item ++ before_next item items) n items
 
--- the lines of the items, and the end, but for the first one: whatever the gap before that is, these are the same
-abbrev pub lines_after : List Item → List Part
-lines_after [] = []
-lines_after (i.Block texts ∷ items) = lines_after items
-lines_after (i.Stmt x ∷ items) = lines_from (before_next (i.Stmt x) items) items
+-- the place of the line after an item, where its own is to be at this place
+abbrev pub place_after : ℕ → Item → ℕ
+place_after place (i.Block texts) = place
+place_after place (i.Stmt x) = place + 1
+
+-- the items that came
+abbrev pub come_items : List Window → List Item → List Item
+come_items [] items = []
+come_items (w ∷ ws) items = take w.come (drop w.from items) ++ come_items ws (drop (w.from + w.come) items)
+
+-- where the first window begins
+abbrev pub first_from : List Window → ℕ
+first_from [] = 0
+first_from (w ∷ ws) = w.from
+
+-- how many items were taken out
+abbrev pub gone_count : List Window → ℕ
+gone_count [] = 0
+gone_count (w ∷ ws) = w.gone + gone_count ws
+
+-- how many items are before the end of the last window
+abbrev pub come_end : List Window → ℕ
+come_end [] = 0
+come_end (w ∷ ws) = (w.from + w.come) + come_end ws
+
+-- as AreOver, where each window counts the lines of what was taken out
+abbrev pub AreLinesOver : List Window → List Item → List Item → Type 0
+AreLinesOver [] before after = before ≡ after
+AreLinesOver (w ∷ ws) before after =
+    (gone : ℕ) × (w.from + gone ≤ length before) × (w.from + w.come ≤ length after) × (take w.from after ≡ take w.from before)
+    × (line_count_in (take gone (drop w.from before)) ≡ w.gone) × AreLinesOver ws (drop (w.from + gone) before) (drop (w.from + w.come) after)

@@ -1,0 +1,158 @@
+-- How many lines give way to windows of items.
+use Rattle.std.proofs.Common.{ℕ, zero, suc, ◌≡◌, ◌<◌, ◌≤◌, ◌-◌, List, [], ◌∷◌, ◌++◌, ◌+◌, length, get_or, take, drop, refl, sym, ap, ◌∙◌, subst, arith, length-drop}
+use Rattle.std.proofs.lemmas.List.{drop-drop, drop_more}
+use Rattle.bz_value.specs.declared.value.Item.{Item}
+use Rattle.bz_value.specs.declared.value.Item.TheVariants as i
+use Rattle.bz_value.specs.declared.windows.Window.{Window}
+use Rattle.bz_value.specs.Windows.{AreOver, AreWithin}
+use Rattle.bz_layout.specs.private.Windows.{line_count_in, come_items, gone_count, come_end, first_from, AreLinesOver}
+use Rattle.bz_layout.proofs.Windows.{lines_in_cut}
+
+count_append : (xs ys : List Item) → line_count_in (xs ++ ys) ≡ line_count_in xs + line_count_in ys
+count_append [] ys = omega arith
+count_append (i.Block texts ∷ xs) ys = count_append xs ys
+count_append (i.Stmt x ∷ xs) ys = let rest : line_count_in (xs ++ ys) ≡ line_count_in xs + line_count_in ys = count_append xs ys in omega (arith, rest)
+
+pub count_most : (n : ℕ) (xs : List Item) → line_count_in (take n xs) ≤ n
+count_most zero xs = omega arith
+count_most (suc n) [] = omega arith
+count_most (suc n) (i.Block texts ∷ xs) = let rest : line_count_in (take n xs) ≤ n = count_most n xs in omega (arith, rest)
+count_most (suc n) (i.Stmt x ∷ xs) = let rest : line_count_in (take n xs) ≤ n = count_most n xs in omega (arith, rest)
+
+-- the first window that is left, and the others
+pub within_next : (ws : List Window) (k : ℕ) (d : Window) (xs : List Item) → k < length ws → AreWithin (drop k ws) xs →
+    ((get_or ws k d).from + (get_or ws k d).come ≤ length xs) × AreWithin (drop (k + 1) ws) (drop ((get_or ws k d).from + (get_or ws k d).come) xs)
+within_next ws k d xs h w = subst (λ vs. AreWithin vs xs) (drop_more ws k d h) w
+
+-- the same by the place where it is counted from
+pub within_past : (ws : List Window) (k : ℕ) (d : Window) (items : List Item) (at : ℕ) → k < length ws → at ≤ length items → AreWithin (drop k ws) (drop at items) →
+    (at + (get_or ws k d).from + (get_or ws k d).come ≤ length items) × AreWithin (drop (k + 1) ws) (drop (at + (get_or ws k d).from + (get_or ws k d).come) items)
+within_past ws k d items at h l w =
+    let x : Window = get_or ws k d in
+    let next : (x.from + x.come ≤ length (drop at items)) × AreWithin (drop (k + 1) ws) (drop (x.from + x.come) (drop at items)) = within_next ws k d (drop at items) h w in
+    let size : length (drop at items) ≡ length items - at = length-drop at items in
+    let sum : at + (x.from + x.come) ≡ at + x.from + x.come = omega arith in
+    (omega (arith, next.0, size, l), subst (λ zs. AreWithin (drop (k + 1) ws) zs) (drop-drop (x.from + x.come) at items ∙ ap (λ n. drop n items) sum) next.1)
+
+-- what came first, and the rest of it
+come_count : (ws : List Window) (k : ℕ) (d : Window) (xs : List Item) → k < length ws →
+    line_count_in (come_items (drop k ws) xs) ≡ line_count_in (take (get_or ws k d).come (drop (get_or ws k d).from xs)) + line_count_in (come_items (drop (k + 1) ws) (drop ((get_or ws k d).from + (get_or ws k d).come) xs))
+come_count ws k d xs h =
+    ap (λ vs. line_count_in (come_items vs xs)) (drop_more ws k d h) ∙
+    count_append (take (get_or ws k d).come (drop (get_or ws k d).from xs)) (come_items (drop (k + 1) ws) (drop ((get_or ws k d).from + (get_or ws k d).come) xs))
+
+-- a turn of the loop that counts them
+pub come_turn : (ws : List Window) (k : ℕ) (d : Window) (xs come past : List Item) (count here all most : ℕ) → k < length ws → AreWithin (drop k ws) xs →
+    come ≡ take (get_or ws k d).come (drop (get_or ws k d).from xs) → past ≡ drop ((get_or ws k d).from + (get_or ws k d).come) xs → here ≡ line_count_in come →
+    count + length xs ≤ most → count + line_count_in (come_items (drop k ws) xs) ≡ all →
+    AreWithin (drop (k + 1) ws) past × (count + here + length past ≤ most) × (count + here + line_count_in (come_items (drop (k + 1) ws) past) ≡ all)
+come_turn ws k d xs come past count here all most h w is_come is_past is_here le e =
+    let v : Window = get_or ws k d in
+    let next : (v.from + v.come ≤ length xs) × AreWithin (drop (k + 1) ws) (drop (v.from + v.come) xs) = within_next ws k d xs h w in
+    let few : line_count_in (take v.come (drop v.from xs)) ≤ v.come = count_most v.come (drop v.from xs) in
+    let own : here ≡ line_count_in (take v.come (drop v.from xs)) = is_here ∙ ap line_count_in is_come in
+    let less : length past ≡ length xs - (v.from + v.come) = ap length is_past ∙ length-drop (v.from + v.come) xs in
+    let cut : line_count_in (come_items (drop k ws) xs) ≡ line_count_in (take v.come (drop v.from xs)) + line_count_in (come_items (drop (k + 1) ws) (drop (v.from + v.come) xs)) = come_count ws k d xs h in
+    let rest : line_count_in (come_items (drop (k + 1) ws) past) ≡ line_count_in (come_items (drop (k + 1) ws) (drop (v.from + v.come) xs)) = ap (λ ys. line_count_in (come_items (drop (k + 1) ws) ys)) is_past in
+    (subst (λ ys. AreWithin (drop (k + 1) ws) ys) (sym is_past) next.1, omega (arith, le, few, own, less, next.0), omega (arith, cut, rest, own, e))
+
+-- a window: what stays before it, what it has, and what follows
+count_window : (from n : ℕ) (xs : List Item) → line_count_in xs ≡ line_count_in (take from xs) + (line_count_in (take n (drop from xs)) + line_count_in (drop (from + n) xs))
+count_window from n xs =
+    let one : line_count_in xs ≡ line_count_in (take from xs) + line_count_in (drop from xs) = lines_in_cut from xs in
+    let two : line_count_in (drop from xs) ≡ line_count_in (take n (drop from xs)) + line_count_in (drop n (drop from xs)) = lines_in_cut n (drop from xs) in
+    let past : line_count_in (drop n (drop from xs)) ≡ line_count_in (drop (from + n) xs) = ap line_count_in (drop-drop n from xs) in
+    omega (arith, one, two, past)
+
+-- no more lines give way than items
+lines_most : (ws : List Window) (xs ys : List Item) → AreOver ws xs ys → line_count_in (come_items ws ys) + line_count_in xs ≤ gone_count ws + line_count_in ys
+lines_most [] xs ys h = let same : line_count_in xs ≡ line_count_in ys = ap line_count_in h in omega (arith, same)
+lines_most (w ∷ ws) xs ys h =
+    let here : List Item = take w.come (drop w.from ys) in
+    let past : List Item = drop (w.from + w.come) ys in
+    let old : List Item = drop (w.from + w.gone) xs in
+    let new : line_count_in ys ≡ line_count_in (take w.from ys) + (line_count_in here + line_count_in past) = count_window w.from w.come ys in
+    let before : line_count_in xs ≡ line_count_in (take w.from xs) + (line_count_in (take w.gone (drop w.from xs)) + line_count_in old) = count_window w.from w.gone xs in
+    let same : line_count_in (take w.from ys) ≡ line_count_in (take w.from xs) = ap line_count_in h.2 in
+    let own : line_count_in (here ++ come_items ws past) ≡ line_count_in here + line_count_in (come_items ws past) = count_append here (come_items ws past) in
+    let most : line_count_in (take w.gone (drop w.from xs)) ≤ w.gone = count_most w.gone (drop w.from xs) in
+    let rest : line_count_in (come_items ws past) + line_count_in old ≤ gone_count ws + line_count_in past = lines_most ws old past h.3 in
+    omega (arith, new, before, same, own, most, rest)
+
+-- where as many lines give way as items, each window counts lines
+pub all_lines : (ws : List Window) (xs ys : List Item) → line_count_in (come_items ws ys) + line_count_in xs ≡ gone_count ws + line_count_in ys → AreOver ws xs ys → AreLinesOver ws xs ys
+all_lines [] xs ys e h = h
+all_lines (w ∷ ws) xs ys e h =
+    let here : List Item = take w.come (drop w.from ys) in
+    let past : List Item = drop (w.from + w.come) ys in
+    let old : List Item = drop (w.from + w.gone) xs in
+    let new : line_count_in ys ≡ line_count_in (take w.from ys) + (line_count_in here + line_count_in past) = count_window w.from w.come ys in
+    let before : line_count_in xs ≡ line_count_in (take w.from xs) + (line_count_in (take w.gone (drop w.from xs)) + line_count_in old) = count_window w.from w.gone xs in
+    let same : line_count_in (take w.from ys) ≡ line_count_in (take w.from xs) = ap line_count_in h.2 in
+    let own : line_count_in (here ++ come_items ws past) ≡ line_count_in here + line_count_in (come_items ws past) = count_append here (come_items ws past) in
+    let most : line_count_in (take w.gone (drop w.from xs)) ≤ w.gone = count_most w.gone (drop w.from xs) in
+    let rest : line_count_in (come_items ws past) + line_count_in old ≤ gone_count ws + line_count_in past = lines_most ws old past h.3 in
+    let here_all : line_count_in (take w.gone (drop w.from xs)) ≡ w.gone = omega (arith, new, before, same, own, most, rest, e) in
+    let rest_all : line_count_in (come_items ws past) + line_count_in old ≡ gone_count ws + line_count_in past = omega (arith, new, before, same, own, most, rest, e) in
+    (w.gone, h.0, h.1, h.2, here_all, all_lines ws old past rest_all h.3)
+
+-- ---- all windows as one
+
+abbrev gone_end : List Window → ℕ
+gone_end [] = 0
+gone_end (w ∷ ws) = (w.from + w.gone) + gone_end ws
+
+drop_both : (n m : ℕ) (xs : List Item) → drop m (drop n xs) ≡ drop (n + m) xs
+drop_both n m xs = drop-drop m n xs
+
+-- past the last of them all is the same
+past_all : (ws : List Window) (xs ys : List Item) → AreOver ws xs ys → (gone_end ws ≤ length xs) × (come_end ws ≤ length ys) × (drop (gone_end ws) xs ≡ drop (come_end ws) ys)
+past_all [] xs ys h = (omega arith, omega arith, h)
+past_all (w ∷ ws) xs ys h =
+    let rest = past_all ws (drop (w.from + w.gone) xs) (drop (w.from + w.come) ys) h.3 in
+    let old : length (drop (w.from + w.gone) xs) ≡ length xs - (w.from + w.gone) = length-drop (w.from + w.gone) xs in
+    let new : length (drop (w.from + w.come) ys) ≡ length ys - (w.from + w.come) = length-drop (w.from + w.come) ys in (
+      omega (arith, old, rest.0, h.0),
+      omega (arith, new, rest.1, h.1),
+      sym (drop_both (w.from + w.gone) (gone_end ws) xs) ∙ (rest.2 ∙ drop_both (w.from + w.come) (come_end ws) ys),
+    )
+
+gone_past : (from n so : ℕ) (xs : List Item) → n ≡ so - from → from ≤ so → line_count_in (take n (drop from xs)) + (line_count_in (take from xs) + line_count_in (drop so xs)) ≡ line_count_in xs
+gone_past from n so xs e h =
+    let all : line_count_in xs ≡ line_count_in (take from xs) + (line_count_in (take n (drop from xs)) + line_count_in (drop (from + n) xs)) = count_window from n xs in
+    let end : from + n ≡ so = omega (arith, e, h) in
+    let past : line_count_in (drop (from + n) xs) ≡ line_count_in (drop so xs) = ap (λ k. line_count_in (drop k xs)) end in
+    omega (arith, all, past)
+
+-- one window from the first to the last of them
+pub one_over : (ws : List Window) (xs ys : List Item) (from end lines gone come : ℕ) → from ≡ first_from ws → end ≡ come_end ws → line_count_in xs ≡ lines →
+    gone ≡ lines - line_count_in (take from ys) - line_count_in (drop end ys) → come ≡ end - from → AreOver ws xs ys → AreLinesOver (record { from = from; gone = gone; come = come } ∷ []) xs ys
+one_over [] xs ys from end lines gone come f e l g c h =
+    let none : from ≡ 0 = f in
+    let stop : end ≡ 0 = e in
+    let here : line_count_in (take from ys) ≡ line_count_in (take 0 ys) = ap (λ n. line_count_in (take n ys)) none in
+    let past : line_count_in (drop end ys) ≡ line_count_in ys = ap (λ n. line_count_in (drop n ys)) stop in
+    let same : line_count_in xs ≡ line_count_in ys = ap line_count_in h in
+    let zero_gone : 0 ≡ gone = omega (arith, here, past, same, l, g) in
+    let zero_come : come ≡ 0 = omega (arith, c, none, stop) in
+    (0, omega (arith, none), omega (arith, none, zero_come), ap (take from) (sym h), zero_gone, rw (none, zero_come) h)
+one_over (w ∷ ws) xs ys from end lines gone come f e l g c h =
+    let past = past_all (w ∷ ws) xs ys h in
+    let so : ℕ = gone_end (w ∷ ws) in
+    let first : from ≡ w.from = f in
+    let most : from ≤ (w.from + w.gone) + gone_end ws = omega (arith, first) in
+    let one : from ≡ w.from = f in
+    let last : end ≡ (w.from + w.come) + come_end ws = e in
+    let least : from ≤ end = omega (arith, one, last) in
+    let took : line_count_in (take (so - from) (drop from xs)) + (line_count_in (take from xs) + line_count_in (drop so xs)) ≡ line_count_in xs = gone_past from (so - from) so xs refl most in
+    let same : line_count_in (take from ys) ≡ line_count_in (take from xs) = rw f (ap line_count_in h.2) in
+    let after : line_count_in (drop so xs) ≡ line_count_in (drop end ys) = ap line_count_in past.2 ∙ ap (λ n. line_count_in (drop n ys)) (sym e) in
+    let all_gone : from + (so - from) ≡ so = omega (arith, most) in
+    let all_come : from + come ≡ end = omega (arith, least, c) in (
+      so - from,
+      omega (arith, all_gone, past.0),
+      omega (arith, all_come, past.1, e),
+      rw f h.2,
+      omega (arith, took, same, after, l, g),
+      ap (λ n. drop n xs) all_gone ∙ (past.2 ∙ ap (λ n. drop n ys) (sym (all_come ∙ e))),
+    )

@@ -1,0 +1,11 @@
+use Rattle.std.proofs.Common.{◌≤◌, drop}
+use Rattle.std.specs.Prelude.{◌↔◌}
+use Rattle.bz_layout.specs.Depths.{depth_items}
+use Rattle.bz_layout.specs.private.Windows.{come_items}
+use Rattle.bz_value.specs.Windows.{AreWithin}
+use Rattle.bz_layout.proofs.limits.are_windows_within.Given as goal
+
+abbrev pub invariant-loop-window : goal.invariant-loop-window
+invariant-loop-window l =
+    AreWithin (drop l.window-index l.windows) l.rest
+    × ((depth_items (come_items (drop l.window-index l.windows) l.rest) ≤ l.depth) ↔ (depth_items (come_items l.windows l.items) ≤ l.depth))

@@ -1,0 +1,17 @@
+use Rattle.std.proofs.Common.{◌+◌, ◌-◌, ◌^◌, min, [], ap, ◌∙◌, flat_map, arith}
+use Rattle.bz_grammar.specs.Spell.{limit, spell_part}
+use Rattle.bz_layout.specs.Drafts.{drafted}
+use Rattle.bz_layout.proofs.Reaching.{closed_as, past_as}
+use Rattle.bz_layout.proofs.writer.close.Goals as goal
+
+pub returns-then-bytes-gt-LENGTH_LIMIT-clause-long : goal.returns-then-bytes-gt-LENGTH_LIMIT-clause-long
+returns-then-bytes-gt-LENGTH_LIMIT-clause-long c = λ no_ parts all left rest r.
+    past_as parts all _ _ _ _ _ _ _ left rest _ c.from_vec-text.result (λ own is. c.from_vec-text.ensures ∙ (c.in-Some.ensures limit [] (flat_map spell_part own) (c.replace.ensures.value ∙ is)).0)
+    (c.saturating_add-bytes.ensures ∙ ap (λ n. min (c.args.writer.now.bytes + n) (2 ^ 64 - 1)) c.len.ensures) c.if-bytes-gt-LENGTH_LIMIT.true r
+
+pub returns-clause-closed : goal.returns-clause-closed
+returns-clause-closed c = λ yes_ parts all left rest r.
+    closed_as parts all _ _ _ _ _ _ _ _ _ left rest _ _ _ c.from_vec-text.result c.saturating_sub.ensures c.saturating_sub-2.ensures
+    (λ own is. c.from_vec-text.ensures ∙ (c.in-Some.ensures limit [] (flat_map spell_part own) (c.replace.ensures.value ∙ is)).0)
+    (c.saturating_add-bytes.ensures ∙ ap (λ n. min (c.args.writer.now.bytes + n) (2 ^ 64 - 1)) c.len.ensures) (omega (arith, c.if-bytes-gt-LENGTH_LIMIT.false))
+    c.in_ok-push.ensures.ok (c.replace.ensures.after ∙ (c.new-next.ensures ∙ ap (drafted limit) c.new.ensures.items)) r

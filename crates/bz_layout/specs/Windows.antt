@@ -1,0 +1,21 @@
+-- The texts of what changes in the tree of a layout.
+use Rattle.std.specs.Prelude.{◌≡◌, List, [], ◌∷◌}
+use Rattle.std.specs.List.{flat_map}
+use Rattle.bz_edit.specs.declared.part_windows.PartWindow.{PartWindow}
+use Rattle.bz_grammar.specs.Spell.{spell_part}
+use Rattle.bz_grammar.specs.declared.tree.Node.{Node}
+use Rattle.bz_layout.specs.LaidOut.{laid_out}
+use Rattle.bz_layout.specs.declared.writer.TextWindow.{TextWindow}
+use Rattle.bz_value.specs.Proper.{IsProper}
+use Rattle.bz_value.specs.declared.value.Item.{Item}
+
+-- the texts are what the parts spell, window by window
+abbrev pub AreTextsOf : List TextWindow → List PartWindow → Type 0
+AreTextsOf [] [] = Unit {0}
+AreTextsOf (t ∷ ts) (w ∷ ws) = (t.from ≡ w.from) × (t.gone ≡ w.gone) × (t.text ≡ flat_map spell_part w.parts) × AreTextsOf ts ws
+AreTextsOf _ _ = ⊥
+
+-- the tree is the layout of these items
+pub record IsLayoutOf (items : List Item) (tree : Node) : Type 0 where
+  pub proper : IsProper items
+  pub laid_out : laid_out items ≡ tree

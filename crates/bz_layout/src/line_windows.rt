@@ -1,0 +1,130 @@
+//! Windows that count the lines of what was taken out. Of the items that were there only the lines of the tree are known.
+ghost use Rattle.std.specs.Prelude.{ℕ, ◌≡◌, ◌+◌, ◌≤◌, ◌∷◌, [], drop, length, take, List, IfSome, IsTrue};
+ghost use Rattle.bz_layout.specs.private.Windows as counts;
+ghost use Rattle.bz_value.specs.Windows.{AreOver, AreWithin};
+ghost use Rattle.bz_value.specs.declared.value.Item.{Item};
+
+use crate::statement_gaps::count_lines;
+use bz_value::{Item, Window};
+
+/// The items of a window that came.
+pub fn come_of<'a>(items: &'a [Item], window: &Window) -> &'a [Item]
+    requires { window.now.from + window.now.come ≤ length items.now }
+    ensures { result.now ≡ take window.now.come (drop window.now.from items.now) }
+{
+    let (_stay, others) = items.split_at(window.from);
+    let (come, _following) = others.split_at(window.come);
+    come
+}
+
+/// The items that are past a window.
+pub fn past<'a>(items: &'a [Item], window: &Window) -> &'a [Item]
+    requires { window.now.from + window.now.come ≤ length items.now }
+    ensures { result.now ≡ drop (window.now.from + window.now.come) items.now }
+{
+    let (_front, following) = items.split_at(window.from + window.come);
+    following
+}
+
+/// How many lines the items have that came.
+#[tactic(auto, using(crate::proofs::LineWindows::within_next))]
+fn come_lines(items: &[Item], windows: &[Window]) -> usize
+    requires { AreWithin windows.now items.now }
+    ensures { result ≡ counts.line_count_in (counts.come_items windows.now items.now) }
+{
+    let mut count = 0;
+    let mut rest = items;
+    for window in windows {
+        count += count_lines(come_of(rest, window));
+        rest = past(rest, window);
+    }
+    count
+}
+
+/// How many items were taken out; none where no list has as many.
+fn gone_items(windows: &[Window]) -> Option<usize>
+    ensures { IfSome result (λ count. count ≡ counts.gone_count windows.now) }
+{
+    let mut count: usize = 0;
+    for window in windows {
+        count = count.checked_add(window.gone)?;
+    }
+    Some(count)
+}
+
+/// How many items are before the end of the last window.
+#[tactic(auto, using(crate::proofs::LineWindows::within_next))]
+fn come_end(items: &[Item], windows: &[Window]) -> usize
+    requires { AreWithin windows.now items.now }
+    ensures end { result ≡ counts.come_end windows.now }
+    ensures within { result ≤ length items.now }
+{
+    let mut rest = items;
+    for window in windows {
+        rest = past(rest, window);
+    }
+    items.len() - rest.len()
+}
+
+/// Whether each item that was taken out had a line, if the tree had this many lines.
+fn are_all_lines(items: &[Item], windows: &[Window], lines: usize) -> bool
+    requires { AreWithin windows.now items.now }
+    ensures { IsTrue result → counts.line_count_in (counts.come_items windows.now items.now) + lines ≡ counts.gone_count windows.now + counts.line_count_in items.now }
+{
+    let Some(gone) = gone_items(windows) else {
+        return false;
+    };
+    let Some(new) = gone.checked_add(count_lines(items)) else {
+        return false;
+    };
+    let Some(old) = come_lines(items, windows).checked_add(lines) else {
+        return false;
+    };
+    old == new
+}
+
+/// From where on the first window has other items.
+fn first_from(windows: &[Window]) -> usize
+    ensures { result ≡ counts.first_from windows.now }
+{
+    match windows {
+        [] => 0,
+        [first, ..] => first.from,
+    }
+}
+
+/// All windows as one, which counts lines, if the tree had this many.
+pub fn all_as_one(items: &[Item], windows: &[Window], lines: usize) -> Window
+    requires { AreWithin windows.now items.now }
+    ensures within { result.from + result.come ≤ length items.now }
+    ensures over { (before : List Item) → counts.line_count_in before ≡ lines → AreOver windows.now before items.now → counts.AreLinesOver (result ∷ []) before items.now }
+{
+    let from = first_from(windows);
+    let end = come_end(items, windows);
+    let (front, _rest) = items.split_at(from);
+    let (_until, following) = items.split_at(end);
+    let past_front = lines.saturating_sub(count_lines(front));
+    Window {
+        from,
+        gone: past_front.saturating_sub(count_lines(following)),
+        come: end - from,
+    }
+}
+
+/// The windows, if each item that was taken out had a line, else the one window of all.
+pub fn counted<'a>(
+    items: &[Item],
+    windows: &'a [Window],
+    one: &'a [Window],
+    lines: usize,
+) -> &'a [Window]
+    requires { AreWithin windows.now items.now }
+    ensures within { AreWithin one.now items.now → AreWithin result.now items.now }
+    ensures over { (before : List Item) → counts.line_count_in before ≡ lines → AreOver windows.now before items.now
+        → counts.AreLinesOver one.now before items.now → counts.AreLinesOver result.now before items.now }
+{
+    if are_all_lines(items, windows, lines) {
+        return windows;
+    }
+    one
+}
