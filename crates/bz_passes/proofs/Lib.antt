@@ -16,8 +16,10 @@ pub mod Inner
 pub mod RuleKinds
 pub mod Places
 pub mod Settling
-pub mod Exchanging
-pub mod Splicing
+pub mod LoadsKept
+pub mod Pieces
+pub mod Joining
+pub mod Walks
 pub mod Single
 pub mod Dropping
 pub mod Cut

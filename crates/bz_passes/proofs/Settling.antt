@@ -223,7 +223,7 @@ loads_settle = sort_settles load_precedes load_one_way
 loads_taken : (p : Expr → Expr) → Keeps loads (on_taken p)
 loads_taken p = sort_keeps load_precedes (on_statement (taken p))
 
-same_loose : (x : Expr) → is_loose_load (with_flags x) ≡ is_loose_load x
+pub same_loose : (x : Expr) → is_loose_load (with_flags x) ≡ is_loose_load x
 same_loose x = both (λ a b. a && b) (kind_flags k.Load x) (ap is_empty (above_flags x))
 
 same_path : (x : Expr) → path_of (with_flags x) ≡ path_of x

@@ -1,45 +1,25 @@
 -- One item that came in a tidy file, tidied by itself and moved to its place among the loads, makes the whole tidy.
 use Rattle.std.proofs.Common.{ℕ, zero, suc, ◌+◌, ◌-◌, ◌≤◌, ◌<◌, ◌⊎◌, inl, inr, true, false, List, [], ◌∷◌, ◌++◌, ◌≡◌, length, take, drop, refl, sym, ap, ◌∙◌, subst, arith}
 use Rattle.std.proofs.Common.{append_assoc, append-nil, drop-drop, drop_at, length-append, length-drop, length-take-le, take-append-drop, take-take, take_at}
-use Rattle.std.proofs.lemmas.List.{drop-map, map-append, take-map, drop-append-le}
-use Rattle.std.specs.List.{AllByRecursion}
-use Rattle.bz_value.specs.declared.value.Item.{Item}
-use Rattle.bz_value.specs.Exchanged.{IsSpliced}
-use Rattle.bz_value.specs.Proper.{IsProper, IsProperItem}
+use Rattle.std.proofs.lemmas.List.{drop-append-le}
 use Rattle.std.proofs.lemmas.List.Elements.{All-append, All-drop, All-take}
-use Rattle.bz_layout.specs.Flags.{flags, item_with_flags}
-use Rattle.bz_passes.specs.Changes.{after_passes}
-use Rattle.bz_passes.specs.Exchanged.{item_tidied}
+use Rattle.std.specs.List.{AllByRecursion}
+use Rattle.std.specs.Prelude.{IfSome, Option, Some}
+use Rattle.bz_value.specs.declared.value.Item.{Item}
+use Rattle.bz_value.specs.declared.windows.Window.{Window}
+use Rattle.bz_value.specs.Proper.{IsProper, IsProperItem}
+use Rattle.bz_value.specs.Windows.{AreOver}
+use Rattle.bz_passes.specs.Joined.{item_tidied}
 use Rattle.bz_passes.specs.Orders.{insert_by, sort_by}
-use Rattle.bz_passes.specs.Passes.{load_precedes, loads, on_statement, on_taken, taken, tidied}
-use Rattle.bz_passes.specs.Spliced.{IsTidiedIn, tidied_within}
-use Rattle.bz_passes.specs.private.Single.{IsMoved, IsPlaceOf, first_precedes, precedes_last}
-use Rattle.bz_passes.proofs.Composed.{five_composed}
-use Rattle.bz_passes.proofs.Exchanging.{exchanged_tidied}
+use Rattle.bz_passes.specs.Passes.{load_precedes, loads, tidied}
+use Rattle.bz_passes.specs.private.Borders.{AreTidied, tidied_over}
+use Rattle.bz_passes.specs.private.Single.{IsMoved, IsPlaceOf, first_precedes, one_at, precedes_last}
 use Rattle.bz_passes.proofs.Keeping.{both, same_first}
-use Rattle.bz_passes.proofs.Settling.{IsFixed, tidied_fixed, statements_fixed, load_one_way, unseen_load, tidy_stays}
-use Rattle.bz_passes.proofs.Sorting.{Starts, Ordered, insert_starts, ordered_stays, sort_ordered, sort_map}
-use Rattle.bz_passes.proofs.Splicing.{spliced_still, within_length}
+use Rattle.bz_passes.proofs.Pieces.{InOrder, IsTidy, back_stays, by_items, each, each_between, front_stays, ordered_drop, ordered_take, over_still, tidied_alone, tidy_is}
+use Rattle.bz_passes.proofs.Settling.{tidy_stays}
+use Rattle.bz_passes.proofs.Sorting.{Starts, insert_starts, ordered_stays}
 
 -- ---- the place of one item among sorted ones
-
-abbrev InOrder : List Item → Type 0
-InOrder = Ordered load_precedes
-
-starts_take : (x : Item) (n : ℕ) (xs : List Item) → Starts load_precedes x xs → Starts load_precedes x (take n xs)
-starts_take x zero xs s = tt
-starts_take x (suc n) [] s = tt
-starts_take x (suc n) (y ∷ ys) s = s
-
-ordered_take : (n : ℕ) (xs : List Item) → InOrder xs → InOrder (take n xs)
-ordered_take zero xs o = tt
-ordered_take (suc n) [] o = tt
-ordered_take (suc n) (x ∷ xs) o = (starts_take x n xs o.0, ordered_take n xs o.1)
-
-ordered_drop : (n : ℕ) (xs : List Item) → InOrder xs → InOrder (drop n xs)
-ordered_drop zero xs o = o
-ordered_drop (suc n) [] o = tt
-ordered_drop (suc n) (x ∷ xs) o = ordered_drop n xs o.1
 
 starts_from : (x : Item) (rest : List Item) → first_precedes x rest ≡ false → Starts load_precedes x rest
 starts_from x [] h = tt
@@ -76,23 +56,12 @@ last_preceded x [] last = refl
 last_preceded x (y ∷ []) last = refl
 last_preceded x (y ∷ z ∷ front) last = last_preceded x (z ∷ front) last
 
--- ---- tidying by items
-
--- each item by itself
-abbrev each : List Item → List Item
-each items = flags (on_taken after_passes items)
-
-by_items : (items : List Item) → tidied items ≡ loads (each items)
-by_items items = ap (λ z. flags (loads z)) (five_composed items) ∙ sym (sort_map load_precedes item_with_flags unseen_load (on_taken after_passes items))
-
-each_between : (front : List Item) (x : Item) (rest : List Item) → each (front ++ x ∷ rest) ≡ each front ++ item_tidied x ∷ each rest
-each_between front x rest =
-    ap flags (map-append (on_statement (taken after_passes)) front (x ∷ rest)) ∙ map-append item_with_flags (on_taken after_passes front) (on_taken after_passes (x ∷ rest))
+-- ---- tidying an item twice
 
 again : (x : Item) → item_tidied (item_tidied x) ≡ item_tidied x
 again x =
-    let alone : tidied (x ∷ []) ≡ item_tidied x ∷ [] = exchanged_tidied.alone x in
-    same_first (item_tidied (item_tidied x)) (item_tidied x) [] [] (sym (exchanged_tidied.alone (item_tidied x)) ∙ (ap tidied (sym alone) ∙ (tidy_stays (x ∷ []) ∙ alone)))
+    let alone : tidied (x ∷ []) ≡ item_tidied x ∷ [] = tidied_alone x in
+    same_first (item_tidied (item_tidied x)) (item_tidied x) [] [] (sym (tidied_alone (item_tidied x)) ∙ (ap tidied (sym alone) ∙ (tidy_stays (x ∷ []) ∙ alone)))
 
 twice : (front : List Item) (x : Item) (rest : List Item) → tidied (front ++ item_tidied x ∷ rest) ≡ tidied (front ++ x ∷ rest)
 twice front x rest =
@@ -103,61 +72,43 @@ twice front x rest =
 twice_in : (front items : List Item) → tidied (front ++ tidied (take 1 items) ++ drop 1 items) ≡ tidied (front ++ items)
 twice_in front [] = ap tidied (append-nil (front ++ []))
 twice_in front (x ∷ rest) =
-    ap (λ z. tidied (front ++ z ++ rest)) (exchanged_tidied.alone x) ∙ (ap tidied (append_assoc front (item_tidied x ∷ []) rest) ∙ twice front x rest)
+    ap (λ z. tidied (front ++ z ++ rest)) (tidied_alone x) ∙ (ap tidied (append_assoc front (item_tidied x ∷ []) rest) ∙ twice front x rest)
 
-pub within_twice : (from : ℕ) (items : List Item) → tidied (tidied_within from 1 items) ≡ tidied items
+-- the item at a place tidied as if it were alone
+abbrev pub tidied_at : ℕ → List Item → List Item
+tidied_at from items = tidied_over (one_at from 0) items
+
+within_twice : (from : ℕ) (items : List Item) → tidied (tidied_at from items) ≡ tidied items
 within_twice from items =
     ap (λ z. tidied (take from items ++ tidied (take 1 (drop from items)) ++ z)) (sym (drop-drop 1 from items))
     ∙ (twice_in (take from items) (drop from items) ∙ ap tidied (take-append-drop from items))
 
 -- what is tidied by itself and then with its neighbours
-pub tidied_twice : {window : _} (from gone : ℕ) (old mid new : List Item) → from + 1 ≤ length old → mid ≡ tidied_within from 1 old
-    → IsTidiedIn window from gone 1 mid new → IsTidiedIn window from gone 1 old new
-tidied_twice from gone old mid new h e t =
-    let still : (before : List Item) → IsSpliced from gone 1 before old → IsSpliced from gone 1 before mid =
-    λ before spliced. subst (IsSpliced from gone 1 before) (sym e) (spliced_still from gone 1 before old spliced) in
+pub tidied_twice : (windows others : List Window) (from gone : ℕ) (old mid new : List Item) → windows ≡ one_at from gone → mid ≡ tidied_at from old → AreTidied windows others mid new → AreTidied windows others old new
+tidied_twice windows others from gone old mid new own e t =
+    let still : (before : List Item) → AreOver windows before old → AreOver windows before mid =
+    λ before over. subst (λ ws. AreOver ws before mid) (sym own)
+    (subst (AreOver (one_at from gone) before) (sym e) (over_still (one_at from gone) before old (subst (λ ws. AreOver ws before old) own over))) in
     record {
-      count = t.count ∙ (ap length e ∙ within_length from 1 old h);
       within = t.within;
-      wider = t.wider;
-      tidy = λ before tidy spliced. t.tidy before tidy (still before spliced) ∙ (ap tidied e ∙ within_twice from old);
-      spliced = λ before tidy spliced. t.spliced before tidy (still before spliced);
+      tidy = λ before tidy over. t.tidy before tidy (still before over) ∙ (ap tidied e ∙ within_twice from old);
+      over = λ before tidy over. t.over before tidy (still before over);
     }
 
 -- ---- an item between items of a tidy file
-
--- what tidying keeps of a tidy file
-record IsTidy (items : List Item) : Type 0 where
-  each_stays : each items ≡ items
-  ordered : InOrder items
-
-tidy_is : (items : List Item) → tidied items ≡ items → IsTidy items
-tidy_is items t =
-    let fixed : IsFixed items = subst IsFixed t (tidied_fixed items) in
-    record {
-      each_stays = ap flags (sym (five_composed items) ∙ statements_fixed items fixed) ∙ fixed.by_flags;
-      ordered = subst InOrder fixed.by_loads (sort_ordered load_precedes load_one_way items);
-    }
-
-each_take : (n : ℕ) (items : List Item) → each (take n items) ≡ take n (each items)
-each_take n items = ap flags (sym (take-map (on_statement (taken after_passes)) n items)) ∙ sym (take-map item_with_flags n (on_taken after_passes items))
-
-each_drop : (n : ℕ) (items : List Item) → each (drop n items) ≡ drop n (each items)
-each_drop n items = ap flags (sym (drop-map (on_statement (taken after_passes)) n items)) ∙ sym (drop-map item_with_flags n (on_taken after_passes items))
 
 pub single_tidied : (before front rest : List Item) (x : Item) (from stop to : ℕ) → tidied before ≡ before → take from before ≡ front → drop stop before ≡ rest
     → InOrder (drop to front ++ rest) → IsPlaceOf (item_tidied x) to front rest
     → tidied (front ++ x ∷ rest) ≡ take to front ++ item_tidied x ∷ drop to front ++ rest
 single_tidied before front rest x from stop to t own back o p =
     let tidy : IsTidy before = tidy_is before t in
-    let front_stays : each front ≡ front = ap each (sym own) ∙ (each_take from before ∙ (ap (take from) tidy.each_stays ∙ own)) in
-    let rest_stays : each rest ≡ rest = ap each (sym back) ∙ (each_drop stop before ∙ (ap (drop stop) tidy.each_stays ∙ back)) in
+    let front_tidy : IsTidy front = subst IsTidy own (front_stays from before tidy) in
+    let rest_tidy : IsTidy rest = subst IsTidy back (back_stays stop before tidy) in
     let whole : take to front ++ drop to front ++ item_tidied x ∷ rest ≡ front ++ item_tidied x ∷ rest = ap (λ z. z ++ item_tidied x ∷ rest) (take-append-drop to front) in
     by_items (front ++ x ∷ rest)
-    ∙ (ap loads (each_between front x rest ∙ both (λ z zs. z ++ item_tidied x ∷ zs) front_stays rest_stays)
+    ∙ (ap loads (each_between front x rest ∙ both (λ z zs. z ++ item_tidied x ∷ zs) front_tidy.each_stays rest_tidy.each_stays)
     ∙ (ap loads (sym whole)
-    ∙ placed (item_tidied x) (take to front) (drop to front) rest
-    (ordered_take to front (subst InOrder own (ordered_take from before tidy.ordered))) o p.later p.stops p.follows))
+    ∙ placed (item_tidied x) (take to front) (drop to front) rest (ordered_take to front front_tidy.ordered) o p.later p.stops p.follows))
 
 -- ---- the window of a single item
 
@@ -180,23 +131,23 @@ module _ (from gone to : ℕ) (old new : List Item) (x : Item) (rest : List Item
   whole : front ++ x ∷ rest ≡ old
   whole = ap (λ z. front ++ z) (sym own) ∙ take-append-drop from old
 
-  within_is : tidied_within from 1 old ≡ front ++ item_tidied x ∷ rest
+  within_is : tidied_at from old ≡ front ++ item_tidied x ∷ rest
   within_is =
       both (λ z zs. front ++ tidied (take 1 z) ++ zs) own after_own
-      ∙ (ap (λ z. front ++ z ++ rest) (exchanged_tidied.alone x) ∙ append_assoc front (item_tidied x ∷ []) rest)
+      ∙ (ap (λ z. front ++ z ++ rest) (tidied_alone x) ∙ append_assoc front (item_tidied x ∷ []) rest)
 
-  front_is : take from (tidied_within from 1 old) ≡ front
+  front_is : take from (tidied_at from old) ≡ front
   front_is = ap (take from) within_is ∙ take_at front (item_tidied x ∷ rest) from front_length
 
-  pub back_is : drop from (tidied_within from 1 old) ≡ item_tidied x ∷ rest
+  pub back_is : drop from (tidied_at from old) ≡ item_tidied x ∷ rest
   back_is = ap (drop from) within_is ∙ drop_at front (item_tidied x ∷ rest) from front_length
 
   abbrev pub Moved : Type 0
   Moved = new ≡ take to front ++ item_tidied x ∷ drop to front ++ rest
 
-  pub moved_from : new ≡ take to (tidied_within from 1 old) ++ item_tidied x ∷ drop to (take from (tidied_within from 1 old)) ++ rest → Moved
+  pub moved_from : new ≡ take to (tidied_at from old) ++ item_tidied x ∷ drop to (take from (tidied_at from old)) ++ rest → Moved
   moved_from h =
-      h ∙ both (λ z zs. z ++ item_tidied x ∷ zs ++ rest) (sym (take-take to from (tidied_within from 1 old) bound) ∙ ap (take to) front_is) (ap (drop to) front_is)
+      h ∙ both (λ z zs. z ++ item_tidied x ∷ zs ++ rest) (sym (take-take to from (tidied_at from old) bound) ∙ ap (take to) front_is) (ap (drop to) front_is)
 
   later_length : length (drop to front) ≡ from - to
   later_length = length-drop to front ∙ ap (λ n. n - to) front_length
@@ -207,14 +158,14 @@ module _ (from gone to : ℕ) (old new : List Item) (x : Item) (rest : List Item
   none_later : to ≡ from → drop to front ≡ []
   none_later e = no_more (drop to front) (omega (arith, later_length, e))
 
-  pub moved_nowhere : to ≡ from → new ≡ tidied_within from 1 old → Moved
+  pub moved_nowhere : to ≡ from → new ≡ tidied_at from old → Moved
   moved_nowhere e h =
       h
       ∙ (within_is
       ∙ (sym (append_assoc front (item_tidied x ∷ []) rest)
       ∙ both (λ z zs. z ++ item_tidied x ∷ zs ++ rest) (sym (ap (λ n. take n front) e ∙ take-take from from old (omega arith))) (sym (none_later e))))
 
-  pub place_is : ((item : Item) (others : List Item) → drop from (tidied_within from 1 old) ≡ item ∷ others → IsPlaceOf item to (take from (tidied_within from 1 old)) others)
+  pub place_is : ((item : Item) (others : List Item) → drop from (tidied_at from old) ≡ item ∷ others → IsPlaceOf item to (take from (tidied_at from old)) others)
       → IsPlaceOf (item_tidied x) to front rest
   place_is h = subst (λ z. IsPlaceOf (item_tidied x) to z rest) front_is (h (item_tidied x) rest back_is)
 
@@ -234,14 +185,14 @@ module _ (from gone to : ℕ) (old new : List Item) (x : Item) (rest : List Item
           front_length,
         )
 
-    module _ (before : List Item) (spliced : IsSpliced from gone 1 before old) where
+    module _ (before : List Item) (over : AreOver (one_at from gone) before old) where
       rest_is : drop (from + gone) before ≡ rest
-      rest_is = sym spliced.following ∙ after_own
+      rest_is = over.3 ∙ after_own
 
       -- where none is gone
       all_before : gone ≡ 0 → front ++ rest ≡ before
       all_before n =
-          both (λ z zs. z ++ zs) spliced.front (sym rest_is ∙ ap (λ m. drop m before) (omega (arith, n)))
+          both (λ z zs. z ++ zs) over.2 (sym rest_is ∙ ap (λ m. drop m before) (omega (arith, n)))
           ∙ take-append-drop from before
 
       later_is : gone ≡ 0 → drop to front ++ rest ≡ drop to before
@@ -256,7 +207,7 @@ module _ (from gone to : ℕ) (old new : List Item) (x : Item) (rest : List Item
       new_tidied : tidied before ≡ before → IsPlaceOf (item_tidied x) to front rest → new ≡ tidied old
       new_tidied t p =
           moved
-          ∙ (sym (single_tidied before front rest x from (from + gone) to t (sym spliced.front) rest_is (later_or_rest later_is (tidy_is before t).ordered) p) ∙ ap tidied whole)
+          ∙ (sym (single_tidied before front rest x from (from + gone) to t (sym over.2) rest_is (later_or_rest later_is (tidy_is before t).ordered) p) ∙ ap tidied whole)
 
       drop_new : drop (to + 1) new ≡ drop to front ++ rest
       drop_new =
@@ -267,26 +218,24 @@ module _ (from gone to : ℕ) (old new : List Item) (x : Item) (rest : List Item
       take_new : take to new ≡ take to before
       take_new =
           ap (take to) (moved ∙ append_assoc (take to front) (item_tidied x ∷ drop to front) rest)
-          ∙ (take_at (take to front) (item_tidied x ∷ (drop to front ++ rest)) to first_length ∙ (ap (take to) spliced.front ∙ take-take to from before bound))
+          ∙ (take_at (take to front) (item_tidied x ∷ (drop to front ++ rest)) to first_length ∙ (ap (take to) over.2 ∙ take-take to from before bound))
 
-      new_spliced : IsSpliced to (gone + (1 - 1)) 1 before new
-      new_spliced = record {
-        front = take_new;
-        following = drop_new ∙ elim either [
+      new_over : AreOver (one_at to gone) before new
+      new_over = (
+        omega (arith, bound, over.0),
+        omega (arith, new_length, bound, there),
+        take_new,
+        sym (drop_new ∙ elim either [
           | inl e ↦ ap (λ z. z ++ rest) (none_later e) ∙ (sym rest_is ∙ ap (λ n. drop n before) (omega (arith, e)))
           | inr n ↦ later_is n ∙ ap (λ m. drop m before) (omega (arith, n))
-        ];
-        within = omega (arith, bound, spliced.within);
-        held = omega (arith, new_length, bound, there);
-      }
+        ]),
+      )
 
-    pub is_tidied_in : IsPlaceOf (item_tidied x) to front rest → IsTidiedIn (record { from = to; come = 1 }) from gone 1 old new
-    is_tidied_in p = record {
-      count = new_length;
-      within = omega (arith, new_length, bound, there);
-      wider = omega arith;
-      tidy = λ before tidy spliced. new_tidied before spliced tidy p;
-      spliced = λ before tidy spliced. new_spliced before spliced;
+    pub is_tidied : IsPlaceOf (item_tidied x) to front rest → AreTidied (one_at from gone) (one_at to gone) old new
+    is_tidied p = record {
+      within = (omega (arith, new_length, bound, there), tt);
+      tidy = λ before tidy over. new_tidied before over tidy p;
+      over = λ before tidy over. new_over before over;
     }
 
 -- whatever item came
@@ -294,12 +243,12 @@ abbrev pub Placed : ℕ → ℕ → List Item → Type 0
 Placed from to mid = (item : Item) (rest : List Item) → drop from mid ≡ item ∷ rest → IsPlaceOf item to (take from mid) rest
 
 single_at : (from gone to : ℕ) (old new xs : List Item) → drop from old ≡ xs → from + 1 ≤ length old → to ≤ from → (to ≡ from) ⊎ (gone ≡ 0)
-    → Placed from to (tidied_within from 1 old) → ((to ≡ from) × (new ≡ tidied_within from 1 old)) ⊎ IsMoved from to (tidied_within from 1 old) new
-    → IsTidiedIn (record { from = to; come = 1 }) from gone 1 old new
+    → Placed from to (tidied_at from old) → ((to ≡ from) × (new ≡ tidied_at from old)) ⊎ IsMoved from to (tidied_at from old) new
+    → AreTidied (one_at from gone) (one_at to gone) old new
 single_at from gone to old new [] e there bound either placed made =
     absurd (omega (arith, length-drop from old, ap length e, there))
 single_at from gone to old new (x ∷ rest) e there bound either placed made =
-    is_tidied_in from gone to old new x rest e bound there either
+    is_tidied from gone to old new x rest e bound there either
     (elim made [
       | inl h ↦ moved_nowhere from gone to old new x rest e bound there either h.0 h.1
       | inr h ↦ moved_from from gone to old new x rest e bound there either (h (item_tidied x) rest (back_is from gone to old new x rest e bound there either))
@@ -307,8 +256,8 @@ single_at from gone to old new (x ∷ rest) e there bound either placed made =
     (place_is from gone to old new x rest e bound there either placed)
 
 pub single_in : (from gone to : ℕ) (old new : List Item) → from + 1 ≤ length old → to ≤ from → (to ≡ from) ⊎ (gone ≡ 0)
-    → Placed from to (tidied_within from 1 old) → ((to ≡ from) × (new ≡ tidied_within from 1 old)) ⊎ IsMoved from to (tidied_within from 1 old) new
-    → IsTidiedIn (record { from = to; come = 1 }) from gone 1 old new
+    → Placed from to (tidied_at from old) → ((to ≡ from) × (new ≡ tidied_at from old)) ⊎ IsMoved from to (tidied_at from old) new
+    → AreTidied (one_at from gone) (one_at to gone) old new
 single_in from gone to old new = single_at from gone to old new (drop from old) refl
 
 proper_at : (from to : ℕ) (old new xs : List Item) → drop from old ≡ xs → from < length old → IsMoved from to old new → IsProper old → IsProper new
@@ -323,3 +272,10 @@ proper_at from to old new (x ∷ rest) e within moved h =
 
 pub moved_proper : (from to : ℕ) (old new : List Item) → from < length old → IsMoved from to old new → IsProper old → IsProper new
 moved_proper from to old new = proper_at from to old new (drop from old) refl
+
+-- the answer of `tidy_single`, of the windows before and after
+pub single_moved : (windows others : List Window) (found : Option ℕ) (from gone to : ℕ) (old new : List Item) → windows ≡ one_at from gone → IfSome found (λ to. AreTidied (one_at from gone) (one_at to gone) old new)
+    → found ≡ Some to → others ≡ one_at to gone → AreTidied windows others old new
+single_moved windows others found from gone to old new own moved is new_is =
+    subst (λ ws. AreTidied ws others old new) (sym own)
+    (subst (λ ws. AreTidied (one_at from gone) ws old new) (sym new_is) (subst (λ f. IfSome f (λ n. AreTidied (one_at from gone) (one_at n gone) old new)) is moved))

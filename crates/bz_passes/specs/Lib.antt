@@ -1,5 +1,4 @@
 pub mod Changes
-pub mod Exchanged
 pub mod Joined
 pub mod Laws
 pub mod Lists
@@ -11,7 +10,6 @@ pub mod Programs
 pub mod Rising
 pub mod Rows
 pub mod Sorting
-pub mod Spliced
 pub mod Strings
 pub mod Syntax
 pub mod private

@@ -11,7 +11,6 @@ use Rattle.bz_value.specs.declared.value.Item.TheVariants as i
 use Rattle.bz_items.specs.Characters.{Bytes}
 use Rattle.bz_value.specs.Comments.{no_comments}
 use Rattle.bz_layout.specs.Written.{layout}
-use Rattle.bz_passes.specs.Exchanged.{tidied_where}
 use Rattle.bz_passes.specs.Passes.{tidied}
 use Rattle.bz_passes.specs.Programs.{IsSameLabel, IsSameString, KeepsProgram}
 use Rattle.bz_passes.specs.Syntax.{program, token_times}
@@ -94,18 +93,15 @@ Sums =
     × (tidied (broken (codes "x") (codes "srcs") (sequence k.Call false (token c.Name (codes "glob") ∷ []) (strings (codes "\"b\"" ∷ codes "\"a\"" ∷ []) ∷ [])))
     ≡ broken (codes "x") (codes "srcs") (sequence k.Call false (token c.Name (codes "glob") ∷ []) (strings (codes "\"b\"" ∷ codes "\"a\"" ∷ []) ∷ [])))
 
--- the marked items alone take double quote marks
-abbrev pub rule_named : Bytes → Item
-rule_named text = statement [] (codes "x") (argument (codes "name") (string text) ∷ [])
-
-abbrev pub Marked : Type 0
-Marked = tidied_where (true ∷ false ∷ true ∷ []) (rule_named (codes "'a'") ∷ rule_named (codes "'b'") ∷ rule_named (codes "'c'") ∷ []) ≡ rule_named (codes "\"a\"") ∷ rule_named (codes "'b'") ∷ rule_named (codes "\"c\"") ∷ []
-
 abbrev pub WorkedPasses : Type 0
 WorkedPasses =
-    (layout (tidied two_sources) ≡ codes "cc_library(\n    name = \"a\",\n    srcs = [\n        \"a.c\",\n        \"b.c\",\n    ],\n)\n") × Loads × Lists × Sums × Marked
+    (layout (tidied two_sources) ≡ codes "cc_library(\n    name = \"a\",\n    srcs = [\n        \"a.c\",\n        \"b.c\",\n    ],\n)\n") × Loads × Lists × Sums
 
 -- ---- programs
+
+-- a rule with a name alone
+abbrev pub rule_named : Bytes → Item
+rule_named text = statement [] (codes "x") (argument (codes "name") (string text) ∷ [])
 
 -- a call x(name = "a", deps = [..])
 abbrev named_with : Bool → List Bytes → List Expr → Item

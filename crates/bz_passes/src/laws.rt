@@ -1,6 +1,5 @@
 //! Facts about the definitions, for readers: the functions do nothing.
-ghost use Rattle.bz_passes.specs.Exchanged.{ExchangedTidied};
-ghost use Rattle.bz_passes.specs.Joined.{TidiedApart};
+ghost use Rattle.bz_passes.specs.Joined.{TidiedAlone, TidiedApart};
 ghost use Rattle.bz_passes.specs.Laws.{TidyingKeepsComments, FlagsSettle, SortingIsTheOne, TidySettles, TidyStays};
 ghost use Rattle.bz_passes.specs.MovedMarks.{MarksMove};
 ghost use Rattle.bz_passes.specs.Rows.{WorkedPasses, WorkedPrograms};
@@ -53,7 +52,7 @@ pub fn tidied_apart()
     ensures { TidiedApart }
 {}
 
-/// Where marked items of a tidy file were exchanged for others, tidying it is tidying these one by one.
-pub fn exchanged_tidied()
-    ensures { ExchangedTidied }
+/// An item is tidied by itself as it is in a file of its own.
+pub fn tidied_alone()
+    ensures { TidiedAlone }
 {}

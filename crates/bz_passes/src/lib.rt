@@ -2,7 +2,7 @@
 #![tactic(auto)]
 
 mod arguments;
-mod exchanged;
+mod borders;
 mod flags;
 mod labels;
 mod laws;
@@ -15,18 +15,18 @@ mod proper_laws;
 mod quotes;
 mod repeats;
 mod runs;
-mod spliced;
 mod strings;
 mod symbols;
 mod tidying;
 mod walk;
+mod windows;
 
-pub use exchanged::tidy_marked;
+pub use borders::begins_with_load;
 pub use flags::settle;
 pub use laws::{
-    comments_stay, exchanged_tidied, flags_settle, marks_move, sorting_is_the_one, tidied_apart,
+    comments_stay, flags_settle, marks_move, sorting_is_the_one, tidied_alone, tidied_apart,
     tidy_settles, tidy_stays, worked_passes, worked_programs,
 };
 pub use proper_laws::{program_stays, proper_stays, tokens_stay};
-pub use spliced::{Window, begins_with_load, tidy_spliced};
 pub use tidying::tidy;
+pub use windows::tidy_windows;

@@ -2,6 +2,7 @@
 use Rattle.std.specs.Prelude.{◌≡◌, ℕ, Bool, true, false, List, [], ◌∷◌, ◌++◌, drop, take}
 use Rattle.std.specs.List.{AllByRecursion}
 use Rattle.bz_value.specs.declared.value.Item.{Item}
+use Rattle.bz_value.specs.declared.windows.Window.{Window}
 use Rattle.bz_passes.specs.Passes.{load_precedes}
 
 -- whether the item comes before the last of these
@@ -25,3 +26,7 @@ pub record IsPlaceOf (item : Item) (to : ℕ) (front rest : List Item) : Type 0 
 -- the item at a place is moved to another before it
 abbrev pub IsMoved : ℕ → ℕ → List Item → List Item → Type 0
 IsMoved from to old new = (item : Item) (rest : List Item) → drop from old ≡ item ∷ rest → new ≡ take to old ++ item ∷ drop to (take from old) ++ rest
+
+-- one window in which one item came
+abbrev pub one_at : ℕ → ℕ → List Window
+one_at from gone = record { from = from; gone = gone; come = 1 } ∷ []

@@ -1,4 +1,4 @@
-use Rattle.bz_passes.proofs.Splicing.{cut_first}
+use Rattle.bz_passes.proofs.Pieces.{cut_first}
 use Rattle.bz_passes.proofs.laws.tidied_apart.Goals as goal
 
 pub returns : goal.returns

@@ -1,0 +1,233 @@
+-- Pieces of a file that no load is sorted across are tidied apart, and windows of a tidy file by themselves.
+use Rattle.std.proofs.Common.{◌||◌, ℕ, zero, suc, ◌+◌, ◌≤◌, Bool, true, false, ◌&&◌, inl, inr, List, [], ◌∷◌, ◌++◌, ◌≡◌, length, take, drop, refl, sym, ap, ◌∙◌, subst, arith}
+use Rattle.std.proofs.Common.{append_assoc, append-nil, drop_at, length-append, length-drop, length-take-le, take-append-drop, take_at}
+use Rattle.std.proofs.Math.Seq.{take-add}
+use Rattle.std.proofs.lemmas.Bool.{cases_Bool, or_parts}
+use Rattle.std.proofs.lemmas.List.{drop-map, length-map, map-append, take-map}
+use Rattle.std.proofs.lemmas.List.Elements.{All-append, All-drop, All-take}
+use Rattle.bz_value.specs.declared.value.Item.{Item}
+use Rattle.bz_value.specs.declared.windows.Window.{Window}
+use Rattle.bz_value.specs.Proper.{IsProper, IsProperItem}
+use Rattle.bz_value.specs.Windows.{AreOver, AreWithin}
+use Rattle.bz_layout.specs.Flags.{flags, item_with_flags}
+use Rattle.bz_passes.specs.Changes.{after_passes}
+use Rattle.bz_passes.specs.Joined.{TidiedAlone, begins_with_load, item_tidied}
+use Rattle.bz_passes.specs.Passes.{is_run_load, load_precedes, loads, on_statement, on_taken, taken, tidied}
+use Rattle.bz_passes.specs.private.Borders.{AreSetApart, AreTidied, any_touched, ends_with_load, tidied_over, touches}
+use Rattle.bz_passes.proofs.Composed.{five_composed}
+use Rattle.bz_passes.proofs.Cut.{sort_cut, sort_length}
+use Rattle.bz_passes.proofs.Keeping.{both}
+use Rattle.bz_passes.proofs.LoadsKept.{never_before, never_after, run_kept}
+use Rattle.bz_passes.proofs.ProperPasses.{tidied_proper}
+use Rattle.bz_passes.proofs.Settling.{IsFixed, tidied_fixed, statements_fixed, load_one_way, unseen_load}
+use Rattle.bz_passes.proofs.Sorting.{Starts, Ordered, ordered_stays, sort_ordered, sort_map}
+
+-- ---- tidying by items
+
+-- each item by itself
+abbrev pub each : List Item → List Item
+each items = flags (on_taken after_passes items)
+
+pub by_items : (items : List Item) → tidied items ≡ loads (each items)
+by_items items = ap (λ z. flags (loads z)) (five_composed items) ∙ sym (sort_map load_precedes item_with_flags unseen_load (on_taken after_passes items))
+
+pub tidied_alone : TidiedAlone
+tidied_alone item = by_items (item ∷ [])
+
+pub each_between : (front : List Item) (x : Item) (rest : List Item) → each (front ++ x ∷ rest) ≡ each front ++ item_tidied x ∷ each rest
+each_between front x rest =
+    ap flags (map-append (on_statement (taken after_passes)) front (x ∷ rest)) ∙ map-append item_with_flags (on_taken after_passes front) (on_taken after_passes (x ∷ rest))
+
+tidied_length : (items : List Item) → length (tidied items) ≡ length items
+tidied_length items =
+    ap length (by_items items)
+    ∙ (sort_length load_precedes (each items) ∙ (length-map (on_taken after_passes items) item_with_flags ∙ length-map items (on_statement (taken after_passes))))
+
+-- ---- an item that is not sorted cuts
+
+cut_at : (front rest : List Item) (bar : Item) → is_run_load bar ≡ false → tidied (front ++ bar ∷ rest) ≡ tidied front ++ item_tidied bar ∷ tidied rest
+cut_at front rest bar n =
+    let new : Item = item_tidied bar in
+    let alone : is_run_load new ≡ false = run_kept bar ∙ n in
+    by_items (front ++ bar ∷ rest)
+    ∙ (ap loads (each_between front bar rest)
+    ∙ (sort_cut load_precedes new (λ x. never_before new x alone) (λ x. never_after x new alone) (each front) (each rest)
+    ∙ both (λ z zs. z ++ new ∷ zs) (sym (by_items front)) (sym (by_items rest))))
+
+cut_after : (front rest : List Item) (bar : Item) → is_run_load bar ≡ false → tidied ((front ++ bar ∷ []) ++ rest) ≡ tidied (front ++ bar ∷ []) ++ tidied rest
+cut_after front rest bar n =
+    ap tidied (append_assoc front (bar ∷ []) rest)
+    ∙ (cut_at front rest bar n
+    ∙ (sym (append_assoc (tidied front) (item_tidied bar ∷ []) (tidied rest))
+    ∙ ap (λ z. z ++ tidied rest) (sym (cut_at front [] bar n))))
+
+cut_from : (front : List Item) (x : Item) (xs rest : List Item) → ends_with_load (x ∷ xs) ≡ false → tidied ((front ++ x ∷ xs) ++ rest) ≡ tidied (front ++ x ∷ xs) ++ tidied rest
+cut_from front x [] rest n = cut_after front rest x n
+cut_from front x (y ∷ ys) rest n = subst (λ z. tidied (z ++ rest) ≡ tidied z ++ tidied rest) (append_assoc front (x ∷ []) (y ∷ ys)) (cut_from (front ++ x ∷ []) y ys rest n)
+
+cut_last : (xs rest : List Item) → ends_with_load xs ≡ false → tidied (xs ++ rest) ≡ tidied xs ++ tidied rest
+cut_last [] rest n = refl
+cut_last (x ∷ xs) rest n = cut_from [] x xs rest n
+
+pub cut_first : (xs rest : List Item) → begins_with_load rest ≡ false → tidied (xs ++ rest) ≡ tidied xs ++ tidied rest
+cut_first xs [] n = ap tidied (append-nil xs) ∙ sym (append-nil (tidied xs))
+cut_first xs (bar ∷ rest) n = cut_at xs rest bar n ∙ ap (λ z. tidied xs ++ z) (sym (cut_at [] rest bar n))
+
+-- where no load is sorted across, both sides are tidied apart
+cut_between : (xs ys : List Item) → (ends_with_load xs && begins_with_load ys) ≡ false → tidied (xs ++ ys) ≡ tidied xs ++ tidied ys
+cut_between xs ys n = elim (cases_Bool (ends_with_load xs)) [
+  | inl t ↦ let m : begins_with_load ys ≡ false = rw t at n in cut_first xs ys m
+  | inr f ↦ cut_last xs ys f
+]
+
+begins_fewer : (b : Bool) (n : ℕ) (xs : List Item) → (b && begins_with_load xs) ≡ false → (b && begins_with_load (take n xs)) ≡ false
+begins_fewer false n xs h = refl
+begins_fewer true zero xs h = refl
+begins_fewer true (suc n) [] h = refl
+begins_fewer true (suc n) (x ∷ xs) h = h
+
+-- ---- pieces of a tidy file are tidy
+
+abbrev pub InOrder : List Item → Type 0
+InOrder = Ordered load_precedes
+
+starts_take : (x : Item) (n : ℕ) (xs : List Item) → Starts load_precedes x xs → Starts load_precedes x (take n xs)
+starts_take x zero xs s = tt
+starts_take x (suc n) [] s = tt
+starts_take x (suc n) (y ∷ ys) s = s
+
+pub ordered_take : (n : ℕ) (xs : List Item) → InOrder xs → InOrder (take n xs)
+ordered_take zero xs o = tt
+ordered_take (suc n) [] o = tt
+ordered_take (suc n) (x ∷ xs) o = (starts_take x n xs o.0, ordered_take n xs o.1)
+
+pub ordered_drop : (n : ℕ) (xs : List Item) → InOrder xs → InOrder (drop n xs)
+ordered_drop zero xs o = o
+ordered_drop (suc n) [] o = tt
+ordered_drop (suc n) (x ∷ xs) o = ordered_drop n xs o.1
+
+-- what tidying keeps of a tidy file
+pub record IsTidy (items : List Item) : Type 0 where
+  pub each_stays : each items ≡ items
+  pub ordered : InOrder items
+
+pub tidy_is : (items : List Item) → tidied items ≡ items → IsTidy items
+tidy_is items t =
+    let fixed : IsFixed items = subst IsFixed t (tidied_fixed items) in
+    record {
+      each_stays = ap flags (sym (five_composed items) ∙ statements_fixed items fixed) ∙ fixed.by_flags;
+      ordered = subst InOrder fixed.by_loads (sort_ordered load_precedes load_one_way items);
+    }
+
+is_tidied : (items : List Item) → IsTidy items → tidied items ≡ items
+is_tidied items t = by_items items ∙ (ap loads t.each_stays ∙ ordered_stays load_precedes items t.ordered)
+
+pub front_stays : (n : ℕ) (items : List Item) → IsTidy items → IsTidy (take n items)
+front_stays n items t = record {
+  each_stays = ap flags (sym (take-map (on_statement (taken after_passes)) n items)) ∙ (sym (take-map item_with_flags n (on_taken after_passes items)) ∙ ap (take n) t.each_stays);
+  ordered = ordered_take n items t.ordered;
+}
+
+pub back_stays : (n : ℕ) (items : List Item) → IsTidy items → IsTidy (drop n items)
+back_stays n items t = record {
+  each_stays = ap flags (sym (drop-map (on_statement (taken after_passes)) n items)) ∙ (sym (drop-map item_with_flags n (on_taken after_passes items)) ∙ ap (drop n) t.each_stays);
+  ordered = ordered_drop n items t.ordered;
+}
+
+-- ---- the items of a window, with others after them
+
+module _ (w : Window) (items back : List Item) (within : w.from + w.come ≤ length items) where
+  abbrev pub middle : List Item
+  middle = tidied (take w.come (drop w.from items))
+
+  abbrev put : List Item
+  put = take w.from items ++ middle ++ back
+
+  front_length : length (take w.from items) ≡ w.from
+  front_length = length-take-le w.from items (omega (arith, within))
+
+  pub both_length : length (take w.from items ++ middle) ≡ w.from + w.come
+  both_length =
+      omega (
+        arith,
+        length-append (take w.from items) middle,
+        front_length,
+        tidied_length (take w.come (drop w.from items)),
+        length-take-le w.come (drop w.from items) (omega (arith, length-drop w.from items, within)),
+      )
+
+  put_length : length put ≡ (w.from + w.come) + length back
+  put_length = length-append (take w.from items ++ middle) back ∙ ap (λ n. n + length back) both_length
+
+  put_front : take w.from put ≡ take w.from items
+  put_front = ap (take w.from) (append_assoc (take w.from items) middle back) ∙ take_at (take w.from items) (middle ++ back) w.from front_length
+
+  put_back : drop (w.from + w.come) put ≡ back
+  put_back = drop_at (take w.from items ++ middle) back (w.from + w.come) both_length
+
+-- ---- all windows
+
+over_length : (ws : List Window) (items : List Item) → AreWithin ws items → length (tidied_over ws items) ≡ length items
+over_length [] items h = refl
+over_length (w ∷ ws) items h =
+    let back : List Item = drop (w.from + w.come) items in
+    omega (arith, put_length w items (tidied_over ws back) h.0, over_length ws back h.1, length-drop (w.from + w.come) items, h.0)
+
+pub over_within : (ws : List Window) (items : List Item) → AreWithin ws items → AreWithin ws (tidied_over ws items)
+over_within [] items h = tt
+over_within (w ∷ ws) items h =
+    let back : List Item = drop (w.from + w.come) items in (
+      omega (arith, put_length w items (tidied_over ws back) h.0),
+      subst (AreWithin ws) (sym (put_back w items (tidied_over ws back) h.0)) (over_within ws back h.1),
+    )
+
+pub over_still : (ws : List Window) (before items : List Item) → AreOver ws before items → AreOver ws before (tidied_over ws items)
+over_still [] before items h = h
+over_still (w ∷ ws) before items h =
+    let back : List Item = drop (w.from + w.come) items in
+    let others : List Item = drop (w.from + w.gone) before in (
+      h.0,
+      omega (arith, put_length w items (tidied_over ws back) h.1),
+      put_front w items (tidied_over ws back) h.1 ∙ h.2,
+      subst (AreOver ws others) (sym (put_back w items (tidied_over ws back) h.1)) (over_still ws others back h.3),
+    )
+
+pub over_proper : (ws : List Window) (items : List Item) → IsProper items → IsProper (tidied_over ws items)
+over_proper [] items h = h
+over_proper (w ∷ ws) items h =
+    let middle : List Item = take w.come (drop w.from items) in
+    let back : List Item = drop (w.from + w.come) items in
+    All-append IsProperItem (take w.from items ++ tidied middle) (tidied_over ws back)
+    (All-append IsProperItem (take w.from items) (tidied middle) (All-take IsProperItem w.from items h)
+    (tidied_proper middle (All-take IsProperItem w.come (drop w.from items) (All-drop IsProperItem w.from items h))))
+    (over_proper ws back (All-drop IsProperItem (w.from + w.come) items h))
+
+-- where no load is sorted across a border, tidying what came by itself is tidying the whole
+over_tidied : (ws : List Window) (before items : List Item) → IsTidy before → AreOver ws before items → any_touched ws items ≡ false → tidied_over ws items ≡ tidied items
+over_tidied [] before items t h n = sym (is_tidied items (subst IsTidy h t))
+over_tidied (w ∷ ws) before items t h n =
+    let front : List Item = take w.from items in
+    let middle : List Item = take w.come (drop w.from items) in
+    let back : List Item = drop (w.from + w.come) items in
+    let none : ((touches w.from items || touches (w.from + w.come) items) ≡ false) × (any_touched ws back ≡ false) = or_parts (touches w.from items || touches (w.from + w.come) items) _ n in
+    let sides : (touches w.from items ≡ false) × (touches (w.from + w.come) items ≡ false) = or_parts (touches w.from items) _ none.0 in
+    let rest : tidied_over ws back ≡ tidied back = over_tidied ws (drop (w.from + w.gone) before) back (back_stays (w.from + w.gone) before t) h.3 none.1 in
+    let own : tidied front ≡ front = is_tidied front (subst IsTidy (sym h.2) (front_stays w.from before t)) in
+    let two : tidied (take (w.from + w.come) items) ≡ tidied front ++ tidied middle =
+    ap tidied (take-add w.from w.come items) ∙ cut_between front middle (begins_fewer (ends_with_load front) w.come (drop w.from items) sides.0) in
+    both (λ z zs. z ++ tidied middle ++ zs) (sym own) rest
+    ∙ (ap (λ z. z ++ tidied back) (sym two) ∙ (sym (cut_between (take (w.from + w.come) items) back sides.1) ∙ ap tidied (take-append-drop (w.from + w.come) items)))
+
+pub apart_tidied : (ws vs : List Window) (old new : List Item) → AreSetApart ws vs old → new ≡ tidied_over vs old → AreTidied ws vs old new
+apart_tidied ws vs old new a e = record {
+  within = subst (AreWithin vs) (sym e) (over_within vs old a.within);
+  tidy = λ before t o. e ∙ over_tidied vs before old (tidy_is before t) (a.over before o) a.apart;
+  over = λ before t o. subst (AreOver vs before) (sym e) (over_still vs before old (a.over before o));
+}
+
+-- ---- the last of some items
+
+pub last_load : (front : List Item) (item : Item) → ends_with_load (front ++ item ∷ []) ≡ is_run_load item
+last_load [] item = refl
+last_load (x ∷ []) item = refl
+last_load (x ∷ y ∷ ys) item = last_load (y ∷ ys) item

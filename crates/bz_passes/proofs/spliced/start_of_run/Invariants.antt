@@ -1,8 +1,0 @@
-use Rattle.std.proofs.Common.{◌≤◌}
-use Rattle.bz_passes.proofs.spliced.start_of_run.Given as goal
-
-abbrev pub invariant-loop-start : goal.invariant-loop-start
-invariant-loop-start l = l.start ≤ l.at
-
-abbrev pub decreases-loop-start : goal.decreases-loop-start
-decreases-loop-start l = l.start

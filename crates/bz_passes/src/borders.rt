@@ -1,0 +1,141 @@
+//! Where windows of items begin and end: whether loads are sorted across, and wider windows that no load is sorted into or out of.
+ghost use Rattle.std.specs.Prelude.{◌≡◌, ◌≤◌, ◌<◌, ◌+◌, ◌-◌, ◌∷◌, [], false, drop, length, take, IfOk, IsTrue, OnOk};
+ghost use Rattle.bz_value.specs.Windows.{AreWithin};
+ghost use Rattle.bz_passes.specs.Joined.{begins_with_load as begins_so};
+ghost use Rattle.bz_passes.specs.private.Borders.{AreSetApart, all_joined, any_touched as any_so, ends_with_load as ends_so, touches as touches_so};
+
+use crate::runs::InRuns;
+use bz_items::{Items, Memory};
+use bz_value::{Item, Window};
+use std::alloc::{AllocError, Global};
+
+/// Whether the first item is a load that is sorted with its neighbours.
+pub fn begins_with_load(items: &[Item]) -> bool
+    ensures load { result ≡ begins_so items.now }
+    ensures some { IsTrue result → 0 < length items.now }
+{
+    match items.split_first() {
+        Some((first, _)) => first.is_comparable(),
+        None => false,
+    }
+}
+
+/// Whether the last item is one.
+fn ends_with_load(items: &[Item]) -> bool
+    ensures load { result ≡ ends_so items.now }
+    ensures some { IsTrue result → 0 < length items.now }
+{
+    match items.split_last() {
+        Some((last, _)) => last.is_comparable(),
+        None => false,
+    }
+}
+
+/// Whether such loads are on both sides of a place.
+fn touches(items: &[Item], at: usize) -> bool
+    requires { at ≤ length items.now }
+    ensures { result ≡ touches_so at items.now }
+{
+    let (front, back) = items.split_at(at);
+    ends_with_load(front) && begins_with_load(back)
+}
+
+/// Whether they are on both sides of where any window begins or ends.
+fn any_touched(items: &[Item], windows: &[Window]) -> bool
+    requires { AreWithin windows.now items.now }
+    ensures { result ≡ false → any_so windows.now items.now ≡ false }
+{
+    let mut end = 0;
+    for window in windows {
+        let from = end + window.from;
+        end = from + window.come;
+        if touches(items, from) || touches(items, end) {
+            return true;
+        }
+    }
+    false
+}
+
+/// Where the loads begin that are sorted together and reach up to a place; that place itself where none do.
+fn start_of_run(items: &[Item], at: usize) -> usize
+    requires { at ≤ length items.now }
+    ensures bound { result ≤ at }
+    ensures whole { ends_so (take result items.now) ≡ false }
+{
+    let mut start = at;
+    while ends_with_load(items.split_at(start).0) {
+        start -= 1;
+    }
+    start
+}
+
+/// Where the loads end that are sorted together and begin at a place; that place itself where none do.
+fn end_of_run(items: &[Item], at: usize) -> usize
+    requires { at ≤ length items.now }
+    ensures bound { (at ≤ result) × (result ≤ length items.now) }
+    ensures whole { begins_so (drop result items.now) ≡ false }
+{
+    let mut end = at;
+    while begins_with_load(items.split_at(end).1) {
+        end += 1;
+    }
+    end
+}
+
+/// The sum. The error: no list is that long.
+fn sum(count: usize, other: usize) -> Result<usize, Memory>
+    ensures { IfOk result (λ all. all ≡ count + other) }
+{
+    count.checked_add(other).ok_or(AllocError)
+}
+
+/// All windows from the first to the last, and the items between them, as one. The error: no list is that long.
+fn joined(first: Window, others: &[Window]) -> Result<Window, Memory>
+    ensures { IfOk result (λ all. all ≡ all_joined first others.now) }
+{
+    let mut all = first;
+    for next in others {
+        all.gone = sum(sum(all.gone, next.from)?, next.gone)?;
+        all.come = sum(sum(all.come, next.from)?, next.come)?;
+    }
+    Ok(all)
+}
+
+/// The window that is wider by the loads that are sorted together and reach into it. The error: no list is that long.
+fn widened(items: &[Item], window: Window) -> Result<Window, Memory>
+    requires { window.from + window.come ≤ length items.now }
+    ensures { IfOk result (λ wide. AreSetApart (window ∷ []) (wide ∷ []) items.now) }
+{
+    let start = start_of_run(items, window.from);
+    let come = end_of_run(items, window.from + window.come) - start;
+    let gone = sum(window.gone, come - window.come)?;
+    Ok(Window {
+        from: start,
+        gone,
+        come,
+    })
+}
+
+/// Makes the windows ones that no load is sorted into or out of. Where loads are on both sides of a border, that is one window from
+/// the first to the last, wider by these loads. The error: memory was refused; the windows are then as before.
+pub(crate) fn set_apart(
+    alloc: Global,
+    items: &[Item],
+    windows: &mut Items<Window>,
+) -> Result<(), Memory>
+    requires { AreWithin windows.old items.now }
+    ensures { OnOk result (AreSetApart windows.old windows.new items.now) }
+{
+    if !any_touched(items, windows.as_slice()) {
+        return Ok(());
+    }
+    let Some((first, others)) = windows.as_slice().split_first() else {
+        return Ok(());
+    };
+    let all = joined(*first, others)?;
+    let wide = widened(items, all)?;
+    let mut one = Items::new(alloc);
+    one.push(wide)?;
+    *windows = one;
+    Ok(())
+}

@@ -1,0 +1,216 @@
+//! Tidying a file in which items came in the place of others of a tidy one.
+ghost use Rattle.std.specs.Prelude.{◌≡◌, ◌≤◌, ◌<◌, ◌+◌, ◌++◌, ◌∷◌, List, None, Ok, false, true, drop, length, slice_range, take, IfOk, IfSome, IsTrue, OnOk};
+ghost use Rattle.std.specs.List.{AllByRecursion};
+ghost use Rattle.bz_value.specs.Windows.{AreOver, AreWithin};
+ghost use Rattle.bz_value.specs.declared.value.Item.{Item};
+ghost use Rattle.bz_passes.specs.Passes.{load_precedes, tidied as tidied_all};
+ghost use Rattle.bz_passes.specs.private.Borders.{AreTidied, tidied_over};
+ghost use Rattle.bz_passes.specs.private.Single.{IsMoved, IsPlaceOf, first_precedes as precedes_from, one_at, precedes_last as precedes_end};
+
+use crate::borders::set_apart;
+use crate::runs::InRuns;
+use crate::tidying::tidy_items;
+use bz_items::{Items, Memory};
+use bz_value::{File, Item, Window};
+use std::alloc::Global;
+use std::cmp::Ordering;
+use std::mem;
+
+/// Tidies the items between two places as if they were alone. The error: memory was refused; part of an item may then be lost.
+fn tidy_part(alloc: Global, items: &mut [Item], from: usize, to: usize) -> Result<(), Memory>
+    requires order { from ≤ to }
+    requires within { to ≤ length items.old }
+    ensures { OnOk result (items.new ≡ take from items.old ++ tidied_all (slice_range items.old from to) ++ drop to items.old) }
+{
+    tidy_items(alloc, &mut items[from..to])
+}
+
+/// The same in each window. The other items are not touched.
+fn tidy_each(alloc: Global, windows: &[Window], items: &mut [Item]) -> Result<(), Memory>
+    requires { AreWithin windows.now items.old }
+    ensures { OnOk result (items.new ≡ tidied_over windows.now items.old) }
+{
+    let mut start = 0;
+    for window in windows {
+        let from = start + window.from;
+        let end = from + window.come;
+        tidy_part(alloc, items, from, end)?;
+        start = end;
+    }
+    Ok(())
+}
+
+fn tidy_within(alloc: Global, windows: &[Window], items: &mut Items<Item>) -> Result<(), Memory>
+    requires { AreWithin windows.now items.old }
+    ensures { OnOk result (items.new ≡ tidied_over windows.now items.old) }
+{
+    tidy_each(alloc, windows, items.as_mut_slice())?;
+    Ok(())
+}
+
+/// The same in a file. The error: memory was refused; the file has no items then.
+#[tactic(auto, using(crate::proofs::Pieces::over_proper))]
+fn tidy_in(alloc: Global, windows: &[Window], file: &mut File) -> Result<(), Memory>
+    requires { AreWithin windows.now file.old }
+    ensures { OnOk result (file.new ≡ tidied_over windows.now file.old) }
+{
+    let mut items = mem::replace(&mut file.items, Items::new(alloc));
+    tidy_within(alloc, windows, &mut items)?;
+    file.items = items;
+    Ok(())
+}
+
+/// Whether the first of these is a load that comes before the second among those that are sorted together.
+fn precedes(item: &Item, other: &Item) -> bool
+    ensures { result ≡ load_precedes item.now other.now }
+{
+    item.is_comparable() && other.is_comparable() && item.compare(other) == Ordering::Less
+}
+
+/// Whether an item comes before the last of others.
+fn precedes_last(item: &Item, others: &[Item]) -> bool
+    ensures load { result ≡ precedes_end item.now others.now }
+    ensures some { IsTrue result → 0 < length others.now }
+{
+    match others.split_last() {
+        Some((last, _)) => precedes(item, last),
+        None => false,
+    }
+}
+
+/// Whether the first of others comes before an item.
+fn first_precedes(item: &Item, others: &[Item]) -> bool
+    ensures { result ≡ precedes_from item.now others.now }
+{
+    match others.split_first() {
+        Some((first, _)) => precedes(first, item),
+        None => false,
+    }
+}
+
+/// The place among others of an item that is after them: before those at their end that it precedes.
+fn place_back(item: &Item, others: &[Item]) -> usize
+    ensures bound { result ≤ length others.now }
+    ensures later { AllByRecursion (λ other. load_precedes item.now other ≡ true) (drop result others.now) }
+    ensures stops { precedes_end item.now (take result others.now) ≡ false }
+{
+    let mut at = others.len();
+    while precedes_last(item, others.split_at(at).0) {
+        at -= 1;
+    }
+    at
+}
+
+/// The place to which the item at this place is to be moved; none where it isn't known to be one before it.
+fn place_of_single(file: &File, from: usize) -> Option<usize>
+    requires { from < length file.now }
+    ensures { IfSome result (λ to. (to ≤ from) × ((item : Item) (rest : List Item) → drop from file.now ≡ item ∷ rest → IsPlaceOf item to (take from file.now) rest)) }
+{
+    let (front, rest) = file.items.as_slice().split_at(from);
+    let (item, rest) = rest.split_first()?;
+    if first_precedes(item, rest) {
+        return None;
+    }
+    Some(place_back(item, front))
+}
+
+/// The items with the one at a place moved to another before it. The error: memory was refused; the items are then lost.
+fn moved_back(items: Items<Item>, from: usize, to: usize) -> Result<Items<Item>, Memory>
+    requires order { to ≤ from }
+    requires within { from < length items }
+    ensures { IfOk result (λ moved. IsMoved from to items moved) }
+{
+    let mut items = items.into_vec();
+    let item = items.remove(from);
+    items.insert(to, item)?;
+    Ok(Items::from_vec(items))
+}
+
+/// Moves the item at a place of a file to one before it. The error: memory was refused; the file has no items then.
+fn move_back(alloc: Global, file: &mut File, from: usize, to: usize) -> Result<(), Memory>
+    requires order { to ≤ from }
+    requires within { from < length file.old }
+    ensures { OnOk result (IsMoved from to file.old file.new) }
+{
+    let items = mem::replace(&mut file.items, Items::new(alloc));
+    file.items = moved_back(items, from, to)?;
+    Ok(())
+}
+
+/// Tidies the one item that came in a window by itself, and moves it to its place among the loads before it, which is the answer.
+/// None where that isn't known: then it is tidied and stays. The error: memory was refused; the file has no items then.
+fn tidy_single(
+    alloc: Global,
+    from: usize,
+    gone: usize,
+    file: &mut File,
+) -> Result<Option<usize>, Memory>
+    requires { from + 1 ≤ length file.old }
+    ensures some { IfOk result (λ found. IfSome found (λ to. AreTidied (one_at from gone) (one_at to gone) file.old file.new)) }
+    ensures none { result ≡ Ok None → file.new ≡ tidied_over (one_at from gone) file.old }
+{
+    let window = Window {
+        from,
+        gone,
+        come: 1,
+    };
+    tidy_in(alloc, &[window], file)?;
+    let Some(to) = place_of_single(file, from) else {
+        return Ok(None);
+    };
+    if to == from {
+        return Ok(Some(from));
+    }
+    if gone != 0 {
+        return Ok(None);
+    }
+    move_back(alloc, file, from, to)?;
+    Ok(Some(to))
+}
+
+/// The only window, where one item came in it.
+fn single(windows: &[Window]) -> Option<Window>
+    ensures { IfSome result (λ window. (windows.now ≡ one_at window.from window.gone) × (window.come ≡ 1)) }
+{
+    match windows {
+        [window] if window.come == 1 => Some(*window),
+        _ => None,
+    }
+}
+
+/// Tidies the items of the windows, which are made such that no load is sorted into or out of them. The error: memory was refused; the
+/// file has no items then.
+fn tidy_apart(alloc: Global, file: &mut File, windows: &mut Items<Window>) -> Result<(), Memory>
+    requires { AreWithin windows.old file.old }
+    ensures { OnOk result (AreTidied windows.old windows.new file.old file.new) }
+{
+    set_apart(alloc, file.items.as_slice(), windows)?;
+    tidy_in(alloc, windows.as_slice(), file)?;
+    Ok(())
+}
+
+/// Tidies a file in which, at these windows, items came in the place of those of a tidy one: what came is tidied, window by window, and
+/// what is elsewhere is not touched, since it is tidy and stays where it is. A load that came alone is moved to its place. Other
+/// windows next to loads that are sorted with theirs become one, which holds these too. The windows are then where the file
+/// differs from the tidy one. The error: memory was refused; the file has no items then.
+pub fn tidy_windows(
+    alloc: Global,
+    file: &mut File,
+    windows: &mut Items<Window>,
+) -> Result<(), Memory>
+    requires { AreWithin windows.old file.old }
+    ensures within { OnOk result (AreWithin windows.new file.new) }
+    ensures tidied { OnOk result ((before : List Item) → tidied_all before ≡ before → AreOver windows.old before file.old → file.new ≡ tidied_all file.old) }
+    ensures over { OnOk result ((before : List Item) → tidied_all before ≡ before → AreOver windows.old before file.old → AreOver windows.new before file.new) }
+{
+    let Some(window) = single(windows.as_slice()) else {
+        tidy_apart(alloc, file, windows)?;
+        return Ok(());
+    };
+    if let Some(from) = tidy_single(alloc, window.from, window.gone, file)? {
+        *windows.at_mut(0) = Window { from, ..window };
+        return Ok(());
+    }
+    tidy_apart(alloc, file, windows)?;
+    Ok(())
+}
