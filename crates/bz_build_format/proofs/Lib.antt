@@ -6,3 +6,4 @@ pub mod TreeWords
 pub mod WrittenPrograms
 pub mod Chunking
 pub mod BzlFormatting
+pub mod Layouts

@@ -13,7 +13,7 @@ use Rattle.bz_build_format.specs.declared.formatter.FormatFault.{FormatFault}
 use Rattle.bz_build_format.specs.declared.formatter.FormatFault.TheVariants.{Unread, Memory}
 
 -- a fault of the text says that it is refused
-refused_text : (Refused : Type 0) (fault : ReadFault) → (IsOfText fault → Refused) → (fault ≡ f.Memory → ⊥) → Refused
+pub refused_text : (Refused : Type 0) (fault : ReadFault) → (IsOfText fault → Refused) → (fault ≡ f.Memory → ⊥) → Refused
 refused_text Refused f.Memory refused memory = absurd (memory refl)
 refused_text Refused _ refused memory = refused tt
 

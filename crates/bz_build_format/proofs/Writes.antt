@@ -2,9 +2,7 @@
 use Rattle.std.proofs.Common.{◌∙◌, ◌≡◌, ◌≤◌, ◌<◌, ℕ, List, length, true, false, Bool, refl, [], Option, None, nat_lt, subst, sym, ap, arith, if◌then◌else◌}
 use Rattle.std.proofs.lemmas.Bool.Decides.{nat_tests}
 use Rattle.std.proofs.lemmas.Bool.{ltb-false, false≢true}
-use Rattle.bz_grammar.specs.declared.tree.Node.{Node}
-use Rattle.bz_grammar.specs.Spell.{spell_node, depth_of, depth_limit, limit}
-use Rattle.bz_grammar.specs.Legal.{Reads}
+use Rattle.bz_grammar.specs.Spell.{depth_of, depth_limit, limit}
 use Rattle.bz_value.specs.declared.value.Item.{Item}
 use Rattle.bz_items.specs.Characters.{Bytes}
 use Rattle.bz_layout.specs.Written.{layout}
@@ -47,13 +45,6 @@ pub written_given : (items tidy : List Item) (text : Bytes) → tidy ≡ tidied 
 written_given items tidy text tidy_is text_is long deep printed =
     ap (λ (xs : List Item). limited (depth_of (laid_out xs)) (layout xs) printed) (sym tidy_is)
     ∙ fitting (depth_of (laid_out tidy)) (layout tidy) printed long deep ∙ ap (λ (t : Bytes). gives t printed) (sym text_is)
-
--- the spelling of the tree that the writer gives
-pub written_spelled : (items tidy : List Item) (tree : Node) → tidy ≡ tidied items → tree ≡ laid_out tidy → spell_node tree ≡ layout tidy → Reads (spell_node tree) tree
-    → (printed : Option Bytes) → written items printed ≡ gives (spell_node tree) printed
-written_spelled items tidy tree tidy_is laid_out_is spelled reads printed =
-    written_given items tidy (spell_node tree) tidy_is spelled (subst (λ (t : Bytes). length t ≤ limit) spelled reads.2)
-    (subst (λ (t : Node). depth_of t ≤ depth_limit) laid_out_is reads.0.depth) printed
 
 -- ---- what is known where a text is given
 

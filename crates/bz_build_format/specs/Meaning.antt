@@ -4,6 +4,7 @@ use Rattle.bz_grammar.specs.declared.tree.Node.{Node}
 use Rattle.bz_grammar.specs.Spell.{depth_of, depth_limit, limit}
 use Rattle.bz_grammar.specs.Legal.{Reads}
 use Rattle.bz_value.specs.declared.value.Item.{Item}
+use Rattle.bz_value.specs.Proper.{IsProper}
 use Rattle.bz_items.specs.Characters.{Bytes}
 use Rattle.bz_hosts.specs.View.{view_of}
 use Rattle.bz_layout.specs.Written.{layout}
@@ -11,6 +12,12 @@ use Rattle.bz_layout.specs.LaidOut.{laid_out}
 use Rattle.bz_passes.specs.Passes.{tidied}
 use Rattle.bz_value.specs.declared.refusal.Refusal.{Refusal}
 use Rattle.bz_value.specs.declared.refusal.Refusal.TheVariants.{TooLarge, TooDeep}
+
+-- The tree is the layout of these items, which are tidy.
+pub record IsWritten (items : List Item) (tree : Node) : Type 0 where
+  pub proper : IsProper items
+  pub tidy : tidied items ≡ items
+  pub laid_out : laid_out items ≡ tree
 
 -- A text, and what is printed where something is; or a refusal.
 pub data Meaning : Type 0 where

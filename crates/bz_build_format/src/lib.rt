@@ -6,6 +6,7 @@ mod chunks;
 mod cut;
 mod formatter;
 mod laws;
+mod setting;
 mod writing;
 
 pub use cut::{CHUNK, TRIES, Unseen, chunk_end, why_unseen};
@@ -14,4 +15,5 @@ pub use laws::{
     bzl_views_keep_programs, formatted_bzl_once, formatted_once, tokens_kept, views_keep_programs,
     words_kept, writing_keeps_program,
 };
-pub use writing::{formatted, reads_back, written, written_text};
+pub use setting::set;
+pub use writing::{reads_back, written_text};

@@ -1,15 +1,15 @@
-//! Trees and texts of new values, and what they say.
-ghost use Rattle.std.specs.Prelude.{◌≡◌, ◌⊎◌, Option, None, IfOk, IfErr};
+//! Texts of new values, and what trees say.
+ghost use Rattle.std.specs.Prelude.{◌≡◌, ◌⊎◌, Option, IfOk, IfErr};
 ghost use Rattle.bz_items.specs.Characters.{Bytes};
 ghost use Rattle.bz_grammar.specs.Legal.{Reads};
 ghost use Rattle.bz_grammar.specs.Spell.{spell_node};
 ghost use Rattle.bz_hosts.specs.View.{view_of};
-ghost use Rattle.bz_build_format.specs.Meaning.{gives, refuses, written, Formats};
+ghost use Rattle.bz_build_format.specs.Meaning.{gives, refuses, written};
 
 use bz_grammar::Tree;
-use bz_hosts::{into_view, view};
+use bz_hosts::into_view;
 use bz_items::{Memory, Text};
-use bz_layout::{SetFault, set_from, text_of_file};
+use bz_layout::{SetFault, text_of_file};
 use bz_passes::tidy;
 use bz_rule::take_apart;
 use bz_value::{File, Refusal};
@@ -29,24 +29,6 @@ pub(crate) fn value_of(alloc: Global, tree: Tree) -> Result<File, Memory>
     into_view(alloc, tree)
 }
 
-/// The tree of a new value: it spells the layout of the value tidied.
-#[tactic(auto, using(crate::proofs::Writes::written_too_large, crate::proofs::Writes::written_too_deep, crate::proofs::Writes::written_spelled))]
-pub fn written(alloc: Global, file: File) -> Result<Tree, Refusal>
-    ensures ok { IfOk result (λ tree. (printed : Option Bytes) → written file printed ≡ gives (spell_node tree) printed) }
-    ensures err { IfErr result (λ refusal. ((printed : Option Bytes) → written file printed ≡ refuses refusal) ⊎ (refusal ≡ Refusal.Memory)) }
-{
-    let tidied = tidy(alloc, file)?;
-    match set_from(alloc, tidied) {
-        Ok(tree) => {
-            reads_back(&tree);
-            Ok(tree)
-        }
-        Err(SetFault::Memory) => Err(Refusal::Memory),
-        Err(SetFault::TooLarge) => Err(Refusal::TooLarge),
-        Err(SetFault::TooDeep) => Err(Refusal::TooDeep),
-    }
-}
-
 /// The text of a new value, which has about this many bytes: the layout of the value tidied. No tree is made for it.
 #[tactic(auto, using(crate::proofs::Writes::written_too_large, crate::proofs::Writes::written_too_deep, crate::proofs::Writes::written_given))]
 pub fn written_text(alloc: Global, file: File, about: usize) -> Result<Text, Refusal>
@@ -62,14 +44,4 @@ pub fn written_text(alloc: Global, file: File, about: usize) -> Result<Text, Ref
         Err(SetFault::TooLarge) => Err(Refusal::TooLarge),
         Err(SetFault::TooDeep) => Err(Refusal::TooDeep),
     }
-}
-
-/// The tree of the formatted text of the text of a tree.
-pub fn formatted(alloc: Global, tree: &Tree) -> Result<Tree, Refusal>
-    ensures ok { IfOk result (λ new. Formats (spell_node tree.now) (gives (spell_node new) None)) }
-    ensures err { IfErr result (λ refusal. Formats (spell_node tree.now) (refuses refusal) ⊎ (refusal ≡ Refusal.Memory)) }
-{
-    reads_back(tree);
-    let value = view(alloc, tree)?;
-    written(alloc, value)
 }

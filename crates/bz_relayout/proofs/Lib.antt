@@ -1,4 +1,3 @@
-pub mod Renewals
-pub mod Rereadings
-pub mod Rooms
-pub mod Resplicings
+pub mod Nodes
+pub mod Lines
+pub mod Windowed

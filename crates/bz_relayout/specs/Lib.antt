@@ -1,2 +1,1 @@
-pub mod Relaid
 pub mod private

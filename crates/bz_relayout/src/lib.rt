@@ -1,12 +1,8 @@
-//! A tree that was written, renewed where statements of its file were exchanged, or adjacent items came in the place of
-//! others: only these are tidied and laid out.
+//! Parts of a tree that come anew, read of their texts: as few lines as differ.
 #![tactic(auto)]
 
-mod renewing;
-mod rereading;
-mod room;
-mod splicing;
+mod ends;
+mod reading;
+mod whole_lines;
 
-pub use bz_layout::{Relaid, Respliced};
-pub use renewing::{Renewed, renew};
-pub use splicing::{RenewedWindow, renew_spliced, renew_whole};
+pub use reading::{is_mostly_other, read_text, read_windows};

@@ -14,7 +14,7 @@ use Rattle.bz_layout.specs.Appended.{gap_below}
 use Rattle.bz_layout.specs.LaidOut.{laid_out}
 use Rattle.bz_layout.specs.Written.{layout}
 use Rattle.bz_passes.specs.Passes.{tidied}
-use Rattle.bz_passes.specs.Spliced.{begins_with_load}
+use Rattle.bz_passes.specs.Joined.{begins_with_load}
 use Rattle.bz_bzl_layout.specs.Joined.{bzl_gap_below}
 use Rattle.bz_bzl_layout.specs.LaidOut.{bzl_laid_out}
 use Rattle.bz_bzl_layout.specs.Layout.{bzl_layout}

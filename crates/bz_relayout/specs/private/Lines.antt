@@ -1,0 +1,68 @@
+-- Lines that are read by themselves, and windows of texts.
+use Rattle.std.specs.Prelude.{ℕ, ◌≡◌, ◌≤◌, ◌+◌, ◌-◌, ◌⊎◌, List, [], ◌∷◌, ◌++◌, length, take, drop}
+use Rattle.std.specs.List.{flat_map}
+use Rattle.bz_items.specs.Characters.{Bytes, line_feed}
+use Rattle.bz_lex.specs.declared.leaf.Leaf.{Leaf}
+use Rattle.bz_grammar.specs.declared.tree.Node.{Node}
+use Rattle.bz_grammar.specs.declared.tree.Part.{Part}
+use Rattle.bz_grammar.specs.declared.tree.Part.TheVariants as p
+use Rattle.bz_grammar.specs.Joined.{AreWholeLines, file_with}
+use Rattle.bz_grammar.specs.Legal.{Reads}
+use Rattle.bz_grammar.specs.Spell.{limit, spell_part}
+use Rattle.bz_grammar.specs.Split.{bare_end}
+use Rattle.bz_edit.specs.declared.part_windows.PartWindow.{PartWindow}
+use Rattle.bz_edit.specs.Windows.{AreThere, window_parts}
+use Rattle.bz_layout.specs.declared.writer.TextWindow.{TextWindow}
+
+-- the part is a line feed, with what is before it
+abbrev pub IsEndOfLine : Part → Type 0
+IsEndOfLine x = (l : Leaf) × (x ≡ p.Leaf l) × (l.token ≡ line_feed ∷ [])
+
+-- the last of the parts is
+abbrev pub EndInLineFeed : List Part → Type 0
+EndInLineFeed ps = (front : List Part) × (x : Part) × (ps ≡ front ++ x ∷ []) × IsEndOfLine x
+
+-- the part is a line that ends with one
+abbrev pub IsWholeLine : Part → Type 0
+IsWholeLine x = (line : Node) × (x ≡ p.Node line) × EndInLineFeed line.parts
+
+-- what parts spell
+abbrev pub spelled_parts : List Part → Bytes
+spelled_parts ps = flat_map spell_part ps
+
+-- the text reads as a file of these whole lines, with nothing between the last of them and the end
+abbrev pub ReadAsLines : Bytes → List Part → Type 0
+ReadAsLines text lines = AreWholeLines lines × Reads text (file_with (lines ++ bare_end ∷ []))
+
+-- the first parts, with those of a window among them in their places
+abbrev pub put_in : ℕ → PartWindow → List Part → List Part
+put_in reach w parts = take w.from parts ++ (w.parts ++ take (reach - (w.from + w.gone)) (drop (w.from + w.gone) parts))
+
+-- the window is among the first parts, and with it the text is these as lines, if it isn't too long
+abbrev pub IsPutAmong : ℕ → List Part → PartWindow → Bytes → Type 0
+IsPutAmong reach parts w text = (w.from + w.gone ≤ reach) × (length text ≤ limit → ReadAsLines text (put_in reach w parts))
+
+-- with these windows the text reads as the file of the parts
+abbrev pub AreRead : Bytes → List PartWindow → List Part → Type 0
+AreRead text ws parts = AreThere ws parts × Reads text (file_with (window_parts ws parts))
+
+-- the text of parts, with that of each window in the place of as many as it says
+abbrev pub text_with : List TextWindow → List Part → Bytes
+text_with [] parts = spelled_parts parts
+text_with (t ∷ ts) parts = spelled_parts (take t.from parts) ++ (t.text ++ text_with ts (drop (t.from + t.gone) parts))
+
+-- each window is among the parts that are left after the one before it
+abbrev pub AreAmong : List TextWindow → List Part → Type 0
+AreAmong [] parts = Unit {0}
+AreAmong (t ∷ ts) parts = (t.from + t.gone ≤ length parts) × AreAmong ts (drop (t.from + t.gone) parts)
+
+-- the windows with this many more parts before the first
+abbrev pub windows_moved : ℕ → List PartWindow → List PartWindow
+windows_moved n [] = []
+windows_moved n (w ∷ ws) = record { from = n + w.from; gone = w.gone; parts = w.parts } ∷ ws
+
+-- After a window among the first `reach` parts, before which `kept` stay: it changes nothing and all of them stay, or it is the last window.
+abbrev pub IsPushed : List PartWindow → ℕ → PartWindow → ℕ → List PartWindow → ℕ → Type 0
+IsPushed before kept w reach after stay =
+    ((w.gone ≡ 0) × (w.parts ≡ []) × (after ≡ before) × (stay ≡ kept + reach))
+    ⊎ ((after ≡ before ++ windows_moved kept (w ∷ [])) × (stay ≡ reach - (w.from + w.gone)))
