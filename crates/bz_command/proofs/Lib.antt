@@ -1,7 +1,7 @@
 pub mod CommandRows
-pub mod EachRule
 pub mod LawComments
 pub mod LinesMatter
+pub mod OneMore
 pub mod Pieces
 pub mod ProperEffects
 pub mod RunningItems

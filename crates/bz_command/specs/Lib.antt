@@ -1,7 +1,6 @@
 pub mod Effect
 pub mod Laws
 pub mod Prints
-pub mod Renewed
 pub mod Table
 pub mod Worked
 pub mod private

@@ -8,6 +8,7 @@ mod printing;
 mod ruling;
 mod running;
 mod targets;
+mod windows;
 
 pub use bz_command_syntax::{Command, CommandFault};
 pub use bz_value::Refusal;
@@ -16,7 +17,7 @@ pub use laws::{
     commands_are_listed, comments_stay, effects_stay_proper, lines_matter, worked_command_effects,
     worked_effects,
 };
-pub use outcome::{Extent, Outcome, Ran, Spliced};
+pub use outcome::{Outcome, Ran};
 pub use printing::looks_at_lines;
 pub use ruling::Work;
 pub use running::{run, run_in, run_named};

@@ -1,19 +1,19 @@
 //! What a command makes of a rule, and of the items of a file: of the rules that are marked, with a new rule, without some, and of loads.
 //! Items that stay are moved.
-ghost use Rattle.std.specs.Prelude.{◌≡◌, ◌⊎◌, ◌↔◌, ◌≤◌, ◌<◌, ◌∷◌, ◌++◌, ◌&&◌, ℕ, Bool, List, true, false, length, get_or, Ok, Err, OnOk, IsTrue, IfOk, IfErr, IfSome, if◌then◌else◌};
+ghost use Rattle.std.specs.Prelude.{◌≡◌, ◌⊎◌, ◌↔◌, ◌≤◌, ◌<◌, ◌+◌, ◌∷◌, ◌++◌, [], Bool, List, length, slice_get, slice_set, Ok, Err, OnOk, IsTrue, IfOk, IfErr, IfSome, if◌then◌else◌};
 ghost use Rattle.std.specs.List.{insert, list_any, position};
 ghost use Rattle.std.specs.Option.{option_copied};
 ghost use Rattle.bz_value.specs.declared.value.Item.{Item};
-ghost use Rattle.bz_value.specs.Exchanged.{AreExchanged, IsSpliced, is_bare};
+ghost use Rattle.bz_value.specs.Windows.{AreOver, IsSpliced};
 ghost use Rattle.bz_rule.specs.Rules.{has_name};
 ghost use Rattle.bz_attribute.specs.Made.{function_of};
 ghost use Rattle.bz_comment.specs.Changes.{changed_by};
 ghost use Rattle.bz_command.specs.Effect.{is_rule, loads_changed, on_arguments, on_meant, on_rules, on_each, on_statement, new_rule_place, source, source_of, unmarked, with_function};
 ghost use Rattle.bz_command.specs.private.Looks.{arguments_by, before_in, before_in_call, made_by, one_made_by, with_list, with_list_in};
-ghost use Rattle.bz_command.specs.Renewed.{IsOfExtent, are_bare};
+ghost use Rattle.bz_command.specs.private.Growing.{IsGrown};
 
-use crate::outcome::{Extent, Spliced};
 use crate::targets::{arguments_of, is_rule};
+use crate::windows::{Growing, put_window, window_between, windows_of};
 use bz_attribute::{function_of, rule_made};
 use bz_change::{change_attributes, change_dicts};
 use bz_command_syntax::{
@@ -27,7 +27,7 @@ use bz_label::Target;
 use bz_list::change_values;
 use bz_load::{fix, new_load};
 use bz_rule::{attribute, has_name};
-use bz_value::{Expr, Item, Refusal};
+use bz_value::{Expr, Item, Refusal, Window};
 use std::alloc::Global;
 use std::mem;
 
@@ -45,12 +45,12 @@ pub struct Work<'a, 'f> {
     pub found: Option<&'f Expr>,
 }
 
-/// The items that a command makes of those of a file, whether they are the same, and in which they may be others.
+/// The items that a command makes of those of a file, and where they are others.
 #[derive(Drop)]
 pub struct Changed {
     pub items: Items<Item>,
-    pub same: bool,
-    pub extent: Extent,
+    /// None where they are the same.
+    pub windows: Items<Window>,
 }
 
 /// A list of the call that a rule is.
@@ -210,47 +210,39 @@ fn change_item(work: Work<'_, '_>, mark: bool, item: &mut Item) -> Result<bool, 
     answer
 }
 
-/// What a command makes of the items that are marked. Whether all are the same then. The first that refuses decides.
-fn on_meant(work: Work<'_, '_>, marks: &[bool], items: &mut [Item]) -> Result<bool, Refusal>
+/// A window more, unless the item at a place is the same.
+fn note(same: bool, at: usize, growing: &mut Growing) -> Result<(), Memory>
+    requires past { growing.old.past ≤ at }
+    requires room { at + 1 ≤ usize.MAX }
+    ensures grown { (before after changed : List Item) → length before ≤ usize.MAX → length changed ≤ usize.MAX → IsGrown growing.old before after → (IsTrue same → changed ≡ after) → IsSpliced at 1 1 after changed
+        → OnOk result (IsGrown growing.new before changed) }
+    ensures none { OnOk result (IsTrue same → growing.new.windows ≡ growing.old.windows) }
+    ensures past { OnOk result (growing.new.past ≤ at + 1) }
+{
+    if same {
+        return Ok(());
+    }
+    put_window(at, 1, 1, growing)
+}
+
+/// What a command makes of the items that are marked, and where they are others then. The first that refuses decides.
+fn on_meant(
+    work: Work<'_, '_>,
+    marks: &[bool],
+    items: &mut [Item],
+) -> Result<Items<Window>, Refusal>
     requires { length marks.now ≡ length items.old }
     ensures ok { OnOk result (on_meant (one_made_by work.entry) marks.now items.old ≡ Ok items.new) }
-    ensures same { IfOk result (λ same. IsTrue same ↔ (items.new ≡ items.old)) }
+    ensures windows { IfOk result (λ windows. AreOver windows items.old items.new) }
+    ensures same { IfOk result (λ windows. (windows ≡ []) ↔ (items.new ≡ items.old)) }
     ensures err { IfErr result (λ refusal. (on_meant (one_made_by work.entry) marks.now items.old ≡ Err refusal) ⊎ (refusal ≡ Refusal.Memory)) }
 {
-    let mut same = true;
+    let mut growing = Growing::new(work.alloc);
     for at in 0..items.len() {
-        let stays = change_item(work, marks[at], &mut items[at])?;
-        same = same && stays;
+        let same = change_item(work, marks[at], &mut items[at])?;
+        note(same, at, &mut growing)?;
     }
-    Ok(same)
-}
-
-/// Whether an item is a statement that is an expression alone.
-fn is_bare(item: &Item) -> bool
-    ensures { result ≡ is_bare item.now }
-{
-    matches!(item, Item::Stmt(Expr::Form(form)) if form.kind == Kind::Bare)
-}
-
-/// Whether the items that are marked are such statements.
-fn are_bare(marks: &[bool], items: &[Item]) -> bool
-    ensures { result ≡ are_bare marks.now items.now }
-{
-    marks
-        .iter()
-        .zip(items)
-        .all(|(mark, item)| !*mark || is_bare(item))
-}
-
-/// In which items a value may differ from one of which those that are marked were changed; `before`: whether these were such statements.
-fn extent_of(before: bool, marks: &[bool], items: &[Item]) -> Extent
-    ensures { (old : List Item) → ((before && are_bare marks.now items.now) ≡ true → AreExchanged marks.now old items.now) → IsOfExtent result marks.now old items.now }
-{
-    if before && are_bare(marks, items) {
-        Extent::Marked
-    } else {
-        Extent::Whole
-    }
+    Ok(growing.windows)
 }
 
 /// The value that an attribute has in the first rule of a name.
@@ -294,26 +286,20 @@ fn copied_source(operation: &Operation, items: &[Item]) -> Result<Option<Expr>, 
 fn on_found(work: Work<'_, '_>, marks: &[bool], mut items: Items<Item>) -> Result<Changed, Refusal>
     requires { length marks.now ≡ length items }
     ensures ok { IfOk result (λ changed. on_meant (made_by work.entry.command.now work.entry) marks.now items ≡ Ok changed.items) }
-    ensures same { IfOk result (λ changed. IsTrue changed.same ↔ (changed.items ≡ items)) }
-    ensures extent { IfOk result (λ changed. IsOfExtent changed.extent marks.now items changed.items) }
+    ensures windows { IfOk result (λ changed. AreOver changed.windows items changed.items) }
+    ensures same { IfOk result (λ changed. (changed.windows ≡ []) ↔ (changed.items ≡ items)) }
     ensures err { IfErr result (λ refusal. (on_meant (made_by work.entry.command.now work.entry) marks.now items ≡ Err refusal) ⊎ (refusal ≡ Refusal.Memory)) }
 {
-    let before = are_bare(marks, items.as_slice());
-    let same = on_meant(work, marks, items.as_mut_slice())?;
-    let extent = extent_of(before, marks, items.as_slice());
-    Ok(Changed {
-        items,
-        same,
-        extent,
-    })
+    let windows = on_meant(work, marks, items.as_mut_slice())?;
+    Ok(Changed { items, windows })
 }
 
 /// The same by the value that is copied, as it is before anything changes.
 fn on_each(work: Work<'_, '_>, marks: &[bool], items: Items<Item>) -> Result<Changed, Refusal>
     requires { length marks.now ≡ length items }
     ensures ok { IfOk result (λ changed. on_each work.entry.command.now work.entry.current.now marks.now items ≡ Ok changed.items) }
-    ensures same { IfOk result (λ changed. IsTrue changed.same ↔ (changed.items ≡ items)) }
-    ensures extent { IfOk result (λ changed. IsOfExtent changed.extent marks.now items changed.items) }
+    ensures windows { IfOk result (λ changed. AreOver changed.windows items changed.items) }
+    ensures same { IfOk result (λ changed. (changed.windows ≡ []) ↔ (changed.items ≡ items)) }
     ensures err { IfErr result (λ refusal. (on_each work.entry.command.now work.entry.current.now marks.now items ≡ Err refusal) ⊎ (refusal ≡ Refusal.Memory)) }
 {
     let command = work.command;
@@ -328,13 +314,23 @@ fn on_each(work: Work<'_, '_>, marks: &[bool], items: Items<Item>) -> Result<Cha
     changed
 }
 
-/// Appends an item, unless it is marked.
-fn push_unmarked(mark: bool, item: Item, kept: &mut Vec<Item>) -> Result<(), Memory>
-    ensures { (marks : List Bool) (rest : List Item) → OnOk result (kept.new.items ++ unmarked marks rest ≡ kept.old.items ++ unmarked (mark ∷ marks) (item ∷ rest)) }
+/// Appends an item; where it is marked there is a window more, of one item that is there no more.
+fn push_unmarked(
+    mark: bool,
+    item: Item,
+    kept: &mut Vec<Item>,
+    growing: &mut Growing,
+) -> Result<(), Memory>
+    requires { growing.old.past ≤ length kept.old.items }
+    ensures stay { (marks : List Bool) (rest : List Item) → OnOk result (kept.new.items ++ unmarked marks rest ≡ kept.old.items ++ unmarked (mark ∷ marks) (item ∷ rest)) }
+    ensures grown { (before rest : List Item) → length before ≤ usize.MAX → length (kept.old.items ++ item ∷ rest) ≤ usize.MAX → IsGrown growing.old before (kept.old.items ++ item ∷ rest) → OnOk result (IsGrown growing.new before (kept.new.items ++ rest)) }
+    ensures none { OnOk result (length kept.new.items ≡ length kept.old.items + 1 → growing.new.windows ≡ growing.old.windows) }
+    ensures count { OnOk result (length kept.new.items ≤ length kept.old.items + 1) }
+    ensures past { OnOk result (growing.new.past ≤ length kept.new.items) }
 {
     if mark {
         drop(item);
-        return Ok(());
+        return put_window(kept.len(), 1, 0, growing);
     }
     if let Err(fault) = kept.reserve(1) {
         drop(item);
@@ -345,73 +341,21 @@ fn push_unmarked(mark: bool, item: Item, kept: &mut Vec<Item>) -> Result<(), Mem
 }
 
 /// The items without a mark, in their order.
-fn unmarked(alloc: Global, marks: &[bool], items: Items<Item>) -> Result<Items<Item>, Memory>
-    requires { length marks.now ≡ length items }
-    ensures { IfOk result (λ left. left ≡ unmarked marks.now items) }
-{
-    let mut kept = Vec::new(alloc);
-    for (mark, item) in marks.iter().zip(items.into_vec()) {
-        push_unmarked(*mark, item, &mut kept)?;
-    }
-    Ok(Items::from_vec(kept))
-}
-
-/// The place of the first item that is marked.
-fn first_marked(marks: &[bool]) -> Option<usize>
-    ensures { result ≡ position (λ mark. mark) marks.now }
-{
-    marks.iter().position(|mark| *mark)
-}
-
-/// How many items there are up to the last one that is marked; none where no mark is set.
-fn count_to_last(marks: &[bool]) -> usize
-    ensures within { result ≤ length marks.now }
-    ensures unset { (k : ℕ) → result ≤ k → k < length marks.now → get_or marks.now k false ≡ false }
-{
-    let mut count = marks.len();
-    while count > 0 && !marks[count - 1] {
-        count -= 1;
-    }
-    count
-}
-
-/// The extent of a change that takes `gone` items out after the first `from`, and puts `come` in.
-fn spliced(from: usize, gone: usize, come: usize) -> Extent
-    ensures { (marks : List Bool) (old new : List Item) → IsSpliced from gone come old new → IsOfExtent result marks old new }
-{
-    Extent::Spliced(Spliced { from, gone, come })
-}
-
-/// The items from the first marked one to the last, and how many of them are left once the marked ones are taken out, where `left`
-/// is how many are left of all. Any where no mark is set.
-fn window(marks: &[bool], left: usize) -> Extent
-    ensures { (items : List Item) → length marks.now ≡ length items → left ≡ length (unmarked marks.now items) → IsOfExtent result marks.now items (unmarked marks.now items) }
-{
-    let Some(from) = first_marked(marks) else {
-        return Extent::Whole;
-    };
-    let last = count_to_last(marks);
-    if last <= from {
-        return Extent::Whole;
-    }
-    let others = from + (marks.len() - last);
-    spliced(from, last - from, left.saturating_sub(others))
-}
-
-/// The items without a mark; they are the same where as many are left.
-#[tactic(auto, using(crate::proofs::RunningItems::all_kept))]
 fn delete(alloc: Global, marks: &[bool], items: Items<Item>) -> Result<Changed, Memory>
     requires { length marks.now ≡ length items }
     ensures items { IfOk result (λ changed. changed.items ≡ unmarked marks.now items) }
-    ensures same { IfOk result (λ changed. IsTrue changed.same ↔ (changed.items ≡ items)) }
-    ensures extent { IfOk result (λ changed. IsOfExtent changed.extent marks.now items changed.items) }
+    ensures windows { IfOk result (λ changed. AreOver changed.windows items changed.items) }
+    ensures same { IfOk result (λ changed. (changed.windows ≡ []) ↔ (changed.items ≡ items)) }
 {
-    let count = items.len();
-    let items = unmarked(alloc, marks, items)?;
+    let _count = items.len();
+    let mut kept = Vec::new(alloc);
+    let mut growing = Growing::new(alloc);
+    for (mark, item) in marks.iter().zip(items.into_vec()) {
+        push_unmarked(*mark, item, &mut kept, &mut growing)?;
+    }
     Ok(Changed {
-        same: items.len() == count,
-        extent: window(marks, items.len()),
-        items,
+        items: Items::from_vec(kept),
+        windows: growing.windows,
     })
 }
 
@@ -448,52 +392,49 @@ fn is_taken(name: &[u8], items: &[Item]) -> bool
 }
 
 /// The items with a new one at this place.
-fn inserted(at: usize, new: Item, items: Items<Item>) -> Result<Items<Item>, Memory>
+fn inserted(alloc: Global, at: usize, new: Item, items: Items<Item>) -> Result<Changed, Memory>
     requires { at ≤ length items }
-    ensures items { IfOk result (λ all. all ≡ insert items at new) }
-    ensures spliced { IfOk result (λ all. IsSpliced at 0 1 items all) }
+    ensures items { IfOk result (λ changed. changed.items ≡ insert items at new) }
+    ensures windows { IfOk result (λ changed. AreOver changed.windows items changed.items) }
+    ensures same { IfOk result (λ changed. (changed.windows ≡ []) ↔ (changed.items ≡ items)) }
 {
     let mut all = items.into_vec();
     all.insert(at, new)?;
-    Ok(Items::from_vec(all))
-}
-
-/// Whether both lists have the same items in the same places.
-fn are_same(a: &[Item], b: &[Item]) -> bool
-    ensures { IsTrue result ↔ (a.now ≡ b.now) }
-{
-    if a.len() != b.len() {
-        return false;
-    }
-    for at in 0..a.len() {
-        if !a[at].equals(&b[at]) {
-            return false;
-        }
-    }
-    true
+    let window = Window {
+        from: at,
+        gone: 0,
+        come: 1,
+    };
+    Ok(Changed {
+        windows: windows_of(alloc, false, window)?,
+        items: Items::from_vec(all),
+    })
 }
 
 /// What an operation on the symbols that the file loads makes of its items.
 fn on_loads(alloc: Global, operation: &LoadOperation, items: Items<Item>) -> Result<Changed, Memory>
     ensures items { IfOk result (λ changed. changed.items ≡ loads_changed operation.now items) }
-    ensures same { IfOk result (λ changed. IsTrue changed.same ↔ (changed.items ≡ items)) }
-    ensures extent { IfOk result (λ changed. (marks : List Bool) → IsOfExtent changed.extent marks items changed.items) }
+    ensures windows { IfOk result (λ changed. AreOver changed.windows items changed.items) }
+    ensures same { IfOk result (λ changed. (changed.windows ≡ []) ↔ (changed.items ≡ items)) }
 {
     match operation {
         LoadOperation::New { path, symbols } => {
             let made = new_load(alloc, path.as_slice(), symbols.as_slice(), items)?;
+            let window = Window {
+                from: made.at,
+                gone: made.gone,
+                come: 1,
+            };
             Ok(Changed {
-                extent: spliced(made.at, made.gone, 1),
+                windows: windows_of(alloc, made.same, window)?,
                 items: made.items,
-                same: made.same,
             })
         }
         LoadOperation::Fix { fixes } => {
             let new = fix(alloc, *fixes, items.as_slice())?;
             Ok(Changed {
-                same: are_same(new.as_slice(), items.as_slice()),
+                windows: window_between(alloc, items.as_slice(), new.as_slice())?,
                 items: new,
-                extent: Extent::Whole,
             })
         }
     }
@@ -503,8 +444,8 @@ fn on_loads(alloc: Global, operation: &LoadOperation, items: Items<Item>) -> Res
 pub fn on_rules(work: Work<'_, '_>, marks: &[bool], items: Items<Item>) -> Result<Changed, Refusal>
     requires { length marks.now ≡ length items }
     ensures ok { IfOk result (λ changed. on_rules work.entry.command.now work.entry.current.now marks.now items ≡ Ok changed.items) }
-    ensures same { IfOk result (λ changed. IsTrue changed.same ↔ (changed.items ≡ items)) }
-    ensures extent { IfOk result (λ changed. IsOfExtent changed.extent marks.now items changed.items) }
+    ensures windows { IfOk result (λ changed. AreOver changed.windows items changed.items) }
+    ensures same { IfOk result (λ changed. (changed.windows ≡ []) ↔ (changed.items ≡ items)) }
     ensures err { IfErr result (λ refusal. (on_rules work.entry.command.now work.entry.current.now marks.now items ≡ Err refusal) ⊎ (refusal ≡ Refusal.Memory)) }
 {
     let (alloc, command) = (work.alloc, work.command);
@@ -517,11 +458,7 @@ pub fn on_rules(work: Work<'_, '_>, marks: &[bool], items: Items<Item>) -> Resul
                 return Err(Refusal::NameTaken);
             }
             let rule = rule_made(alloc, kind.as_slice(), name.as_slice())?;
-            Ok(Changed {
-                items: inserted(at, rule, items)?,
-                same: false,
-                extent: spliced(at, 0, 1),
-            })
+            Ok(inserted(alloc, at, rule, items)?)
         }
         Operation::Rule(RuleOperation::Delete) => Ok(delete(alloc, marks, items)?),
         Operation::Load(operation) => Ok(on_loads(alloc, operation, items)?),
@@ -532,8 +469,7 @@ pub fn on_rules(work: Work<'_, '_>, marks: &[bool], items: Items<Item>) -> Resul
         | Operation::Comment(_) => on_each(work, marks, items),
         Operation::Print { .. } => Ok(Changed {
             items,
-            same: true,
-            extent: Extent::Whole,
+            windows: Items::new(alloc),
         }),
     }
 }

@@ -1,13 +1,13 @@
 //! The effect of a command on a file value.
-ghost use Rattle.std.specs.Prelude.{length, ◌≡◌, ◌⊎◌, ◌↔◌, None, Ok, Err, IfOk, IfErr, IfSome, IsTrue, OnOk};
+ghost use Rattle.std.specs.Prelude.{length, ◌≡◌, ◌⊎◌, ◌↔◌, [], false, None, Ok, Err, IfOk, IfErr, IfSome, OnOk};
 ghost use Rattle.std.specs.Option.{unwrap_or};
 ghost use Rattle.bz_rule.specs.Index.{IsIndexOf};
+ghost use Rattle.bz_value.specs.Windows.{AreOver};
 ghost use Rattle.bz_command.specs.Effect.{meant, effect, lacks_rules, printed};
 ghost use Rattle.bz_command.specs.private.Looks.{IsLook, effect_by};
-ghost use Rattle.bz_command.specs.Renewed.{IsOfExtent};
 
 use crate::laws::effects_stay_proper;
-use crate::outcome::{Extent, Outcome, Ran};
+use crate::outcome::{Outcome, Ran};
 use crate::printing::print_rules;
 use crate::ruling::{Work, on_rules};
 use crate::targets::{is_any, meant};
@@ -15,7 +15,7 @@ use bz_command_syntax::{Command, Operation, RuleOperation};
 use bz_items::{Items, Text};
 use bz_label::{Target, Which};
 use bz_rule::{Names, take_apart};
-use bz_value::{File, Item, Refusal};
+use bz_value::{File, Item, Refusal, Window};
 use std::alloc::Global;
 use std::mem;
 
@@ -49,13 +49,12 @@ fn look_at(work: Work<'_, '_>, marks: &[bool], items: &[Item]) -> Result<Option<
     Ok(None)
 }
 
-/// What a command that prints nothing makes of a file of which the items that it is meant for are marked: whether it is the same, and
-/// in which items it may differ.
-fn change(work: Work<'_, '_>, marks: &[bool], file: &mut File) -> Result<(bool, Extent), Refusal>
+/// What a command that prints nothing makes of a file of which the items that it is meant for are marked, and where it differs then.
+fn change(work: Work<'_, '_>, marks: &[bool], file: &mut File) -> Result<Items<Window>, Refusal>
     requires { IsLook work file.old marks.now None }
     ensures ok { OnOk result (effect_by work.entry file.old ≡ Ok file.new) }
-    ensures same { IfOk result (λ made. IsTrue made.0 ↔ (file.new ≡ file.old)) }
-    ensures extent { IfOk result (λ made. IsOfExtent made.1 marks.now file.old file.new) }
+    ensures windows { IfOk result (λ windows. AreOver windows file.old file.new) }
+    ensures same { IfOk result (λ windows. (windows ≡ []) ↔ (file.new ≡ file.old)) }
     ensures err { IfErr result (λ refusal. (effect_by work.entry file.old ≡ Err refusal) ⊎ (refusal ≡ Refusal.Memory)) }
 {
     effects_stay_proper();
@@ -65,11 +64,12 @@ fn change(work: Work<'_, '_>, marks: &[bool], file: &mut File) -> Result<(bool, 
     let before = mem::replace(&mut file.items, Items::new(work.alloc));
     let changed = on_rules(work, marks, before)?;
     file.items = changed.items;
-    Ok((changed.same, changed.extent))
+    Ok(changed.windows)
 }
 
-/// The effect of a command on the rules that the target means, on a file in place, and in which of its items it may differ.
-/// `current` is the path of the file's package, `lines` the lines on which its statements begin, from 1.
+/// The effect of a command on the rules that the target means, on a file in place, and where its items differ then.
+/// `current` is the path of the file's package, `lines` the lines on which its statements begin, from 1. There may be an index of the
+/// names of its rules: with it a target that is a name is not sought among the items.
 /// Errors: the effect's refusal; `Memory`: a growth was refused. After an error the file may have lost its items.
 pub fn run_in(
     alloc: Global,
@@ -77,12 +77,14 @@ pub fn run_in(
     target: &Target,
     current: &[u8],
     lines: &[u32],
+    names: Option<&Names>,
     file: &mut File,
 ) -> Result<Ran, Refusal>
+    requires { IfSome names (λ index. IsIndexOf index.now file.old) }
     ensures ok { OnOk result (effect command.now target.now current.now lines.now file.old ≡ Ok file.new) }
-    ensures same { IfOk result (λ ran. IsTrue ran.same ↔ (file.new ≡ file.old)) }
     ensures printed { IfOk result (λ ran. printed command.now target.now current.now lines.now file.old ≡ Ok ran.printed) }
-    ensures extent { IfOk result (λ ran. IsOfExtent ran.extent ran.marks.items file.old file.new) }
+    ensures windows { IfOk result (λ ran. AreOver ran.windows file.old file.new) }
+    ensures same { IfOk result (λ ran. (ran.windows ≡ []) ↔ (file.new ≡ file.old)) }
     ensures err { IfErr result (λ refusal. (effect command.now target.now current.now lines.now file.old ≡ Err refusal) ⊎ (refusal ≡ Refusal.Memory)) }
 {
     let work = Work {
@@ -94,22 +96,27 @@ pub fn run_in(
         found: None,
     };
     let items = file.items.as_slice();
-    let marks = meant(alloc, &target.which, lines, None, items)?;
+    let marks = meant(alloc, &target.which, lines, names, items)?;
     if let Some(printed) = look_at(work, marks.as_slice(), items)? {
         return Ok(Ran {
-            same: true,
-            extent: Extent::Whole,
-            marks: Vec::new(alloc),
+            windows: Items::new(alloc),
             printed,
         });
     }
-    let (same, extent) = change(work, marks.as_slice(), file)?;
-    Ok(Ran {
-        same,
-        extent,
-        marks,
-        printed: Text::from_vec(Vec::new(alloc)),
-    })
+    let windows = change(work, marks.as_slice(), file)?;
+    let printed = Text::from_vec(Vec::new(alloc));
+    Ok(Ran { windows, printed })
+}
+
+/// The same, and whether the file is another one then.
+fn is_changed(work: Work<'_, '_>, marks: &[bool], file: &mut File) -> Result<bool, Refusal>
+    requires { IsLook work file.old marks.now None }
+    ensures ok { OnOk result (effect_by work.entry file.old ≡ Ok file.new) }
+    ensures same { IfOk result (λ changed. (changed ≡ false) ↔ (file.new ≡ file.old)) }
+    ensures err { IfErr result (λ refusal. (effect_by work.entry file.old ≡ Err refusal) ⊎ (refusal ≡ Refusal.Memory)) }
+{
+    let windows = change(work, marks, file)?;
+    Ok(!windows.is_empty())
 }
 
 /// What a command that prints nothing makes of a copy of a file: `None` where it is the same.
@@ -120,9 +127,9 @@ fn change_copy(work: Work<'_, '_>, marks: &[bool], copy: File) -> Result<Option<
     ensures err { IfErr result (λ refusal. (effect_by work.entry copy ≡ Err refusal) ⊎ (refusal ≡ Refusal.Memory)) }
 {
     let mut file = copy;
-    match change(work, marks, &mut file) {
-        Ok((false, _)) => Ok(Some(file)),
-        Ok((true, _)) => {
+    match is_changed(work, marks, &mut file) {
+        Ok(true) => Ok(Some(file)),
+        Ok(false) => {
             take_apart(file);
             Ok(None)
         }
