@@ -129,76 +129,76 @@ abbrev UpTo : ℕ → ℕ → Type 0
 UpTo limit n = (n < number_limit) × (nat_le n limit ≡ true)
 
 module _ (v : Version) (depth : ℕ) where
-  -- what is read after_mark each field, from the last one on
-  abbrev A1 : Record → List ℕ
-  A1 r = flat_map (entry_text v) r.steps ++ []
+  -- what is read from each field on, the last one first
+  abbrev text_from_steps : Record → List ℕ
+  text_from_steps r = flat_map (entry_text v) r.steps ++ []
 
-  abbrev A2 : Record → List ℕ
-  A2 r = flat_map digest_text r.digests ++ A1 r
+  abbrev text_from_digests : Record → List ℕ
+  text_from_digests r = flat_map digest_text r.digests ++ text_from_steps r
 
-  abbrev A3 : Record → List ℕ
-  A3 r = last_number r.before ++ A2 r
+  abbrev text_from_before : Record → List ℕ
+  text_from_before r = last_number r.before ++ text_from_digests r
 
-  abbrev A4 : Record → List ℕ
-  A4 r = spaced_number r.cursor ++ (codes "before " ++ A3 r)
+  abbrev text_from_cursor : Record → List ℕ
+  text_from_cursor r = spaced_number r.cursor ++ (codes "before " ++ text_from_before r)
 
-  abbrev A5 : Record → List ℕ
-  A5 r = spaced_number (length r.steps) ++ (codes "now " ++ A4 r)
+  abbrev text_from_count : Record → List ℕ
+  text_from_count r = spaced_number (length r.steps) ++ (codes "now " ++ text_from_cursor r)
 
-  abbrev A6 : Record → List ℕ
-  A6 r = counted_text line_feed r.text ++ (codes "\nsteps " ++ A5 r)
+  abbrev text_from_text : Record → List ℕ
+  text_from_text r = counted_text line_feed r.text ++ (codes "\nsteps " ++ text_from_count r)
 
   -- and what fits
-  abbrev R1 : List ℕ → List ℕ → ℕ → ℕ → ℕ → List (List ℕ) → Record → Type 0
-  R1 name text n cursor before digests r = AreAll (IsNotedStep v depth) n r.steps × (r ≡ record_made name text cursor before digests r.steps)
+  abbrev FitsFromSteps : List ℕ → List ℕ → ℕ → ℕ → ℕ → List (List ℕ) → Record → Type 0
+  FitsFromSteps name text n cursor before digests r = AreAll (IsNotedStep v depth) n r.steps × (r ≡ record_made name text cursor before digests r.steps)
 
-  abbrev R2 : List ℕ → List ℕ → ℕ → ℕ → ℕ → Record → Type 0
-  R2 name text n cursor before r = AreAll IsDigest (n + 1) r.digests × R1 name text n cursor before r.digests r
+  abbrev FitsFromDigests : List ℕ → List ℕ → ℕ → ℕ → ℕ → Record → Type 0
+  FitsFromDigests name text n cursor before r = AreAll IsDigest (n + 1) r.digests × FitsFromSteps name text n cursor before r.digests r
 
-  abbrev R3 : List ℕ → List ℕ → ℕ → ℕ → Record → Type 0
-  R3 name text n cursor r = UpTo n r.before × R2 name text n cursor r.before r
+  abbrev FitsFromBefore : List ℕ → List ℕ → ℕ → ℕ → Record → Type 0
+  FitsFromBefore name text n cursor r = UpTo n r.before × FitsFromDigests name text n cursor r.before r
 
-  abbrev R4 : List ℕ → List ℕ → ℕ → Record → Type 0
-  R4 name text n r = UpTo n r.cursor × R3 name text n r.cursor r
+  abbrev FitsFromCursor : List ℕ → List ℕ → ℕ → Record → Type 0
+  FitsFromCursor name text n r = UpTo n r.cursor × FitsFromBefore name text n r.cursor r
 
-  abbrev R5 : List ℕ → List ℕ → Record → Type 0
-  R5 name text r = UpTo step_limit (length r.steps) × R4 name text (length r.steps) r
+  abbrev FitsFromCount : List ℕ → List ℕ → Record → Type 0
+  FitsFromCount name text r = UpTo step_limit (length r.steps) × FitsFromCursor name text (length r.steps) r
 
-  abbrev R6 : List ℕ → Record → Type 0
-  R6 name r = (length r.text < number_limit) × R5 name r.text r
+  abbrev FitsFromText : List ℕ → Record → Type 0
+  FitsFromText name r = (length r.text < number_limit) × FitsFromCount name r.text r
 
-  steps_part : (name text : List ℕ) (n cursor before : ℕ) (digests : List (List ℕ)) → IsExact Record A1 (R1 name text n cursor before digests) (λ s. repeated (entry_at v depth) n s >>= λ steps. Some (record_made name text cursor before digests steps.0, steps.1))
+  steps_part : (name text : List ℕ) (n cursor before : ℕ) (digests : List (List ℕ)) → IsExact Record text_from_steps (FitsFromSteps name text n cursor before digests) (λ s. repeated (entry_at v depth) n s >>= λ steps. Some (record_made name text cursor before digests steps.0, steps.1))
   steps_part name text n cursor before digests =
       then_exact (λ r. r.steps) (flat_map (entry_text v)) (AreAll (IsNotedStep v depth) n) (repeated (entry_at v depth) n) (λ r. []) (λ steps r. r ≡ record_made name text cursor before digests steps) (λ steps s. Some (record_made name text cursor before digests steps, s))
       (λ steps r h. ap (λ y. y.steps) h) (repeated_exact (entry_text v) (IsNotedStep v depth) (entry_at v depth) (entry_exact depth v) n) (λ steps. done_exact (record_made name text cursor before digests steps))
 
-  digests_part : (name text : List ℕ) (n cursor before : ℕ) → IsExact Record A2 (R2 name text n cursor before) (λ s. repeated digest_line_at (n + 1) s >>= λ digests. repeated (entry_at v depth) n digests.1 >>= λ steps. Some (record_made name text cursor before digests.0 steps.0, steps.1))
+  digests_part : (name text : List ℕ) (n cursor before : ℕ) → IsExact Record text_from_digests (FitsFromDigests name text n cursor before) (λ s. repeated digest_line_at (n + 1) s >>= λ digests. repeated (entry_at v depth) n digests.1 >>= λ steps. Some (record_made name text cursor before digests.0 steps.0, steps.1))
   digests_part name text n cursor before =
-      then_exact (λ r. r.digests) (flat_map digest_text) (AreAll IsDigest (n + 1)) (repeated digest_line_at (n + 1)) A1 (λ digests r. R1 name text n cursor before digests r) (λ digests s. repeated (entry_at v depth) n s >>= λ steps. Some (record_made name text cursor before digests steps.0, steps.1))
+      then_exact (λ r. r.digests) (flat_map digest_text) (AreAll IsDigest (n + 1)) (repeated digest_line_at (n + 1)) text_from_steps (λ digests r. FitsFromSteps name text n cursor before digests r) (λ digests s. repeated (entry_at v depth) n s >>= λ steps. Some (record_made name text cursor before digests steps.0, steps.1))
       (λ digests r h. ap (λ y. y.digests) h.1) (repeated_exact digest_text IsDigest digest_line_at digest_line_exact (n + 1)) (steps_part name text n cursor before)
 
-  before_part : (name text : List ℕ) (n cursor : ℕ) → IsExact Record A3 (R3 name text n cursor) (λ s. up_to n line_feed s >>= λ before. repeated digest_line_at (n + 1) before.1 >>= λ digests. repeated (entry_at v depth) n digests.1 >>= λ steps. Some (record_made name text cursor before.0 digests.0 steps.0, steps.1))
+  before_part : (name text : List ℕ) (n cursor : ℕ) → IsExact Record text_from_before (FitsFromBefore name text n cursor) (λ s. up_to n line_feed s >>= λ before. repeated digest_line_at (n + 1) before.1 >>= λ digests. repeated (entry_at v depth) n digests.1 >>= λ steps. Some (record_made name text cursor before.0 digests.0 steps.0, steps.1))
   before_part name text n cursor =
-      then_exact (λ r. r.before) last_number (UpTo n) (up_to n line_feed) A2 (λ before r. R2 name text n cursor before r) (λ before s. repeated digest_line_at (n + 1) s >>= λ digests. repeated (entry_at v depth) n digests.1 >>= λ steps. Some (record_made name text cursor before digests.0 steps.0, steps.1))
+      then_exact (λ r. r.before) last_number (UpTo n) (up_to n line_feed) text_from_digests (λ before r. FitsFromDigests name text n cursor before r) (λ before s. repeated digest_line_at (n + 1) s >>= λ digests. repeated (entry_at v depth) n digests.1 >>= λ steps. Some (record_made name text cursor before digests.0 steps.0, steps.1))
       (λ before r h. ap (λ y. y.before) h.1.1) (up_to_exact line_feed refl n) (digests_part name text n cursor)
 
-  cursor_part : (name text : List ℕ) (n : ℕ) → IsExact Record A4 (R4 name text n) (λ s. up_to n space s >>= λ cursor. after_mark (codes "before ") cursor.1 >>= λ was. up_to n line_feed was >>= λ before. repeated digest_line_at (n + 1) before.1 >>= λ digests. repeated (entry_at v depth) n digests.1 >>= λ steps. Some (record_made name text cursor.0 before.0 digests.0 steps.0, steps.1))
+  cursor_part : (name text : List ℕ) (n : ℕ) → IsExact Record text_from_cursor (FitsFromCursor name text n) (λ s. up_to n space s >>= λ cursor. after_mark (codes "before ") cursor.1 >>= λ was. up_to n line_feed was >>= λ before. repeated digest_line_at (n + 1) before.1 >>= λ digests. repeated (entry_at v depth) n digests.1 >>= λ steps. Some (record_made name text cursor.0 before.0 digests.0 steps.0, steps.1))
   cursor_part name text n =
-      then_exact (λ r. r.cursor) spaced_number (UpTo n) (up_to n space) (λ r. codes "before " ++ A3 r) (λ cursor r. R3 name text n cursor r) (λ cursor s. after_mark (codes "before ") s >>= λ was. up_to n line_feed was >>= λ before. repeated digest_line_at (n + 1) before.1 >>= λ digests. repeated (entry_at v depth) n digests.1 >>= λ steps. Some (record_made name text cursor before.0 digests.0 steps.0, steps.1))
-      (λ cursor r h. ap (λ y. y.cursor) h.1.1.1) (up_to_exact space refl n) (λ cursor. mark_exact (codes "before ") A3 (R3 name text n cursor) _ (before_part name text n cursor))
+      then_exact (λ r. r.cursor) spaced_number (UpTo n) (up_to n space) (λ r. codes "before " ++ text_from_before r) (λ cursor r. FitsFromBefore name text n cursor r) (λ cursor s. after_mark (codes "before ") s >>= λ was. up_to n line_feed was >>= λ before. repeated digest_line_at (n + 1) before.1 >>= λ digests. repeated (entry_at v depth) n digests.1 >>= λ steps. Some (record_made name text cursor before.0 digests.0 steps.0, steps.1))
+      (λ cursor r h. ap (λ y. y.cursor) h.1.1.1) (up_to_exact space refl n) (λ cursor. mark_exact (codes "before ") text_from_before (FitsFromBefore name text n cursor) _ (before_part name text n cursor))
 
-  count_part : (name text : List ℕ) → IsExact Record A5 (R5 name text) (λ s. up_to step_limit space s >>= λ count. after_mark (codes "now ") count.1 >>= λ now. up_to count.0 space now >>= λ cursor. after_mark (codes "before ") cursor.1 >>= λ was. up_to count.0 line_feed was >>= λ before. repeated digest_line_at (count.0 + 1) before.1 >>= λ digests. repeated (entry_at v depth) count.0 digests.1 >>= λ steps. Some (record_made name text cursor.0 before.0 digests.0 steps.0, steps.1))
+  count_part : (name text : List ℕ) → IsExact Record text_from_count (FitsFromCount name text) (λ s. up_to step_limit space s >>= λ count. after_mark (codes "now ") count.1 >>= λ now. up_to count.0 space now >>= λ cursor. after_mark (codes "before ") cursor.1 >>= λ was. up_to count.0 line_feed was >>= λ before. repeated digest_line_at (count.0 + 1) before.1 >>= λ digests. repeated (entry_at v depth) count.0 digests.1 >>= λ steps. Some (record_made name text cursor.0 before.0 digests.0 steps.0, steps.1))
   count_part name text =
-      then_exact (λ r. length r.steps) spaced_number (UpTo step_limit) (up_to step_limit space) (λ r. codes "now " ++ A4 r) (λ n r. R4 name text n r) (λ n s. after_mark (codes "now ") s >>= λ now. up_to n space now >>= λ cursor. after_mark (codes "before ") cursor.1 >>= λ was. up_to n line_feed was >>= λ before. repeated digest_line_at (n + 1) before.1 >>= λ digests. repeated (entry_at v depth) n digests.1 >>= λ steps. Some (record_made name text cursor.0 before.0 digests.0 steps.0, steps.1))
-      (λ n r h. h.1.1.1.0.0) (up_to_exact space refl step_limit) (λ n. mark_exact (codes "now ") A4 (R4 name text n) _ (cursor_part name text n))
+      then_exact (λ r. length r.steps) spaced_number (UpTo step_limit) (up_to step_limit space) (λ r. codes "now " ++ text_from_cursor r) (λ n r. FitsFromCursor name text n r) (λ n s. after_mark (codes "now ") s >>= λ now. up_to n space now >>= λ cursor. after_mark (codes "before ") cursor.1 >>= λ was. up_to n line_feed was >>= λ before. repeated digest_line_at (n + 1) before.1 >>= λ digests. repeated (entry_at v depth) n digests.1 >>= λ steps. Some (record_made name text cursor.0 before.0 digests.0 steps.0, steps.1))
+      (λ n r h. h.1.1.1.0.0) (up_to_exact space refl step_limit) (λ n. mark_exact (codes "now ") text_from_cursor (FitsFromCursor name text n) _ (cursor_part name text n))
 
-  text_part : (name : List ℕ) → IsExact Record A6 (R6 name) (λ s. counted_at line_feed s >>= λ text. counted_lines_at v depth name text.0 text.1)
+  text_part : (name : List ℕ) → IsExact Record text_from_text (FitsFromText name) (λ s. counted_at line_feed s >>= λ text. counted_lines_at v depth name text.0 text.1)
   unfolding counted_lines_at
   text_part name =
-      then_exact (λ r. r.text) (counted_text line_feed) (λ t. length t < number_limit) (counted_at line_feed) (λ r. codes "\nsteps " ++ A5 r) (λ text r. R5 name text r) (counted_lines_at v depth name)
-      (λ text r h. ap (λ y. y.text) h.1.1.1.1.1) (counted_exact line_feed refl) (λ text. mark_exact (codes "\nsteps ") A5 (R5 name text) _ (count_part name text))
+      then_exact (λ r. r.text) (counted_text line_feed) (λ t. length t < number_limit) (counted_at line_feed) (λ r. codes "\nsteps " ++ text_from_count r) (λ text r. FitsFromCount name text r) (counted_lines_at v depth name)
+      (λ text r h. ap (λ y. y.text) h.1.1.1.1.1) (counted_exact line_feed refl) (λ text. mark_exact (codes "\nsteps ") text_from_count (FitsFromCount name text) _ (count_part name text))
 
-  fits : (r : Record) → IsName r.package × R6 r.package r → IsRecord v depth r
+  fits : (r : Record) → IsName r.package × FitsFromText r.package r → IsRecord v depth r
   fits r h =
       let name = and_parts (nat_le (length r.package) short_limit) (is_utf8 r.package) h.0.1 in
       record {
@@ -216,7 +216,7 @@ module _ (v : Version) (depth : ℕ) where
   within : (n limit : ℕ) → n ≤ limit → limit < number_limit → UpTo limit n
   within n limit le lt = (omega arith, le-leb n limit le)
 
-  fitting : (r : Record) → IsRecord v depth r → IsName r.package × R6 r.package r
+  fitting : (r : Record) → IsRecord v depth r → IsName r.package × FitsFromText r.package r
   fitting r h =
       let few : length r.steps ≤ step_limit = h.steps_length in
       let n : length r.steps < number_limit = omega arith in
@@ -227,8 +227,8 @@ module _ (v : Version) (depth : ℕ) where
   pub lines_exact : IsExact Record (lines_text v) (IsRecord v depth) (lines_at v depth)
   unfolding lines_at
   lines_exact =
-      let names = then_exact (λ r. r.package) (counted_text space) IsName (tested is_short_text (counted_at space)) (λ r. codes "\ntext " ++ A6 r) R6 (λ name s. after_mark (codes "\ntext ") s >>= λ second. counted_at line_feed second >>= λ text. counted_lines_at v depth name text.0 text.1)
-      (λ name r h. ap (λ y. y.package) h.1.1.1.1.1.1) (tested_exact is_short_text (counted_text space) (λ t. length t < number_limit) (counted_at space) (counted_exact space refl)) (λ name. mark_exact (codes "\ntext ") A6 (R6 name) _ (text_part name)) in
+      let names = then_exact (λ r. r.package) (counted_text space) IsName (tested is_short_text (counted_at space)) (λ r. codes "\ntext " ++ text_from_text r) FitsFromText (λ name s. after_mark (codes "\ntext ") s >>= λ second. counted_at line_feed second >>= λ text. counted_lines_at v depth name text.0 text.1)
+      (λ name r h. ap (λ y. y.package) h.1.1.1.1.1.1) (tested_exact is_short_text (counted_text space) (λ t. length t < number_limit) (counted_at space) (counted_exact space refl)) (λ name. mark_exact (codes "\ntext ") text_from_text (FitsFromText name) _ (text_part name)) in
       so (λ r. whole_lines (version_line v) (codes "package ") (counted_text space r.package) (line_feed ∷ []) (codes "text ") (counted_text line_feed r.text) (codes "steps ") (spaced_number (length r.steps)) (codes "now ") (spaced_number r.cursor) (codes "before ") (last_number r.before) (flat_map digest_text r.digests) (flat_map (entry_text v) r.steps))
       fits fitting (mark_exact (version_line v) _ _ _ (mark_exact (codes "package ") _ _ _ names))
 
